@@ -19,7 +19,7 @@ def complete(state, entry):
         state.indicators(entry.on, entry.off)
     counter = entry.counter
     if entry.fault is None:
-        branch = deed(state, entry)
+        branch = effect(state, entry)
         counter = counter if branch is None else branch
     missed = entry.fault is None and entry.made.name == 'BI' and branch is not None and not entry.alone
     state.counter = counter
@@ -27,7 +27,7 @@ def complete(state, entry):
     return missed
 
 
-def deed(state, entry):
+def effect(state, entry):
     """What is done with the operands. Answers where a branch on a bit or an indicator leads that is taken."""
     made, name = entry.made, entry.made.name
     if made.group in ('field', 'connective'):

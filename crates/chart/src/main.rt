@@ -1,4 +1,5 @@
-//! The program: standard input, standard output and the words of the command line, handed to `draw`.
+//! The program: standard input, standard output and the words of the command line, handed to
+//! `draw`.
 #![tactic(auto)]
 
 use st_draw::{Status, draw};

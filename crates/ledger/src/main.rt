@@ -1,4 +1,5 @@
-//! The program: standard input, standard output and the words of the command line, handed to `ledger`.
+//! The program: standard input, standard output and the words of the command line, handed to
+//! `ledger`.
 #![tactic(auto)]
 
 use st_account::{Status, ledger};

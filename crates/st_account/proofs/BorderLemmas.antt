@@ -5,19 +5,19 @@ use Rattle.std.proofs.lemmas.List.{length-map}
 use Rattle.st_banks.specs.declared.answers.LastAnswers.{LastAnswers}
 use Rattle.st_state.specs.Machine.{Machine}
 use Rattle.st_exec.specs.Step.{rests, interrupt}
-use Rattle.st_rows.specs.Rows.{opening}
+use Rattle.st_rows.specs.Rows.{opening_front}
 use Rattle.st_rows.specs.declared.front.Front.{Front}
 use Rattle.st_report.specs.Line.{end_line as run_end_line, done_line, ticks_line}
 use Rattle.st_run.specs.Moments.{Moment, next_state, has_card, has_waited, ends_segment, next_front}
 use Rattle.st_run.proofs.DoneLemmas.{settled-done}
 use Rattle.st_plain.specs.declared.looking.Ahead.{Ahead}
-use Rattle.st_plain.specs.Looking.{seen_of}
+use Rattle.st_plain.specs.Looking.{seen_ahead}
 use Rattle.st_account.specs.declared.last.Last.{Last}
 use Rattle.st_account.specs.declared.lines.Why.{Why}
 use Rattle.st_account.specs.declared.lines.Why.TheVariants.{Run}
 use Rattle.st_account.specs.Lines.{start_line}
-use Rattle.st_account.specs.Standing.{IsBehind}
-use Rattle.st_account.specs.Text.{end_lines, marks_lines, state_lines, state_lines_at, words_behind, why_by, why, segment_lines, segment_after, last_lines}
+use Rattle.st_account.specs.Standing.{IsBehindMoment}
+use Rattle.st_account.specs.Text.{segment_end_lines, marks_lines, state_lines, state_lines_at, words_behind, why_by, why, segment_lines, segment_after, last_lines}
 
 choice-lines : (b : Bool) (xs ys : List (List ℕ)) → (b ≡ true → xs ≡ ys) → (if b then xs else []) ≡ (if b then ys else [])
 choice-lines true xs ys same = same refl
@@ -27,7 +27,7 @@ same-done : (m : Moment) (s : Machine) → next_state m ≡ s → s.done ≡ m.s
 same-done m s is = ap (λ (t : Machine). t.done) (sym is) ∙ settled-done m.scene
 
 module _ (m : Moment) (s : Machine) (l : Last) (found : List Ahead) (banks : LastAnswers) (card waited : Bool)
-    (is : IsBehind m s l found banks card waited) where
+    (is : IsBehindMoment m s l found banks card waited) where
   ends-is : (taken : Option ℕ) (ends : Bool) → taken ≡ interrupt s → ends ≡ (l.missed || card || waited || is_some taken) → ends ≡ ends_segment m
   unfolding ends_segment
   ends-is taken ends is_taken is_ends =
@@ -41,16 +41,16 @@ module _ (m : Moment) (s : Machine) (l : Last) (found : List Ahead) (banks : Las
     e : ends ≡ ends_segment m
     e = ends-is taken ends is_taken is_ends
 
-    pub front-is : (f : Front) → f ≡ (if ends then opening banks (l.tick + 1 + length found) else l.front) → f ≡ next_front m
+    pub front-is : (f : Front) → f ≡ (if ends then opening_front banks (l.tick + 1 + length found) else l.front) → f ≡ next_front m
     unfolding next_front
     front-is f is_front =
         is_front
-        ∙ ap (λ b. if b then opening banks (l.tick + 1 + length found) else l.front) e
+        ∙ ap (λ b. if b then opening_front banks (l.tick + 1 + length found) else l.front) e
         ∙ choice (ends_segment m) (λ yes.
-        ap (λ b. opening b (l.tick + 1 + length found)) (is.banks yes)
-        ∙ ap (λ xs. opening m.banks (l.tick + 1 + length xs)) (is.dropped yes)
-        ∙ ap (λ k. opening m.banks (l.tick + 1 + k)) (length-map m.dropped seen_of)
-        ∙ ap (λ t. opening m.banks (t + 1 + length m.dropped)) (sym is.tick)) (sym is.front)
+        ap (λ b. opening_front b (l.tick + 1 + length found)) (is.banks yes)
+        ∙ ap (λ xs. opening_front m.banks (l.tick + 1 + length xs)) (is.dropped yes)
+        ∙ ap (λ k. opening_front m.banks (l.tick + 1 + k)) (length-map m.dropped seen_ahead)
+        ∙ ap (λ t. opening_front m.banks (t + 1 + length m.dropped)) (sym is.tick)) (sym is.front)
       where
         choice : {x y u v : Front} (b : Bool) → (b ≡ true → x ≡ u) → y ≡ v → (if b then x else y) ≡ (if b then u else v)
         choice true one two = one refl
@@ -62,7 +62,7 @@ module _ (m : Moment) (s : Machine) (l : Last) (found : List Ahead) (banks : Las
     pub border-lines : (b : Machine) (was : Bool) (ws : List (List ℕ)) → b.enabled ≡ was → ws ≡ words_behind m
         → (k n start : ℕ) (begins : Bool) (y : Why) → begins ≡ (nat_eq k 0 || ends) → n ≡ s.done + 1 → start ≡ (next_front m).c
         → y ≡ (if nat_eq k 0 then Run else why_by taken l.missed)
-        → (((if ends then end_lines k l.tick n found else []) ++ state_lines ws k was s taken s.done)
+        → (((if ends then segment_end_lines k l.tick n found else []) ++ state_lines ws k was s taken s.done)
         ++ (if begins then start_line (k + 1) start waited y ∷ [] else [])) ≡ segment_lines k b m
     unfolding segment_lines why
     border-lines b was ws is_was is_printed k n start begins y is_begins is_n is_start is_why =
@@ -77,37 +77,37 @@ module _ (m : Moment) (s : Machine) (l : Last) (found : List Ahead) (banks : Las
         ∙ ap (λ w. state_lines (words_behind m) k w s taken s.done) (sym is_was)
         ∙ ap (λ o. state_lines (words_behind m) k b.enabled s o s.done) is_taken
         ∙ ap (state_lines_at (words_behind m) k b) (sym is.state) in
-        ap (λ b. ((if b then end_lines k l.tick n found else []) ++ state_lines ws k was s taken s.done)
+        ap (λ b. ((if b then segment_end_lines k l.tick n found else []) ++ state_lines ws k was s taken s.done)
         ++ (if begins then start_line (k + 1) start waited y ∷ [] else [])) e
         ∙ ap (λ xs. (xs ++ state_lines ws k was s taken s.done) ++ (if begins then start_line (k + 1) start waited y ∷ [] else []))
-        (choice-lines (ends_segment m) (end_lines k l.tick n found) (end_lines k m.tick (m.scene.machine.done + 1) (map seen_of m.dropped)) (λ yes.
-        ap (λ xs. end_lines k l.tick n xs) (is.dropped yes)
-        ∙ ap (λ t. end_lines k t n (map seen_of m.dropped)) (sym is.tick)
-        ∙ ap (λ j. end_lines k m.tick j (map seen_of m.dropped)) number))
-        ∙ ap (λ xs. ((if ends_segment m then end_lines k m.tick (m.scene.machine.done + 1) (map seen_of m.dropped) else []) ++ xs)
+        (choice-lines (ends_segment m) (segment_end_lines k l.tick n found) (segment_end_lines k m.tick (m.scene.machine.done + 1) (map seen_ahead m.dropped)) (λ yes.
+        ap (λ xs. segment_end_lines k l.tick n xs) (is.dropped yes)
+        ∙ ap (λ t. segment_end_lines k t n (map seen_ahead m.dropped)) (sym is.tick)
+        ∙ ap (λ j. segment_end_lines k m.tick j (map seen_ahead m.dropped)) number))
+        ∙ ap (λ xs. ((if ends_segment m then segment_end_lines k m.tick (m.scene.machine.done + 1) (map seen_ahead m.dropped) else []) ++ xs)
         ++ (if begins then start_line (k + 1) start waited y ∷ [] else [])) state
-        ∙ ap (λ q. ((if ends_segment m then end_lines k m.tick (m.scene.machine.done + 1) (map seen_of m.dropped) else []) ++ state_lines_at (words_behind m) k b (next_state m))
+        ∙ ap (λ q. ((if ends_segment m then segment_end_lines k m.tick (m.scene.machine.done + 1) (map seen_ahead m.dropped) else []) ++ state_lines_at (words_behind m) k b (next_state m))
         ++ (if q then start_line (k + 1) start waited y ∷ [] else [])) all
-        ∙ ap (λ t. ((if ends_segment m then end_lines k m.tick (m.scene.machine.done + 1) (map seen_of m.dropped) else []) ++ state_lines_at (words_behind m) k b (next_state m))
+        ∙ ap (λ t. ((if ends_segment m then segment_end_lines k m.tick (m.scene.machine.done + 1) (map seen_ahead m.dropped) else []) ++ state_lines_at (words_behind m) k b (next_state m))
         ++ (if nat_eq k 0 || ends_segment m then start_line (k + 1) t waited y ∷ [] else [])) is_start
-        ∙ ap (λ w. ((if ends_segment m then end_lines k m.tick (m.scene.machine.done + 1) (map seen_of m.dropped) else []) ++ state_lines_at (words_behind m) k b (next_state m))
+        ∙ ap (λ w. ((if ends_segment m then segment_end_lines k m.tick (m.scene.machine.done + 1) (map seen_ahead m.dropped) else []) ++ state_lines_at (words_behind m) k b (next_state m))
         ++ (if nat_eq k 0 || ends_segment m then start_line (k + 1) (next_front m).c w y ∷ [] else [])) is.waited
-        ∙ ap (λ z. ((if ends_segment m then end_lines k m.tick (m.scene.machine.done + 1) (map seen_of m.dropped) else []) ++ state_lines_at (words_behind m) k b (next_state m))
+        ∙ ap (λ z. ((if ends_segment m then segment_end_lines k m.tick (m.scene.machine.done + 1) (map seen_ahead m.dropped) else []) ++ state_lines_at (words_behind m) k b (next_state m))
         ++ (if nat_eq k 0 || ends_segment m then start_line (k + 1) (next_front m).c (has_waited m) z ∷ [] else [])) name
 
 pub last-is : (b : Machine) (was : Bool) → b.enabled ≡ was → (m : Moment) (ws : List (List ℕ)) → ws ≡ words_behind m → (s : Machine) (k tick n : ℕ) (found : List Ahead) → m.tick ≡ tick
-    → next_state m ≡ s → found ≡ map seen_of m.dropped → n ≡ s.done + 1
-    → ((end_lines k tick n found ++ marks_lines ws k was s) ++ run_end_line (rests s) ∷ done_line s.done ∷ ticks_line tick ∷ []) ≡ last_lines k b m
+    → next_state m ≡ s → found ≡ map seen_ahead m.dropped → n ≡ s.done + 1
+    → ((segment_end_lines k tick n found ++ marks_lines ws k was s) ++ run_end_line (rests s) ∷ done_line s.done ∷ ticks_line tick ∷ []) ≡ last_lines k b m
 unfolding last_lines
 last-is b was is_was m ws is_printed s k tick n found is_tick state seen is_n =
     let number : n ≡ m.scene.machine.done + 1 = is_n ∙ ap (λ d. d + 1) (same-done m s state) in
     let rest : Machine → ℕ → List (List ℕ) = λ t i. run_end_line (rests t) ∷ done_line t.done ∷ ticks_line i ∷ [] in
-    ap (λ xs. (end_lines k tick n found ++ marks_lines xs k was s) ++ rest s tick) is_printed
-    ∙ ap (λ xs. (end_lines k tick n xs ++ marks_lines (words_behind m) k was s) ++ rest s tick) seen
-    ∙ ap (λ j. (end_lines k tick j (map seen_of m.dropped) ++ marks_lines (words_behind m) k was s) ++ rest s tick) number
-    ∙ ap (λ w. (end_lines k tick (m.scene.machine.done + 1) (map seen_of m.dropped) ++ marks_lines (words_behind m) k w s) ++ rest s tick) (sym is_was)
-    ∙ ap (λ t. (end_lines k tick (m.scene.machine.done + 1) (map seen_of m.dropped) ++ marks_lines (words_behind m) k b.enabled t) ++ rest t tick) (sym state)
-    ∙ ap (λ i. (end_lines k i (m.scene.machine.done + 1) (map seen_of m.dropped) ++ marks_lines (words_behind m) k b.enabled (next_state m))
+    ap (λ xs. (segment_end_lines k tick n found ++ marks_lines xs k was s) ++ rest s tick) is_printed
+    ∙ ap (λ xs. (segment_end_lines k tick n xs ++ marks_lines (words_behind m) k was s) ++ rest s tick) seen
+    ∙ ap (λ j. (segment_end_lines k tick j (map seen_ahead m.dropped) ++ marks_lines (words_behind m) k was s) ++ rest s tick) number
+    ∙ ap (λ w. (segment_end_lines k tick (m.scene.machine.done + 1) (map seen_ahead m.dropped) ++ marks_lines (words_behind m) k w s) ++ rest s tick) (sym is_was)
+    ∙ ap (λ t. (segment_end_lines k tick (m.scene.machine.done + 1) (map seen_ahead m.dropped) ++ marks_lines (words_behind m) k b.enabled t) ++ rest t tick) (sym state)
+    ∙ ap (λ i. (segment_end_lines k i (m.scene.machine.done + 1) (map seen_ahead m.dropped) ++ marks_lines (words_behind m) k b.enabled (next_state m))
     ++ rest (next_state m) i) (sym is_tick)
 
 pub totals-is : (s : Machine) (resting : Bool) (done tick : ℕ) → resting ≡ rests s → done ≡ s.done

@@ -4,50 +4,50 @@ use Rattle.std.proofs.Common.{◌≡◌, ℕ, ◌+◌, ◌<◌, ◌≤◌, ◌^�
 use Rattle.st_state.specs.Machine.{Machine}
 use Rattle.st_prep.specs.Plan.{plan}
 use Rattle.st_prep.specs.declared.entries.Prepared.{Prepared}
-use Rattle.st_exec.specs.Completion.{executed, guess, is_missed}
+use Rattle.st_exec.specs.Completion.{state_after_execution, guess, is_missed}
 use Rattle.st_exec.specs.Step.{interrupt, step, address}
 use Rattle.st_io.specs.Output.{OutputState}
 use Rattle.st_io.specs.declared.Failed.{Failed}
 use Rattle.st_io.specs.Lines.{WritesLines}
-use Rattle.st_rows.specs.Asked.{asked}
-use Rattle.st_rows.specs.Notes.{noted}
-use Rattle.st_rows.specs.Ranges.{AreDelays, IsEntry, IsTight}
+use Rattle.st_rows.specs.Asked.{reads_of_entry}
+use Rattle.st_rows.specs.Notes.{log_after_reads}
+use Rattle.st_rows.specs.Ranges.{AreDelaysUpTo, IsEntryInTime, IsTight}
 use Rattle.st_rows.specs.declared.log.Made.{Made}
-use Rattle.st_rows.specs.Rows.{row, after}
-use Rattle.st_rows.specs.declared.front.Row.{Row}
+use Rattle.st_rows.specs.Rows.{row_of_entry, front_after_entry}
+use Rattle.st_rows.specs.declared.front.EntryTicks.{EntryTicks}
 use Rattle.st_segment.specs.Entries.{entry}
 use Rattle.st_run.specs.Moments.{Standing, next_row, next_moment}
 use Rattle.st_ledger.specs.declared.charges.Stage.{Stage}
 use Rattle.st_ledger.specs.declared.totals.Totals.{Totals}
-use Rattle.st_ledger.specs.Charges.{parts, charged, ticks_for, all_ticks}
+use Rattle.st_ledger.specs.Charges.{parts_of_row, charges_behind, ticks_for, all_ticks}
 use Rattle.st_ledger.specs.Ledger.{charges_at}
 use Rattle.st_ledger.specs.Totals.{AreWithin}
 use Rattle.st_ledger.proofs.Rows.{row-sum}
 use Rattle.st_plain.specs.Looking.{side_at, executes_at}
 use Rattle.st_account.specs.declared.last.Last.{Last}
 use Rattle.st_account.specs.Standing.{guessing, IsLast, IsStanding}
-use Rattle.st_account.specs.Text.{done_lines, entry_lines}
+use Rattle.st_account.specs.Text.{done_lines, lines_of_entry}
 use Rattle.st_account.proofs.LastLemmas.{next-last}
 
-pub entry-step : (s u : Machine) (taken : Option ℕ) → taken ≡ interrupt s → u ≡ executed taken s → u ≡ step s
+pub entry-step : (s u : Machine) (taken : Option ℕ) → taken ≡ interrupt s → u ≡ state_after_execution taken s → u ≡ step s
 unfolding step
-entry-step s u taken is made = made ∙ ap (λ t. executed t s) is
+entry-step s u taken is made = made ∙ ap (λ t. state_after_execution t s) is
 
-row-is : (ds : List ℕ) (n : ℕ) (p : Standing) (s : Machine) (l : Last) (taken : Option ℕ) (r : Row) → IsStanding p s l → taken ≡ interrupt s
-    → r ≡ row ds n l.front (entry taken s) → r ≡ next_row ds n p
+row-is : (ds : List ℕ) (n : ℕ) (p : Standing) (s : Machine) (l : Last) (taken : Option ℕ) (r : EntryTicks) → IsStanding p s l → taken ≡ interrupt s
+    → r ≡ row_of_entry ds n l.front (entry taken s) → r ≡ next_row ds n p
 unfolding next_row
 row-is ds n p s l taken r is is_taken is_row =
     is_row
-    ∙ ap (λ t. row ds n l.front (entry t s)) is_taken
-    ∙ ap (λ m. row ds n l.front (entry (interrupt m) m)) (sym is.machine)
-    ∙ ap (λ f. row ds n f (entry (interrupt p.scene.machine) p.scene.machine)) (sym is.front)
+    ∙ ap (λ t. row_of_entry ds n l.front (entry t s)) is_taken
+    ∙ ap (λ m. row_of_entry ds n l.front (entry (interrupt m) m)) (sym is.machine)
+    ∙ ap (λ f. row_of_entry ds n f (entry (interrupt p.scene.machine) p.scene.machine)) (sym is.front)
 
-pub entry-written : (before after : OutputState) (ds : List ℕ) (n : ℕ) (p : Standing) (s : Machine) (l : Last) (taken : Option ℕ) (a : ℕ) (r : Row) (i : ℕ)
+pub entry-written : (before after : OutputState) (ds : List ℕ) (n : ℕ) (p : Standing) (s : Machine) (l : Last) (taken : Option ℕ) (a : ℕ) (r : EntryTicks) (i : ℕ)
     (missed : Bool) (q : Prepared) (side : Option ℕ) (execute : Bool) (answer : Result (Unit {0}) Failed) → IsStanding p s l → taken ≡ interrupt s → a ≡ address s
-    → r ≡ row ds n l.front (entry taken s) → i ≡ s.done + 1 → missed ≡ is_missed (plan s taken) s → q ≡ plan s taken
+    → r ≡ row_of_entry ds n l.front (entry taken s) → i ≡ s.done + 1 → missed ≡ is_missed (plan s taken) s → q ≡ plan s taken
     → side ≡ side_at taken s → execute ≡ executes_at taken s
-    → WritesLines before after (done_lines i a r missed q side execute l.tick l.front.c) answer → WritesLines before after (entry_lines ds n p) answer
-unfolding entry_lines
+    → WritesLines before after (done_lines i a r missed q side execute l.tick l.front.c) answer → WritesLines before after (lines_of_entry ds n p) answer
+unfolding lines_of_entry
 entry-written before after ds n p s l taken a r i missed q side execute answer is is_taken is_address is_row number guessed planned is_side is_execute h =
     let m = p.scene.machine in
     let e = plan m (interrupt m) in
@@ -70,37 +70,37 @@ entry-written before after ds n p s l taken a r i missed q side execute answer i
     ∙ ap (λ f. done_lines (m.done + 1) (address m) (next_row ds n p) (is_missed e m) e w x p.tick f.c) (sym is.front) in
     subst (λ ls. WritesLines before after ls answer) same h
 
-pub entry-sums : (ds : List ℕ) (n : ℕ) (p : Standing) (s : Machine) (l : Last) (taken : Option ℕ) (r : Row) (stage : Stage) (old new : ℕ)
-    → IsStanding p s l → taken ≡ interrupt s → r ≡ row ds n l.front (entry taken s)
-    → new ≡ old + ticks_for stage (charged l.tick (parts l.front.c r)) → new ≡ old + ticks_for stage (charges_at ds n p)
+pub entry-sums : (ds : List ℕ) (n : ℕ) (p : Standing) (s : Machine) (l : Last) (taken : Option ℕ) (r : EntryTicks) (stage : Stage) (old new : ℕ)
+    → IsStanding p s l → taken ≡ interrupt s → r ≡ row_of_entry ds n l.front (entry taken s)
+    → new ≡ old + ticks_for stage (charges_behind l.tick (parts_of_row l.front.c r)) → new ≡ old + ticks_for stage (charges_at ds n p)
 unfolding charges_at
 entry-sums ds n p s l taken r stage old new is is_taken is_row sum =
     sum
-    ∙ ap (λ x. old + ticks_for stage (charged l.tick (parts l.front.c x))) (row-is ds n p s l taken r is is_taken is_row)
-    ∙ ap (λ t. old + ticks_for stage (charged t (parts l.front.c (next_row ds n p)))) (sym is.tick)
-    ∙ ap (λ f. old + ticks_for stage (charged p.tick (parts f.c (next_row ds n p)))) (sym is.front)
+    ∙ ap (λ x. old + ticks_for stage (charges_behind l.tick (parts_of_row l.front.c x))) (row-is ds n p s l taken r is is_taken is_row)
+    ∙ ap (λ t. old + ticks_for stage (charges_behind t (parts_of_row l.front.c (next_row ds n p)))) (sym is.tick)
+    ∙ ap (λ f. old + ticks_for stage (charges_behind p.tick (parts_of_row f.c (next_row ds n p)))) (sym is.front)
 
-pub entry-within : (ds : List ℕ) (n : ℕ) (s : Machine) (l : Last) (tick : ℕ) (taken : Option ℕ) (r : Row) (sums : Totals) → l.tick ≤ l.front.c
-    → r ≡ row ds n l.front (entry taken s) → tick ≡ r.c → AreWithin (l.tick + all_ticks (charged l.tick (parts l.front.c r))) sums → AreWithin tick sums
+pub entry-within : (ds : List ℕ) (n : ℕ) (s : Machine) (l : Last) (tick : ℕ) (taken : Option ℕ) (r : EntryTicks) (sums : Totals) → l.tick ≤ l.front.c
+    → r ≡ row_of_entry ds n l.front (entry taken s) → tick ≡ r.c → AreWithin (l.tick + all_ticks (charges_behind l.tick (parts_of_row l.front.c r))) sums → AreWithin tick sums
 entry-within ds n s l tick taken r sums early is at within =
-    let reach : l.tick + all_ticks (charged l.tick (parts l.front.c r)) ≡ tick =
-    ap (λ x. l.tick + all_ticks (charged l.tick (parts l.front.c x))) is
+    let reach : l.tick + all_ticks (charges_behind l.tick (parts_of_row l.front.c r)) ≡ tick =
+    ap (λ x. l.tick + all_ticks (charges_behind l.tick (parts_of_row l.front.c x))) is
     ∙ row-sum ds n l.tick l.front (entry taken s) early
-    ∙ ap (λ (x : Row). x.c) (sym is)
+    ∙ ap (λ (x : EntryTicks). x.c) (sym is)
     ∙ sym at in
     subst (λ t. AreWithin t sums) reach within
 
-pub entry-last : (ds : List ℕ) → AreDelays 255 ds → (n : ℕ) (p : Standing) (s u : Machine) (l k j : Last) (log : List Made) (taken : Option ℕ) (r : Row) → IsStanding p s l → IsTight 255 l.front
-    → taken ≡ interrupt s → IsEntry (entry taken s) → u ≡ executed taken s → guessing j.ic u ≡ guess taken s → j.ic < 2 ^ 19
-    → r ≡ row ds n l.front (entry taken s) → k.tick ≡ r.c → k.front ≡ after ds n l.front (entry taken s)
-    → log ≡ noted ds (asked ds n l.front (entry taken s)) l.front.bus [] → k.past ≡ k.front.past
+pub entry-last : (ds : List ℕ) → AreDelaysUpTo 255 ds → (n : ℕ) (p : Standing) (s u : Machine) (l k j : Last) (log : List Made) (taken : Option ℕ) (r : EntryTicks) → IsStanding p s l → IsTight 255 l.front
+    → taken ≡ interrupt s → IsEntryInTime (entry taken s) → u ≡ state_after_execution taken s → guessing j.ic u ≡ guess taken s → j.ic < 2 ^ 19
+    → r ≡ row_of_entry ds n l.front (entry taken s) → k.tick ≡ r.c → k.front ≡ front_after_entry ds n l.front (entry taken s)
+    → log ≡ log_after_reads ds (reads_of_entry ds n l.front (entry taken s)) l.front.bus [] → k.past ≡ k.front.past
     → j ≡ record k { missed = is_missed (plan s taken) s; ic = j.ic; enabled = s.enabled } → IsLast ds n (next_moment ds n p) j log
 entry-last ds are n p s u l k j log taken r is tight is_taken fits made guess_is counter is_row tick front reads past rest =
     let t = interrupt s in
-    next-last ds are n p s u l j log is tight (subst (λ o. IsEntry (entry o s)) is_taken fits) (entry-step s u taken is_taken made)
+    next-last ds are n p s u l j log is tight (subst (λ o. IsEntryInTime (entry o s)) is_taken fits) (entry-step s u taken is_taken made)
     (guess_is ∙ ap (λ o. guess o s) is_taken) counter
-    (ap (λ (x : Last). x.tick) rest ∙ tick ∙ ap (λ (x : Row). x.c) is_row ∙ ap (λ o. (row ds n l.front (entry o s)).c) is_taken)
-    (ap (λ (x : Last). x.front) rest ∙ front ∙ ap (λ o. after ds n l.front (entry o s)) is_taken)
+    (ap (λ (x : Last). x.tick) rest ∙ tick ∙ ap (λ (x : EntryTicks). x.c) is_row ∙ ap (λ o. (row_of_entry ds n l.front (entry o s)).c) is_taken)
+    (ap (λ (x : Last). x.front) rest ∙ front ∙ ap (λ o. front_after_entry ds n l.front (entry o s)) is_taken)
     (ap (λ (x : Last). x.missed) rest ∙ ap (λ o. is_missed (plan s o) s) is_taken)
-    (reads ∙ ap (λ o. noted ds (asked ds n l.front (entry o s)) l.front.bus []) is_taken)
+    (reads ∙ ap (λ o. log_after_reads ds (reads_of_entry ds n l.front (entry o s)) l.front.bus []) is_taken)
     (ap (λ (x : Last). x.past) rest ∙ past ∙ ap (λ (x : Last). x.front.past) (sym rest))

@@ -3,14 +3,14 @@ use Rattle.std.specs.Prelude.{Bool, if◌then◌else◌, nat_lt, map}
 use Rattle.std.proofs.Common.{◌≡◌, ℕ, zero, suc, ◌^◌, ◌≤◌, ◌<◌, true, false, List, [], ◌∷◌, ◌++◌, length, take, get_or, Option, None, refl, sym, ◌∙◌, ap, subst, arith}
 use Rattle.st_state.specs.Machine.{Machine}
 use Rattle.st_prep.specs.Plan.{plan}
-use Rattle.st_exec.specs.Completion.{executed, guessed, guess, is_missed}
+use Rattle.st_exec.specs.Completion.{state_after_execution, guessed_state, guess, is_missed}
 use Rattle.st_exec.specs.Step.{interrupt, step}
 use Rattle.std.proofs.lemmas.Bool.Decides.{nat_tests}
 use Rattle.st_rows.specs.BusTimes.{accept_at}
-use Rattle.st_rows.specs.Asked.{Read, formed_asked, prepared_asked, asked, served, made_before}
-use Rattle.st_rows.specs.Notes.{noted, IsLogged}
-use Rattle.st_rows.specs.Ranges.{AreDelays, IsEntry, IsTight}
-use Rattle.st_rows.specs.Rows.{opening, row, after}
+use Rattle.st_rows.specs.Asked.{Read, formed_asked, prepared_asked, reads_of_entry, bus_after_reads, made_before}
+use Rattle.st_rows.specs.Notes.{log_after_reads, IsLogged}
+use Rattle.st_rows.specs.Ranges.{AreDelaysUpTo, IsEntryInTime, IsTight}
+use Rattle.st_rows.specs.Rows.{opening_front, row_of_entry, front_after_entry}
 use Rattle.st_rows.specs.declared.log.Made.{Made}
 use Rattle.st_rows.proofs.LogLaws.{logged-noted}
 use Rattle.st_rows.proofs.NoteLemmas.{opened-log}
@@ -20,15 +20,15 @@ use Rattle.st_rows.proofs.Tight.{later-r, later-c}
 use Rattle.st_rows.specs.declared.bus.Bus.{Bus}
 use Rattle.st_rows.specs.declared.entry.Entry.{Entry}
 use Rattle.st_rows.specs.declared.front.Front.{Front}
-use Rattle.st_rows.specs.declared.front.Row.{Row}
+use Rattle.st_rows.specs.declared.front.EntryTicks.{EntryTicks}
 use Rattle.st_rows.specs.declared.past.Past.{Past}
 use Rattle.st_segment.specs.Entries.{entry}
 use Rattle.st_segment.specs.Ahead.{Ahead, ahead, prepared_before}
 use Rattle.st_run.specs.Run.{Scene}
-use Rattle.st_run.specs.Moments.{Standing, start, unread, next_row, next_moment}
+use Rattle.st_run.specs.Moments.{Standing, moment_at_start, answers_at_start, next_row, next_moment}
 use Rattle.std.proofs.lemmas.List.{length-append, length-map}
 use Rattle.st_prep.proofs.Choices.{of_choice}
-use Rattle.st_plain.specs.Looking.{seen_of}
+use Rattle.st_plain.specs.Looking.{seen_ahead}
 use Rattle.st_plain.specs.declared.looking.Ahead.{Ahead as Seen}
 use Rattle.st_account.specs.declared.last.Last.{Last}
 use Rattle.st_account.specs.Standing.{guessing, HasReads, IsLast, IsStanding}
@@ -77,12 +77,12 @@ unfolding made_before
 none-made ds [] b = refl
 none-made ds (r ∷ reads) b = rw (not-before (accept_at b r.w r.want)) refl
 
-no-reads : (ds : List ℕ) (b : Bus) → served ds [] b ≡ b
-unfolding served
+no-reads : (ds : List ℕ) (b : Bus) → bus_after_reads ds [] b ≡ b
+unfolding bus_after_reads
 no-reads ds b = refl
 
-pub start-last : (ds : List ℕ) (n : ℕ) (c : Scene) (l : Last) (log : List Made) → l.tick ≡ 0 → l.front ≡ opening unread 0 → l.past ≡ l.front.past → l.missed ≡ false
-    → l.ic ≡ c.machine.ic → l.ic < 2 ^ 19 → log ≡ [] → IsTight 255 l.front → IsLast ds n (start c) l log
+pub start-last : (ds : List ℕ) (n : ℕ) (c : Scene) (l : Last) (log : List Made) → l.tick ≡ 0 → l.front ≡ opening_front answers_at_start 0 → l.past ≡ l.front.past → l.missed ≡ false
+    → l.ic ≡ c.machine.ic → l.ic < 2 ^ 19 → log ≡ [] → IsTight 255 l.front → IsLast ds n (moment_at_start c) l log
 start-last ds n c l log tick front past missed ic counter none tight = record {
   tick = sym tick;
   front = sym front;
@@ -110,30 +110,30 @@ start-last ds n c l log tick front past missed ic counter none tight = record {
 
 -- the guess leaves the completed state but for the counter
 guess-counter : (t : Option ℕ) (s : Machine) (ic : ℕ)
-    → ic ≡ (if (plan s t).serial then (executed t s).ic else (plan s t).following) → guessing ic (executed t s) ≡ guess t s
-unfolding guessed
-guess-counter t s ic is = by_test (plan s t).serial (executed t s) ic (plan s t).following is
+    → ic ≡ (if (plan s t).serial then (state_after_execution t s).ic else (plan s t).following) → guessing ic (state_after_execution t s) ≡ guess t s
+unfolding guessed_state
+guess-counter t s ic is = by_test (plan s t).serial (state_after_execution t s) ic (plan s t).following is
   where
     by_test : (b : Bool) (u : Machine) (ic following : ℕ) → ic ≡ (if b then u.ic else following)
         → guessing ic u ≡ (if b then u else record u { ic = following })
     by_test true u ic following is = rw is refl
     by_test false u ic following is = rw is refl
 
-pub guess-is : (t : Option ℕ) (s u : Machine) (ic : ℕ) → u ≡ executed t s → ic ≡ (if (plan s t).serial then u.ic else (plan s t).following)
+pub guess-is : (t : Option ℕ) (s u : Machine) (ic : ℕ) → u ≡ state_after_execution t s → ic ≡ (if (plan s t).serial then u.ic else (plan s t).following)
     → guessing ic u ≡ guess t s
 guess-is t s u ic made is =
     ap (guessing ic) made ∙ guess-counter t s ic (is ∙ ap (λ v. if (plan s t).serial then v.ic else (plan s t).following) made)
 
 -- the reads of the entry that was done last
-pub has-reads : (ds : List ℕ) → AreDelays 255 ds → (n : ℕ) (f g : Front) (e : Entry) (log : List Made) (t : ℕ) → IsEntry e → IsTight 255 f → t ≡ (row ds n f e).c
-    → g ≡ after ds n f e → log ≡ noted ds (asked ds n f e) f.bus [] → HasReads ds t (asked ds n f e) f.bus g.bus log
-unfolding row
+pub has-reads : (ds : List ℕ) → AreDelaysUpTo 255 ds → (n : ℕ) (f g : Front) (e : Entry) (log : List Made) (t : ℕ) → IsEntryInTime e → IsTight 255 f → t ≡ (row_of_entry ds n f e).c
+    → g ≡ front_after_entry ds n f e → log ≡ log_after_reads ds (reads_of_entry ds n f e) f.bus [] → HasReads ds t (reads_of_entry ds n f e) f.bus g.bus log
+unfolding row_of_entry
 has-reads ds are n f g e log t range tight at behind is =
     let free : f.bus.free ≤ t = omega (arith, at, front-done 255 ds are n f e range tight) in
     let formed = ap (λ (b : Bus). b.free) (served-formed ds f e) in
     record {
-      logged = subst (λ (l : List Made). IsLogged ds t (asked ds n f e) f.bus l) (sym is)
-          (rw (no-reads ds f.bus) at (logged-noted ds t [] (asked ds n f e) f.bus [] (opened-log ds t f.bus)));
+      logged = subst (λ (l : List Made). IsLogged ds t (reads_of_entry ds n f e) f.bus l) (sym is)
+          (rw (no-reads ds f.bus) at (logged-noted ds t [] (reads_of_entry ds n f e) f.bus [] (opened-log ds t f.bus)));
       leaves = served-asked ds n f e ∙ ap (λ (h : Front). h.bus) (sym behind);
       first = formed_asked ds f e;
       rest = prepared_asked ds n f e;
@@ -144,11 +144,11 @@ has-reads ds are n f g e log t range tight at behind is =
       free = free;
     }
 
-pub next-last : (ds : List ℕ) (are : AreDelays 255 ds) (n : ℕ) (p : Standing) (s u : Machine) (l k : Last) (log : List Made) → IsStanding p s l → IsTight 255 l.front
-    → IsEntry (entry (interrupt s) s)
+pub next-last : (ds : List ℕ) (are : AreDelaysUpTo 255 ds) (n : ℕ) (p : Standing) (s u : Machine) (l k : Last) (log : List Made) → IsStanding p s l → IsTight 255 l.front
+    → IsEntryInTime (entry (interrupt s) s)
     → u ≡ step s → guessing k.ic u ≡ guess (interrupt s) s → k.ic < 2 ^ 19
-    → k.tick ≡ (row ds n l.front (entry (interrupt s) s)).c → k.front ≡ after ds n l.front (entry (interrupt s) s)
-    → k.missed ≡ is_missed (plan s (interrupt s)) s → log ≡ noted ds (asked ds n l.front (entry (interrupt s) s)) l.front.bus []
+    → k.tick ≡ (row_of_entry ds n l.front (entry (interrupt s) s)).c → k.front ≡ front_after_entry ds n l.front (entry (interrupt s) s)
+    → k.missed ≡ is_missed (plan s (interrupt s)) s → log ≡ log_after_reads ds (reads_of_entry ds n l.front (entry (interrupt s) s)) l.front.bus []
     → k.past ≡ k.front.past → IsLast ds n (next_moment ds n p) k log
 unfolding next_moment next_row
 next-last ds are n p s u l k log is tight fits made guess_is counter tick front missed reads past =
@@ -159,7 +159,7 @@ next-last ds are n p s u l k log is tight fits made guess_is counter tick front 
       front = rw (machine, is.front) (sym front);
       missed = rw machine (sym missed);
       dropped = rw (machine, is.front, tick, front, sym made, guess_is) refl;
-      reads = asked ds n l.front e;
+      reads = reads_of_entry ds n l.front e;
       bus = l.front.bus;
       has = has-reads ds are n l.front k.front e log k.tick fits tight tick front reads;
       banks = rw (machine, is.front, tick, front, sym made, guess_is) refl;
@@ -173,7 +173,7 @@ ahead-few : (ds : List ℕ) (n k : ℕ) (t : Option ℕ) (s : Machine) (f : Fron
 unfolding ahead
 ahead-few ds n zero t s f = omega arith
 ahead-few ds n (suc k) t s f =
-    let rest = ahead-few ds n k None (guess t s) (after ds n f (entry t s)) in
+    let rest = ahead-few ds n k None (guess t s) (front_after_entry ds n f (entry t s)) in
     omega arith
 
 prepared-few : (t : ℕ) (xs : List Ahead) → length (prepared_before t xs) ≤ length xs
@@ -184,13 +184,13 @@ prepared-few t (a ∷ rest) =
     of_choice (λ xs. length xs ≤ suc (length rest)) (nat_lt a.row.p t) (a ∷ prepared_before t rest) [] (omega arith) (omega arith)
 
 pub few-found : (ds : List ℕ) (n t k : ℕ) (s : Machine) (f : Front) (old new : List Seen) → length old ≡ 0 → k ≤ 8
-    → new ≡ old ++ map seen_of (prepared_before t (ahead ds n k None s f)) → length new ≤ 8
+    → new ≡ old ++ map seen_ahead (prepared_before t (ahead ds n k None s f)) → length new ≤ 8
 few-found ds n t k s f old new none few is =
     let found = prepared_before t (ahead ds n k None s f) in
-    omega (arith, ap length is ∙ length-append old (map seen_of found), length-map found seen_of, none, few, prepared-few t (ahead ds n k None s f), ahead-few ds n k None s f)
+    omega (arith, ap length is ∙ length-append old (map seen_ahead found), length-map found seen_ahead, none, few, prepared-few t (ahead ds n k None s f), ahead-few ds n k None s f)
 
 -- the last entries behind one more
-pub past-kept : (ds : List ℕ) (n : ℕ) (f : Front) (e : Entry) (r : Row) (old new : List Past) (g : Front) → old ≡ f.past → r ≡ row ds n f e
-    → new ≡ record { c = r.c; writes = e.writes } ∷ take 7 old → g ≡ after ds n f e → new ≡ g.past
-unfolding row after
+pub past-kept : (ds : List ℕ) (n : ℕ) (f : Front) (e : Entry) (r : EntryTicks) (old new : List Past) (g : Front) → old ≡ f.past → r ≡ row_of_entry ds n f e
+    → new ≡ record { c = r.c; writes = e.writes } ∷ take 7 old → g ≡ front_after_entry ds n f e → new ≡ g.past
+unfolding row_of_entry front_after_entry
 past-kept ds n f e r old new g same is kept behind = rw (behind, kept, is, same) refl

@@ -6,7 +6,7 @@ use Rattle.st_io.specs.declared.Failed.{Failed}
 use Rattle.st_io.specs.Lines.{WritesLines}
 use Rattle.st_io.proofs.Progress.{lines_then, lines_cut}
 use Rattle.st_run.specs.Run.{Scene}
-use Rattle.st_run.specs.Moments.{start}
+use Rattle.st_run.specs.Moments.{moment_at_start}
 use Rattle.st_ledger.specs.declared.charges.Stage.{Stage}
 use Rattle.st_ledger.specs.declared.totals.Totals.{Totals}
 use Rattle.st_ledger.specs.Charges.{ticks_for}
@@ -17,7 +17,7 @@ use Rattle.st_account.specs.Text.{machine_lines, lines_from, totals_lines, ledge
 
 module _ (ds : List ℕ) (n left : ℕ) (c : Scene) (s u : OutputState) (list : List ℕ) (same : list ≡ ds) where
   run_lines : List (List ℕ)
-  run_lines = lines_from ds n left 0 c.machine (start c)
+  run_lines = lines_from ds n left 0 c.machine (moment_at_start c)
 
   sums : List (List ℕ)
   sums = totals_lines (all_charges ds n (entries_of ds n left c))
@@ -34,13 +34,13 @@ module _ (ds : List ℕ) (n left : ℕ) (c : Scene) (s u : OutputState) (list : 
       whole r (lines_cut s u (machine_lines ds n ++ run_lines) sums e r f (lines_cut s u (machine_lines ds n) run_lines e (Err e) refl (machine u (Err e) h)))
 
   pub run-fails : (v : OutputState) (x : Unit {0}) (e : Failed) (r : Result (Unit {0}) Failed) → IsErr r → WritesLines s v (machine_lines list n) (Ok x)
-      → WritesLines v u (lines_from ds n left 0 c.machine (start c)) (Err e) → WritesLines s u (ledger ds n left c) r
+      → WritesLines v u (lines_from ds n left 0 c.machine (moment_at_start c)) (Err e) → WritesLines s u (ledger ds n left c) r
   unfolding run_lines
   run-fails v x e r f h later =
       whole r (lines_cut s u (machine_lines ds n ++ run_lines) sums e r f (lines_then s v u (machine_lines ds n) run_lines x (Err e) (machine v (Ok x) h) later))
 
   pub all-written : (v w : OutputState) (x y : Unit {0}) (r : Result (Unit {0}) Failed) (totals : Totals) → WritesLines s v (machine_lines list n) (Ok x)
-      → WritesLines v w (lines_from ds n left 0 c.machine (start c)) (Ok y)
+      → WritesLines v w (lines_from ds n left 0 c.machine (moment_at_start c)) (Ok y)
       → ((stage : Stage) → sum_at stage totals ≡ ticks_for stage (all_charges ds n (entries_of ds n left c)))
       → WritesLines w u (sum_lines (sums_by (λ stage. sum_at stage totals) stages)) r → WritesLines s u (ledger ds n left c) r
   unfolding run_lines sums

@@ -10,11 +10,11 @@ use Rattle.st_io.specs.declared.Failed.{Failed}
 use Rattle.st_io.specs.Lines.{WritesLines}
 use Rattle.st_io.proofs.Progress.{lines_then, lines_cut, wrote_nothing}
 use Rattle.st_plain.specs.declared.looking.Ahead.{Ahead}
-use Rattle.st_account.specs.Lines.{numbers, delays_line, delays_by, drop_line, end_line}
-use Rattle.st_account.specs.Standing.{without}
-use Rattle.st_exch.specs.Printer.{printed}
+use Rattle.st_account.specs.Lines.{numbers_text, delays_line, delays_by, dropped_line, segment_end_line}
+use Rattle.st_account.specs.Standing.{outcome_of}
+use Rattle.st_exch.specs.Printer.{line_of_words}
 use Rattle.st_report.specs.Line.{prt_line}
-use Rattle.st_account.specs.Text.{facts_lines, drop_lines, end_lines, prints_lines}
+use Rattle.st_account.specs.Text.{facts_lines, drop_lines, segment_end_lines, prints_lines}
 
 pub no_lines : (s : OutputState) (o : Unit {0}) → WritesLines s s [] (Ok o)
 no_lines s o = record { ok = wrote_nothing s; err = tt }
@@ -22,22 +22,22 @@ no_lines s o = record { ok = wrote_nothing s; err = tt }
 -- ---- entries that are dropped
 
 drops-first : (n : ℕ) (found xs : List Ahead) (x : Ahead) → found ≡ x ∷ xs
-    → drop_lines n found ≡ (drop_line n x.plan.place.address x.row ∷ facts_lines x.plan x.side x.execute) ++ drop_lines (n + 1) xs
+    → drop_lines n found ≡ (dropped_line n x.plan.place.address x.row ∷ facts_lines x.plan x.side x.execute) ++ drop_lines (n + 1) xs
 unfolding drop_lines
 drops-first n found xs x is = rw is refl
 
 pub drops_cut : (s u : OutputState) (n : ℕ) (found xs : List Ahead) (x : Ahead) (e : Failed) (r : Result (Unit {0}) Failed) → IsErr r
-    → found ≡ x ∷ xs → WritesLines s u (drop_line n x.plan.place.address x.row ∷ facts_lines x.plan x.side x.execute) (Err e) → WritesLines s u (drop_lines n found) r
+    → found ≡ x ∷ xs → WritesLines s u (dropped_line n x.plan.place.address x.row ∷ facts_lines x.plan x.side x.execute) (Err e) → WritesLines s u (drop_lines n found) r
 drops_cut s u n found xs x e r f is h =
     subst (λ ls. WritesLines s u ls r) (sym (drops-first n found xs x is))
-    (lines_cut s u (drop_line n x.plan.place.address x.row ∷ facts_lines x.plan x.side x.execute) (drop_lines (n + 1) xs) e r f h)
+    (lines_cut s u (dropped_line n x.plan.place.address x.row ∷ facts_lines x.plan x.side x.execute) (drop_lines (n + 1) xs) e r f h)
 
 pub drops_then : (s v u : OutputState) (n : ℕ) (found xs : List Ahead) (x : Ahead) (o : Unit {0}) (r : Result (Unit {0}) Failed)
-    → found ≡ x ∷ xs → WritesLines s v (drop_line n x.plan.place.address x.row ∷ facts_lines x.plan x.side x.execute) (Ok o)
+    → found ≡ x ∷ xs → WritesLines s v (dropped_line n x.plan.place.address x.row ∷ facts_lines x.plan x.side x.execute) (Ok o)
     → WritesLines v u (drop_lines (n + 1) xs) r → WritesLines s u (drop_lines n found) r
 drops_then s v u n found xs x o r is h k =
     subst (λ ls. WritesLines s u ls r) (sym (drops-first n found xs x is))
-    (lines_then s v u (drop_line n x.plan.place.address x.row ∷ facts_lines x.plan x.side x.execute) (drop_lines (n + 1) xs) o r h k)
+    (lines_then s v u (dropped_line n x.plan.place.address x.row ∷ facts_lines x.plan x.side x.execute) (drop_lines (n + 1) xs) o r h k)
 
 pub drops_none : (s : OutputState) (n : ℕ) (found : List Ahead) (o : Unit {0}) → found ≡ [] → WritesLines s s (drop_lines n found) (Ok o)
 unfolding drop_lines
@@ -45,12 +45,12 @@ drops_none s n found o is = rw is (no_lines s o)
 
 -- ---- the end of a segment
 
-pub end-none : (k tick n : ℕ) (found : List Ahead) → k ≡ 0 → end_lines k tick n found ≡ []
-unfolding end_lines
+pub end-none : (k tick n : ℕ) (found : List Ahead) → k ≡ 0 → segment_end_lines k tick n found ≡ []
+unfolding segment_end_lines
 end-none k tick n found none = rw none refl
 
-pub end-some : (k tick n : ℕ) (found : List Ahead) → k ≢ 0 → end_lines k tick n found ≡ (end_line k tick ∷ []) ++ drop_lines n found
-unfolding end_lines
+pub end-some : (k tick n : ℕ) (found : List Ahead) → k ≢ 0 → segment_end_lines k tick n found ≡ (segment_end_line k tick ∷ []) ++ drop_lines n found
+unfolding segment_end_lines
 end-some zero tick n found some = absurd (some refl)
 end-some (suc k) tick n found some = rw (not-zero k) refl
   where
@@ -91,16 +91,16 @@ delays-some (suc k) (d ∷ ds) some few =
 -- ---- numbers
 
 pub numbers-first : (old mid new : List ℕ) (ns more : List ℕ) (n : ℕ) → ns ≡ n ∷ more → mid ≡ old ++ (codes " " ++ decimal n)
-    → new ≡ mid ++ numbers more → new ≡ old ++ numbers ns
-unfolding numbers
+    → new ≡ mid ++ numbers_text more → new ≡ old ++ numbers_text ns
+unfolding numbers_text
 numbers-first old mid new ns more n is first later =
     later
-    ∙ ap (λ xs. xs ++ numbers more) first
-    ∙ append_assoc old (codes " " ++ decimal n) (numbers more)
-    ∙ ap (λ xs. old ++ numbers xs) (sym is)
+    ∙ ap (λ xs. xs ++ numbers_text more) first
+    ∙ append_assoc old (codes " " ++ decimal n) (numbers_text more)
+    ∙ ap (λ xs. old ++ numbers_text xs) (sym is)
 
-pub numbers-none : (old ns : List ℕ) → ns ≡ [] → old ≡ old ++ numbers ns
-unfolding numbers
+pub numbers-none : (old ns : List ℕ) → ns ≡ [] → old ≡ old ++ numbers_text ns
+unfolding numbers_text
 numbers-none old ns none = rw none (sym (append-nil old))
 
 -- ---- lines that are written or not
@@ -153,12 +153,12 @@ three_cut s u x xs e r f h = lines_cut s u (x ∷ []) xs e r f h
 
 -- an answer that gives something
 pub cut_without : {X : Type 0} (s u : OutputState) (xs : List (List ℕ)) (e : Failed) (r : Result X Failed) → IsErr r → WritesLines s u xs (Err e)
-    → WritesLines s u xs (without r)
+    → WritesLines s u xs (outcome_of r)
 cut_without s u xs e (Ok x) f h = absurd (cc)
 cut_without s u xs e (Err x) f h = record { ok = tt; err = h.err }
 
 pub made_without : {X : Type 0} (s u : OutputState) (xs : List (List ℕ)) (o : Unit {0}) (x : X) → WritesLines s u xs (Ok o)
-    → WritesLines s u xs (without {E = Failed} (Ok x))
+    → WritesLines s u xs (outcome_of {E = Failed} (Ok x))
 made_without s u xs o x h = record { ok = h.ok; err = tt }
 
 -- an answer that gives nothing
@@ -199,19 +199,19 @@ second_cut s v u xs ys zs o e r f h k = lines_cut s u (xs ++ ys) zs e r f (lines
 
 -- ---- what is printed
 
-prints-first : (all more : List (List ℕ)) (x : List ℕ) → all ≡ x ∷ more → prints_lines all ≡ (prt_line (printed x) ∷ []) ++ prints_lines more
+prints-first : (all more : List (List ℕ)) (x : List ℕ) → all ≡ x ∷ more → prints_lines all ≡ (prt_line (line_of_words x) ∷ []) ++ prints_lines more
 unfolding prints_lines
 prints-first all more x is = rw is refl
 
 pub prints_cut : (s u : OutputState) (all more : List (List ℕ)) (x : List ℕ) (e : Failed) (r : Result (Unit {0}) Failed) → IsErr r → all ≡ x ∷ more
-    → WritesLines s u (prt_line (printed x) ∷ []) (Err e) → WritesLines s u (prints_lines all) r
+    → WritesLines s u (prt_line (line_of_words x) ∷ []) (Err e) → WritesLines s u (prints_lines all) r
 prints_cut s u all more x e r f is h =
-    subst (λ ls. WritesLines s u ls r) (sym (prints-first all more x is)) (lines_cut s u (prt_line (printed x) ∷ []) (prints_lines more) e r f h)
+    subst (λ ls. WritesLines s u ls r) (sym (prints-first all more x is)) (lines_cut s u (prt_line (line_of_words x) ∷ []) (prints_lines more) e r f h)
 
 pub prints_then : (s v u : OutputState) (all more : List (List ℕ)) (x : List ℕ) (o : Unit {0}) (r : Result (Unit {0}) Failed) → all ≡ x ∷ more
-    → WritesLines s v (prt_line (printed x) ∷ []) (Ok o) → WritesLines v u (prints_lines more) r → WritesLines s u (prints_lines all) r
+    → WritesLines s v (prt_line (line_of_words x) ∷ []) (Ok o) → WritesLines v u (prints_lines more) r → WritesLines s u (prints_lines all) r
 prints_then s v u all more x o r is h k =
-    subst (λ ls. WritesLines s u ls r) (sym (prints-first all more x is)) (lines_then s v u (prt_line (printed x) ∷ []) (prints_lines more) o r h k)
+    subst (λ ls. WritesLines s u ls r) (sym (prints-first all more x is)) (lines_then s v u (prt_line (line_of_words x) ∷ []) (prints_lines more) o r h k)
 
 pub prints_none : (s : OutputState) (all : List (List ℕ)) (o : Unit {0}) → all ≡ [] → WritesLines s s (prints_lines all) (Ok o)
 unfolding prints_lines

@@ -7,8 +7,8 @@ use Rattle.st_io.specs.declared.Failed.{Failed}
 use Rattle.st_io.specs.Lines.{WritesLines}
 use Rattle.st_io.proofs.Progress.{LinesSoFar, lines_more, lines_failed, lines_last}
 use Rattle.st_exec.specs.Step.{rests}
-use Rattle.st_run.specs.Moments.{Moment, next_state, standing, next_moment}
-use Rattle.st_account.specs.Text.{begins, segment_lines, segment_after, entry_lines, last_lines, lines_from}
+use Rattle.st_run.specs.Moments.{Moment, next_state, standing_at, next_moment}
+use Rattle.st_account.specs.Text.{begins_segment, segment_lines, segment_after, lines_of_entry, last_lines, lines_from}
 use Rattle.st_ledger.specs.declared.charges.Stage.{Stage}
 use Rattle.st_ledger.specs.declared.charges.Stage.TheVariants.{Restart, Instruction, Address, Index, Preparing, Operand, Executing}
 use Rattle.st_ledger.specs.declared.totals.Totals.{Totals}
@@ -26,28 +26,28 @@ module _ (ds : List ℕ) (n left k : ℕ) (b : Machine) (m : Moment) (s t : Outp
 
   module _ (some : left ≢ 0) (going : rests (next_state m) ≡ false) where
     abbrev rest : List (List ℕ)
-    rest = lines_from ds n (left - 1) (segment_after k m) (next_state m) (next_moment ds n (standing m))
+    rest = lines_from ds n (left - 1) (segment_after k m) (next_state m) (next_moment ds n (standing_at m))
 
-    both : LinesSoFar s t all (segment_lines k b m ++ (entry_lines ds n (standing m) ++ rest))
-    both = subst (LinesSoFar s t all) (lines-on ds n left k b m some going ∙ append_assoc (segment_lines k b m) (entry_lines ds n (standing m)) rest) so_far
+    both : LinesSoFar s t all (segment_lines k b m ++ (lines_of_entry ds n (standing_at m) ++ rest))
+    both = subst (LinesSoFar s t all) (lines-on ds n left k b m some going ∙ append_assoc (segment_lines k b m) (lines_of_entry ds n (standing_at m)) rest) so_far
 
     -- a write fails, of the lines of a border
     pub border-fails : (u : OutputState) (e : Failed) (r : Result (Unit {0}) Failed) → IsErr r → WritesLines t u (segment_lines k b m) (Err e) → WritesLines s u all r
-    border-fails u e r f h = lines_failed s t u all (segment_lines k b m) (entry_lines ds n (standing m) ++ rest) r f both h.err
+    border-fails u e r f h = lines_failed s t u all (segment_lines k b m) (lines_of_entry ds n (standing_at m) ++ rest) r f both h.err
 
     -- of the lines of an entry
     pub entry-fails : (u v : OutputState) (x : Unit {0}) (e : Failed) (r : Result (Unit {0}) Failed) → IsErr r → WritesLines t u (segment_lines k b m) (Ok x)
-        → WritesLines u v (entry_lines ds n (standing m)) (Err e) → WritesLines s v all r
+        → WritesLines u v (lines_of_entry ds n (standing_at m)) (Err e) → WritesLines s v all r
     entry-fails u v x e r f h later =
-        lines_failed s u v all (entry_lines ds n (standing m)) rest r f
-        (lines_more s t u all (segment_lines k b m) (entry_lines ds n (standing m) ++ rest) both h.ok) later.err
+        lines_failed s u v all (lines_of_entry ds n (standing_at m)) rest r f
+        (lines_more s t u all (segment_lines k b m) (lines_of_entry ds n (standing_at m) ++ rest) both h.ok) later.err
 
     -- none fails
-    pub turn-made : (u v : OutputState) (x y : Unit {0}) → WritesLines t u (segment_lines k b m) (Ok x) → WritesLines u v (entry_lines ds n (standing m)) (Ok y)
+    pub turn-made : (u v : OutputState) (x y : Unit {0}) → WritesLines t u (segment_lines k b m) (Ok x) → WritesLines u v (lines_of_entry ds n (standing_at m)) (Ok y)
         → LinesSoFar s v all rest
     turn-made u v x y h later =
-        lines_more s u v all (entry_lines ds n (standing m)) rest
-        (lines_more s t u all (segment_lines k b m) (entry_lines ds n (standing m) ++ rest) both h.ok) later.ok
+        lines_more s u v all (lines_of_entry ds n (standing_at m)) rest
+        (lines_more s t u all (segment_lines k b m) (lines_of_entry ds n (standing_at m) ++ rest) both h.ok) later.ok
 
 -- ---- numbers of a turn
 
@@ -65,11 +65,11 @@ after-most true k = omega arith
 after-most false k = omega arith
 
 pub number-next : (k next : ℕ) (m : Moment) (d e : ℕ) → next ≡ segment_after k m → k ≤ d → e ≡ d + 1 → next ≤ e
-number-next k next m d e is few one = omega (arith, is, few, one, after-most (begins k m) k)
+number-next k next m d e is few one = omega (arith, is, few, one, after-most (begins_segment k m) k)
 
 pub sums-next : (ds : List ℕ) (n left : ℕ) (m : Moment) (s : Stage) (a b total : ℕ) → left ≢ 0 → rests (next_state m) ≡ false
-    → a + ticks_for s (all_charges ds n (entries_from ds n left m)) ≡ total → b ≡ a + ticks_for s (charges_at ds n (standing m))
-    → b + ticks_for s (all_charges ds n (entries_from ds n (left - 1) (next_moment ds n (standing m)))) ≡ total
+    → a + ticks_for s (all_charges ds n (entries_from ds n left m)) ≡ total → b ≡ a + ticks_for s (charges_at ds n (standing_at m))
+    → b + ticks_for s (all_charges ds n (entries_from ds n (left - 1) (next_moment ds n (standing_at m)))) ≡ total
 sums-next ds n left m s a b total some going so_far more =
     let on = charges-on ds n s left m some going in
     omega (arith, so_far, more, on)

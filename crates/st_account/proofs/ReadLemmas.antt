@@ -7,10 +7,10 @@ use Rattle.std.proofs.lemmas.List.Elements.{All-weaker}
 use Rattle.st_banks.specs.declared.answers.LastAnswers.{LastAnswers}
 use Rattle.st_state.specs.Machine.{Machine, IsMachine}
 use Rattle.st_exec.specs.Completion.{guess}
-use Rattle.st_rows.specs.Asked.{Read, formed_asked, prepared_asked, fetches_asked, following_asked, asked, served, made_before, side_count}
-use Rattle.st_rows.specs.Notes.{noted, logged, undone, AreEarly, IsLogged}
-use Rattle.st_rows.specs.Ranges.{AreDelays, IsEntry, IsTight}
-use Rattle.st_rows.specs.Rows.{row, after, fetch_words, wanted_from, tick_a, tick_p, bus_a, operands}
+use Rattle.st_rows.specs.Asked.{Read, formed_asked, prepared_asked, fetches_asked, following_asked, reads_of_entry, bus_after_reads, made_before, side_count}
+use Rattle.st_rows.specs.Notes.{log_after_reads, notes_of_reads, answers_left, AreEarly, IsLogged}
+use Rattle.st_rows.specs.Ranges.{AreDelaysUpTo, IsEntryInTime, IsTight}
+use Rattle.st_rows.specs.Rows.{row_of_entry, front_after_entry, fetch_words, wanted_from, tick_a, tick_p, bus_a, operands}
 use Rattle.st_rows.specs.declared.bus.Bus.{Bus}
 use Rattle.st_rows.specs.declared.entry.Entry.{Entry}
 use Rattle.st_rows.specs.declared.fetching.Fetching.{Fetching}
@@ -25,13 +25,13 @@ use Rattle.st_segment.specs.Entries.{entry}
 use Rattle.st_segment.specs.Ahead.{ahead, reads_before}
 use Rattle.st_segment.proofs.EntryRanges.{entry-ranges}
 use Rattle.st_segment.proofs.GuessLemmas.{guess-machine}
-use Rattle.st_plain.specs.Looking.{looked}
+use Rattle.st_plain.specs.Looking.{reads_up_to}
 use Rattle.st_plain.proofs.LookLemmas.{row-p}
 use Rattle.st_account.specs.Standing.{HasReads}
 
 -- ---- how many reads an entry has in each part
 
-pub few-prepared : (ds : List ℕ) (n : ℕ) (f : Front) (e : Entry) → IsEntry e → length (prepared_asked ds n f e) ≤ 34
+pub few-prepared : (ds : List ℕ) (n : ℕ) (f : Front) (e : Entry) → IsEntryInTime e → length (prepared_asked ds n f e) ≤ 34
 unfolding following_asked
 few-prepared ds n f e range =
     let p = tick_p ds n f e in
@@ -49,7 +49,7 @@ at-most-one : (side : Option ℕ) → side_count side ≤ 1
 at-most-one None = omega arith
 at-most-one (Some w) = omega arith
 
-few-formed : (ds : List ℕ) (f : Front) (e : Entry) → IsEntry e → length (formed_asked ds f e) ≤ 5
+few-formed : (ds : List ℕ) (f : Front) (e : Entry) → IsEntryInTime e → length (formed_asked ds f e) ≤ 5
 unfolding fetches_asked
 few-formed ds f e range =
     let start : Fetching = record { bus = f.bus; answered = 0; awaited = 0 } in
@@ -76,33 +76,33 @@ late-by a t is = grind (arith, nat_tests)
 -- ---- reads that are left out are wanted too late
 
 module _ (ds : List ℕ) (n t : ℕ) where
-  made-next : (f : Front) (e : Entry) (xs : List Read) (b : Bus) (rest few : List Read) (c : Bool) → nat_lt (row ds n f e).p t ≡ c
-      → made_before ds t ((xs ++ asked ds n f e) ++ rest) b ≡ made_before ds t ((xs ++ asked ds n f e) ++ few) b
-      → made_before ds t (xs ++ (asked ds n f e ++ (if c then rest else []))) b
-      ≡ made_before ds t (xs ++ (if c then asked ds n f e ++ few else formed_asked ds f e)) b
+  made-next : (f : Front) (e : Entry) (xs : List Read) (b : Bus) (rest few : List Read) (c : Bool) → nat_lt (row_of_entry ds n f e).p t ≡ c
+      → made_before ds t ((xs ++ reads_of_entry ds n f e) ++ rest) b ≡ made_before ds t ((xs ++ reads_of_entry ds n f e) ++ few) b
+      → made_before ds t (xs ++ (reads_of_entry ds n f e ++ (if c then rest else []))) b
+      ≡ made_before ds t (xs ++ (if c then reads_of_entry ds n f e ++ few else formed_asked ds f e)) b
   made-next f e xs b rest few true is same =
-      ap (λ reads. made_before ds t reads b) (sym (append_assoc xs (asked ds n f e) rest))
+      ap (λ reads. made_before ds t reads b) (sym (append_assoc xs (reads_of_entry ds n f e) rest))
       ∙ same
-      ∙ ap (λ reads. made_before ds t reads b) (append_assoc xs (asked ds n f e) few)
+      ∙ ap (λ reads. made_before ds t reads b) (append_assoc xs (reads_of_entry ds n f e) few)
   made-next f e xs b rest few false is same =
       let formed = formed_asked ds f e in
       let behind = prepared_asked ds n f e in
-      let late = late-by (row ds n f e).p t is in
-      ap (λ reads. made_before ds t (xs ++ reads) b) (append-nil (asked ds n f e) ∙ two-parts ds n f e)
+      let late = late-by (row_of_entry ds n f e).p t is in
+      ap (λ reads. made_before ds t (xs ++ reads) b) (append-nil (reads_of_entry ds n f e) ∙ two-parts ds n f e)
       ∙ ap (λ reads. made_before ds t reads b) (sym (append_assoc xs formed behind))
       ∙ made-more ds t (xs ++ formed) behind b
       (All-weaker (λ (r : Read). r.want ≡ tick_p ds n f e) (λ (r : Read). t ≤ r.want) (λ r h. omega (arith, h, late, row-p ds n f e)) behind
       (at-prepared ds n f e))
 
   made-looked : (k : ℕ) (s : Machine) (f : Front) (xs : List Read) (b : Bus)
-      → made_before ds t (xs ++ reads_before ds n t (ahead ds n k None s f)) b ≡ made_before ds t (xs ++ looked ds n t (ahead ds n k None s f)) b
-  unfolding ahead reads_before looked
+      → made_before ds t (xs ++ reads_before ds n t (ahead ds n k None s f)) b ≡ made_before ds t (xs ++ reads_up_to ds n t (ahead ds n k None s f)) b
+  unfolding ahead reads_before reads_up_to
   made-looked zero s f xs b = refl
   made-looked (suc k) s f xs b =
       let e = entry None s in
-      let list = ahead ds n k None (guess None s) (after ds n f e) in
-      made-next f e xs b (reads_before ds n t list) (looked ds n t list) (nat_lt (row ds n f e).p t) refl
-      (made-looked k (guess None s) (after ds n f e) (xs ++ asked ds n f e) b)
+      let list = ahead ds n k None (guess None s) (front_after_entry ds n f e) in
+      made-next f e xs b (reads_before ds n t list) (reads_up_to ds n t list) (nat_lt (row_of_entry ds n f e).p t) refl
+      (made-looked k (guess None s) (front_after_entry ds n f e) (xs ++ reads_of_entry ds n f e) b)
 
 -- ---- few of the others are accepted at the tick or later
 
@@ -112,15 +112,15 @@ record AreFew (ds : List ℕ) (t : ℕ) (reads : List Read) (b : Bus) : Type 0 w
   rest : List Read
   parts : reads ≡ first ++ rest
   few : length rest ≤ 64
-  free : (served ds first b).free ≤ t
+  free : (bus_after_reads ds first b).free ≤ t
 
-module _ (ds : List ℕ) (are : AreDelays 255 ds) (n t : ℕ) (b : Bus) where
-  few-next : (f : Front) (e : Entry) (xs first rest more : List Read) (c : Bool) → IsEntry e → nat_lt (row ds n f e).p t ≡ c
-      → xs ≡ first ++ rest → length rest ≤ 34 → (served ds first b).free ≤ t
-      → ((row ds n f e).p < t → AreFew ds t ((xs ++ asked ds n f e) ++ more) b)
-      → AreFew ds t (xs ++ (if c then asked ds n f e ++ more else formed_asked ds f e)) b
+module _ (ds : List ℕ) (are : AreDelaysUpTo 255 ds) (n t : ℕ) (b : Bus) where
+  few-next : (f : Front) (e : Entry) (xs first rest more : List Read) (c : Bool) → IsEntryInTime e → nat_lt (row_of_entry ds n f e).p t ≡ c
+      → xs ≡ first ++ rest → length rest ≤ 34 → (bus_after_reads ds first b).free ≤ t
+      → ((row_of_entry ds n f e).p < t → AreFew ds t ((xs ++ reads_of_entry ds n f e) ++ more) b)
+      → AreFew ds t (xs ++ (if c then reads_of_entry ds n f e ++ more else formed_asked ds f e)) b
   few-next f e xs first rest more true range is parts few free next =
-      subst (λ reads. AreFew ds t reads b) (append_assoc xs (asked ds n f e) more) (next (early-by (row ds n f e).p t is))
+      subst (λ reads. AreFew ds t reads b) (append_assoc xs (reads_of_entry ds n f e) more) (next (early-by (row_of_entry ds n f e).p t is))
   few-next f e xs first rest more false range is parts few free next =
       let formed = formed_asked ds f e in
       record {
@@ -131,9 +131,9 @@ module _ (ds : List ℕ) (are : AreDelays 255 ds) (n t : ℕ) (b : Bus) where
         free = free;
       }
 
-  few-looked : (k : ℕ) (s : Machine) (f : Front) (xs first rest : List Read) → IsMachine s → IsTight 255 f → served ds xs b ≡ f.bus
-      → xs ≡ first ++ rest → length rest ≤ 34 → (served ds first b).free ≤ t → AreFew ds t (xs ++ looked ds n t (ahead ds n k None s f)) b
-  unfolding ahead looked
+  few-looked : (k : ℕ) (s : Machine) (f : Front) (xs first rest : List Read) → IsMachine s → IsTight 255 f → bus_after_reads ds xs b ≡ f.bus
+      → xs ≡ first ++ rest → length rest ≤ 34 → (bus_after_reads ds first b).free ≤ t → AreFew ds t (xs ++ reads_up_to ds n t (ahead ds n k None s f)) b
+  unfolding ahead reads_up_to
   few-looked zero s f xs first rest m tight is parts few free = record {
     first = first;
     rest = rest;
@@ -143,62 +143,62 @@ module _ (ds : List ℕ) (are : AreDelays 255 ds) (n t : ℕ) (b : Bus) where
   }
   few-looked (suc k) s f xs first rest m tight is parts few free =
       let e = entry None s in
-      let f' = after ds n f e in
+      let f' = front_after_entry ds n f e in
       let range = entry-ranges None s m tt in
       let formed = formed_asked ds f e in
       let behind = prepared_asked ds n f e in
-      let bus : served ds (xs ++ formed) b ≡ bus_a ds f e =
-      served-append ds xs formed b ∙ ap (served ds formed) is ∙ served-formed ds f e in
-      let after_bus : served ds (xs ++ asked ds n f e) b ≡ f'.bus =
-      served-append ds xs (asked ds n f e) b ∙ ap (served ds (asked ds n f e)) is ∙ served-asked ds n f e in
-      few-next f e xs first rest (looked ds n t (ahead ds n k None (guess None s) f')) (nat_lt (row ds n f e).p t) range refl parts few free
+      let bus : bus_after_reads ds (xs ++ formed) b ≡ bus_a ds f e =
+      served-append ds xs formed b ∙ ap (bus_after_reads ds formed) is ∙ served-formed ds f e in
+      let after_bus : bus_after_reads ds (xs ++ reads_of_entry ds n f e) b ≡ f'.bus =
+      served-append ds xs (reads_of_entry ds n f e) b ∙ ap (bus_after_reads ds (reads_of_entry ds n f e)) is ∙ served-asked ds n f e in
+      few-next f e xs first rest (reads_up_to ds n t (ahead ds n k None (guess None s) f')) (nat_lt (row_of_entry ds n f e).p t) range refl parts few free
       (λ early.
-      few-looked k (guess None s) f' (xs ++ asked ds n f e) (xs ++ formed) behind (guess-machine None s m tt)
+      few-looked k (guess None s) f' (xs ++ reads_of_entry ds n f e) (xs ++ formed) behind (guess-machine None s m tt)
       (tight-after 255 ds are n f e range tight) after_bus
       (ap (λ reads. xs ++ reads) (two-parts ds n f e) ∙ sym (append_assoc xs formed behind)) (few-prepared ds n f e range)
       (omega (arith, ap (λ (c : Bus). c.free) bus, free-formed 255 ds are n f e range tight, early, row-p ds n f e)))
 
 -- ---- the banks, where the segment ends
 
-module _ (ds : List ℕ) (are : AreDelays 255 ds) (n t : ℕ) (s : Machine) (m : IsMachine s) (f : Front) (tight : IsTight 255 f) (reads : List Read)
+module _ (ds : List ℕ) (are : AreDelaysUpTo 255 ds) (n t : ℕ) (s : Machine) (m : IsMachine s) (f : Front) (tight : IsTight 255 f) (reads : List Read)
     (start : Bus) (log : List Made) (has : HasReads ds t reads start f.bus log) where
   ahead_reads : List Read
-  ahead_reads = looked ds n t (ahead ds n (suc n) None s f)
+  ahead_reads = reads_up_to ds n t (ahead ds n (suc n) None s f)
 
   all : List Read
-  all = reads ++ looked ds n t (ahead ds n (suc n) None s f)
+  all = reads ++ reads_up_to ds n t (ahead ds n (suc n) None s f)
 
-  bus-is : served ds all start ≡ served ds ahead_reads f.bus
+  bus-is : bus_after_reads ds all start ≡ bus_after_reads ds ahead_reads f.bus
   unfolding all ahead_reads
-  bus-is = served-append ds reads (looked ds n t (ahead ds n (suc n) None s f)) start ∙ ap (served ds (looked ds n t (ahead ds n (suc n) None s f))) has.leaves
+  bus-is = served-append ds reads (reads_up_to ds n t (ahead ds n (suc n) None s f)) start ∙ ap (bus_after_reads ds (reads_up_to ds n t (ahead ds n (suc n) None s f))) has.leaves
 
-  log-is : IsLogged ds t all start (noted ds ahead_reads f.bus log)
+  log-is : IsLogged ds t all start (log_after_reads ds ahead_reads f.bus log)
   unfolding all ahead_reads
-  log-is = subst (λ (b : Bus). IsLogged ds t (reads ++ looked ds n t (ahead ds n (suc n) None s f)) start (noted ds (looked ds n t (ahead ds n (suc n) None s f)) b log))
-      has.leaves (logged-noted ds t reads (looked ds n t (ahead ds n (suc n) None s f)) start log has.logged)
+  log-is = subst (λ (b : Bus). IsLogged ds t (reads ++ reads_up_to ds n t (ahead ds n (suc n) None s f)) start (log_after_reads ds (reads_up_to ds n t (ahead ds n (suc n) None s f)) b log))
+      has.leaves (logged-noted ds t reads (reads_up_to ds n t (ahead ds n (suc n) None s f)) start log has.logged)
 
   split : AreFew ds t all start
   unfolding all
   split = few-looked ds are n t start (suc n) s f reads has.first has.rest m tight has.leaves has.parts has.few has.early
 
-  ticks-are : undone t (noted ds ahead_reads f.bus log) (served ds ahead_reads f.bus).banks.ticks
+  ticks-are : answers_left t (log_after_reads ds ahead_reads f.bus log) (bus_after_reads ds ahead_reads f.bus).banks.ticks
       ≡ (made_before ds t (reads ++ reads_before ds n t (ahead ds n (suc n) None s f)) start).banks.ticks
   unfolding all
   ticks-are =
-      ap (λ (b : Bus). undone t (noted ds ahead_reads f.bus log) b.banks.ticks) (sym bus-is)
-      ∙ undone_is_made_before ds t all start (noted ds ahead_reads f.bus log) log-is (λ older early.
-      subst (λ (l : List Read). AreEarly t (drop 64 (logged ds l start ++ older))) (sym split.parts)
+      ap (λ (b : Bus). answers_left t (log_after_reads ds ahead_reads f.bus log) b.banks.ticks) (sym bus-is)
+      ∙ undone_is_made_before ds t all start (log_after_reads ds ahead_reads f.bus log) log-is (λ older early.
+      subst (λ (l : List Read). AreEarly t (drop 64 (notes_of_reads ds l start ++ older))) (sym split.parts)
       (few_are_undone ds t split.first split.rest start older split.few split.free early))
       ∙ ap (λ (b : Bus). b.banks.ticks) (sym (made-looked ds n t (suc n) s f reads start))
 
-  module _ (new : List Made) (bus : Bus) (banks : LastAnswers) (logs : new ≡ noted ds (looked ds n t (ahead ds n (suc n) None s f)) f.bus log)
-      (serves : bus ≡ served ds (looked ds n t (ahead ds n (suc n) None s f)) f.bus) (is : banks.ticks ≡ undone t new bus.banks.ticks) where
+  module _ (new : List Made) (bus : Bus) (banks : LastAnswers) (logs : new ≡ log_after_reads ds (reads_up_to ds n t (ahead ds n (suc n) None s f)) f.bus log)
+      (serves : bus ≡ bus_after_reads ds (reads_up_to ds n t (ahead ds n (suc n) None s f)) f.bus) (is : banks.ticks ≡ answers_left t new bus.banks.ticks) where
     made : banks.ticks ≡ (made_before ds t (reads ++ reads_before ds n t (ahead ds n (suc n) None s f)) start).banks.ticks
     unfolding ahead_reads
     made =
         is
-        ∙ ap (λ (l : List Made). undone t l bus.banks.ticks) logs
-        ∙ ap (λ (c : Bus). undone t (noted ds (looked ds n t (ahead ds n (suc n) None s f)) f.bus log) c.banks.ticks) serves
+        ∙ ap (λ (l : List Made). answers_left t l bus.banks.ticks) logs
+        ∙ ap (λ (c : Bus). answers_left t (log_after_reads ds (reads_up_to ds n t (ahead ds n (suc n) None s f)) f.bus log) c.banks.ticks) serves
         ∙ ticks-are
 
     pub banks-left : banks ≡ (made_before ds t (reads ++ reads_before ds n t (ahead ds n (suc n) None s f)) start).banks
@@ -213,15 +213,15 @@ module _ (ds : List ℕ) (are : AreDelays 255 ds) (n t : ℕ) (s : Machine) (m :
         (made_before ds t all_reads start).banks.ticks bounds.0.banks)
 
 -- the same of a state and a front that are others' equals
-module _ (ds : List ℕ) (are : AreDelays 255 ds) (n t : ℕ) (s u : Machine) (f g : Front) (m : IsMachine u) (tight : IsTight 255 f) (state : u ≡ s) (front : g ≡ f)
+module _ (ds : List ℕ) (are : AreDelaysUpTo 255 ds) (n t : ℕ) (s u : Machine) (f g : Front) (m : IsMachine u) (tight : IsTight 255 f) (state : u ≡ s) (front : g ≡ f)
     (reads : List Read) (start : Bus) (log new : List Made) (bus : Bus) (banks : LastAnswers) (has : HasReads ds t reads start f.bus log)
-    (logs : new ≡ noted ds (looked ds n t (ahead ds n (suc n) None u g)) g.bus log)
-    (serves : bus ≡ served ds (looked ds n t (ahead ds n (suc n) None u g)) g.bus) (is : banks.ticks ≡ undone t new bus.banks.ticks) where
-  logs_at : new ≡ noted ds (looked ds n t (ahead ds n (suc n) None u f)) f.bus log
-  logs_at = logs ∙ ap (λ (h : Front). noted ds (looked ds n t (ahead ds n (suc n) None u h)) h.bus log) front
+    (logs : new ≡ log_after_reads ds (reads_up_to ds n t (ahead ds n (suc n) None u g)) g.bus log)
+    (serves : bus ≡ bus_after_reads ds (reads_up_to ds n t (ahead ds n (suc n) None u g)) g.bus) (is : banks.ticks ≡ answers_left t new bus.banks.ticks) where
+  logs_at : new ≡ log_after_reads ds (reads_up_to ds n t (ahead ds n (suc n) None u f)) f.bus log
+  logs_at = logs ∙ ap (λ (h : Front). log_after_reads ds (reads_up_to ds n t (ahead ds n (suc n) None u h)) h.bus log) front
 
-  serves_at : bus ≡ served ds (looked ds n t (ahead ds n (suc n) None u f)) f.bus
-  serves_at = serves ∙ ap (λ (h : Front). served ds (looked ds n t (ahead ds n (suc n) None u h)) h.bus) front
+  serves_at : bus ≡ bus_after_reads ds (reads_up_to ds n t (ahead ds n (suc n) None u f)) f.bus
+  serves_at = serves ∙ ap (λ (h : Front). bus_after_reads ds (reads_up_to ds n t (ahead ds n (suc n) None u h)) h.bus) front
 
   pub banks-behind : banks ≡ (made_before ds t (reads ++ reads_before ds n t (ahead ds n (suc n) None s f)) start).banks
   banks-behind =

@@ -10,22 +10,22 @@ use Rattle.st_banks.specs.declared.answers.LastAnswers.{LastAnswers}
 use Rattle.st_state.specs.Machine.{Machine}
 use Rattle.st_exec.specs.Step.{rests, step, interrupt}
 use Rattle.st_card.specs.declared.control_cards.Signal.{Signal}
-use Rattle.st_run.specs.Run.{interlude, stepped, with_due_signals, with_due_orders, with_order_at_rest, with_signals_at_rest, with_wait, and_then, with_reader, with_printer, if_due}
-use Rattle.st_run.specs.Moments.{Moment, Standing, next_scene, next_state, standing, next_row, next_moment, has_card, has_waited, ends_segment}
+use Rattle.st_run.specs.Run.{interlude, scene_after_step, with_due_signals, with_due_orders, with_order_at_rest, with_signals_at_rest, with_wait, and_then, with_reader, with_printer, if_due}
+use Rattle.st_run.specs.Moments.{Moment, Standing, next_scene, next_state, standing_at, next_row, next_moment, has_card, has_waited, ends_segment}
 use Rattle.st_run.proofs.Bounds.{HasTime}
 use Rattle.st_run.proofs.DoneLemmas.{settled-done}
-use Rattle.st_rows.specs.Rows.{row, after}
+use Rattle.st_rows.specs.Rows.{row_of_entry, front_after_entry}
 use Rattle.st_segment.specs.Ahead.{ahead, prepared_before, reads_before}
 use Rattle.st_ledger.specs.declared.charges.Stage.{Stage}
 use Rattle.st_ledger.specs.Charges.{ticks_for}
 use Rattle.st_ledger.specs.Ledger.{entries_from, charges_at, all_charges}
 use Rattle.st_ledger.proofs.Runs.{ticks_for-append}
 use Rattle.st_account.specs.Settling.{at_hand}
-use Rattle.st_plain.specs.Looking.{seen_of}
+use Rattle.st_plain.specs.Looking.{seen_ahead}
 use Rattle.st_plain.specs.declared.looking.Ahead.{Ahead as Seen}
 use Rattle.st_account.specs.declared.last.Last.{Last}
-use Rattle.st_account.specs.Standing.{guessing, has_due, still_by, IsLast, IsBehind}
-use Rattle.st_account.specs.Text.{segment_lines, segment_after, entry_lines, last_lines, lines_from}
+use Rattle.st_account.specs.Standing.{guessing, has_due, still_by, IsLast, IsBehindMoment}
+use Rattle.st_account.specs.Text.{segment_lines, segment_after, lines_of_entry, last_lines, lines_from}
 
 none-is : {A : Type 0} (o : Option A) → is_none o ≡ true → o ≡ None
 none-is None h = refl
@@ -60,14 +60,14 @@ module _ (ds : List ℕ) (n : ℕ) where
 
   pub lines-on : (left k : ℕ) (b : Machine) (m : Moment) → left ≢ 0 → rests (next_state m) ≡ false
       → lines_from ds n left k b m
-      ≡ (segment_lines k b m ++ entry_lines ds n (standing m))
-      ++ lines_from ds n (left - 1) (segment_after k m) (next_state m) (next_moment ds n (standing m))
+      ≡ (segment_lines k b m ++ lines_of_entry ds n (standing_at m))
+      ++ lines_from ds n (left - 1) (segment_after k m) (next_state m) (next_moment ds n (standing_at m))
   unfolding lines_from
   lines-on zero k b m some going = absurd (some refl)
   lines-on (suc left) k b m some going =
       let one : left ≡ suc left - 1 = omega arith in
       rw going
-      (ap (λ j. (segment_lines k b m ++ entry_lines ds n (standing m)) ++ lines_from ds n j (segment_after k m) (next_state m) (next_moment ds n (standing m))) one)
+      (ap (λ j. (segment_lines k b m ++ lines_of_entry ds n (standing_at m)) ++ lines_from ds n j (segment_after k m) (next_state m) (next_moment ds n (standing_at m))) one)
 
   -- ---- the charges
 
@@ -80,14 +80,14 @@ module _ (ds : List ℕ) (n : ℕ) where
 
   pub charges-on : (s : Stage) (left : ℕ) (m : Moment) → left ≢ 0 → rests (next_state m) ≡ false
       → ticks_for s (all_charges ds n (entries_from ds n left m))
-      ≡ ticks_for s (charges_at ds n (standing m)) + ticks_for s (all_charges ds n (entries_from ds n (left - 1) (next_moment ds n (standing m))))
+      ≡ ticks_for s (charges_at ds n (standing_at m)) + ticks_for s (all_charges ds n (entries_from ds n (left - 1) (next_moment ds n (standing_at m))))
   unfolding entries_from all_charges
   charges-on s zero m some going = absurd (some refl)
   charges-on s (suc left) m some going =
       let one : left ≡ suc left - 1 = omega arith in
       rw going
-      (ticks_for-append s (charges_at ds n (standing m)) (all_charges ds n (entries_from ds n left (next_moment ds n (standing m))))
-      ∙ ap (λ j. ticks_for s (charges_at ds n (standing m)) + ticks_for s (all_charges ds n (entries_from ds n j (next_moment ds n (standing m))))) one)
+      (ticks_for-append s (charges_at ds n (standing_at m)) (all_charges ds n (entries_from ds n left (next_moment ds n (standing_at m))))
+      ∙ ap (λ j. ticks_for s (charges_at ds n (standing_at m)) + ticks_for s (all_charges ds n (entries_from ds n j (next_moment ds n (standing_at m))))) one)
 
 -- ---- what came behind a moment
 
@@ -103,19 +103,19 @@ module _ (m : Moment) (s t : Machine) (xs ys : List Signal) (ps qs : List (List 
   same-done = ap (λ c. c.machine.done) (sym came) ∙ settled-done (at_hand s xs ps)
 
   pub seen-dropped : (ds : List ℕ) (n : ℕ) (l : Last) (log : List Made) (found : List Seen) → IsLast ds n m l log
-      → found ≡ map seen_of (prepared_before l.tick (ahead ds n n None (guessing l.ic s) l.front)) → found ≡ map seen_of m.dropped
+      → found ≡ map seen_ahead (prepared_before l.tick (ahead ds n n None (guessing l.ic s) l.front)) → found ≡ map seen_ahead m.dropped
   seen-dropped ds n l log found is seen =
       seen
-      ∙ ap (λ c. map seen_of (prepared_before l.tick (ahead ds n n None (guessing l.ic c.machine) l.front))) (sym scene)
-      ∙ ap (map seen_of) (sym is.dropped)
+      ∙ ap (λ c. map seen_ahead (prepared_before l.tick (ahead ds n n None (guessing l.ic c.machine) l.front))) (sym scene)
+      ∙ ap (map seen_ahead) (sym is.dropped)
 
   pub behind-is : (ds : List ℕ) (n : ℕ) (l : Last) (log : List Made) (found : List Seen) (banks : LastAnswers) (card waited looks : Bool) (is : IsLast ds n m l log)
-      → (looks ≡ true → found ≡ map seen_of (prepared_before l.tick (ahead ds n n None (guessing l.ic s) l.front)))
+      → (looks ≡ true → found ≡ map seen_ahead (prepared_before l.tick (ahead ds n n None (guessing l.ic s) l.front)))
       → (looks ≡ true → banks ≡ (made_before ds l.tick
       (is.reads ++ reads_before ds n l.tick (ahead ds n (suc n) None (guessing l.ic s) l.front)) is.bus).banks)
       → (ends_segment m ≡ true → looks ≡ true)
       → card ≡ nat_lt (length qs) (length ps) → waited ≡ rests (with_due_orders (with_due_signals s xs ps)).scene.machine
-      → IsBehind m t l found banks card waited
+      → IsBehindMoment m t l found banks card waited
   behind-is ds n l log found banks card waited looks is seen held ends is_card is_waited = record {
     tick = is.tick;
     front = is.front;
@@ -235,13 +235,13 @@ rest-looks left s xs cards m missed false looks scene guessed is_still is_looks 
 
 -- the scene behind the next entry
 pub next-stepped : (ds : List ℕ) (n : ℕ) (m : Moment) (t u : Machine) (ys : List Signal) (qs : List (List ℕ)) → next_scene m ≡ at_hand t ys qs
-    → u ≡ step t → (next_moment ds n (standing m)).scene ≡ at_hand u ys qs
+    → u ≡ step t → (next_moment ds n (standing_at m)).scene ≡ at_hand u ys qs
 unfolding next_moment
-next-stepped ds n m t u ys qs scene made = ap stepped scene ∙ ap (λ w. at_hand w ys qs) (sym made)
+next-stepped ds n m t u ys qs scene made = ap scene_after_step scene ∙ ap (λ w. at_hand w ys qs) (sym made)
 
 -- the front of a moment is that of the entry that was done then
 pub next-at : (ds : List ℕ) (n : ℕ) (p : Standing) → (next_moment ds n p).front.c ≡ (next_moment ds n p).tick
-unfolding next_moment next_row row after
+unfolding next_moment next_row row_of_entry front_after_entry
 next-at ds n p = refl
 
 -- no tick is too late

@@ -13,14 +13,14 @@ use Rattle.st_io.proofs.Progress.{LinesSoFar, lines_none}
 use Rattle.st_state.specs.Machine.{Machine, IsMachine}
 use Rattle.st_exec.specs.Step.{rests, step}
 use Rattle.st_rows.specs.Asked.{made_before}
-use Rattle.st_rows.specs.Ranges.{AreDelays, IsTight}
-use Rattle.st_rows.specs.Rows.{opening}
+use Rattle.st_rows.specs.Ranges.{AreDelaysUpTo, IsTight}
+use Rattle.st_rows.specs.Rows.{opening_front}
 use Rattle.st_rows.specs.declared.front.Front.{Front}
 use Rattle.st_rows.specs.declared.log.Made.{Made}
 use Rattle.st_segment.specs.Ahead.{ahead, prepared_before, reads_before}
 use Rattle.st_run.specs.Run.{Scene, interlude, with_due_signals, with_due_orders}
 use Rattle.st_run.specs.Reached.{IsCard}
-use Rattle.st_run.specs.Moments.{Moment, Standing, start, unread, next_state, next_front, standing, next_moment}
+use Rattle.st_run.specs.Moments.{Moment, Standing, moment_at_start, answers_at_start, next_state, next_front, standing_at, next_moment}
 use Rattle.st_exec.proofs.StepLemmas.{step-done}
 use Rattle.st_run.proofs.DoneLemmas.{settled-done}
 use Rattle.st_run.proofs.Bounds.{IsMoment, HasTime, start-is, next-is, next-time}
@@ -29,12 +29,12 @@ use Rattle.st_ledger.specs.declared.totals.Totals.{Totals}
 use Rattle.st_ledger.specs.Charges.{ticks_for}
 use Rattle.st_ledger.specs.Ledger.{charges_at, entries_from, all_charges}
 use Rattle.st_ledger.specs.Totals.{sum_at, AreWithin}
-use Rattle.st_plain.specs.Looking.{seen_of}
+use Rattle.st_plain.specs.Looking.{seen_ahead}
 use Rattle.st_plain.specs.declared.looking.Ahead.{Ahead as Seen}
 use Rattle.st_account.specs.declared.last.Last.{Last}
 use Rattle.st_account.specs.Settling.{at_hand, words_printed}
-use Rattle.st_account.specs.Standing.{guessing, still_by, IsLast, IsStanding, IsBehind}
-use Rattle.st_account.specs.Text.{words_behind, segment_lines, segment_after, entry_lines, last_lines, lines_from}
+use Rattle.st_account.specs.Standing.{guessing, still_by, IsLast, IsStanding, IsBehindMoment}
+use Rattle.st_account.specs.Text.{words_behind, segment_lines, segment_after, lines_of_entry, last_lines, lines_from}
 use Rattle.st_account.proofs.LastLemmas.{start-last}
 use Rattle.st_account.proofs.RunLemmas.{next-scene, next-machine, same-done, seen-dropped, behind-is, end-looks, rest-looks, next-stepped, next-at, early-tick}
 use Rattle.st_account.proofs.LoopLemmas.{run-ends, border-fails, entry-fails, turn-made, sums-none, number-next, sums-next, sums-end}
@@ -57,22 +57,22 @@ pub record IsRunning (s t : OutputState) (all : List (List ℕ)) (ds : List ℕ)
   pub sum : (x : Stage) → sum_at x sums + ticks_for x (all_charges ds n (entries_from ds n left m)) ≡ total x
   pub passes : AllPass is_signal rest
 
-next-done : (ds : List ℕ) (n : ℕ) (m : Moment) → (next_moment ds n (standing m)).scene.machine.done ≡ m.scene.machine.done + 1
+next-done : (ds : List ℕ) (n : ℕ) (m : Moment) → (next_moment ds n (standing_at m)).scene.machine.done ≡ m.scene.machine.done + 1
 unfolding next_moment
 next-done ds n m = step-done (next_state m) ∙ ap (λ d. d + 1) (settled-done m.scene)
 
 -- ---- the start
 
 pub run-starts : (s : OutputState) (ds : List ℕ) (n budget : ℕ) (state : Machine) (signals : List Signal) (cards : List (List ℕ)) (last : Last) (log : List Made)
-    (sums : Totals) → AreDelays 255 ds → n ≤ 8 → IsMachine state → All IsCard cards → state.done ≡ 0 → budget ≤ MOST_INSTRUCTIONS → AreWithin 0 sums
-    → AllPass is_signal signals → last.tick ≡ 0 → last.front ≡ opening unread 0 → last.past ≡ last.front.past → last.missed ≡ false
+    (sums : Totals) → AreDelaysUpTo 255 ds → n ≤ 8 → IsMachine state → All IsCard cards → state.done ≡ 0 → budget ≤ MOST_INSTRUCTIONS → AreWithin 0 sums
+    → AllPass is_signal signals → last.tick ≡ 0 → last.front ≡ opening_front answers_at_start 0 → last.past ≡ last.front.past → last.missed ≡ false
     → last.ic ≡ state.ic → last.enabled ≡ state.enabled → last.ic < 2 ^ 19 → log ≡ [] → IsTight 255 last.front
-    → IsRunning s s (lines_from ds n budget 0 state (start (at_hand state signals cards))) ds n
-    (λ x. ticks_for x (all_charges ds n (entries_from ds n budget (start (at_hand state signals cards))))) state signals cards last log 0 budget sums
+    → IsRunning s s (lines_from ds n budget 0 state (moment_at_start (at_hand state signals cards))) ds n
+    (λ x. ticks_for x (all_charges ds n (entries_from ds n budget (moment_at_start (at_hand state signals cards))))) state signals cards last log 0 budget sums
 run-starts s ds n budget state signals cards last log sums are few machine each fresh limit none passes tick front past missed ic enabled counter empty tight =
     let c = at_hand state signals cards in
     record {
-      m = start c;
+      m = moment_at_start c;
       b = state;
       was = sym enabled;
       scene = refl;
@@ -80,7 +80,7 @@ run-starts s ds n budget state signals cards last log sums are few machine each 
       bounds = start-is 255 n ds are few c (record { machine = machine; cards = each });
       at = refl;
       time = omega arith;
-      so_far = lines_none s (lines_from ds n budget 0 state (start c));
+      so_far = lines_none s (lines_from ds n budget 0 state (moment_at_start c));
       number = omega arith;
       few = omega (arith, fresh, limit);
       within = subst (λ t. AreWithin t sums) (sym tick) none;
@@ -132,8 +132,8 @@ module _ (s t : OutputState) (all : List (List ℕ)) (ds : List ℕ) (n : ℕ) (
     -- the run ends
     pub finishes : (ws : List (List ℕ)) → ws ≡ words_printed (interlude (at_hand mid rest cards)).happened → (u : OutputState) (r : Result (Unit {0}) Failed) (found : List Seen) (still looks : Bool) → (left ≡ 0) ⊎ (rests state' ≡ true)
         → still ≡ still_by state last.missed rest → looks ≡ (nat_eq left 0 || not still)
-        → (looks ≡ true → found ≡ map seen_of (prepared_before last.tick (ahead ds n n None (guessing last.ic state) last.front)))
-        → ((b : Machine) (m : Moment) → b.enabled ≡ last.enabled → ws ≡ words_behind m → m.tick ≡ last.tick → next_state m ≡ state' → found ≡ map seen_of m.dropped
+        → (looks ≡ true → found ≡ map seen_ahead (prepared_before last.tick (ahead ds n n None (guessing last.ic state) last.front)))
+        → ((b : Machine) (m : Moment) → b.enabled ≡ last.enabled → ws ≡ words_behind m → m.tick ≡ last.tick → next_state m ≡ state' → found ≡ map seen_ahead m.dropped
         → WritesLines t u (last_lines k b m) r)
         → WritesLines s u all r
     finishes ws is_printed u r found still looks end is_still is_looks seen writes =
@@ -161,11 +161,11 @@ module _ (s t : OutputState) (all : List (List ℕ)) (ds : List ℕ) (n : ℕ) (
 
       pub behind : (found : List Seen) (banks : LastAnswers) (card waited still looks : Bool)
           → still ≡ still_by state last.missed rest → looks ≡ (nat_eq left 0 || not still)
-          → (looks ≡ true → found ≡ map seen_of (prepared_before last.tick (ahead ds n n None (guessing last.ic state) last.front)))
+          → (looks ≡ true → found ≡ map seen_ahead (prepared_before last.tick (ahead ds n n None (guessing last.ic state) last.front)))
           → (looks ≡ true → banks ≡ (made_before ds last.tick
           (h.hand.reads ++ reads_before ds n last.tick (ahead ds n (suc n) None (guessing last.ic state) last.front)) h.hand.bus).banks)
           → card ≡ nat_lt (length cards') (length cards) → waited ≡ rests (with_due_orders (with_due_signals mid rest cards)).scene.machine
-          → IsBehind h.m state' last found banks card waited
+          → IsBehindMoment h.m state' last found banks card waited
       behind found banks card waited still looks is_still is_looks seen held is_card is_waited =
           behind-is h.m state state' rest rest' cards cards' h.scene came ds n last log found banks card waited looks h.hand seen held
           (end-looks left state rest cards h.m last.missed still looks h.scene h.hand.missed is_still is_looks) is_card
@@ -175,37 +175,37 @@ module _ (s t : OutputState) (all : List (List ℕ)) (ds : List ℕ) (n : ℕ) (
       crossing-fails u e r f w = border-fails ds n left k h.b h.m s t all h.so_far some on u e r f w
 
       module _ (last' : Last) (front : last'.front ≡ next_front h.m) (tick : last'.tick ≡ last.tick) where
-        pub stands : IsStanding (standing h.m) state' last'
+        pub stands : IsStanding (standing_at h.m) state' last'
         stands = record { machine = next; tick = h.hand.tick ∙ sym tick; front = sym front }
 
         module _ (u : OutputState) (x : Unit {0}) (segment : WritesLines t u (segment_lines k h.b h.m) (Ok x)) where
           pub row-fails : (v : OutputState) (e : Failed) (r : Result (Unit {0}) Failed) → IsErr r
-              → ((p : Standing) → IsStanding p state' last' → WritesLines u v (entry_lines ds n p) (Err e)) → WritesLines s v all r
-          row-fails v e r f w = entry-fails ds n left k h.b h.m s t all h.so_far some on u v x e r f segment (w (standing h.m) stands)
+              → ((p : Standing) → IsStanding p state' last' → WritesLines u v (lines_of_entry ds n p) (Err e)) → WritesLines s v all r
+          row-fails v e r f w = entry-fails ds n left k h.b h.m s t all h.so_far some on u v x e r f segment (w (standing_at h.m) stands)
 
           pub goes : (v : OutputState) (y : Unit {0}) (k' : ℕ) (state'' : Machine) (last'' : Last) (log' : List Made) (sums' : Totals)
-              → AreDelays 255 ds → n ≤ 8 → k' ≡ segment_after k h.m → state'' ≡ step state'
+              → AreDelaysUpTo 255 ds → n ≤ 8 → k' ≡ segment_after k h.m → state'' ≡ step state'
               → ((p : Standing) → IsStanding p state' last' → IsLast ds n (next_moment ds n p) last'' log')
-              → ((p : Standing) → IsStanding p state' last' → WritesLines u v (entry_lines ds n p) (Ok y))
+              → ((p : Standing) → IsStanding p state' last' → WritesLines u v (lines_of_entry ds n p) (Ok y))
               → ((p : Standing) (x : Stage) → IsStanding p state' last' → sum_at x sums' ≡ sum_at x sums + ticks_for x (charges_at ds n p))
               → AreWithin last''.tick sums' → last''.enabled ≡ state'.enabled → AllPass is_signal rest'
               → IsRunning s v all ds n total state'' rest' cards' last'' log' k' (left - 1) sums'
           goes v y k' state'' last'' log' sums' are few number made hand entry added within enabled passes =
               let more = next-done ds n h.m in
               record {
-                m = next_moment ds n (standing h.m);
+                m = next_moment ds n (standing_at h.m);
                 b = next_state h.m;
                 was = ap (λ (u : Machine). u.enabled) next ∙ sym enabled;
                 scene = next-stepped ds n h.m state' state'' rest' cards' (next-scene h.m state state' rest rest' cards cards' h.scene came) made;
-                hand = hand (standing h.m) stands;
+                hand = hand (standing_at h.m) stands;
                 bounds = next-is 255 n ds are few h.m h.bounds;
-                at = next-at ds n (standing h.m);
+                at = next-at ds n (standing_at h.m);
                 time = next-time 255 n ds are few h.m h.bounds h.time;
-                so_far = subst (λ j. LinesSoFar s v all (lines_from ds n (left - 1) j (next_state h.m) (next_moment ds n (standing h.m)))) (sym number)
-                    (turn-made ds n left k h.b h.m s t all h.so_far some on u v x y segment (entry (standing h.m) stands));
+                so_far = subst (λ j. LinesSoFar s v all (lines_from ds n (left - 1) j (next_state h.m) (next_moment ds n (standing_at h.m)))) (sym number)
+                    (turn-made ds n left k h.b h.m s t all h.so_far some on u v x y segment (entry (standing_at h.m) stands));
                 number = number-next k k' h.m h.m.scene.machine.done _ number h.number more;
                 few = omega (arith, more, h.few, some);
                 within = within;
-                sum = λ z. sums-next ds n left h.m z (sum_at z sums) (sum_at z sums') (total z) some on (h.sum z) (added (standing h.m) z stands);
+                sum = λ z. sums-next ds n left h.m z (sum_at z sums) (sum_at z sums') (total z) some on (h.sum z) (added (standing_at h.m) z stands);
                 passes = passes;
               }

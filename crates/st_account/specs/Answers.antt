@@ -7,7 +7,7 @@ use Rattle.st_io.specs.Lines.{text, StoppedIn}
 use Rattle.st_card.specs.Faults.{name_of}
 use Rattle.st_asm.specs.Pass.{Refusal}
 use Rattle.st_asm.specs.Assembly.{Assembly, assembly}
-use Rattle.st_state.specs.Machine.{opening}
+use Rattle.st_state.specs.Machine.{opening_state}
 use Rattle.st_exch.specs.Reader.{reader_cards}
 use Rattle.st_run.specs.Run.{Scene}
 use Rattle.st_report.specs.Line.{fault_line}
@@ -23,12 +23,12 @@ abbrev pub levels_by : ℕ → Option ℕ
 levels_by c = if nat_le 49 c && nat_le c 56 then Some (c - 48) else None
 
 -- the number of levels that the words of a command line mean: four where there is no word
-abbrev pub levels_of : List (List ℕ) → Option ℕ
-levels_of [] = Some 4
-levels_of ([] ∷ []) = None
-levels_of ((c ∷ []) ∷ []) = levels_by c
-levels_of ((c ∷ b ∷ bs) ∷ []) = None
-levels_of (word ∷ more ∷ words) = None
+abbrev pub levels_asked : List (List ℕ) → Option ℕ
+levels_asked [] = Some 4
+levels_asked ([] ∷ []) = None
+levels_asked ((c ∷ []) ∷ []) = levels_by c
+levels_asked ((c ∷ b ∷ bs) ∷ []) = None
+levels_asked (word ∷ more ∷ words) = None
 
 -- ---- jobs
 
@@ -36,17 +36,18 @@ levels_of (word ∷ more ∷ words) = None
 abbrev pub job_limit : ℕ
 job_limit = 2000000
 
--- the start of the run of a job that is assembled: the machine, the signals that are asked for, and the cards of the job's reader
+-- the start of the run of a job that is assembled: the machine, the signals that are asked for, and
+-- the cards of the job's reader
 abbrev pub start_of : List ℕ → Assembly → Scene
-start_of job a = at_hand (opening a.image a.start) a.asked.signals (reader_cards job)
+start_of job a = at_hand (opening_state a.image a.start) a.asked.signals (reader_cards job)
 
 -- the lines of a job, by what it gives: its ledger, or the first card that is refused
 abbrev pub lines_by : ℕ → List ℕ → Result Assembly Refusal → List (List ℕ)
 lines_by n job (Ok a) = ledger a.asked.delays n a.asked.budget (start_of job a)
 lines_by n job (Err r) = fault_line r.card (name_of r.fault) ∷ []
 
-unfoldable pub lines_of : ℕ → List ℕ → List (List ℕ)
-lines_of n job = lines_by n job (assembly job)
+unfoldable pub ledger_lines_of : ℕ → List ℕ → List (List ℕ)
+ledger_lines_of n job = lines_by n job (assembly job)
 
 -- the status once they are written
 abbrev pub status_by : Result Assembly Refusal → Status
@@ -58,7 +59,8 @@ status_of job = status_by (assembly job)
 
 -- ---- answers
 
--- how lines were written, by the status: wholly; or up to a write that failed; or not at all, for want of memory
+-- how lines were written, by the status: wholly; or up to a write that failed; or not at all, for
+-- want of memory
 abbrev pub Writes : Status → OutputState → OutputState → List (List ℕ) → Status → Type 0
 Writes Done before after lines status = Wrote before after (text lines) × (status ≡ Done)
 Writes Refused before after lines status = Wrote before after (text lines) × (status ≡ Refused)
@@ -69,10 +71,11 @@ Writes JobTooLong before after lines status = ⊥
 Writes ReadFault before after lines status = ⊥
 
 -- a job was read whole, and its lines written
-pub record WroteLines (n : ℕ) (status : Status) (input input' : InputState) (before after : OutputState) : Type 0 where
+pub record WroteLines (n : ℕ) (status : Status) (input input' : InputState)
+    (before after : OutputState) : Type 0 where
   pub job : List ℕ
   pub read : CameWhole input input' job_limit job
-  pub written : Writes status before after (lines_of n job) (status_of job)
+  pub written : Writes status before after (ledger_lines_of n job) (status_of job)
 
 -- what a call did to its source and its sink on a machine of n levels, by the status
 abbrev pub Did : ℕ → Status → InputState → InputState → OutputState → OutputState → Type 0
@@ -87,7 +90,10 @@ Did n NoMemory input input' before after =
     CameWithin input input' job_limit × (input'.faults ≡ input.faults) × (after ≡ before)
 Did n Usage input input' before after = ⊥
 
--- what a call did, by the meaning of its words: words that mean nothing touch neither source nor sink
-abbrev pub IsAnswer : Option ℕ → Status → InputState → InputState → OutputState → OutputState → Type 0
-IsAnswer None status input input' before after = (status ≡ Usage) × (input' ≡ input) × (after ≡ before)
+-- what a call did, by the meaning of its words: words that mean nothing touch neither source nor
+-- sink
+abbrev pub IsAnswer : Option ℕ → Status → InputState → InputState → OutputState → OutputState →
+    Type 0
+IsAnswer None status input input' before after = (status ≡ Usage) × (input' ≡ input)
+    × (after ≡ before)
 IsAnswer (Some n) status input input' before after = Did n status input input' before after

@@ -1,26 +1,27 @@
--- The bytes of the lines of a ledger that tell of the machine and of segments, each with its line end.
+-- The bytes of the lines of a ledger that tell of the machine and of segments, each with its line
+-- end.
 use Rattle.std.specs.Prelude.{ℕ, Bool, List, [], ◌∷◌, ◌++◌, codes, decimal, take, drop, length, zero, suc}
 use Rattle.st_text.specs.Bytes.{lf}
 use Rattle.st_text.specs.Numerals.{half_address, hex_word, flag}
 use Rattle.st_prep.specs.declared.entries.IndexChange.{IndexChange}
-use Rattle.st_rows.specs.declared.front.Row.{Row}
+use Rattle.st_rows.specs.declared.front.EntryTicks.{EntryTicks}
 use Rattle.st_account.specs.declared.lines.Alone.{Alone}
 use Rattle.st_account.specs.declared.lines.Alone.TheVariants.{Table, Execute, Register, Operation}
 use Rattle.st_account.specs.declared.lines.Why.{Why}
 use Rattle.st_account.specs.declared.lines.Why.TheVariants.{Run, Interrupt, Missed, Card}
 
 -- the machine has n levels
-abbrev pub levels_line : ℕ → List ℕ
-levels_line n = codes "LEVELS " ++ decimal n ++ lf
+abbrev pub ledger_levels_line : ℕ → List ℕ
+ledger_levels_line n = codes "LEVELS " ++ decimal n ++ lf
 
 -- numbers, each behind a blank
-unfoldable pub numbers : List ℕ → List ℕ
-numbers [] = []
-numbers (n ∷ ns) = codes " " ++ decimal n ++ numbers ns
+unfoldable pub numbers_text : List ℕ → List ℕ
+numbers_text [] = []
+numbers_text (n ∷ ns) = codes " " ++ decimal n ++ numbers_text ns
 
 -- some delays
 unfoldable pub delays_line : List ℕ → List ℕ
-delays_line ds = codes "DELAYS" ++ numbers ds ++ lf
+delays_line ds = codes "DELAYS" ++ numbers_text ds ++ lf
 
 -- all of them, ten in a line; k bounds the number of lines
 unfoldable pub delays_by : ℕ → List ℕ → List (List ℕ)
@@ -45,12 +46,13 @@ why_text Card = codes "CARD"
 -- the segment k starts at a tick, where the machine had waited before or not
 abbrev pub start_line : ℕ → ℕ → Bool → Why → List ℕ
 start_line k tick waited why =
-    codes "SEGMENT " ++ decimal k ++ codes " START " ++ decimal tick ++ codes " WAITED " ++ flag waited
+    codes "SEGMENT " ++ decimal k ++ codes " START " ++ decimal tick ++ codes " WAITED "
+    ++ flag waited
     ++ codes " BY " ++ why_text why ++ lf
 
 -- it ends at a tick
-abbrev pub end_line : ℕ → ℕ → List ℕ
-end_line k tick = codes "SEGMENT " ++ decimal k ++ codes " END " ++ decimal tick ++ lf
+abbrev pub segment_end_line : ℕ → ℕ → List ℕ
+segment_end_line k tick = codes "SEGMENT " ++ decimal k ++ codes " END " ++ decimal tick ++ lf
 
 -- a branch on an indicator was guessed wrongly
 abbrev pub missed_line : List ℕ
@@ -77,10 +79,12 @@ writes_line w n = codes "WRITES " ++ decimal w ++ codes " " ++ decimal n ++ lf
 -- it changes an index word early
 abbrev pub index_line : IndexChange → List ℕ
 index_line x =
-    codes "INDEX " ++ decimal x.number ++ codes " WAS " ++ hex_word x.kept ++ codes " IS " ++ hex_word x.word ++ lf
+    codes "INDEX " ++ decimal x.number ++ codes " WAS " ++ hex_word x.kept ++ codes " IS "
+    ++ hex_word x.word ++ lf
 
 -- the n-th entry, at an address, ran ahead and is dropped
-abbrev pub drop_line : ℕ → ℕ → Row → List ℕ
-drop_line n address row =
+abbrev pub dropped_line : ℕ → ℕ → EntryTicks → List ℕ
+dropped_line n address row =
     codes "DROP " ++ decimal n ++ codes " " ++ half_address address
-    ++ codes " A " ++ decimal row.a ++ codes " P " ++ decimal row.p ++ codes " R " ++ decimal row.r ++ lf
+    ++ codes " A " ++ decimal row.a ++ codes " P " ++ decimal row.p ++ codes " R " ++ decimal row.r
+    ++ lf

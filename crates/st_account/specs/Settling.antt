@@ -8,7 +8,8 @@ use Rattle.st_run.specs.Run.{Scene, PlainEvent, Prints, Interrupts, Executes, En
 abbrev pub at_hand : Machine → List Signal → List (List ℕ) → Scene
 at_hand s xs cards = record { machine = s; signals = xs; cards = cards }
 
--- what ends a wait but the signals: the orders that are given, the one that is due first before the other
+-- what ends a wait but the signals: the orders that are given, the one that is due first before the
+-- other
 abbrev pub with_orders_at_rest : Scene → Transition
 with_orders_at_rest c = and_then (with_order_at_rest c) with_order_at_rest
 

@@ -1,5 +1,6 @@
--- The ledger of a run: its lines, from the moments of the run. The machine has the delays ds and n levels. Segments are numbered
--- from 1 on; k is the number of the segment of the entry that has just been done, 0 before the first one.
+-- The ledger of a run: its lines, from the moments of the run. The machine has the delays ds and n
+-- levels. Segments are numbered from 1 on; k is the number of the segment of the entry that has
+-- just been done, 0 before the first one.
 use Rattle.std.specs.Prelude.{ℕ, zero, suc, ◌+◌, Bool, true, false, not, ◌==◌, ◌||◌, nat_eq, if◌then◌else◌, List, [], ◌∷◌, ◌++◌, Option, None, Some, map}
 use Rattle.st_bits.specs.Indicators.{indicator}
 use Rattle.st_bits.specs.declared.limits.TheConstants.{WORDS}
@@ -13,20 +14,20 @@ use Rattle.st_prep.specs.declared.entries.Prepared.{Prepared}
 use Rattle.st_prep.specs.declared.entries.Words.{Words}
 use Rattle.st_exec.specs.Completion.{is_missed}
 use Rattle.st_exec.specs.Step.{rests, interrupt, address}
-use Rattle.st_rows.specs.declared.front.Row.{Row}
-use Rattle.st_exch.specs.Printer.{printed}
+use Rattle.st_rows.specs.declared.front.EntryTicks.{EntryTicks}
+use Rattle.st_exch.specs.Printer.{line_of_words}
 use Rattle.st_run.specs.Run.{Scene, interlude}
-use Rattle.st_run.specs.Moments.{Moment, Standing, start, next_state, has_waited, ends_segment, next_front, standing, next_row, next_moment}
+use Rattle.st_run.specs.Moments.{Moment, Standing, moment_at_start, next_state, has_waited, ends_segment, next_front, standing_at, next_row, next_moment}
 use Rattle.st_report.specs.Line.{prt_line, ic_line, en_line, int_line, end_line as run_end_line, done_line, ticks_line}
 use Rattle.st_ledger.specs.declared.charges.Charge.{Charge}
-use Rattle.st_ledger.specs.Charges.{parts, charged, ticks_for}
+use Rattle.st_ledger.specs.Charges.{parts_of_row, charges_behind, ticks_for}
 use Rattle.st_ledger.specs.Ledger.{entries_of, all_charges}
-use Rattle.st_ledger.specs.Lines.{row_line, charge_lines}
+use Rattle.st_ledger.specs.Lines.{row_stage_line, charge_lines}
 use Rattle.st_ledger.specs.Totals.{stages, sums_by, sum_lines}
 use Rattle.st_plain.specs.declared.looking.Ahead.{Ahead}
-use Rattle.st_plain.specs.Looking.{side_at, executes_at, seen_of}
+use Rattle.st_plain.specs.Looking.{side_at, executes_at, seen_ahead}
 use Rattle.st_account.specs.Settling.{words_printed}
-use Rattle.st_account.specs.Lines.{levels_line, delays_lines, start_line, end_line, word_line, missed_line, alone_line, suppressed_line, writes_line, index_line, drop_line}
+use Rattle.st_account.specs.Lines.{ledger_levels_line, delays_lines, start_line, segment_end_line, word_line, missed_line, alone_line, suppressed_line, writes_line, index_line, dropped_line}
 use Rattle.st_account.specs.declared.lines.Alone.{Alone}
 use Rattle.st_account.specs.declared.lines.Alone.TheVariants.{Table, Execute, Register, Operation}
 use Rattle.st_account.specs.declared.lines.Why.{Why}
@@ -34,7 +35,8 @@ use Rattle.st_account.specs.declared.lines.Why.TheVariants.{Run, Interrupt, Miss
 
 -- ---- an entry
 
--- why it is done alone, the first that holds: it is the instruction of an interrupt table, EX, or uses a register as a word
+-- why it is done alone, the first that holds: it is the instruction of an interrupt table, EX, or
+-- uses a register as a word
 abbrev pub alone_for : Option ℕ → Bool → Bool → Alone
 alone_for (Some i) execute register = Table i
 alone_for None true register = Execute
@@ -44,7 +46,8 @@ alone_for None false false = Operation
 -- the same of an entry as it is prepared, by its index-side word and whether it is EX
 abbrev pub alone_by : Prepared → Option ℕ → Bool → Option Alone
 alone_by p side execute =
-    if p.serial then Some (alone_for p.place.table execute (is_register side || has_register p.reads || has_register p.writes))
+    if p.serial then Some (alone_for p.place.table execute
+    (is_register side || has_register p.reads || has_register p.writes))
     else None
 
 unfoldable pub alone_lines : Option Alone → List (List ℕ)
@@ -74,26 +77,30 @@ index_lines (Some x) = index_line x ∷ []
 -- what is known of it by itself
 unfoldable pub facts_lines : Prepared → Option ℕ → Bool → List (List ℕ)
 facts_lines p side execute =
-    alone_lines (alone_by p side execute) ++ (suppressed_lines (suppressed_by p) ++ (writes_lines p.writes ++ index_lines p.index))
+    alone_lines (alone_by p side execute)
+    ++ (suppressed_lines (suppressed_by p) ++ (writes_lines p.writes ++ index_lines p.index))
 
 -- ---- where a segment ends
 
 -- entries that are dropped, the oldest first; the first of them is the n-th entry
 unfoldable pub drop_lines : ℕ → List Ahead → List (List ℕ)
 drop_lines n [] = []
-drop_lines n (a ∷ more) = drop_line n a.plan.place.address a.row ∷ (facts_lines a.plan a.side a.execute ++ drop_lines (n + 1) more)
+drop_lines n (a ∷ more) = dropped_line n a.plan.place.address a.row
+    ∷ (facts_lines a.plan a.side a.execute ++ drop_lines (n + 1) more)
 
--- the segment k ends at a tick, and what ran ahead is dropped; before the first segment there is none
-unfoldable pub end_lines : ℕ → ℕ → ℕ → List Ahead → List (List ℕ)
-end_lines k tick n dropped = if nat_eq k 0 then [] else end_line k tick ∷ drop_lines n dropped
+-- the segment k ends at a tick, and what ran ahead is dropped; before the first segment there is
+-- none
+unfoldable pub segment_end_lines : ℕ → ℕ → ℕ → List Ahead → List (List ℕ)
+segment_end_lines k tick n dropped = if nat_eq k 0 then [] else segment_end_line k tick
+    ∷ drop_lines n dropped
 
 -- at a moment
 abbrev pub end_lines_at : ℕ → Moment → List (List ℕ)
-end_lines_at k m = end_lines k m.tick (m.scene.machine.done + 1) (map seen_of m.dropped)
+end_lines_at k m = segment_end_lines k m.tick (m.scene.machine.done + 1) (map seen_ahead m.dropped)
 
 -- where it ends
-abbrev pub ended_lines : ℕ → Moment → List (List ℕ)
-ended_lines k m = if ends_segment m then end_lines_at k m else []
+abbrev pub lines_at_end : ℕ → Moment → List (List ℕ)
+lines_at_end k m = if ends_segment m then end_lines_at k m else []
 
 -- ---- the state behind an entry
 
@@ -115,7 +122,7 @@ en_lines k was now = if nat_eq k 0 || differs was now then en_line now ∷ [] el
 -- what is printed, eight words each time
 unfoldable pub prints_lines : List (List ℕ) → List (List ℕ)
 prints_lines [] = []
-prints_lines (words ∷ more) = prt_line (printed words) ∷ prints_lines more
+prints_lines (words ∷ more) = prt_line (line_of_words words) ∷ prints_lines more
 
 -- a word, where it is not zero
 unfoldable pub word_lines : Machine → ℕ → List (List ℕ)
@@ -127,7 +134,8 @@ words_lines k s = if nat_eq k 0 then lines_for (word_lines s) WORDS 0 else []
 
 -- what was printed, the counter, whether interrupts are enabled, and the words
 unfoldable pub marks_lines : List (List ℕ) → ℕ → Bool → Machine → List (List ℕ)
-marks_lines words k was s = prints_lines words ++ (ic_line s.ic ∷ en_lines k was s.enabled ++ words_lines k s)
+marks_lines words k was s = prints_lines words
+    ++ (ic_line s.ic ∷ en_lines k was s.enabled ++ words_lines k s)
 
 -- and the interrupt that is taken, where the run goes on; so many instructions are done
 unfoldable pub state_lines : List (List ℕ) → ℕ → Bool → Machine → Option ℕ → ℕ → List (List ℕ)
@@ -144,8 +152,8 @@ state_lines_at words k b s = state_lines words k b.enabled s (interrupt s) s.don
 -- ---- where a segment begins
 
 -- the next entry is the first one of a segment
-abbrev pub begins : ℕ → Moment → Bool
-begins k m = nat_eq k 0 || ends_segment m
+abbrev pub begins_segment : ℕ → Moment → Bool
+begins_segment k m = nat_eq k 0 || ends_segment m
 
 -- why it begins, but at the start of the run: by an interrupt, a wrong guess, or else a card
 abbrev pub why_by : Option ℕ → Bool → Why
@@ -157,15 +165,17 @@ unfoldable pub why : ℕ → Moment → Why
 why k m = if nat_eq k 0 then Run else why_by (interrupt (next_state m)) m.missed
 
 abbrev pub begun_lines : ℕ → Moment → List (List ℕ)
-begun_lines k m = if begins k m then start_line (k + 1) (next_front m).c (has_waited m) (why k m) ∷ [] else []
+begun_lines k m = if begins_segment k m then start_line (k + 1) (next_front m).c (has_waited m)
+    (why k m) ∷ [] else []
 
 -- the number of the segment of the next entry
 abbrev pub segment_after : ℕ → Moment → ℕ
-segment_after k m = if begins k m then k + 1 else k
+segment_after k m = if begins_segment k m then k + 1 else k
 
 -- the run goes on: the end of a segment, the state, and the start of the next segment
 unfoldable pub segment_lines : ℕ → Machine → Moment → List (List ℕ)
-segment_lines k b m = (ended_lines k m ++ state_lines_at (words_behind m) k b (next_state m)) ++ begun_lines k m
+segment_lines k b m = (lines_at_end k m ++ state_lines_at (words_behind m) k b (next_state m))
+    ++ begun_lines k m
 
 -- ---- rows
 
@@ -174,18 +184,21 @@ unfoldable pub missed_lines : Bool → List (List ℕ)
 missed_lines true = missed_line ∷ []
 missed_lines false = []
 
--- those of the i-th entry, which is done, at an address, with its row: the last one before it was done at the tick `before`, and the
--- segment of both starts at the tick `start`
-unfoldable pub done_lines : ℕ → ℕ → Row → Bool → Prepared → Option ℕ → Bool → ℕ → ℕ → List (List ℕ)
+-- those of the i-th entry, which is done, at an address, with its row: the last one before it was
+-- done at the tick `before`, and the segment of both starts at the tick `start`
+unfoldable pub done_lines : ℕ → ℕ → EntryTicks → Bool → Prepared → Option ℕ → Bool → ℕ → ℕ →
+    List (List ℕ)
 done_lines i address row missed p side execute before start =
-    row_line i address row ∷ ((missed_lines missed ++ facts_lines p side execute) ++ charge_lines (charged before (parts start row)))
+    row_stage_line i address row ∷ ((missed_lines missed ++ facts_lines p side execute)
+    ++ charge_lines (charges_behind before (parts_of_row start row)))
 
 -- those of the next entry
-unfoldable pub entry_lines : List ℕ → ℕ → Standing → List (List ℕ)
-entry_lines ds n p =
+unfoldable pub lines_of_entry : List ℕ → ℕ → Standing → List (List ℕ)
+lines_of_entry ds n p =
     let s = p.scene.machine in
     let e = plan s (interrupt s) in
-    done_lines (s.done + 1) (address s) (next_row ds n p) (is_missed e s) e (side_at (interrupt s) s) (executes_at (interrupt s) s)
+    done_lines (s.done + 1) (address s) (next_row ds n p) (is_missed e s) e
+    (side_at (interrupt s) s) (executes_at (interrupt s) s)
     p.tick p.front.c
 
 -- ---- the end
@@ -202,20 +215,21 @@ totals_lines xs = sum_lines (sums_by (λ s. ticks_for s xs) stages)
 
 -- ---- the whole
 
--- from a moment on, in which so many entries may still be done; a rest is tried before the budget. b is the state before the entry
--- that has just been done
+-- from a moment on, in which so many entries may still be done; a rest is tried before the budget.
+-- b is the state before the entry that has just been done
 unfoldable pub lines_from : List ℕ → ℕ → ℕ → ℕ → Machine → Moment → List (List ℕ)
 lines_from ds n zero k b m = last_lines k b m
 lines_from ds n (suc left) k b m =
     if rests (next_state m) then last_lines k b m
-    else (segment_lines k b m ++ entry_lines ds n (standing m))
-    ++ lines_from ds n left (segment_after k m) (next_state m) (next_moment ds n (standing m))
+    else (segment_lines k b m ++ lines_of_entry ds n (standing_at m))
+    ++ lines_from ds n left (segment_after k m) (next_state m) (next_moment ds n (standing_at m))
 
 -- the machine
 abbrev pub machine_lines : List ℕ → ℕ → List (List ℕ)
-machine_lines ds n = levels_line n ∷ delays_lines ds
+machine_lines ds n = ledger_levels_line n ∷ delays_lines ds
 
 -- the ledger of the run of a scene
 unfoldable pub ledger : List ℕ → ℕ → ℕ → Scene → List (List ℕ)
 ledger ds n left c =
-    machine_lines ds n ++ lines_from ds n left 0 c.machine (start c) ++ totals_lines (all_charges ds n (entries_of ds n left c))
+    machine_lines ds n ++ lines_from ds n left 0 c.machine (moment_at_start c)
+    ++ totals_lines (all_charges ds n (entries_of ds n left c))

@@ -4,7 +4,7 @@ ghost use Rattle.st_bits.specs.Indicators.{indicator as indicator_of};
 ghost use Rattle.st_prep.specs.Entry.{is_register as is_register_of, has_register as has_register_of};
 ghost use Rattle.st_state.specs.Interrupts.{first_from};
 ghost use Rattle.st_io.specs.Lines.{WritesLines};
-ghost use Rattle.st_ledger.specs.Charges.{parts, charged};
+ghost use Rattle.st_ledger.specs.Charges.{parts_of_row, charges_behind};
 ghost use Rattle.st_ledger.specs.Lines.{charge_lines};
 ghost use Rattle.st_account.specs.Text.{alone_for as alone_of, alone_by as alone_why, alone_lines, suppressed_by as suppressed_of, suppressed_lines, run_lines, writes_lines, index_lines, facts_lines, missed_lines, done_lines};
 
@@ -15,7 +15,7 @@ use st_bits::register::FIRST_STORAGE_WORD;
 use st_io::{Failed, Sink};
 use st_ledger::{write_charges, write_row};
 use st_prep::{IndexChange, Prepared, Words};
-use st_rows::Row;
+use st_rows::EntryTicks;
 
 // Whether one of the words is a register.
 #[tactic(auto, unfolding(st_prep::specs::Entry::has_register))]
@@ -56,7 +56,8 @@ fn alone_for(table: Option<u8>, execute: bool, register: bool) -> Alone
 
 // Whether a register is among the words of an entry.
 fn uses_register(p: &Prepared, side: Option<u32>) -> bool
-    ensures { result ≡ (is_register_of side || has_register_of p.now.reads || has_register_of p.now.writes) }
+    ensures { result ≡ (is_register_of side || has_register_of p.now.reads
+        || has_register_of p.now.writes) }
 {
     is_register(side) || has_register(p.reads) || has_register(p.writes)
 }
@@ -151,7 +152,8 @@ fn write_index<K: Sink>(out: &mut K, index: Option<IndexChange>) -> Result<(), F
 
 // Writes what an entry writes, and the index word that it changes early.
 fn write_changes<K: Sink>(out: &mut K, p: &Prepared) -> Result<(), Failed>
-    ensures { WritesLines (K.output out.old) (K.output out.new) (writes_lines p.now.writes ++ index_lines p.now.index) result }
+    ensures { WritesLines (K.output out.old) (K.output out.new)
+        (writes_lines p.now.writes ++ index_lines p.now.index) result }
 {
     write_writes(out, p.writes)?;
     write_index(out, p.index)
@@ -173,7 +175,8 @@ pub(crate) fn write_facts<K: Sink>(
     side: Option<u32>,
     execute: bool,
 ) -> Result<(), Failed>
-    ensures { WritesLines (K.output out.old) (K.output out.new) (facts_lines p.now side execute) result }
+    ensures { WritesLines (K.output out.old) (K.output out.new)
+        (facts_lines p.now side execute) result }
 {
     write_alone(out, alone_by(p, side, execute))?;
     write_effects(out, p)
@@ -198,7 +201,8 @@ fn write_known<K: Sink>(
     side: Option<u32>,
     execute: bool,
 ) -> Result<(), Failed>
-    ensures { WritesLines (K.output out.old) (K.output out.new) (missed_lines missed ++ facts_lines p.now side execute) result }
+    ensures { WritesLines (K.output out.old) (K.output out.new)
+        (missed_lines missed ++ facts_lines p.now side execute) result }
 {
     write_missed(out, missed)?;
     write_facts(out, p, side, execute)
@@ -207,7 +211,7 @@ fn write_known<K: Sink>(
 // The same, and its charges.
 fn write_spent<K: Sink>(
     out: &mut K,
-    row: &Row,
+    row: &EntryTicks,
     missed: bool,
     p: &Prepared,
     side: Option<u32>,
@@ -216,20 +220,21 @@ fn write_spent<K: Sink>(
     start: u64,
 ) -> Result<(), Failed>
     ensures { WritesLines (K.output out.old) (K.output out.new)
-        ((missed_lines missed ++ facts_lines p.now side execute) ++ charge_lines (charged before (parts start row.now))) result }
+        ((missed_lines missed ++ facts_lines p.now side execute) ++ charge_lines (charges_behind before (parts_of_row start row.now))) result }
 {
     write_known(out, missed, p, side, execute)?;
     write_charges(out, row, before, start)
 }
 
-/// Writes the lines of the n-th entry, which is done, at a half-word address, with its row: the last one before it was done at the tick
-/// `before`, and its segment starts at `start`, if it is the first one of that. `missed` is whether it is a branch that was guessed
-/// wrongly, `p` what it is, `side` its index-side word, and `execute` whether it is EX.
+/// Writes the lines of the n-th entry, which is done, at a half-word address, with its row: the
+/// last one before it was done at the tick `before`, and its segment starts at `start`, if it is
+/// the first one of that. `missed` is whether it is a branch that was guessed wrongly, `p` what it
+/// is, `side` its index-side word, and `execute` whether it is EX.
 pub(crate) fn write_done<K: Sink>(
     out: &mut K,
     n: u32,
     address: u32,
-    row: &Row,
+    row: &EntryTicks,
     missed: bool,
     p: &Prepared,
     side: Option<u32>,
@@ -237,7 +242,8 @@ pub(crate) fn write_done<K: Sink>(
     before: u64,
     start: u64,
 ) -> Result<(), Failed>
-    ensures { WritesLines (K.output out.old) (K.output out.new) (done_lines n address row.now missed p.now side execute before start) result }
+    ensures { WritesLines (K.output out.old) (K.output out.new)
+        (done_lines n address row.now missed p.now side execute before start) result }
 {
     write_row(out, n, address, row)?;
     write_spent(out, row, missed, p, side, execute, before, start)

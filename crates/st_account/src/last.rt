@@ -3,10 +3,10 @@ ghost use Rattle.std.specs.Prelude.{◌≡◌, List, suc, ◌+◌, ◌≤◌, �
 ghost use Rattle.st_banks.specs.declared.answers.TheConstants.{BANKS};
 ghost use Rattle.st_rows.specs.Asked.{Read, made_before};
 ghost use Rattle.st_rows.specs.Ranges.{IsTight};
-ghost use Rattle.st_rows.specs.Rows.{opening};
+ghost use Rattle.st_rows.specs.Rows.{opening_front};
 ghost use Rattle.st_segment.specs.Ahead.{ahead, prepared_before, reads_before};
 ghost use Rattle.st_rows.specs.declared.bus.Bus.{Bus as BusOf};
-ghost use Rattle.st_plain.specs.Looking.{seen_of};
+ghost use Rattle.st_plain.specs.Looking.{seen_ahead};
 ghost use Rattle.st_account.specs.Standing.{guessing, HasReads};
 
 use st_banks::{Delays, LastAnswers};
@@ -72,9 +72,10 @@ pub(crate) fn put_past(past: &mut [Past; 8], newest: Past)
     ];
 }
 
-/// Looks at what ran ahead of the entry that has just been done, whose reads the log has: `found` are then the entries that were
-/// prepared before it was done, on a machine with `levels` levels, 1 to 8, and the result is the last answers of the banks, where
-/// the segment ends here. The state stays as it was; the log is used up.
+/// Looks at what ran ahead of the entry that has just been done, whose reads the log has: `found`
+/// are then the entries that were prepared before it was done, on a machine with `levels` levels, 1
+/// to 8, and the result is the last answers of the banks, where the segment ends here. The state
+/// stays as it was; the log is used up.
 pub(crate) fn look_behind(
     state: &mut State,
     last: &Last,
@@ -91,14 +92,17 @@ pub(crate) fn look_behind(
     requires past { last.now.past ≡ last.now.front.past }
     requires counter { last.now.ic < 2 ^ 19 }
     requires none { length found.old.items ≡ 0 }
+
     ensures state { state.new ≡ state.old }
-    ensures found { found.new.items ≡ map seen_of (prepared_before last.now.tick
+    ensures found { found.new.items ≡ map seen_ahead (prepared_before last.now.tick
         (ahead delays.now levels levels None (guessing last.now.ic state.old) last.now.front)) }
-    ensures banks { (reads : List Read) (bus : BusOf) → HasReads delays.now last.now.tick reads bus last.now.front.bus log.old →
+    ensures banks { (reads : List Read) (bus : BusOf) →
+        HasReads delays.now last.now.tick reads bus last.now.front.bus log.old →
         result ≡ (made_before delays.now last.now.tick
         (reads ++ reads_before delays.now levels last.now.tick
         (ahead delays.now levels (suc levels) None (guessing last.now.ic state.old) last.now.front)) bus).banks }
-    ensures soon { (reads : List Read) (bus : BusOf) → HasReads delays.now last.now.tick reads bus last.now.front.bus log.old →
+    ensures soon { (reads : List Read) (bus : BusOf) →
+        HasReads delays.now last.now.tick reads bus last.now.front.bus log.old →
         All (λ t. t ≤ last.now.tick + 255) result.ticks }
     ensures few { length found.new.items ≤ 8 }
 {
@@ -124,7 +128,8 @@ pub(crate) fn look_behind(
     banks
 }
 
-/// The same where it is asked for, whatever was found before; else no entry is found, and the banks have no answers.
+/// The same where it is asked for, whatever was found before; else no entry is found, and the banks
+/// have no answers.
 pub(crate) fn look_if(
     looks: bool,
     state: &mut State,
@@ -141,15 +146,17 @@ pub(crate) fn look_if(
     requires levels { (1 ≤ levels) × (levels ≤ 8) }
     requires past { last.now.past ≡ last.now.front.past }
     requires counter { last.now.ic < 2 ^ 19 }
+
     ensures state { state.new ≡ state.old }
-    ensures found { looks ≡ true → found.new.items ≡ map seen_of (prepared_before last.now.tick
+    ensures found { looks ≡ true → found.new.items ≡ map seen_ahead (prepared_before last.now.tick
         (ahead delays.now levels levels None (guessing last.now.ic state.old) last.now.front)) }
     ensures banks { (reads : List Read) (bus : BusOf) → looks ≡ true →
         HasReads delays.now last.now.tick reads bus last.now.front.bus log.old →
         result ≡ (made_before delays.now last.now.tick
         (reads ++ reads_before delays.now levels last.now.tick
         (ahead delays.now levels (suc levels) None (guessing last.now.ic state.old) last.now.front)) bus).banks }
-    ensures soon { (reads : List Read) (bus : BusOf) → HasReads delays.now last.now.tick reads bus last.now.front.bus log.old →
+    ensures soon { (reads : List Read) (bus : BusOf) →
+        HasReads delays.now last.now.tick reads bus last.now.front.bus log.old →
         All (λ t. t ≤ last.now.tick + 255) result.ticks }
     ensures few { length found.new.items ≤ 8 }
 {
@@ -160,11 +167,13 @@ pub(crate) fn look_if(
     look_behind(state, last, delays, levels, log, found)
 }
 
-/// What is at hand before the first entry of a run, whose counter is given, and whether interrupts are enabled.
+/// What is at hand before the first entry of a run, whose counter is given, and whether interrupts
+/// are enabled.
 pub(crate) fn at_start(ic: u32, enabled: bool) -> Last
     ensures tick { result.tick ≡ 0 }
-    ensures front { result.front ≡ opening (record { ticks = replicate BANKS 0 }) 0 }
+    ensures front { result.front ≡ opening_front (record { ticks = replicate BANKS 0 }) 0 }
     ensures past { result.past ≡ result.front.past }
+
     ensures missed { result.missed ≡ false }
     ensures counter { result.ic ≡ ic }
     ensures enabled { result.enabled ≡ enabled }
@@ -186,7 +195,8 @@ pub(crate) fn open_segment(last: &mut Last, banks: LastAnswers, dropped: u64)
     requires dropped { dropped ≤ 8 }
     requires early { last.old.tick ≤ 2 ^ 62 }
     requires soon { All (λ t. t ≤ last.old.tick + 255) banks.ticks }
-    ensures front { last.new.front ≡ opening banks (last.old.tick + 1 + dropped) }
+
+    ensures front { last.new.front ≡ opening_front banks (last.old.tick + 1 + dropped) }
     ensures past { last.new.past ≡ last.new.front.past }
     ensures tight { IsTight 255 last.new.front }
     ensures tick { last.new.tick ≡ last.old.tick }
@@ -205,8 +215,9 @@ pub(crate) fn open_if(ends: bool, last: &mut Last, banks: LastAnswers, dropped: 
     requires past { last.old.past ≡ last.old.front.past }
     requires tight { IsTight 255 last.old.front }
     requires done { last.old.front.c ≡ last.old.tick }
+
     ensures front { last.new.front
-        ≡ (if ends then opening banks (last.old.tick + 1 + dropped) else last.old.front) }
+        ≡ (if ends then opening_front banks (last.old.tick + 1 + dropped) else last.old.front) }
     ensures past { last.new.past ≡ last.new.front.past }
     ensures tight { IsTight 255 last.new.front }
     ensures tick { last.new.tick ≡ last.old.tick }

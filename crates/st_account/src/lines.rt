@@ -1,12 +1,12 @@
-//! The lines of a ledger that tell of the machine and of segments, by the rules of `docs/ledger.md`: one call a line, each with
-//! its line end.
+//! The lines of a ledger that tell of the machine and of segments, by the rules of
+//! `docs/ledger.md`: one call a line, each with its line end.
 ghost use Rattle.std.specs.Prelude.{◌≡◌, ◌+◌, ◌*◌, ◌<◌, ◌≤◌, ◌++◌, ◌∷◌, [], length, codes, decimal, MatchOption, IfSome};
 ghost use Rattle.arrayvec.specs.ArrayString.{array_string_len};
 ghost use Rattle.st_text.specs.Bytes.{lf};
-ghost use Rattle.st_account.specs.Lines.{levels_line, numbers, delays_line, why_text, start_line, end_line, word_line, missed_line, alone_text, alone_line, suppressed_line, writes_line, index_line, drop_line};
+ghost use Rattle.st_account.specs.Lines.{ledger_levels_line, numbers_text, delays_line, why_text, start_line, segment_end_line, word_line, missed_line, alone_text, alone_line, suppressed_line, writes_line, index_line, dropped_line};
 
 use st_prep::IndexChange;
-use st_rows::Row;
+use st_rows::EntryTicks;
 use st_text::{
     Line, begun, push_decimal, push_flag, push_half_address, push_hex, push_short_decimal,
 };
@@ -48,7 +48,7 @@ fn ended(mut line: Line) -> Line
 
 /// `LEVELS n`: the machine has n levels.
 pub fn line_levels(n: u8) -> Line
-    ensures { result.bytes ≡ levels_line n }
+    ensures { result.bytes ≡ ledger_levels_line n }
 {
     let mut line = begun("LEVELS ");
     push_short_decimal(&mut line, u32::from(n));
@@ -79,7 +79,7 @@ fn push_number(line: &mut Line, n: u8)
 // Appends numbers, each behind a blank.
 fn push_numbers(line: &mut Line, ns: &[u8])
     requires { array_string_len line.old + 11 * length ns.now ≤ 128 }
-    ensures bytes { line.new.bytes ≡ line.old.bytes ++ numbers ns.now }
+    ensures bytes { line.new.bytes ≡ line.old.bytes ++ numbers_text ns.now }
     ensures room { array_string_len line.new ≤ array_string_len line.old + 11 * length ns.now }
 {
     let Some((first, more)) = first_number(ns) else {
@@ -134,7 +134,7 @@ pub fn line_start(k: u32, tick: u64, waited: bool, why: Why) -> Line
 
 /// `SEGMENT k END t`: the segment k ends at tick t.
 pub fn line_end(k: u32, tick: u64) -> Line
-    ensures { result.bytes ≡ end_line k tick }
+    ensures { result.bytes ≡ segment_end_line k tick }
 {
     let mut line = begun("SEGMENT ");
     push_short_decimal(&mut line, k);
@@ -220,9 +220,10 @@ pub fn line_index(change: &IndexChange) -> Line
     ended(line)
 }
 
-/// `DROP n a A x P p R r`: the n-th entry ran ahead and is dropped; its half-word address, and its ticks.
-pub fn line_drop(n: u32, address: u32, row: &Row) -> Line
-    ensures { result.bytes ≡ drop_line n address row.now }
+/// `DROP n a A x P p R r`: the n-th entry ran ahead and is dropped; its half-word address, and its
+/// ticks.
+pub fn line_drop(n: u32, address: u32, row: &EntryTicks) -> Line
+    ensures { result.bytes ≡ dropped_line n address row.now }
 {
     let mut line = begun("DROP ");
     push_short_decimal(&mut line, n);

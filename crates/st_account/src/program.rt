@@ -3,8 +3,8 @@ ghost use Rattle.std.specs.Prelude.{◌≡◌, ◌↔◌, ◌≤◌, ◌<◌, �
 ghost use Rattle.std.specs.String.{string_bytes};
 ghost use Rattle.st_bits.specs.Storage.{words_of_storage};
 ghost use Rattle.st_bits.specs.declared.register.TheConstants.{FIRST_STORAGE_WORD};
-ghost use Rattle.st_asm.specs.Assembly.{shown, assembly};
-ghost use Rattle.st_asm.specs.Sound.{IsSound};
+ghost use Rattle.st_asm.specs.Assembly.{assembly_parts, assembly};
+ghost use Rattle.st_asm.specs.Sound.{IsAssemblySound};
 ghost use Rattle.st_card.specs.Cards.{cards_of};
 ghost use Rattle.st_card.specs.Faults.{name_of};
 ghost use Rattle.st_card.specs.Limits.{IsWithinLimits};
@@ -12,8 +12,8 @@ ghost use Rattle.st_exch.specs.Reader.{reader_cards};
 ghost use Rattle.st_io.specs.Lines.{WritesLines};
 ghost use Rattle.st_report.specs.Line.{fault_line};
 ghost use Rattle.st_run.specs.Reached.{IsCard};
-ghost use Rattle.st_state.specs.Machine.{opening};
-ghost use Rattle.st_account.specs.Answers.{levels_by, levels_of, lines_by, status_by, lines_of, status_of, Writes, Did, IsAnswer};
+ghost use Rattle.st_state.specs.Machine.{opening_state};
+ghost use Rattle.st_account.specs.Answers.{levels_by, levels_asked, lines_by, status_by, ledger_lines_of, status_of, Writes, Did, IsAnswer};
 
 use crate::running::write_ledger;
 use crate::status::Status;
@@ -48,7 +48,7 @@ fn levels_by(c: u8) -> Option<u8>
 
 // The number of levels that the words mean.
 fn read_words(words: &[String]) -> Option<u8>
-    ensures value { result ≡ levels_of (map string_bytes words.now) }
+    ensures value { result ≡ levels_asked (map string_bytes words.now) }
     ensures range { IfSome result (λ n. (1 ≤ n) × (n ≤ 8)) }
 {
     match words {
@@ -145,7 +145,8 @@ fn prepare(
     requires counter { start < 2 ^ 19 }
     requires limits { IsWithinLimits controls.now }
     requires delays { 1 ≤ length controls.now.delays }
-    ensures state { IfOk result (λ r. r.state ≡ opening image.now start) }
+
+    ensures state { IfOk result (λ r. r.state ≡ opening_state image.now start) }
     ensures reader { IfOk result (λ r. r.hopper ≡ reader_cards job.now) }
     ensures cards { IfOk result (λ r. All IsCard r.hopper) }
     ensures delays { IfOk result (λ r. r.delays ≡ controls.now.delays) }
@@ -168,9 +169,9 @@ fn run_program<K: Sink>(
 ) -> Status
     requires levels { (1 ≤ n) × (n ≤ 8) }
     requires cards { cards.now ≡ cards_of job.now }
-    requires sound { IsSound (length (cards_of job.now)) (shown program.now) }
+    requires sound { IsAssemblySound (length (cards_of job.now)) (assembly_parts program.now) }
     ensures { Writes result (K.output out.old) (K.output out.new)
-        (lines_by n job.now (Ok (shown program.now))) Status.Done }
+        (lines_by n job.now (Ok (assembly_parts program.now))) Status.Done }
 {
     let controls = &program.controls;
     let image = program.image.as_slice();
@@ -199,11 +200,12 @@ fn run_program<K: Sink>(
 }
 
 // Writes the ledger of a job that was read, or says why it does not.
-#[tactic(auto, unfolding(crate::specs::Answers::lines_of, crate::specs::Answers::status_of))]
+#[tactic(auto, unfolding(crate::specs::Answers::ledger_lines_of, crate::specs::Answers::status_of))]
 fn run_job<K: Sink>(alloc: Global, n: u8, job: &[u8], out: &mut K) -> Status
     requires levels { (1 ≤ n) × (n ≤ 8) }
     requires short { length job.now < 2 ^ 32 }
-    ensures { Writes result (K.output out.old) (K.output out.new) (lines_of n job.now) (status_of job.now) }
+    ensures { Writes result (K.output out.old) (K.output out.new) (ledger_lines_of n job.now)
+        (status_of job.now) }
 {
     let Ok(cards) = split(alloc, job) else {
         return Status::NoMemory;
@@ -230,9 +232,10 @@ fn run_levels<S: Source, K: Sink>(alloc: Global, n: u8, job: &mut S, out: &mut K
     }
 }
 
-/// Writes the ledger of a job of at most 2,000,000 bytes. The words of the command line, after the program's name, are none, for a
-/// machine of 4 levels, or one digit from 1 to 8, the number of levels. Each line is written by itself, and all memory is taken
-/// before the first one. `docs/ledger.md` has the rules.
+/// Writes the ledger of a job of at most 2,000,000 bytes. The words of the command line, after the
+/// program's name, are none, for a machine of 4 levels, or one digit from 1 to 8, the number of
+/// levels. Each line is written by itself, and all memory is taken before the first one.
+/// `docs/ledger.md` has the rules.
 pub fn ledger<S: Source, K: Sink>(
     alloc: Global,
     words: &[String],
@@ -240,11 +243,11 @@ pub fn ledger<S: Source, K: Sink>(
     out: &mut K,
 ) -> Status
     // By the meaning of the words and the status: what was read, and exactly what was written.
-    ensures answer { IsAnswer (levels_of (map string_bytes words.now)) result
+    ensures answer { IsAnswer (levels_asked (map string_bytes words.now)) result
         (S.input job.old) (S.input job.new) (K.output out.old) (K.output out.new) }
 
     // The answer is a bad command line exactly where the words mean nothing.
-    ensures usage { result ≡ Status.Usage ↔ levels_of (map string_bytes words.now) ≡ None }
+    ensures usage { result ≡ Status.Usage ↔ levels_asked (map string_bytes words.now) ≡ None }
 {
     match read_words(words) {
         Some(n) => run_levels(alloc, n, job, out),

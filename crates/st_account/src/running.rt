@@ -6,24 +6,24 @@ ghost use Rattle.st_card.specs.Limits.{is_signal};
 ghost use Rattle.st_state.specs.Machine.{Machine};
 ghost use Rattle.st_prep.specs.Plan.{plan as plan_of};
 ghost use Rattle.st_prep.specs.Ranges.{IsPrepared};
-ghost use Rattle.st_exec.specs.Completion.{executed, guess as guess_of, is_missed as is_missed_of};
+ghost use Rattle.st_exec.specs.Completion.{state_after_execution, guess as guess_of, is_missed as is_missed_of};
 ghost use Rattle.st_exec.specs.Step.{step as step_of};
 ghost use Rattle.st_io.specs.Lines.{WritesLines};
-ghost use Rattle.st_rows.specs.Asked.{asked as asked_of};
-ghost use Rattle.st_rows.specs.Notes.{noted};
+ghost use Rattle.st_rows.specs.Asked.{reads_of_entry as asked_of};
+ghost use Rattle.st_rows.specs.Notes.{log_after_reads};
 ghost use Rattle.st_rows.specs.Ranges.{IsTight};
-ghost use Rattle.st_rows.specs.Rows.{row as row_of, after as after_of};
+ghost use Rattle.st_rows.specs.Rows.{row_of_entry as row_of, front_after_entry as after_of};
 ghost use Rattle.st_segment.specs.Entries.{entry as entry_of};
 ghost use Rattle.st_run.specs.Reached.{IsCard};
-ghost use Rattle.st_run.specs.Moments.{Moment, Standing, start as start_of, next_state, next_front, next_moment};
+ghost use Rattle.st_run.specs.Moments.{Moment, Standing, moment_at_start as start_of, next_state, next_front, next_moment};
 ghost use Rattle.st_ledger.specs.Ledger.{charges_at, entries_from, all_charges};
 ghost use Rattle.st_ledger.specs.declared.charges.Stage.{Stage};
 ghost use Rattle.st_ledger.specs.Charges.{ticks_for};
 ghost use Rattle.st_ledger.specs.Totals.{sum_at, AreWithin};
-ghost use Rattle.st_plain.specs.Looking.{side_at, executes_at, seen_of};
+ghost use Rattle.st_plain.specs.Looking.{side_at, executes_at, seen_ahead};
 ghost use Rattle.st_account.specs.Settling.{at_hand};
-ghost use Rattle.st_account.specs.Text.{why_by, words_behind, segment_after, segment_lines, entry_lines, last_lines, lines_from, ledger};
-ghost use Rattle.st_account.specs.Standing.{guessing, has_due, still_by, without, IsLast, IsStanding, IsBehind};
+ghost use Rattle.st_account.specs.Text.{why_by, words_behind, segment_after, segment_lines, lines_of_entry, last_lines, lines_from, ledger};
+ghost use Rattle.st_account.specs.Standing.{guessing, has_due, still_by, outcome_of, IsLast, IsStanding, IsBehindMoment};
 ghost use Rattle.st_account.specs.declared.lines.Why.TheVariants.{Run as RunBegins};
 
 use crate::facts::write_done;
@@ -39,11 +39,12 @@ use st_io::{Failed, Sink};
 use st_ledger::{Totals, write_sums};
 use st_plain::{Aheads, next_row, plan_entry};
 use st_prep::Prepared;
-use st_rows::{Log, Past, Row};
+use st_rows::{EntryTicks, Log, Past};
 use st_run::plain::{printer_is_free, reader_is_free};
 use st_state::State;
 
-// Why a segment begins: the run does, or an interrupt is taken, a guess was wrong, or else a card came.
+// Why a segment begins: the run does, or an interrupt is taken, a guess was wrong, or else a card
+// came.
 fn why_of(first: bool, taken: Option<u8>, missed: bool) -> Why
     ensures { result ≡ (if first then RunBegins else why_by taken missed) }
 {
@@ -101,10 +102,11 @@ fn is_end_near(left: u64, still: bool) -> bool
     left == 0 || !still
 }
 
-// What is known of the next entry, besides what it is: its row, its index-side word, and whether it is EX.
+// What is known of the next entry, besides what it is: its row, its index-side word, and whether it
+// is EX.
 #[derive(Clone, Copy)]
 struct Counted {
-    row: Row,
+    row: EntryTicks,
     side: Option<u32>,
     execute: bool,
 }
@@ -124,11 +126,14 @@ fn count_on(
     requires tight { IsTight 255 last.old.front }
     requires early { last.old.front.c ≤ 2 ^ 63 }
     requires past { last.old.past ≡ last.old.front.past }
+
     ensures plan { p.new ≡ plan_of state.now taken }
     ensures prepared { IsPrepared p.new }
     ensures row { result.row ≡ row_of delays.now levels last.old.front (entry_of taken state.now) }
-    ensures front { last.new.front ≡ after_of delays.now levels last.old.front (entry_of taken state.now) }
-    ensures log { log.new ≡ noted delays.now (asked_of delays.now levels last.old.front (entry_of taken state.now)) last.old.front.bus [] }
+    ensures front { last.new.front ≡ after_of delays.now levels last.old.front
+        (entry_of taken state.now) }
+    ensures log { log.new ≡ log_after_reads delays.now (asked_of delays.now levels last.old.front
+        (entry_of taken state.now)) last.old.front.bus [] }
     ensures past { last.new.past ≡ last.new.front.past }
     ensures tick { last.new.tick ≡ result.row.c }
     ensures side { result.side ≡ side_at taken state.now }
@@ -174,7 +179,8 @@ fn execute(state: &mut State, taken: Option<u8>, p: &Prepared, last: &mut Last)
     requires prepared { IsPrepared p.now }
     requires plan { p.now ≡ plan_of state.old taken }
     requires few { state.old.done < 2 ^ 63 }
-    ensures state { state.new ≡ executed taken state.old }
+
+    ensures state { state.new ≡ state_after_execution taken state.old }
     ensures guess { guessing last.new.ic state.new ≡ guess_of taken state.old }
     ensures counter { last.new.ic < 2 ^ 19 }
     ensures rest { last.new ≡ record last.old {
@@ -220,8 +226,8 @@ fn row_number(state: &State) -> u32
     state.done as u32 + 1
 }
 
-// The next entry is executed, and its lines are written; its segment starts at the tick of the front, if it is the first one of that.
-// What it is stays in `p`, whatever was there.
+// The next entry is executed, and its lines are written; its segment starts at the tick of the
+// front, if it is the first one of that. What it is stays in `p`, whatever was there.
 fn write_entry<K: Sink>(
     out: &mut K,
     state: &mut State,
@@ -239,10 +245,12 @@ fn write_entry<K: Sink>(
     requires order { last.old.tick ≤ last.old.front.c }
     requires past { last.old.past ≡ last.old.front.past }
     requires within { AreWithin last.old.tick sums.old }
+
     ensures lines { (p : Standing) → IsStanding p state.old last.old →
-        WritesLines (K.output out.old) (K.output out.new) (entry_lines delays.now levels p) result }
+        WritesLines (K.output out.old) (K.output out.new) (lines_of_entry delays.now levels p) result }
     ensures state { state.new ≡ step_of state.old }
-    ensures last { (p : Standing) → IsStanding p state.old last.old → IsLast delays.now levels (next_moment delays.now levels p) last.new log.new }
+    ensures last { (p : Standing) → IsStanding p state.old last.old →
+        IsLast delays.now levels (next_moment delays.now levels p) last.new log.new }
     ensures sums { (p : Standing) (s : Stage) → IsStanding p state.old last.old →
         sum_at s sums.new ≡ sum_at s sums.old + ticks_for s (charges_at delays.now levels p) }
     ensures within { AreWithin last.new.tick sums.new }
@@ -281,7 +289,8 @@ fn next_number(begins: bool, k: u32) -> u32
     if begins { k + 1 } else { k }
 }
 
-// The border between the last entry and the next one: the front of the next one, and the lines where a segment ends or begins.
+// The border between the last entry and the next one: the front of the next one, and the lines
+// where a segment ends or begins.
 fn write_crossing<K: Sink>(
     out: &mut K,
     state: &State,
@@ -301,12 +310,16 @@ fn write_crossing<K: Sink>(
     requires past { last.old.past ≡ last.old.front.past }
     requires tight { IsTight 255 last.old.front }
     requires done { last.old.front.c ≡ last.old.tick }
-    ensures lines { (b : Machine) (m : Moment) → b.enabled ≡ last.old.enabled → printed.now.items ≡ words_behind m →
-        IsBehind m state.now last.old found.now.items banks card waited →
-        WritesLines (K.output out.old) (K.output out.new) (segment_lines k b m) (without result) }
-    ensures number { (m : Moment) → IsBehind m state.now last.old found.now.items banks card waited →
+
+    ensures lines { (b : Machine) (m : Moment) → b.enabled ≡ last.old.enabled → printed.now.items
+        ≡ words_behind m →
+        IsBehindMoment m state.now last.old found.now.items banks card waited →
+        WritesLines (K.output out.old) (K.output out.new) (segment_lines k b m) (outcome_of result) }
+    ensures number { (m : Moment) →
+        IsBehindMoment m state.now last.old found.now.items banks card waited →
         IfOk result (λ next. next ≡ segment_after k m) }
-    ensures front { (m : Moment) → IsBehind m state.now last.old found.now.items banks card waited →
+    ensures front { (m : Moment) →
+        IsBehindMoment m state.now last.old found.now.items banks card waited →
         last.new.front ≡ next_front m }
     ensures past { last.new.past ≡ last.new.front.past }
     ensures tick { last.new.tick ≡ last.old.tick }
@@ -350,16 +363,18 @@ fn write_last<K: Sink>(
 ) -> Result<(), Failed>
     requires few { state.now.done ≤ MOST_INSTRUCTIONS }
     requires dropped { length found.now.items ≤ 8 }
-    ensures { (b : Machine) (m : Moment) → b.enabled ≡ last.now.enabled → printed.now.items ≡ words_behind m → m.tick ≡ last.now.tick → next_state m ≡ state.now →
-        found.now.items ≡ map seen_of m.dropped → WritesLines (K.output out.old) (K.output out.new) (last_lines k b m) result }
+    ensures { (b : Machine) (m : Moment) → b.enabled ≡ last.now.enabled → printed.now.items
+        ≡ words_behind m → m.tick ≡ last.now.tick → next_state m ≡ state.now →
+        found.now.items ≡ map seen_ahead m.dropped → WritesLines (K.output out.old)
+        (K.output out.new) (last_lines k b m) result }
 {
     write_end(out, k, last.tick, row_number(state), found.as_slice())?;
     write_marks(out, printed, k, last.enabled, state)?;
     write_totals(out, is_at_rest(state), state.done, last.tick)
 }
 
-// Writes the run of a machine with these signals and cards to come, on so many levels, until it ends or so many instructions are done, and
-// adds up its charges.
+// Writes the run of a machine with these signals and cards to come, on so many levels, until it
+// ends or so many instructions are done, and adds up its charges.
 fn write_run<K: Sink>(
     out: &mut K,
     state: &mut State,
@@ -376,10 +391,12 @@ fn write_run<K: Sink>(
     requires levels { (1 ≤ levels) × (levels ≤ 8) }
     requires limit { budget ≤ MOST_INSTRUCTIONS }
     requires none { AreWithin 0 sums.old }
+
     ensures lines { WritesLines (K.output out.old) (K.output out.new)
         (lines_from delays.now levels budget 0 state.old (start_of (at_hand state.old signals.now cards.old))) result }
     ensures sums { (s : Stage) → IsOk result → sum_at s sums.new
-        ≡ ticks_for s (all_charges delays.now levels (entries_from delays.now levels budget (start_of (at_hand state.old signals.now cards.old)))) }
+        ≡ ticks_for s (all_charges delays.now levels (entries_from delays.now levels budget
+        (start_of (at_hand state.old signals.now cards.old)))) }
 {
     state.shape();
     delays.shape();
@@ -421,9 +438,10 @@ fn write_run<K: Sink>(
     }
 }
 
-/// Writes the ledger of a run: of a machine with these signals and cards to come, these delays and so many levels, 1 to 8, until it
-/// ends or so many instructions are done, at most 10,000,000. Nothing has happened in the machine. Each line is written by itself.
-/// `docs/ledger.md` has the rules.
+/// Writes the ledger of a run: of a machine with these signals and cards to come, these delays and
+/// so many levels, 1 to 8, until it ends or so many instructions are done, at most 10,000,000.
+/// Nothing has happened in the machine. Each line is written by itself. `docs/ledger.md` has the
+/// rules.
 pub fn write_ledger<K: Sink>(
     out: &mut K,
     state: &mut State,
@@ -440,6 +458,7 @@ pub fn write_ledger<K: Sink>(
     requires list { list.now ≡ delays.now }
     requires levels { (1 ≤ levels) × (levels ≤ 8) }
     requires limit { budget ≤ MOST_INSTRUCTIONS }
+
     ensures { WritesLines (K.output out.old) (K.output out.new)
         (ledger delays.now levels budget (at_hand state.old signals.now cards.old)) result }
 {

@@ -18,7 +18,8 @@ use st_state::{Device, State};
 
 // The reader's order takes effect, if it has one. The result says whether a card came.
 fn serve_reader(state: &mut State, cards: &mut Hopper) -> bool
-    ensures scene { (xs : List SignalOf) → (with_reader state.old.reader (at_hand state.old xs cards.old)).scene
+    ensures scene { (xs : List SignalOf) →
+        (with_reader state.old.reader (at_hand state.old xs cards.old)).scene
         ≡ at_hand state.new xs cards.new }
     ensures card { result ≡ nat_lt (length cards.new) (length cards.old) }
     ensures fewer { length cards.new ≤ length cards.old }
@@ -37,11 +38,13 @@ pub(crate) type Printed = ArrayVec<[u64; 8], 3>;
 // The printer's order takes effect, if it has one.
 fn serve_printer(state: &mut State, printed: &mut Printed)
     requires room { length printed.old.items + 1 ≤ 3 }
-    ensures printed { (xs : List SignalOf) (cards : List (List ℕ)) → printed.new.items ≡ printed.old.items
+    ensures printed { (xs : List SignalOf) (cards : List (List ℕ)) → printed.new.items
+        ≡ printed.old.items
         ++ words_printed (with_printer state.old.printer (at_hand state.old xs cards)).happened }
     ensures few { length printed.new.items ≤ length printed.old.items + 1 }
     ensures scene { (xs : List SignalOf) (cards : List (List ℕ)) →
-        (with_printer state.old.printer (at_hand state.old xs cards)).scene ≡ at_hand state.new xs cards }
+        (with_printer state.old.printer (at_hand state.old xs cards)).scene
+        ≡ at_hand state.new xs cards }
 {
     if printer_is_free(state) {
         return;
@@ -66,10 +69,12 @@ fn serve_due_reader(state: &mut State, cards: &mut Hopper) -> bool
 // The printer's order takes effect, if it is due.
 fn serve_due_printer(state: &mut State, printed: &mut Printed)
     requires room { length printed.old.items + 1 ≤ 3 }
-    ensures printed { (xs : List SignalOf) (cards : List (List ℕ)) → printed.new.items ≡ printed.old.items
+    ensures printed { (xs : List SignalOf) (cards : List (List ℕ)) → printed.new.items
+        ≡ printed.old.items
         ++ words_printed (with_printer (if_due state.old.done state.old.printer) (at_hand state.old xs cards)).happened }
     ensures few { length printed.new.items ≤ length printed.old.items + 1 }
-    ensures scene { (xs : List SignalOf) (cards : List (List ℕ)) → (with_printer (if_due state.old.done state.old.printer)
+    ensures scene { (xs : List SignalOf) (cards : List (List ℕ)) →
+        (with_printer (if_due state.old.done state.old.printer)
         (at_hand state.old xs cards)).scene ≡ at_hand state.new xs cards }
 {
     if !printer_is_due(state) {
@@ -81,6 +86,7 @@ fn serve_due_printer(state: &mut State, printed: &mut Printed)
 // The orders that are due take effect, the reader's first. The result says whether a card came.
 fn serve_due(state: &mut State, cards: &mut Hopper, printed: &mut Printed) -> bool
     requires room { length printed.old.items + 1 ≤ 3 }
+
     ensures printed { (xs : List SignalOf) → printed.new.items ≡ printed.old.items
         ++ words_printed (with_due_orders (at_hand state.old xs cards.old)).happened }
     ensures few { length printed.new.items ≤ length printed.old.items + 1 }
@@ -94,13 +100,16 @@ fn serve_due(state: &mut State, cards: &mut Hopper, printed: &mut Printed) -> bo
     card
 }
 
-// The order that is due earliest takes effect, if the machine is at rest. The result says whether a card came.
+// The order that is due earliest takes effect, if the machine is at rest. The result says whether a
+// card came.
 fn serve_at_rest(state: &mut State, cards: &mut Hopper, printed: &mut Printed) -> bool
     requires room { length printed.old.items + 1 ≤ 3 }
+
     ensures printed { (xs : List SignalOf) → printed.new.items ≡ printed.old.items
         ++ words_printed (with_order_at_rest (at_hand state.old xs cards.old)).happened }
     ensures few { length printed.new.items ≤ length printed.old.items + 1 }
-    ensures scene { (xs : List SignalOf) → (with_order_at_rest (at_hand state.old xs cards.old)).scene
+    ensures scene { (xs : List SignalOf) →
+        (with_order_at_rest (at_hand state.old xs cards.old)).scene
         ≡ at_hand state.new xs cards.new }
     ensures card { result ≡ nat_lt (length cards.new) (length cards.old) }
     ensures fewer { length cards.new ≤ length cards.old }
@@ -130,7 +139,8 @@ fn serve_wait(state: &mut State, cards: &mut Hopper, printed: &mut Printed) -> b
     requires room { length printed.old.items + 2 ≤ 3 }
     ensures printed { (xs : List SignalOf) → printed.new.items ≡ printed.old.items
         ++ words_printed (with_orders_at_rest (at_hand state.old xs cards.old)).happened }
-    ensures scene { (xs : List SignalOf) → (with_orders_at_rest (at_hand state.old xs cards.old)).scene
+    ensures scene { (xs : List SignalOf) →
+        (with_orders_at_rest (at_hand state.old xs cards.old)).scene
         ≡ at_hand state.new xs cards.new }
     ensures card { result ≡ nat_lt (length cards.new) (length cards.old) }
     ensures fewer { length cards.new ≤ length cards.old }
@@ -151,7 +161,8 @@ pub struct Settled<'a> {
     pub waited: bool,
 }
 
-/// Signals and orders come that are due, and what ends a wait. `printed` is then what is printed, whatever it was.
+/// Signals and orders come that are due, and what ends a wait. `printed` is then what is printed,
+/// whatever it was.
 pub(crate) fn settle<'a>(
     state: &mut State,
     signals: &'a [Signal],
@@ -159,10 +170,12 @@ pub(crate) fn settle<'a>(
     printed: &mut Printed,
 ) -> Settled<'a>
     requires { AllPass is_signal signals.now }
+
     ensures rest { AllPass is_signal result.signals.now }
     ensures came { (interlude (at_hand state.old signals.now cards.old)).scene
         ≡ at_hand state.new result.signals.now cards.new }
-    ensures printed { printed.new.items ≡ words_printed (interlude (at_hand state.old signals.now cards.old)).happened }
+    ensures printed { printed.new.items ≡ words_printed
+        (interlude (at_hand state.old signals.now cards.old)).happened }
     ensures card { result.card ≡ nat_lt (length cards.new) (length cards.old) }
     ensures waited { result.waited
         ≡ rests (with_due_orders (with_due_signals state.old signals.now cards.old)).scene.machine }

@@ -2,10 +2,10 @@
 ghost use Rattle.std.specs.Prelude.{◌≡◌, ◌+◌, ◌<◌, ◌≤◌, ◌^◌, ℕ, ◌∷◌, ◌++◌, [], if◌then◌else◌, ◌||◌, length, min, MatchOption, IfSome};
 ghost use Rattle.st_io.specs.Lines.{WritesLines, lines_for};
 ghost use Rattle.st_bits.specs.declared.limits.TheConstants.{WORDS};
-ghost use Rattle.st_exch.specs.Printer.{printed as printed_of};
+ghost use Rattle.st_exch.specs.Printer.{line_of_words as printed_of};
 ghost use Rattle.st_report.specs.Line.{prt_line, ic_line, en_line, end_line as run_end_line, done_line, ticks_line};
-ghost use Rattle.st_account.specs.Lines.{levels_line, delays_line, delays_by, start_line, end_line, drop_line};
-ghost use Rattle.st_account.specs.Text.{facts_lines, drop_lines, end_lines, differs, en_lines, prints_lines, word_lines, words_lines, marks_lines, taken_by, state_lines, machine_lines};
+ghost use Rattle.st_account.specs.Lines.{ledger_levels_line, delays_line, delays_by, start_line, segment_end_line, dropped_line};
+ghost use Rattle.st_account.specs.Text.{facts_lines, drop_lines, segment_end_lines, differs, en_lines, prints_lines, word_lines, words_lines, marks_lines, taken_by, state_lines, machine_lines};
 
 use crate::facts::write_facts;
 use crate::lines::{Why, line_delays, line_drop, line_end, line_levels, line_start, line_word};
@@ -41,7 +41,8 @@ fn first_ahead(found: &[Ahead]) -> Option<(Ahead, &[Ahead])>
 
 // Writes the line of an entry that is dropped, which is the n-th entry.
 fn write_drop_line<K: Sink>(out: &mut K, n: u32, ahead: &Ahead) -> Result<(), Failed>
-    ensures { WritesLines (K.output out.old) (K.output out.new) (drop_line n ahead.now.plan.place.address ahead.now.row ∷ []) result }
+    ensures { WritesLines (K.output out.old) (K.output out.new)
+        (dropped_line n ahead.now.plan.place.address ahead.now.row ∷ []) result }
 {
     put(out, &line_drop(n, ahead.plan.place.address, &ahead.row))
 }
@@ -49,7 +50,8 @@ fn write_drop_line<K: Sink>(out: &mut K, n: u32, ahead: &Ahead) -> Result<(), Fa
 // The same, and what is known of it by itself.
 fn write_drop<K: Sink>(out: &mut K, n: u32, ahead: &Ahead) -> Result<(), Failed>
     ensures { WritesLines (K.output out.old) (K.output out.new)
-        (drop_line n ahead.now.plan.place.address ahead.now.row ∷ facts_lines ahead.now.plan ahead.now.side ahead.now.execute) result }
+        (dropped_line n ahead.now.plan.place.address ahead.now.row
+        ∷ facts_lines ahead.now.plan ahead.now.side ahead.now.execute) result }
 {
     write_drop_line(out, n, ahead)?;
     write_facts(out, &ahead.plan, ahead.side, ahead.execute)
@@ -70,13 +72,14 @@ fn write_drops<K: Sink>(out: &mut K, n: u32, found: &[Ahead]) -> Result<(), Fail
 
 // Writes the line of the end of a segment.
 fn write_end_line<K: Sink>(out: &mut K, k: u32, tick: u64) -> Result<(), Failed>
-    ensures { WritesLines (K.output out.old) (K.output out.new) (end_line k tick ∷ []) result }
+    ensures { WritesLines (K.output out.old) (K.output out.new)
+        (segment_end_line k tick ∷ []) result }
 {
     put(out, &line_end(k, tick))
 }
 
-/// Writes the end of the segment k at a tick, with the entries that are dropped; the first of them is the n-th entry. Before the first
-/// segment there is none.
+/// Writes the end of the segment k at a tick, with the entries that are dropped; the first of them
+/// is the n-th entry. Before the first segment there is none.
 pub(crate) fn write_end<K: Sink>(
     out: &mut K,
     k: u32,
@@ -85,7 +88,8 @@ pub(crate) fn write_end<K: Sink>(
     found: &[Ahead],
 ) -> Result<(), Failed>
     requires { n + length found.now < 2 ^ 32 }
-    ensures { WritesLines (K.output out.old) (K.output out.new) (end_lines k tick n found.now) result }
+    ensures { WritesLines (K.output out.old) (K.output out.new)
+        (segment_end_lines k tick n found.now) result }
 {
     if k == 0 {
         return Ok(());
@@ -105,7 +109,7 @@ fn write_ended<K: Sink>(
 ) -> Result<(), Failed>
     requires { n + length found.now < 2 ^ 32 }
     ensures { WritesLines (K.output out.old) (K.output out.new)
-        (if ends then end_lines k tick n found.now else []) result }
+        (if ends then segment_end_lines k tick n found.now else []) result }
 {
     if !ends {
         return Ok(());
@@ -137,7 +141,8 @@ fn either(one: bool, two: bool) -> bool
 // Writes whether interrupts are enabled, where it is asked for.
 #[tactic(auto, using(st_io::proofs::Progress::wrote_nothing))]
 fn write_en<K: Sink>(out: &mut K, shown: bool, enabled: bool) -> Result<(), Failed>
-    ensures { WritesLines (K.output out.old) (K.output out.new) (if shown then en_line enabled ∷ [] else []) result }
+    ensures { WritesLines (K.output out.old) (K.output out.new)
+        (if shown then en_line enabled ∷ [] else []) result }
 {
     if !shown {
         return Ok(());
@@ -158,7 +163,8 @@ fn first_words(printed: &[[u64; 8]]) -> Option<(&[u64; 8], &[[u64; 8]])>
 
 // Writes eight words that are printed.
 fn write_print<K: Sink>(out: &mut K, words: &[u64; 8]) -> Result<(), Failed>
-    ensures { WritesLines (K.output out.old) (K.output out.new) (prt_line (printed_of words.now) ∷ []) result }
+    ensures { WritesLines (K.output out.old) (K.output out.new)
+        (prt_line (printed_of words.now) ∷ []) result }
 {
     put(out, &line_prt(&print_text(words)))
 }
@@ -183,7 +189,8 @@ fn write_counter<K: Sink>(
     ic: u32,
     enabled: bool,
 ) -> Result<(), Failed>
-    ensures { WritesLines (K.output out.old) (K.output out.new) (ic_line ic ∷ en_lines k was enabled) result }
+    ensures { WritesLines (K.output out.old) (K.output out.new)
+        (ic_line ic ∷ en_lines k was enabled) result }
 {
     write_ic(out, ic)?;
     write_en(out, either(k == 0, differ(was, enabled)), enabled)
@@ -204,7 +211,8 @@ fn write_word<K: Sink>(out: &mut K, state: &State, w: u32) -> Result<(), Failed>
 
 // Writes all words that are not zero.
 fn write_each_word<K: Sink>(out: &mut K, state: &State) -> Result<(), Failed>
-    ensures { WritesLines (K.output out.old) (K.output out.new) (lines_for (word_lines state.now) WORDS 0) result }
+    ensures { WritesLines (K.output out.old) (K.output out.new)
+        (lines_for (word_lines state.now) WORDS 0) result }
 {
     for w in 0..WORDS {
         write_word(out, state, w)?;
@@ -226,13 +234,15 @@ fn write_words<K: Sink>(out: &mut K, starts: bool, state: &State) -> Result<(), 
 // Writes the counter, whether interrupts are enabled, and the words, where that is told.
 fn write_standing<K: Sink>(out: &mut K, k: u32, was: bool, state: &State) -> Result<(), Failed>
     ensures { WritesLines (K.output out.old) (K.output out.new)
-        (ic_line state.now.ic ∷ en_lines k was state.now.enabled ++ words_lines k state.now) result }
+        (ic_line state.now.ic ∷ en_lines k was state.now.enabled
+        ++ words_lines k state.now) result }
 {
     write_counter(out, k, was, counter_of(state), is_enabled(state))?;
     write_words(out, k == 0, state)
 }
 
-/// Writes what is printed, the counter, whether interrupts are enabled, and the words, where that is told.
+/// Writes what is printed, the counter, whether interrupts are enabled, and the words, where that
+/// is told.
 pub(crate) fn write_marks<K: Sink>(
     out: &mut K,
     printed: &Printed,
@@ -240,7 +250,8 @@ pub(crate) fn write_marks<K: Sink>(
     was: bool,
     state: &State,
 ) -> Result<(), Failed>
-    ensures { WritesLines (K.output out.old) (K.output out.new) (marks_lines printed.now.items k was state.now) result }
+    ensures { WritesLines (K.output out.old) (K.output out.new)
+        (marks_lines printed.now.items k was state.now) result }
 {
     write_prints(out, printed.as_slice())?;
     write_standing(out, k, was, state)
@@ -276,7 +287,8 @@ fn write_state<K: Sink>(
     taken: Option<u8>,
     done: u64,
 ) -> Result<(), Failed>
-    ensures { WritesLines (K.output out.old) (K.output out.new) (state_lines printed.now.items k was state.now taken done) result }
+    ensures { WritesLines (K.output out.old) (K.output out.new)
+        (state_lines printed.now.items k was state.now taken done) result }
 {
     write_marks(out, printed, k, was, state)?;
     write_taken(out, k == 0, taken, done)
@@ -327,7 +339,8 @@ pub(crate) struct Border {
     pub done: u64,
 }
 
-/// Writes the end of a segment, the state, and the start of the next segment, as far as there are any.
+/// Writes the end of a segment, the state, and the start of the next segment, as far as there are
+/// any.
 pub(crate) fn write_border<K: Sink>(
     out: &mut K,
     border: Border,
@@ -338,9 +351,10 @@ pub(crate) fn write_border<K: Sink>(
     requires few { border.n + length found.now < 2 ^ 32 }
     requires number { border.k + 1 < 2 ^ 32 }
     ensures { WritesLines (K.output out.old) (K.output out.new)
-        (((if border.ends then end_lines border.k border.tick border.n found.now else [])
+        (((if border.ends then segment_end_lines border.k border.tick border.n found.now else [])
         ++ state_lines printed.now.items border.k border.was state.now border.taken border.done)
-        ++ (if border.begins then start_line (border.k + 1) border.start border.waited border.why ∷ [] else [])) result }
+        ++ (if border.begins then start_line (border.k + 1) border.start border.waited border.why
+        ∷ [] else [])) result }
 {
     write_ended(out, border.ends, border.k, border.tick, border.n, found)?;
     write_state(
@@ -415,7 +429,8 @@ fn count_of(ds: &[u8]) -> usize
 
 // Writes all delays, ten in a line.
 fn write_delays<K: Sink>(out: &mut K, ds: &[u8]) -> Result<(), Failed>
-    ensures { (k : ℕ) → length ds.now ≤ k → WritesLines (K.output out.old) (K.output out.new) (delays_by k ds.now) result }
+    ensures { (k : ℕ) → length ds.now ≤ k → WritesLines (K.output out.old) (K.output out.new)
+        (delays_by k ds.now) result }
 {
     let count = count_of(ds);
     if count == 0 {
@@ -427,7 +442,7 @@ fn write_delays<K: Sink>(out: &mut K, ds: &[u8]) -> Result<(), Failed>
 
 // Writes the number of levels.
 fn write_levels<K: Sink>(out: &mut K, n: u8) -> Result<(), Failed>
-    ensures { WritesLines (K.output out.old) (K.output out.new) (levels_line n ∷ []) result }
+    ensures { WritesLines (K.output out.old) (K.output out.new) (ledger_levels_line n ∷ []) result }
 {
     put(out, &line_levels(n))
 }

@@ -2,20 +2,20 @@
 use Rattle.std.specs.Prelude.{IfSome, IsSome, take, drop}
 use Rattle.std.proofs.Common.{◌≡◌, ℕ, ◌+◌, ◌<◌, ◌≤◌, Bool, true, false, List, [], ◌∷◌, length, Option, None, Some, refl, sym, subst, ◌∙◌, ap, arith}
 use Rattle.std.proofs.lemmas.List.{length-take, length-drop, length-set, ext_get_or, get_or-take, get_or-drop, get_or-set_other}
-use Rattle.st_state.specs.Machine.{Machine, HasArea, word, stored}
-use Rattle.st_state.specs.Interrupts.{signalled}
+use Rattle.st_state.specs.Machine.{Machine, HasArea, word, state_with_store}
+use Rattle.st_state.specs.Interrupts.{state_with_signal}
 use Rattle.st_state.specs.declared.devices.Order.{Order}
 use Rattle.st_prep.specs.BesideOrders.{AreAlikeBesideOrders}
 use Rattle.st_prep.specs.declared.entries.Place.{Place}
 use Rattle.st_ahead.specs.Overlap.{Overlap}
-use Rattle.st_ahead.specs.Calls.{ended, read_in_by}
+use Rattle.st_ahead.specs.Calls.{machine_after_segment, read_in_by}
 use Rattle.st_prep.specs.Fetch.{index_words, place_of}
 use Rattle.st_exec.specs.Transfer.{all_stored, read_in}
 use Rattle.st_exec.proofs.Unchanged.{stored-other}
-use Rattle.st_rows.specs.Rows.{opening}
+use Rattle.st_rows.specs.Rows.{opening_front}
 use Rattle.st_rows.specs.declared.front.Front.{Front}
 use Rattle.st_ahead.specs.Look.{LookView, IsOpened}
-use Rattle.st_ahead.specs.Inside.{answers_before, standing, IsBetween, IsInside}
+use Rattle.st_ahead.specs.Inside.{answers_before, overlap_of, IsBetween, IsInside}
 
 -- ---- states that agree below storage
 
@@ -37,7 +37,7 @@ index-below s t h =
     ∙ h.words (16 + k) (omega arith) (omega arith)
     ∙ sym (get_or-take 16 (drop 16 s.words) k 0 near ∙ get_or-drop 16 s.words k 0))
 
-stored-below : (s : Machine) (w x : ℕ) → 32 ≤ w → AreAlikeBelow s (stored s w x)
+stored-below : (s : Machine) (w x : ℕ) → 32 ≤ w → AreAlikeBelow s (state_with_store s w x)
 stored-below s w x above = record {
   size = length-set s.words w _;
   words = λ k low few. stored-other s w x k (λ same. absurd (omega (arith, same)));
@@ -54,9 +54,9 @@ joined s t u a b = record {
 all-below : (s : Machine) (w : ℕ) (xs : List ℕ) → 32 ≤ w → AreAlikeBelow s (all_stored s w xs)
 unfolding all_stored
 all-below s w [] above = record { size = refl; words = λ k low few. refl; ic = refl }
-all-below s w (x ∷ xs) above = joined s (stored s w x) _ (stored-below s w x above) (all-below (stored s w x) (w + 1) xs (omega arith))
+all-below s w (x ∷ xs) above = joined s (state_with_store s w x) _ (stored-below s w x above) (all-below (state_with_store s w x) (w + 1) xs (omega arith))
 
-signalled-below : (s : Machine) (i : ℕ) → AreAlikeBelow s (signalled s i)
+signalled-below : (s : Machine) (i : ℕ) → AreAlikeBelow s (state_with_signal s i)
 signalled-below s i = record {
   size = length-set s.words 11 _;
   words = λ k low few. get_or-set_other s.words 11 k _ 0 (λ same. absurd (omega (arith, same)));
@@ -90,20 +90,20 @@ card-opened s u f v alike o = record {
     place-at : ℕ → Place
     place-at h = record { counter = h; address = h; table = None }
 
-card-calm : (halt : Bool) (n : ℕ) (ds : List ℕ) (s u : Machine) (t b : Option ℕ) (now : ℕ) (owed over fresh : Bool) (v : LookView)
-    → IsInside (standing n ds s t b now owed over halt fresh v) fresh v → over ≡ true → fresh ≡ true → AreAlikeBelow s u
-    → IsInside (standing n ds u t b now owed over halt fresh v) fresh v
-card-calm halt n ds s u t b now owed false fresh v is ends done alike = absurd (cc ends)
-card-calm halt n ds s u t b now owed true false v is ends done alike = absurd (cc done)
-card-calm halt n ds s u t b now false true true v is ends done alike = absurd (cc (is.fresh_owed refl))
-card-calm halt n ds s u (Some i) b now true true true v is ends done alike = absurd (cc (is.none_taken refl))
-card-calm halt n ds s u None b now true true true v is ends done alike =
+card-hazard_free : (halt : Bool) (n : ℕ) (ds : List ℕ) (s u : Machine) (t b : Option ℕ) (now : ℕ) (owed over fresh : Bool) (v : LookView)
+    → IsInside (overlap_of n ds s t b now owed over halt fresh v) fresh v → over ≡ true → fresh ≡ true → AreAlikeBelow s u
+    → IsInside (overlap_of n ds u t b now owed over halt fresh v) fresh v
+card-hazard_free halt n ds s u t b now owed false fresh v is ends done alike = absurd (cc ends)
+card-hazard_free halt n ds s u t b now owed true false v is ends done alike = absurd (cc done)
+card-hazard_free halt n ds s u t b now false true true v is ends done alike = absurd (cc (is.fresh_owed refl))
+card-hazard_free halt n ds s u (Some i) b now true true true v is ends done alike = absurd (cc (is.none_taken refl))
+card-hazard_free halt n ds s u None b now true true true v is ends done alike =
     let between : IsBetween now None s v = is.looking in
     record {
       some = is.some;
       few = is.few;
       looking = record {
-        opened = card-opened s u (opening (answers_before now v) v.front.c) v alike between.opened;
+        opened = card-opened s u (opening_front (answers_before now v) v.front.c) v alike between.opened;
         banks = between.banks;
         later = between.later;
         soon = between.soon;
@@ -122,12 +122,12 @@ card-calm halt n ds s u None b now true true true v is ends done alike =
     }
 
 pub card-inside : (halt : Bool) (n : ℕ) (ds : List ℕ) (s u : Machine) (t b : Option ℕ) (now : ℕ) (owed over fresh : Bool) (v : LookView) (order : Option Order) (card : List ℕ)
-    → IsInside (standing n ds s t b now owed over halt fresh v) fresh v → over ≡ true → fresh ≡ true → HasArea order → IsSome order
+    → IsInside (overlap_of n ds s t b now owed over halt fresh v) fresh v → over ≡ true → fresh ≡ true → HasArea order → IsSome order
     → IfSome order (λ o. u ≡ read_in s o.word (Some card))
-    → IsInside (standing n ds u t b now owed over halt fresh v) fresh v
+    → IsInside (overlap_of n ds u t b now owed over halt fresh v) fresh v
 card-inside halt n ds s u t b now owed over fresh v None card is ends done area some h = absurd (cc some)
 card-inside halt n ds s u t b now owed over fresh v (Some o) card is ends done area some h =
-    card-calm halt n ds s u t b now owed over fresh v is ends done (subst (λ x. AreAlikeBelow s x) (sym h) (read-below s o.word card area.0))
+    card-hazard_free halt n ds s u t b now owed over fresh v is ends done (subst (λ x. AreAlikeBelow s x) (sym h) (read-below s o.word card area.0))
 
 -- an order without a card
 pub no_card-alike : (s u : Machine) (order : Option Order) → ((w : ℕ) → AreAlikeBesideOrders s (read_in s w None)) → IsSome order
@@ -142,7 +142,7 @@ pub with-read : (order : Option Order) (card : Option (List ℕ)) (s u : Machine
 with-read None card s u f h = h
 with-read (Some o) card s u f h = ap f h
 
-pub read-ended : (m e x : Overlap) (words : List ℕ) (card : Option (List ℕ)) → card ≡ Some words → e ≡ ended m → e.state ≡ m.state
+pub read-ended : (m e x : Overlap) (words : List ℕ) (card : Option (List ℕ)) → card ≡ Some words → e ≡ machine_after_segment m → e.state ≡ m.state
     → IfSome e.state.reader (λ o. x ≡ record e { state = read_in e.state o.word (Some words) })
     → IfSome m.state.reader (λ o. x ≡ read_in_by o.word card m)
 read-ended m e x words card some ends state h =

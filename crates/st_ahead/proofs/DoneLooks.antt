@@ -6,11 +6,11 @@ use Rattle.std.proofs.lemmas.Bool.{and_parts, eqb-true, ne_eqb}
 use Rattle.st_state.specs.Machine.{Machine, IsMachine}
 use Rattle.st_prep.specs.Fetch.{place_of}
 use Rattle.st_prep.specs.Plan.{plan}
-use Rattle.st_exec.specs.Completion.{executed, guess}
-use Rattle.st_rows.specs.Asked.{Read, asked}
+use Rattle.st_exec.specs.Completion.{state_after_execution, guess}
+use Rattle.st_rows.specs.Asked.{Read, reads_of_entry}
 use Rattle.st_rows.specs.Notes.{IsLogged}
-use Rattle.st_rows.specs.Ranges.{AreDelays}
-use Rattle.st_rows.specs.Rows.{row, after, wanted_from}
+use Rattle.st_rows.specs.Ranges.{AreDelaysUpTo}
+use Rattle.st_rows.specs.Rows.{row_of_entry, front_after_entry, wanted_from}
 use Rattle.st_rows.specs.declared.entry.Entry.{Entry}
 use Rattle.st_rows.specs.declared.fetching.Fetching.{Fetching}
 use Rattle.st_rows.specs.declared.bus.Bus.{Bus}
@@ -216,47 +216,47 @@ module _ (ds : List ℕ) (n now : ℕ) (t : Option ℕ) (s u : Machine) (v : Loo
 -- the levels that are left
 levels-left : (ds : List ℕ) (n tick now : ℕ) (t : Option ℕ) (s : Machine) (f last : Front) (ring more : List Level) (plans rows : List Plan)
     → IsMachine s → IfSome t (λ i. i < 64) → 1 ≤ length ring → AreLevels ds n tick t s f last ring plans
-    → AreLevels ds n tick None (guess t s) (after ds n f (entry t s)) last more rows → All (λ level. level.p < now) ring
+    → AreLevels ds n tick None (guess t s) (front_after_entry ds n f (entry t s)) last more rows → All (λ level. level.p < now) ring
     → (length ring ≡ suc (length more)) × All (λ level. level.p < now) more
 unfolding AreLevels
 levels-left ds n tick now t s f last [] more plans rows m some one g h each = absurd (omega (arith, one))
 levels-left ds n tick now t s f last (level ∷ levels) more [] rows m some one g h each = absurd g
 levels-left ds n tick now t s f last (level ∷ levels) more (q ∷ qs) rows m some one g h each =
-    let same = same-count ds n tick tick None (guess t s) (after ds n f (entry t s)) last levels more qs rows (guess-machine t s m some) tt g.1 h in (
+    let same = same-count ds n tick tick None (guess t s) (front_after_entry ds n f (entry t s)) last levels more qs rows (guess-machine t s m some) tt g.1 h in (
       ap suc (sym same),
-      prepared-still ds n tick tick now None (guess t s) (after ds n f (entry t s)) last levels more qs rows g.1 h same
+      prepared-still ds n tick tick now None (guess t s) (front_after_entry ds n f (entry t s)) last levels more qs rows g.1 h same
           (All-tail (λ (x : Level). x.p < now) level levels each),
     )
 
 -- and it is not done before
 oldest-open : (ds : List ℕ) (n tick : ℕ) (t : Option ℕ) (s : Machine) (f last : Front) (ring : List Level) (plans : List Plan)
-    → 1 ≤ length ring → AreLevels ds n tick t s f last ring plans → All (λ q. tick < q.c) plans → tick < (row ds n f (entry t s)).c
+    → 1 ≤ length ring → AreLevels ds n tick t s f last ring plans → All (λ q. tick < q.c) plans → tick < (row_of_entry ds n f (entry t s)).c
 unfolding AreLevels
 oldest-open ds n tick t s f last [] plans one h each = absurd (omega (arith, one))
 oldest-open ds n tick t s f last (level ∷ levels) [] one h each = absurd h
 oldest-open ds n tick t s f last (level ∷ levels) (q ∷ qs) one h each =
-    let c : q.c ≡ (row ds n f (entry t s)).c = h.0.c in
+    let c : q.c ≡ (row_of_entry ds n f (entry t s)).c = h.0.c in
     let later : tick < q.c = All-head (λ (r : Plan). tick < r.c) q qs each in
     omega arith
 
 -- its reads are left behind, and noted before those that are left
-logged-behind : (ds : List ℕ) (n : ℕ) (f : Front) (e : Entry) (rest : List Read) (log : List Made) → IsLogged ds f.bus.free (asked ds n f e ++ rest) f.bus log
-    → IsLogged ds (after ds n f e).bus.free rest (after ds n f e).bus log
+logged-behind : (ds : List ℕ) (n : ℕ) (f : Front) (e : Entry) (rest : List Read) (log : List Made) → IsLogged ds f.bus.free (reads_of_entry ds n f e ++ rest) f.bus log
+    → IsLogged ds (front_after_entry ds n f e).bus.free rest (front_after_entry ds n f e).bus log
 logged-behind ds n f e rest log h =
     let bus = served-asked ds n f e in
-    let rises : f.bus.free ≤ (after ds n f e).bus.free = subst (λ (b : Bus). f.bus.free ≤ b.free) bus (free-served ds (asked ds n f e) f.bus) in
-    subst (λ (b : Bus). IsLogged ds (after ds n f e).bus.free rest b log) bus
-    (logs_go_on.left_behind ds (after ds n f e).bus.free (asked ds n f e) rest f.bus log (omega (arith, ap (λ (b : Bus). b.free) bus))
-    (logs_go_on.later ds f.bus.free (after ds n f e).bus.free (asked ds n f e ++ rest) f.bus log rises h))
+    let rises : f.bus.free ≤ (front_after_entry ds n f e).bus.free = subst (λ (b : Bus). f.bus.free ≤ b.free) bus (free-served ds (reads_of_entry ds n f e) f.bus) in
+    subst (λ (b : Bus). IsLogged ds (front_after_entry ds n f e).bus.free rest b log) bus
+    (logs_go_on.left_behind ds (front_after_entry ds n f e).bus.free (reads_of_entry ds n f e) rest f.bus log (omega (arith, ap (λ (b : Bus). b.free) bus))
+    (logs_go_on.later ds f.bus.free (front_after_entry ds n f e).bus.free (reads_of_entry ds n f e ++ rest) f.bus log rises h))
 
 asked-behind : (ds : List ℕ) (n k : ℕ) (t : Option ℕ) (s : Machine) (f : Front) (more : List Read)
-    → asked_ahead ds n (suc k) t s f ++ more ≡ asked ds n f (entry t s) ++ (asked_ahead ds n k None (guess t s) (after ds n f (entry t s)) ++ more)
+    → asked_ahead ds n (suc k) t s f ++ more ≡ reads_of_entry ds n f (entry t s) ++ (asked_ahead ds n k None (guess t s) (front_after_entry ds n f (entry t s)) ++ more)
 unfolding asked_ahead
 asked-behind ds n k t s f more =
-    append_assoc (asked ds n f (entry t s)) (asked_ahead ds n k None (guess t s) (after ds n f (entry t s))) more
+    append_assoc (reads_of_entry ds n f (entry t s)) (asked_ahead ds n k None (guess t s) (front_after_entry ds n f (entry t s))) more
 
-after-serial : (ds : List ℕ) (n : ℕ) (t : Option ℕ) (s : Machine) (f : Front) → (after ds n f (entry t s)).serial ≡ (plan s t).serial
-unfolding after entry
+after-serial : (ds : List ℕ) (n : ℕ) (t : Option ℕ) (s : Machine) (f : Front) → (front_after_entry ds n f (entry t s)).serial ≡ (plan s t).serial
+unfolding front_after_entry entry
 after-serial ds n t s f = refl
 
 front-left : (ds : List ℕ) (n : ℕ) (k : ℕ) (t : Option ℕ) (s : Machine) (f last : Front) → k ≡ 0 → last ≡ front_behind ds n k t s f → last ≡ f
@@ -265,14 +265,14 @@ front-left ds n zero t s f last none_left h = h
 front-left ds n (suc k) t s f last none_left h = absurd (omega (arith, none_left))
 
 pub look-done : (ds : List ℕ) (n tick now : ℕ) (t : Option ℕ) (s u : Machine) (f : Front) (v : LookView) (levels : LevelsView) (b : Bool)
-    → AreDelays 255 ds → IsOutlook ds n tick now t s f v → 1 ≤ count v → (row ds n f (entry t s)).c ≡ now
-    → AreAhead ds n tick None (guess t s) (after ds n f (entry t s)) v.front levels
-    → b ≡ is_alone v levels → u ≡ executed t s
-    → IsOutlook ds n tick now None (guess t s) (after ds n f (entry t s)) (record v { levels = levels; next = next_behind u v b })
+    → AreDelaysUpTo 255 ds → IsOutlook ds n tick now t s f v → 1 ≤ count v → (row_of_entry ds n f (entry t s)).c ≡ now
+    → AreAhead ds n tick None (guess t s) (front_after_entry ds n f (entry t s)) v.front levels
+    → b ≡ is_alone v levels → u ≡ state_after_execution t s
+    → IsOutlook ds n tick now None (guess t s) (front_after_entry ds n f (entry t s)) (record v { levels = levels; next = next_behind u v b })
 look-done ds n tick now t s u f v levels b are h some due ahead e done =
     let entry_ = entry t s in
     let s' = guess t s in
-    let f' = after ds n f entry_ in
+    let f' = front_after_entry ds n f entry_ in
     let range = entry-ranges t s h.machine h.indicator in
     let machine = guess-machine t s h.machine h.indicator in
     let tight = tight-after 255 ds are n f entry_ range h.oldest in
@@ -280,7 +280,7 @@ look-done ds n tick now t s u f v levels b are h some due ahead e done =
     let left = levels-left ds n tick now t s f v.front v.levels.ring levels.ring v.levels.plans levels.plans h.machine h.indicator some
     h.ahead.levels ahead.levels h.prepared in
     let last : v.front ≡ front_behind ds n (length levels.ring) None s' f' = levels-front ds n tick None s' f' v.front levels.ring levels.plans ahead.levels in
-    let late : now < (row ds n f' (entry None s')).c = omega (arith, c, done-later ds n None s' f' machine tt) in
+    let late : now < (row_of_entry ds n f' (entry None s')).c = omega (arith, c, done-later ds n None s' f' machine tt) in
     let later = oldest-open ds n tick t s f v.front v.levels.ring v.levels.plans some h.ahead.levels h.not_done in
     let reads : List Read = reads_so_far ds v.front v.next in
     let log : IsLogged ds f.bus.free (asked_ahead ds n (suc (length levels.ring)) t s f ++ reads) f.bus v.log =
@@ -309,11 +309,11 @@ look-done ds n tick now t s u f v levels b are h some due ahead e done =
 
 -- the same where it is seen through the whole, and whatever is said of whether the next entry is behind one that is done alone
 pub all-done : (ds : List ℕ) (n tick now : ℕ) (t : Option ℕ) (s u : Machine) (f : Front) (v old : LookView) (levels : LevelsView) (b : Bool)
-    → v ≡ old → AreDelays 255 ds → IsOutlook ds n tick now t s f old → 0 < count old → (row ds n f (entry t s)).c ≡ now
-    → AreAhead ds n tick None (guess t s) (after ds n f (entry t s)) v.front levels
-    → is_alone v levels ≡ b → u ≡ executed t s
+    → v ≡ old → AreDelaysUpTo 255 ds → IsOutlook ds n tick now t s f old → 0 < count old → (row_of_entry ds n f (entry t s)).c ≡ now
+    → AreAhead ds n tick None (guess t s) (front_after_entry ds n f (entry t s)) v.front levels
+    → is_alone v levels ≡ b → u ≡ state_after_execution t s
     → let w = record v { levels = levels; next = next_behind u v b } in
-    IsOutlook ds n tick now None (guess t s) (after ds n f (entry t s)) w × (w.log ≡ old.log) × (w.next.words ≡ old.next.words)
+    IsOutlook ds n tick now None (guess t s) (front_after_entry ds n f (entry t s)) w × (w.log ≡ old.log) × (w.next.words ≡ old.next.words)
 all-done ds n tick now t s u f v old levels b is are h some due ahead e done = (
   look-done ds n tick now t s u f v levels b are (subst (λ (w : LookView). IsOutlook ds n tick now t s f w) (sym is) h)
       (subst (λ (w : LookView). 1 ≤ count w) (sym is) some) due ahead (sym e) done,

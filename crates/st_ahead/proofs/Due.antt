@@ -6,11 +6,11 @@ use Rattle.std.proofs.lemmas.List.Elements.{All-head}
 use Rattle.st_state.specs.Machine.{Machine}
 use Rattle.st_exec.specs.Completion.{guess}
 use Rattle.st_rows.specs.Asked.{fetches_asked, side_asked, formed_asked}
-use Rattle.st_rows.specs.Entries.{no_words}
-use Rattle.st_rows.specs.Ranges.{AreDelays, IsEntry}
-use Rattle.st_rows.specs.Rows.{row, after, prepared, addressed, done_before, tick_a, bus_a, tick_p, tick_c}
+use Rattle.st_rows.specs.Entries.{no_runs}
+use Rattle.st_rows.specs.Ranges.{AreDelaysUpTo, IsEntryInTime}
+use Rattle.st_rows.specs.Rows.{row_of_entry, front_after_entry, preparation_tick, address_tick, done_before, tick_a, bus_a, tick_p, tick_c}
 use Rattle.st_rows.specs.declared.entry.Entry.{Entry}
-use Rattle.st_rows.specs.declared.entry.Run.{Run}
+use Rattle.st_rows.specs.declared.entry.WordRun.{WordRun}
 use Rattle.st_rows.specs.declared.front.Front.{Front}
 use Rattle.st_rows.specs.declared.past.Past.{Past}
 use Rattle.st_rows.proofs.MadeLemmas.{before-cases}
@@ -22,7 +22,7 @@ use Rattle.st_segment.proofs.EntryRanges.{entry-ranges}
 use Rattle.st_segment.proofs.GuessLemmas.{behind-indicator}
 use Rattle.st_levels.specs.Levels.{AreLevels}
 use Rattle.st_levels.specs.declared.plans.Plan.{Plan}
-use Rattle.st_next.specs.Known.{IsBefore}
+use Rattle.st_next.specs.Known.{IsStateBefore}
 use Rattle.st_next.specs.Words.{asked_so_far}
 use Rattle.st_next.specs.Progress.{IsPlanned, IsPlannedIf, reads_so_far}
 use Rattle.st_next.specs.declared.next.Next.{Next}
@@ -32,28 +32,28 @@ use Rattle.st_ahead.proofs.Further.{going-late, next-known}
 
 -- ---- the ticks of a row
 
-pub done-behind : (ds : List ℕ) (n : ℕ) (f : Front) (e : Entry) → IsEntry e → f.c < (row ds n f e).c
-unfolding row tick_c
+pub done-behind : (ds : List ℕ) (n : ℕ) (f : Front) (e : Entry) → IsEntryInTime e → f.c < (row_of_entry ds n f e).c
+unfolding row_of_entry tick_c
 done-behind ds n f e range = omega (arith, range.costs.0)
 
 alone-behind : (ds : List ℕ) (n : ℕ) (f : Front) (e : Entry) → e.serial ≡ true → f.c < tick_p ds n f e
-unfolding tick_p prepared tick_a addressed
+unfolding tick_p preparation_tick tick_a address_tick
 alone-behind ds n f e alone = rw alone (omega arith)
 
 levels-behind : (ds : List ℕ) (n : ℕ) (f : Front) (e : Entry) → done_before n f.past < tick_p ds n f e
-unfolding tick_p prepared
+unfolding tick_p preparation_tick
 levels-behind ds n f e = omega arith
 
 pub front-before : (ds : List ℕ) (n : ℕ) (f : Front) (e : Entry) → f.p < tick_p ds n f e
-unfolding tick_p prepared tick_a addressed
+unfolding tick_p preparation_tick tick_a address_tick
 front-before ds n f e = omega arith
 
-pub row-p : (ds : List ℕ) (n : ℕ) (f : Front) (e : Entry) → (row ds n f e).p ≡ tick_p ds n f e
-unfolding row
+pub row-p : (ds : List ℕ) (n : ℕ) (f : Front) (e : Entry) → (row_of_entry ds n f e).p ≡ tick_p ds n f e
+unfolding row_of_entry
 row-p ds n f e = refl
 
-pub after-p : (ds : List ℕ) (n : ℕ) (f : Front) (e : Entry) → (after ds n f e).p ≡ tick_p ds n f e
-unfolding after
+pub after-p : (ds : List ℕ) (n : ℕ) (f : Front) (e : Entry) → (front_after_entry ds n f e).p ≡ tick_p ds n f e
+unfolding front_after_entry
 after-p ds n f e = refl
 
 -- ---- what the last front keeps of the levels
@@ -62,7 +62,7 @@ module _ (ds : List ℕ) (n tick : ℕ) where
   -- an older entry lies behind all levels
   past-behind : (j : ℕ) (d : Past) (t : Option ℕ) (s : Machine) (f last : Front) (ring : List Level) (plans : List Plan)
       → AreLevels ds n tick t s f last ring plans → length ring + j < 8 → get_or last.past (length ring + j) d ≡ get_or f.past j d
-  unfolding AreLevels after
+  unfolding AreLevels front_after_entry
   past-behind j d t s f last [] [] h few =
       let place : length {A = Level} [] + j ≡ j = omega arith in
       ap (λ i. get_or last.past i d) place ∙ ap (λ (g : Front). get_or g.past j d) h
@@ -71,22 +71,22 @@ module _ (ds : List ℕ) (n tick : ℕ) where
   past-behind j d t s f last (level ∷ levels) (q ∷ qs) h few =
       let place : suc (length levels) + j ≡ length levels + suc j = omega arith in
       ap (λ i. get_or last.past i d) place
-      ∙ past-behind (suc j) d None (guess t s) (after ds n f (entry t s)) last levels qs h.1 (omega arith)
+      ∙ past-behind (suc j) d None (guess t s) (front_after_entry ds n f (entry t s)) last levels qs h.1 (omega arith)
       ∙ get_or-take 7 f.past j d (omega arith)
 
   -- the oldest of n levels is the entry n before the next one
   pub full-behind : (now : ℕ) (t : Option ℕ) (s : Machine) (f last : Front) (ring : List Level) (plans : List Plan)
       → AreLevels ds n tick t s f last ring plans → All (λ q. now < q.c) plans → 1 ≤ n → n ≤ 8 → length ring ≡ n → now < done_before n last.past
-  unfolding AreLevels after row
+  unfolding AreLevels front_after_entry row_of_entry
   full-behind now t s f last [] plans h late some most full = let no : ⊥ = omega (arith, some, full) in absurd no
   full-behind now t s f last (level ∷ levels) [] h late some most full = absurd h
   full-behind now t s f last (level ∷ levels) (q ∷ qs) h late some most full =
-      let none : Past = record { c = 0; writes = no_words } in
+      let none : Past = record { c = 0; writes = no_runs } in
       let e = entry t s in
       let here : now < q.c = All-head (λ (x : Plan). now < x.c) q qs late in
       let is : q.c ≡ tick_c ds n f e = h.0.c in
       let place : n - 1 ≡ length levels + 0 = omega (arith, full) in
-      let kept = past-behind 0 none None (guess t s) (after ds n f e) last levels qs h.1 (omega (arith, full, most)) in
+      let kept = past-behind 0 none None (guess t s) (front_after_entry ds n f e) last levels qs h.1 (omega (arith, full, most)) in
       let c : done_before n last.past ≡ tick_c ds n f e = ap (λ i. (get_or last.past i none).c) place ∙ ap (λ (x : Past). x.c) kept in
       omega (arith, here, is, c)
 
@@ -101,7 +101,7 @@ pub reads-formed : (ds : List ℕ) (n : ℕ) (k : Option ℕ) (u : Machine) (f :
 reads-formed ds n k u f next is planned =
     let e = entry k u in
     let fetches : asked_so_far ds f next.own next.target ≡ fetches_asked ds f e =
-    ap₂ (λ (a b : Run). asked_so_far ds f a b) is.all.own is.all.target ∙ formed-fetches ds f e in
+    ap₂ (λ (a b : WordRun). asked_so_far ds f a b) is.all.own is.all.target ∙ formed-fetches ds f e in
     let sides : (if next.planned then side_asked f.past next.entry.side next.formed.a else []) ≡ side_asked f.past e.side (tick_a ds f e) =
     ap (λ b. if b then side_asked f.past next.entry.side next.formed.a else []) planned
     ∙ ap₂ (λ (x : Entry) (a : ℕ). side_asked f.past x.side a) is.entry is.address in
@@ -119,9 +119,9 @@ unfolding guesses
 none-guessed zero t s none = refl
 none-guessed (suc k) t s none = absurd (cc none)
 
-pub becomes-level : (ds : List ℕ) (n now : ℕ) (t : Option ℕ) (s : Machine) (f : Front) (v : LookView) → 1 ≤ n → n ≤ 8 → AreDelays 255 ds
+pub becomes-level : (ds : List ℕ) (n now : ℕ) (t : Option ℕ) (s : Machine) (f : Front) (v : LookView) → 1 ≤ n → n ≤ 8 → AreDelaysUpTo 255 ds
     → count v ≤ n → now < 2 ^ 63 → IsGoing ds n now (now + 1) t s f v → v.next.planned ≡ true → v.next.formed.p ≡ now
-    → RunAhead (count v) t s → IsBefore now v.front.past v.levels.x s (guesses (count v) t s) → BecomesLevel ds n now t s f v
+    → RunAhead (count v) t s → IsStateBefore now v.front.past v.levels.x s (guesses (count v) t s) → BecomesLevel ds n now t s f v
 becomes-level ds n now t s f v some most are few early is planned due run before =
     let k = table_behind (count v) t in
     let u = guesses (count v) t s in
@@ -130,7 +130,7 @@ becomes-level ds n now t s f v some most are few early is planned due run before
     let next = (next-known ds n now (now + 1) t s f v is opened).0 in
     let all : IsPlanned ds n k u v.front v.next = subst (λ (b : Bool). IsPlannedIf b ds n k u v.front v.next) planned next.planned in
     let indicator = behind-indicator (count v) t is.indicator in
-    let range : IsEntry e = entry-ranges k u before.machine indicator in
+    let range : IsEntryInTime e = entry-ranges k u before.machine indicator in
     let p : tick_p ds n v.front e ≡ now = sym all.tick ∙ due in
     let late : 1 ≤ count v → now < v.front.c = going-late ds n now (now + 1) (λ g x r. done-behind ds n g x r) t s f v is in
     record {
@@ -139,7 +139,7 @@ becomes-level ds n now t s f v some most are few early is planned due run before
       is_next = next;
       indicator = indicator;
       same = all.entry;
-      range = subst (λ (x : Entry). IsEntry x) (sym all.entry) range;
+      range = subst (λ (x : Entry). IsEntryInTime x) (sym all.entry) range;
       address = all.address ∙ ap (tick_a ds v.front) (sym all.entry);
       bus = all.bus ∙ ap (bus_a ds v.front) (sym all.entry);
       tick = all.tick ∙ ap (tick_p ds n v.front) (sym all.entry);

@@ -3,10 +3,10 @@ use Rattle.std.specs.Prelude.{All, if◌then◌else◌, ◌==◌, ◌-◌, ◌^�
 use Rattle.std.proofs.Common.{◌≡◌, ℕ, zero, suc, ◌<◌, ◌≤◌, ◌||◌, max, Bool, true, false, not, List, [], ◌∷◌, ◌++◌, append_assoc, length, Option, refl, sym, subst, ◌∙◌, ap, arith}
 use Rattle.std.proofs.lemmas.List.Elements.{All-head}
 use Rattle.st_state.specs.Machine.{Machine}
-use Rattle.st_rows.specs.Asked.{Read, served}
-use Rattle.st_rows.specs.Notes.{noted, IsLogged}
-use Rattle.st_rows.specs.Ranges.{IsEntry}
-use Rattle.st_rows.specs.Rows.{row, tick_a}
+use Rattle.st_rows.specs.Asked.{Read, bus_after_reads}
+use Rattle.st_rows.specs.Notes.{log_after_reads, IsLogged}
+use Rattle.st_rows.specs.Ranges.{IsEntryInTime}
+use Rattle.st_rows.specs.Rows.{row_of_entry, tick_a}
 use Rattle.st_rows.specs.declared.bus.Bus.{Bus}
 use Rattle.st_rows.specs.declared.entry.Entry.{Entry}
 use Rattle.st_rows.specs.declared.fetching.Fetching.{Fetching}
@@ -23,8 +23,8 @@ use Rattle.st_levels.specs.Levels.{AreAhead}
 use Rattle.st_levels.specs.declared.plans.Plan.{Plan}
 use Rattle.st_levels.proofs.LevelLemmas.{levels-beside}
 use Rattle.st_levels.proofs.OrderLemmas.{done-order}
-use Rattle.st_next.specs.Known.{IsBefore}
-use Rattle.st_next.specs.Going.{IsFront, GoesOn, IsReadFurther}
+use Rattle.st_next.specs.Known.{IsStateBefore}
+use Rattle.st_next.specs.Going.{IsFrontInTime, GoesOnTo, IsReadFurther}
 use Rattle.st_next.specs.Progress.{IsNext, IsPlanned, IsKnown, Rests, Planned, Waits, Target, reads_so_far}
 use Rattle.st_next.specs.declared.next.Next.{Next}
 use Rattle.st_next.proofs.Resting.{address-late}
@@ -127,7 +127,7 @@ youngest-late now f last (q ∷ qs) late order some =
     let before : (f.c < q.c) × (q.c ≤ last.c) = All-head (λ (x : Plan). (f.c < x.c) × (x.c ≤ last.c)) q qs order in
     omega (arith, before.1)
 
-pub going-late : (ds : List ℕ) (n now rest : ℕ) → ((g : Front) (e : Entry) → IsEntry e → g.c < (row ds n g e).c)
+pub going-late : (ds : List ℕ) (n now rest : ℕ) → ((g : Front) (e : Entry) → IsEntryInTime e → g.c < (row_of_entry ds n g e).c)
     → (t : Option ℕ) (s : Machine) (f : Front) (v : LookView) → IsGoing ds n now rest t s f v → 1 ≤ count v → now < v.front.c
 going-late ds n now rest later t s f v is some =
     let beside = levels-beside ds n now t s f v.front v.levels.ring v.levels.plans is.ahead.levels in
@@ -140,7 +140,7 @@ pub next-known : (ds : List ℕ) (n now rest : ℕ) (t : Option ℕ) (s : Machin
 next-known ds n now rest t s f v is opened = subst (λ (b : Bool). IsNextIf b ds n rest t s v) opened is.next
 
 pub known : (ds : List ℕ) (n now rest done : ℕ) (t : Option ℕ) (s : Machine) (f : Front) (v : LookView) → IsGoing ds n now rest t s f v
-    → is_open v ≡ true → IsBefore done v.front.past v.levels.x s (guesses (count v) t s)
+    → is_open v ≡ true → IsStateBefore done v.front.past v.levels.x s (guesses (count v) t s)
     → IsKnown ds n done v.front v.levels.x s v.next
 known ds n now rest done t s f v is opened before = record {
   table = table_behind (count v) t;
@@ -151,7 +151,7 @@ known ds n now rest done t s f v is opened before = record {
 }
 
 pub going-front : (ds : List ℕ) (n now rest : ℕ) (t : Option ℕ) (s : Machine) (f : Front) (v : LookView) → IsGoing ds n now rest t s f v
-    → 1 ≤ n → n ≤ 8 → count v ≤ n → now < 2 ^ 63 → IsFront n v.front
+    → 1 ≤ n → n ≤ 8 → count v ≤ n → now < 2 ^ 63 → IsFrontInTime n v.front
 going-front ds n now rest t s f v is some most few early = record {
   some = some;
   most = most;
@@ -162,35 +162,35 @@ going-front ds n now rest t s f v is some most few early = record {
 -- ---- the bus behind all reads is that of the next entry's words
 
 bus-next : (b : Bool) (ds : List ℕ) (n now : ℕ) (t : Option ℕ) (s : Machine) (v : LookView) → IsNextIf b ds n now t s v
-    → served ds (reads_so_far ds v.front v.next) v.front.bus ≡ v.next.words.bus
-unfolding served
+    → bus_after_reads ds (reads_so_far ds v.front v.next) v.front.bus ≡ v.next.words.bus
+unfolding bus_after_reads
 bus-next true ds n now t s v is = served-so-far ds n (table_behind (count v) t) (guesses (count v) t s) v.front v.next is.0
 bus-next false ds n now t s v is =
-    ap (λ reads. served ds reads v.front.bus) (new-reads ds v.front v.next is.1 is.2 is.0) ∙ ap (λ (w : Fetching). w.bus) (sym is.3)
+    ap (λ reads. bus_after_reads ds reads v.front.bus) (new-reads ds v.front v.next is.1 is.2 is.0) ∙ ap (λ (w : Fetching). w.bus) (sym is.3)
 
 pub bus-ahead : (ds : List ℕ) (n tick now : ℕ) (t : Option ℕ) (s : Machine) (f : Front) (v : LookView) → IsNextIf (is_open v) ds n now t s v
-    → AreAhead ds n tick t s f v.front v.levels → served ds (reads_ahead ds n t s f v) f.bus ≡ v.next.words.bus
+    → AreAhead ds n tick t s f v.front v.levels → bus_after_reads ds (reads_ahead ds n t s f v) f.bus ≡ v.next.words.bus
 bus-ahead ds n tick now t s f v is ahead =
     served-append ds (asked_ahead ds n (count v) t s f) (reads_so_far ds v.front v.next) f.bus
-    ∙ ap (served ds (reads_so_far ds v.front v.next)) (served-ahead ds n tick t s f v.front v.levels.ring v.levels.plans ahead.levels)
+    ∙ ap (bus_after_reads ds (reads_so_far ds v.front v.next)) (served-ahead ds n tick t s f v.front v.levels.ring v.levels.plans ahead.levels)
     ∙ bus-next (is_open v) ds n now t s v is
 
 -- more reads are noted
 pub logged-more : (ds : List ℕ) (now : ℕ) (before so_far after added : List Read) (b d : Bus) (log new : List Made)
-    → after ≡ so_far ++ added → served ds (before ++ so_far) b ≡ d → new ≡ noted ds added d log
+    → after ≡ so_far ++ added → bus_after_reads ds (before ++ so_far) b ≡ d → new ≡ log_after_reads ds added d log
     → IsLogged ds now (before ++ so_far) b log → IsLogged ds now (before ++ after) b new
 logged-more ds now before so_far after added b d log new is bus kept h =
     let list : (before ++ so_far) ++ added ≡ before ++ after = append_assoc before so_far added ∙ ap (λ l. before ++ l) (sym is) in
-    let notes : noted ds added (served ds (before ++ so_far) b) log ≡ new = ap (λ (x : Bus). noted ds added x log) bus ∙ sym kept in
+    let notes : log_after_reads ds added (bus_after_reads ds (before ++ so_far) b) log ≡ new = ap (λ (x : Bus). log_after_reads ds added x log) bus ∙ sym kept in
     subst (λ (l : List Made). IsLogged ds now (before ++ after) b l) notes
-    (subst (λ (l : List Read). IsLogged ds now l b (noted ds added (served ds (before ++ so_far) b) log)) list
+    (subst (λ (l : List Read). IsLogged ds now l b (log_after_reads ds added (bus_after_reads ds (before ++ so_far) b) log)) list
     (logged-noted ds now (before ++ so_far) added b log h))
 
 -- ---- it is known further
 
 pub known-further : (ds : List ℕ) (n now later : ℕ) (t : Option ℕ) (s : Machine) (f : Front) (v : LookView) (next : Next) (log : List Made)
-    → is_open v ≡ true → v.next.planned ≡ false → IsBefore (later - 1) v.front.past v.levels.x s (guesses (count v) t s)
-    → GoesOn ds n (later - 1) v.front v.levels.x s v.next next later → IsReadFurther ds v.front v.next next v.log log
+    → is_open v ≡ true → v.next.planned ≡ false → IsStateBefore (later - 1) v.front.past v.levels.x s (guesses (count v) t s)
+    → GoesOnTo ds n (later - 1) v.front v.levels.x s v.next next later → IsReadFurther ds v.front v.next next v.log log
     → IsGoing ds n now now t s f v
     → IsGoing ds n now later t s f (record { levels = v.levels; front = v.front; log = log; next = next })
 known-further ds n now later t s f v next log opened un before goes more is =

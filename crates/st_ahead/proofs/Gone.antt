@@ -5,8 +5,8 @@ use Rattle.std.specs.Option.{IfSome}
 use Rattle.std.proofs.lemmas.Bool.{leb-true, leb-false}
 use Rattle.std.proofs.lemmas.List.Elements.{All-nil, All-head, All-weaker}
 use Rattle.st_state.specs.Machine.{Machine, IsMachine}
-use Rattle.st_rows.specs.Ranges.{AreDelays}
-use Rattle.st_rows.specs.Rows.{row}
+use Rattle.st_rows.specs.Ranges.{AreDelaysUpTo}
+use Rattle.st_rows.specs.Rows.{row_of_entry}
 use Rattle.st_rows.specs.declared.front.Front.{Front}
 use Rattle.st_ring.specs.declared.level.Level.{Level}
 use Rattle.st_segment.specs.Entries.{entry}
@@ -37,12 +37,12 @@ module _ (ds : List ℕ) (n tick : ℕ) where
   before-due now t s f last ring [] m some h late = All-nil (λ (q : Plan). now < q.c)
   before-due now t s f last [] (q ∷ qs) m some h late = absurd h
   before-due now t s f last (level ∷ levels) (q ∷ qs) m some h late =
-      let c : q.c ≡ (row ds n f (entry t s)).c = h.0.c in
+      let c : q.c ≡ (row_of_entry ds n f (entry t s)).c = h.0.c in
       let first : now < q.c = late in
       done-after ds n tick now t s f last (level ∷ levels) (q ∷ qs) m some h (omega arith)
 
   pub due-row : (t : Option ℕ) (s : Machine) (f last : Front) (ring : List Level) (plans : List Plan)
-      → AreLevels ds n tick t s f last ring plans → 1 ≤ length ring → due_of plans ≡ (row ds n f (entry t s)).c
+      → AreLevels ds n tick t s f last ring plans → 1 ≤ length ring → due_of plans ≡ (row_of_entry ds n f (entry t s)).c
   unfolding AreLevels
   due-row t s f last [] plans h some = absurd (omega (arith, some))
   due-row t s f last (level ∷ levels) [] h some = absurd h
@@ -168,7 +168,7 @@ gone-by false ds n since tick last due t s f v e behind soon early is_due waits 
     gone-far ds n since tick last due t s f v soon is_due (leb-false due last e) waits is
 
 -- where it was not done by then, all ticks up to `last` are passed
-pub gone-on : (o : Option ℕ) (ds : List ℕ) (n since last : ℕ) (t : Option ℕ) (s : Machine) (f : Front) (v : LookView) → last < (row ds n f (entry t s)).c
+pub gone-on : (o : Option ℕ) (ds : List ℕ) (n since last : ℕ) (t : Option ℕ) (s : Machine) (f : Front) (v : LookView) → last < (row_of_entry ds n f (entry t s)).c
     → HasGone ds n since last t s f v o → IsOutlook ds n last (last + 1) t s f v
 gone-on None ds n since last t s f v late h = h
 gone-on (Some due) ds n since last t s f v late h = absurd (omega (arith, late, h.soon, h.row_is))
@@ -194,17 +194,17 @@ outlook-of ds n tick now t s f v is = record {
 
 -- ---- the oldest entry is done later
 
-oldest-by : (ds : List ℕ) (n tick now k : ℕ) (t : Option ℕ) (s : Machine) (f : Front) (v : LookView) → count v ≡ k → 1 ≤ n → AreDelays 255 ds → tick ≤ now
-    → IsLook ds n tick now t s f v → prepared_before now (ahead ds n n t s f) ≡ ahead ds n (count v) t s f → tick < (row ds n f (entry t s)).c
+oldest-by : (ds : List ℕ) (n tick now k : ℕ) (t : Option ℕ) (s : Machine) (f : Front) (v : LookView) → count v ≡ k → 1 ≤ n → AreDelaysUpTo 255 ds → tick ≤ now
+    → IsLook ds n tick now t s f v → prepared_before now (ahead ds n n t s f) ≡ ahead ds n (count v) t s f → tick < (row_of_entry ds n f (entry t s)).c
 oldest-by ds n tick now zero t s f v none some are soon is levels =
     let p = none-prepared ds n n (count v) now t s f some none levels in
     omega (arith, p, soon, cases.done-behind ds n f (entry t s) are (entry-ranges t s is.machine is.indicator) is.oldest)
 oldest-by ds n tick now (suc k) t s f v one some are soon is levels =
-    due-late ds n tick t s f v.front v.levels.ring v.levels.plans is.ahead.levels is.not_done (omega (arith, one)) (row ds n f (entry t s)).c
+    due-late ds n tick t s f v.front v.levels.ring v.levels.plans is.ahead.levels is.not_done (omega (arith, one)) (row_of_entry ds n f (entry t s)).c
     (sym (due-row ds n tick t s f v.front v.levels.ring v.levels.plans is.ahead.levels (omega (arith, one))))
 
-pub oldest-late : (ds : List ℕ) (n tick now : ℕ) (t : Option ℕ) (s : Machine) (f : Front) (v : LookView) → 1 ≤ n → AreDelays 255 ds → tick ≤ now
-    → IsLook ds n tick now t s f v → prepared_before now (ahead ds n n t s f) ≡ ahead ds n (count v) t s f → tick < (row ds n f (entry t s)).c
+pub oldest-late : (ds : List ℕ) (n tick now : ℕ) (t : Option ℕ) (s : Machine) (f : Front) (v : LookView) → 1 ≤ n → AreDelaysUpTo 255 ds → tick ≤ now
+    → IsLook ds n tick now t s f v → prepared_before now (ahead ds n n t s f) ≡ ahead ds n (count v) t s f → tick < (row_of_entry ds n f (entry t s)).c
 oldest-late ds n tick now t s f v some are soon is levels = oldest-by ds n tick now (count v) t s f v refl some are soon is levels
 
 -- ---- no entry becomes a level at a tick

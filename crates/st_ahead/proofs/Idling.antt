@@ -5,11 +5,11 @@ use Rattle.std.proofs.lemmas.Bool.{ne_eqb}
 use Rattle.std.proofs.lemmas.Bool.Decides.{nat_tests}
 use Rattle.st_state.specs.Machine.{Machine}
 use Rattle.st_exec.specs.Step.{interrupt, rests}
-use Rattle.st_rows.specs.Rows.{row}
+use Rattle.st_rows.specs.Rows.{row_of_entry}
 use Rattle.st_rows.specs.declared.front.Front.{Front}
 use Rattle.st_segment.specs.Entries.{entry}
-use Rattle.st_ahead.specs.Overlap.{Overlap, seen, oldest_row, interrupt_due}
-use Rattle.st_ahead.specs.Calls.{is_done, completed, ticked, passed, settled_by, answer_by, settled, answer}
+use Rattle.st_ahead.specs.Overlap.{Overlap, state_ahead, oldest_row, interrupt_due}
+use Rattle.st_ahead.specs.Calls.{is_done, machine_after_completion, machine_after_tick, machine_after_pass, settled_by, answer_by, machine_after_settling, answer}
 use Rattle.st_ahead.specs.RunTo.{after_ticks, may_come, IsPassed, ArePassed}
 use Rattle.st_ahead.specs.declared.events.Settled.TheVariants.{Goes}
 use Rattle.st_ahead.proofs.Standing.{overlap, left_over}
@@ -23,32 +23,32 @@ passed-none count m = record { each = λ i before. absurd (omega (arith, before)
 -- ---- a machine between two ticks, of which no interrupt is due and which is not at rest
 
 module _ (ds : List ℕ) (n : ℕ) (s : Machine) (t : Option ℕ) (f : Front) (due : (if is_none t then interrupt s else None) ≡ None) (awake : rests s ≡ false) where
-  abbrev calm : ℕ → Overlap
-  calm now = overlap false ds n s t None f now false false None
+  abbrev hazard_free : ℕ → Overlap
+  hazard_free now = overlap false ds n s t None f now false false None
 
-  not-done : (now : ℕ) → now < (row ds n f (entry t s)).c → is_done (calm now) ≡ false
-  unfolding seen oldest_row
-  not-done now late = ne_eqb (row ds n f (entry t s)).c now (λ e. absurd (omega (arith, e)))
+  not-done : (now : ℕ) → now < (row_of_entry ds n f (entry t s)).c → is_done (hazard_free now) ≡ false
+  unfolding state_ahead oldest_row
+  not-done now late = ne_eqb (row_of_entry ds n f (entry t s)).c now (λ e. absurd (omega (arith, e)))
 
-  goes-on : (now : ℕ) → now < (row ds n f (entry t s)).c → answer (ticked (calm now)) ≡ Goes
-  unfolding ticked answer
+  goes-on : (now : ℕ) → now < (row_of_entry ds n f (entry t s)).c → answer (machine_after_tick (hazard_free now)) ≡ Goes
+  unfolding machine_after_tick answer
   goes-on now late = rw (not-done now late, due, awake) refl
 
-  next-tick : (now : ℕ) → now < (row ds n f (entry t s)).c → settled (ticked (calm now)) ≡ calm (now + 1)
-  unfolding ticked settled
+  next-tick : (now : ℕ) → now < (row_of_entry ds n f (entry t s)).c → machine_after_settling (machine_after_tick (hazard_free now)) ≡ hazard_free (now + 1)
+  unfolding machine_after_tick machine_after_settling
   next-tick now late = rw (not-done now late, due, awake) refl
 
-  idle-tick : (now : ℕ) → now < (row ds n f (entry t s)).c → IsPassed 0 (calm now)
+  idle-tick : (now : ℕ) → now < (row_of_entry ds n f (entry t s)).c → IsPassed 0 (hazard_free now)
   idle-tick now late = record { goes = goes-on now late; nothing = λ done. absurd (cc (sym (not-done now late) ∙ done)) }
 
-  after-idle : (k now : ℕ) → now + k ≤ (row ds n f (entry t s)).c → after_ticks k (calm now) ≡ calm (now + k)
+  after-idle : (k now : ℕ) → now + k ≤ (row_of_entry ds n f (entry t s)).c → after_ticks k (hazard_free now) ≡ hazard_free (now + k)
   unfolding after_ticks
-  after-idle zero now late = let same : now ≡ now + 0 = omega arith in ap calm same
+  after-idle zero now late = let same : now ≡ now + 0 = omega arith in ap hazard_free same
   after-idle (suc k) now late =
       let same : now + 1 + k ≡ now + suc k = omega arith in
-      ap (after_ticks k) (next-tick now (omega arith)) ∙ after-idle k (now + 1) (omega arith) ∙ ap calm same
+      ap (after_ticks k) (next-tick now (omega arith)) ∙ after-idle k (now + 1) (omega arith) ∙ ap hazard_free same
 
-  pub are-idle : (k now : ℕ) → now + k ≤ (row ds n f (entry t s)).c → ArePassed 0 k (calm now) (calm (now + k))
+  pub are-idle : (k now : ℕ) → now + k ≤ (row_of_entry ds n f (entry t s)).c → ArePassed 0 k (hazard_free now) (hazard_free (now + k))
   are-idle k now late = record {
     each =
         λ i before. subst (IsPassed 0) (sym (after-idle i now (omega (arith, before)))) (idle-tick (now + i) (omega (arith, before)));
@@ -58,19 +58,19 @@ module _ (ds : List ℕ) (n : ℕ) (s : Machine) (t : Option ℕ) (f : Front) (d
 -- ---- what idle ticks leave of any machine
 
 goes-by : (due : Option ℕ) (at_rest : Bool) (behind : Option ℕ) (m : Overlap) → answer_by due at_rest behind m ≡ Goes
-    → settled_by due at_rest behind m ≡ passed m
+    → settled_by due at_rest behind m ≡ machine_after_pass m
 goes-by (Some i) at_rest behind m e = absurd (cc e)
 goes-by None true behind m e = absurd (cc e)
 goes-by None false (Some h) m e = absurd (cc e)
 goes-by None false None m e = refl
 
-pub goes-passed : (m : Overlap) → answer m ≡ Goes → settled m ≡ passed m
-unfolding answer settled
+pub goes-passed : (m : Overlap) → answer m ≡ Goes → machine_after_settling m ≡ machine_after_pass m
+unfolding answer machine_after_settling
 goes-passed m e = goes-by (interrupt_due m) (rests m.state) m.behind m e
 
-pub late-ticked : (m : Overlap) → is_done m ≡ false → ticked m ≡ record m { owed = true; closing = None }
-unfolding ticked
-late-ticked m e = left_over (is_done m) (completed m) (record m { owed = true; closing = None }) e
+pub late-ticked : (m : Overlap) → is_done m ≡ false → machine_after_tick m ≡ record m { owed = true; closing = None }
+unfolding machine_after_tick
+late-ticked m e = left_over (is_done m) (machine_after_completion m) (record m { owed = true; closing = None }) e
 
 -- fewer than `count` are done where nothing may come
 pub first-none : (a b : Bool) → (a || b) ≡ false → a ≡ false
@@ -85,12 +85,12 @@ pub zero-comes : (m : Overlap) → may_come 0 m ≡ false → ⊥
 zero-comes m none = let less = less-than 0 m.state.done (first-none (nat_le 0 m.state.done) _ none) in omega (arith, less)
 
 -- a tick at which no entry is done leaves the state
-idle-step : (m : Overlap) → IsPassed 0 m → settled (ticked m) ≡ passed m
+idle-step : (m : Overlap) → IsPassed 0 m → machine_after_settling (machine_after_tick m) ≡ machine_after_pass m
 idle-step m is = idle-by (is_done m) refl
   where
-    idle-by : (b : Bool) → is_done m ≡ b → settled (ticked m) ≡ passed m
-    idle-by true done = absurd (zero-comes (ticked m) (is.nothing done))
-    idle-by false late = goes-passed (ticked m) is.goes ∙ ap {A = Overlap} passed (late-ticked m late)
+    idle-by : (b : Bool) → is_done m ≡ b → machine_after_settling (machine_after_tick m) ≡ machine_after_pass m
+    idle-by true done = absurd (zero-comes (machine_after_tick m) (is.nothing done))
+    idle-by false late = goes-passed (machine_after_tick m) is.goes ∙ ap {A = Overlap} machine_after_pass (late-ticked m late)
 
 -- no settle is owed, and the state stays
 pub idle-kept : (k : ℕ) (m new : Overlap) → m.owed ≡ false → ArePassed 0 k m new
@@ -99,8 +99,8 @@ unfolding after_ticks
 idle-kept zero m new owes idle =
     (ap (λ (x : Overlap). x.owed) idle.after ∙ owes, omega (arith, ap (λ (x : Overlap). x.now) idle.after), ap (λ (x : Overlap). x.state) idle.after)
 idle-kept (suc k) m new owes idle =
-    let next : settled (ticked m) ≡ passed m = idle-step m (idle.each 0 (omega arith)) in
-    let rest = idle-kept k (settled (ticked m)) new (ap (λ (x : Overlap). x.owed) next)
+    let next : machine_after_settling (machine_after_tick m) ≡ machine_after_pass m = idle-step m (idle.each 0 (omega arith)) in
+    let rest = idle-kept k (machine_after_settling (machine_after_tick m)) new (ap (λ (x : Overlap). x.owed) next)
     (record { each = λ i before. idle.each (suc i) (omega (arith, before)); after = idle.after }) in (
       rest.0,
       omega (arith, rest.1, ap (λ (x : Overlap). x.now) next),

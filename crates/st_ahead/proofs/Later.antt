@@ -6,12 +6,12 @@ use Rattle.std.proofs.lemmas.List.{append-nil}
 use Rattle.std.proofs.lemmas.List.Elements.{All-append, All-weaker, All-head, All-tail}
 use Rattle.st_state.specs.Machine.{Machine, IsMachine}
 use Rattle.st_exec.specs.Completion.{guess}
-use Rattle.st_rows.specs.Asked.{Read, asked, fetches_asked, words_asked, side_asked, side_count, following_asked, formed_asked, prepared_asked, data_of, served, made_before}
-use Rattle.st_rows.specs.Notes.{logged, undone, AreEarly}
-use Rattle.st_rows.specs.Ranges.{AreDelays, IsEntry, IsNear, IsTight}
-use Rattle.st_rows.specs.Rows.{row, after, fetch_words, wanted_from, tick_a, tick_p, operands}
+use Rattle.st_rows.specs.Asked.{Read, reads_of_entry, fetches_asked, words_asked, side_asked, side_count, following_asked, formed_asked, prepared_asked, data_of, bus_after_reads, made_before}
+use Rattle.st_rows.specs.Notes.{notes_of_reads, answers_left, AreEarly}
+use Rattle.st_rows.specs.Ranges.{AreDelaysUpTo, IsEntryInTime, IsNear, IsTight}
+use Rattle.st_rows.specs.Rows.{row_of_entry, front_after_entry, fetch_words, wanted_from, tick_a, tick_p, operands}
 use Rattle.st_rows.specs.declared.bus.Bus.{Bus}
-use Rattle.st_rows.specs.declared.entry.Run.{Run}
+use Rattle.st_rows.specs.declared.entry.WordRun.{WordRun}
 use Rattle.st_rows.specs.declared.fetching.Fetching.{Fetching}
 use Rattle.st_rows.specs.declared.entry.Entry.{Entry}
 use Rattle.st_rows.specs.declared.front.Front.{Front}
@@ -38,22 +38,22 @@ use Rattle.st_ahead.specs.Look.{LookView, IsOutlook, IsNextIf, count, is_open, a
 use Rattle.st_ahead.proofs.Further.{bus-ahead}
 
 -- no words
-abbrev none : Run
+abbrev none : WordRun
 none = record { first = 0; len = 0 }
 
 -- the ticks of rows in their order, and when their reads are wanted
 pub record AreOrdered (ds : List ℕ) (n : ℕ) : Type 0 where
-  pub alone : (f : Front) (e : Entry) → (e.serial || f.serial) ≡ true → f.c < (row ds n f e).a
-  pub prepared : (f : Front) (e : Entry) → (row ds n f e).a < (row ds n f e).p
+  pub alone : (f : Front) (e : Entry) → (e.serial || f.serial) ≡ true → f.c < (row_of_entry ds n f e).a
+  pub prepared : (f : Front) (e : Entry) → (row_of_entry ds n f e).a < (row_of_entry ds n f e).p
   pub fetches : (f : Front) (e : Entry) → All (λ (r : Read). wanted_from f ≤ r.want) (fetches_asked ds f e)
   pub behind : (f : Front) (e : Entry) → All (λ (r : Read). tick_a ds f e ≤ r.want) (data_of ds n f e)
 
 -- the entry e behind the front f, of which so much is asked for
 pub record IsLater (ds : List ℕ) (n now : ℕ) (f : Front) (e : Entry) (next : Next) : Type 0 where
   pub rest : List Read
-  pub reads : asked ds n f e ≡ reads_so_far ds f next ++ rest
+  pub reads : reads_of_entry ds n f e ≡ reads_so_far ds f next ++ rest
   pub late : All (λ (r : Read). now ≤ r.want) rest
-  pub prepared : now ≤ (row ds n f e).p
+  pub prepared : now ≤ (row_of_entry ds n f e).p
 
 module _ (ds : List ℕ) (n now : ℕ) (ordered : AreOrdered ds n) where
   -- ---- it is planned
@@ -64,12 +64,12 @@ module _ (ds : List ℕ) (n now : ℕ) (ordered : AreOrdered ds n) where
 
   planned-later : (t : Option ℕ) (u : Machine) (f : Front) (next : Next) → IsPlanned ds n t u f next → next.planned ≡ true
       → now ≤ next.formed.p → IsLater ds n now f (entry t u) next
-  unfolding row
+  unfolding row_of_entry
   planned-later t u f next is planned late =
       let e : Entry = entry t u in
       let p : next.formed.p ≡ tick_p ds n f e = is.tick in
       let fetches : asked_so_far ds f next.own next.target ≡ fetches_asked ds f e =
-      ap₂ (λ (a b : Run). asked_so_far ds f a b) is.all.own is.all.target ∙ all-fetched f e in
+      ap₂ (λ (a b : WordRun). asked_so_far ds f a b) is.all.own is.all.target ∙ all-fetched f e in
       let sides : (if next.planned then side_asked f.past next.entry.side next.formed.a else []) ≡ side_asked f.past e.side (tick_a ds f e) =
       ap (λ b. if b then side_asked f.past next.entry.side next.formed.a else []) planned
       ∙ ap₂ (λ (x : Entry) (a : ℕ). side_asked f.past x.side a) is.entry is.address in
@@ -87,11 +87,11 @@ module _ (ds : List ℕ) (n now : ℕ) (ordered : AreOrdered ds n) where
   behind-fetches : (f : Front) (e : Entry) (next : Next) (rest : List Read) → next.planned ≡ false
       → fetches_asked ds f e ≡ asked_so_far ds f next.own next.target ++ rest → All (λ (r : Read). now ≤ r.want) rest
       → now ≤ tick_a ds f e → IsLater ds n now f e next
-  unfolding row
+  unfolding row_of_entry
   behind-fetches f e next rest unplanned reads late before =
       let others = data_of ds n f e in
       let so_far = asked_so_far ds f next.own next.target in
-      let p : (row ds n f e).a < (row ds n f e).p = ordered.prepared f e in
+      let p : (row_of_entry ds n f e).a < (row_of_entry ds n f e).p = ordered.prepared f e in
       let none : reads_so_far ds f next ≡ so_far =
       ap (λ b. so_far ++ (if b then side_asked f.past next.entry.side next.formed.a else [])) unplanned ∙ append-nil so_far in
       record {
@@ -125,9 +125,9 @@ module _ (ds : List ℕ) (n now : ℕ) (ordered : AreOrdered ds n) where
 
   alone-later : (e : Entry) (f : Front) (next : Next) → next.planned ≡ false → next.own ≡ none → next.target ≡ none
       → f.serial ≡ true → now ≤ f.c → IsLater ds n now f e next
-  unfolding row fetches_asked words_asked
+  unfolding row_of_entry fetches_asked words_asked
   alone-later e f next unplanned no_own no_target serial late =
-      let a : f.c < (row ds n f e).a = ordered.alone f e (or-second e.serial f.serial serial) in
+      let a : f.c < (row_of_entry ds n f e).a = ordered.alone f e (or-second e.serial f.serial serial) in
       let from : now ≤ wanted_from f = wanted_if f.serial serial in
       behind-fetches f e next (fetches_asked ds f e) unplanned
       (sym (rw (no_own, no_target) refl))
@@ -190,42 +190,42 @@ more-behind false reads more e = absurd (cc e)
 
 levels-reads : (ds : List ℕ) (n tick now m : ℕ) (t k : Option ℕ) (s u : Machine) (f last : Front) (ring : List Level)
     (plans : List Plan) → AreLevels ds n tick t s f last ring plans → All (λ level. level.p < now) ring
-    → k ≡ table_behind (length ring) t → u ≡ guesses (length ring) t s → now ≤ (row ds n last (entry k u)).p → length ring < m
-    → reads_before ds n now (ahead ds n m t s f) ≡ asked_ahead ds n (length ring) t s f ++ asked ds n last (entry k u)
+    → k ≡ table_behind (length ring) t → u ≡ guesses (length ring) t s → now ≤ (row_of_entry ds n last (entry k u)).p → length ring < m
+    → reads_before ds n now (ahead ds n m t s f) ≡ asked_ahead ds n (length ring) t s f ++ reads_of_entry ds n last (entry k u)
 unfolding AreLevels guesses ahead reads_before asked_ahead
 levels-reads ds n tick now zero t k s u f last ring plans h each table state late more = absurd (omega arith)
 levels-reads ds n tick now (suc m) t k s u f last [] [] h each table state late more =
     let front : last ≡ f = h in
     let same : entry k u ≡ entry t s = ap₂ entry table state in
-    let p : (row ds n last (entry k u)).p ≡ (row ds n f (entry t s)).p = ap₂ (λ g e. (row ds n g e).p) front same in
-    nothing-more _ (asked ds n f (entry t s)) _ (le-ltb (row ds n f (entry t s)).p now (omega arith))
-    ∙ ap₂ (λ g e. asked ds n g e) (sym front) (sym same)
+    let p : (row_of_entry ds n last (entry k u)).p ≡ (row_of_entry ds n f (entry t s)).p = ap₂ (λ g e. (row_of_entry ds n g e).p) front same in
+    nothing-more _ (reads_of_entry ds n f (entry t s)) _ (le-ltb (row_of_entry ds n f (entry t s)).p now (omega arith))
+    ∙ ap₂ (λ g e. reads_of_entry ds n g e) (sym front) (sym same)
 levels-reads ds n tick now (suc m) t k s u f last [] (q ∷ qs) h each table state late more = absurd h
 levels-reads ds n tick now (suc m) t k s u f last (level ∷ levels) [] h each table state late more = absurd h
 levels-reads ds n tick now (suc m) t k s u f last (level ∷ levels) (q ∷ qs) h each table state late more =
     let here : level.p < now = All-head (λ (x : Level). x.p < now) level levels each in
-    let is : level.p ≡ (row ds n f (entry t s)).p = h.0.p in
-    more-behind _ (asked ds n f (entry t s)) _ (lt-ltb (row ds n f (entry t s)).p now (omega arith))
-    ∙ ap (λ reads. asked ds n f (entry t s) ++ reads)
-    (levels-reads ds n tick now m None k (guess t s) u (after ds n f (entry t s)) last levels qs h.1
+    let is : level.p ≡ (row_of_entry ds n f (entry t s)).p = h.0.p in
+    more-behind _ (reads_of_entry ds n f (entry t s)) _ (lt-ltb (row_of_entry ds n f (entry t s)).p now (omega arith))
+    ∙ ap (λ reads. reads_of_entry ds n f (entry t s) ++ reads)
+    (levels-reads ds n tick now m None k (guess t s) u (front_after_entry ds n f (entry t s)) last levels qs h.1
     (All-tail (λ (x : Level). x.p < now) level levels each) (table ∙ sym (behind-none (length levels))) state late (omega arith))
-    ∙ sym (append_assoc (asked ds n f (entry t s)) (asked_ahead ds n (length levels) None (guess t s) (after ds n f (entry t s))) (asked ds n last (entry k u)))
+    ∙ sym (append_assoc (reads_of_entry ds n f (entry t s)) (asked_ahead ds n (length levels) None (guess t s) (front_after_entry ds n f (entry t s))) (reads_of_entry ds n last (entry k u)))
 
 -- the oldest level is prepared
 oldest-prepared : (ds : List ℕ) (n tick now : ℕ) (t : Option ℕ) (s : Machine) (f last : Front) (ring : List Level) (plans : List Plan)
     → AreLevels ds n tick t s f last ring plans → All (λ level. level.p < now) ring → 1 ≤ length ring
-    → (row ds n f (entry t s)).p < now
+    → (row_of_entry ds n f (entry t s)).p < now
 unfolding AreLevels
 oldest-prepared ds n tick now t s f last [] plans h each some = absurd (omega arith)
 oldest-prepared ds n tick now t s f last (level ∷ levels) [] h each some = absurd h
 oldest-prepared ds n tick now t s f last (level ∷ levels) (q ∷ qs) h each some =
     let here : level.p < now = All-head (λ (x : Level). x.p < now) level levels each in
-    let is : level.p ≡ (row ds n f (entry t s)).p = h.0.p in
+    let is : level.p ≡ (row_of_entry ds n f (entry t s)).p = h.0.p in
     omega arith
 
 -- ---- at most 39 reads are accepted at the tick at which the oldest level is done, or later
 
-few-prepared : (ds : List ℕ) (n : ℕ) (f : Front) (e : Entry) → IsEntry e → length (prepared_asked ds n f e) ≤ 34
+few-prepared : (ds : List ℕ) (n : ℕ) (f : Front) (e : Entry) → IsEntryInTime e → length (prepared_asked ds n f e) ≤ 34
 unfolding following_asked
 few-prepared ds n f e range =
     let p = tick_p ds n f e in
@@ -261,7 +261,7 @@ few-so-far ds f next =
     few-if false = omega arith
 
 few-next : (b : Bool) (ds : List ℕ) (n now : ℕ) (t : Option ℕ) (s : Machine) (v : LookView) → IsNextIf b ds n now t s v
-    → IsEntry (entry (table_behind (count v) t) (guesses (count v) t s)) → length (reads_so_far ds v.front v.next) ≤ 5
+    → IsEntryInTime (entry (table_behind (count v) t) (guesses (count v) t s)) → length (reads_so_far ds v.front v.next) ≤ 5
 few-next true ds n now t s v is range =
     omega (
       arith,
@@ -275,8 +275,8 @@ few-next false ds n now t s v is range =
     omega (
       arith,
       few-so-far ds v.front v.next,
-      ap (λ (r : Run). r.len) is.1,
-      ap (λ (r : Run). r.len) is.2,
+      ap (λ (r : WordRun). r.len) is.1,
+      ap (λ (r : WordRun). r.len) is.2,
     )
 
 -- the reads in two parts: behind the first ones the bus is free by then, and the others are few
@@ -285,12 +285,12 @@ record AreFew (ds : List ℕ) (now : ℕ) (reads : List Read) (b : Bus) : Type 0
   rest : List Read
   parts : reads ≡ first ++ rest
   few : length rest ≤ 64
-  free : (served ds first b).free ≤ now
+  free : (bus_after_reads ds first b).free ≤ now
 
 few-ahead : (ds : List ℕ) (n tick now : ℕ) (t : Option ℕ) (s : Machine) (f last : Front) (ring : List Level) (plans : List Plan) (more : List Read)
-    → AreDelays 255 ds → IsMachine s → IfSome t (λ i. i < 64) → IsTight 255 f → AreLevels ds n tick t s f last ring plans
+    → AreDelaysUpTo 255 ds → IsMachine s → IfSome t (λ i. i < 64) → IsTight 255 f → AreLevels ds n tick t s f last ring plans
     → All (λ level. level.p < now) ring → 1 ≤ length ring → length more ≤ 5 → AreFew ds now (asked_ahead ds n (length ring) t s f ++ more) f.bus
-unfolding AreLevels asked_ahead row
+unfolding AreLevels asked_ahead row_of_entry
 few-ahead ds n tick now t s f last [] plans more are m some tight h each one few = absurd (omega (arith, one))
 few-ahead ds n tick now t s f last (level ∷ levels) [] more are m some tight h each one few = absurd h
 few-ahead ds n tick now t s f last (level ∷ []) (q ∷ qs) more are m some tight h each one few =
@@ -302,7 +302,7 @@ few-ahead ds n tick now t s f last (level ∷ []) (q ∷ qs) more are m some tig
       first = formed_asked ds f e;
       rest = prepared_asked ds n f e ++ more;
       parts =
-          ap (λ reads. reads ++ more) (append-nil (asked ds n f e) ∙ two-parts ds n f e)
+          ap (λ reads. reads ++ more) (append-nil (reads_of_entry ds n f e) ∙ two-parts ds n f e)
           ∙ append_assoc (formed_asked ds f e) (prepared_asked ds n f e) more;
       few = omega (arith, length-append (prepared_asked ds n f e) more, few-prepared ds n f e range, few);
       free = omega (arith, ap (λ (b : Bus). b.free) (served-formed ds f e), free-formed 255 ds are n f e range tight, p, early);
@@ -310,45 +310,45 @@ few-ahead ds n tick now t s f last (level ∷ []) (q ∷ qs) more are m some tig
 few-ahead ds n tick now t s f last (level ∷ second ∷ levels) (q ∷ qs) more are m some tight h each one few =
     let e = entry t s in
     let range = entry-ranges t s m some in
-    let f' = after ds n f e in
+    let f' = front_after_entry ds n f e in
     let rest = few-ahead ds n tick now None (guess t s) f' last (second ∷ levels) qs more are (guess-machine t s m some) tt
     (tight-after 255 ds are n f e range tight) h.1 (All-tail (λ (x : Level). x.p < now) level (second ∷ levels) each) (omega arith) few in
     record {
-      first = asked ds n f e ++ rest.first;
+      first = reads_of_entry ds n f e ++ rest.first;
       rest = rest.rest;
       parts =
-          append_assoc (asked ds n f e) (asked_ahead ds n (length (second ∷ levels)) None (guess t s) f') more
-          ∙ ap (λ reads. asked ds n f e ++ reads) rest.parts
-          ∙ sym (append_assoc (asked ds n f e) rest.first rest.rest);
+          append_assoc (reads_of_entry ds n f e) (asked_ahead ds n (length (second ∷ levels)) None (guess t s) f') more
+          ∙ ap (λ reads. reads_of_entry ds n f e ++ reads) rest.parts
+          ∙ sym (append_assoc (reads_of_entry ds n f e) rest.first rest.rest);
       few = rest.few;
       free =
           omega (
             arith,
-            ap (λ (b : Bus). b.free) (served-append ds (asked ds n f e) rest.first f.bus ∙ ap (served ds rest.first) (served-asked ds n f e)),
+            ap (λ (b : Bus). b.free) (served-append ds (reads_of_entry ds n f e) rest.first f.bus ∙ ap (bus_after_reads ds rest.first) (served-asked ds n f e)),
             rest.free,
           );
     }
 
-pub banks-left : (ds : List ℕ) (n tick now : ℕ) (t : Option ℕ) (s : Machine) (f : Front) (v : LookView) → AreOrdered ds n → AreDelays 255 ds
+pub banks-left : (ds : List ℕ) (n tick now : ℕ) (t : Option ℕ) (s : Machine) (f : Front) (v : LookView) → AreOrdered ds n → AreDelaysUpTo 255 ds
     → now ≤ tick + 1 → count v ≤ n → 1 ≤ count v → IsOutlook ds n tick now t s f v
     → All (λ q. (f.c < q.c) × (q.c ≤ v.front.c)) v.levels.plans → f.bus.free ≤ now
-    → IsEntry (entry (table_behind (count v) t) (guesses (count v) t s))
-    → (made_before ds now (asked ds n f (entry t s)
-    ++ reads_before ds n now (ahead ds n (suc n) None (guess t s) (after ds n f (entry t s)))) f.bus).banks.ticks
-    ≡ undone now v.log v.next.words.bus.banks.ticks
+    → IsEntryInTime (entry (table_behind (count v) t) (guesses (count v) t s))
+    → (made_before ds now (reads_of_entry ds n f (entry t s)
+    ++ reads_before ds n now (ahead ds n (suc n) None (guess t s) (front_after_entry ds n f (entry t s)))) f.bus).banks.ticks
+    ≡ answers_left now v.log v.next.words.bus.banks.ticks
 unfolding ahead reads_before
 banks-left ds n tick now t s f v ordered are soon few some is order free range =
     let k = table_behind (count v) t in
     let u = guesses (count v) t s in
     let later = look-later ds n tick now t s f v ordered soon is order in
-    let first : (row ds n f (entry t s)).p < now = oldest-prepared ds n tick now t s f v.front v.levels.ring v.levels.plans is.ahead.levels is.prepared some in
+    let first : (row_of_entry ds n f (entry t s)).p < now = oldest-prepared ds n tick now t s f v.front v.levels.ring v.levels.plans is.ahead.levels is.prepared some in
     let made = asked_ahead ds n (count v) t s f in
     let so_far = reads_so_far ds v.front v.next in
     let reads = made ++ so_far in
-    let all : made_before ds now (asked ds n f (entry t s)
-    ++ reads_before ds n now (ahead ds n (suc n) None (guess t s) (after ds n f (entry t s)))) f.bus ≡ made_before ds now reads f.bus =
+    let all : made_before ds now (reads_of_entry ds n f (entry t s)
+    ++ reads_before ds n now (ahead ds n (suc n) None (guess t s) (front_after_entry ds n f (entry t s)))) f.bus ≡ made_before ds now reads f.bus =
     ap (λ reads. made_before ds now reads f.bus)
-    (sym (more-behind _ (asked ds n f (entry t s)) _ (lt-ltb (row ds n f (entry t s)).p now first))
+    (sym (more-behind _ (reads_of_entry ds n f (entry t s)) _ (lt-ltb (row_of_entry ds n f (entry t s)).p now first))
     ∙ levels-reads ds n tick now (suc (suc n)) t k s u f v.front v.levels.ring v.levels.plans is.ahead.levels is.prepared refl refl
     later.prepared (omega arith)
     ∙ ap (λ reads. made ++ reads) later.reads
@@ -359,12 +359,12 @@ banks-left ds n tick now t s f v ordered are soon few some is order free range =
     (few-next (is_open v) ds n now t s v is.next range) in
     ap (λ (b : Bus). b.banks.ticks) all
     ∙ sym (undone_is_made_before ds now reads f.bus v.log log (λ older early.
-    subst (λ (l : List Read). AreEarly now (drop 64 (logged ds l f.bus ++ older))) (sym split.parts)
+    subst (λ (l : List Read). AreEarly now (drop 64 (notes_of_reads ds l f.bus ++ older))) (sym split.parts)
     (few_are_undone ds now split.first split.rest f.bus older split.few split.free early)))
-    ∙ ap (λ (b : Bus). undone now v.log b.banks.ticks) (bus-ahead ds n tick now t s f v is.next is.ahead)
+    ∙ ap (λ (b : Bus). answers_left now v.log b.banks.ticks) (bus-ahead ds n tick now t s f v is.next is.ahead)
 
 -- what is asked for before the tick is answered soon
-pub made-soon : (most now : ℕ) (ds : List ℕ) (reads : List Read) (b : Bus) → AreDelays most ds → IsNear most b → b.free ≤ now
+pub made-soon : (most now : ℕ) (ds : List ℕ) (reads : List Read) (b : Bus) → AreDelaysUpTo most ds → IsNear most b → b.free ≤ now
     → All (λ x. x ≤ now + most) (made_before ds now reads b).banks.ticks
 made-soon most now ds reads b are near free =
     let bounds = made-bounds most ds are now reads b near free in

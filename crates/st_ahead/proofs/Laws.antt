@@ -15,7 +15,7 @@ use Rattle.st_next.proofs.Steps.{planned-is}
 use Rattle.st_ahead.proofs.Further.{next-known}
 use Rattle.st_ahead.proofs.Settling.{look-goes}
 use Rattle.st_ahead.proofs.Openings.{opening-looks}
-use Rattle.st_rows.specs.Rows.{row, tick_c}
+use Rattle.st_rows.specs.Rows.{row_of_entry, tick_c}
 use Rattle.st_ahead.proofs.SameLook.{look-same, opened-same, look-ahead}
 use Rattle.st_ahead.proofs.Gone.{outlook-of}
 use Rattle.st_ahead.proofs.Later.{AreOrdered, look-later, banks-left, made-soon}
@@ -80,8 +80,8 @@ signals_leave_looks = record {
   look = λ ds n tick now s u f v some most are is late done m beside.
       look-same ds n tick now s u f v
       (look-ahead ds n tick now (λ g e alone.
-      let a : g.c < (row ds n g e).a = rows_are_in_order.alone ds n g e alone in
-      let p : (row ds n g e).a < (row ds n g e).p = rows_are_in_order.prepared ds n g e in
+      let a : g.c < (row_of_entry ds n g e).a = rows_are_in_order.alone ds n g e alone in
+      let p : (row_of_entry ds n g e).a < (row_of_entry ds n g e).p = rows_are_in_order.prepared ds n g e in
       omega arith) None s f v is late (omega arith)) is m beside;
   opening = opened-same;
 }
@@ -99,7 +99,7 @@ looks_are_levels = λ ds n tick now t s f v some most are soon few is.
     (levels_are_the_entries_ahead.prepared ds n tick now n t s f v.front v.levels is.ahead is.prepared later.prepared few).0
 
 pub the_banks_are_left : TheBanksAreLeft
-unfolding row
+unfolding row_of_entry
 the_banks_are_left = λ ds n tick now t s f v some most are next few first is done.
     let ordered : AreOrdered ds n = record {
       alone = rows_are_in_order.alone ds n;

@@ -4,8 +4,8 @@ use Rattle.std.specs.Prelude.{All, IfSome}
 use Rattle.std.proofs.lemmas.List.Elements.{All-nil, All-cons, All-head, All-tail}
 use Rattle.st_state.specs.Machine.{Machine, IsMachine}
 use Rattle.st_exec.specs.Completion.{guess}
-use Rattle.st_rows.specs.Ranges.{AreDelays, IsTight}
-use Rattle.st_rows.specs.Rows.{row, after, tick_c}
+use Rattle.st_rows.specs.Ranges.{AreDelaysUpTo, IsTight}
+use Rattle.st_rows.specs.Rows.{row_of_entry, front_after_entry, tick_c}
 use Rattle.st_rows.specs.declared.front.Front.{Front}
 use Rattle.st_rows.proofs.Stages.{c-within}
 use Rattle.st_rows.proofs.Tight.{tight-after}
@@ -22,8 +22,8 @@ use Rattle.st_levels.proofs.OrderLemmas.{after-c}
 module _ (ds : List ℕ) (n : ℕ) where
   -- ---- one entry
 
-  pub done-later : (t : Option ℕ) (s : Machine) (f : Front) → IsMachine s → IfSome t (λ i. i < 64) → f.c < (row ds n f (entry t s)).c
-  unfolding row tick_c
+  pub done-later : (t : Option ℕ) (s : Machine) (f : Front) → IsMachine s → IfSome t (λ i. i < 64) → f.c < (row_of_entry ds n f (entry t s)).c
+  unfolding row_of_entry tick_c
   done-later t s f m some = omega (arith, (entry-ranges t s m some).costs.0)
 
   -- ---- the front behind several
@@ -37,12 +37,12 @@ module _ (ds : List ℕ) (n : ℕ) where
         arith,
         after-c ds n f (entry t s),
         done-later t s f m some,
-        behind-later k None (guess t s) (after ds n f (entry t s)) (guess-machine t s m some) tt,
+        behind-later k None (guess t s) (front_after_entry ds n f (entry t s)) (guess-machine t s m some) tt,
       )
 
-  pub behind-soon : (k : ℕ) (t : Option ℕ) (s : Machine) (f : Front) → AreDelays 255 ds → IsMachine s → IfSome t (λ i. i < 64) → IsTight 255 f
+  pub behind-soon : (k : ℕ) (t : Option ℕ) (s : Machine) (f : Front) → AreDelaysUpTo 255 ds → IsMachine s → IfSome t (λ i. i < 64) → IsTight 255 f
       → (front_behind ds n k t s f).c ≤ f.c + 16576 * k
-  unfolding front_behind after
+  unfolding front_behind front_after_entry
   behind-soon zero t s f are m some tight = omega arith
   behind-soon (suc k) t s f are m some tight =
       let e = entry t s in
@@ -50,7 +50,7 @@ module _ (ds : List ℕ) (n : ℕ) where
       omega (
         arith,
         c-within 255 ds are f e range tight n,
-        behind-soon k None (guess t s) (after ds n f e) are (guess-machine t s m some) tt (tight-after 255 ds are n f e range tight),
+        behind-soon k None (guess t s) (front_after_entry ds n f e) are (guess-machine t s m some) tt (tight-after 255 ds are n f e range tight),
       )
 
   same-place : (j k : ℕ) (t : Option ℕ) (s : Machine) (f : Front) → IsMachine s → IfSome t (λ i. i < 64)
@@ -64,7 +64,7 @@ module _ (ds : List ℕ) (n : ℕ) where
         c,
         after-c ds n f (entry t s),
         done-later t s f m some,
-        behind-later k None (guess t s) (after ds n f (entry t s)) (guess-machine t s m some) tt,
+        behind-later k None (guess t s) (front_after_entry ds n f (entry t s)) (guess-machine t s m some) tt,
       ))
   same-place (suc j) zero t s f m some same =
       let c = ap (λ (g : Front). g.c) same in
@@ -73,10 +73,10 @@ module _ (ds : List ℕ) (n : ℕ) where
         c,
         after-c ds n f (entry t s),
         done-later t s f m some,
-        behind-later j None (guess t s) (after ds n f (entry t s)) (guess-machine t s m some) tt,
+        behind-later j None (guess t s) (front_after_entry ds n f (entry t s)) (guess-machine t s m some) tt,
       ))
   same-place (suc j) (suc k) t s f m some same =
-      ap suc (same-place j k None (guess t s) (after ds n f (entry t s)) (guess-machine t s m some) tt same)
+      ap suc (same-place j k None (guess t s) (front_after_entry ds n f (entry t s)) (guess-machine t s m some) tt same)
 
   -- ---- levels between two fronts, whatever operands they have
 
@@ -98,22 +98,22 @@ module _ (ds : List ℕ) (n : ℕ) where
     prepared-still now t s f last (l ∷ ls) (x ∷ xs) (q ∷ qs) [] g h same each = absurd h
     prepared-still now t s f last (l ∷ ls) (x ∷ xs) (q ∷ qs) (r ∷ rs) g h same each =
         let early : l.p < now = All-head (λ (level : Level). level.p < now) l ls each in
-        let one : l.p ≡ (row ds n f (entry t s)).p = g.0.p in
-        let two : x.p ≡ (row ds n f (entry t s)).p = h.0.p in
+        let one : l.p ≡ (row_of_entry ds n f (entry t s)).p = g.0.p in
+        let two : x.p ≡ (row_of_entry ds n f (entry t s)).p = h.0.p in
         All-cons (λ (level : Level). level.p < now) x xs (omega arith)
-        (prepared-still now None (guess t s) (after ds n f (entry t s)) last ls xs qs rs g.1 h.1 (omega (arith, same))
+        (prepared-still now None (guess t s) (front_after_entry ds n f (entry t s)) last ls xs qs rs g.1 h.1 (omega (arith, same))
         (All-tail (λ (level : Level). level.p < now) l ls each))
 
   -- ---- where the first of them is done later, all are
 
   pub done-after : (tick now : ℕ) (t : Option ℕ) (s : Machine) (f last : Front) (ring : List Level) (plans : List Plan) → IsMachine s
-      → IfSome t (λ i. i < 64) → AreLevels ds n tick t s f last ring plans → now < (row ds n f (entry t s)).c → All (λ q. now < q.c) plans
+      → IfSome t (λ i. i < 64) → AreLevels ds n tick t s f last ring plans → now < (row_of_entry ds n f (entry t s)).c → All (λ q. now < q.c) plans
   unfolding AreLevels
   done-after tick now t s f last ring [] m some h late = All-nil (λ (q : Plan). now < q.c)
   done-after tick now t s f last [] (q ∷ qs) m some h late = absurd h
   done-after tick now t s f last (level ∷ levels) (q ∷ qs) m some h late =
-      let c : q.c ≡ (row ds n f (entry t s)).c = h.0.c in
+      let c : q.c ≡ (row_of_entry ds n f (entry t s)).c = h.0.c in
       let machine = guess-machine t s m some in
       All-cons (λ (r : Plan). now < r.c) q qs (omega arith)
-      (done-after tick now None (guess t s) (after ds n f (entry t s)) last levels qs machine tt h.1
-      (omega (arith, after-c ds n f (entry t s), done-later None (guess t s) (after ds n f (entry t s)) machine tt)))
+      (done-after tick now None (guess t s) (front_after_entry ds n f (entry t s)) last levels qs machine tt h.1
+      (omega (arith, after-c ds n f (entry t s), done-later None (guess t s) (front_after_entry ds n f (entry t s)) machine tt)))

@@ -4,7 +4,7 @@ use Rattle.std.proofs.Common.{◌≡◌, ℕ, ◌≤◌, ◌||◌, ◌==◌, Lis
 use Rattle.std.proofs.lemmas.Bool.{not-true}
 use Rattle.st_state.specs.Machine.{Machine}
 use Rattle.st_prep.specs.Plan.{plan}
-use Rattle.st_rows.specs.Rows.{after}
+use Rattle.st_rows.specs.Rows.{front_after_entry}
 use Rattle.st_rows.specs.declared.front.Front.{Front}
 use Rattle.st_ring.specs.declared.level.Level.{Level}
 use Rattle.st_segment.specs.Entries.{entry}
@@ -15,7 +15,7 @@ use Rattle.st_levels.specs.declared.plans.Plan.{Plan}
 -- of one level the front behind it tells whether it is done alone
 one-level : (ds : List ℕ) (n tick : ℕ) (t : Option ℕ) (s : Machine) (f last : Front) (level : Level) (plans : List Plan)
     → AreLevels ds n tick t s f last (level ∷ []) plans → last.serial ≡ false → (plan s t).serial ≡ false
-unfolding AreLevels after entry
+unfolding AreLevels front_after_entry entry
 one-level ds n tick t s f last level [] h alone = absurd h
 one-level ds n tick t s f last level (q ∷ []) h alone = sym (ap (λ (g : Front). g.serial) h.1) ∙ alone
 one-level ds n tick t s f last level (q ∷ r ∷ qs) h alone = absurd h.1

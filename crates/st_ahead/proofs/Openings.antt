@@ -8,44 +8,44 @@ use Rattle.st_banks.specs.declared.answers.LastAnswers.{LastAnswers}
 use Rattle.st_prep.specs.Fetch.{index_words, place_of}
 use Rattle.st_rows.specs.Asked.{fetches_asked, words_asked}
 use Rattle.st_rows.specs.Ranges.{IsTight, IsNear, ArePastWithin}
-use Rattle.st_rows.specs.Rows.{opening, fetched, fetch_words}
-use Rattle.st_fetch.specs.declared.fetched.Fetched.{Fetched}
-use Rattle.st_fetch.specs.Planned.{unasked}
-use Rattle.st_rows.specs.Entries.{no_words}
+use Rattle.st_rows.specs.Rows.{opening_front, words_tick, fetch_words}
+use Rattle.st_fetch.specs.declared.fetched.AskedWord.{AskedWord}
+use Rattle.st_fetch.specs.Planned.{no_word}
+use Rattle.st_rows.specs.Entries.{no_runs}
 use Rattle.st_ring.specs.declared.level.Level.{Level}
 use Rattle.st_levels.specs.declared.plans.Plan.{Plan}
 use Rattle.st_rows.specs.declared.entry.Entry.{Entry}
 use Rattle.st_rows.specs.declared.fetching.Fetching.{Fetching}
 use Rattle.st_rows.specs.declared.front.Front.{Front}
 use Rattle.st_rows.specs.declared.past.Past.{Past}
-use Rattle.st_rows.specs.declared.entry.Run.{Run}
+use Rattle.st_rows.specs.declared.entry.WordRun.{WordRun}
 use Rattle.st_rows.proofs.NoteLemmas.{opened-log}
 use Rattle.st_segment.specs.Entries.{entry}
 use Rattle.st_segment.specs.Guesses.{guesses, split_words}
 use Rattle.st_segment.specs.Alone.{RunAhead}
 use Rattle.st_levels.specs.Levels.{LevelsView, AreLevels, AreAhead, AreFull}
-use Rattle.st_next.specs.Words.{words_so_far, asked_so_far, IsStart, AreFirst}
+use Rattle.st_next.specs.Words.{words_so_far, asked_so_far, IsStart, AreFirstWords}
 use Rattle.st_next.specs.Progress.{IsNext, Rests, Waits, reads_so_far}
 use Rattle.st_next.specs.declared.next.Next.{Next}
 use Rattle.st_ahead.specs.Look.{LookView, IsLook, IsOpened, asked_ahead}
 
-abbrev none : Run
+abbrev none : WordRun
 none = record { first = 0; len = 0 }
 
 -- ---- the front
 
-opening-near : (start : ℕ) (banks : LastAnswers) → All (λ b. b ≤ start + 255) banks.ticks → IsNear 255 (opening banks start).bus
+opening-near : (start : ℕ) (banks : LastAnswers) → All (λ b. b ≤ start + 255) banks.ticks → IsNear 255 (opening_front banks start).bus
 opening-near start banks early = record {
   banks = early;
-  held = All-replicate (λ (h : Fetched). h.tick ≤ start + 255) 4 unasked (omega arith);
+  held = All-replicate (λ (h : AskedWord). h.tick ≤ start + 255) 4 no_word (omega arith);
 }
 
-opening-past : (start : ℕ) (banks : LastAnswers) → ArePastWithin start (opening banks start).past
+opening-past : (start : ℕ) (banks : LastAnswers) → ArePastWithin start (opening_front banks start).past
 opening-past start banks = record {
-  each = All-replicate (λ (entry : Past). entry.c ≤ start) 8 (record { c = 0; writes = no_words }) (omega arith);
+  each = All-replicate (λ (entry : Past). entry.c ≤ start) 8 (record { c = 0; writes = no_runs }) (omega arith);
 }
 
-opening-tight : (start : ℕ) (banks : LastAnswers) → All (λ b. b ≤ start + 255) banks.ticks → IsTight 255 (opening banks start)
+opening-tight : (start : ℕ) (banks : LastAnswers) → All (λ b. b ≤ start + 255) banks.ticks → IsTight 255 (opening_front banks start)
 opening-tight start banks early = record {
   prepared = omega arith;
   done = opening-past start banks;
@@ -71,7 +71,7 @@ no-slots ds n tick t s f ring none = rw none tt
 -- ---- no words
 
 no-words : (ds : List ℕ) (f : Front) → words_so_far ds f none none ≡ record { bus = f.bus; answered = 0; awaited = 0 }
-unfolding fetched fetch_words
+unfolding words_tick fetch_words
 no-words ds f = refl
 
 no-reads : (ds : List ℕ) (f : Front) → asked_so_far ds f none none ≡ []
@@ -80,21 +80,21 @@ no-reads ds f = refl
 
 -- ---- the entry that is prepared next
 
-start-none : (run whole : Run) → run ≡ none → IsStart run whole
+start-none : (run whole : WordRun) → run ≡ none → IsStart run whole
 start-none run whole e =
-    let len : run.len ≡ 0 = ap (λ (r : Run). r.len) e in
-    record { few = omega arith; first = λ some. absurd (omega arith); none = λ few. ap (λ (r : Run). r.first) e }
+    let len : run.len ≡ 0 = ap (λ (r : WordRun). r.len) e in
+    record { few = omega arith; first = λ some. absurd (omega arith); none = λ few. ap (λ (r : WordRun). r.first) e }
 
-pub first-none : (own target : Run) (e : Entry) → own ≡ none → target ≡ none → AreFirst own target e
+pub first-none : (own target : WordRun) (e : Entry) → own ≡ none → target ≡ none → AreFirstWords own target e
 first-none own target e no_own no_target =
-    let len : target.len ≡ 0 = ap (λ (r : Run). r.len) no_target in
+    let len : target.len ≡ 0 = ap (λ (r : WordRun). r.len) no_target in
     record {
       own_start = start-none own e.own no_own;
       target_start = start-none target e.target no_target;
       all_own = λ some. absurd (omega arith);
     }
 
-pub so-far : (ds : List ℕ) (f : Front) (own target : Run) → own ≡ none → target ≡ none
+pub so-far : (ds : List ℕ) (f : Front) (own target : WordRun) → own ≡ none → target ≡ none
     → words_so_far ds f own target ≡ record { bus = f.bus; answered = 0; awaited = 0 }
 so-far ds f own target no_own no_target = rw (no_own, no_target) (no-words ds f)
 
@@ -126,12 +126,12 @@ next-none ds n now t s f next place no_own no_target unplanned words late alone 
 -- ---- all of it
 
 pub opening-looks : (ds : List ℕ) (n tick now start : ℕ) (t : Option ℕ) (s : Machine) (banks : LastAnswers) (v : LookView)
-    → IsOpened t s (opening banks start) v → IsMachine s → IfSome t (λ i. i < 64)
+    → IsOpened t s (opening_front banks start) v → IsMachine s → IfSome t (λ i. i < 64)
     → All (λ b. b ≤ start + 255) banks.ticks → now ≤ start → start ≤ now + 9
-    → IsLook ds n tick now t s (opening banks start) v
+    → IsLook ds n tick now t s (opening_front banks start) v
 unfolding asked_ahead guesses
 opening-looks ds n tick now start t s banks v is machine some early before soon =
-    let f = opening banks start in
+    let f = opening_front banks start in
     let tight = opening-tight start banks early in
     let front : v.front ≡ f = is.front in
     let next = next-none ds n now t s f v.next is.place is.own is.target is.planned is.words before refl in

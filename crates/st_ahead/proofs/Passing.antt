@@ -4,7 +4,7 @@ use Rattle.std.proofs.Common.{◌≡◌, ℕ, zero, suc, ◌+◌, ◌-◌, ◌<�
 use Rattle.std.proofs.lemmas.Bool.Decides.{nat_tests}
 use Rattle.st_exec.specs.Step.{rests}
 use Rattle.st_ahead.specs.Overlap.{Overlap, interrupt_due}
-use Rattle.st_ahead.specs.Calls.{IsEvent, is_done, completed, ticked, passed, settled, answer, answer_by}
+use Rattle.st_ahead.specs.Calls.{IsEvent, is_done, machine_after_completion, machine_after_tick, machine_after_pass, machine_after_settling, answer, answer_by}
 use Rattle.st_ahead.specs.RunTo.{after_ticks, may_come, IsPassed, ArePassed}
 use Rattle.st_ahead.specs.declared.events.Event.{Event}
 use Rattle.st_ahead.specs.declared.events.Event.TheVariants.{Passed}
@@ -18,7 +18,7 @@ unfolding after_ticks
 after-join zero k m = let same : 0 + k ≡ k = omega arith in ap {A = ℕ} (λ i. after_ticks i m) same
 after-join (suc j) k m =
     let same : suc j + k ≡ suc (j + k) = omega arith in
-    ap {A = ℕ} (λ i. after_ticks i m) same ∙ after-join j k (settled (ticked m))
+    ap {A = ℕ} (λ i. after_ticks i m) same ∙ after-join j k (machine_after_settling (machine_after_tick m))
 
 below : (i j : ℕ) → nat_lt i j ≡ true → i < j
 below i j test = grind (arith, nat_tests)
@@ -42,7 +42,7 @@ passed-join count j k old m new first second =
         ap {A = ℕ} (λ x. after_ticks x old) same ∙ after-join j (i - j) old ∙ ap {A = Overlap} (after_ticks (i - j)) (sym first.after) in
         subst {A = Overlap} (IsPassed count) (sym there) (second.each (i - j) (omega (arith, before, far)))
 
-pub passed-one : (count : ℕ) (m new : Overlap) → IsPassed count m → new ≡ settled (ticked m) → ArePassed count 1 m new
+pub passed-one : (count : ℕ) (m new : Overlap) → IsPassed count m → new ≡ machine_after_settling (machine_after_tick m) → ArePassed count 1 m new
 unfolding after_ticks
 passed-one count m new is after = record {
   each =
@@ -55,22 +55,22 @@ pub passed-any : (count k : ℕ) (old new : Overlap) → ArePassed 0 k old new �
 passed-any count k old new are = record {
   each = λ i before. record {
     goes = (are.each i before).goes;
-    nothing = λ done. absurd (zero-comes (ticked (after_ticks i old)) ((are.each i before).nothing done));
+    nothing = λ done. absurd (zero-comes (machine_after_tick (after_ticks i old)) ((are.each i before).nothing done));
   };
   after = are.after;
 }
 
 -- ---- a tick
 
-pub ticked-owed : (m : Overlap) → (ticked m).owed ≡ true
-unfolding ticked completed
+pub ticked-owed : (m : Overlap) → (machine_after_tick m).owed ≡ true
+unfolding machine_after_tick machine_after_completion
 ticked-owed m = by (is_done m)
   where
-    by : (b : Bool) → (if b then completed m else record m { owed = true; closing = None }).owed ≡ true
+    by : (b : Bool) → (if b then machine_after_completion m else record m { owed = true; closing = None }).owed ≡ true
     by true = refl
     by false = refl
 
-pub event-closing : (m t : Overlap) (event : Event) → IsEvent m event → t ≡ ticked m → event ≡ Passed → t.closing ≡ None
+pub event-closing : (m t : Overlap) (event : Event) → IsEvent m event → t ≡ machine_after_tick m → event ≡ Passed → t.closing ≡ None
 event-closing m t event is after passes =
     let late : is_done m ≡ false = subst {A = Event} (IsEvent m) passes is in
     ap (λ (x : Overlap). x.closing) (after ∙ late-ticked m late)
@@ -91,11 +91,11 @@ pub stops-not : (m : Overlap) (b : Bool) → (is_some m.behind || is_some (inter
 unfolding answer
 stops-not m b some goes = absurd (not-goes (interrupt_due m) m.behind (rests m.state) m some goes)
 
-pub ticked-now : (m : Overlap) → (ticked m).now ≡ m.now
-unfolding ticked completed
+pub ticked-now : (m : Overlap) → (machine_after_tick m).now ≡ m.now
+unfolding machine_after_tick machine_after_completion
 ticked-now m = by (is_done m)
   where
-    by : (b : Bool) → (if b then completed m else record m { owed = true; closing = None }).now ≡ m.now
+    by : (b : Bool) → (if b then machine_after_completion m else record m { owed = true; closing = None }).now ≡ m.now
     by true = refl
     by false = refl
 
@@ -104,16 +104,16 @@ few-none count t few none = omega (arith, less-than count t.state.done (first-no
 
 -- what a tick that is passed leaves
 pub passed-keeps : (count : ℕ) (m : Overlap) → IsPassed count m → count ≤ 2 ^ 63 → m.state.done < 2 ^ 63
-    → ((settled (ticked m)).owed ≡ false) × ((settled (ticked m)).now ≡ m.now + 1) × ((settled (ticked m)).state.done < 2 ^ 63)
+    → ((machine_after_settling (machine_after_tick m)).owed ≡ false) × ((machine_after_settling (machine_after_tick m)).now ≡ m.now + 1) × ((machine_after_settling (machine_after_tick m)).state.done < 2 ^ 63)
 passed-keeps count m is few small =
-    let same : settled (ticked m) ≡ passed (ticked m) = goes-passed (ticked m) is.goes in (
+    let same : machine_after_settling (machine_after_tick m) ≡ machine_after_pass (machine_after_tick m) = goes-passed (machine_after_tick m) is.goes in (
       ap (λ (x : Overlap). x.owed) same,
       ap (λ (x : Overlap). x.now) same ∙ ap (λ (k : ℕ). k + 1) (ticked-now m),
       subst {A = Overlap} (λ x. x.state.done < 2 ^ 63) (sym same) (by (is_done m) refl),
     )
   where
-    by : (b : Bool) → is_done m ≡ b → (ticked m).state.done < 2 ^ 63
-    by true done = few-none count (ticked m) few (is.nothing done)
+    by : (b : Bool) → is_done m ≡ b → (machine_after_tick m).state.done < 2 ^ 63
+    by true done = few-none count (machine_after_tick m) few (is.nothing done)
     by false late = let state = ap (λ (x : Overlap). x.state.done) (late-ticked m late) in omega (arith, state, small)
 
 -- each tick that is passed counts
@@ -122,8 +122,8 @@ unfolding after_ticks
 passed-now zero count m new are = let same = ap (λ (x : Overlap). x.now) are.after in omega (arith, same)
 passed-now (suc k) count m new are =
     let goes = (are.each 0 (omega arith)).goes in
-    let next : (settled (ticked m)).now ≡ m.now + 1 =
-    ap (λ (x : Overlap). x.now) (goes-passed (ticked m) goes) ∙ ap (λ (x : ℕ). x + 1) (ticked-now m) in
-    let rest = passed-now k count (settled (ticked m)) new
+    let next : (machine_after_settling (machine_after_tick m)).now ≡ m.now + 1 =
+    ap (λ (x : Overlap). x.now) (goes-passed (machine_after_tick m) goes) ∙ ap (λ (x : ℕ). x + 1) (ticked-now m) in
+    let rest = passed-now k count (machine_after_settling (machine_after_tick m)) new
     (record { each = λ i before. are.each (suc i) (omega (arith, before)); after = are.after }) in
     omega (arith, next, rest)

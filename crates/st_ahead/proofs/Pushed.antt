@@ -8,10 +8,10 @@ use Rattle.st_prep.specs.Fetch.{place_of}
 use Rattle.st_prep.specs.Plan.{plan}
 use Rattle.st_prep.specs.declared.entries.Prepared.{Prepared}
 use Rattle.st_prep.proofs.GivenLemmas.{differs}
-use Rattle.st_rows.specs.Asked.{Read, asked, formed_asked, prepared_asked}
-use Rattle.st_rows.specs.Notes.{noted, IsLogged}
+use Rattle.st_rows.specs.Asked.{Read, reads_of_entry, formed_asked, prepared_asked}
+use Rattle.st_rows.specs.Notes.{log_after_reads, IsLogged}
 use Rattle.st_rows.specs.Ranges.{IsTight}
-use Rattle.st_rows.specs.Rows.{after, wanted_from}
+use Rattle.st_rows.specs.Rows.{front_after_entry, wanted_from}
 use Rattle.st_rows.specs.declared.entry.Entry.{Entry}
 use Rattle.st_rows.specs.declared.front.Front.{Front}
 use Rattle.st_rows.proofs.Parts.{two-parts}
@@ -79,7 +79,7 @@ module _ (ds : List ℕ) (n now : ℕ) (t : Option ℕ) (s : Machine) (f : Front
 
   logged-pushed : IsGoing ds n now (now + 1) t s f v → BecomesLevel ds n now t s f v → v.next.planned ≡ true
       → count w ≡ suc (count v) → reads_so_far ds w.front w.next ≡ []
-      → w.log ≡ noted ds (prepared_asked ds n v.front v.next.entry) v.next.words.bus v.log
+      → w.log ≡ log_after_reads ds (prepared_asked ds n v.front v.next.entry) v.next.words.bus v.log
       → IsLogged ds f.bus.free (reads_ahead ds n t s f w) f.bus w.log
   logged-pushed is becomes planned counted none kept =
       let x = v.next.entry in
@@ -88,12 +88,12 @@ module _ (ds : List ℕ) (n now : ℕ) (t : Option ℕ) (s : Machine) (f : Front
       let added = prepared_asked ds n v.front x in
       let formed : reads_so_far ds v.front v.next ≡ formed_asked ds v.front x =
       reads-formed ds n k u v.front v.next all planned ∙ ap (formed_asked ds v.front) (sym becomes.same) in
-      let parts : asked ds n v.front x ≡ reads_so_far ds v.front v.next ++ added =
+      let parts : reads_of_entry ds n v.front x ≡ reads_so_far ds v.front v.next ++ added =
       two-parts ds n v.front x ∙ ap (λ l. l ++ added) (sym formed) in
-      let logged = logged-more ds f.bus.free so_far (reads_so_far ds v.front v.next) (asked ds n v.front x) added f.bus v.next.words.bus v.log w.log parts
+      let logged = logged-more ds f.bus.free so_far (reads_so_far ds v.front v.next) (reads_of_entry ds n v.front x) added f.bus v.next.words.bus v.log w.log parts
       (bus-ahead ds n now (now + 1) t s f v is.next is.ahead) kept is.logged in
-      let list : so_far ++ asked ds n v.front x ≡ reads_ahead ds n t s f w =
-      ap (λ y. so_far ++ asked ds n v.front y) becomes.same
+      let list : so_far ++ reads_of_entry ds n v.front x ≡ reads_ahead ds n t s f w =
+      ap (λ y. so_far ++ reads_of_entry ds n v.front y) becomes.same
       ∙ sym (asked-more ds n now t k s u f v.front v.levels.ring v.levels.plans refl refl is.ahead.levels)
       ∙ ap (λ j. asked_ahead ds n j t s f) (sym counted)
       ∙ sym (append-nil (asked_ahead ds n (count w) t s f))
@@ -103,15 +103,15 @@ module _ (ds : List ℕ) (n now : ℕ) (t : Option ℕ) (s : Machine) (f : Front
   pub going-pushed : (level : Level) (p : Prepared) → IsGoing ds n now (now + 1) t s f v → BecomesLevel ds n now t s f v
       → v.next.planned ≡ true → v.next.formed.p ≡ now
       → w.levels.ring ≡ v.levels.ring ++ level ∷ [] → level.p ≡ now → AreNotDone now w.levels
-      → AreAhead ds n now t s f w.front w.levels → w.front ≡ after ds n v.front v.next.entry → IsTight 255 w.front → w.front.c ≤ v.front.c + 16576
+      → AreAhead ds n now t s f w.front w.levels → w.front ≡ front_after_entry ds n v.front v.next.entry → IsTight 255 w.front → w.front.c ≤ v.front.c + 16576
       → p ≡ plan u k
       → w.next.place ≡ record { counter = p.following; address = p.following; table = None }
       → w.next.planned ≡ false → w.next.own ≡ record { first = 0; len = 0 } → w.next.target ≡ record { first = 0; len = 0 }
       → w.next.words ≡ record { bus = w.front.bus; answered = 0; awaited = 0 }
-      → w.log ≡ noted ds (prepared_asked ds n v.front v.next.entry) v.next.words.bus v.log
+      → w.log ≡ log_after_reads ds (prepared_asked ds n v.front v.next.entry) v.next.words.bus v.log
       → ((plan u k).serial ≡ false → (guesses (suc (count v)) t s).ic ≡ (plan u k).following)
       → IsGoing ds n now now t s f w
-  unfolding after entry
+  unfolding front_after_entry entry
   going-pushed level p is becomes planned due ring level_p not_done ahead front tight bound plan_is place unplanned own target words kept counter =
       let counted : count w ≡ suc (count v) = ap length ring ∙ length-more v.levels.ring level in
       let ticked : w.front.p ≡ now = ap (λ (g : Front). g.p) front ∙ sym becomes.tick ∙ due in

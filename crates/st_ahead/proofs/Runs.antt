@@ -6,10 +6,10 @@ use Rattle.std.proofs.lemmas.Bool.{eq-eqb}
 use Rattle.std.proofs.lemmas.List.Elements.{All-weaker}
 use Rattle.st_state.specs.Machine.{Machine, IsMachine}
 use Rattle.st_prep.specs.Plan.{plan}
-use Rattle.st_exec.specs.Completion.{executed, guess, is_missed}
+use Rattle.st_exec.specs.Completion.{state_after_execution, guess, is_missed}
 use Rattle.st_exec.specs.Step.{interrupt, rests}
-use Rattle.st_rows.specs.Asked.{asked, made_before}
-use Rattle.st_rows.specs.Rows.{row, after}
+use Rattle.st_rows.specs.Asked.{reads_of_entry, made_before}
+use Rattle.st_rows.specs.Rows.{row_of_entry, front_after_entry}
 use Rattle.st_rows.specs.declared.front.Front.{Front}
 use Rattle.st_ring.specs.declared.level.Level.{Level}
 use Rattle.st_segment.specs.Ahead.{ahead, reads_before}
@@ -17,10 +17,10 @@ use Rattle.st_segment.specs.Entries.{entry}
 use Rattle.st_levels.specs.Levels.{IsCompleted}
 use Rattle.st_levels.specs.declared.levels.Completed.{Completed}
 use Rattle.st_levels.proofs.RestLemmas.{ahead-rests}
-use Rattle.st_ahead.specs.Overlap.{Overlap, seen, oldest_row, interrupt_due, banks_at_its_end}
-use Rattle.st_ahead.specs.Calls.{is_done, completed, ticked, passed, settled, answer, answer_by}
+use Rattle.st_ahead.specs.Overlap.{Overlap, state_ahead, oldest_row, interrupt_due, banks_at_its_end}
+use Rattle.st_ahead.specs.Calls.{is_done, machine_after_completion, machine_after_tick, machine_after_pass, machine_after_settling, answer, answer_by}
 use Rattle.st_ahead.specs.RunTo.{may_come, ArePassed}
-use Rattle.st_ahead.specs.Running.{between, IsAwake, comes, IsRunning, HasPassed}
+use Rattle.st_ahead.specs.Running.{machine_between_ticks, IsAwake, may_come_from_outside, IsRunning, HasPassed}
 use Rattle.st_ahead.specs.Look.{LookView, IsLook, IsOutlook}
 use Rattle.st_ahead.specs.Going.{IsGoing, IsDueAt}
 use Rattle.st_ahead.specs.Inside.{answers_before}
@@ -33,30 +33,30 @@ use Rattle.st_ahead.proofs.Standing.{chosen, same-answers, after-c}
 
 -- ---- an entry is done at a tick
 
-module _ (ds : List ℕ) (n now : ℕ) (t : Option ℕ) (s : Machine) (f : Front) (due : (row ds n f (entry t s)).c ≡ now) where
+module _ (ds : List ℕ) (n now : ℕ) (t : Option ℕ) (s : Machine) (f : Front) (due : (row_of_entry ds n f (entry t s)).c ≡ now) where
   abbrev before : Overlap
-  before = between ds n s t f now
+  before = machine_between_ticks ds n s t f now
 
   pub is-due : is_done before ≡ true
-  unfolding seen oldest_row
-  is-due = eq-eqb (row ds n f (entry t s)).c now due
+  unfolding state_ahead oldest_row
+  is-due = eq-eqb (row_of_entry ds n f (entry t s)).c now due
 
-  pub ticked-done : ticked before ≡ completed before
-  unfolding ticked
+  pub ticked-done : machine_after_tick before ≡ machine_after_completion before
+  unfolding machine_after_tick
   ticked-done = chosen _ _ _ is-due
 
-  module _ (right : is_missed (plan s t) s ≡ false) (none : interrupt (executed t s) ≡ None) (awake : rests (executed t s) ≡ false) where
-    goes-done : answer (ticked before) ≡ Goes
-    unfolding completed seen
-    goes-done = ap {A = Overlap} answer ticked-done ∙ goes-answers (completed before) none awake (rw right refl)
+  module _ (right : is_missed (plan s t) s ≡ false) (none : interrupt (state_after_execution t s) ≡ None) (awake : rests (state_after_execution t s) ≡ false) where
+    goes-done : answer (machine_after_tick before) ≡ Goes
+    unfolding machine_after_completion state_ahead
+    goes-done = ap {A = Overlap} answer ticked-done ∙ goes-answers (machine_after_completion before) none awake (rw right refl)
 
-    next-done : settled (ticked before) ≡ between ds n (executed t s) None (after ds n f (entry t s)) (now + 1)
-    unfolding completed seen
-    next-done = goes-passed (ticked before) goes-done ∙ ap {A = Overlap} passed ticked-done
+    next-done : machine_after_settling (machine_after_tick before) ≡ machine_between_ticks ds n (state_after_execution t s) None (front_after_entry ds n f (entry t s)) (now + 1)
+    unfolding machine_after_completion state_ahead
+    next-done = goes-passed (machine_after_tick before) goes-done ∙ ap {A = Overlap} machine_after_pass ticked-done
 
-    pub one-passed : (count : ℕ) → comes count (executed t s) ≡ false
-        → ArePassed count 1 before (between ds n (executed t s) None (after ds n f (entry t s)) (now + 1))
-    unfolding completed seen
+    pub one-passed : (count : ℕ) → may_come_from_outside count (state_after_execution t s) ≡ false
+        → ArePassed count 1 before (machine_between_ticks ds n (state_after_execution t s) None (front_after_entry ds n f (entry t s)) (now + 1))
+    unfolding machine_after_completion state_ahead
     one-passed count nothing =
         passed-one count before _ (record {
           goes = goes-done;
@@ -75,29 +75,29 @@ by-none : (b : Bool) → (b ≡ false → ⊥) → b ≡ true
 by-none true never = refl
 by-none false never = absurd (never refl)
 
-pub stopped-comes : (ds : List ℕ) (n count now : ℕ) (t : Option ℕ) (s : Machine) (f : Front) → (row ds n f (entry t s)).c ≡ now
-    → (comes count (executed t s) ≡ false → (if is_missed (plan s t) s then Some (plan s t).following else None) ≡ None
-    → interrupt (executed t s) ≡ None → rests (executed t s) ≡ false → ⊥)
-    → answer (ticked (between ds n s t f now)) ≡ Goes → may_come count (ticked (between ds n s t f now)) ≡ true
-unfolding answer completed seen
+pub stopped-comes : (ds : List ℕ) (n count now : ℕ) (t : Option ℕ) (s : Machine) (f : Front) → (row_of_entry ds n f (entry t s)).c ≡ now
+    → (may_come_from_outside count (state_after_execution t s) ≡ false → (if is_missed (plan s t) s then Some (plan s t).following else None) ≡ None
+    → interrupt (state_after_execution t s) ≡ None → rests (state_after_execution t s) ≡ false → ⊥)
+    → answer (machine_after_tick (machine_between_ticks ds n s t f now)) ≡ Goes → may_come count (machine_after_tick (machine_between_ticks ds n s t f now)) ≡ true
+unfolding answer machine_after_completion state_ahead
 stopped-comes ds n count now t s f due stops goes =
-    let m = completed (between ds n s t f now) in
+    let m = machine_after_completion (machine_between_ticks ds n s t f now) in
     let same = ticked-done ds n now t s f due in
     let goes_on : answer m ≡ Goes = ap {A = Overlap} answer (sym same) ∙ goes in
     let parts = goes-parts (interrupt_due m) m.behind (rests m.state) m goes_on in
-    ap {A = Overlap} (may_come count) same ∙ by-none (comes count (executed t s)) (λ nothing. stops nothing parts.2 parts.0 parts.1)
+    ap {A = Overlap} (may_come count) same ∙ by-none (may_come_from_outside count (state_after_execution t s)) (λ nothing. stops nothing parts.2 parts.0 parts.1)
 
 -- ---- ticks at which none is
 
 move : (ds : List ℕ) (n count k j now to at : ℕ) (t x : Option ℕ) (s u : Machine) (f g : Front) → k ≡ j → to ≡ at
-    → ArePassed count k (between ds n s t f now) (between ds n u x g to) → ArePassed count j (between ds n s t f now) (between ds n u x g at)
+    → ArePassed count k (machine_between_ticks ds n s t f now) (machine_between_ticks ds n u x g to) → ArePassed count j (machine_between_ticks ds n s t f now) (machine_between_ticks ds n u x g at)
 move ds n count k j now to at t x s u f g same there are =
-    subst (λ (i : ℕ). ArePassed count j (between ds n s t f now) (between ds n u x g i)) there
-    (subst (λ (i : ℕ). ArePassed count i (between ds n s t f now) (between ds n u x g to)) same are)
+    subst (λ (i : ℕ). ArePassed count j (machine_between_ticks ds n s t f now) (machine_between_ticks ds n u x g i)) there
+    (subst (λ (i : ℕ). ArePassed count i (machine_between_ticks ds n s t f now) (machine_between_ticks ds n u x g to)) same are)
 
 pub running-idle : (ds : List ℕ) (n count last now to : ℕ) (t k : Option ℕ) (s u : Machine) (f : Front) (v : LookView)
-    (is : IsRunning ds n count last now t s f k u v) → is.tick < to → to ≤ (row ds n is.front (entry k u)).c
-    → ArePassed count (to - now) (between ds n s t f now) (between ds n u k is.front to)
+    (is : IsRunning ds n count last now t s f k u v) → is.tick < to → to ≤ (row_of_entry ds n is.front (entry k u)).c
+    → ArePassed count (to - now) (machine_between_ticks ds n s t f now) (machine_between_ticks ds n u k is.front to)
 running-idle ds n count last now to t k s u f v is later soon =
     let idle = are-idle ds n u k is.front is.awake.due is.awake.goes (to - (is.tick + 1)) (is.tick + 1) (omega (arith, later, soon)) in
     move ds n count _ _ now _ _ t k s u f is.front (omega (arith, later, is.behind)) (omega (arith, later))
@@ -106,12 +106,12 @@ running-idle ds n count last now to t k s u f v is later soon =
 -- ---- it starts
 
 start-by : (ds : List ℕ) (n count now : ℕ) (t : Option ℕ) (s : Machine) (f : Front) → IsMachine s → IfSome t (λ i. i < 64) → IsAwake t s
-    → ArePassed count (now - 1 + 1 - now) (between ds n s t f now) (between ds n s t f (now - 1 + 1))
+    → ArePassed count (now - 1 + 1 - now) (machine_between_ticks ds n s t f now) (machine_between_ticks ds n s t f (now - 1 + 1))
 start-by ds n count zero t s f m some awake =
     move ds n count _ _ 0 _ _ t t s s f f (omega arith) (omega arith)
     (passed-any count 1 _ _ (are-idle ds n s t f awake.due awake.goes 1 0 (omega (arith, done-later ds n t s f m some))))
 start-by ds n count (suc now) t s f m some awake =
-    move ds n count 0 _ (suc now) (suc now) _ t t s s f f (omega arith) (omega arith) (passed-none count (between ds n s t f (suc now)))
+    move ds n count 0 _ (suc now) (suc now) _ t t s s f f (omega arith) (omega arith) (passed-none count (machine_between_ticks ds n s t f (suc now)))
 
 pub running-starts : (ds : List ℕ) (n count last now : ℕ) (t : Option ℕ) (s : Machine) (f : Front) (v : LookView)
     → IsLook ds n (now - 1) now t s f v → now ≤ last → IsAwake t s → IsRunning ds n count last now t s f t s v
@@ -153,26 +153,26 @@ missed-none false h e = refl
 
 module _ (ds : List ℕ) (n count last now due : ℕ) (t k : Option ℕ) (s u x : Machine) (f : Front) (v w new : LookView) (done : Completed)
     (is : IsRunning ds n count last now t s f k u v) (at : IsDueAt ds n is.tick last due k u is.front w)
-    (state : x ≡ executed k u) (told : IsCompleted ds n k u is.front done) where
-  pub running-on : IsOutlook ds n (due - 1) due None (guess k u) (after ds n is.front (entry k u)) new
-      → comes count x ≡ false → done.missed ≡ None → interrupt x ≡ None → rests x ≡ false
-      → (is_missed (plan u k) u ≡ false → guess k u ≡ executed k u)
+    (state : x ≡ state_after_execution k u) (told : IsCompleted ds n k u is.front done) where
+  pub running-on : IsOutlook ds n (due - 1) due None (guess k u) (front_after_entry ds n is.front (entry k u)) new
+      → may_come_from_outside count x ≡ false → done.missed ≡ None → interrupt x ≡ None → rests x ≡ false
+      → (is_missed (plan u k) u ≡ false → guess k u ≡ state_after_execution k u)
       → IsRunning ds n count last now t s f None x new
   running-on out nothing missed none awake guessed =
       let right : is_missed (plan u k) u ≡ false = missed-none (is_missed (plan u k) u) (plan u k).following (sym told.missed ∙ missed) in
-      let front = after ds n is.front (entry k u) in
+      let front = front_after_entry ds n is.front (entry k u) in
       let c : front.c ≡ due = after-c ds n is.front (entry k u) ∙ at.row_is in
       let same : guess k u ≡ x = guessed right ∙ sym state in
       let outlook = subst (λ (m : Machine). IsOutlook ds n (due - 1) due None m front new) same out in
       let one = one-passed ds n due k u is.front at.row_is right (ap {A = Machine} interrupt (sym state) ∙ none) (ap {A = Machine} rests (sym state) ∙ awake) count
-      (ap {A = Machine} (comes count) (sym state) ∙ nothing) in
+      (ap {A = Machine} (may_come_from_outside count) (sym state) ∙ nothing) in
       let idle = running-idle ds n count last now due t k s u f v is at.later (omega (arith, at.row_is)) in
       record {
         tick = due;
         front = front;
         passed =
-            subst (λ (m : Machine). ArePassed count (due + 1 - now) (between ds n s t f now) (between ds n m None front (due + 1))) (sym state)
-            (move ds n count _ _ now _ _ t None s (executed k u) f front (omega (arith, at.later, is.behind)) refl
+            subst (λ (m : Machine). ArePassed count (due + 1 - now) (machine_between_ticks ds n s t f now) (machine_between_ticks ds n m None front (due + 1))) (sym state)
+            (move ds n count _ _ now _ _ t None s (state_after_execution k u) f front (omega (arith, at.later, is.behind)) refl
             (passed-join count (due - now) 1 _ _ _ idle one));
         behind = omega (arith, at.later, is.behind);
         soon = at.soon;
@@ -183,7 +183,7 @@ module _ (ds : List ℕ) (n count last now due : ℕ) (t k : Option ℕ) (s u x 
 -- ---- it ends
 
 pub running-ends : (ds : List ℕ) (n count last now : ℕ) (t k : Option ℕ) (s u : Machine) (f : Front) (v w : LookView)
-    (is : IsRunning ds n count last now t s f k u v) → last < (row ds n is.front (entry k u)).c → IsLook ds n last (last + 1) k u is.front w
+    (is : IsRunning ds n count last now t s f k u v) → last < (row_of_entry ds n is.front (entry k u)).c → IsLook ds n last (last + 1) k u is.front w
     → HasPassed ds n count last now t s f k u w
 running-ends ds n count last now t k s u f v w is late look = record {
   front = is.front;
@@ -194,8 +194,8 @@ running-ends ds n count last now t k s u f v w is late look = record {
 
 -- the answers of the banks at the end of a segment
 pub banks-between : (ds : List ℕ) (n now : ℕ) (t : Option ℕ) (s : Machine) (f : Front) (v : LookView)
-    → (made_before ds now (asked ds n f (entry t s) ++ reads_before ds n now (ahead ds n (suc n) None (guess t s) (after ds n f (entry t s)))) f.bus).banks.ticks
+    → (made_before ds now (reads_of_entry ds n f (entry t s) ++ reads_before ds n now (ahead ds n (suc n) None (guess t s) (front_after_entry ds n f (entry t s)))) f.bus).banks.ticks
     ≡ (answers_before now v).ticks
-    → banks_at_its_end (between ds n s t f now) ≡ answers_before now v
-unfolding seen banks_at_its_end
+    → banks_at_its_end (machine_between_ticks ds n s t f now) ≡ answers_before now v
+unfolding state_ahead banks_at_its_end
 banks-between ds n now t s f v h = same-answers _ _ h

@@ -5,11 +5,11 @@ use Rattle.std.proofs.lemmas.List.Elements.{All-weaker}
 use Rattle.st_state.specs.Machine.{Machine, IsMachine}
 use Rattle.st_prep.specs.BesideOrders.{AreAlikeBesideOrders}
 use Rattle.st_prep.specs.Fetch.{place_of}
-use Rattle.st_prep.specs.Plan.{plan, needs, sight, prepared}
+use Rattle.st_prep.specs.Plan.{plan, needs, sight, prepared_entry}
 use Rattle.st_exec.specs.Completion.{guess}
 use Rattle.st_segment.proofs.GuessLemmas.{guess-machine}
-use Rattle.st_rows.specs.Asked.{asked}
-use Rattle.st_rows.specs.Rows.{after, tick_a, bus_a, tick_p}
+use Rattle.st_rows.specs.Asked.{reads_of_entry}
+use Rattle.st_rows.specs.Rows.{front_after_entry, tick_a, bus_a, tick_p}
 use Rattle.st_rows.specs.Notes.{IsLogged}
 use Rattle.st_rows.specs.declared.entry.Entry.{Entry}
 use Rattle.st_rows.specs.declared.front.Front.{Front}
@@ -22,8 +22,8 @@ use Rattle.st_levels.specs.Levels.{AreNotDone}
 use Rattle.st_levels.specs.declared.plans.Plan.{Plan}
 use Rattle.st_levels.proofs.AloneLemmas.{AwaitsLast, behind-ahead}
 use Rattle.st_levels.proofs.PassLemmas.{ahead-same, full-same}
-use Rattle.st_next.specs.Words.{AreFirst}
-use Rattle.st_next.specs.Progress.{IsNext, IsFound, IsPlannedIf, Rests, Planned, Waits, Target, reads_so_far}
+use Rattle.st_next.specs.Words.{AreFirstWords}
+use Rattle.st_next.specs.Progress.{IsNext, IsFoundNext, IsPlannedIf, Rests, Planned, Waits, Target, reads_so_far}
 use Rattle.st_next.specs.declared.next.Next.{Next}
 use Rattle.st_ahead.specs.Look.{LookView, IsLook, IsOpened, IsNextIf, asked_ahead, count, is_open}
 
@@ -43,13 +43,13 @@ module _ (ds : List ℕ) (n : ℕ) where
   asked-same zero s u f m beside run = refl
   asked-same (suc k) s u f m beside run =
       let same = entry-same None s u beside in
-      ap (λ e. asked ds n f e ++ asked_ahead ds n k None (guess None u) (after ds n f e)) same
-      ∙ ap (λ reads. asked ds n f (entry None s) ++ reads)
-      (asked-same k (guess None s) (guess None u) (after ds n f (entry None s)) (guess-machine None s m tt) (guess-same s u m beside run.0) run.1)
+      ap (λ e. reads_of_entry ds n f e ++ asked_ahead ds n k None (guess None u) (front_after_entry ds n f e)) same
+      ∙ ap (λ reads. reads_of_entry ds n f (entry None s) ++ reads)
+      (asked-same k (guess None s) (guess None u) (front_after_entry ds n f (entry None s)) (guess-machine None s m tt) (guess-same s u m beside run.0) run.1)
 
   -- ---- the entry that is prepared next
 
-  found-same : (t : Option ℕ) (s u : Machine) (next : Next) → AreAlikeBesideOrders s u → IsFound t s next → IsFound t u next
+  found-same : (t : Option ℕ) (s u : Machine) (next : Next) → AreAlikeBesideOrders s u → IsFoundNext t s next → IsFoundNext t u next
   unfolding sight
   found-same t s u next beside is =
       let same : entry t s ≡ entry t u = sym (entry-same t s u beside) in
@@ -68,7 +68,7 @@ module _ (ds : List ℕ) (n : ℕ) where
       record {
         all = found-same t s u next beside is.all;
         needs = is.needs ∙ ap needs seen;
-        prepared = is.prepared ∙ ap (λ v. prepared v (option_map (λ w. 0) (needs v).index_read)) seen;
+        prepared = is.prepared ∙ ap (λ v. prepared_entry v (option_map (λ w. 0) (needs v).index_read)) seen;
         entry = is.entry ∙ same;
         address = is.address ∙ ap (λ e. tick_a ds f e) same;
         bus = is.bus ∙ ap (λ e. bus_a ds f e) same;
@@ -80,7 +80,7 @@ module _ (ds : List ℕ) (n : ℕ) where
   next-same t s u f next beside is = record {
     read_on = record {
       place = is.read_on.place ∙ sym (same-place s u t beside);
-      first = subst (AreFirst next.own next.target) (sym (entry-same t s u beside)) is.read_on.first;
+      first = subst (AreFirstWords next.own next.target) (sym (entry-same t s u beside)) is.read_on.first;
       words = is.read_on.words;
       awaited = is.read_on.awaited;
     };

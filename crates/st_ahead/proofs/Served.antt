@@ -3,8 +3,8 @@ use Rattle.std.proofs.Common.{◌≡◌, ℕ, suc, List, [], ◌∷◌, ◌++◌
 use Rattle.std.proofs.lemmas.List.{append-nil}
 use Rattle.st_state.specs.Machine.{Machine}
 use Rattle.st_exec.specs.Completion.{guess}
-use Rattle.st_rows.specs.Asked.{asked, served}
-use Rattle.st_rows.specs.Rows.{after}
+use Rattle.st_rows.specs.Asked.{reads_of_entry, bus_after_reads}
+use Rattle.st_rows.specs.Rows.{front_after_entry}
 use Rattle.st_rows.specs.declared.front.Front.{Front}
 use Rattle.st_rows.proofs.Served.{served-append, served-asked}
 use Rattle.st_ring.specs.declared.level.Level.{Level}
@@ -17,27 +17,27 @@ use Rattle.st_ahead.specs.Look.{asked_ahead}
 
 module _ (ds : List ℕ) (n tick : ℕ) where
   pub served-ahead : (t : Option ℕ) (s : Machine) (f last : Front) (ring : List Level) (plans : List Plan)
-      → AreLevels ds n tick t s f last ring plans → served ds (asked_ahead ds n (length ring) t s f) f.bus ≡ last.bus
-  unfolding AreLevels asked_ahead served
+      → AreLevels ds n tick t s f last ring plans → bus_after_reads ds (asked_ahead ds n (length ring) t s f) f.bus ≡ last.bus
+  unfolding AreLevels asked_ahead bus_after_reads
   served-ahead t s f last [] [] h = ap (λ (g : Front). g.bus) (sym h)
   served-ahead t s f last [] (q ∷ qs) h = absurd h
   served-ahead t s f last (level ∷ levels) [] h = absurd h
   served-ahead t s f last (level ∷ levels) (q ∷ qs) h =
-      let rest = asked_ahead ds n (length levels) None (guess t s) (after ds n f (entry t s)) in
-      served-append ds (asked ds n f (entry t s)) rest f.bus
-      ∙ ap (served ds rest) (served-asked ds n f (entry t s))
-      ∙ served-ahead None (guess t s) (after ds n f (entry t s)) last levels qs h.1
+      let rest = asked_ahead ds n (length levels) None (guess t s) (front_after_entry ds n f (entry t s)) in
+      served-append ds (reads_of_entry ds n f (entry t s)) rest f.bus
+      ∙ ap (bus_after_reads ds rest) (served-asked ds n f (entry t s))
+      ∙ served-ahead None (guess t s) (front_after_entry ds n f (entry t s)) last levels qs h.1
 
   pub asked-more : (t k : Option ℕ) (s u : Machine) (f last : Front) (ring : List Level) (plans : List Plan)
       → k ≡ table_behind (length ring) t → u ≡ guesses (length ring) t s → AreLevels ds n tick t s f last ring plans
-      → asked_ahead ds n (suc (length ring)) t s f ≡ asked_ahead ds n (length ring) t s f ++ asked ds n last (entry k u)
+      → asked_ahead ds n (suc (length ring)) t s f ≡ asked_ahead ds n (length ring) t s f ++ reads_of_entry ds n last (entry k u)
   unfolding AreLevels asked_ahead guesses
   asked-more t k s u f last [] [] table state h =
-      append-nil (asked ds n f (entry t s)) ∙ ap₂ (λ g e. asked ds n g e) (sym h) (sym (ap₂ entry table state))
+      append-nil (reads_of_entry ds n f (entry t s)) ∙ ap₂ (λ g e. reads_of_entry ds n g e) (sym h) (sym (ap₂ entry table state))
   asked-more t k s u f last [] (q ∷ qs) table state h = absurd h
   asked-more t k s u f last (level ∷ levels) [] table state h = absurd h
   asked-more t k s u f last (level ∷ levels) (q ∷ qs) table state h =
-      let first = asked ds n f (entry t s) in
+      let first = reads_of_entry ds n f (entry t s) in
       ap (λ reads. first ++ reads)
-      (asked-more None k (guess t s) u (after ds n f (entry t s)) last levels qs (table ∙ sym (behind-none (length levels))) state h.1)
-      ∙ sym (append_assoc first (asked_ahead ds n (length levels) None (guess t s) (after ds n f (entry t s))) (asked ds n last (entry k u)))
+      (asked-more None k (guess t s) u (front_after_entry ds n f (entry t s)) last levels qs (table ∙ sym (behind-none (length levels))) state h.1)
+      ∙ sym (append_assoc first (asked_ahead ds n (length levels) None (guess t s) (front_after_entry ds n f (entry t s))) (reads_of_entry ds n last (entry k u)))

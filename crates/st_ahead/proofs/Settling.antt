@@ -9,17 +9,17 @@ use Rattle.st_prep.specs.declared.entries.Place.{Place}
 use Rattle.st_exec.specs.Step.{interrupt, rests}
 use Rattle.st_banks.specs.declared.answers.LastAnswers.{LastAnswers}
 use Rattle.st_banks.specs.declared.answers.TheConstants.{BANKS}
-use Rattle.st_rows.specs.Rows.{opening}
+use Rattle.st_rows.specs.Rows.{opening_front}
 use Rattle.st_rows.specs.declared.front.Front.{Front}
 use Rattle.st_ring.specs.declared.level.Level.{Level}
 use Rattle.st_levels.specs.Levels.{oldest_front}
 use Rattle.st_segment.specs.Ahead.{ahead, prepared_before}
 use Rattle.st_levels.proofs.LevelLemmas.{length-ahead}
-use Rattle.st_ahead.specs.Overlap.{Overlap, seen, with_counter, levels_of, interrupt_due, idle_banks}
-use Rattle.st_ahead.specs.Calls.{dropped, ended, passed, settled, answer, settled_by, answer_by}
+use Rattle.st_ahead.specs.Overlap.{Overlap, state_ahead, with_counter, levels_of, interrupt_due, idle_banks}
+use Rattle.st_ahead.specs.Calls.{drop_count, machine_after_segment, machine_after_pass, machine_after_settling, answer, settled_by, answer_by}
 use Rattle.st_ahead.specs.Look.{LookView, IsLook, IsOpened, count, is_open}
 use Rattle.st_ahead.specs.Going.{IsGoing}
-use Rattle.st_ahead.specs.Inside.{standing, answers_before, IsBetween, IsInside, IsInTime, IsLooking}
+use Rattle.st_ahead.specs.Inside.{overlap_of, answers_before, IsBetween, IsInside, IsInTime, IsLooking}
 use Rattle.st_ahead.proofs.Openings.{opening-looks}
 use Rattle.st_ahead.specs.declared.events.Settled.TheVariants.{Goes, Interrupt, Missed, Waits}
 use Rattle.st_ahead.proofs.Further.{next-sooner}
@@ -28,8 +28,8 @@ use Rattle.st_ahead.proofs.Standing.{opened-answers, opened-front, same-fields, 
 -- ---- what is due where no entry was done
 
 pub quiet-inside : (halt : Bool) (n : ℕ) (ds : List ℕ) (s : Machine) (t b : Option ℕ) (now : ℕ) (owed over fresh : Bool) (v : LookView)
-    → IsInside (standing n ds s t b now owed over halt fresh v) fresh v → (standing n ds s t b now owed over halt fresh v).closing ≡ None
-    → (interrupt_due (standing n ds s t b now owed over halt fresh v) ≡ None) × (rests s ≡ false) × (b ≡ None)
+    → IsInside (overlap_of n ds s t b now owed over halt fresh v) fresh v → (overlap_of n ds s t b now owed over halt fresh v).closing ≡ None
+    → (interrupt_due (overlap_of n ds s t b now owed over halt fresh v) ≡ None) × (rests s ≡ false) × (b ≡ None)
 quiet-inside halt n ds s t b now owed over false v is e = let quiet = is.quiet refl in (quiet.0, quiet.1, is.behind_fresh refl)
 quiet-inside halt n ds s t b now owed over true v is e = absurd (cc e)
 
@@ -53,8 +53,8 @@ pub record IsEnded (m e : Overlap) : Type 0 where
   pub stopped : e.stopped ≡ m.stopped
   pub closing : e.closing ≡ m.closing
 
-pub ended-rest : (m e : Overlap) (b : Bool) → m.ended ≡ b → e ≡ ended m → IsEnded m e
-unfolding ended
+pub ended-rest : (m e : Overlap) (b : Bool) → m.ended ≡ b → e ≡ machine_after_segment m → IsEnded m e
+unfolding machine_after_segment
 ended-rest m e true over is =
     let same : e ≡ m = is ∙ chosen m.ended m _ over in
     record {
@@ -85,37 +85,37 @@ due-taken m i e = due-none m.taken (interrupt m.state) i e
 
 -- ---- answers
 
-pub answer-interrupt : (m e : Overlap) (i d : ℕ) → e.state ≡ m.state → d ≡ dropped m → interrupt_due m ≡ Some i
+pub answer-interrupt : (m e : Overlap) (i d : ℕ) → e.state ≡ m.state → d ≡ drop_count m → interrupt_due m ≡ Some i
     → Interrupt i e.state.done e.state.ic d ≡ answer m
 unfolding answer
 answer-interrupt m e i d state count due = rw (due, state, count) refl
 
-pub settled-interrupt : (m e x : Overlap) (i : ℕ) → e ≡ ended m → interrupt_due m ≡ Some i → x ≡ passed (record e { taken = Some i }) → x ≡ settled m
-unfolding settled
-settled-interrupt m e x i ends due is = rw due (is ∙ ap (λ (y : Overlap). passed (record y { taken = Some i })) ends)
+pub settled-interrupt : (m e x : Overlap) (i : ℕ) → e ≡ machine_after_segment m → interrupt_due m ≡ Some i → x ≡ machine_after_pass (record e { taken = Some i }) → x ≡ machine_after_settling m
+unfolding machine_after_settling
+settled-interrupt m e x i ends due is = rw due (is ∙ ap (λ (y : Overlap). machine_after_pass (record y { taken = Some i })) ends)
 
 pub answer-waits : (m : Overlap) → interrupt_due m ≡ None → rests m.state ≡ true → Waits ≡ answer m
 unfolding answer
 answer-waits m due waits = rw (due, waits) refl
 
-pub settled-waits : (m : Overlap) → interrupt_due m ≡ None → rests m.state ≡ true → ended m ≡ settled m
-unfolding settled
+pub settled-waits : (m : Overlap) → interrupt_due m ≡ None → rests m.state ≡ true → machine_after_segment m ≡ machine_after_settling m
+unfolding machine_after_settling
 settled-waits m due waits = rw (due, waits) refl
 
-answer-by-missed : (p : Option ℕ) (m : Overlap) → is_some p ≡ true → Missed (dropped m) ≡ answer_by None false p m
+answer-by-missed : (p : Option ℕ) (m : Overlap) → is_some p ≡ true → Missed (drop_count m) ≡ answer_by None false p m
 answer-by-missed (Some h) m e = refl
 answer-by-missed None m e = absurd (cc e)
 
-settled-by-missed : (p : Option ℕ) (m : Overlap) → is_some p ≡ true → passed (ended m) ≡ settled_by None false p m
+settled-by-missed : (p : Option ℕ) (m : Overlap) → is_some p ≡ true → machine_after_pass (machine_after_segment m) ≡ settled_by None false p m
 settled-by-missed (Some h) m e = refl
 settled-by-missed None m e = absurd (cc e)
 
-pub answer-missed : (m : Overlap) (d : ℕ) → d ≡ dropped m → interrupt_due m ≡ None → rests m.state ≡ false → is_some m.behind ≡ true → Missed d ≡ answer m
+pub answer-missed : (m : Overlap) (d : ℕ) → d ≡ drop_count m → interrupt_due m ≡ None → rests m.state ≡ false → is_some m.behind ≡ true → Missed d ≡ answer m
 unfolding answer
 answer-missed m d count due goes missed = rw (due, goes, count) (answer-by-missed m.behind m missed)
 
-pub settled-missed : (m x : Overlap) → interrupt_due m ≡ None → rests m.state ≡ false → is_some m.behind ≡ true → x ≡ passed (ended m) → x ≡ settled m
-unfolding settled
+pub settled-missed : (m x : Overlap) → interrupt_due m ≡ None → rests m.state ≡ false → is_some m.behind ≡ true → x ≡ machine_after_pass (machine_after_segment m) → x ≡ machine_after_settling m
+unfolding machine_after_settling
 settled-missed m x due goes missed is = rw (due, goes) (is ∙ settled-by-missed m.behind m missed)
 
 pub none-behind : (p : Option ℕ) → is_some p ≡ false → p ≡ None
@@ -126,37 +126,37 @@ pub answer-goes : (m : Overlap) → interrupt_due m ≡ None → rests m.state �
 unfolding answer
 answer-goes m due goes right = rw (due, goes, right) refl
 
-pub settled-goes : (m x : Overlap) → interrupt_due m ≡ None → rests m.state ≡ false → m.behind ≡ None → x ≡ passed m → x ≡ settled m
-unfolding settled
+pub settled-goes : (m x : Overlap) → interrupt_due m ≡ None → rests m.state ≡ false → m.behind ≡ None → x ≡ machine_after_pass m → x ≡ machine_after_settling m
+unfolding machine_after_settling
 settled-goes m x due goes right is = rw (due, goes, right) is
 
 -- ---- the levels that are dropped
 
 pub levels-counted : (halt : Bool) (n : ℕ) (ds : List ℕ) (s : Machine) (t b : Option ℕ) (now : ℕ) (fresh : Bool) (v : LookView)
     → prepared_before now (ahead ds n n t (with_counter b s) (oldest_front v.levels.plans v.front)) ≡ ahead ds n (count v) t (with_counter b s) (oldest_front v.levels.plans v.front)
-    → length (levels_of (standing n ds s t b now true false halt fresh v)) ≡ count v
-unfolding levels_of seen
+    → length (levels_of (overlap_of n ds s t b now true false halt fresh v)) ≡ count v
+unfolding levels_of state_ahead
 levels-counted halt n ds s t b now fresh v levels =
     ap length levels ∙ length-ahead ds n (count v) t (with_counter b s) (oldest_front v.levels.plans v.front)
 
-pub end-calm : (halt : Bool) (n : ℕ) (ds : List ℕ) (s : Machine) (b : Option ℕ) (now : ℕ) (v w : LookView)
-    → IsInside (standing n ds s None b now true false halt true v) true v → count v ≤ n
-    → length (levels_of (standing n ds s None b now true false halt true v)) ≡ count v
-    → IsOpened None s (opening (answers_before now v) (now + 1 + count v)) w
+pub end-hazard_free : (halt : Bool) (n : ℕ) (ds : List ℕ) (s : Machine) (b : Option ℕ) (now : ℕ) (v w : LookView)
+    → IsInside (overlap_of n ds s None b now true false halt true v) true v → count v ≤ n
+    → length (levels_of (overlap_of n ds s None b now true false halt true v)) ≡ count v
+    → IsOpened None s (opening_front (answers_before now v) (now + 1 + count v)) w
     → All (λ x. x ≤ now + 1 + count v + 255) (answers_before now v).ticks
-    → IsInside (standing n ds s None b now true true halt true w) true w
-    × (count v ≡ dropped (standing n ds s None b now true false halt true v))
-    × (standing n ds s None b now true true halt true w ≡ ended (standing n ds s None b now true false halt true v))
-unfolding dropped ended
-end-calm halt n ds s b now v w is most levels opened early =
+    → IsInside (overlap_of n ds s None b now true true halt true w) true w
+    × (count v ≡ drop_count (overlap_of n ds s None b now true false halt true v))
+    × (overlap_of n ds s None b now true true halt true w ≡ machine_after_segment (overlap_of n ds s None b now true false halt true v))
+unfolding drop_count machine_after_segment
+end-hazard_free halt n ds s b now v w is most levels opened early =
     let banks : answers_before now w ≡ answers_before now v = opened-answers now None s (answers_before now v) (now + 1 + count v) w opened in
     let start : w.front.c ≡ now + 1 + count v = ap (λ (f : Front). f.c) opened.front in
     let few : n ≤ 8 = is.few in
-    let front = opened-front None s (opening (answers_before now v) (now + 1 + count v)) w opened in
+    let front = opened-front None s (opening_front (answers_before now v) (now + 1 + count v)) w opened in
     let between : IsBetween now None s w = record {
       opened =
-          subst (λ (x : LastAnswers). IsOpened None s (opening x w.front.c) w) (sym banks)
-          (subst (λ (x : ℕ). IsOpened None s (opening (answers_before now v) x) w) (sym start) opened);
+          subst (λ (x : LastAnswers). IsOpened None s (opening_front x w.front.c) w) (sym banks)
+          (subst (λ (x : ℕ). IsOpened None s (opening_front (answers_before now v) x) w) (sym start) opened);
       banks = subst (λ (x : LastAnswers). All (λ y. y ≤ w.front.c + 255) x.ticks) (sym banks)
           (subst (λ (x : ℕ). All (λ y. y ≤ x + 255) (answers_before now v).ticks) (sym start) early);
       later = omega (arith, start);
@@ -179,52 +179,52 @@ end-calm halt n ds s b now v w is most levels opened early =
         near = λ e. subst (λ (x : LastAnswers). All (λ y. y ≤ now + 255) x.ticks) (sym banks) (is.near refl);
       },
       sym levels,
-      same-fields halt ds n s s None b b _ _ now true true _ _ refl refl (front ∙ ap (λ k. opening (answers_before now v) (now + 1 + k)) (sym levels)) (ap Some banks),
+      same-fields halt ds n s s None b b _ _ now true true _ _ refl refl (front ∙ ap (λ k. opening_front (answers_before now v) (now + 1 + k)) (sym levels)) (ap Some banks),
     )
 
 -- where the segment has ended already
 pub end-again : (halt : Bool) (n : ℕ) (ds : List ℕ) (s : Machine) (t b : Option ℕ) (now : ℕ) (owed over fresh : Bool) (v : LookView) → over ≡ true
-    → (0 ≡ dropped (standing n ds s t b now owed over halt fresh v))
-    × (standing n ds s t b now owed over halt fresh v ≡ ended (standing n ds s t b now owed over halt fresh v))
-unfolding dropped ended
+    → (0 ≡ drop_count (overlap_of n ds s t b now owed over halt fresh v))
+    × (overlap_of n ds s t b now owed over halt fresh v ≡ machine_after_segment (overlap_of n ds s t b now owed over halt fresh v))
+unfolding drop_count machine_after_segment
 end-again halt n ds s t b now owed true fresh v e = (refl, refl)
 end-again halt n ds s t b now owed false fresh v e = absurd (cc e)
 
 pub end-first : (halt : Bool) (n : ℕ) (ds : List ℕ) (s : Machine) (t b : Option ℕ) (now : ℕ) (owed over fresh : Bool) (v w : LookView)
-    → IsInside (standing n ds s t b now owed over halt fresh v) fresh v → owed ≡ true → over ≡ false → fresh ≡ true → count v ≤ n
+    → IsInside (overlap_of n ds s t b now owed over halt fresh v) fresh v → owed ≡ true → over ≡ false → fresh ≡ true → count v ≤ n
     → (IsLook ds n now now t (with_counter b s) (oldest_front v.levels.plans v.front) v
     → prepared_before now (ahead ds n n t (with_counter b s) (oldest_front v.levels.plans v.front)) ≡ ahead ds n (count v) t (with_counter b s) (oldest_front v.levels.plans v.front))
-    → (IsLook ds n now now t (with_counter b s) (oldest_front v.levels.plans v.front) v → IsOpened None s (opening (answers_before now v) (now + 1 + count v)) w)
+    → (IsLook ds n now now t (with_counter b s) (oldest_front v.levels.plans v.front) v → IsOpened None s (opening_front (answers_before now v) (now + 1 + count v)) w)
     → All (λ x. x ≤ now + 1 + count v + 255) (answers_before now v).ticks
-    → IsInside (standing n ds s t b now owed true halt fresh w) fresh w
-    × (count v ≡ dropped (standing n ds s t b now owed over halt fresh v))
-    × (standing n ds s t b now owed true halt fresh w ≡ ended (standing n ds s t b now owed over halt fresh v))
-unfolding seen
+    → IsInside (overlap_of n ds s t b now owed true halt fresh w) fresh w
+    × (count v ≡ drop_count (overlap_of n ds s t b now owed over halt fresh v))
+    × (overlap_of n ds s t b now owed true halt fresh w ≡ machine_after_segment (overlap_of n ds s t b now owed over halt fresh v))
+unfolding state_ahead
 end-first halt n ds s t b now false over fresh v w is owes ends done most levels opened early = absurd (cc owes)
 end-first halt n ds s t b now true true fresh v w is owes ends done most levels opened early = absurd (cc ends)
 end-first halt n ds s t b now true false false v w is owes ends done most levels opened early = absurd (cc done)
 end-first halt n ds s (Some i) b now true false true v w is owes ends done most levels opened early = absurd (cc (is.none_taken refl))
 end-first halt n ds s None b now true false true v w is owes ends done most levels opened early =
-    end-calm halt n ds s b now v w is most (levels-counted halt n ds s None b now true v (levels is.looking)) (opened is.looking) early
+    end-hazard_free halt n ds s b now v w is most (levels-counted halt n ds s None b now true v (levels is.looking)) (opened is.looking) early
 
 -- where no entry was done at the tick
-given-calm : (halt : Bool) (n : ℕ) (ds : List ℕ) (s : Machine) (t b : Option ℕ) (now : ℕ) (v w : LookView)
-    → IsInside (standing n ds s t b now true false halt false v) false v → count v ≤ n
-    → length (levels_of (standing n ds s t b now true false halt false v)) ≡ count v
-    → IsOpened t s (opening idle_banks (now + 1 + count v)) w
-    → IsInside (standing n ds s t b now true true halt false w) false w
-    × (count v ≡ dropped (standing n ds s t b now true false halt false v))
-    × (standing n ds s t b now true true halt false w ≡ ended (standing n ds s t b now true false halt false v))
-unfolding dropped ended
-given-calm halt n ds s t b now v w is most levels opened =
+given-hazard_free : (halt : Bool) (n : ℕ) (ds : List ℕ) (s : Machine) (t b : Option ℕ) (now : ℕ) (v w : LookView)
+    → IsInside (overlap_of n ds s t b now true false halt false v) false v → count v ≤ n
+    → length (levels_of (overlap_of n ds s t b now true false halt false v)) ≡ count v
+    → IsOpened t s (opening_front idle_banks (now + 1 + count v)) w
+    → IsInside (overlap_of n ds s t b now true true halt false w) false w
+    × (count v ≡ drop_count (overlap_of n ds s t b now true false halt false v))
+    × (overlap_of n ds s t b now true true halt false w ≡ machine_after_segment (overlap_of n ds s t b now true false halt false v))
+unfolding drop_count machine_after_segment
+given-hazard_free halt n ds s t b now v w is most levels opened =
     let banks : answers_before now w ≡ idle_banks = opened-answers now t s idle_banks (now + 1 + count v) w opened in
     let start : w.front.c ≡ now + 1 + count v = ap (λ (f : Front). f.c) opened.front in
     let few : n ≤ 8 = is.few in
-    let front = opened-front t s (opening idle_banks (now + 1 + count v)) w opened in
+    let front = opened-front t s (opening_front idle_banks (now + 1 + count v)) w opened in
     let between : IsBetween now t s w = record {
       opened =
-          subst (λ (x : LastAnswers). IsOpened t s (opening x w.front.c) w) (sym banks)
-          (subst (λ (x : ℕ). IsOpened t s (opening idle_banks x) w) (sym start) opened);
+          subst (λ (x : LastAnswers). IsOpened t s (opening_front x w.front.c) w) (sym banks)
+          (subst (λ (x : ℕ). IsOpened t s (opening_front idle_banks x) w) (sym start) opened);
       banks = subst (λ (x : LastAnswers). All (λ y. y ≤ w.front.c + 255) x.ticks) (sym banks)
           (All-replicate (λ (y : ℕ). y ≤ w.front.c + 255) BANKS 0 (omega arith));
       later = omega (arith, start);
@@ -247,28 +247,28 @@ given-calm halt n ds s t b now v w is most levels opened =
         near = λ e. absurd (cc e);
       },
       sym levels,
-      same-fields halt ds n s s t b b _ _ now true true None None refl refl (front ∙ ap (λ k. opening idle_banks (now + 1 + k)) (sym levels)) refl,
+      same-fields halt ds n s s t b b _ _ now true true None None refl refl (front ∙ ap (λ k. opening_front idle_banks (now + 1 + k)) (sym levels)) refl,
     )
 
 pub given-up : (halt : Bool) (n : ℕ) (ds : List ℕ) (s : Machine) (t b : Option ℕ) (now : ℕ) (owed over fresh : Bool) (v w : LookView)
-    → IsInside (standing n ds s t b now owed over halt fresh v) fresh v → owed ≡ true → over ≡ false
-    → (standing n ds s t b now owed over halt fresh v).closing ≡ None → count v ≤ n
+    → IsInside (overlap_of n ds s t b now owed over halt fresh v) fresh v → owed ≡ true → over ≡ false
+    → (overlap_of n ds s t b now owed over halt fresh v).closing ≡ None → count v ≤ n
     → (IsLook ds n now now t (with_counter b s) (oldest_front v.levels.plans v.front) v
     → prepared_before now (ahead ds n n t (with_counter b s) (oldest_front v.levels.plans v.front)) ≡ ahead ds n (count v) t (with_counter b s) (oldest_front v.levels.plans v.front))
-    → (IsLook ds n now now t (with_counter b s) (oldest_front v.levels.plans v.front) v → IsOpened t s (opening idle_banks (now + 1 + count v)) w)
-    → IsInside (standing n ds s t b now owed true halt fresh w) fresh w
-    × (count v ≡ dropped (standing n ds s t b now owed over halt fresh v))
-    × (standing n ds s t b now owed true halt fresh w ≡ ended (standing n ds s t b now owed over halt fresh v))
-unfolding seen
+    → (IsLook ds n now now t (with_counter b s) (oldest_front v.levels.plans v.front) v → IsOpened t s (opening_front idle_banks (now + 1 + count v)) w)
+    → IsInside (overlap_of n ds s t b now owed true halt fresh w) fresh w
+    × (count v ≡ drop_count (overlap_of n ds s t b now owed over halt fresh v))
+    × (overlap_of n ds s t b now owed true halt fresh w ≡ machine_after_segment (overlap_of n ds s t b now owed over halt fresh v))
+unfolding state_ahead
 given-up halt n ds s t b now false over fresh v w is owes ends none most levels opened = absurd (cc owes)
 given-up halt n ds s t b now true true fresh v w is owes ends none most levels opened = absurd (cc ends)
 given-up halt n ds s t b now true false true v w is owes ends none most levels opened = absurd (cc none)
 given-up halt n ds s t b now true false false v w is owes ends none most levels opened =
-    given-calm halt n ds s t b now v w is most (levels-counted halt n ds s t b now false v (levels is.looking)) (opened is.looking)
+    given-hazard_free halt n ds s t b now v w is most (levels-counted halt n ds s t b now false v (levels is.looking)) (opened is.looking)
 
 -- what it asks for: the number of the tick, and the indicator that was taken, are within their ranges
 pub giving-up : (halt : Bool) (n : ℕ) (ds : List ℕ) (s : Machine) (t b : Option ℕ) (now : ℕ) (owed over fresh : Bool) (v : LookView)
-    → IsInside (standing n ds s t b now owed over halt fresh v) fresh v → owed ≡ true → (now < 2 ^ 63) × IfSome t (λ i. i < 64)
+    → IsInside (overlap_of n ds s t b now owed over halt fresh v) fresh v → owed ≡ true → (now < 2 ^ 63) × IfSome t (λ i. i < 64)
 giving-up halt n ds s t b now false over fresh v is owes = absurd (cc owes)
 giving-up halt n ds s t b now true over fresh v is owes = (is.in_time, is.indicator)
 
@@ -279,29 +279,29 @@ pub record IsEnding (n : ℕ) (ds : List ℕ) (s : Machine) (t b : Option ℕ) (
   pub early : now < 2 ^ 63
 
 pub ending : (halt : Bool) (n : ℕ) (ds : List ℕ) (s : Machine) (t b : Option ℕ) (now : ℕ) (owed over fresh : Bool) (v : LookView)
-    → IsInside (standing n ds s t b now owed over halt fresh v) fresh v → owed ≡ true → over ≡ false → fresh ≡ true
+    → IsInside (overlap_of n ds s t b now owed over halt fresh v) fresh v → owed ≡ true → over ≡ false → fresh ≡ true
     → IsEnding n ds s t b now v
-unfolding seen
+unfolding state_ahead
 ending halt n ds s t b now false over fresh v is owes ends done = absurd (cc owes)
 ending halt n ds s t b now true true fresh v is owes ends done = absurd (cc ends)
 ending halt n ds s t b now true false false v is owes ends done = absurd (cc done)
 ending halt n ds s t b now true false true v is owes ends done = record { look = is.looking; done = is.done_now refl refl; early = is.in_time }
 
 pub fresh-closing : (halt : Bool) (n : ℕ) (ds : List ℕ) (s : Machine) (t b : Option ℕ) (now : ℕ) (owed over fresh : Bool) (v : LookView)
-    → IsSome (standing n ds s t b now owed over halt fresh v).closing → fresh ≡ true
+    → IsSome (overlap_of n ds s t b now owed over halt fresh v).closing → fresh ≡ true
 fresh-closing halt n ds s t b now owed over true v some = refl
 fresh-closing halt n ds s t b now owed over false v some = absurd (cc some)
 
 -- ---- the end of a run
 
 same-looking : (over halt : Bool) (n : ℕ) (ds : List ℕ) (s : Machine) (t b : Option ℕ) (now : ℕ) (owed fresh : Bool) (v : LookView)
-    → IsLooking over (standing n ds s t b now owed over halt fresh v) v → IsLooking over (standing n ds s t b now owed over true fresh v) v
-unfolding seen
+    → IsLooking over (overlap_of n ds s t b now owed over halt fresh v) v → IsLooking over (overlap_of n ds s t b now owed over true fresh v) v
+unfolding state_ahead
 same-looking true halt n ds s t b now owed fresh v is = is
 same-looking false halt n ds s t b now owed fresh v is = is
 
 pub stop-inside : (halt : Bool) (n : ℕ) (ds : List ℕ) (s : Machine) (t b : Option ℕ) (now : ℕ) (owed over fresh : Bool) (v : LookView)
-    → IsInside (standing n ds s t b now owed over halt fresh v) fresh v → owed ≡ true → IsInside (standing n ds s t b now owed over true fresh v) fresh v
+    → IsInside (overlap_of n ds s t b now owed over halt fresh v) fresh v → owed ≡ true → IsInside (overlap_of n ds s t b now owed over true fresh v) fresh v
 stop-inside halt n ds s t b now owed over fresh v is owes = record {
   some = is.some;
   few = is.few;
@@ -327,11 +327,11 @@ owed-early false now e early = absurd (cc e)
 
 -- the next segment is open
 pub pass-inside : (halt : Bool) (n : ℕ) (ds : List ℕ) (s : Machine) (t b : Option ℕ) (now : ℕ) (owed over fresh : Bool) (v : LookView)
-    → IsInside (standing n ds s t b now owed over halt fresh v) fresh v → halt ≡ false → IsMachine s → owed ≡ true → over ≡ true
-    → interrupt_due (standing n ds s t b now owed over halt fresh v) ≡ None → rests s ≡ false
-    → IsInside (standing n ds s t None (now + 1) false false halt false v) false v
-    × (standing n ds s t None (now + 1) false false halt false v ≡ passed (standing n ds s t b now owed over halt fresh v))
-unfolding seen
+    → IsInside (overlap_of n ds s t b now owed over halt fresh v) fresh v → halt ≡ false → IsMachine s → owed ≡ true → over ≡ true
+    → interrupt_due (overlap_of n ds s t b now owed over halt fresh v) ≡ None → rests s ≡ false
+    → IsInside (overlap_of n ds s t None (now + 1) false false halt false v) false v
+    × (overlap_of n ds s t None (now + 1) false false halt false v ≡ machine_after_pass (overlap_of n ds s t b now owed over halt fresh v))
+unfolding state_ahead
 pass-inside halt n ds s t b now false over fresh v is off m owes ends due goes = absurd (cc owes)
 pass-inside halt n ds s t b now true false fresh v is off m owes ends due goes = absurd (cc ends)
 pass-inside halt n ds s t b now true true fresh v is off m owes ends due goes =
@@ -343,7 +343,7 @@ pass-inside halt n ds s t b now true true fresh v is off m owes ends due goes =
         some = is.some;
         few = is.few;
         looking =
-            subst (λ (f : Front). IsLook ds n (now + 1 - 1) (now + 1) t s f v) (sym (opened-front t s (opening (answers_before now v) v.front.c) v between.opened)) look;
+            subst (λ (f : Front). IsLook ds n (now + 1 - 1) (now + 1) t s f v) (sym (opened-front t s (opening_front (answers_before now v) v.front.c) v between.opened)) look;
         indicator = is.indicator;
         in_time = let early : now < 2 ^ 63 = is.in_time in omega (arith, early);
         fresh_owed = λ e. absurd (cc e);
@@ -370,19 +370,19 @@ pending-of false p i e = absurd (cc e)
 
 -- an interrupt is taken
 pub interrupt-inside : (halt : Bool) (n : ℕ) (ds : List ℕ) (s : Machine) (b : Option ℕ) (now : ℕ) (owed over fresh : Bool) (v : LookView) (i : ℕ)
-    → IsInside (standing n ds s None b now owed over halt fresh v) fresh v → halt ≡ false → IsMachine s → owed ≡ true → over ≡ true
+    → IsInside (overlap_of n ds s None b now owed over halt fresh v) fresh v → halt ≡ false → IsMachine s → owed ≡ true → over ≡ true
     → i < 64 → interrupt s ≡ Some i
     → let w = record v { next = record v.next { place = place_of s (Some i) } } in
-    IsInside (standing n ds s (Some i) None (now + 1) false false halt false w) false w
-    × (standing n ds s (Some i) None (now + 1) false false halt false w ≡ passed (record (standing n ds s None b now owed over halt fresh v) { taken = Some i }))
-unfolding seen
+    IsInside (overlap_of n ds s (Some i) None (now + 1) false false halt false w) false w
+    × (overlap_of n ds s (Some i) None (now + 1) false false halt false w ≡ machine_after_pass (record (overlap_of n ds s None b now owed over halt fresh v) { taken = Some i }))
+unfolding state_ahead
 interrupt-inside halt n ds s b now false over fresh v i is off m owes ends few due = absurd (cc owes)
 interrupt-inside halt n ds s b now true false fresh v i is off m owes ends few due = absurd (cc ends)
 interrupt-inside halt n ds s b now true true fresh v i is off m owes ends few due =
     let w = record v { next = record v.next { place = place_of s (Some i) } } in
     let between : IsBetween now None s v = is.looking in
     let o = between.opened in
-    let opened : IsOpened (Some i) s (opening (answers_before now v) v.front.c) w = record {
+    let opened : IsOpened (Some i) s (opening_front (answers_before now v) v.front.c) w = record {
       ring = o.ring;
       plans = o.plans;
       index = o.index;
@@ -401,7 +401,7 @@ interrupt-inside halt n ds s b now true true fresh v i is off m owes ends few du
         some = is.some;
         few = is.few;
         looking =
-            subst (λ (f : Front). IsLook ds n (now + 1 - 1) (now + 1) (Some i) s f w) (sym (opened-front (Some i) s (opening (answers_before now v) v.front.c) w opened)) look;
+            subst (λ (f : Front). IsLook ds n (now + 1 - 1) (now + 1) (Some i) s f w) (sym (opened-front (Some i) s (opening_front (answers_before now v) v.front.c) w opened)) look;
         indicator = few;
         in_time = let early : now < 2 ^ 63 = is.in_time in omega (arith, early);
         fresh_owed = λ e. absurd (cc e);
@@ -418,15 +418,15 @@ interrupt-inside halt n ds s b now true true fresh v i is off m owes ends few du
     )
 
 pub interrupt-taken : (halt : Bool) (n : ℕ) (ds : List ℕ) (s : Machine) (t b : Option ℕ) (now : ℕ) (owed over fresh : Bool) (v w : LookView) (i : ℕ) → t ≡ None
-    → IsInside (standing n ds s t b now owed over halt fresh v) fresh v → halt ≡ false → IsMachine s → owed ≡ true → over ≡ true
+    → IsInside (overlap_of n ds s t b now owed over halt fresh v) fresh v → halt ≡ false → IsMachine s → owed ≡ true → over ≡ true
     → i < 64 → interrupt s ≡ Some i
     → {place : Place} → place ≡ place_of s (Some i) → w ≡ record v { next = record v.next { place = place } }
-    → IsInside (standing n ds s (Some i) None (now + 1) false false halt false w) false w
-    × (standing n ds s (Some i) None (now + 1) false false halt false w ≡ passed (record (standing n ds s t b now owed over halt fresh v) { taken = Some i }))
+    → IsInside (overlap_of n ds s (Some i) None (now + 1) false false halt false w) false w
+    × (overlap_of n ds s (Some i) None (now + 1) false false halt false w ≡ machine_after_pass (record (overlap_of n ds s t b now owed over halt fresh v) { taken = Some i }))
 interrupt-taken halt n ds s (Some j) b now owed over fresh v w i none is off m owes ends few due at there = absurd (cc none)
 interrupt-taken halt n ds s None b now owed over fresh v w i none is off m owes ends few due at there =
-    let P : LookView → Type 0 = λ x. IsInside (standing n ds s (Some i) None (now + 1) false false halt false x) false x
-    × (standing n ds s (Some i) None (now + 1) false false halt false x ≡ passed (record (standing n ds s None b now owed over halt fresh v) { taken = Some i })) in
+    let P : LookView → Type 0 = λ x. IsInside (overlap_of n ds s (Some i) None (now + 1) false false halt false x) false x
+    × (overlap_of n ds s (Some i) None (now + 1) false false halt false x ≡ machine_after_pass (record (overlap_of n ds s None b now owed over halt fresh v) { taken = Some i })) in
     subst P (sym (there ∙ ap (λ p. record v { next = record v.next { place = p } }) at))
     (interrupt-inside halt n ds s b now owed over fresh v i is off m owes ends few due)
 
@@ -468,22 +468,22 @@ look-runs ds n now t s f v is = record {
 }
 
 pub going-look : (halt : Bool) (n : ℕ) (ds : List ℕ) (s : Machine) (t b : Option ℕ) (now : ℕ) (owed over fresh : Bool) (v : LookView)
-    → IsInside (standing n ds s t b now owed over halt fresh v) fresh v → owed ≡ true → over ≡ false → b ≡ None
+    → IsInside (overlap_of n ds s t b now owed over halt fresh v) fresh v → owed ≡ true → over ≡ false → b ≡ None
     → IsLook ds n now now t s (oldest_front v.levels.plans v.front) v × (now < 2 ^ 63)
-unfolding seen
+unfolding state_ahead
 going-look halt n ds s t b now false over fresh v is owes ends right = absurd (cc owes)
 going-look halt n ds s t b now true true fresh v is owes ends right = absurd (cc ends)
 going-look halt n ds s t (Some h) now true false fresh v is owes ends right = absurd (cc right)
 going-look halt n ds s t None now true false fresh v is owes ends right = (is.looking, is.in_time)
 
 pub go-inside : (halt : Bool) (n : ℕ) (ds : List ℕ) (s : Machine) (t b : Option ℕ) (now : ℕ) (owed over fresh : Bool) (v w : LookView)
-    → IsInside (standing n ds s t b now owed over halt fresh v) fresh v → halt ≡ false → owed ≡ true → over ≡ false → b ≡ None
-    → interrupt_due (standing n ds s t b now owed over halt fresh v) ≡ None → rests s ≡ false
+    → IsInside (overlap_of n ds s t b now owed over halt fresh v) fresh v → halt ≡ false → owed ≡ true → over ≡ false → b ≡ None
+    → interrupt_due (overlap_of n ds s t b now owed over halt fresh v) ≡ None → rests s ≡ false
     → IsLook ds n now (now + 1) t s (oldest_front v.levels.plans v.front) w
     → oldest_front w.levels.plans w.front ≡ oldest_front v.levels.plans v.front
-    → IsInside (standing n ds s t b (now + 1) false over halt false w) false w
-    × (standing n ds s t b (now + 1) false over halt false w ≡ passed (standing n ds s t b now owed over halt fresh v))
-unfolding seen
+    → IsInside (overlap_of n ds s t b (now + 1) false over halt false w) false w
+    × (overlap_of n ds s t b (now + 1) false over halt false w ≡ machine_after_pass (overlap_of n ds s t b now owed over halt fresh v))
+unfolding state_ahead
 go-inside halt n ds s t b now false over fresh v w is off owes ends right due goes look front = absurd (cc owes)
 go-inside halt n ds s t b now true true fresh v w is off owes ends right due goes look front = absurd (cc ends)
 go-inside halt n ds s t (Some h) now true false fresh v w is off owes ends right due goes look front = absurd (cc right)

@@ -4,7 +4,7 @@ use Rattle.std.specs.List.{AllZip}
 use Rattle.std.proofs.Common.{◌≡◌, ℕ, ◌+◌, ◌≤◌, Bool, true, false, List, [], ◌∷◌, length, Option, None, sym, subst, ◌∙◌, ap, arith}
 use Rattle.st_state.specs.Machine.{Machine, IsMachine}
 use Rattle.st_exec.specs.Completion.{guess}
-use Rattle.st_rows.specs.Rows.{opening, after}
+use Rattle.st_rows.specs.Rows.{opening_front, front_after_entry}
 use Rattle.st_rows.specs.declared.front.Front.{Front}
 use Rattle.st_ring.specs.declared.level.Level.{Level}
 use Rattle.st_segment.specs.Entries.{entry}
@@ -13,10 +13,10 @@ use Rattle.st_segment.specs.Guesses.{split_words}
 use Rattle.st_levels.specs.Levels.{oldest_front, AreLevels, AreFull}
 use Rattle.st_levels.specs.declared.plans.Plan.{Plan}
 use Rattle.st_levels.proofs.LevelLemmas.{length-ahead}
-use Rattle.st_ahead.specs.Overlap.{Overlap, seen, levels_of, last_tick}
-use Rattle.st_ahead.specs.Shown.{IsLevelOf, AreLevelsOf, index_of}
+use Rattle.st_ahead.specs.Overlap.{Overlap, state_ahead, levels_of, last_tick_made}
+use Rattle.st_ahead.specs.Shown.{IsLevelOf, AreLevelsOf, lent_index_words}
 use Rattle.st_ahead.specs.Look.{LookView, IsLook, count}
-use Rattle.st_ahead.specs.Inside.{answers_before, standing, IsBetween, IsInside}
+use Rattle.st_ahead.specs.Inside.{answers_before, overlap_of, IsBetween, IsInside}
 use Rattle.st_ahead.proofs.Openings.{opening-looks}
 use Rattle.st_ahead.proofs.Standing.{opened-front}
 
@@ -24,16 +24,16 @@ use Rattle.st_ahead.proofs.Standing.{opened-front}
 
 -- it is there also where a segment has ended
 pub look-inside : (halt : Bool) (n : ℕ) (ds : List ℕ) (s : Machine) (t b : Option ℕ) (now : ℕ) (owed over fresh : Bool) (v : LookView)
-    → IsInside (standing n ds s t b now owed over halt fresh v) fresh v → IsMachine s
-    → IsLook ds n (last_tick (standing n ds s t b now owed over halt fresh v)) now t (seen (standing n ds s t b now owed over halt fresh v)) (oldest_front v.levels.plans v.front) v
-unfolding seen
+    → IsInside (overlap_of n ds s t b now owed over halt fresh v) fresh v → IsMachine s
+    → IsLook ds n (last_tick_made (overlap_of n ds s t b now owed over halt fresh v)) now t (state_ahead (overlap_of n ds s t b now owed over halt fresh v)) (oldest_front v.levels.plans v.front) v
+unfolding state_ahead
 look-inside halt n ds s t b now owed false fresh v is m = is.looking
 look-inside halt n ds s t b now owed true fresh v is m =
     let between : IsBetween now t s v = is.looking in
     let later : now + 1 ≤ v.front.c = between.later in
-    let tick = last_tick (standing n ds s t b now owed true halt fresh v) in
+    let tick = last_tick_made (overlap_of n ds s t b now owed true halt fresh v) in
     let look = opening-looks ds n tick now v.front.c t s (answers_before now v) v between.opened m is.indicator between.banks (omega (arith, later)) between.soon in
-    subst (λ (f : Front). IsLook ds n tick now t s f v) (sym (opened-front t s (opening (answers_before now v) v.front.c) v between.opened)) look
+    subst (λ (f : Front). IsLook ds n tick now t s f v) (sym (opened-front t s (opening_front (answers_before now v) v.front.c) v between.opened)) look
 
 pub soon-last : (owed : Bool) (now : ℕ) → now ≤ (if owed then now else now - 1) + 1
 soon-last true now = omega arith
@@ -49,28 +49,28 @@ levels-zip ds n tick t s f last [] (q ∷ qs) is full = absurd is
 levels-zip ds n tick t s f last (level ∷ levels) [] is full = absurd is
 levels-zip ds n tick t s f last (level ∷ levels) (q ∷ qs) is full = (
   record { prepared = is.0.prepared; p = is.0.p; have = full.0 },
-  levels-zip ds n tick None (guess t s) (after ds n f (entry t s)) last levels qs is.1 full.1,
+  levels-zip ds n tick None (guess t s) (front_after_entry ds n f (entry t s)) last levels qs is.1 full.1,
 )
 
 -- the levels are those that a machine stands for
 pub record IsShowing (m : Overlap) (v : LookView) : Type 0 where
-  pub look : IsLook m.delays m.levels (last_tick m) m.now m.taken (seen m) m.front v
-  pub levels : levels_of m ≡ ahead m.delays m.levels (count v) m.taken (seen m) m.front
+  pub look : IsLook m.delays m.levels (last_tick_made m) m.now m.taken (state_ahead m) m.front v
+  pub levels : levels_of m ≡ ahead m.delays m.levels (count v) m.taken (state_ahead m) m.front
 
-pub showing : (m : Overlap) (v : LookView) → IsLook m.delays m.levels (last_tick m) m.now m.taken (seen m) m.front v
-    → prepared_before m.now (ahead m.delays m.levels m.levels m.taken (seen m) m.front) ≡ ahead m.delays m.levels (count v) m.taken (seen m) m.front
+pub showing : (m : Overlap) (v : LookView) → IsLook m.delays m.levels (last_tick_made m) m.now m.taken (state_ahead m) m.front v
+    → prepared_before m.now (ahead m.delays m.levels m.levels m.taken (state_ahead m) m.front) ≡ ahead m.delays m.levels (count v) m.taken (state_ahead m) m.front
     → IsShowing m v
 unfolding levels_of
 showing m v look levels = record { look = look; levels = levels }
 
 pub showing-ring : (m : Overlap) (v : LookView) → IsShowing m v → AreLevelsOf m v.levels.ring
 showing-ring m v is =
-    subst (λ (levels : List Ahead). AllZip (IsLevelOf m.delays m.levels (last_tick m)) v.levels.ring levels) (sym is.levels)
-    (levels-zip m.delays m.levels (last_tick m) m.taken (seen m) m.front v.front v.levels.ring v.levels.plans is.look.ahead.levels is.look.full)
+    subst (λ (levels : List Ahead). AllZip (IsLevelOf m.delays m.levels (last_tick_made m)) v.levels.ring levels) (sym is.levels)
+    (levels-zip m.delays m.levels (last_tick_made m) m.taken (state_ahead m) m.front v.front v.levels.ring v.levels.plans is.look.ahead.levels is.look.full)
 
 pub showing-count : (m : Overlap) (v : LookView) → IsShowing m v → length (levels_of m) ≡ count v
-showing-count m v is = ap length is.levels ∙ length-ahead m.delays m.levels (count v) m.taken (seen m) m.front
+showing-count m v is = ap length is.levels ∙ length-ahead m.delays m.levels (count v) m.taken (state_ahead m) m.front
 
-pub showing-index : (m : Overlap) (v : LookView) → IsShowing m v → v.levels.x ≡ index_of m
-unfolding index_of
-showing-index m v is = is.look.ahead.index ∙ ap (λ k. split_words k m.taken (seen m)) (sym (showing-count m v is))
+pub showing-index : (m : Overlap) (v : LookView) → IsShowing m v → v.levels.x ≡ lent_index_words m
+unfolding lent_index_words
+showing-index m v is = is.look.ahead.index ∙ ap (λ k. split_words k m.taken (state_ahead m)) (sym (showing-count m v is))

@@ -5,12 +5,12 @@ use Rattle.st_banks.specs.declared.answers.LastAnswers.{LastAnswers}
 use Rattle.st_state.specs.Machine.{Machine, IsMachine}
 use Rattle.st_state.specs.Interrupts.{pending}
 use Rattle.st_prep.specs.BesideOrders.{AreAlikeBesideOrders}
-use Rattle.st_rows.specs.Rows.{opening}
+use Rattle.st_rows.specs.Rows.{opening_front}
 use Rattle.st_rows.specs.declared.front.Front.{Front}
 use Rattle.st_levels.specs.Levels.{oldest_front, AreNotDone}
-use Rattle.st_ahead.specs.Overlap.{seen, with_counter}
+use Rattle.st_ahead.specs.Overlap.{state_ahead, with_counter}
 use Rattle.st_ahead.specs.Look.{LookView, IsLook}
-use Rattle.st_ahead.specs.Inside.{answers_before, standing, IsBetween, IsInside}
+use Rattle.st_ahead.specs.Inside.{answers_before, overlap_of, IsBetween, IsInside}
 use Rattle.st_ahead.proofs.SameLook.{opened-same}
 use Rattle.st_ahead.proofs.Standing.{off-if, off-and}
 
@@ -45,9 +45,9 @@ LooksOn ds n now v = (x y : Machine) (f : Front) → IsLook ds n now now None x 
     → IsMachine y → AreAlikeBesideOrders x y → IsLook ds n now now None y f v
 
 before-first : (halt : Bool) (n : ℕ) (ds : List ℕ) (s u : Machine) (t b : Option ℕ) (now : ℕ) (over fresh : Bool) (v : LookView)
-    → IsInside (standing n ds s t b now false over halt fresh v) fresh v → now ≡ 0 → IsMachine u → AreAlikeBesideOrders s u → LooksOn ds n now v
-    → IsInside (standing n ds u t b now false over halt fresh v) fresh v
-unfolding seen
+    → IsInside (overlap_of n ds s t b now false over halt fresh v) fresh v → now ≡ 0 → IsMachine u → AreAlikeBesideOrders s u → LooksOn ds n now v
+    → IsInside (overlap_of n ds u t b now false over halt fresh v) fresh v
+unfolding state_ahead
 before-first halt n ds s u t b now true fresh v is start m alike on = absurd (cc (is.ended_owed refl))
 before-first halt n ds s u t b now false true v is start m alike on = absurd (cc (is.fresh_owed refl))
 before-first halt n ds s u t (Some h) now false false v is start m alike on = absurd (cc (is.behind_fresh refl))
@@ -78,9 +78,9 @@ before-first halt n ds s u None None now false false v is start m alike on =
     }
 
 behind-done : (halt : Bool) (n : ℕ) (ds : List ℕ) (s u : Machine) (t b : Option ℕ) (now : ℕ) (over fresh : Bool) (v : LookView)
-    → IsInside (standing n ds s t b now true over halt fresh v) fresh v → fresh ≡ true → IsMachine u → AreAlikeBesideOrders s u → LooksOn ds n now v
-    → IsInside (standing n ds u t b now true over halt fresh v) fresh v
-unfolding seen
+    → IsInside (overlap_of n ds s t b now true over halt fresh v) fresh v → fresh ≡ true → IsMachine u → AreAlikeBesideOrders s u → LooksOn ds n now v
+    → IsInside (overlap_of n ds u t b now true over halt fresh v) fresh v
+unfolding state_ahead
 behind-done halt n ds s u t b now over false v is done m alike on = absurd (cc done)
 behind-done halt n ds s u (Some i) b now over true v is done m alike on = absurd (cc (is.none_taken refl))
 behind-done halt n ds s u None b now true true v is done m alike on =
@@ -89,7 +89,7 @@ behind-done halt n ds s u None b now true true v is done m alike on =
       some = is.some;
       few = is.few;
       looking = record {
-        opened = opened-same None s u (opening (answers_before now v) v.front.c) v between.opened alike;
+        opened = opened-same None s u (opening_front (answers_before now v) v.front.c) v between.opened alike;
         banks = between.banks;
         later = between.later;
         soon = between.soon;
@@ -133,10 +133,10 @@ done-fresh true banks some = refl
 done-fresh false banks some = absurd (cc some)
 
 pub signal-inside : (halt : Bool) (n : ℕ) (ds : List ℕ) (s u : Machine) (t b : Option ℕ) (now : ℕ) (owed over fresh : Bool) (v : LookView)
-    → IsInside (standing n ds s t b now owed over halt fresh v) fresh v
-    → ((owed ≡ false) × (now ≡ 0)) ⊎ ((owed ≡ true) × IsSome (standing n ds s t b now owed over halt fresh v).closing)
+    → IsInside (overlap_of n ds s t b now owed over halt fresh v) fresh v
+    → ((owed ≡ false) × (now ≡ 0)) ⊎ ((owed ≡ true) × IsSome (overlap_of n ds s t b now owed over halt fresh v).closing)
     → IsMachine u → AreAlikeBesideOrders s u → LooksOn ds n now v
-    → IsInside (standing n ds u t b now owed over halt fresh v) fresh v
+    → IsInside (overlap_of n ds u t b now owed over halt fresh v) fresh v
 signal-inside halt n ds s u t b now false over fresh v is (inl turn) m alike on = before-first halt n ds s u t b now over fresh v is turn.1 m alike on
 signal-inside halt n ds s u t b now true over fresh v is (inl turn) m alike on = absurd (cc turn.0)
 signal-inside halt n ds s u t b now true over fresh v is (inr turn) m alike on = behind-done halt n ds s u t b now over fresh v is (done-fresh fresh (answers_before now v) turn.1) m alike on

@@ -8,25 +8,25 @@ use Rattle.st_state.specs.Interrupts.{pending}
 use Rattle.st_banks.specs.declared.answers.LastAnswers.{LastAnswers}
 use Rattle.st_banks.specs.declared.answers.TheConstants.{BANKS}
 use Rattle.st_prep.specs.Plan.{plan}
-use Rattle.st_exec.specs.Completion.{executed, guess, is_missed}
+use Rattle.st_exec.specs.Completion.{state_after_execution, guess, is_missed}
 use Rattle.st_exec.specs.Step.{interrupt, rests}
-use Rattle.st_rows.specs.Rows.{opening, row, after}
+use Rattle.st_rows.specs.Rows.{opening_front, row_of_entry, front_after_entry}
 use Rattle.st_rows.specs.declared.entry.Entry.{Entry}
 use Rattle.st_rows.specs.declared.front.Front.{Front}
 use Rattle.st_segment.specs.Entries.{entry}
 use Rattle.st_segment.specs.Ahead.{ahead, reads_before}
-use Rattle.st_rows.specs.Asked.{asked, made_before}
-use Rattle.st_rows.specs.Notes.{undone}
+use Rattle.st_rows.specs.Asked.{reads_of_entry, made_before}
+use Rattle.st_rows.specs.Notes.{answers_left}
 use Rattle.st_ahead.specs.declared.events.Row.{Row}
 use Rattle.st_levels.specs.Levels.{oldest_front}
 use Rattle.st_levels.specs.declared.levels.Completed.{Completed}
 use Rattle.st_levels.specs.declared.plans.Plan.{Plan}
 use Rattle.st_ring.specs.declared.level.Level.{Level}
-use Rattle.st_ahead.specs.Overlap.{Overlap, started, seen, with_counter, oldest_row, banks_at_its_end}
-use Rattle.st_ahead.specs.Calls.{is_done, row_done, completed, ticked, ended}
+use Rattle.st_ahead.specs.Overlap.{Overlap, machine_at_start, state_ahead, with_counter, oldest_row, banks_at_its_end}
+use Rattle.st_ahead.specs.Calls.{is_done, row_done, machine_after_completion, machine_after_tick, machine_after_segment}
 use Rattle.st_ahead.specs.Look.{LookView, IsLook, IsOpened}
 use Rattle.st_ahead.specs.Ticked.{IsPassedBy, IsDoneAt}
-use Rattle.st_ahead.specs.Inside.{standing, answers_before, IsInside}
+use Rattle.st_ahead.specs.Inside.{overlap_of, answers_before, IsInside}
 use Rattle.st_ahead.proofs.Openings.{opening-looks}
 
 -- ---- tests
@@ -77,8 +77,8 @@ told number address p r c = record { number = number; address = address; p = p; 
 pub opened-front : (t : Option ℕ) (s : Machine) (f : Front) (v : LookView) → IsOpened t s f v → oldest_front v.levels.plans v.front ≡ f
 opened-front t s f v is = subst (λ (plans : List Plan). oldest_front plans v.front ≡ f) (sym is.plans) is.front
 
-pub after-c : (ds : List ℕ) (n : ℕ) (f : Front) (e : Entry) → (after ds n f e).c ≡ (row ds n f e).c
-unfolding row after
+pub after-c : (ds : List ℕ) (n : ℕ) (f : Front) (e : Entry) → (front_after_entry ds n f e).c ≡ (row_of_entry ds n f e).c
+unfolding row_of_entry front_after_entry
 after-c ds n f e = refl
 
 -- the answers of the banks by the log and the bus
@@ -86,20 +86,20 @@ pub answers-same : (now : ℕ) (v w : LookView) → w.log ≡ v.log → w.next.w
 answers-same now v w log words = rw (log, words) refl
 
 -- at an opening nothing is to be taken back
-pub opened-answers : (now : ℕ) (t : Option ℕ) (s : Machine) (banks : LastAnswers) (start : ℕ) (v : LookView) → IsOpened t s (opening banks start) v
+pub opened-answers : (now : ℕ) (t : Option ℕ) (s : Machine) (banks : LastAnswers) (start : ℕ) (v : LookView) → IsOpened t s (opening_front banks start) v
     → answers_before now v ≡ banks
-unfolding undone
+unfolding answers_left
 opened-answers now t s banks start v is = rw (is.log, is.words) refl
 
 -- ---- before the first tick
 
 pub started-inside : (n : ℕ) (ds : List ℕ) (s : Machine) (v : LookView) → 1 ≤ n → n ≤ 8 → IsMachine s → s.enabled ≡ false → s.waiting ≡ false
-    → IsOpened None s (opening (record { ticks = replicate BANKS 0 }) 0) v
-    → IsInside (standing n ds s None None 0 false false false false v) false v × (standing n ds s None None 0 false false false false v ≡ started ds n s)
-unfolding seen
+    → IsOpened None s (opening_front (record { ticks = replicate BANKS 0 }) 0) v
+    → IsInside (overlap_of n ds s None None 0 false false false false v) false v × (overlap_of n ds s None None 0 false false false false v ≡ machine_at_start ds n s)
+unfolding state_ahead
 started-inside n ds s v some few m enabled waiting is =
     let banks : LastAnswers = record { ticks = replicate BANKS 0 } in
-    let front = opened-front None s (opening banks 0) v is in
+    let front = opened-front None s (opening_front banks 0) v is in
     let look = opening-looks ds n 0 0 0 None s banks v is m tt (All-replicate (λ (b : ℕ). b ≤ 0 + 255) BANKS 0 (omega arith)) (omega arith) (omega arith) in (
       record {
         some = some;
@@ -130,8 +130,8 @@ pub record IsIdle (n : ℕ) (ds : List ℕ) (s : Machine) (t b : Option ℕ) (no
   pub look : IsLook ds n (now - 1) now t s (oldest_front v.levels.plans v.front) v
 
 pub idle : (halt : Bool) (n : ℕ) (ds : List ℕ) (s : Machine) (t b : Option ℕ) (now : ℕ) (owed ended fresh : Bool) (v : LookView)
-    → IsInside (standing n ds s t b now owed ended halt fresh v) fresh v → owed ≡ false → IsIdle n ds s t b now ended fresh v
-unfolding seen
+    → IsInside (overlap_of n ds s t b now owed ended halt fresh v) fresh v → owed ≡ false → IsIdle n ds s t b now ended fresh v
+unfolding state_ahead
 idle halt n ds s t b now true ended fresh v is e = absurd (cc e)
 idle halt n ds s t b now false true fresh v is e = absurd (cc (is.ended_owed refl))
 idle halt n ds s t b now false false true v is e = absurd (cc (is.fresh_owed refl))
@@ -151,17 +151,17 @@ not-first now (level ∷ levels) each some = let early : level.p < now = All-hea
 
 -- ---- a tick
 
-pub passed-calm : (halt : Bool) (n : ℕ) (ds : List ℕ) (s u : Machine) (t : Option ℕ) (now : ℕ) (v w : LookView)
-    → IsInside (standing n ds s t None now false false halt false v) false v → now < 2 ^ 63
+pub passed-hazard_free : (halt : Bool) (n : ℕ) (ds : List ℕ) (s u : Machine) (t : Option ℕ) (now : ℕ) (v w : LookView)
+    → IsInside (overlap_of n ds s t None now false false halt false v) false v → now < 2 ^ 63
     → IsPassedBy ds n now t s (oldest_front v.levels.plans v.front) v u w
     → oldest_front w.levels.plans w.front ≡ oldest_front v.levels.plans v.front
-    → IsInside (standing n ds u t None now true false halt false w) false w
-    × (is_done (standing n ds s t None now false false halt false v) ≡ false)
-    × (standing n ds u t None now true false halt false w ≡ ticked (standing n ds s t None now false false halt false v))
-unfolding seen oldest_row ticked
-passed-calm halt n ds s u t now v w is early by front =
+    → IsInside (overlap_of n ds u t None now true false halt false w) false w
+    × (is_done (overlap_of n ds s t None now false false halt false v) ≡ false)
+    × (overlap_of n ds u t None now true false halt false w ≡ machine_after_tick (overlap_of n ds s t None now false false halt false v))
+unfolding state_ahead oldest_row machine_after_tick
+passed-hazard_free halt n ds s u t now v w is early by front =
     let f = oldest_front v.levels.plans v.front in
-    let late : is_done (standing n ds s t None now false false halt false v) ≡ false = ne_eqb (row ds n f (entry t s)).c now by.later in
+    let late : is_done (overlap_of n ds s t None now false false halt false v) ≡ false = ne_eqb (row_of_entry ds n f (entry t s)).c now by.later in
     let quiet = is.quiet refl in (
       record {
         some = is.some;
@@ -189,43 +189,43 @@ passed-calm halt n ds s u t now v w is early by front =
     )
 
 pub passed-tick : (halt : Bool) (n : ℕ) (ds : List ℕ) (s u : Machine) (t b : Option ℕ) (now : ℕ) (owed ended fresh : Bool) (v w : LookView)
-    → IsInside (standing n ds s t b now owed ended halt fresh v) fresh v → owed ≡ false → now < 2 ^ 63
+    → IsInside (overlap_of n ds s t b now owed ended halt fresh v) fresh v → owed ≡ false → now < 2 ^ 63
     → IsPassedBy ds n now t s (oldest_front v.levels.plans v.front) v u w
     → oldest_front w.levels.plans w.front ≡ oldest_front v.levels.plans v.front
-    → IsInside (standing n ds u t b now true ended halt fresh w) fresh w
-    × (is_done (standing n ds s t b now owed ended halt fresh v) ≡ false)
-    × (standing n ds u t b now true ended halt fresh w ≡ ticked (standing n ds s t b now owed ended halt fresh v))
+    → IsInside (overlap_of n ds u t b now true ended halt fresh w) fresh w
+    × (is_done (overlap_of n ds s t b now owed ended halt fresh v) ≡ false)
+    × (overlap_of n ds u t b now true ended halt fresh w ≡ machine_after_tick (overlap_of n ds s t b now owed ended halt fresh v))
 passed-tick halt n ds s u t b now true ended fresh v w is e early by front = absurd (cc e)
 passed-tick halt n ds s u t b now false true fresh v w is e early by front = absurd (cc (is.ended_owed refl))
 passed-tick halt n ds s u t b now false false true v w is e early by front = absurd (cc (is.fresh_owed refl))
 passed-tick halt n ds s u t (Some h) now false false false v w is e early by front = absurd (cc (is.behind_fresh refl))
-passed-tick halt n ds s u t None now false false false v w is e early by front = passed-calm halt n ds s u t now v w is early by front
+passed-tick halt n ds s u t None now false false false v w is e early by front = passed-hazard_free halt n ds s u t now v w is early by front
 
 -- what runs ahead goes on by the guess
 pub guess-seen : (t : Option ℕ) (s u : Machine) (b : Bool) (missed : Option ℕ) → is_missed (plan s t) s ≡ b
-    → u ≡ executed t s → missed ≡ (if b then Some (plan s t).following else None)
-    → (is_missed (plan s t) s ≡ false → guess t s ≡ executed t s)
-    → (is_missed (plan s t) s ≡ true → guess t s ≡ record (executed t s) { ic = (plan s t).following })
+    → u ≡ state_after_execution t s → missed ≡ (if b then Some (plan s t).following else None)
+    → (is_missed (plan s t) s ≡ false → guess t s ≡ state_after_execution t s)
+    → (is_missed (plan s t) s ≡ true → guess t s ≡ record (state_after_execution t s) { ic = (plan s t).following })
     → with_counter missed u ≡ guess t s
 guess-seen t s u true missed is state told right wrong = rw (told, state) (sym (wrong is))
 guess-seen t s u false missed is state told right wrong = rw (told, state) (sym (right is))
 
-pub done-calm : (halt : Bool) (n : ℕ) (ds : List ℕ) (s u : Machine) (t : Option ℕ) (now : ℕ) (v w : LookView) (done : Completed)
-    → IsInside (standing n ds s t None now false false halt false v) false v → now < 2 ^ 63
+pub done-hazard_free : (halt : Bool) (n : ℕ) (ds : List ℕ) (s u : Machine) (t : Option ℕ) (now : ℕ) (v w : LookView) (done : Completed)
+    → IsInside (overlap_of n ds s t None now false false halt false v) false v → now < 2 ^ 63
     → IsDoneAt ds n now t s (oldest_front v.levels.plans v.front) v u w done
-    → oldest_front w.levels.plans w.front ≡ after ds n (oldest_front v.levels.plans v.front) (entry t s)
-    → banks_at_its_end (standing n ds s t None now false false halt false v) ≡ answers_before now v
+    → oldest_front w.levels.plans w.front ≡ front_after_entry ds n (oldest_front v.levels.plans v.front) (entry t s)
+    → banks_at_its_end (overlap_of n ds s t None now false false halt false v) ≡ answers_before now v
     → All (λ b. b ≤ now + 255) (answers_before now v).ticks
     → with_counter done.missed u ≡ guess t s
-    → IsInside (standing n ds u None done.missed now true false halt true w) true w
-    × (is_done (standing n ds s t None now false false halt false v) ≡ true)
-    × (standing n ds u None done.missed now true false halt true w ≡ ticked (standing n ds s t None now false false halt false v))
-unfolding seen oldest_row ticked completed
-done-calm halt n ds s u t now v w done is early by front banks near guessed =
+    → IsInside (overlap_of n ds u None done.missed now true false halt true w) true w
+    × (is_done (overlap_of n ds s t None now false false halt false v) ≡ true)
+    × (overlap_of n ds u None done.missed now true false halt true w ≡ machine_after_tick (overlap_of n ds s t None now false false halt false v))
+unfolding state_ahead oldest_row machine_after_tick machine_after_completion
+done-hazard_free halt n ds s u t now v w done is early by front banks near guessed =
     let f = oldest_front v.levels.plans v.front in
-    let due : is_done (standing n ds s t None now false false halt false v) ≡ true = eq-eqb (row ds n f (entry t s)).c now by.due in
+    let due : is_done (overlap_of n ds s t None now false false halt false v) ≡ true = eq-eqb (row_of_entry ds n f (entry t s)).c now by.due in
     let same : answers_before now w ≡ answers_before now v = answers-same now v w by.log by.bus in
-    let left : Some (answers_before now w) ≡ Some (banks_at_its_end (standing n ds s t None now false false halt false v)) = ap Some (same ∙ sym banks) in (
+    let left : Some (answers_before now w) ≡ Some (banks_at_its_end (overlap_of n ds s t None now false false halt false v)) = ap Some (same ∙ sym banks) in (
       record {
         some = is.some;
         few = is.few;
@@ -245,25 +245,25 @@ done-calm halt n ds s u t now v w done is early by front banks near guessed =
         near = λ e. subst (λ (x : LastAnswers). All (λ b. b ≤ now + 255) x.ticks) (sym same) near;
       },
       due,
-      same-fields halt ds n u (executed t s) None done.missed _ _ (after ds n f (entry t s)) now true false _ _ by.state by.told.missed front left
+      same-fields halt ds n u (state_after_execution t s) None done.missed _ _ (front_after_entry ds n f (entry t s)) now true false _ _ by.state by.told.missed front left
           ∙ sym (chosen _ _ _ due),
     )
 
 pub done-tick : (halt : Bool) (n : ℕ) (ds : List ℕ) (s u : Machine) (t b : Option ℕ) (now : ℕ) (owed ended fresh : Bool) (v w : LookView) (done : Completed)
-    → IsInside (standing n ds s t b now owed ended halt fresh v) fresh v → owed ≡ false → now < 2 ^ 63
+    → IsInside (overlap_of n ds s t b now owed ended halt fresh v) fresh v → owed ≡ false → now < 2 ^ 63
     → IsDoneAt ds n now t s (oldest_front v.levels.plans v.front) v u w done
-    → oldest_front w.levels.plans w.front ≡ after ds n (oldest_front v.levels.plans v.front) (entry t s)
-    → banks_at_its_end (standing n ds s t None now false false halt false v) ≡ answers_before now v
+    → oldest_front w.levels.plans w.front ≡ front_after_entry ds n (oldest_front v.levels.plans v.front) (entry t s)
+    → banks_at_its_end (overlap_of n ds s t None now false false halt false v) ≡ answers_before now v
     → All (λ b. b ≤ now + 255) (answers_before now v).ticks
     → with_counter done.missed u ≡ guess t s
-    → IsInside (standing n ds u None done.missed now true ended halt true w) true w
-    × (is_done (standing n ds s t b now owed ended halt fresh v) ≡ true)
-    × (standing n ds u None done.missed now true ended halt true w ≡ ticked (standing n ds s t b now owed ended halt fresh v))
+    → IsInside (overlap_of n ds u None done.missed now true ended halt true w) true w
+    × (is_done (overlap_of n ds s t b now owed ended halt fresh v) ≡ true)
+    × (overlap_of n ds u None done.missed now true ended halt true w ≡ machine_after_tick (overlap_of n ds s t b now owed ended halt fresh v))
 done-tick halt n ds s u t b now true ended fresh v w done is e early by front banks near guessed = absurd (cc e)
 done-tick halt n ds s u t b now false true fresh v w done is e early by front banks near guessed = absurd (cc (is.ended_owed refl))
 done-tick halt n ds s u t b now false false true v w done is e early by front banks near guessed = absurd (cc (is.fresh_owed refl))
 done-tick halt n ds s u t (Some h) now false false false v w done is e early by front banks near guessed = absurd (cc (is.behind_fresh refl))
-done-tick halt n ds s u t None now false false false v w done is e early by front banks near guessed = done-calm halt n ds s u t now v w done is early by front banks near guessed
+done-tick halt n ds s u t None now false false false v w done is e early by front banks near guessed = done-hazard_free halt n ds s u t now v w done is early by front banks near guessed
 
 -- ---- what is told of an entry that is done
 
@@ -271,22 +271,22 @@ pub same-row : (number address p r c number' address' p' r' : ℕ) → number �
     → told number address p r c ≡ told number' address' p' r' c
 same-row number address p r c number' address' p' r' a b d e = rw (a, b, d, e) refl
 
-row-calm : (halt : Bool) (n : ℕ) (ds : List ℕ) (s u : Machine) (t : Option ℕ) (now : ℕ) (v w : LookView) (done : Completed)
-    → IsDoneAt ds n now t s (oldest_front v.levels.plans v.front) v u w done → (executed t s).done ≡ s.done + 1
-    → told u.done done.address done.p done.r now ≡ row_done (standing n ds s t None now false false halt false v)
-unfolding seen oldest_row
-row-calm halt n ds s u t now v w done by number =
+row-hazard_free : (halt : Bool) (n : ℕ) (ds : List ℕ) (s u : Machine) (t : Option ℕ) (now : ℕ) (v w : LookView) (done : Completed)
+    → IsDoneAt ds n now t s (oldest_front v.levels.plans v.front) v u w done → (state_after_execution t s).done ≡ s.done + 1
+    → told u.done done.address done.p done.r now ≡ row_done (overlap_of n ds s t None now false false halt false v)
+unfolding state_ahead oldest_row
+row-hazard_free halt n ds s u t now v w done by number =
     same-row u.done done.address done.p done.r now _ _ _ _ (ap (λ (x : Machine). x.done) by.state ∙ number) by.told.address by.told.p by.told.r
 
 pub row-tick : (halt : Bool) (n : ℕ) (ds : List ℕ) (s u : Machine) (t b : Option ℕ) (now : ℕ) (owed ended fresh : Bool) (v w : LookView) (done : Completed)
-    → IsInside (standing n ds s t b now owed ended halt fresh v) fresh v → owed ≡ false
-    → IsDoneAt ds n now t s (oldest_front v.levels.plans v.front) v u w done → (executed t s).done ≡ s.done + 1
-    → told u.done done.address done.p done.r now ≡ row_done (standing n ds s t b now owed ended halt fresh v)
+    → IsInside (overlap_of n ds s t b now owed ended halt fresh v) fresh v → owed ≡ false
+    → IsDoneAt ds n now t s (oldest_front v.levels.plans v.front) v u w done → (state_after_execution t s).done ≡ s.done + 1
+    → told u.done done.address done.p done.r now ≡ row_done (overlap_of n ds s t b now owed ended halt fresh v)
 row-tick halt n ds s u t b now true ended fresh v w done is e by number = absurd (cc e)
 row-tick halt n ds s u t b now false true fresh v w done is e by number = absurd (cc (is.ended_owed refl))
 row-tick halt n ds s u t b now false false true v w done is e by number = absurd (cc (is.fresh_owed refl))
 row-tick halt n ds s u t (Some h) now false false false v w done is e by number = absurd (cc (is.behind_fresh refl))
-row-tick halt n ds s u t None now false false false v w done is e by number = row-calm halt n ds s u t now v w done by number
+row-tick halt n ds s u t None now false false false v w done is e by number = row-hazard_free halt n ds s u t now v w done by number
 
 -- ---- the banks
 
@@ -298,10 +298,10 @@ same-answers x y h = ap (λ (ticks : List ℕ). from-ticks ticks) h
 
 pub banks-at : (halt : Bool) (n : ℕ) (ds : List ℕ) (s : Machine) (t : Option ℕ) (now : ℕ) (v : LookView)
     → (let f = oldest_front v.levels.plans v.front in
-    (made_before ds now (asked ds n f (entry t s) ++ reads_before ds n now (ahead ds n (suc n) None (guess t s) (after ds n f (entry t s)))) f.bus).banks.ticks
+    (made_before ds now (reads_of_entry ds n f (entry t s) ++ reads_before ds n now (ahead ds n (suc n) None (guess t s) (front_after_entry ds n f (entry t s)))) f.bus).banks.ticks
     ≡ (answers_before now v).ticks)
-    → banks_at_its_end (standing n ds s t None now false false halt false v) ≡ answers_before now v
-unfolding seen banks_at_its_end
+    → banks_at_its_end (overlap_of n ds s t None now false false halt false v) ≡ answers_before now v
+unfolding state_ahead banks_at_its_end
 banks-at halt n ds s t now v h = same-answers _ _ h
 
 pub some-due : (k : ℕ) → (k ≡ 0 → ⊥) → 1 ≤ k

@@ -3,36 +3,36 @@ use Rattle.std.specs.Prelude.{◌-◌, ◌^◌}
 use Rattle.std.proofs.Common.{◌≡◌, ℕ, ◌+◌, ◌<◌, Bool, true, false, List, Option, None, Some, refl, sym, subst, ◌∙◌, ap, arith}
 use Rattle.st_state.specs.Machine.{Machine}
 use Rattle.st_prep.specs.Plan.{plan}
-use Rattle.st_exec.specs.Completion.{executed, guess}
-use Rattle.st_rows.specs.Rows.{row, after}
+use Rattle.st_exec.specs.Completion.{state_after_execution, guess}
+use Rattle.st_rows.specs.Rows.{row_of_entry, front_after_entry}
 use Rattle.st_rows.specs.declared.front.Front.{Front}
 use Rattle.st_segment.specs.Entries.{entry}
 use Rattle.st_levels.specs.Levels.{oldest_front}
 use Rattle.st_levels.specs.declared.levels.Completed.{Completed}
-use Rattle.st_ahead.specs.Overlap.{Overlap, seen, oldest_row, with_counter}
-use Rattle.st_ahead.specs.Calls.{row_done, completed, ticked, answer}
+use Rattle.st_ahead.specs.Overlap.{Overlap, state_ahead, oldest_row, with_counter}
+use Rattle.st_ahead.specs.Calls.{row_done, machine_after_completion, machine_after_tick, answer}
 use Rattle.st_ahead.specs.RunTo.{may_come, ArePassed, StopsAt}
-use Rattle.st_ahead.specs.Running.{between, IsAwake, HasPassed, HasStopped}
+use Rattle.st_ahead.specs.Running.{machine_between_ticks, IsAwake, HasPassed, HasStopped}
 use Rattle.st_ahead.specs.Look.{LookView, IsLook}
-use Rattle.st_ahead.specs.Inside.{standing, IsInside}
+use Rattle.st_ahead.specs.Inside.{overlap_of, IsInside}
 use Rattle.st_ahead.proofs.Runs.{is-due, ticked-done}
 use Rattle.st_ahead.proofs.Standing.{same-fields, same-row, told, after-c}
 
 -- a machine that nothing is owed of may be awake
 pub awake-inside : (halt : Bool) (n : ℕ) (ds : List ℕ) (s : Machine) (t b : Option ℕ) (now : ℕ) (owed ended fresh : Bool) (v : LookView)
-    → IsInside (standing n ds s t b now owed ended halt fresh v) fresh v → owed ≡ false → IsAwake t s
+    → IsInside (overlap_of n ds s t b now owed ended halt fresh v) fresh v → owed ≡ false → IsAwake t s
 awake-inside halt n ds s t b now true ended fresh v is e = absurd (cc e)
 awake-inside halt n ds s t b now false ended true v is e = absurd (cc (is.fresh_owed refl))
 awake-inside halt n ds s t b now false ended false v is e = let quiet = is.quiet refl in record { due = quiet.0; goes = quiet.1 }
 
 -- all ticks up to `last` are passed
-passed-calm : (n : ℕ) (ds : List ℕ) (s u : Machine) (t k : Option ℕ) (now last count : ℕ) (v w : LookView)
-    → IsInside (standing n ds s t None now false false false false v) false v → last < 2 ^ 63
+passed-hazard_free : (n : ℕ) (ds : List ℕ) (s u : Machine) (t k : Option ℕ) (now last count : ℕ) (v w : LookView)
+    → IsInside (overlap_of n ds s t None now false false false false v) false v → last < 2 ^ 63
     → (is : HasPassed ds n count last now t s (oldest_front v.levels.plans v.front) k u w) → oldest_front w.levels.plans w.front ≡ is.front
-    → IsInside (standing n ds u k None (last + 1) false false false false w) false w
-    × ArePassed count (last + 1 - now) (standing n ds s t None now false false false false v) (standing n ds u k None (last + 1) false false false false w)
-unfolding seen
-passed-calm n ds s u t k now last count v w is early by front = (
+    → IsInside (overlap_of n ds u k None (last + 1) false false false false w) false w
+    × ArePassed count (last + 1 - now) (overlap_of n ds s t None now false false false false v) (overlap_of n ds u k None (last + 1) false false false false w)
+unfolding state_ahead
+passed-hazard_free n ds s u t k now last count v w is early by front = (
   record {
     some = is.some;
     few = is.few;
@@ -52,45 +52,45 @@ passed-calm n ds s u t k now last count v w is early by front = (
     unstarted = λ e first. absurd (omega (arith, first));
     near = λ e. absurd (cc e);
   },
-  subst (λ (g : Front). ArePassed count (last + 1 - now) (standing n ds s t None now false false false false v) (between ds n u k g (last + 1))) (sym front) by.passed,
+  subst (λ (g : Front). ArePassed count (last + 1 - now) (overlap_of n ds s t None now false false false false v) (machine_between_ticks ds n u k g (last + 1))) (sym front) by.passed,
 )
 
 pub passed-machine : (halt : Bool) (n : ℕ) (ds : List ℕ) (s u : Machine) (t k b : Option ℕ) (now last count : ℕ) (owed ended fresh : Bool) (v w : LookView)
-    → IsInside (standing n ds s t b now owed ended halt fresh v) fresh v → owed ≡ false → last < 2 ^ 63
+    → IsInside (overlap_of n ds s t b now owed ended halt fresh v) fresh v → owed ≡ false → last < 2 ^ 63
     → (is : HasPassed ds n count last now t s (oldest_front v.levels.plans v.front) k u w) → oldest_front w.levels.plans w.front ≡ is.front
-    → IsInside (standing n ds u k b (last + 1) owed ended halt fresh w) fresh w
-    × ArePassed count (last + 1 - now) (standing n ds s t b now owed ended halt fresh v) (standing n ds u k b (last + 1) owed ended halt fresh w)
+    → IsInside (overlap_of n ds u k b (last + 1) owed ended halt fresh w) fresh w
+    × ArePassed count (last + 1 - now) (overlap_of n ds s t b now owed ended halt fresh v) (overlap_of n ds u k b (last + 1) owed ended halt fresh w)
 passed-machine halt n ds s u t k b now last count true ended fresh v w is e early by front = absurd (cc e)
 passed-machine halt n ds s u t k b now last count false true fresh v w is e early by front = absurd (cc (is.ended_owed refl))
 passed-machine halt n ds s u t k b now last count false false true v w is e early by front = absurd (cc (is.fresh_owed refl))
 passed-machine true n ds s u t k b now last count false false false v w is e early by front = absurd (cc (is.stopped_owed refl))
 passed-machine false n ds s u t k (Some h) now last count false false false v w is e early by front = absurd (cc (is.behind_fresh refl))
-passed-machine false n ds s u t k None now last count false false false v w is e early by front = passed-calm n ds s u t k now last count v w is early by front
+passed-machine false n ds s u t k None now last count false false false v w is e early by front = passed-hazard_free n ds s u t k now last count v w is early by front
 
 -- an entry is done, behind which something may come
 row-between : (n : ℕ) (ds : List ℕ) (s u : Machine) (t : Option ℕ) (f : Front) (tick number : ℕ) (done : Completed)
-    → number ≡ s.done + 1 → done.address ≡ (plan s t).place.address → done.p ≡ (row ds n f (entry t s)).p → done.r ≡ (row ds n f (entry t s)).r
-    → told number done.address done.p done.r tick ≡ row_done (between ds n s t f tick)
-unfolding seen oldest_row
+    → number ≡ s.done + 1 → done.address ≡ (plan s t).place.address → done.p ≡ (row_of_entry ds n f (entry t s)).p → done.r ≡ (row_of_entry ds n f (entry t s)).r
+    → told number done.address done.p done.r tick ≡ row_done (machine_between_ticks ds n s t f tick)
+unfolding state_ahead oldest_row
 row-between n ds s u t f tick number done counted address p r =
     same-row number done.address done.p done.r tick _ _ _ _ counted address p r
 
-stopped-calm : (n : ℕ) (ds : List ℕ) (s u : Machine) (t : Option ℕ) (now last count tick number : ℕ) (v w : LookView) (done : Completed)
-    → IsInside (standing n ds s t None now false false false false v) false v → last < 2 ^ 63
+stopped-hazard_free : (n : ℕ) (ds : List ℕ) (s u : Machine) (t : Option ℕ) (now last count tick number : ℕ) (v w : LookView) (done : Completed)
+    → IsInside (overlap_of n ds s t None now false false false false v) false v → last < 2 ^ 63
     → (is : HasStopped ds n count last now tick t s (oldest_front v.levels.plans v.front) None u w done)
-    → oldest_front w.levels.plans w.front ≡ after ds n is.front (entry is.table is.state)
+    → oldest_front w.levels.plans w.front ≡ front_after_entry ds n is.front (entry is.table is.state)
     → with_counter done.missed u ≡ guess is.table is.state → number ≡ is.state.done + 1
-    → IsInside (standing n ds u None done.missed tick true false false true w) true w
-    × StopsAt count last (told number done.address done.p done.r tick) (standing n ds s t None now false false false false v)
-    (standing n ds u None done.missed tick true false false true w)
-unfolding seen completed
-stopped-calm n ds s u t now last count tick number v w done is early by front guessed counted =
+    → IsInside (overlap_of n ds u None done.missed tick true false false true w) true w
+    × StopsAt count last (told number done.address done.p done.r tick) (overlap_of n ds s t None now false false false false v)
+    (overlap_of n ds u None done.missed tick true false false true w)
+unfolding state_ahead machine_after_completion
+stopped-hazard_free n ds s u t now last count tick number v w done is early by front guessed counted =
     let f = by.front in
     let at = by.done_at in
-    let state = between ds n by.state by.table f tick in
-    let new = standing n ds u None done.missed tick true false false true w in
-    let after_ : new ≡ ticked state =
-    same-fields false ds n u (executed by.table by.state) None done.missed _ _ (after ds n f (entry by.table by.state)) tick true false _ _ at.state at.told.missed front
+    let state = machine_between_ticks ds n by.state by.table f tick in
+    let new = overlap_of n ds u None done.missed tick true false false true w in
+    let after_ : new ≡ machine_after_tick state =
+    same-fields false ds n u (state_after_execution by.table by.state) None done.missed _ _ (front_after_entry ds n f (entry by.table by.state)) tick true false _ _ at.state at.told.missed front
     (ap Some (sym by.banks))
     ∙ sym (ticked-done ds n tick by.table by.state f at.due) in (
       record {
@@ -124,13 +124,13 @@ stopped-calm n ds s u t now last count tick number v w done is early by front gu
     )
 
 pub stopped-machine : (halt : Bool) (n : ℕ) (ds : List ℕ) (s u : Machine) (t k b : Option ℕ) (now last count tick number : ℕ) (owed ended fresh : Bool) (v w : LookView) (done : Completed)
-    → IsInside (standing n ds s t b now owed ended halt fresh v) fresh v → owed ≡ false → last < 2 ^ 63
+    → IsInside (overlap_of n ds s t b now owed ended halt fresh v) fresh v → owed ≡ false → last < 2 ^ 63
     → (is : HasStopped ds n count last now tick t s (oldest_front v.levels.plans v.front) k u w done)
-    → oldest_front w.levels.plans w.front ≡ after ds n is.front (entry is.table is.state)
+    → oldest_front w.levels.plans w.front ≡ front_after_entry ds n is.front (entry is.table is.state)
     → with_counter done.missed u ≡ guess is.table is.state → number ≡ is.state.done + 1
-    → IsInside (standing n ds u k done.missed tick true ended halt true w) true w
-    × StopsAt count last (told number done.address done.p done.r tick) (standing n ds s t b now owed ended halt fresh v)
-    (standing n ds u k done.missed tick true ended halt true w)
+    → IsInside (overlap_of n ds u k done.missed tick true ended halt true w) true w
+    × StopsAt count last (told number done.address done.p done.r tick) (overlap_of n ds s t b now owed ended halt fresh v)
+    (overlap_of n ds u k done.missed tick true ended halt true w)
 stopped-machine halt n ds s u t k b now last count tick number true ended fresh v w done is e early by front guessed counted = absurd (cc e)
 stopped-machine halt n ds s u t k b now last count tick number false true fresh v w done is e early by front guessed counted = absurd (cc (is.ended_owed refl))
 stopped-machine halt n ds s u t k b now last count tick number false false true v w done is e early by front guessed counted = absurd (cc (is.fresh_owed refl))
@@ -138,4 +138,4 @@ stopped-machine true n ds s u t k b now last count tick number false false false
 stopped-machine false n ds s u t k (Some h) now last count tick number false false false v w done is e early by front guessed counted = absurd (cc (is.behind_fresh refl))
 stopped-machine false n ds s u t (Some i) None now last count tick number false false false v w done is e early by front guessed counted = absurd (cc by.none_taken)
 stopped-machine false n ds s u t None None now last count tick number false false false v w done is e early by front guessed counted =
-    stopped-calm n ds s u t now last count tick number v w done is early by front guessed counted
+    stopped-hazard_free n ds s u t now last count tick number v w done is early by front guessed counted

@@ -6,16 +6,16 @@ use Rattle.st_state.specs.Machine.{Machine}
 use Rattle.st_exec.specs.Completion.{guess}
 use Rattle.st_prep.specs.declared.entries.Prepared.{Prepared}
 use Rattle.st_prep.specs.Plan.{plan}
-use Rattle.st_rows.specs.Rows.{row, after}
+use Rattle.st_rows.specs.Rows.{row_of_entry, front_after_entry}
 use Rattle.st_rows.specs.declared.front.Front.{Front}
 use Rattle.st_ring.specs.declared.level.Level.{Level}
 use Rattle.st_segment.specs.Entries.{entry}
 use Rattle.st_segment.specs.Ahead.{Ahead, ahead, next_ahead}
 use Rattle.st_levels.specs.Levels.{AreLevels, IsLevel}
 use Rattle.st_levels.specs.declared.plans.Plan.{Plan}
-use Rattle.st_ahead.specs.Overlap.{Overlap, seen, levels_of, last_tick}
+use Rattle.st_ahead.specs.Overlap.{Overlap, state_ahead, levels_of, last_tick_made}
 use Rattle.st_ahead.specs.Look.{LookView, count}
-use Rattle.st_ahead.specs.Shown.{kept_by, level_shown, shown, index_of}
+use Rattle.st_ahead.specs.Shown.{word_before_change, level_shown, view_at_tick, lent_index_words}
 use Rattle.st_ahead.specs.Inside.{kept_shown, kept_at}
 use Rattle.st_ahead.specs.declared.events.LevelView.{LevelView}
 use Rattle.st_ahead.specs.declared.events.View.{View}
@@ -34,7 +34,7 @@ at prepared p r tick = record {
   address = prepared.place.address;
   p = p;
   index = option_map (λ c. c.number) prepared.index;
-  kept = kept_by prepared.index;
+  kept = word_before_change prepared.index;
   ready = nat_le r tick;
 }
 
@@ -44,7 +44,7 @@ same-shown a b p q r x tick e g h = rw (e, g, h) refl
 one-shown : (ds : List ℕ) (n tick now : ℕ) (t : Option ℕ) (s : Machine) (f : Front) (level : Level) (q : Plan) → IsLevel ds n tick t s f level q
     → kept_shown now level q ≡ level_shown now (next_ahead ds n t s f)
 one-shown ds n tick now t s f level q is =
-    same-shown level.prepared (plan s t) level.p (row ds n f (entry t s)).p q.r (row ds n f (entry t s)).r now is.prepared is.p is.r
+    same-shown level.prepared (plan s t) level.p (row_of_entry ds n f (entry t s)).p q.r (row_of_entry ds n f (entry t s)).r now is.prepared is.p is.r
 
 level-at : (ds : List ℕ) (n tick now k : ℕ) (t : Option ℕ) (s : Machine) (f last : Front) (ring : List Level) (plans : List Plan) (rest : List (Option LevelView))
     → AreLevels ds n tick t s f last ring plans → ((j : ℕ) → get_or rest j None ≡ None)
@@ -55,7 +55,7 @@ level-at ds n tick now k t s f last [] (p ∷ ps) rest is none = absurd is
 level-at ds n tick now k t s f last (l ∷ ls) [] rest is none = absurd is
 level-at ds n tick now zero t s f last (l ∷ ls) (p ∷ ps) rest is none = ap (λ x. Some x) (one-shown ds n tick now t s f l p is.0)
 level-at ds n tick now (suc k) t s f last (l ∷ ls) (p ∷ ps) rest is none =
-    level-at ds n tick now k None (guess t s) (after ds n f (entry t s)) last ls ps rest is.1 none
+    level-at ds n tick now k None (guess t s) (front_after_entry ds n f (entry t s)) last ls ps rest is.1 none
 
 none-at : (m k : ℕ) → get_or (replicate m hidden) k None ≡ None
 none-at zero k = refl
@@ -92,21 +92,21 @@ some-kept address p index number kept word ready a b = rw (a, b) refl
 -- ---- all of them
 
 pub showing-level : (m : Overlap) (v : LookView) (k : ℕ) → IsShowing m v
-    → kept_at (last_tick m) v.levels.ring v.levels.plans k ≡ get_or (shown m).levels k None
-unfolding shown
+    → kept_at (last_tick_made m) v.levels.ring v.levels.plans k ≡ get_or (view_at_tick m).levels k None
+unfolding view_at_tick
 showing-level m v k is =
     let left = 8 - length (levels_of m) in
-    level-at m.delays m.levels (last_tick m) (last_tick m) k m.taken (seen m) m.front v.front v.levels.ring v.levels.plans (replicate left None) is.look.ahead.levels
+    level-at m.delays m.levels (last_tick_made m) (last_tick_made m) k m.taken (state_ahead m) m.front v.front v.levels.ring v.levels.plans (replicate left None) is.look.ahead.levels
     (λ j. none-at left j)
-    ∙ ap (λ (levels : List Ahead). get_or (map (λ a. Some (level_shown (last_tick m) a)) levels ++ replicate left None) k None) (sym is.levels)
+    ∙ ap (λ (levels : List Ahead). get_or (map (λ a. Some (level_shown (last_tick_made m) a)) levels ++ replicate left None) k None) (sym is.levels)
 
-pub showing-eight : (m : Overlap) (v : LookView) → IsShowing m v → count v ≤ 8 → length (shown m).levels ≡ 8
-unfolding shown
+pub showing-eight : (m : Overlap) (v : LookView) → IsShowing m v → count v ≤ 8 → length (view_at_tick m).levels ≡ 8
+unfolding view_at_tick
 showing-eight m v is few =
-    let shows = map (λ (a : Ahead). Some (level_shown (last_tick m) a)) (levels_of m) in
+    let shows = map (λ (a : Ahead). Some (level_shown (last_tick_made m) a)) (levels_of m) in
     let left = 8 - length (levels_of m) in
     let both = length-append shows (replicate left hidden) in
-    omega (arith, both, length-map (levels_of m) (λ (a : Ahead). Some (level_shown (last_tick m) a)), length-replicate left hidden, showing-count m v is, few)
+    omega (arith, both, length-map (levels_of m) (λ (a : Ahead). Some (level_shown (last_tick_made m) a)), length-replicate left hidden, showing-count m v is, few)
 
 tabulated : ℕ → (ℕ → Option LevelView) → List (Option LevelView)
 tabulated zero f = []
@@ -135,7 +135,7 @@ same-view : (tick done : ℕ) (x : List ℕ) (levels : List (Option LevelView)) 
     → tick ≡ tick' → done ≡ done' → x ≡ x' → levels ≡ levels' → view-of tick done x levels ≡ view-of tick' done' x' levels'
 same-view tick done x levels tick' done' x' levels' a b c d = rw (a, b, c, d) refl
 
-pub view-shown : (m : Overlap) (tick done : ℕ) (x : List ℕ) (levels : List (Option LevelView)) → tick ≡ last_tick m → done ≡ m.state.done → x ≡ index_of m
-    → levels ≡ (shown m).levels → view-of tick done x levels ≡ shown m
-unfolding shown
+pub view-shown : (m : Overlap) (tick done : ℕ) (x : List ℕ) (levels : List (Option LevelView)) → tick ≡ last_tick_made m → done ≡ m.state.done → x ≡ lent_index_words m
+    → levels ≡ (view_at_tick m).levels → view-of tick done x levels ≡ view_at_tick m
+unfolding view_at_tick
 view-shown m tick done x levels a b c d = same-view tick done x levels _ _ _ _ a b c d

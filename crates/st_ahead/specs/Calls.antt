@@ -1,14 +1,14 @@
 -- What the calls of an overlapped machine make of what it stands for, and what they answer.
 use Rattle.std.specs.Prelude.{ℕ, ◌≡◌, ◌+◌, ◌==◌, Bool, true, false, if◌then◌else◌, List, length, Option, None, Some, IsSome, ◌⊎◌}
 use Rattle.st_banks.specs.declared.answers.LastAnswers.{LastAnswers}
-use Rattle.st_state.specs.Interrupts.{signalled}
+use Rattle.st_state.specs.Interrupts.{state_with_signal}
 use Rattle.st_prep.specs.Plan.{plan}
-use Rattle.st_exec.specs.Completion.{executed, is_missed}
+use Rattle.st_exec.specs.Completion.{state_after_execution, is_missed}
 use Rattle.st_exec.specs.Step.{rests}
 use Rattle.st_exec.specs.Transfer.{read_in, printed_out}
-use Rattle.st_rows.specs.Rows.{after}
+use Rattle.st_rows.specs.Rows.{front_after_entry}
 use Rattle.st_segment.specs.Ahead.{front_behind_end}
-use Rattle.st_ahead.specs.Overlap.{Overlap, idle_banks, oldest, oldest_row, levels_of, banks_at_its_end, interrupt_due}
+use Rattle.st_ahead.specs.Overlap.{Overlap, idle_banks, oldest_entry, oldest_row, levels_of, banks_at_its_end, interrupt_due}
 use Rattle.st_ahead.specs.declared.events.Row.{Row}
 use Rattle.st_ahead.specs.declared.events.Event.{Event}
 use Rattle.st_ahead.specs.declared.events.Event.TheVariants.{Passed, Done}
@@ -37,19 +37,20 @@ missed_counter m =
     if is_missed (plan m.state m.taken) m.state then Some (plan m.state m.taken).following else None
 
 -- the machine once it is done
-unfoldable pub completed : Overlap → Overlap
-completed m = record m {
-  state = executed m.taken m.state;
+unfoldable pub machine_after_completion : Overlap → Overlap
+machine_after_completion m = record m {
+  state = state_after_execution m.taken m.state;
   taken = None;
   behind = missed_counter m;
-  front = after m.delays m.levels m.front (oldest m);
+  front = front_after_entry m.delays m.levels m.front (oldest_entry m);
   owed = true;
   closing = Some (banks_at_its_end m);
 }
 
 -- the machine after a tick, which is not settled yet
-unfoldable pub ticked : Overlap → Overlap
-ticked m = if is_done m then completed m else record m { owed = true; closing = None }
+unfoldable pub machine_after_tick : Overlap → Overlap
+machine_after_tick m = if is_done m then machine_after_completion m
+    else record m { owed = true; closing = None }
 
 -- what the tick answers
 abbrev pub IsEvent : Overlap → Event → Type 0
@@ -59,17 +60,18 @@ IsEvent m (Done row) = (is_done m ≡ true) × (row ≡ row_done m)
 -- ---- the end of a segment
 
 -- how many levels are dropped
-unfoldable pub dropped : Overlap → ℕ
-dropped m = if m.ended then 0 else length (levels_of m)
+unfoldable pub drop_count : Overlap → ℕ
+drop_count m = if m.ended then 0 else length (levels_of m)
 
--- the last answers of the banks that the next segment opens with; where no entry was done at this tick, nothing is left of the reads
+-- the last answers of the banks that the next segment opens with; where no entry was done at this
+-- tick, nothing is left of the reads
 abbrev pub banks_left : Option LastAnswers → LastAnswers
 banks_left (Some banks) = banks
 banks_left None = idle_banks
 
 -- the machine at the front of the next segment
-unfoldable pub ended : Overlap → Overlap
-ended m =
+unfoldable pub machine_after_segment : Overlap → Overlap
+machine_after_segment m =
     if m.ended then m
     else record m {
       front = front_behind_end (banks_left m.closing) m.now (length (levels_of m));
@@ -78,32 +80,39 @@ ended m =
 
 -- the machine at the end of a run
 abbrev pub run_ended : Overlap → Overlap
-run_ended m = record (ended m) { stopped = true }
+run_ended m = record (machine_after_segment m) { stopped = true }
 
 -- ---- the decision about interrupts
 
 -- the tick is settled
-abbrev pub passed : Overlap → Overlap
-passed m = record m { owed = false; ended = false; behind = None; closing = None; now = m.now + 1 }
+abbrev pub machine_after_pass : Overlap → Overlap
+machine_after_pass m = record m {
+  owed = false;
+  ended = false;
+  behind = None;
+  closing = None;
+  now = m.now + 1;
+}
 
--- the machine once the tick is settled: an interrupt is taken, or the machine waits, or a branch was missed, or it
--- goes on
+-- the machine once the tick is settled: an interrupt is taken, or the machine waits, or a branch
+-- was missed, or it goes on
 abbrev pub settled_by : Option ℕ → Bool → Option ℕ → Overlap → Overlap
-settled_by (Some i) at_rest behind m = passed (record (ended m) { taken = Some i })
-settled_by None true behind m = ended m
-settled_by None false (Some h) m = passed (ended m)
-settled_by None false None m = passed m
+settled_by (Some i) at_rest behind m = machine_after_pass
+    (record (machine_after_segment m) { taken = Some i })
+settled_by None true behind m = machine_after_segment m
+settled_by None false (Some h) m = machine_after_pass (machine_after_segment m)
+settled_by None false None m = machine_after_pass m
 
 -- what settling answers in each of these cases
 abbrev pub answer_by : Option ℕ → Bool → Option ℕ → Overlap → Settled
-answer_by (Some i) at_rest behind m = Interrupt i m.state.done m.state.ic (dropped m)
+answer_by (Some i) at_rest behind m = Interrupt i m.state.done m.state.ic (drop_count m)
 answer_by None true behind m = Waits
-answer_by None false (Some h) m = Missed (dropped m)
+answer_by None false (Some h) m = Missed (drop_count m)
 answer_by None false None m = Goes
 
 -- the machine once its tick is settled
-unfoldable pub settled : Overlap → Overlap
-settled m = settled_by (interrupt_due m) (rests m.state) m.behind m
+unfoldable pub machine_after_settling : Overlap → Overlap
+machine_after_settling m = settled_by (interrupt_due m) (rests m.state) m.behind m
 
 -- what settling it answers
 unfoldable pub answer : Overlap → Settled
@@ -113,25 +122,31 @@ answer m = answer_by (interrupt_due m) (rests m.state) m.behind m
 
 -- a signal comes
 abbrev pub signalled_by : ℕ → Overlap → Overlap
-signalled_by i m = record m { state = signalled m.state i }
+signalled_by i m = record m { state = state_with_signal m.state i }
 
--- one may come: before the first tick, or where an entry was done at the tick that is not settled yet, and the run has not ended
+-- one may come: before the first tick, or where an entry was done at the tick that is not settled
+-- yet, and the run has not ended
 abbrev pub MaySignal : Overlap → Type 0
-MaySignal m = (((m.owed ≡ false) × (m.now ≡ 0)) ⊎ ((m.owed ≡ true) × IsSome m.closing)) × (m.stopped ≡ false)
+MaySignal m = (((m.owed ≡ false) × (m.now ≡ 0)) ⊎ ((m.owed ≡ true) × IsSome m.closing))
+    × (m.stopped ≡ false)
 
--- a device may be served: behind a tick at which an entry was done, while its settle is owed, in a run that has not ended
+-- a device may be served: behind a tick at which an entry was done, while its settle is owed, in a
+-- run that has not ended
 abbrev pub MayServe : Overlap → Type 0
 MayServe m = (m.owed ≡ true) × IsSome m.closing × (m.stopped ≡ false)
 
 -- the reader's order takes effect, for the area at word w: a card ends the segment first
 abbrev pub read_in_by : ℕ → Option (List ℕ) → Overlap → Overlap
 read_in_by w None m = record m { state = read_in m.state w None }
-read_in_by w (Some card) m = record (ended m) { state = read_in m.state w (Some card) }
+read_in_by w (Some card) m = record (machine_after_segment m) {
+  state = read_in m.state w
+      (Some card);
+}
 
 -- how many levels that drops
 abbrev pub dropped_by : Option (List ℕ) → Overlap → ℕ
 dropped_by None m = 0
-dropped_by (Some card) m = dropped m
+dropped_by (Some card) m = drop_count m
 
 -- the printer's order takes effect
 abbrev pub printed_by : Overlap → Overlap

@@ -2,19 +2,21 @@
 use Rattle.std.specs.Prelude.{ℕ, ◌≡◌, ◌+◌, ◌-◌, ◌*◌, ◌^◌, ◌≤◌, ◌<◌, true, List, All, Option, None, Some, IfSome}
 use Rattle.st_state.specs.Machine.{Machine, IsMachine}
 use Rattle.st_rows.specs.Notes.{IsLogged}
-use Rattle.st_rows.specs.Ranges.{IsEntry, IsTight}
-use Rattle.st_rows.specs.Rows.{row, tick_a, bus_a, tick_p}
+use Rattle.st_rows.specs.Ranges.{IsEntryInTime, IsTight}
+use Rattle.st_rows.specs.Rows.{row_of_entry, tick_a, bus_a, tick_p}
 use Rattle.st_rows.specs.declared.front.Front.{Front}
 use Rattle.st_segment.specs.Entries.{entry}
 use Rattle.st_segment.specs.Guesses.{guesses, table_behind}
 use Rattle.st_segment.specs.Alone.{RunAhead}
 use Rattle.st_levels.specs.Levels.{AreAhead, AreNotDone}
-use Rattle.st_next.specs.Known.{IsBefore}
+use Rattle.st_next.specs.Known.{IsStateBefore}
 use Rattle.st_next.specs.Progress.{IsNext}
 use Rattle.st_ahead.specs.Look.{LookView, IsOutlook, IsNextIf, reads_ahead, is_open, count}
 
--- up to the tick `now` entries are prepared and done, and nothing more of the next one can be known before the tick `rest`
-pub record IsGoing (ds : List ℕ) (n now rest : ℕ) (t : Option ℕ) (s : Machine) (f : Front) (v : LookView) : Type 0 where
+-- up to the tick `now` entries are prepared and done, and nothing more of the next one can be known
+-- before the tick `rest`
+pub record IsGoing (ds : List ℕ) (n now rest : ℕ) (t : Option ℕ) (s : Machine) (f : Front)
+    (v : LookView) : Type 0 where
   pub machine : IsMachine s
   pub indicator : IfSome t (λ i. i < 64)
   pub ahead : AreAhead ds n now t s f v.front v.levels
@@ -35,7 +37,8 @@ pub record Goes (ds : List ℕ) (n now rest : ℕ) (s : Machine) (v : LookView) 
   pub going : IsGoing ds n now rest table s front v
 
 -- it goes on so from some tick, `since` at the earliest and `last` at the latest
-pub record GoesUpTo (ds : List ℕ) (n since last : ℕ) (t : Option ℕ) (s : Machine) (f : Front) (v : LookView) : Type 0 where
+pub record GoesUpTo (ds : List ℕ) (n since last : ℕ) (t : Option ℕ) (s : Machine) (f : Front)
+    (v : LookView) : Type 0 where
   pub tick : ℕ
   pub going : IsGoing ds n tick tick t s f v
   pub behind : since ≤ tick
@@ -48,16 +51,19 @@ pub record Reaches (ds : List ℕ) (n last : ℕ) (s : Machine) (v : LookView) :
   pub since : ℕ
   pub goes : GoesUpTo ds n since last table s front v
 
--- the next entry is not prepared before the tick `due` and up to the tick `last`, as far as it is planned
+-- the next entry is not prepared before the tick `due` and up to the tick `last`, as far as it is
+-- planned
 abbrev pub WaitsFor : ℕ → ℕ → LookView → Type 0
 WaitsFor due last v = v.next.planned ≡ true → v.next.formed.p < due → v.next.formed.p ≤ last → ⊥
 
--- the oldest entry is done at the tick `due`, behind the tick `since` and `last` at the latest, and all ticks before it are made
-pub record IsDueAt (ds : List ℕ) (n since last due : ℕ) (t : Option ℕ) (s : Machine) (f : Front) (v : LookView) : Type 0 where
+-- the oldest entry is done at the tick `due`, behind the tick `since` and `last` at the latest, and
+-- all ticks before it are made
+pub record IsDueAt (ds : List ℕ) (n since last due : ℕ) (t : Option ℕ) (s : Machine) (f : Front)
+    (v : LookView) : Type 0 where
   pub later : since < due
   pub soon : due ≤ last
   pub some : 1 ≤ count v
-  pub row_is : (row ds n f (entry t s)).c ≡ due
+  pub row_is : (row_of_entry ds n f (entry t s)).c ≡ due
   pub look : IsOutlook ds n (due - 1) due t s f v
 
 -- what runs ahead goes on up to the completion of the oldest entry, or up to the tick `last`
@@ -65,15 +71,16 @@ abbrev pub HasGone : List ℕ → ℕ → ℕ → ℕ → Option ℕ → Machine
 HasGone ds n since last t s f v (Some due) = IsDueAt ds n since last due t s f v
 HasGone ds n since last t s f v None = IsOutlook ds n last (last + 1) t s f v
 
--- the next entry becomes a level at this tick, its P: no level is done alone, and there is room for one more; where it is done alone, all entries before it
--- are done
-pub record BecomesLevel (ds : List ℕ) (n now : ℕ) (t : Option ℕ) (s : Machine) (f : Front) (v : LookView) : Type 0 where
+-- the next entry becomes a level at this tick, its P: no level is done alone, and there is room for
+-- one more; where it is done alone, all entries before it are done
+pub record BecomesLevel (ds : List ℕ) (n now : ℕ) (t : Option ℕ) (s : Machine) (f : Front)
+    (v : LookView) : Type 0 where
   pub run : RunAhead (count v) t s
-  pub before : IsBefore now v.front.past v.levels.x s (guesses (count v) t s)
+  pub before : IsStateBefore now v.front.past v.levels.x s (guesses (count v) t s)
   pub is_next : IsNext ds n (table_behind (count v) t) (guesses (count v) t s) v.front v.next
   pub indicator : IfSome (table_behind (count v) t) (λ i. i < 64)
   pub same : v.next.entry ≡ entry (table_behind (count v) t) (guesses (count v) t s)
-  pub range : IsEntry v.next.entry
+  pub range : IsEntryInTime v.next.entry
   pub address : v.next.formed.a ≡ tick_a ds v.front v.next.entry
   pub bus : v.next.words.bus ≡ bus_a ds v.front v.next.entry
   pub tick : v.next.formed.p ≡ tick_p ds n v.front v.next.entry

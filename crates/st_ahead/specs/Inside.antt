@@ -3,23 +3,24 @@ use Rattle.std.specs.Prelude.{ℕ, ◌≡◌, ◌+◌, ◌<◌, ◌≤◌, ◌^�
 use Rattle.st_state.specs.Machine.{Machine}
 use Rattle.st_banks.specs.declared.answers.LastAnswers.{LastAnswers}
 use Rattle.st_exec.specs.Step.{rests}
-use Rattle.st_rows.specs.Notes.{undone}
-use Rattle.st_rows.specs.Rows.{opening}
+use Rattle.st_rows.specs.Notes.{answers_left}
+use Rattle.st_rows.specs.Rows.{opening_front}
 use Rattle.st_ring.specs.declared.level.Level.{Level}
 use Rattle.st_levels.specs.Levels.{oldest_front}
 use Rattle.st_levels.specs.declared.plans.Plan.{Plan}
-use Rattle.st_ahead.specs.Overlap.{Overlap, seen, interrupt_due, last_tick}
+use Rattle.st_ahead.specs.Overlap.{Overlap, state_ahead, interrupt_due, last_tick_made}
 use Rattle.st_ahead.specs.Look.{LookView, IsLook, IsOpened}
-use Rattle.st_ahead.specs.Shown.{kept_by}
+use Rattle.st_ahead.specs.Shown.{word_before_change}
 use Rattle.st_ahead.specs.declared.events.LevelView.{LevelView}
 
 -- the last answers of the banks by the reads that are accepted before the tick
 abbrev pub answers_before : ℕ → LookView → LastAnswers
-answers_before now v = record { ticks = undone now v.log v.next.words.bus.banks.ticks }
+answers_before now v = record { ticks = answers_left now v.log v.next.words.bus.banks.ticks }
 
 -- what it stands for, by what it keeps; `fresh` says whether an entry was done at this tick
-abbrev pub standing : ℕ → List ℕ → Machine → Option ℕ → Option ℕ → ℕ → Bool → Bool → Bool → Bool → LookView → Overlap
-standing n delays state taken behind now owed ended stopped fresh v = record {
+abbrev pub overlap_of : ℕ → List ℕ → Machine → Option ℕ → Option ℕ → ℕ → Bool → Bool → Bool → Bool →
+    LookView → Overlap
+overlap_of n delays state taken behind now owed ended stopped fresh v = record {
   delays = delays;
   levels = n;
   state = state;
@@ -35,14 +36,15 @@ standing n delays state taken behind now owed ended stopped fresh v = record {
 
 -- the segment has ended at the tick `now`, and v is what the next one opens with
 pub record IsBetween (now : ℕ) (t : Option ℕ) (s : Machine) (v : LookView) : Type 0 where
-  pub opened : IsOpened t s (opening (answers_before now v) v.front.c) v
+  pub opened : IsOpened t s (opening_front (answers_before now v) v.front.c) v
   pub banks : All (λ b. b ≤ v.front.c + 255) (answers_before now v).ticks
   pub later : now + 1 ≤ v.front.c
   pub soon : v.front.c ≤ now + 9
 
 -- what runs ahead, or the opening of the next segment where one has ended at this tick
 abbrev pub IsLooking : Bool → Overlap → LookView → Type 0
-IsLooking false m v = IsLook m.delays m.levels (last_tick m) m.now m.taken (seen m) m.front v
+IsLooking false m v = IsLook m.delays m.levels (last_tick_made m) m.now m.taken
+    (state_ahead m) m.front v
 IsLooking true m v = IsBetween m.now m.taken m.state v
 
 -- the number of the tick is within its range
@@ -80,7 +82,7 @@ kept_shown tick level q = record {
   address = level.prepared.place.address;
   p = level.p;
   index = option_map (λ c. c.number) level.prepared.index;
-  kept = kept_by level.prepared.index;
+  kept = word_before_change level.prepared.index;
   ready = nat_le q.r tick;
 }
 

@@ -1,12 +1,13 @@
--- What a machine keeps of what runs ahead: its levels, the front behind them, the log of reads, and the entry that is prepared next.
+-- What a machine keeps of what runs ahead: its levels, the front behind them, the log of reads, and
+-- the entry that is prepared next.
 use Rattle.std.specs.Prelude.{ℕ, zero, suc, ◌≡◌, ◌+◌, ◌*◌, ◌≤◌, ◌<◌, Bool, true, false, not, ◌||◌, ◌==◌, List, [], ◌++◌, length, All, Option, None, IfSome}
 use Rattle.st_state.specs.Machine.{Machine, IsMachine}
 use Rattle.st_prep.specs.Fetch.{index_words, place_of}
 use Rattle.st_exec.specs.Completion.{guess}
-use Rattle.st_rows.specs.Rows.{after}
+use Rattle.st_rows.specs.Rows.{front_after_entry}
 use Rattle.st_rows.specs.Notes.{IsLogged}
 use Rattle.st_rows.specs.Ranges.{IsTight}
-use Rattle.st_rows.specs.Asked.{Read, asked}
+use Rattle.st_rows.specs.Asked.{Read, reads_of_entry}
 use Rattle.st_rows.specs.declared.front.Front.{Front}
 use Rattle.st_rows.specs.declared.log.Made.{Made}
 use Rattle.st_segment.specs.Entries.{entry}
@@ -26,7 +27,8 @@ pub record LookView : Type 0 where
 unfoldable pub asked_ahead : List ℕ → ℕ → ℕ → Option ℕ → Machine → Front → List Read
 asked_ahead ds n zero t s f = []
 asked_ahead ds n (suc k) t s f =
-    asked ds n f (entry t s) ++ asked_ahead ds n k None (guess t s) (after ds n f (entry t s))
+    reads_of_entry ds n f (entry t s) ++ asked_ahead ds n k None (guess t s)
+    (front_after_entry ds n f (entry t s))
 
 -- the entry that is prepared next can be known: the youngest level is not done alone
 abbrev pub is_open : LookView → Bool
@@ -42,16 +44,20 @@ IsNextIf true ds n now t s v =
     IsNext ds n (table_behind (count v) t) (guesses (count v) t s) v.front v.next
     × Rests now (table_behind (count v) t) (guesses (count v) t s) v.front v.next
 IsNextIf false ds n now t s v =
-    (v.next.planned ≡ false) × (v.next.own ≡ record { first = 0; len = 0 }) × (v.next.target ≡ record { first = 0; len = 0 })
+    (v.next.planned ≡ false) × (v.next.own ≡ record { first = 0; len = 0 })
+    × (v.next.target ≡ record { first = 0; len = 0 })
     × (v.next.words ≡ record { bus = v.front.bus; answered = 0; awaited = 0 })
 
--- the reads that are made behind the front f: those of the levels, and those that are asked for the next entry so far
+-- the reads that are made behind the front f: those of the levels, and those that are asked for the
+-- next entry so far
 abbrev pub reads_ahead : List ℕ → ℕ → Option ℕ → Machine → Front → LookView → List Read
 reads_ahead ds n t s f v = asked_ahead ds n (count v) t s f ++ reads_so_far ds v.front v.next
 
--- What runs ahead of the state s, behind the front f of the oldest entry that is not done; t says whether that is a table instruction. Entries that
--- are prepared before `now` are levels, and those are not done at `tick` or before it; no operand word stands in a slot that comes behind `tick`.
-pub record IsOutlook (ds : List ℕ) (n tick now : ℕ) (t : Option ℕ) (s : Machine) (f : Front) (v : LookView) : Type 0 where
+-- What runs ahead of the state s, behind the front f of the oldest entry that is not done; t says
+-- whether that is a table instruction. Entries that are prepared before `now` are levels, and those
+-- are not done at `tick` or before it; no operand word stands in a slot that comes behind `tick`.
+pub record IsOutlook (ds : List ℕ) (n tick now : ℕ) (t : Option ℕ) (s : Machine) (f : Front)
+    (v : LookView) : Type 0 where
   pub machine : IsMachine s
   pub indicator : IfSome t (λ i. i < 64)
   pub ahead : AreAhead ds n tick t s f v.front v.levels
@@ -66,7 +72,8 @@ pub record IsOutlook (ds : List ℕ) (n tick now : ℕ) (t : Option ℕ) (s : Ma
   pub logged : IsLogged ds f.bus.free (reads_ahead ds n t s f v) f.bus v.log
 
 -- The same with the slots of levels filled up to `tick`.
-pub record IsLook (ds : List ℕ) (n tick now : ℕ) (t : Option ℕ) (s : Machine) (f : Front) (v : LookView) : Type 0 where
+pub record IsLook (ds : List ℕ) (n tick now : ℕ) (t : Option ℕ) (s : Machine) (f : Front)
+    (v : LookView) : Type 0 where
   pub machine : IsMachine s
   pub indicator : IfSome t (λ i. i < 64)
   pub ahead : AreAhead ds n tick t s f v.front v.levels

@@ -5,17 +5,19 @@ use Rattle.st_exec.specs.Completion.{guess}
 use Rattle.st_exec.specs.Step.{interrupt}
 use Rattle.st_banks.specs.declared.answers.LastAnswers.{LastAnswers}
 use Rattle.st_banks.specs.declared.answers.TheConstants.{BANKS}
-use Rattle.st_rows.specs.Rows.{opening, row}
+use Rattle.st_rows.specs.Rows.{opening_front, row_of_entry}
 use Rattle.st_rows.specs.declared.entry.Entry.{Entry}
 use Rattle.st_rows.specs.declared.front.Front.{Front}
-use Rattle.st_rows.specs.declared.front.Row.{Row}
+use Rattle.st_rows.specs.declared.front.EntryTicks.{EntryTicks}
 use Rattle.st_segment.specs.Entries.{entry}
 use Rattle.st_segment.specs.Ahead.{Ahead, ahead, prepared_before, reads_to_end, banks_at_end}
 
--- the delays of reads and the number of levels; the committed state; the indicator whose interrupt was taken and whose table instruction is
--- not done; the counter behind a branch that was missed at this tick; the front of the oldest entry that is not done; the tick that comes
--- next, or that is not settled yet; whether that is owed; whether the segment has ended at this tick; whether the run has; and, where an entry was
--- done at this tick, the last answers of the banks if the segment ends here
+-- the delays of reads and the number of levels; the committed state; the indicator whose interrupt
+-- was taken and whose table instruction is not done; the counter behind a branch that was missed at
+-- this tick; the front of the oldest entry that is not done; the tick that comes next, or that is
+-- not settled yet; whether that is owed; whether the segment has ended at this tick; whether the
+-- run has; and, where an entry was done at this tick, the last answers of the banks if the segment
+-- ends here
 pub record Overlap : Type 0 where
   pub delays : List ℕ
   pub levels : ℕ
@@ -34,14 +36,14 @@ abbrev pub idle_banks : LastAnswers
 idle_banks = record { ticks = replicate BANKS 0 }
 
 -- a machine before its first tick
-abbrev pub started : List ℕ → ℕ → Machine → Overlap
-started delays levels s = record {
+abbrev pub machine_at_start : List ℕ → ℕ → Machine → Overlap
+machine_at_start delays levels s = record {
   delays = delays;
   levels = levels;
   state = s;
   taken = None;
   behind = None;
-  front = opening idle_banks 0;
+  front = opening_front idle_banks 0;
   now = 0;
   owed = false;
   ended = false;
@@ -54,36 +56,38 @@ abbrev pub with_counter : Option ℕ → Machine → Machine
 with_counter None s = s
 with_counter (Some h) s = record s { ic = h }
 
--- the state that what runs ahead goes on from: behind a missed branch, with the counter of the guess
-unfoldable pub seen : Overlap → Machine
-seen m = if m.ended then m.state else with_counter m.behind m.state
+-- the state that what runs ahead goes on from: behind a missed branch, with the counter of the
+-- guess
+unfoldable pub state_ahead : Overlap → Machine
+state_ahead m = if m.ended then m.state else with_counter m.behind m.state
 
 -- the entry that is done next
-abbrev pub oldest : Overlap → Entry
-oldest m = entry m.taken (seen m)
+abbrev pub oldest_entry : Overlap → Entry
+oldest_entry m = entry m.taken (state_ahead m)
 
 -- its row
-unfoldable pub oldest_row : Overlap → Row
-oldest_row m = row m.delays m.levels m.front (oldest m)
+unfoldable pub oldest_row : Overlap → EntryTicks
+oldest_row m = row_of_entry m.delays m.levels m.front (oldest_entry m)
 
 -- the next k entries by guessed steps
 abbrev pub entries_ahead : ℕ → Overlap → List Ahead
-entries_ahead k m = ahead m.delays m.levels k m.taken (seen m) m.front
+entries_ahead k m = ahead m.delays m.levels k m.taken (state_ahead m) m.front
 
 -- the levels: the entries that are prepared before this tick and not done
 unfoldable pub levels_of : Overlap → List Ahead
 levels_of m = prepared_before m.now (entries_ahead m.levels m)
 
--- the last answers of the banks if the segment ends at the completion of the oldest entry: the reads of that entry and of those behind it
--- that are accepted before that tick are made
+-- the last answers of the banks if the segment ends at the completion of the oldest entry: the
+-- reads of that entry and of those behind it that are accepted before that tick are made
 unfoldable pub banks_at_its_end : Overlap → LastAnswers
 banks_at_its_end m =
-    banks_at_end m.delays m.now (reads_to_end m.delays m.levels m.now m.taken m.state m.front (oldest m)) m.front.bus
+    banks_at_end m.delays m.now (reads_to_end m.delays m.levels m.now m.taken m.state m.front
+    (oldest_entry m)) m.front.bus
 
 -- the interrupt that is taken before the next entry
 abbrev pub interrupt_due : Overlap → Option ℕ
 interrupt_due m = if is_none m.taken then interrupt m.state else None
 
 -- the tick that was made last, 0 before the first one
-abbrev pub last_tick : Overlap → ℕ
-last_tick m = if m.owed then m.now else m.now - 1
+abbrev pub last_tick_made : Overlap → ℕ
+last_tick_made m = if m.owed then m.now else m.now - 1

@@ -1,33 +1,38 @@
--- Ticks that are settled one after another, up to an entry that is done behind which something may come.
+-- Ticks that are settled one after another, up to an entry that is done behind which something may
+-- come.
 use Rattle.std.specs.Prelude.{ℕ, zero, suc, ◌≡◌, ◌+◌, ◌-◌, ◌<◌, ◌≤◌, ◌||◌, nat_le, Bool, true, false, Option, None, Some}
 use Rattle.st_state.specs.Orders.{is_due}
 use Rattle.st_ahead.specs.Overlap.{Overlap}
-use Rattle.st_ahead.specs.Calls.{is_done, row_done, ticked, settled, answer}
+use Rattle.st_ahead.specs.Calls.{is_done, row_done, machine_after_tick, machine_after_settling, answer}
 use Rattle.st_ahead.specs.declared.events.Row.{Row}
 use Rattle.st_ahead.specs.declared.events.Settled.TheVariants.{Goes}
 
 -- the machine after k ticks, each of them settled
 unfoldable pub after_ticks : ℕ → Overlap → Overlap
 after_ticks zero m = m
-after_ticks (suc k) m = after_ticks k (settled (ticked m))
+after_ticks (suc k) m = after_ticks k (machine_after_settling (machine_after_tick m))
 
--- something may come from outside behind an entry that has just been done: `count` instructions are done by now, or an order is due
+-- something may come from outside behind an entry that has just been done: `count` instructions are
+-- done by now, or an order is due
 abbrev pub may_come : ℕ → Overlap → Bool
 may_come count m =
-    nat_le count m.state.done || (is_due m.state.done m.state.reader || is_due m.state.done m.state.printer)
+    nat_le count m.state.done || (is_due m.state.done m.state.reader
+    || is_due m.state.done m.state.printer)
 
--- behind the next tick it is decided that the machine goes on; and if an entry is done at it, nothing may come from outside
+-- behind the next tick it is decided that the machine goes on; and if an entry is done at it,
+-- nothing may come from outside
 pub record IsPassed (count : ℕ) (m : Overlap) : Type 0 where
-  pub goes : answer (ticked m) ≡ Goes
-  pub nothing : is_done m ≡ true → may_come count (ticked m) ≡ false
+  pub goes : answer (machine_after_tick m) ≡ Goes
+  pub nothing : is_done m ≡ true → may_come count (machine_after_tick m) ≡ false
 
 -- so are the next k ticks, and leave the machine `new`
 pub record ArePassed (count k : ℕ) (old new : Overlap) : Type 0 where
   pub each : (i : ℕ) → i < k → IsPassed count (after_ticks i old)
   pub after : new ≡ after_ticks k old
 
--- so many ticks are passed, and at the one behind them, `last` at the latest, an entry is done, behind which something may come from outside, or the
--- decision, which is still owed, is another one than that the machine goes on
+-- so many ticks are passed, and at the one behind them, `last` at the latest, an entry is done,
+-- behind which something may come from outside, or the decision, which is still owed, is another
+-- one than that the machine goes on
 pub record StopsAt (count last : ℕ) (row : Row) (old new : Overlap) : Type 0 where
   pub ticks : ℕ
   pub before : Overlap
@@ -35,10 +40,11 @@ pub record StopsAt (count last : ℕ) (row : Row) (old new : Overlap) : Type 0 w
   pub done : is_done before ≡ true
   pub soon : before.now ≤ last
   pub row_is : row ≡ row_done before
-  pub after : new ≡ ticked before
+  pub after : new ≡ machine_after_tick before
   pub stops : answer new ≡ Goes → may_come count new ≡ true
 
--- by the row: ticks are made up to that at which it is complete; or without one up to the tick `last`, all of which are passed
+-- by the row: ticks are made up to that at which it is complete; or without one up to the tick
+-- `last`, all of which are passed
 abbrev pub RunsTo : ℕ → ℕ → Option Row → Overlap → Overlap → Type 0
 RunsTo count last (Some row) old new = StopsAt count last row old new
 RunsTo count last None old new = ArePassed count (last + 1 - old.now) old new

@@ -6,7 +6,7 @@ use Rattle.st_exec.specs.Step.{interrupt, rests}
 use Rattle.st_rows.specs.declared.front.Front.{Front}
 use Rattle.st_levels.specs.declared.levels.Completed.{Completed}
 use Rattle.st_ahead.specs.Overlap.{Overlap, banks_at_its_end}
-use Rattle.st_ahead.specs.Calls.{ticked, answer}
+use Rattle.st_ahead.specs.Calls.{machine_after_tick, answer}
 use Rattle.st_ahead.specs.RunTo.{may_come, ArePassed}
 use Rattle.st_ahead.specs.Look.{LookView, IsLook}
 use Rattle.st_ahead.specs.Going.{IsGoing}
@@ -16,8 +16,8 @@ use Rattle.st_ahead.specs.declared.look_run.Stop.{Stop}
 use Rattle.st_ahead.specs.declared.events.Settled.TheVariants.{Goes}
 
 -- a machine between two ticks
-abbrev pub between : List ℕ → ℕ → Machine → Option ℕ → Front → ℕ → Overlap
-between ds n s t f now = record {
+abbrev pub machine_between_ticks : List ℕ → ℕ → Machine → Option ℕ → Front → ℕ → Overlap
+machine_between_ticks ds n s t f now = record {
   delays = ds;
   levels = n;
   state = s;
@@ -36,23 +36,28 @@ pub record IsAwake (t : Option ℕ) (s : Machine) : Type 0 where
   pub due : (if is_none t then interrupt s else None) ≡ None
   pub goes : rests s ≡ false
 
--- behind an entry that is done something may come from outside: so many instructions are done, or an order is due
-abbrev pub comes : ℕ → Machine → Bool
-comes count s = nat_le count s.done || (is_due s.done s.reader || is_due s.done s.printer)
+-- behind an entry that is done something may come from outside: so many instructions are done, or
+-- an order is due
+abbrev pub may_come_from_outside : ℕ → Machine → Bool
+may_come_from_outside count s = nat_le count s.done
+    || (is_due s.done s.reader || is_due s.done s.printer)
 
--- from the tick `now` on all ticks are passed up to a tick, `last` at the latest; v runs ahead of the state u, and k says whether its next entry is a
--- table instruction
-pub record IsRunning (ds : List ℕ) (n count last now : ℕ) (t : Option ℕ) (s : Machine) (f : Front) (k : Option ℕ) (u : Machine) (v : LookView) : Type 0 where
+-- from the tick `now` on all ticks are passed up to a tick, `last` at the latest; v runs ahead of
+-- the state u, and k says whether its next entry is a table instruction
+pub record IsRunning (ds : List ℕ) (n count last now : ℕ) (t : Option ℕ) (s : Machine) (f : Front)
+    (k : Option ℕ) (u : Machine) (v : LookView) : Type 0 where
   pub tick : ℕ
   pub front : Front
-  pub passed : ArePassed count (tick + 1 - now) (between ds n s t f now) (between ds n u k front (tick + 1))
+  pub passed : ArePassed count (tick + 1 - now) (machine_between_ticks ds n s t f now)
+      (machine_between_ticks ds n u k front (tick + 1))
   pub behind : now ≤ tick + 1
   pub soon : tick ≤ last
   pub awake : IsAwake k u
   pub going : IsGoing ds n tick tick k u front v
 
 -- there is such a start
-pub record Starts (ds : List ℕ) (n last : ℕ) (t : Option ℕ) (s : Machine) (v : LookView) : Type 0 where
+pub record Starts (ds : List ℕ) (n last : ℕ) (t : Option ℕ) (s : Machine)
+    (v : LookView) : Type 0 where
   pub front : Front
   pub now : ℕ
   pub look : IsLook ds n (now - 1) now t s front v
@@ -60,29 +65,39 @@ pub record Starts (ds : List ℕ) (n last : ℕ) (t : Option ℕ) (s : Machine) 
   pub awake : IsAwake t s
 
 -- all ticks up to `last` are passed
-pub record HasPassed (ds : List ℕ) (n count last now : ℕ) (t : Option ℕ) (s : Machine) (f : Front) (k : Option ℕ) (u : Machine) (v : LookView) : Type 0 where
+pub record HasPassed (ds : List ℕ) (n count last now : ℕ) (t : Option ℕ) (s : Machine) (f : Front)
+    (k : Option ℕ) (u : Machine) (v : LookView) : Type 0 where
   pub front : Front
-  pub passed : ArePassed count (last + 1 - now) (between ds n s t f now) (between ds n u k front (last + 1))
+  pub passed : ArePassed count (last + 1 - now) (machine_between_ticks ds n s t f now)
+      (machine_between_ticks ds n u k front (last + 1))
   pub awake : IsAwake k u
   pub look : IsLook ds n last (last + 1) k u front v
 
--- the ticks before the tick `tick` are passed, and at that one an entry is done behind which something may come
-pub record HasStopped (ds : List ℕ) (n count last now tick : ℕ) (t : Option ℕ) (s : Machine) (f : Front) (k : Option ℕ) (u : Machine) (v : LookView) (done : Completed) : Type 0 where
+-- the ticks before the tick `tick` are passed, and at that one an entry is done behind which
+-- something may come
+pub record HasStopped (ds : List ℕ) (n count last now tick : ℕ) (t : Option ℕ) (s : Machine)
+    (f : Front) (k : Option ℕ) (u : Machine) (v : LookView) (done : Completed) : Type 0 where
   pub table : Option ℕ
   pub state : Machine
   pub front : Front
   pub ahead : LookView
-  pub passed : ArePassed count (tick - now) (between ds n s t f now) (between ds n state table front tick)
+  pub passed : ArePassed count (tick - now) (machine_between_ticks ds n s t f now)
+      (machine_between_ticks ds n state table front tick)
   pub soon : tick ≤ last
   pub none_taken : k ≡ None
   pub machine : IsMachine state
   pub indicator : IfSome table (λ i. i < 64)
   pub done_at : IsDoneAt ds n tick table state front ahead u v done
-  pub banks : banks_at_its_end (between ds n state table front tick) ≡ answers_before tick v
+  pub banks : banks_at_its_end (machine_between_ticks ds n state table front tick)
+      ≡ answers_before tick v
   pub near : All (λ b. b ≤ tick + 255) (answers_before tick v).ticks
-  pub stops : answer (ticked (between ds n state table front tick)) ≡ Goes → may_come count (ticked (between ds n state table front tick)) ≡ true
+  pub stops : answer (machine_after_tick (machine_between_ticks ds n state table front tick))
+      ≡ Goes → may_come count
+      (machine_after_tick (machine_between_ticks ds n state table front tick)) ≡ true
 
 -- by the entry that it stops behind
-abbrev pub HasRun : List ℕ → ℕ → ℕ → ℕ → ℕ → Option ℕ → Machine → Front → Option ℕ → Machine → LookView → Option Stop → Type 0
-HasRun ds n count last now t s f k u v None = HasPassed ds n count last now t s f k u v
-HasRun ds n count last now t s f k u v (Some stop) = HasStopped ds n count last now stop.tick t s f k u v stop.done
+abbrev pub HasRunTo : List ℕ → ℕ → ℕ → ℕ → ℕ → Option ℕ → Machine → Front → Option ℕ → Machine →
+    LookView → Option Stop → Type 0
+HasRunTo ds n count last now t s f k u v None = HasPassed ds n count last now t s f k u v
+HasRunTo ds n count last now t s f k u v (Some stop) =
+    HasStopped ds n count last now stop.tick t s f k u v stop.done

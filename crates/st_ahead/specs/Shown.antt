@@ -7,11 +7,12 @@ use Rattle.st_ring.specs.declared.level.Level.{Level}
 use Rattle.st_segment.specs.Ahead.{Ahead, plan_of}
 use Rattle.st_segment.specs.Guesses.{split_words}
 use Rattle.st_levels.specs.Slots.{slots_of}
-use Rattle.st_ahead.specs.Overlap.{Overlap, seen, levels_of, last_tick}
+use Rattle.st_ahead.specs.Overlap.{Overlap, state_ahead, levels_of, last_tick_made}
 use Rattle.st_ahead.specs.declared.events.LevelView.{LevelView}
 use Rattle.st_ahead.specs.declared.events.View.{View}
 
--- a level of the ring is an entry ahead: it is prepared as that, at its tick, and has the operand words that are there
+-- a level of the ring is an entry ahead: it is prepared as that, at its tick, and has the operand
+-- words that are there
 pub record IsLevelOf (ds : List ℕ) (n tick : ℕ) (level : Level) (a : Ahead) : Type 0 where
   pub prepared : level.prepared ≡ plan_of a
   pub p : level.p ≡ a.row.p
@@ -19,16 +20,16 @@ pub record IsLevelOf (ds : List ℕ) (n tick : ℕ) (level : Level) (a : Ahead) 
 
 -- the ring that is lent is the levels, in their order
 abbrev pub AreLevelsOf : Overlap → List Level → Type 0
-AreLevelsOf m ring = AllZip (IsLevelOf m.delays m.levels (last_tick m)) ring (levels_of m)
+AreLevelsOf m ring = AllZip (IsLevelOf m.delays m.levels (last_tick_made m)) ring (levels_of m)
 
 -- the index words that are lent: those of the state after the early changes of all levels
-unfoldable pub index_of : Overlap → List ℕ
-index_of m = split_words (length (levels_of m)) m.taken (seen m)
+unfoldable pub lent_index_words : Overlap → List ℕ
+lent_index_words m = split_words (length (levels_of m)) m.taken (state_ahead m)
 
 -- the word that an early change replaces
-abbrev pub kept_by : Option IndexChange → ℕ
-kept_by None = 0
-kept_by (Some c) = c.kept
+abbrev pub word_before_change : Option IndexChange → ℕ
+word_before_change None = 0
+word_before_change (Some c) = c.kept
 
 -- a level as it is shown at a tick
 abbrev pub level_shown : ℕ → Ahead → LevelView
@@ -36,16 +37,16 @@ level_shown tick a = record {
   address = (plan_of a).place.address;
   p = a.row.p;
   index = option_map (λ c. c.number) (plan_of a).index;
-  kept = kept_by (plan_of a).index;
+  kept = word_before_change (plan_of a).index;
   ready = nat_le a.row.r tick;
 }
 
 -- what is shown
-unfoldable pub shown : Overlap → View
-shown m = record {
-  tick = last_tick m;
+unfoldable pub view_at_tick : Overlap → View
+view_at_tick m = record {
+  tick = last_tick_made m;
   done = m.state.done;
-  x = index_of m;
-  levels = map (λ a. Some (level_shown (last_tick m) a)) (levels_of m)
+  x = lent_index_words m;
+  levels = map (λ a. Some (level_shown (last_tick_made m) a)) (levels_of m)
       ++ replicate (8 - length (levels_of m)) None;
 }

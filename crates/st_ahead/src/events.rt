@@ -29,7 +29,8 @@ pub enum Event {
 pub enum Settled {
     /// The machine goes on.
     Goes,
-    /// An interrupt by this indicator is taken, with so many instructions done and this counter; so many levels are dropped.
+    /// An interrupt by this indicator is taken, with so many instructions done and this counter; so
+    /// many levels are dropped.
     Interrupt {
         indicator: u8,
         done: u64,

@@ -1,5 +1,5 @@
-//! The overlapped machine: entries run ahead of the state, tick by tick, and what is seen is as if they were done one at a time.
-//! `docs/timetable.md` has the rules.
+//! The overlapped machine: entries run ahead of the state, tick by tick, and what is seen is as if
+//! they were done one at a time. `docs/timetable.md` has the rules.
 #![tactic(auto, using(st_bits::specs::Storage::words_of_storage_is))]
 
 mod events;
@@ -12,5 +12,5 @@ mod look_tick;
 mod machine;
 
 pub use events::{Event, LevelView, Row, Settled, View};
-pub use look::Look;
+pub use look::Lookahead;
 pub use machine::Machine;

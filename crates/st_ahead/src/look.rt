@@ -1,9 +1,10 @@
-//! What runs ahead of a state: levels, the front behind them, a log of reads, and the entry that is prepared next.
+//! What runs ahead of a state: levels, the front behind them, a log of reads, and the entry that is
+//! prepared next.
 ghost use Rattle.std.specs.Prelude.{◌≡◌, ℕ, ◌+◌, ◌*◌, ◌<◌, ◌≤◌, ◌-◌, ◌^◌, length, true, false, Option, None, Some, IfSome, All, List};
 ghost use Rattle.st_state.specs.Machine.{Machine, IsMachine};
 ghost use Rattle.st_prep.specs.Fetch.{index_words as index_words_of};
-ghost use Rattle.st_rows.specs.Notes.{undone};
-ghost use Rattle.st_rows.specs.Rows.{opening};
+ghost use Rattle.st_rows.specs.Notes.{answers_left};
+ghost use Rattle.st_rows.specs.Rows.{opening_front};
 ghost use Rattle.st_rows.specs.declared.front.Front.{Front as FrontOf};
 ghost use Rattle.st_ahead.specs.Overlap.{idle_banks};
 
@@ -17,7 +18,7 @@ use std::marker::Model;
 
 /// What runs ahead of a state.
 #[derive(Drop)]
-pub struct Look<const N: usize> {
+pub struct Lookahead<const N: usize> {
     /// The entries that are prepared and not done, and the index words that they change.
     pub levels: Levels<N>,
     /// The front behind them.
@@ -28,31 +29,38 @@ pub struct Look<const N: usize> {
     pub next: Next,
 }
 
-impl<const N: usize> Model for Look<N> {
+impl<const N: usize> Model for Lookahead<N> {
     ghost use Rattle.st_ahead.specs.Look.{LookView};
 
     ghost Value = { LookView };
 
-    ghost view = { λ look. record { levels = look.levels; front = look.front; log = look.log; next = look.next } };
+    ghost view = { λ look. record {
+      levels = look.levels;
+      front = look.front;
+      log = look.log;
+      next = look.next;
+    } };
 }
 
-impl<const N: usize> Look<N> {
+impl<const N: usize> Lookahead<N> {
     ghost use Rattle.st_ahead.specs.Look.{IsLook, IsOpened, count};
     ghost use Rattle.st_ahead.specs.Inside.{answers_before};
 
-    /// Nothing runs ahead yet in a segment that starts at the tick `start`, at most 2^64 - 1,024, where the banks have these last answers; `table` is
-    /// the indicator whose interrupt was taken, if its table instruction comes first.
-    pub fn new(state: &State, table: Option<u8>, banks: LastAnswers, start: u64) -> Look<N>
+    /// Nothing runs ahead yet in a segment that starts at the tick `start`, at most 2^64 - 1,024,
+    /// where the banks have these last answers; `table` is the indicator whose interrupt was taken,
+    /// if its table instruction comes first.
+    pub fn new(state: &State, table: Option<u8>, banks: LastAnswers, start: u64) -> Lookahead<N>
         requires some { 1 ≤ N }
         requires few { N ≤ 8 }
         requires indicator { IfSome table (λ i. i < 64) }
         requires early { start ≤ 2 ^ 64 - 1024 }
         requires banks { All (λ t. t ≤ start + 255) banks.ticks }
-        ensures { IsOpened table state.now (opening banks start) result }
+
+        ensures { IsOpened table state.now (opening_front banks start) result }
     {
         let front = Front::new(banks, start);
         let next = Next::new(place_of(state, table), front.bus);
-        Look {
+        Lookahead {
             levels: Levels::new(index_words(state)),
             front,
             log: Log::new(),
@@ -60,18 +68,21 @@ impl<const N: usize> Look<N> {
         }
     }
 
-    /// The segment ends at the tick `now`: nothing runs ahead any more, and the index words are those of the state. The next segment starts one
-    /// tick later, and one more for each level that is dropped; the banks keep their last answers by the reads that are accepted before `now`, and the
-    /// others are taken back. The result is the number of levels dropped.
+    /// The segment ends at the tick `now`: nothing runs ahead any more, and the index words are
+    /// those of the state. The next segment starts one tick later, and one more for each level that
+    /// is dropped; the banks keep their last answers by the reads that are accepted before `now`,
+    /// and the others are taken back. The result is the number of levels dropped.
     pub fn end(&mut self, state: &State, table: Option<u8>, now: u64) -> u8
         requires indicator { IfSome table (λ i. i < 64) }
         requires early { now ≤ 2 ^ 64 - 2048 }
         requires near { All (λ b. b ≤ now + 255) (answers_before now self.old).ticks }
+
         ensures dropped { result ≡ count self.old }
-        ensures banks { All (λ b. b ≤ now + 1 + count self.old + 255) (answers_before now self.old).ticks }
+        ensures banks { All (λ b. b ≤ now + 1 + count self.old + 255)
+            (answers_before now self.old).ticks }
         ensures opened { (ds : List ℕ) (tick : ℕ) (t : Option ℕ) (s : Machine) (f : FrontOf) →
             IsLook ds N tick now t s f self.old → index_words_of s ≡ index_words_of state.now →
-            IsOpened table state.now (opening (answers_before now self.old) (now + 1 + count self.old)) self.new }
+            IsOpened table state.now (opening_front (answers_before now self.old) (now + 1 + count self.old)) self.new }
     {
         let mut banks = self.next.words.bus.banks;
         self.log.undo(&mut banks, now);
@@ -83,15 +94,15 @@ impl<const N: usize> Look<N> {
         dropped
     }
 
-    /// The same at a tick `now`, at most 2^64 - 2,048, at which no entry is done: nothing is kept of the reads, and the banks are idle. The result
-    /// is the number of levels dropped.
+    /// The same at a tick `now`, at most 2^64 - 2,048, at which no entry is done: nothing is kept
+    /// of the reads, and the banks are idle. The result is the number of levels dropped.
     pub fn give_up(&mut self, state: &State, table: Option<u8>, now: u64) -> u8
         requires indicator { IfSome table (λ i. i < 64) }
         requires early { now ≤ 2 ^ 64 - 2048 }
         ensures dropped { result ≡ count self.old }
         ensures opened { (ds : List ℕ) (tick : ℕ) (t : Option ℕ) (s : Machine) (f : FrontOf) →
             IsLook ds N tick now t s f self.old → index_words_of s ≡ index_words_of state.now →
-            IsOpened table state.now (opening idle_banks (now + 1 + count self.old)) self.new }
+            IsOpened table state.now (opening_front idle_banks (now + 1 + count self.old)) self.new }
     {
         let count = self.levels.undo();
         let start = now + 1 + u64::from(count);

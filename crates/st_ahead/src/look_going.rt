@@ -3,24 +3,26 @@ ghost use Rattle.std.specs.Prelude.{◌≡◌, ℕ, ◌+◌, ◌-◌, ◌<◌, �
 ghost use Rattle.st_rows.specs.declared.front.Front.{Front as FrontOf};
 ghost use Rattle.st_levels.specs.Levels.{due_of};
 
-use crate::look::Look;
+use crate::look::Lookahead;
 use st_banks::Delays;
 use st_prep::{Place, Prepared};
 use st_state::State;
 
-impl<const N: usize> Look<N> {
+impl<const N: usize> Lookahead<N> {
     ghost use Rattle.st_ahead.specs.Look.{count};
     ghost use Rattle.st_ahead.specs.Going.{IsGoing, Goes, GoesUpTo, Reaches, HasGone, WaitsFor};
 
-    // All that is prepared before the oldest level is done, and up to the tick `last`, below 2^63, becomes levels, whose slots are empty. The result is the
-    // tick at which the oldest one is done, if that is `last` at the latest; else nothing more happens up to `last`.
+    // All that is prepared before the oldest level is done, and up to the tick `last`, below 2^63,
+    // becomes levels, whose slots are empty. The result is the tick at which the oldest one is
+    // done, if that is `last` at the latest; else nothing more happens up to `last`.
     #[inline(always)]
     pub(crate) fn go_to(&mut self, last: u64, state: &State, delays: &Delays) -> Option<u64>
         requires some { 1 ≤ N }
         requires few { N ≤ 8 }
         requires early { last < 2 ^ 63 }
         requires going { Reaches delays.now N last state.now self.old }
-        ensures { (t : Option ℕ) (f : FrontOf) (since : ℕ) → GoesUpTo delays.now N since last t state.now f self.old →
+        ensures { (t : Option ℕ) (f : FrontOf) (since : ℕ) →
+            GoesUpTo delays.now N since last t state.now f self.old →
             HasGone delays.now N since last t state.now f self.new result }
     {
         delays.shape();
@@ -44,10 +46,12 @@ impl<const N: usize> Look<N> {
         self.levels.due()
     }
 
-    // Whether the next entry is planned, and prepared before the tick `due` and up to the tick `last`.
+    // Whether the next entry is planned, and prepared before the tick `due` and up to the tick
+    // `last`.
     #[inline(always)]
     fn is_next_before(&self, due: u64, last: u64) -> bool
-        ensures yes { result ≡ true → (self.now.next.planned ≡ true) × (self.now.next.formed.p < due) × (self.now.next.formed.p ≤ last) }
+        ensures yes { result ≡ true → (self.now.next.planned ≡ true)
+            × (self.now.next.formed.p < due) × (self.now.next.formed.p ≤ last) }
         ensures no { result ≡ false → WaitsFor due last self.now }
     {
         if !self.next.planned {
@@ -64,7 +68,8 @@ impl<const N: usize> Look<N> {
         self.next.formed.p
     }
 
-    // The next entry is planned, which it is as soon as its words are known; the oldest level is done at the tick `due`.
+    // The next entry is planned, which it is as soon as its words are known; the oldest level is
+    // done at the tick `due`.
     #[inline(always)]
     fn plan_before(&mut self, due: u64, last: u64, state: &State, delays: &Delays)
         requires some { 1 ≤ N }
@@ -72,6 +77,7 @@ impl<const N: usize> Look<N> {
         requires early { last < 2 ^ 63 }
         requires due { due ≡ due_of self.old.levels.plans }
         requires going { Reaches delays.now N last state.now self.old }
+
         ensures going { (t : Option ℕ) (f : FrontOf) (tick : ℕ) →
             IsGoing delays.now N tick tick t state.now f self.old →
             IsGoing delays.now N tick due t state.now f self.new }
@@ -102,6 +108,7 @@ impl<const N: usize> Look<N> {
         requires going { Goes delays.now N now (now + 1) state.now self.old }
         requires planned { self.old.next.planned ≡ true }
         requires due { self.old.next.formed.p ≡ now }
+
         ensures going { (t : Option ℕ) (f : FrontOf) →
             IsGoing delays.now N now (now + 1) t state.now f self.old →
             IsGoing delays.now N now now t state.now f self.new }

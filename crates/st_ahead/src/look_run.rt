@@ -2,9 +2,9 @@
 ghost use Rattle.std.specs.Prelude.{◌≡◌, ℕ, ◌+◌, ◌-◌, ◌<◌, ◌≤◌, ◌^◌, true, false, None};
 ghost use Rattle.st_exec.specs.Step.{interrupt as interrupt_of, rests};
 ghost use Rattle.st_rows.specs.declared.front.Front.{Front as FrontOf};
-ghost use Rattle.st_ahead.specs.Running.{IsAwake, comes};
+ghost use Rattle.st_ahead.specs.Running.{IsAwake, may_come_from_outside};
 
-use crate::look::Look;
+use crate::look::Lookahead;
 use st_banks::Delays;
 use st_exec::{interrupt, is_at_rest};
 use st_levels::Completed;
@@ -19,13 +19,15 @@ pub struct Stop {
     pub tick: u64,
 }
 
-impl<const N: usize> Look<N> {
+impl<const N: usize> Lookahead<N> {
     ghost use Rattle.st_ahead.specs.Look.{IsLook};
-    ghost use Rattle.st_ahead.specs.Running.{Starts, HasRun};
+    ghost use Rattle.st_ahead.specs.Running.{Starts, HasRunTo};
 
-    /// Makes ticks and goes on behind each, up to the tick `last`, below 2^63, until an entry is done behind which something may come: `count`
-    /// instructions are done by then, an order is due, or the next decision is not that it goes on. The result is what was done, with its tick. `taken` is
-    /// the indicator whose table instruction comes next. Fewer than 2^63 instructions are done, and `count` is 2^63 at most.
+    /// Makes ticks and goes on behind each, up to the tick `last`, below 2^63, until an entry is
+    /// done behind which something may come: `count` instructions are done by then, an order is
+    /// due, or the next decision is not that it goes on. The result is what was done, with its
+    /// tick. `taken` is the indicator whose table instruction comes next. Fewer than 2^63
+    /// instructions are done, and `count` is 2^63 at most.
     #[inline(never)]
     pub fn run_to(
         &mut self,
@@ -41,9 +43,11 @@ impl<const N: usize> Look<N> {
         requires count { count ≤ 2 ^ 63 }
         requires done { state.old.done < 2 ^ 63 }
         requires starts { Starts delays.now N last taken.old state.old self.old }
+
         ensures { (f : FrontOf) (now : ℕ) →
-            IsLook delays.now N (now - 1) now taken.old state.old f self.old → now ≤ last → IsAwake taken.old state.old →
-            HasRun delays.now N count last now taken.old state.old f taken.new state.new self.new result }
+            IsLook delays.now N (now - 1) now taken.old state.old f self.old → now ≤ last →
+            IsAwake taken.old state.old →
+            HasRunTo delays.now N count last now taken.old state.old f taken.new state.new self.new result }
     {
         delays.shape();
         'entries: loop {
@@ -63,12 +67,15 @@ impl<const N: usize> Look<N> {
     }
 }
 
-// Whether something may come behind an entry that is done, or the next decision is not that the run goes on.
+// Whether something may come behind an entry that is done, or the next decision is not that the run
+// goes on.
 #[inline(always)]
 fn is_stopped(done: &Completed, state: &State, count: u64) -> bool
-    ensures goes { result ≡ false → (comes count state.now ≡ false) × (done.now.missed ≡ None) × (interrupt_of state.now ≡ None)
+    ensures goes { result ≡ false → (may_come_from_outside count state.now ≡ false)
+        × (done.now.missed ≡ None) × (interrupt_of state.now ≡ None)
         × (rests state.now ≡ false) }
-    ensures stops { result ≡ true → comes count state.now ≡ false → done.now.missed ≡ None → interrupt_of state.now ≡ None → rests state.now ≡ false → ⊥ }
+    ensures stops { result ≡ true → may_come_from_outside count state.now ≡ false → done.now.missed
+        ≡ None → interrupt_of state.now ≡ None → rests state.now ≡ false → ⊥ }
 {
     if may_come(state, count) {
         return true;
@@ -82,10 +89,11 @@ fn is_stopped(done: &Completed, state: &State, count: u64) -> bool
     is_at_rest(state)
 }
 
-// Whether something may come from outside behind an entry that has just been done: so many instructions are done, or an order is due.
+// Whether something may come from outside behind an entry that has just been done: so many
+// instructions are done, or an order is due.
 #[inline(always)]
 fn may_come(state: &State, count: u64) -> bool
-    ensures { result ≡ comes count state.now }
+    ensures { result ≡ may_come_from_outside count state.now }
 {
     count <= state.done || (is_due(state.reader, state.done) || is_due(state.printer, state.done))
 }

@@ -1,13 +1,13 @@
 //! What is known of what runs ahead at any time, and where its next entry stands.
 ghost use Rattle.std.specs.Prelude.{◌≡◌, ◌≤◌, option_map};
-ghost use Rattle.st_ahead.specs.Shown.{kept_by};
+ghost use Rattle.st_ahead.specs.Shown.{word_before_change};
 
 use crate::events::LevelView;
-use crate::look::Look;
+use crate::look::Lookahead;
 use st_prep::{IndexChange, Place};
 use st_ring::SpecRing;
 
-impl<const N: usize> Look<N> {
+impl<const N: usize> Lookahead<N> {
     ghost use Rattle.st_ahead.specs.Look.{count};
     ghost use Rattle.st_ahead.specs.Inside.{kept_at};
 
@@ -70,7 +70,7 @@ fn number_of(change: Option<IndexChange>) -> Option<u8>
 
 // That word before, 0 where none is changed.
 fn kept_of(change: Option<IndexChange>) -> u64
-    ensures { result ≡ kept_by change }
+    ensures { result ≡ word_before_change change }
 {
     match change {
         None => 0,

@@ -2,16 +2,16 @@
 ghost use Rattle.std.specs.Prelude.{◌≡◌, ℕ, ◌+◌, ◌<◌, ◌≤◌, ◌^◌, true, Option};
 ghost use Rattle.st_rows.specs.declared.front.Front.{Front as FrontOf};
 
-use crate::look::Look;
+use crate::look::Lookahead;
 use st_banks::Delays;
 use st_state::State;
 
-impl<const N: usize> Look<N> {
+impl<const N: usize> Lookahead<N> {
     ghost use Rattle.st_ahead.specs.Look.{IsLook};
     ghost use Rattle.st_ahead.specs.Going.{Reaches};
 
-    /// Goes on at the tick `now`, below 2^63, once the entry that is done at it, if there is one, is executed: entries that are prepared by now become
-    /// levels.
+    /// Goes on at the tick `now`, below 2^63, once the entry that is done at it, if there is one,
+    /// is executed: entries that are prepared by now become levels.
     pub fn go_on(&mut self, now: u64, state: &State, delays: &Delays)
         requires some { 1 ≤ N }
         requires few { N ≤ 8 }

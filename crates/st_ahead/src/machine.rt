@@ -2,7 +2,7 @@
 ghost use Rattle.std.specs.Prelude.{◌≡◌, ℕ, ◌+◌, ◌-◌, ◌<◌, ◌≤◌, ◌^◌, true, false, is_some, IsSome, IfSome, None, Some, get_or, length, ◌||◌};
 
 use crate::events::{Event, LevelView, Row, Settled, View};
-use crate::look::Look;
+use crate::look::Lookahead;
 use st_banks::{Delays, LastAnswers};
 use st_exec::is_at_rest;
 use st_prep::place_of;
@@ -10,8 +10,9 @@ use st_ring::SpecRing;
 use st_state::State;
 use std::marker::Model;
 
-/// A machine with N levels, 1 to 8, over storage whose reads take the given delays. Its calls take turns: after each `tick` one `settle` or one
-/// `stop` is owed, and after `stop` none that changes it. None takes memory. `docs/timetable.md` has the rules.
+/// A machine with N levels, 1 to 8, over storage whose reads take the given delays. Its calls take
+/// turns: after each `tick` one `settle` or one `stop` is owed, and after `stop` none that changes
+/// it. None takes memory. `docs/timetable.md` has the rules.
 #[derive(Drop)]
 pub struct Machine<const N: usize> {
     delays: Delays,
@@ -23,28 +24,28 @@ pub struct Machine<const N: usize> {
     ended: bool,
     stopped: bool,
     fresh: bool,
-    look: Look<N>,
+    look: Lookahead<N>,
 }
 
 // Clauses see what it stands for.
 impl<const N: usize> Model for Machine<N> {
     ghost use Rattle.st_ahead.specs.Overlap.{Overlap};
-    ghost use Rattle.st_ahead.specs.Inside.{standing, IsInside};
+    ghost use Rattle.st_ahead.specs.Inside.{overlap_of, IsInside};
 
     ghost Value = { Overlap };
 
-    ghost view = { λ a. standing N a.delays a.state a.taken a.behind a.now a.owed a.ended a.stopped a.fresh a.look };
+    ghost view = { λ a. overlap_of N a.delays a.state a.taken a.behind a.now a.owed a.ended a.stopped a.fresh a.look };
 
-    ghost invariant = { λ a. IsInside (standing N a.delays a.state a.taken a.behind a.now a.owed a.ended a.stopped a.fresh a.look) a.fresh a.look };
+    ghost invariant = { λ a. IsInside (overlap_of N a.delays a.state a.taken a.behind a.now a.owed a.ended a.stopped a.fresh a.look) a.fresh a.look };
 }
 
 impl<const N: usize> Machine<N> {
     ghost use Rattle.st_exec.specs.Step.{rests};
-    ghost use Rattle.st_ahead.specs.Overlap.{started, interrupt_due as interrupt_due_of};
-    ghost use Rattle.st_ahead.specs.Calls.{IsEvent, ticked, dropped, ended, run_ended, answer, settled, passed, signalled_by, MaySignal, MayServe, read_in_by, dropped_by, printed_by};
+    ghost use Rattle.st_ahead.specs.Overlap.{machine_at_start, interrupt_due as interrupt_due_of};
+    ghost use Rattle.st_ahead.specs.Calls.{IsEvent, machine_after_tick, drop_count, machine_after_segment, run_ended, answer, machine_after_settling, machine_after_pass, signalled_by, MaySignal, MayServe, read_in_by, dropped_by, printed_by};
     ghost use Rattle.st_exec.specs.Transfer.{read_in as read_in_of, words_from};
-    ghost use Rattle.st_ahead.specs.Overlap.{last_tick as last_tick_of};
-    ghost use Rattle.st_ahead.specs.Shown.{AreLevelsOf, index_of, shown};
+    ghost use Rattle.st_ahead.specs.Overlap.{last_tick_made as last_tick_of};
+    ghost use Rattle.st_ahead.specs.Shown.{AreLevelsOf, lent_index_words, view_at_tick};
     ghost use Rattle.st_ahead.specs.RunTo.{RunsTo};
 
     /// A machine before its first tick; the state is neither enabled nor waiting.
@@ -53,10 +54,10 @@ impl<const N: usize> Machine<N> {
         requires few { N ≤ 8 }
         requires enabled { state.enabled ≡ false }
         requires waiting { state.waiting ≡ false }
-        ensures { result ≡ started delays N state }
+        ensures { result ≡ machine_at_start delays N state }
     {
         state.shape();
-        let look = Look::new(&state, None, LastAnswers::new(), 0);
+        let look = Lookahead::new(&state, None, LastAnswers::new(), 0);
         Machine {
             delays,
             state,
@@ -71,14 +72,15 @@ impl<const N: usize> Machine<N> {
         }
     }
 
-    /// Makes one tick; the first one is tick 0: the oldest entry is done where that is its time, and operands arrive. No settle is owed; the
-    /// number of the tick and that of the instructions done are below 2^63.
+    /// Makes one tick; the first one is tick 0: the oldest entry is done where that is its time,
+    /// and operands arrive. No settle is owed; the number of the tick and that of the instructions
+    /// done are below 2^63.
     pub fn tick(&mut self) -> Event
         requires settled { self.old.owed ≡ false }
         requires tick { self.old.now < 2 ^ 63 }
         requires done { self.old.state.done < 2 ^ 63 }
         ensures event { IsEvent self.old result }
-        ensures after { self.new ≡ ticked self.old }
+        ensures after { self.new ≡ machine_after_tick self.old }
     {
         self.delays.shape();
         self.look.shape();
@@ -101,10 +103,12 @@ impl<const N: usize> Machine<N> {
         })
     }
 
-    /// Makes ticks and goes on behind each, as so many calls of `tick` and `settle`, until an entry is done behind which something may come: `count`
-    /// instructions are done by then, an order is due, or what `settle` would decide is not that the machine goes on. Its row is the result, and that
-    /// decision is owed. Where none is up to the tick `last`, that tick is made and settled too. No settle is owed; `last` and the number of
-    /// instructions done are below 2^63, and `count` is 2^63 at most.
+    /// Makes ticks and goes on behind each, as so many calls of `tick` and `settle`, until an entry
+    /// is done behind which something may come: `count` instructions are done by then, an order is
+    /// due, or what `settle` would decide is not that the machine goes on. Its row is the result,
+    /// and that decision is owed. Where none is up to the tick `last`, that tick is made and
+    /// settled too. No settle is owed; `last` and the number of instructions done are below 2^63,
+    /// and `count` is 2^63 at most.
     pub fn run_to(&mut self, count: u64, last: u64) -> Option<Row>
         requires settled { self.old.owed ≡ false }
         requires count { count ≤ 2 ^ 63 }
@@ -136,13 +140,14 @@ impl<const N: usize> Machine<N> {
         })
     }
 
-    /// Decides what comes behind the last tick: an interrupt is taken; or the machine waits, and the decision is still owed; or a missed branch ends
-    /// the segment; or it goes on. One is owed, and the run has not ended.
+    /// Decides what comes behind the last tick: an interrupt is taken; or the machine waits, and
+    /// the decision is still owed; or a missed branch ends the segment; or it goes on. One is owed,
+    /// and the run has not ended.
     pub fn settle(&mut self) -> Settled
         requires owed { self.old.owed ≡ true }
         requires stands { self.old.stopped ≡ false }
         ensures answer { result ≡ answer self.old }
-        ensures after { self.new ≡ settled self.old }
+        ensures after { self.new ≡ machine_after_settling self.old }
     {
         if self.goes_on() {
             self.go_on();
@@ -161,15 +166,17 @@ impl<const N: usize> Machine<N> {
         Settled::Missed { dropped }
     }
 
-    /// What runs ahead goes on behind the last tick, as `settle` decides where it answers `Goes`: no interrupt is due, the machine is not at rest,
-    /// and no branch was missed. One is owed, and the run has not ended.
+    /// What runs ahead goes on behind the last tick, as `settle` decides where it answers `Goes`:
+    /// no interrupt is due, the machine is not at rest, and no branch was missed. One is owed, and
+    /// the run has not ended.
     pub fn go_on(&mut self)
         requires owed { self.old.owed ≡ true }
         requires stands { self.old.stopped ≡ false }
         requires due { interrupt_due_of self.old ≡ None }
         requires goes { rests self.old.state ≡ false }
         requires right { self.old.behind ≡ None }
-        ensures { self.new ≡ passed self.old }
+
+        ensures { self.new ≡ machine_after_pass self.old }
     {
         if self.ended {
             self.pass();
@@ -186,7 +193,8 @@ impl<const N: usize> Machine<N> {
     fn goes_on(&self) -> bool
         ensures yes { result ≡ true → (interrupt_due_of self.entry.now ≡ None)
             × (rests self.entry.now.state ≡ false) × (self.entry.now.behind ≡ None) }
-        ensures no { result ≡ false → (is_some self.entry.now.behind || is_some (interrupt_due_of self.entry.now)
+        ensures no { result ≡ false → (is_some self.entry.now.behind
+            || is_some (interrupt_due_of self.entry.now)
             || rests self.entry.now.state) ≡ true }
     {
         self.quiet();
@@ -199,7 +207,8 @@ impl<const N: usize> Machine<N> {
         !self.is_resting()
     }
 
-    // Where no entry was done, no interrupt is due, the machine is not at rest, and no branch was missed.
+    // Where no entry was done, no interrupt is due, the machine is not at rest, and no branch was
+    // missed.
     fn quiet(&self)
         ensures { self.entry.now.closing ≡ None → (interrupt_due_of self.entry.now ≡ None)
             × (rests self.entry.now.state ≡ false) × (self.entry.now.behind ≡ None) }
@@ -239,19 +248,22 @@ impl<const N: usize> Machine<N> {
         self.behind.is_some()
     }
 
-    /// Whether an interrupt is due or a branch was missed, so that the next decision ends the segment.
+    /// Whether an interrupt is due or a branch was missed, so that the next decision ends the
+    /// segment.
     pub fn ends(&self) -> bool
-        ensures { result ≡ (is_some self.entry.now.behind || is_some (interrupt_due_of self.entry.now)) }
+        ensures { result ≡ (is_some self.entry.now.behind
+            || is_some (interrupt_due_of self.entry.now)) }
     {
         self.is_misled() || self.interrupt_due().is_some()
     }
 
-    // The segment ends at this tick, at which an entry was done; where it has not ended already. The result is the number of levels dropped.
+    // The segment ends at this tick, at which an entry was done; where it has not ended already.
+    // The result is the number of levels dropped.
     fn end(&mut self) -> u8
         requires owed { self.old.owed ≡ true }
         requires done { IsSome self.old.closing }
-        ensures dropped { result ≡ dropped self.old }
-        ensures after { self.new ≡ ended self.old }
+        ensures dropped { result ≡ drop_count self.old }
+        ensures after { self.new ≡ machine_after_segment self.old }
     {
         self.delays.shape();
         self.look.shape();
@@ -270,8 +282,9 @@ impl<const N: usize> Machine<N> {
         requires stands { self.old.stopped ≡ false }
         requires due { interrupt_due_of self.old ≡ Some indicator }
         requires known { indicator < 64 }
+
         ensures answer { result ≡ answer self.old }
-        ensures after { self.new ≡ settled self.old }
+        ensures after { self.new ≡ machine_after_settling self.old }
     {
         self.quiet();
         let dropped = self.end();
@@ -294,14 +307,16 @@ impl<const N: usize> Machine<N> {
         }
     }
 
-    // The tick passes, where the segment has ended at it, no interrupt is due and the machine is not at rest.
+    // The tick passes, where the segment has ended at it, no interrupt is due and the machine is
+    // not at rest.
     fn pass(&mut self)
         requires owed { self.old.owed ≡ true }
         requires stands { self.old.stopped ≡ false }
         requires ended { self.old.ended ≡ true }
         requires due { interrupt_due_of self.old ≡ None }
         requires goes { rests self.old.state ≡ false }
-        ensures { self.new ≡ passed self.old }
+
+        ensures { self.new ≡ machine_after_pass self.old }
     {
         self.state.shape();
         self.behind = None;
@@ -311,7 +326,8 @@ impl<const N: usize> Machine<N> {
         self.now += 1;
     }
 
-    /// Turns on the indicator i, 0 to 13, before the first tick, or while a settle is owed and an entry was done at the last tick. The run has not ended.
+    /// Turns on the indicator i, 0 to 13, before the first tick, or while a settle is owed and an
+    /// entry was done at the last tick. The run has not ended.
     pub fn signal(&mut self, i: u8)
         requires known { i ≤ 13 }
         requires turn { MaySignal self.old }
@@ -322,12 +338,12 @@ impl<const N: usize> Machine<N> {
         self.state.shape();
     }
 
-    /// Ends the segment at the end of a run, at the tick whose settle is owed. The result is the number of levels dropped.
-    /// After it no call that changes the machine may be made.
+    /// Ends the segment at the end of a run, at the tick whose settle is owed. The result is the
+    /// number of levels dropped. After it no call that changes the machine may be made.
     pub fn stop(&mut self) -> u8
         requires owed { self.old.owed ≡ true }
         requires stands { self.old.stopped ≡ false }
-        ensures dropped { result ≡ dropped self.old }
+        ensures dropped { result ≡ drop_count self.old }
         ensures after { self.new ≡ run_ended self.old }
     {
         let dropped = self.end_or_give_up();
@@ -335,11 +351,12 @@ impl<const N: usize> Machine<N> {
         dropped
     }
 
-    // The segment ends at this tick, where it has not ended already. The result is the number of levels dropped.
+    // The segment ends at this tick, where it has not ended already. The result is the number of
+    // levels dropped.
     fn end_or_give_up(&mut self) -> u8
         requires { self.old.owed ≡ true }
-        ensures dropped { result ≡ dropped self.old }
-        ensures after { self.new ≡ ended self.old }
+        ensures dropped { result ≡ drop_count self.old }
+        ensures after { self.new ≡ machine_after_segment self.old }
     {
         if self.fresh {
             self.end()
@@ -357,12 +374,13 @@ impl<const N: usize> Machine<N> {
         self.stopped = true;
     }
 
-    // The segment ends at this tick, at which no entry was done; where it has not ended already. The result is the number of levels dropped.
+    // The segment ends at this tick, at which no entry was done; where it has not ended already.
+    // The result is the number of levels dropped.
     fn give_up(&mut self) -> u8
         requires owed { self.old.owed ≡ true }
         requires none { self.old.closing ≡ None }
-        ensures dropped { result ≡ dropped self.old }
-        ensures after { self.new ≡ ended self.old }
+        ensures dropped { result ≡ drop_count self.old }
+        ensures after { self.new ≡ machine_after_segment self.old }
     {
         self.delays.shape();
         self.look.shape();
@@ -375,12 +393,14 @@ impl<const N: usize> Machine<N> {
         dropped
     }
 
-    /// The order of the reader takes effect with its next card, which ends the segment, or without one. The result is the number of levels dropped.
+    /// The order of the reader takes effect with its next card, which ends the segment, or without
+    /// one. The result is the number of levels dropped.
     pub fn read_in(&mut self, card: Option<[u64; 8]>) -> u8
         requires order { IsSome self.old.state.reader }
         requires turn { MayServe self.old }
         ensures dropped { result ≡ dropped_by card self.old }
-        ensures after { IfSome self.old.state.reader (λ order. self.new ≡ read_in_by order.word card self.old) }
+        ensures after { IfSome self.old.state.reader (λ order. self.new
+            ≡ read_in_by order.word card self.old) }
     {
         let Some(words) = card else {
             self.read_nothing();
@@ -395,7 +415,8 @@ impl<const N: usize> Machine<N> {
     fn read_nothing(&mut self)
         requires order { IsSome self.old.state.reader }
         requires turn { MayServe self.old }
-        ensures { IfSome self.old.state.reader (λ order. self.new ≡ read_in_by order.word None self.old) }
+        ensures { IfSome self.old.state.reader (λ order. self.new
+            ≡ read_in_by order.word None self.old) }
     {
         self.delays.shape();
         st_exec::read_in(&mut self.state, None);
@@ -408,7 +429,10 @@ impl<const N: usize> Machine<N> {
         requires turn { MayServe self.old }
         requires ended { self.old.ended ≡ true }
         ensures { IfSome self.old.state.reader (λ order.
-            self.new ≡ record self.old { state = read_in_of self.old.state order.word (Some card) }) }
+            self.new ≡ record self.old {
+              state = read_in_of self.old.state order.word
+                  (Some card);
+            }) }
     {
         self.state.shape();
         st_exec::read_in(&mut self.state, Some(card));
@@ -418,7 +442,8 @@ impl<const N: usize> Machine<N> {
     pub fn print_out(&mut self) -> [u64; 8]
         requires order { IsSome self.old.state.printer }
         requires turn { MayServe self.old }
-        ensures words { IfSome self.old.state.printer (λ order. result ≡ words_from self.old.state order.word 8) }
+        ensures words { IfSome self.old.state.printer (λ order. result
+            ≡ words_from self.old.state order.word 8) }
         ensures after { self.new ≡ printed_by self.old }
     {
         self.delays.shape();
@@ -440,7 +465,7 @@ impl<const N: usize> Machine<N> {
 
     /// The index words as the levels have changed them.
     pub fn index(&self) -> &[u64; 16]
-        ensures { result.now ≡ index_of self.entry.now }
+        ensures { result.now ≡ lent_index_words self.entry.now }
     {
         self.delays.shape();
         self.look.shape();
@@ -450,7 +475,7 @@ impl<const N: usize> Machine<N> {
 
     /// What is shown of the machine.
     pub fn view(&self) -> View
-        ensures { result ≡ shown self.entry.now }
+        ensures { result ≡ view_at_tick self.entry.now }
     {
         View {
             tick: self.last_tick(),
@@ -486,10 +511,11 @@ impl<const N: usize> Machine<N> {
         done_in(&self.state)
     }
 
-    // Level k, counted from the oldest, as it is shown; none behind the last one. There is room for eight.
+    // Level k, counted from the oldest, as it is shown; none behind the last one. There is room for
+    // eight.
     fn level(&self, k: usize) -> Option<LevelView>
-        ensures value { result ≡ get_or (shown self.entry.now).levels k None }
-        ensures eight { length (shown self.entry.now).levels ≡ 8 }
+        ensures value { result ≡ get_or (view_at_tick self.entry.now).levels k None }
+        ensures eight { length (view_at_tick self.entry.now).levels ≡ 8 }
     {
         let tick = self.last_tick();
         self.delays.shape();

@@ -7,7 +7,7 @@ use Rattle.st_card.specs.declared.faults.Fault.TheVariants.{NameTwice, Undefined
 use Rattle.st_strap.proofs.StatementLemmas.{either as either-true}
 use Rattle.st_strap.specs.Statements.{Statement}
 use Rattle.st_strap.specs.declared.statement.Statement.TheVariants.{IndexWord}
-use Rattle.st_asm.specs.Naming.{Named, is_taken, is_known, is_earlier, name_fault}
+use Rattle.st_asm.specs.Naming.{Named, is_name_taken, is_known, is_earlier, name_fault}
 use Rattle.st_asm.specs.Symbols.{table}
 use Rattle.st_asm.specs.declared.line.Line.{Line}
 use Rattle.st_asm.specs.Checks.{is_address, in_range, fits, on_boundary, in_storage, extent, value_fault}
@@ -70,11 +70,11 @@ first-passes false fault rows none = refl
 
 -- a card without a fault has a fresh name
 pub fresh-name : (on_cards : List ℕ → Bool) (named : Named) (line : Line) → name_fault on_cards named line ≡ None →
-    is_taken (table named.symbols) line.name ≡ false
+    is_name_taken (table named.symbols) line.name ≡ false
 unfolding name_fault
 fresh-name on_cards named line none =
     let symbols = table named.symbols in
-    first-passes (is_taken symbols line.name) NameTwice
+    first-passes (is_name_taken symbols line.name) NameTwice
     ((not (is_known on_cards line.statement), UndefinedSymbol)
     ∷ (not (is_earlier symbols line.statement), SymbolNotEarlier)
     ∷ (is_some line.name && nat_le 4000 (length named.symbols), TooManyNames) ∷ []) none

@@ -7,8 +7,8 @@ use Rattle.st_card.specs.declared.cards.CardKind.{CardKind}
 use Rattle.st_card.specs.declared.cards.CardKind.TheVariants.{Comment, Control, Statement as StatementCard}
 use Rattle.st_card.specs.declared.faults.Fault.{Fault}
 use Rattle.st_card.specs.declared.faults.Fault.TheVariants.{CardAfterEnd}
-use Rattle.st_asm.specs.Pass.{Refusal, pass, onward, unless_faulty, and_then}
-use Rattle.st_asm.specs.Forming.{Found, first_fault_of, before_end, form_kind, form_statement, form_card, form_pass, unread, with_end}
+use Rattle.st_asm.specs.Pass.{Refusal, pass, onward, unless_faulty, pass_then}
+use Rattle.st_asm.specs.Forming.{Found, first_fault_of, before_end, form_kind, form_statement, form_card, form_pass, found_at_start, with_end}
 
 -- what follows where nothing is faulty
 unless-none : {S : Type 0} (o : Option Fault) (r : Result S Fault) (s : S) → unless_faulty o r ≡ Ok s → (o ≡ None) × (r ≡ Ok s)
@@ -57,12 +57,12 @@ record ComesNext {A B : Type 0} (next : A → Result B Refusal) (r : Result A Re
   is : r ≡ Ok first
   last : next first ≡ Ok b
 
-and_then-ok : {A B : Type 0} (next : A → Result B Refusal) (r : Result A Refusal) (b : B) → and_then r next ≡ Ok b → ComesNext next r b
+and_then-ok : {A B : Type 0} (next : A → Result B Refusal) (r : Result A Refusal) (b : B) → pass_then r next ≡ Ok b → ComesNext next r b
 and_then-ok next (Ok a) b h = record { first = a; is = refl; last = h }
 and_then-ok next (Err e) b h = let no : ⊥ = cc in absurd no
 
 pub form_pass-faultless : (job : List ℕ) (cards : List Card) (found : Found) → form_pass job cards ≡ Ok found → All (λ card. card.fault ≡ None) cards
 unfolding form_pass
 form_pass-faultless job cards found h =
-    let formed = and_then-ok (with_end (length cards)) (pass (form_card job) (λ card. card.number) unread cards) found h in
-    pass-faultless job unread formed.first cards formed.is
+    let formed = and_then-ok (with_end (length cards)) (pass (form_card job) (λ card. card.number) found_at_start cards) found h in
+    pass-faultless job found_at_start formed.first cards formed.is

@@ -7,7 +7,7 @@ use Rattle.std.specs.Bool.{IsTrue, IsFalse}
 use Rattle.st_bits.proofs.WordFields.{below-joined}
 use Rattle.st_format.specs.Validity.{misfits}
 use Rattle.st_strap.specs.declared.statement.Form.{Form}
-use Rattle.st_asm.specs.Numbers.{holds, packed, capacity, magnitude_bits}
+use Rattle.st_asm.specs.Numbers.{holds, packed_digits, capacity, magnitude_bits_of}
 use Rattle.st_strap.specs.WellFormed.{IsNumberForm}
 
 -- a high part above n low bits: nothing is lost, and the whole has k bits
@@ -31,15 +31,15 @@ more-digits b (suc k) some =
 
 -- the digits of a number by its last one
 pub packed-more : (byte count number : ℕ) → (count ≡ 0 → ⊥) →
-    packed byte count number ≡ packed byte (count - 1) (number / 10) * 2 ^ byte + number % 10
-unfolding packed
+    packed_digits byte count number ≡ packed_digits byte (count - 1) (number / 10) * 2 ^ byte + number % 10
+unfolding packed_digits
 packed-more byte zero number some = absurd (some refl)
 packed-more byte (suc k) number some =
     let one_less : suc k - 1 ≡ k = omega arith in
-    ap (λ c. packed byte c (number / 10) * 2 ^ byte + number % 10) (sym one_less)
+    ap (λ c. packed_digits byte c (number / 10) * 2 ^ byte + number % 10) (sym one_less)
 
-pub packed-none : (byte count number : ℕ) → count ≡ 0 → packed byte count number ≡ 0
-unfolding packed
+pub packed-none : (byte count number : ℕ) → count ≡ 0 → packed_digits byte count number ≡ 0
+unfolding packed_digits
 packed-none byte zero number none = refl
 packed-none byte (suc k) number none = let no : ⊥ = omega arith in absurd no
 
@@ -96,7 +96,7 @@ holds-below form minus number held =
 
 -- the digits of a decimal field fill it
 pub digits-whole : (form : Form) → IsNumberForm form → form.decimal ≡ true →
-    form.byte * (magnitude_bits form / form.byte) ≡ magnitude_bits form
+    form.byte * (magnitude_bits_of form / form.byte) ≡ magnitude_bits_of form
 digits-whole form is decimal = sized form.unsigned refl
   where
     fits : (unsigned : Bool) → form.unsigned ≡ unsigned → IsFalse (misfits true unsigned form.length form.byte)
@@ -113,7 +113,7 @@ digits-whole form is decimal = sized form.unsigned refl
         (whole_bytes false form.length form.byte (fits false e))
 
 -- a magnitude and a sign byte make a signed field
-pub signed-parts : (form : Form) (m s : ℕ) → IsNumberForm form → form.unsigned ≡ false → m < 2 ^ magnitude_bits form →
+pub signed-parts : (form : Form) (m s : ℕ) → IsNumberForm form → form.unsigned ≡ false → m < 2 ^ magnitude_bits_of form →
     s < 2 ^ form.byte →
     (m * 2 ^ form.byte % 2 ^ 64 + s ≡ m * 2 ^ form.byte + s) × (m * 2 ^ form.byte + s < 2 ^ form.length)
     × (m * 2 ^ form.byte + s < 2 ^ 64)

@@ -11,8 +11,8 @@ use Rattle.std.specs.Result.{IfOk}
 use Rattle.std.proofs.lemmas.List.Elements.{All-nil, All-cons, All-head, All-tail, All-push, All-append}
 use Rattle.st_text.specs.Number.{is_filled}
 use Rattle.st_card.specs.Cards.{text_in, card_at, cards_from, cards_of}
-use Rattle.st_text.specs.Pieces.{parted}
-use Rattle.st_card.specs.Controls.{Asked, nothing_asked, added, is_in_range}
+use Rattle.st_text.specs.Pieces.{pieces_of}
+use Rattle.st_card.specs.Controls.{Asked, nothing_asked, asked_with_card, is_in_range}
 use Rattle.st_card.specs.Limits.{IsWithinLimits, AreDelays, is_signal, is_part, is_tick}
 use Rattle.st_card.specs.declared.cards.Card.{Card}
 use Rattle.st_card.specs.declared.cards.CardKind.{CardKind}
@@ -20,22 +20,22 @@ use Rattle.st_card.specs.declared.cards.CardKind.TheVariants.{Comment, Control, 
 use Rattle.st_card.specs.declared.faults.Fault.{Fault}
 use Rattle.st_card.specs.declared.faults.Fault.TheVariants.{BadControlCard, CardAfterEnd}
 use Rattle.st_card.proofs.LimitLemmas.{added-kept}
-use Rattle.st_expr.specs.Name.{is_name, is_name_byte, padded}
-use Rattle.st_strap.specs.Order.{judged, mapped}
+use Rattle.st_expr.specs.Name.{is_name, is_name_byte, padded_name}
+use Rattle.st_strap.specs.Order.{next_reading, reading_map}
 use Rattle.st_strap.specs.Saying.{statement_of}
 use Rattle.st_strap.specs.Statements.{Statement}
 use Rattle.st_strap.proofs.StatementLemmas.{read-is, read-named}
-use Rattle.st_asm.specs.Pass.{Refusal, onward, pass, unless_faulty, and_then}
-use Rattle.st_asm.specs.Lines.{name_field, statement_field, name_in, silent, saying}
-use Rattle.st_asm.specs.Forming.{Found, unread, first_fault_of, with_statement, with_control, with_end, form_control, form_statement, form_kind, form_card, form_pass}
+use Rattle.st_asm.specs.Pass.{Refusal, onward, pass, unless_faulty, pass_then}
+use Rattle.st_asm.specs.Lines.{name_field, statement_field, name_in, is_silent, saying}
+use Rattle.st_asm.specs.Forming.{Found, found_at_start, first_fault_of, with_statement, with_control, with_end, form_control, form_statement, form_kind, form_card, form_pass}
 use Rattle.st_asm.specs.Symbols.{table}
-use Rattle.st_asm.specs.Values.{wrapped, values_of}
+use Rattle.st_asm.specs.Values.{value_modulo, values_of}
 use Rattle.st_asm.specs.Checks.{value_fault}
 use Rattle.st_asm.specs.Places.{role_of, place_in}
-use Rattle.st_asm.specs.Naming.{Named, unnamed, name_fault, name_step, name_card, name_pass, place_of, symbol_of}
-use Rattle.st_asm.specs.Valuing.{Laid, unlaid, value_statement, value_saying, value_card, value_pass}
+use Rattle.st_asm.specs.Naming.{Named, naming_at_start, name_fault, name_step, name_card, name_pass, place_of_card, symbol_of}
+use Rattle.st_asm.specs.Valuing.{Laid, laying_at_start, value_statement, value_saying, value_card, value_pass}
 use Rattle.st_asm.specs.Assembly.{together, with_defaults}
-use Rattle.st_asm.specs.Sound.{IsLocation, IsSymbol, IsSound}
+use Rattle.st_asm.specs.Sound.{IsLocation, IsSymbol, IsAssemblySound}
 use Rattle.st_asm.specs.Kept.{IsLine, IsDeck, IsNamed, IsSoundLayout}
 use Rattle.st_asm.specs.declared.line.Line.{Line}
 use Rattle.st_asm.specs.declared.places.Role.{Role}
@@ -103,11 +103,11 @@ ok-if P true r q first second = first refl
 ok-if P false r q first second = second refl
 
 ok-judged : {A S : Type 0} (P : S → Type 0) (fault : Fault) (o : Option A) (next : A → Result S Fault) →
-    ((a : A) → o ≡ Some a → IfOk (next a) P) → IfOk (judged fault o next) P
+    ((a : A) → o ≡ Some a → IfOk (next a) P) → IfOk (next_reading fault o next) P
 ok-judged P fault None next h = tt
 ok-judged P fault (Some a) next h = h a refl
 
-ok-mapped : {A S : Type 0} (P : S → Type 0) (f : A → S) (r : Result A Fault) → ((a : A) → r ≡ Ok a → P (f a)) → IfOk (mapped f r) P
+ok-mapped : {A S : Type 0} (P : S → Type 0) (f : A → S) (r : Result A Fault) → ((a : A) → r ≡ Ok a → P (f a)) → IfOk (reading_map f r) P
 ok-mapped P f (Ok a) h = h a refl
 ok-mapped P f (Err e) h = tt
 
@@ -120,12 +120,12 @@ card-pushed (l ∷ ls) line = ap (λ ns. l.card ∷ ns) (card-pushed ls line)
 form_kind-numbers : (s : Found) (card : ℕ) (fault : Option Fault) (text : List ℕ) (kind : CardKind) →
     IfOk (form_kind kind s card fault text) (λ t. cards_in t.lines ≡ cards_in s.lines ++ card ∷ [])
 unfolding form_control form_statement
-form_kind-numbers s card fault text Comment = card-pushed s.lines (silent card)
+form_kind-numbers s card fault text Comment = card-pushed s.lines (is_silent card)
 form_kind-numbers s card fault text Control =
     let P : Found → Type 0 = λ t. cards_in t.lines ≡ cards_in s.lines ++ card ∷ [] in
     ok-if P s.ended _ (Err BadControlCard)
-    (λ e. ok-judged P BadControlCard (added s.asked text) (λ asked. Ok (with_control s card asked))
-    (λ asked is. card-pushed s.lines (silent card)))
+    (λ e. ok-judged P BadControlCard (asked_with_card s.asked text) (λ asked. Ok (with_control s card asked))
+    (λ asked is. card-pushed s.lines (is_silent card)))
     (λ e. tt)
 form_kind-numbers s card fault text StatementCard =
     let P : Found → Type 0 = λ t. cards_in t.lines ≡ cards_in s.lines ++ card ∷ [] in
@@ -142,7 +142,7 @@ form-numbers job s card =
     (form_kind card.kind s card.number card.fault (text_in job card))
     (form_kind-numbers s card.number card.fault (text_in job card) card.kind)
 
-silent-is : (card : ℕ) → IsLine (silent card)
+silent-is : (card : ℕ) → IsLine (is_silent card)
 silent-is card = record { well = tt; name = tt }
 
 -- bytes of a name are ASCII
@@ -159,7 +159,7 @@ bytes-below [] (suc n) (suc i) all = bytes-below [] n i all
 bytes-below (c ∷ cs) n zero all = name_byte-below c (both (is_name_byte c) (list_all is_name_byte cs) all).0
 bytes-below (c ∷ cs) n (suc i) all = bytes-below cs n i (both (is_name_byte c) (list_all is_name_byte cs) all).1
 
-padded-ascii : (name : List ℕ) → is_name name ≡ true → IsAscii (padded name)
+padded-ascii : (name : List ℕ) → is_name name ≡ true → IsAscii (padded_name name)
 padded-ascii [] is = let no : ⊥ = cc in absurd no
 padded-ascii (c ∷ cs) is =
     let front = (both (is_ascii_uppercase c && list_all is_name_byte cs) (nat_le (length cs) 7) is).0 in
@@ -187,14 +187,14 @@ form_kind-kept : (s : Found) (card : ℕ) (fault : Option Fault) (text : List �
     IfOk (form_kind kind s card fault text) IsDeck
 unfolding form_control form_statement
 form_kind-kept s card fault text Comment is = record {
-  lines = All-push IsLine s.lines (silent card) is.lines (silent-is card);
+  lines = All-push IsLine s.lines (is_silent card) is.lines (silent-is card);
   limits = is.limits;
 }
 form_kind-kept s card fault text Control is =
     ok-if IsDeck s.ended _ (Err BadControlCard)
-    (λ e. ok-judged IsDeck BadControlCard (added s.asked text) (λ asked. Ok (with_control s card asked))
+    (λ e. ok-judged IsDeck BadControlCard (asked_with_card s.asked text) (λ asked. Ok (with_control s card asked))
     (λ asked more. record {
-      lines = All-push IsLine s.lines (silent card) is.lines (silent-is card);
+      lines = All-push IsLine s.lines (is_silent card) is.lines (silent-is card);
       limits = added-kept s.asked asked text more is.limits;
     }))
     (λ e. tt)
@@ -229,10 +229,10 @@ unread-limits = record {
   back = lit≤ tt;
 }
 
-unread-is : IsDeck unread
+unread-is : IsDeck found_at_start
 unread-is = record { lines = All-nil IsLine; limits = unread-limits }
 
-ended-kept : (P : Found → Type 0) (cards : ℕ) (r : Result Found Refusal) → IfOk r P → IfOk (and_then r (with_end cards)) P
+ended-kept : (P : Found → Type 0) (cards : ℕ) (r : Result Found Refusal) → IfOk r P → IfOk (pass_then r (with_end cards)) P
 ended-kept P cards (Ok found) is = ok-if P found.ended (Ok found) _ (λ e. is) (λ e. tt)
 ended-kept P cards (Err e) is = tt
 
@@ -241,8 +241,8 @@ pub form_pass-deck : (job : List ℕ) (cards : List Card) (found : Found) → fo
 unfolding form_pass
 form_pass-deck job cards found is =
     subst (λ r. IfOk r IsDeck) is
-    (ended-kept IsDeck (length cards) (pass (form_card job) (λ card. card.number) unread cards)
-    (pass-kept (form_card job) (λ card. card.number) IsDeck (λ _. Unit {0}) (λ s card d q. form-kept job s card d) unread cards
+    (ended-kept IsDeck (length cards) (pass (form_card job) (λ card. card.number) found_at_start cards)
+    (pass-kept (form_card job) (λ card. card.number) IsDeck (λ _. Unit {0}) (λ s card d q. form-kept job s card d) found_at_start cards
     unread-is (λ k d below. tt)))
 
 pub form_pass-numbers : (job : List ℕ) (cards : List Card) (found : Found) → form_pass job cards ≡ Ok found →
@@ -251,13 +251,13 @@ unfolding form_pass
 form_pass-numbers job cards found is =
     let P : Found → Type 0 = λ t. cards_in t.lines ≡ map (λ card. card.number) cards in
     subst (λ r. IfOk r P) is
-    (ended-kept P (length cards) (pass (form_card job) (λ card. card.number) unread cards)
-    (pass-numbers (form_card job) (λ card. card.number) (λ t. cards_in t.lines) (form-numbers job) unread cards))
+    (ended-kept P (length cards) (pass (form_card job) (λ card. card.number) found_at_start cards)
+    (pass-numbers (form_card job) (λ card. card.number) (λ t. cards_in t.lines) (form-numbers job) found_at_start cards))
 
 -- ---- the name pass
 
-wrapped-below : (value : ℤ) → wrapped value < 2 ^ 24
-unfolding wrapped
+wrapped-below : (value : ℤ) → value_modulo value < 2 ^ 24
+unfolding value_modulo
 wrapped-below (pos n) = omega arith
 wrapped-below (negsuc n) = omega arith
 
@@ -268,7 +268,7 @@ place_in-is Sets location value = wrapped-below value
 place_in-is Names location value = wrapped-below value
 place_in-is Ends location value = tt
 
-place_of-is : (symbols : List (List ℕ × ℕ)) (location : ℕ) (statement : Option Statement) → IsLocation (place_of symbols location statement)
+place_of-is : (symbols : List (List ℕ × ℕ)) (location : ℕ) (statement : Option Statement) → IsLocation (place_of_card symbols location statement)
 place_of-is symbols location None = tt
 place_of-is symbols location (Some s) = place_in-is (role_of s) location (values_of symbols s).first
 
@@ -280,7 +280,7 @@ symbol_of-is (Some name) None ascii is = All-cons IsSymbol _ [] (record { ascii 
 name-kept : (on_cards : List ℕ → Bool) (named : Named) (line : Line) → IsNamed named → IsLine line → IfOk (name_card on_cards named line) IsNamed
 unfolding name_card name_step
 name-kept on_cards named line is good =
-    let place = place_of (table named.symbols) named.location line.statement in
+    let place = place_of_card (table named.symbols) named.location line.statement in
     let located = place_of-is (table named.symbols) named.location line.statement in
     ok-unless IsNamed (name_fault on_cards named line) _ (record {
       symbols = All-append IsSymbol named.symbols (symbol_of line.name place) is.symbols (symbol_of-is line.name place good.name located);
@@ -292,14 +292,14 @@ name-counts : (on_cards : List ℕ → Bool) (named : Named) (line : Line) →
 unfolding name_card name_step
 name-counts on_cards named line =
     ok-unless (λ t. length t.places ≡ length named.places + 1) (name_fault on_cards named line) _
-    (length-append named.places (place_of (table named.symbols) named.location line.statement ∷ []))
+    (length-append named.places (place_of_card (table named.symbols) named.location line.statement ∷ []))
 
 -- what the name pass leaves
 pub name_pass-named : (lines : List Line) (named : Named) → name_pass lines ≡ Ok named → All IsLine lines → IsNamed named
 unfolding name_pass
 name_pass-named lines named is good =
     subst (λ r. IfOk r IsNamed) is
-    (pass-kept (name_card _) (λ line. line.card) IsNamed IsLine (name-kept _) unnamed lines
+    (pass-kept (name_card _) (λ line. line.card) IsNamed IsLine (name-kept _) naming_at_start lines
     (record { symbols = All-nil IsSymbol; places = All-nil IsLocation }) good)
 
 pub name_pass-counts : (lines : List Line) (named : Named) → name_pass lines ≡ Ok named → length named.places ≡ length lines
@@ -307,7 +307,7 @@ unfolding name_pass
 name_pass-counts lines named is =
     subst (λ r. IfOk r (λ t. length t.places ≡ length lines)) is
     (ok-weaker (λ t. length t.places ≡ 0 + length lines) (λ t. length t.places ≡ length lines) _ (λ t e. omega (arith, e))
-    (pass-counts (name_card _) (λ line. line.card) (λ t. length t.places) (name-counts _) unnamed lines))
+    (pass-counts (name_card _) (λ line. line.card) (λ t. length t.places) (name-counts _) naming_at_start lines))
 
 -- ---- the value pass
 
@@ -339,7 +339,7 @@ pub value_pass-numbers : (symbols : List (List ℕ × ℕ)) (lines : List Line) 
 unfolding value_pass
 value_pass-numbers symbols lines places laid is same =
     subst (λ r. IfOk r (λ t. numbers_in t.rows ≡ map (λ p. p.0.card) (zip lines places))) is
-    (pass-numbers (value_card symbols) (λ p. p.0.card) (λ t. numbers_in t.rows) (value-numbers symbols) unlaid (zip lines places))
+    (pass-numbers (value_card symbols) (λ p. p.0.card) (λ t. numbers_in t.rows) (value-numbers symbols) laying_at_start (zip lines places))
     ∙ zip-cards lines places same
 
 -- ---- the whole
@@ -363,14 +363,14 @@ numbered n place (suc k) (line ∷ next ∷ more) d below =
     numbered (n + 1) (place + length line + 1) k (next ∷ more) d (omega arith) ∙ omega arith
 
 pub few-cards : (job : List ℕ) → length (cards_of job) ≤ 20001
-few-cards job = omega (arith, length-take 20001 (cards_from 1 0 (parted 10 job)))
+few-cards job = omega (arith, length-take 20001 (cards_from 1 0 (pieces_of 10 job)))
 
 card-number : (job : List ℕ) (k : ℕ) (d : Card) → k < length (cards_of job) → (get_or (cards_of job) k d).number ≡ k + 1
 card-number job k d below =
-    let all = cards_from 1 0 (parted 10 job) in
+    let all = cards_from 1 0 (pieces_of 10 job) in
     let size = length-take 20001 all in
     ap (λ card. card.number) (get_or-take 20001 all k d (omega (arith, size, below)))
-    ∙ (numbered 1 0 k (parted 10 job) d (omega (arith, size, below)) ∙ omega arith)
+    ∙ (numbered 1 0 k (pieces_of 10 job) d (omega (arith, size, below)) ∙ omega arith)
 
 get_or-map : {X : Type 0} (f : X → ℕ) (xs : List X) (k : ℕ) (d : X) → k < length xs → get_or (map f xs) k 0 ≡ f (get_or xs k d)
 get_or-map f [] k d below = let no : ⊥ = omega arith in absurd no
@@ -433,7 +433,7 @@ defaults-within asked is =
 -- what the three passes leave is sound
 pub together-sound : (job : List ℕ) (found : Found) (named : Named) (laid : Laid) → form_pass job (cards_of job) ≡ Ok found →
     name_pass found.lines ≡ Ok named → value_pass (table named.symbols) found.lines named.places ≡ Ok laid →
-    IsSoundLayout laid → IsSound (length (cards_of job)) (together found named laid)
+    IsSoundLayout laid → IsAssemblySound (length (cards_of job)) (together found named laid)
 together-sound job found named laid formed is_named is_laid sound =
     let deck = form_pass-deck job (cards_of job) found formed in
     let names = name_pass-named found.lines named is_named deck.lines in

@@ -2,19 +2,19 @@
 use Rattle.std.proofs.Common.{◌≡◌, ◌⊎◌, inl, inr, ℕ, ◌+◌, Bool, true, false, List, [], ◌∷◌, ◌++◌, length, Option, Some, None, Result, Ok, Err, refl, ap, sym, ◌∙◌, if◌then◌else◌}
 use Rattle.std.specs.Option.{option_or}
 use Rattle.st_card.specs.Cards.{first_fault, cards_of, text_in}
-use Rattle.st_card.specs.Controls.{Asked, added}
+use Rattle.st_card.specs.Controls.{Asked, asked_with_card}
 use Rattle.st_card.specs.declared.cards.Card.{Card}
 use Rattle.st_card.specs.declared.cards.CardKind.{CardKind}
 use Rattle.st_card.specs.declared.cards.CardKind.TheVariants.{Comment, Control, Statement as StatementCard}
 use Rattle.st_card.specs.declared.faults.Fault.{Fault}
 use Rattle.st_card.specs.declared.faults.Fault.TheVariants.{BadControlCard, CardAfterEnd, NoEnd}
 use Rattle.st_strap.specs.Faults.{fault_in, faults_on}
-use Rattle.st_strap.specs.Order.{judged, mapped}
+use Rattle.st_strap.specs.Order.{next_reading, reading_map}
 use Rattle.st_strap.specs.Saying.{statement_of}
 use Rattle.st_strap.proofs.FaultLemmas.{card-fault, fault-mapped}
-use Rattle.st_asm.specs.Pass.{Refusal, onward, pass, and_then, unless_faulty}
+use Rattle.st_asm.specs.Pass.{Refusal, onward, pass, pass_then, unless_faulty}
 use Rattle.st_asm.specs.Lines.{name_field, statement_field}
-use Rattle.st_asm.specs.Forming.{Found, unread, before_end, first_fault_of, with_end, with_control, with_statement, form_control, form_statement, form_kind, form_card, form_pass}
+use Rattle.st_asm.specs.Forming.{Found, found_at_start, before_end, first_fault_of, with_end, with_control, with_statement, form_control, form_statement, form_kind, form_card, form_pass}
 use Rattle.st_asm.specs.Symbols.{table}
 use Rattle.st_asm.specs.Naming.{Named, name_pass}
 use Rattle.st_asm.specs.Valuing.{Laid, value_pass}
@@ -93,17 +93,17 @@ stops-at-first next number from xs r = (
 )
 
 -- what comes next where there is something, is refused by itself or by what is first
-and_then-refused : {A B : Type 0} (next : A → Result B Refusal) (r : Result A Refusal) (refusal : Refusal) → and_then r next ≡ Err refusal →
+and_then-refused : {A B : Type 0} (next : A → Result B Refusal) (r : Result A Refusal) (refusal : Refusal) → pass_then r next ≡ Err refusal →
     (r ≡ Err refusal) ⊎ ((a : A) × (r ≡ Ok a) × (next a ≡ Err refusal))
 and_then-refused next (Ok a) refusal refused = inr (a, refl, refused)
 and_then-refused next (Err other) refusal refused = let same : other ≡ refusal = cc in inl (ap (λ q. Err q) same)
 
-and_then-first : {A B : Type 0} (next : A → Result B Refusal) (r : Result A Refusal) (refusal : Refusal) → r ≡ Err refusal → and_then r next ≡ Err refusal
-and_then-first next r refusal is = ap (λ x. and_then x next) is
+and_then-first : {A B : Type 0} (next : A → Result B Refusal) (r : Result A Refusal) (refusal : Refusal) → r ≡ Err refusal → pass_then r next ≡ Err refusal
+and_then-first next r refusal is = ap (λ x. pass_then x next) is
 
 and_then-next : {A B : Type 0} (next : A → Result B Refusal) (r : Result A Refusal) (a : A) (refusal : Refusal) → r ≡ Ok a → next a ≡ Err refusal →
-    and_then r next ≡ Err refusal
-and_then-next next r a refusal is refused = ap (λ x. and_then x next) is ∙ refused
+    pass_then r next ≡ Err refusal
+and_then-next next r a refusal is refused = ap (λ x. pass_then x next) is ∙ refused
 
 -- a pass that goes to its end
 passed : {S X : Type 0} (next : S → X → Result S Fault) (number : X → ℕ) (from to : S) (xs : List X) → pass next number from xs ≡ Ok to → Leads next from xs to
@@ -125,28 +125,28 @@ open-end : (cards : ℕ) (found : Found) (refusal : Refusal) → with_end cards 
 open-end cards found refusal refused = ended-not found.ended (record { card = cards + 1; fault = NoEnd }) found refusal refused
 
 form-by : (job : List ℕ) (cards : List Card) (refusal : Refusal) →
-    let read : Result Found Refusal = pass (form_card job) (λ card. card.number) unread cards in
+    let read : Result Found Refusal = pass (form_card job) (λ card. card.number) found_at_start cards in
     (read ≡ Err refusal) ⊎ ((found : Found) × (read ≡ Ok found) × (with_end (length cards) found ≡ Err refusal)) →
-    HasFirst (form_card job) (λ card. card.number) unread cards refusal ⊎ LacksEnd job cards refusal
-form-by job cards refusal (inl refused) = inl (has-first (form_card job) (λ card. card.number) unread cards refusal refused)
+    HasFirst (form_card job) (λ card. card.number) found_at_start cards refusal ⊎ LacksEnd job cards refusal
+form-by job cards refusal (inl refused) = inl (has-first (form_card job) (λ card. card.number) found_at_start cards refusal refused)
 form-by job cards refusal (inr (found, read, refused)) =
     let end = open-end (length cards) found refusal refused in
     inr (record {
       found = found;
-      good = passed (form_card job) (λ card. card.number) unread found cards read;
+      good = passed (form_card job) (λ card. card.number) found_at_start found cards read;
       endless = end.0;
       behind = end.1;
     })
 
 form-stopped : (job : List ℕ) (cards : List Card) (refusal : Refusal) →
-    HasFirst (form_card job) (λ card. card.number) unread cards refusal ⊎ LacksEnd job cards refusal → form_pass job cards ≡ Err refusal
+    HasFirst (form_card job) (λ card. card.number) found_at_start cards refusal ⊎ LacksEnd job cards refusal → form_pass job cards ≡ Err refusal
 unfolding form_pass
 form-stopped job cards refusal (inl first) =
-    and_then-first (with_end (length cards)) (pass (form_card job) (λ card. card.number) unread cards) refusal
-    ((stops-at-first (form_card job) (λ card. card.number) unread cards refusal).1 first)
+    and_then-first (with_end (length cards)) (pass (form_card job) (λ card. card.number) found_at_start cards) refusal
+    ((stops-at-first (form_card job) (λ card. card.number) found_at_start cards refusal).1 first)
 form-stopped job cards refusal (inr lacks) =
-    and_then-next (with_end (length cards)) (pass (form_card job) (λ card. card.number) unread cards) lacks.found refusal
-    (passes (form_card job) (λ card. card.number) unread lacks.found cards lacks.good)
+    and_then-next (with_end (length cards)) (pass (form_card job) (λ card. card.number) found_at_start cards) lacks.found refusal
+    (passes (form_card job) (λ card. card.number) found_at_start lacks.found cards lacks.good)
     (ap (λ (b : Bool). if b then Ok lacks.found else Err (record { card = length cards + 1; fault = NoEnd })) lacks.endless
     ∙ ap (λ (q : Refusal). Err q) (sym lacks.behind))
 
@@ -155,19 +155,19 @@ pub stops-form : (job : List ℕ) (cards : List Card) → StopsForm job cards
 unfolding form_pass
 stops-form job cards refusal =
     let number = λ (card : Card). card.number in
-    let read : Result Found Refusal = pass (form_card job) number unread cards in (
+    let read : Result Found Refusal = pass (form_card job) number found_at_start cards in (
       λ refused. form-by job cards refusal (and_then-refused (with_end (length cards)) read refusal refused),
       λ stops. form-stopped job cards refusal stops,
     )
 
 -- the passes in their order
 abbrev after-names : Found → Named → Result Assembly Refusal
-after-names found named = and_then (value_pass (table named.symbols) found.lines named.places) (λ laid. Ok (together found named laid))
+after-names found named = pass_then (value_pass (table named.symbols) found.lines named.places) (λ laid. Ok (together found named laid))
 
 abbrev after-form : Found → Result Assembly Refusal
-after-form found = and_then (name_pass found.lines) (λ named. after-names found named)
+after-form found = pass_then (name_pass found.lines) (λ named. after-names found named)
 
-last-refused : (found : Found) (named : Named) (r : Result Laid Refusal) (refusal : Refusal) → and_then r (λ laid. Ok (together found named laid)) ≡ Err refusal →
+last-refused : (found : Found) (named : Named) (r : Result Laid Refusal) (refusal : Refusal) → pass_then r (λ laid. Ok (together found named laid)) ≡ Err refusal →
     r ≡ Err refusal
 last-refused found named (Ok laid) refusal refused = let no : ⊥ = cc in absurd no
 last-refused found named (Err other) refusal refused = let same : other ≡ refusal = cc in ap (λ q. Err q) same
@@ -221,31 +221,31 @@ or-none None = refl
 or-none (Some fault) = refl
 
 asked-fault : (found : Found) (card : ℕ) (o : Option Asked) →
-    fault_in (judged BadControlCard o (λ asked. Ok (with_control found card asked))) ≡ asking_fault o
+    fault_in (next_reading BadControlCard o (λ asked. Ok (with_control found card asked))) ≡ asking_fault o
 asked-fault found card None = refl
 asked-fault found card (Some asked) = refl
 
 control-fault : (found : Found) (card : ℕ) (text : List ℕ) → fault_in (form_control found card text)
-    ≡ (if found.ended then asking_fault (added found.asked text) else Some BadControlCard)
+    ≡ (if found.ended then asking_fault (asked_with_card found.asked text) else Some BadControlCard)
 unfolding form_control
 control-fault found card text =
-    elim found.ended as (λ b. fault_in (if b then judged BadControlCard (added found.asked text) (λ asked. Ok (with_control found card asked)) else Err BadControlCard)
-    ≡ (if b then asking_fault (added found.asked text) else Some BadControlCard)) [
-      | true ↦ asked-fault found card (added found.asked text)
+    elim found.ended as (λ b. fault_in (if b then next_reading BadControlCard (asked_with_card found.asked text) (λ asked. Ok (with_control found card asked)) else Err BadControlCard)
+    ≡ (if b then asking_fault (asked_with_card found.asked text) else Some BadControlCard)) [
+      | true ↦ asked-fault found card (asked_with_card found.asked text)
       | false ↦ refl
     ]
 
 read-fault : (o : Option Fault) (found : Found) (card : ℕ) (name text : List ℕ) →
-    fault_in (unless_faulty o (mapped (λ s. with_statement found card name s) (statement_of name text))) ≡ option_or o (first_fault (faults_on name text))
+    fault_in (unless_faulty o (reading_map (λ s. with_statement found card name s) (statement_of name text))) ≡ option_or o (first_fault (faults_on name text))
 read-fault o found card name text =
-    unless-fault o (mapped (λ s. with_statement found card name s) (statement_of name text))
+    unless-fault o (reading_map (λ s. with_statement found card name s) (statement_of name text))
     ∙ ap (λ x. option_or o x) (fault-mapped (λ s. with_statement found card name s) (statement_of name text) ∙ card-fault name text)
 
 statement-fault : (found : Found) (card : ℕ) (o : Option Fault) (text : List ℕ) → fault_in (form_statement found card o text)
     ≡ option_or (if found.ended then Some CardAfterEnd else None) (option_or o (first_fault (faults_on (name_field text) (statement_field text))))
 unfolding form_statement
 statement-fault found card o text =
-    let read : Result Found Fault = unless_faulty o (mapped (λ s. with_statement found card (name_field text) s) (statement_of (name_field text) (statement_field text))) in
+    let read : Result Found Fault = unless_faulty o (reading_map (λ s. with_statement found card (name_field text) s) (statement_of (name_field text) (statement_field text))) in
     elim found.ended as (λ b. fault_in (if b then Err CardAfterEnd else read)
     ≡ option_or (if b then Some CardAfterEnd else None) (option_or o (first_fault (faults_on (name_field text) (statement_field text))))) [
       | true ↦ refl

@@ -1,7 +1,7 @@
 -- When an expression has a value.
 use Rattle.std.proofs.Common.{◌≡◌, ◌&&◌, ℕ, ℤ, List, [], ◌∷◌, Option, Some, None, is_some, refl, ap, ◌∙◌}
 use Rattle.std.specs.Option.{option_map}
-use Rattle.st_expr.specs.Value.{atom_value, signed, plus, sum_of}
+use Rattle.st_expr.specs.Value.{atom_value, signed_value, plus, sum_of_terms}
 use Rattle.st_expr.specs.declared.terms.Term.{Term}
 use Rattle.st_expr.specs.declared.terms.Atom.{Atom}
 use Rattle.st_expr.specs.declared.terms.Atom.TheVariants.{Number, Name}
@@ -17,9 +17,9 @@ sum-known f (Some n) None = refl
 sum-known f (Some n) (Some s) = refl
 
 -- an expression has a value where each of its names is known
-pub terms-known : (symbols : List (List ℕ × ℕ)) (terms : List Term) → is_some (sum_of symbols terms) ≡ accepts (is_defined symbols) terms
+pub terms-known : (symbols : List (List ℕ × ℕ)) (terms : List Term) → is_some (sum_of_terms symbols terms) ≡ accepts (is_defined symbols) terms
 terms-known symbols [] = refl
 terms-known symbols (term ∷ terms) =
-    sum-known (λ n. signed term.minus n) (atom_value symbols term.atom) (sum_of symbols terms)
-    ∙ (ap (λ b. b && is_some (sum_of symbols terms)) (atom-known symbols term.atom)
+    sum-known (λ n. signed_value term.minus n) (atom_value symbols term.atom) (sum_of_terms symbols terms)
+    ∙ (ap (λ b. b && is_some (sum_of_terms symbols terms)) (atom-known symbols term.atom)
     ∙ ap (λ b. accepts_atom (is_defined symbols) term.atom && b) (terms-known symbols terms))

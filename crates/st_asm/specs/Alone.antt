@@ -6,7 +6,7 @@ use Rattle.st_strap.specs.Statements.{Statement}
 use Rattle.st_asm.specs.Symbols.{accepts_all, is_defined}
 use Rattle.st_asm.specs.Values.{values_of}
 use Rattle.st_asm.specs.Places.{role_of, length_in}
-use Rattle.st_asm.specs.Naming.{unnamed}
+use Rattle.st_asm.specs.Naming.{naming_at_start}
 use Rattle.st_asm.specs.Checks.{value_fault}
 use Rattle.st_asm.specs.Laying.{bits_of}
 use Rattle.st_asm.specs.declared.values.Values.{Values}
@@ -15,7 +15,7 @@ use Rattle.st_asm.specs.declared.alone.LaidBits.{LaidBits}
 -- what a statement lays with its values, if it has no fault at the first location
 abbrev pub laid_with : Statement → Values → Option LaidBits
 laid_with s v =
-    if is_none (value_fault s v unnamed.location)
+    if is_none (value_fault s v naming_at_start.location)
     then Some (record { length = length_in (role_of s); bits = bits_of s v }) else None
 
 -- what a statement lays whose names are all in a table

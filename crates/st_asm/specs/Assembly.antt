@@ -2,7 +2,7 @@
 use Rattle.std.specs.Prelude.{ℕ, ◌==◌, List, [], ◌∷◌, length, Result, Ok, if◌then◌else◌}
 use Rattle.st_card.specs.Cards.{cards_of}
 use Rattle.st_card.specs.Controls.{Asked}
-use Rattle.st_asm.specs.Pass.{Refusal, and_then}
+use Rattle.st_asm.specs.Pass.{Refusal, pass_then}
 use Rattle.st_asm.specs.Forming.{Found, form_pass}
 use Rattle.st_asm.specs.Symbols.{table}
 use Rattle.st_asm.specs.Naming.{Named, name_pass}
@@ -11,8 +11,8 @@ use Rattle.st_asm.specs.declared.naming.Symbol.{Symbol}
 use Rattle.st_asm.specs.declared.valuing.Listed.{Listed}
 use Rattle.st_asm.specs.declared.assembling.Assembled.{Assembled}
 
--- what a job gives: the words of storage, the start, the rows of the listing, the symbols, and what its
--- control cards ask for
+-- what a job gives: the words of storage, the start, the rows of the listing, the symbols, and what
+-- its control cards ask for
 pub record Assembly : Type 0 where
   pub image : List ℕ
   pub start : ℕ
@@ -40,14 +40,14 @@ together found named laid = record {
 -- what a job gives, or the first faulty card of the earliest pass that finds one
 unfoldable pub assembly : List ℕ → Result Assembly Refusal
 assembly job =
-    and_then (form_pass job (cards_of job)) (λ found.
-    and_then (name_pass found.lines) (λ named.
-    and_then (value_pass (table named.symbols) found.lines named.places) (λ laid.
+    pass_then (form_pass job (cards_of job)) (λ found.
+    pass_then (name_pass found.lines) (λ named.
+    pass_then (value_pass (table named.symbols) found.lines named.places) (λ laid.
     Ok (together found named laid))))
 
 -- the parts of what the assembler answers
-abbrev pub shown : Assembled → Assembly
-shown a = record {
+abbrev pub assembly_parts : Assembled → Assembly
+assembly_parts a = record {
   image = a.image.items;
   start = a.start;
   rows = a.listing.items;

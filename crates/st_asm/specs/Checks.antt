@@ -75,8 +75,8 @@ fits (End at) v = true
 abbrev pub is_multiple : ℕ → ℤ → Bool
 is_multiple unit a = unsigned_abs a % unit == 0
 
--- whether each address is on the boundary that its use asks for: addresses of half-word instructions,
--- second addresses and the start are half-words, a refill address is a word
+-- whether each address is on the boundary that its use asks for: addresses of half-word
+-- instructions, second addresses and the start are half-words, a refill address is a word
 unfoldable pub on_boundary : Statement → Values → Bool
 on_boundary (Half op j at) v = is_multiple 32 v.first
 on_boundary (Sum j listed) v = true
@@ -107,7 +107,8 @@ extent Ends value = 0
 
 -- whether bits from a place on are all in storage, behind the registers
 unfoldable pub in_storage : ℕ → ℕ → Bool
-in_storage place bits = bits == 0 || (nat_le (64 * FIRST_STORAGE_WORD) place && nat_le (place + bits) (64 * WORDS))
+in_storage place bits = bits == 0 || (nat_le (64 * FIRST_STORAGE_WORD) place
+    && nat_le (place + bits) (64 * WORDS))
 
 -- the fault of a statement with its values at its place, if it has one
 unfoldable pub value_fault : Statement → Values → ℕ → Option Fault

@@ -1,18 +1,18 @@
 -- The form pass: each card by itself, what the control cards ask for, and where the end is.
 use Rattle.std.specs.Prelude.{ℕ, ◌+◌, Bool, true, false, List, [], ◌∷◌, ◌++◌, length, Option, Some, None, Result, Ok, Err, if◌then◌else◌}
 use Rattle.st_card.specs.Cards.{text_in}
-use Rattle.st_card.specs.Controls.{Asked, nothing_asked, added}
+use Rattle.st_card.specs.Controls.{Asked, nothing_asked, asked_with_card}
 use Rattle.st_card.specs.declared.cards.Card.{Card}
 use Rattle.st_card.specs.declared.cards.CardKind.{CardKind}
 use Rattle.st_card.specs.declared.cards.CardKind.TheVariants.{Comment, Control, Statement as StatementCard}
 use Rattle.st_card.specs.declared.faults.Fault.{Fault}
 use Rattle.st_card.specs.declared.faults.Fault.TheVariants.{BadName, BadControlCard, CardAfterEnd, NoEnd}
-use Rattle.st_strap.specs.Order.{judged, mapped}
+use Rattle.st_strap.specs.Order.{next_reading, reading_map}
 use Rattle.st_strap.specs.Saying.{statement_of}
 use Rattle.st_strap.specs.Statements.{Statement}
 use Rattle.st_strap.specs.declared.statement.Statement.TheVariants.{Half, Sum, Refill, Branch, Floating, Vfl, Connect, Move, BitBranch, IndBranch, StoreCounter, Transfer, Data, IndexWord, Synonym, SetLocation, Reserve, End}
-use Rattle.st_asm.specs.Pass.{Refusal, pass, unless_faulty, and_then}
-use Rattle.st_asm.specs.Lines.{name_field, statement_field, name_in, silent, saying}
+use Rattle.st_asm.specs.Pass.{Refusal, pass, unless_faulty, pass_then}
+use Rattle.st_asm.specs.Lines.{name_field, statement_field, name_in, is_silent, saying}
 use Rattle.st_asm.specs.declared.line.Line.{Line}
 use Rattle.st_asm.specs.declared.forming.Deck.{Deck}
 
@@ -27,10 +27,11 @@ abbrev pub found_in : Deck → Found
 found_in d = record { ended = d.ended; asked = d.controls; lines = d.lines.items }
 
 -- before the first card
-abbrev pub unread : Found
-unread = record { ended = false; asked = nothing_asked; lines = [] }
+abbrev pub found_at_start : Found
+found_at_start = record { ended = false; asked = nothing_asked; lines = [] }
 
--- the faults of a statement card that count also behind the end: all that it has by itself but a bad column 1
+-- the faults of a statement card that count also behind the end: all that it has by itself but a
+-- bad column 1
 abbrev pub before_end : Option Fault → Option Fault
 before_end None = None
 before_end (Some BadName) = None
@@ -78,24 +79,25 @@ with_statement found card name statement = record {
 -- a control card more, with all that is asked for then
 abbrev pub with_control : Found → ℕ → Asked → Found
 with_control found card asked =
-    record { ended = found.ended; asked = asked; lines = found.lines ++ silent card ∷ [] }
+    record { ended = found.ended; asked = asked; lines = found.lines ++ is_silent card ∷ [] }
 
 -- what a control card does
 unfoldable pub form_control : Found → ℕ → List ℕ → Result Found Fault
 form_control found card text =
-    if found.ended then judged BadControlCard (added found.asked text) (λ asked. Ok (with_control found card asked))
+    if found.ended then next_reading BadControlCard (asked_with_card found.asked text)
+    (λ asked. Ok (with_control found card asked))
     else Err BadControlCard
 
 -- what a statement card does, with the fault that it has by itself
 unfoldable pub form_statement : Found → ℕ → Option Fault → List ℕ → Result Found Fault
 form_statement found card fault text =
     if found.ended then Err CardAfterEnd
-    else unless_faulty fault (mapped (λ s. with_statement found card (name_field text) s)
+    else unless_faulty fault (reading_map (λ s. with_statement found card (name_field text) s)
     (statement_of (name_field text) (statement_field text)))
 
 -- what a card of a kind does
 abbrev pub form_kind : CardKind → Found → ℕ → Option Fault → List ℕ → Result Found Fault
-form_kind Comment found card fault text = Ok (with_line found (silent card))
+form_kind Comment found card fault text = Ok (with_line found (is_silent card))
 form_kind Control found card fault text = form_control found card text
 form_kind StatementCard found card fault text = form_statement found card fault text
 
@@ -113,4 +115,5 @@ with_end cards found =
 -- the form pass over the cards of a job
 unfoldable pub form_pass : List ℕ → List Card → Result Found Refusal
 form_pass job cards =
-    and_then (pass (form_card job) (λ card. card.number) unread cards) (with_end (length cards))
+    pass_then (pass (form_card job) (λ card. card.number) found_at_start cards)
+    (with_end (length cards))

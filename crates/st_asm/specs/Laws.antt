@@ -2,20 +2,21 @@
 use Rattle.std.specs.Prelude.{◌≡◌, List, ℕ, Bool}
 use Rattle.st_card.specs.declared.cards.Card.{Card}
 use Rattle.st_strap.specs.Faults.{fault_in}
-use Rattle.st_asm.specs.Forming.{Found, form_card, unread}
-use Rattle.st_asm.specs.Naming.{name_card, unnamed}
+use Rattle.st_asm.specs.Forming.{Found, form_card, found_at_start}
+use Rattle.st_asm.specs.Naming.{name_card, naming_at_start}
 use Rattle.st_asm.specs.Stops.{StopsAtFirst, StopsForm, StopsInOrder, form_fault}
-use Rattle.st_asm.specs.Valuing.{value_card, unlaid}
+use Rattle.st_asm.specs.Valuing.{value_card, laying_at_start}
 
--- Each pass is refused exactly where some card has a fault in the state which the cards before it leave, and
--- none of those before it has one: at that card, for that fault. The form pass is also refused where no card is
--- faulty and none says the end; and a job is refused by the earliest pass that is.
+-- Each pass is refused exactly where some card has a fault in the state which the cards before it
+-- leave, and none of those before it has one: at that card, for that fault. The form pass is also
+-- refused where no card is faulty and none says the end; and a job is refused by the earliest pass
+-- that is.
 pub record PassesStopAtTheFirstFault : Type 0 where
-  pub form : (job : List ℕ) → StopsAtFirst (form_card job) (λ card. card.number) unread
+  pub form : (job : List ℕ) → StopsAtFirst (form_card job) (λ card. card.number) found_at_start
   pub name : (on_cards : List ℕ → Bool)
-      → StopsAtFirst (name_card on_cards) (λ line. line.card) unnamed
+      → StopsAtFirst (name_card on_cards) (λ line. line.card) naming_at_start
   pub value : (symbols : List (List ℕ × ℕ))
-      → StopsAtFirst (value_card symbols) (λ p. p.0.card) unlaid
+      → StopsAtFirst (value_card symbols) (λ p. p.0.card) laying_at_start
   pub end : (job : List ℕ) (cards : List Card) → StopsForm job cards
   pub order : (job : List ℕ) → StopsInOrder job
 

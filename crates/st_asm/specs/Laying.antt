@@ -1,7 +1,7 @@
 -- The bits that a statement lays.
 use Rattle.std.specs.Prelude.{ℕ, ℤ, ◌+◌, ◌*◌, ◌/◌, ◌^◌, unsigned_abs, Option, Some, None}
 use Rattle.st_bits.specs.Bits.{with_part}
-use Rattle.st_bits.specs.IndexWord.{with_value, with_count, with_refill}
+use Rattle.st_bits.specs.IndexWord.{index_word_with_value, with_count, with_refill}
 use Rattle.st_bits.specs.declared.operations.HalfOp.TheVariants.{Lvs, R}
 use Rattle.st_format.specs.Formats.{first_half, second_half}
 use Rattle.st_format.specs.declared.instruction.Instr.{Instr}
@@ -9,54 +9,60 @@ use Rattle.st_format.specs.declared.instruction.Instr.TheVariants as laid
 use Rattle.st_strap.specs.Statements.{Spot, Statement}
 use Rattle.st_strap.specs.declared.statement.Statement.TheVariants.{Half, Sum, Refill, Branch, Floating, Vfl, Connect, Move, BitBranch, IndBranch, StoreCounter, Transfer, Data, IndexWord, Synonym, SetLocation, Reserve, End}
 use Rattle.st_asm.specs.declared.values.Values.{Values}
-use Rattle.st_asm.specs.Numbers.{field_of}
+use Rattle.st_asm.specs.Numbers.{field_bits_of}
 
 -- a half-word address
-abbrev pub half_word : ℤ → ℕ
-half_word a = unsigned_abs a / 32
+abbrev pub half_word_bits : ℤ → ℕ
+half_word_bits a = unsigned_abs a / 32
 
 -- the index that an address may have
-abbrev pub index_of : Option Spot → ℕ
-index_of None = 0
-index_of (Some at) = at.index
+abbrev pub spot_index : Option Spot → ℕ
+spot_index None = 0
+spot_index (Some at) = at.index
 
 -- the two half-words of an instruction as one number, or the one
-abbrev pub joined : ℕ → Option ℕ → ℕ
-joined first None = first
-joined first (Some second) = first * 2 ^ 32 + second
+abbrev pub number_of_halves : ℕ → Option ℕ → ℕ
+number_of_halves first None = first
+number_of_halves first (Some second) = first * 2 ^ 32 + second
 
 -- the bits of an instruction
 abbrev pub instruction_bits : Instr → ℕ
-instruction_bits instr = joined (first_half instr) (second_half instr)
+instruction_bits instr = number_of_halves (first_half instr) (second_half instr)
 
 -- an index word: a value, a count, a refill address, a bit address, and flags in bits 25 to 27
 unfoldable pub index_word_bits : ℤ → ℕ → ℤ → ℕ → ℕ
 index_word_bits value count refill flags =
-    with_part (with_refill (with_count (with_value 0 value) count) (unsigned_abs refill / 64)) 25 3 flags
+    with_part (with_refill (with_count (index_word_with_value 0 value) count)
+    (unsigned_abs refill / 64)) 25 3 flags
 
--- the bits that a statement lays, as a number; the list of LVS stands in the first 16 of the 19 bits of
--- the address
+-- the bits that a statement lays, as a number; the list of LVS stands in the first 16 of the 19
+-- bits of the address
 unfoldable pub bits_of : Statement → Values → ℕ
-bits_of (Half op j at) v = instruction_bits (laid.Half op (half_word v.first) j at.index)
+bits_of (Half op j at) v = instruction_bits (laid.Half op (half_word_bits v.first) j at.index)
 bits_of (Sum j listed) v = instruction_bits (laid.Half Lvs (listed * 8) j 0)
 bits_of (Refill j) v = instruction_bits (laid.Half R 0 j 0)
-bits_of (Branch op at) v = instruction_bits (laid.Branch op (half_word v.first) (index_of at))
-bits_of (Floating number at) v = instruction_bits (laid.Floating number (half_word v.first) at.index)
+bits_of (Branch op at) v = instruction_bits (laid.Branch op (half_word_bits v.first)
+    (spot_index at))
+bits_of (Floating number at) v = instruction_bits (laid.Floating number
+    (half_word_bits v.first) at.index)
 bits_of (Vfl op negated f at offset) v = instruction_bits
-    (laid.Vfl op f.decimal f.unsigned negated f.p f.length f.byte offset (unsigned_abs v.first) at.index)
+    (laid.Vfl op f.decimal f.unsigned negated f.p f.length f.byte offset
+    (unsigned_abs v.first) at.index)
 bits_of (Connect kind truth f at offset) v = instruction_bits
     (laid.Connect kind truth f.p f.length f.byte offset (unsigned_abs v.first) at.index)
 bits_of (Move swap at second count) v =
-    instruction_bits (laid.Move swap (unsigned_abs v.first) at.index (half_word v.second) count)
+    instruction_bits (laid.Move swap (unsigned_abs v.first) at.index
+    (half_word_bits v.second) count)
 bits_of (BitBranch sense change at second) v = instruction_bits
-    (laid.BitBranch sense change (unsigned_abs v.first) at.index (half_word v.second))
+    (laid.BitBranch sense change (unsigned_abs v.first) at.index (half_word_bits v.second))
 bits_of (IndBranch sense off at second) v =
-    instruction_bits (laid.IndBranch sense off (unsigned_abs v.first) at.index (half_word v.second))
+    instruction_bits (laid.IndBranch sense off (unsigned_abs v.first) at.index
+    (half_word_bits v.second))
 bits_of (StoreCounter at second) v =
-    instruction_bits (laid.StoreCounter (unsigned_abs v.first) at.index (half_word v.second))
+    instruction_bits (laid.StoreCounter (unsigned_abs v.first) at.index (half_word_bits v.second))
 bits_of (Transfer write at count) v =
     instruction_bits (laid.Transfer write (unsigned_abs v.first) at.index count)
-bits_of (Data form minus number) v = field_of form minus number
+bits_of (Data form minus number) v = field_bits_of form minus number
 bits_of (IndexWord value count refill flags) v = index_word_bits v.first count v.second flags
 bits_of (Synonym at) v = 0
 bits_of (SetLocation at) v = 0

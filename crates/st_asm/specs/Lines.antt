@@ -1,7 +1,7 @@
 -- What a card is to the passes behind the first one: its number, its name and its statement.
 use Rattle.std.specs.Prelude.{ℕ, List, [], ◌∷◌, take, drop, Option, Some, None}
 use Rattle.st_text.specs.Blanks.{without_front_blanks, without_end_blanks}
-use Rattle.st_expr.specs.Name.{padded}
+use Rattle.st_expr.specs.Name.{padded_name}
 use Rattle.st_strap.specs.Statements.{Statement}
 use Rattle.st_asm.specs.declared.line.Line.{Line}
 
@@ -16,11 +16,11 @@ statement_field text = drop 9 (take 72 text)
 -- a name filled with blanks to eight bytes, where there is one
 unfoldable pub name_in : List ℕ → Option (List ℕ)
 name_in [] = None
-name_in (c ∷ cs) = Some (padded (c ∷ cs))
+name_in (c ∷ cs) = Some (padded_name (c ∷ cs))
 
 -- a card that says nothing to the later passes: a comment or a control card
-abbrev pub silent : ℕ → Line
-silent card = record { card = card; name = None; statement = None }
+abbrev pub is_silent : ℕ → Line
+is_silent card = record { card = card; name = None; statement = None }
 
 -- a statement card
 abbrev pub saying : ℕ → Option (List ℕ) → Statement → Line

@@ -12,7 +12,8 @@ use Rattle.st_asm.specs.declared.line.Line.{Line}
 use Rattle.st_asm.specs.declared.naming.Symbol.{Symbol}
 use Rattle.st_asm.specs.declared.naming.Names.{Names}
 
--- what is known so far: the location, the symbols in order of definition, and the places of the cards
+-- what is known so far: the location, the symbols in order of definition, and the places of the
+-- cards
 pub record Named : Type 0 where
   pub location : ℕ
   pub symbols : List Symbol
@@ -23,18 +24,18 @@ abbrev pub named_in : Names → Named
 named_in n = record { location = n.location; symbols = n.symbols.items; places = n.places.items }
 
 -- the table by which names are found has the symbols, and the location is a bit address
-pub record IsKept (names : Names) : Type 0 where
+pub record AreNamesKept (names : Names) : Type 0 where
   pub table_is : names.table ≡ table names.symbols.items
   pub location_fits : names.location < 2 ^ 24
 
 -- before the first card: the location is bit 0 of word 32
-abbrev pub unnamed : Named
-unnamed = record { location = 2048; symbols = []; places = [] }
+abbrev pub naming_at_start : Named
+naming_at_start = record { location = 2048; symbols = []; places = [] }
 
 -- whether a card's name is in the table already
-abbrev pub is_taken : List (List ℕ × ℕ) → Option (List ℕ) → Bool
-is_taken symbols None = false
-is_taken symbols (Some name) = is_defined symbols name
+abbrev pub is_name_taken : List (List ℕ × ℕ) → Option (List ℕ) → Bool
+is_name_taken symbols None = false
+is_name_taken symbols (Some name) = is_defined symbols name
 
 -- whether a test accepts the names that a card speaks of
 abbrev pub is_known : (List ℕ → Bool) → Option Statement → Bool
@@ -54,7 +55,7 @@ is_earlier symbols (Some s) = is_statement_earlier symbols s
 -- the fault of a card, if it has one; the test says which names are on cards at all
 unfoldable pub name_fault : (List ℕ → Bool) → Named → Line → Option Fault
 name_fault on_cards named line = let symbols = table named.symbols in first_fault (
-    (is_taken symbols line.name, NameTwice)
+    (is_name_taken symbols line.name, NameTwice)
     ∷ (not (is_known on_cards line.statement), UndefinedSymbol)
     ∷ (not (is_earlier symbols line.statement), SymbolNotEarlier)
     ∷ (is_some line.name && nat_le 4000 (length named.symbols), TooManyNames)
@@ -69,18 +70,18 @@ abbrev pub place_of_statement : List (List ℕ × ℕ) → ℕ → Statement →
 place_of_statement symbols location s = place_in (role_of s) location (value_at symbols s)
 
 -- the place of a card, which may have none
-abbrev pub place_of : List (List ℕ × ℕ) → ℕ → Option Statement → Option ℕ
-place_of symbols location None = None
-place_of symbols location (Some s) = place_of_statement symbols location s
+abbrev pub place_of_card : List (List ℕ × ℕ) → ℕ → Option Statement → Option ℕ
+place_of_card symbols location None = None
+place_of_card symbols location (Some s) = place_of_statement symbols location s
 
 -- the location behind a statement
 abbrev pub behind_statement : List (List ℕ × ℕ) → ℕ → Statement → ℕ
 behind_statement symbols location s = behind_in (role_of s) location (value_at symbols s)
 
 -- the location behind a card
-abbrev pub behind : List (List ℕ × ℕ) → ℕ → Option Statement → ℕ
-behind symbols location None = location
-behind symbols location (Some s) = behind_statement symbols location s
+abbrev pub location_behind : List (List ℕ × ℕ) → ℕ → Option Statement → ℕ
+location_behind symbols location None = location
+location_behind symbols location (Some s) = behind_statement symbols location s
 
 -- the symbol that a name becomes at a place, if there is a name
 abbrev pub symbol_of : Option (List ℕ) → Option ℕ → List Symbol
@@ -90,8 +91,8 @@ symbol_of (Some name) place = record { name = name; value = unwrap_or place 0 } 
 -- what is known behind a card without a fault
 unfoldable pub name_step : Named → Line → Named
 name_step named line =
-    let place = place_of (table named.symbols) named.location line.statement in record {
-      location = behind (table named.symbols) named.location line.statement;
+    let place = place_of_card (table named.symbols) named.location line.statement in record {
+      location = location_behind (table named.symbols) named.location line.statement;
       symbols = named.symbols ++ symbol_of line.name place;
       places = named.places ++ place ∷ [];
     }
@@ -104,4 +105,4 @@ name_card on_cards named line =
 -- the name pass
 unfoldable pub name_pass : List Line → Result Named Refusal
 name_pass lines =
-    pass (name_card (has_name (names_of lines))) (λ line. line.card) unnamed lines
+    pass (name_card (has_name (names_of lines))) (λ line. line.card) naming_at_start lines

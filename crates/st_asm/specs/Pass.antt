@@ -13,7 +13,8 @@ onward rest card (Ok state) = rest state
 onward rest card (Err fault) = Err (record { card = card; fault = fault })
 
 -- what a pass leaves: `next` is the state that a card makes of a state, or the card's fault
-abbrev pub pass : {S X : Type 0} → (S → X → Result S Fault) → (X → ℕ) → S → List X → Result S Refusal
+abbrev pub pass : {S X : Type 0} → (S → X → Result S Fault) → (X → ℕ) → S → List X →
+    Result S Refusal
 pass next number state [] = Ok state
 pass next number state (x ∷ xs) = onward (λ s. pass next number s xs) (number x) (next state x)
 
@@ -23,6 +24,6 @@ unless_faulty None answer = answer
 unless_faulty (Some fault) answer = Err fault
 
 -- a pass, and what comes next where it is not refused
-abbrev pub and_then : {A B : Type 0} → Result A Refusal → (A → Result B Refusal) → Result B Refusal
-and_then (Ok a) next = next a
-and_then (Err refusal) next = Err refusal
+abbrev pub pass_then : {A B : Type 0} → Result A Refusal → (A → Result B Refusal) → Result B Refusal
+pass_then (Ok a) next = next a
+pass_then (Err refusal) next = Err refusal

@@ -4,10 +4,11 @@ use Rattle.st_strap.specs.Statements.{Statement}
 use Rattle.st_strap.specs.declared.statement.Statement.TheVariants.{Half, Sum, Refill, Branch, Floating, Vfl, Connect, Move, BitBranch, IndBranch, StoreCounter, Transfer, Data, IndexWord, Synonym, SetLocation, Reserve, End}
 use Rattle.st_asm.specs.declared.places.Role.{Role}
 use Rattle.st_asm.specs.declared.places.Role.TheVariants.{Lays, Passes, Sets, Names, Ends}
-use Rattle.st_asm.specs.Values.{wrapped}
+use Rattle.st_asm.specs.Values.{value_modulo}
 
--- what a statement does to the location: an instruction lays 32 or 64 bits from a multiple of 32 on,
--- an index word 64 from a multiple of 64 on, a number as many as its form says where the location is
+-- what a statement does to the location: an instruction lays 32 or 64 bits from a multiple of 32
+-- on, an index word 64 from a multiple of 64 on, a number as many as its form says where the
+-- location is
 abbrev pub role_of : Statement → Role
 role_of (Half op j at) = Lays 32 32
 role_of (Sum j listed) = Lays 32 32
@@ -45,22 +46,23 @@ length_in Names = 0
 length_in Ends = 0
 
 -- the next multiple of a unit, modulo 2^24
-abbrev pub aligned : ℕ → ℕ → ℕ
-aligned unit location = (location + (unit - 1)) / unit * unit % 2 ^ 24
+abbrev pub next_multiple : ℕ → ℕ → ℕ
+next_multiple unit location = (location + (unit - 1)) / unit * unit % 2 ^ 24
 
--- the place of a statement that is met at a location: that of what it lays or passes over, or its value
+-- the place of a statement that is met at a location: that of what it lays or passes over, or its
+-- value
 abbrev pub place_in : Role → ℕ → ℤ → Option ℕ
-place_in (Lays unit bits) location value = Some (aligned unit location)
-place_in Passes location value = Some (aligned 64 location)
-place_in Sets location value = Some (wrapped value)
-place_in Names location value = Some (wrapped value)
+place_in (Lays unit bits) location value = Some (next_multiple unit location)
+place_in Passes location value = Some (next_multiple 64 location)
+place_in Sets location value = Some (value_modulo value)
+place_in Names location value = Some (value_modulo value)
 place_in Ends location value = None
 
 -- the location behind it
 abbrev pub behind_in : Role → ℕ → ℤ → ℕ
-behind_in (Lays unit bits) location value = (aligned unit location + bits) % 2 ^ 24
-behind_in Passes location value = (aligned 64 location + wrapped value) % 2 ^ 24
-behind_in Sets location value = wrapped value
+behind_in (Lays unit bits) location value = (next_multiple unit location + bits) % 2 ^ 24
+behind_in Passes location value = (next_multiple 64 location + value_modulo value) % 2 ^ 24
+behind_in Sets location value = value_modulo value
 behind_in Names location value = location
 behind_in Ends location value = location
 

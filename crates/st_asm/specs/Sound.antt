@@ -29,7 +29,7 @@ pub record IsSymbol (symbol : Symbol) : Type 0 where
 
 -- what a job of so many cards gives: an image, a start, a row for each card in order, symbols, and
 -- controls within their limits that say how many instructions may be done and have a delay
-pub record IsSound (cards : ℕ) (a : Assembly) : Type 0 where
+pub record IsAssemblySound (cards : ℕ) (a : Assembly) : Type 0 where
   pub image : IsImage a.image
   pub start : a.start < 2 ^ 19
   pub rows : All IsRow a.rows

@@ -1,9 +1,9 @@
--- Where a pass stops, said by the cards before and by the one that is faulty; which pass refuses a job; and which
--- fault of a card counts in the form pass.
+-- Where a pass stops, said by the cards before and by the one that is faulty; which pass refuses a
+-- job; and which fault of a card counts in the form pass.
 use Rattle.std.specs.Prelude.{◌≡◌, ◌↔◌, ◌⊎◌, ℕ, ◌+◌, false, List, [], ◌∷◌, ◌++◌, length, Option, None, Some, Result, Ok, Err, if◌then◌else◌}
 use Rattle.std.specs.Option.{option_or}
 use Rattle.st_card.specs.Cards.{first_fault, cards_of, text_in}
-use Rattle.st_card.specs.Controls.{Asked, added}
+use Rattle.st_card.specs.Controls.{Asked, asked_with_card}
 use Rattle.st_card.specs.declared.cards.Card.{Card}
 use Rattle.st_card.specs.declared.cards.CardKind.{CardKind}
 use Rattle.st_card.specs.declared.cards.CardKind.TheVariants.{Comment, Control, Statement as StatementCard}
@@ -12,21 +12,22 @@ use Rattle.st_card.specs.declared.faults.Fault.TheVariants.{BadControlCard, Card
 use Rattle.st_strap.specs.Faults.{faults_on}
 use Rattle.st_asm.specs.Pass.{Refusal, pass}
 use Rattle.st_asm.specs.Lines.{name_field, statement_field}
-use Rattle.st_asm.specs.Forming.{Found, unread, before_end, form_card, form_pass}
+use Rattle.st_asm.specs.Forming.{Found, found_at_start, before_end, form_card, form_pass}
 use Rattle.st_asm.specs.Symbols.{table}
 use Rattle.st_asm.specs.Naming.{Named, name_pass}
 use Rattle.st_asm.specs.Valuing.{value_pass}
 use Rattle.st_asm.specs.Assembly.{assembly}
 
--- cards without a fault lead from one state to another: each makes the next state of the one that those
--- before it leave
+-- cards without a fault lead from one state to another: each makes the next state of the one that
+-- those before it leave
 abbrev pub Leads : {S X : Type 0} → (S → X → Result S Fault) → S → List X → S → Type 0
 Leads next from [] to = from ≡ to
 Leads {S} next from (x ∷ xs) to = (state : S) × (next from x ≡ Ok state) × Leads next state xs to
 
--- cards have a first faulty one: those before it have no fault in the states that they leave, and it has
--- this fault in the state behind them
-pub record HasFirst {S X : Type 0} (next : S → X → Result S Fault) (number : X → ℕ) (from : S) (xs : List X)
+-- cards have a first faulty one: those before it have no fault in the states that they leave, and
+-- it has this fault in the state behind them
+pub record HasFirst {S X : Type 0} (next : S → X → Result S Fault) (number : X → ℕ) (from : S)
+    (xs : List X)
     (refusal : Refusal) : Type 0 where
   pub before : List X
   pub here : X
@@ -42,17 +43,20 @@ abbrev pub StopsAtFirst : {S X : Type 0} → (S → X → Result S Fault) → (X
 StopsAtFirst {S} {X} next number from = (xs : List X) (refusal : Refusal) →
     (pass next number from xs ≡ Err refusal) ↔ HasFirst next number from xs refusal
 
--- no card of a job is faulty by itself, none says the end, and it is refused at the card behind the last
+-- no card of a job is faulty by itself, none says the end, and it is refused at the card behind the
+-- last
 pub record LacksEnd (job : List ℕ) (cards : List Card) (refusal : Refusal) : Type 0 where
   pub found : Found
-  pub good : Leads (form_card job) unread cards found
+  pub good : Leads (form_card job) found_at_start cards found
   pub endless : found.ended ≡ false
   pub behind : refusal ≡ record { card = length cards + 1; fault = NoEnd }
 
--- the form pass is refused exactly at its first faulty card, or where it has none, for want of an end
+-- the form pass is refused exactly at its first faulty card, or where it has none, for want of an
+-- end
 abbrev pub StopsForm : List ℕ → List Card → Type 0
 StopsForm job cards = (refusal : Refusal) → (form_pass job cards ≡ Err refusal)
-    ↔ (HasFirst (form_card job) (λ card. card.number) unread cards refusal ⊎ LacksEnd job cards refusal)
+    ↔ (HasFirst (form_card job) (λ card. card.number) found_at_start cards refusal
+    ⊎ LacksEnd job cards refusal)
 
 -- the name pass refuses a job that the form pass does not
 pub record StopsAtNames (job : List ℕ) (refusal : Refusal) : Type 0 where
@@ -71,20 +75,22 @@ pub record StopsAtValues (job : List ℕ) (refusal : Refusal) : Type 0 where
 -- a job is refused exactly by the earliest pass that refuses it
 abbrev pub StopsInOrder : List ℕ → Type 0
 StopsInOrder job = (refusal : Refusal) → (assembly job ≡ Err refusal)
-    ↔ ((form_pass job (cards_of job) ≡ Err refusal) ⊎ (StopsAtNames job refusal ⊎ StopsAtValues job refusal))
+    ↔ ((form_pass job (cards_of job) ≡ Err refusal)
+    ⊎ (StopsAtNames job refusal ⊎ StopsAtValues job refusal))
 
 -- the fault of a control card behind the end, by what is then asked for
 abbrev pub asking_fault : Option Asked → Option Fault
 asking_fault None = Some BadControlCard
 asking_fault (Some asked) = None
 
--- the faults of a card in the form pass, in the order in which they count. Those of its bytes stand first; of a
--- control card then that it stands before the end, and what it asks for; of a statement card that it stands
--- behind the end, then its column 1, then its statement
+-- the faults of a card in the form pass, in the order in which they count. Those of its bytes stand
+-- first; of a control card then that it stands before the end, and what it asks for; of a statement
+-- card that it stands behind the end, then its column 1, then its statement
 abbrev pub form_fault : CardKind → List ℕ → Found → Card → Option Fault
 form_fault Comment job found card = card.fault
 form_fault Control job found card = option_or card.fault
-    (if found.ended then asking_fault (added found.asked (text_in job card)) else Some BadControlCard)
+    (if found.ended then asking_fault (asked_with_card found.asked (text_in job card))
+    else Some BadControlCard)
 form_fault StatementCard job found card = let text = text_in job card in
     option_or (before_end card.fault) (option_or (if found.ended then Some CardAfterEnd else None)
     (option_or card.fault (first_fault (faults_on (name_field text) (statement_field text)))))

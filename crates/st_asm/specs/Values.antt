@@ -1,7 +1,7 @@
 -- What the expressions of a statement are worth.
 use Rattle.std.specs.Prelude.{ℕ, ℤ, pos, negsuc, ◌-◌, ◌%◌, ◌^◌, List, [], ◌∷◌, unwrap_or}
 use Rattle.arrayvec.specs.ArrayVec.{ArrayVec}
-use Rattle.st_expr.specs.Value.{sum_of}
+use Rattle.st_expr.specs.Value.{sum_of_terms}
 use Rattle.st_expr.specs.declared.terms.Term.{Term}
 use Rattle.st_strap.specs.Statements.{Statement}
 use Rattle.st_asm.specs.declared.values.Values.{Values}
@@ -9,19 +9,22 @@ use Rattle.st_asm.specs.Symbols.{expressions}
 
 -- the value of an expression, 0 where a name is not defined
 abbrev pub value_in : List (List ℕ × ℕ) → ArrayVec Term → ℤ
-value_in symbols e = unwrap_or (sum_of symbols e.items) (pos 0)
+value_in symbols e = unwrap_or (sum_of_terms symbols e.items) (pos 0)
 
 -- the values of two expressions, one or none: 0 where there is none
 abbrev pub values_in : List (List ℕ × ℕ) → List (ArrayVec Term) → Values
 values_in symbols [] = record { first = pos 0; second = pos 0 }
 values_in symbols (e ∷ []) = record { first = value_in symbols e; second = pos 0 }
-values_in symbols (e ∷ f ∷ more) = record { first = value_in symbols e; second = value_in symbols f }
+values_in symbols (e ∷ f ∷ more) = record {
+  first = value_in symbols e;
+  second = value_in symbols f;
+}
 
 -- the values of a statement's expressions
 unfoldable pub values_of : List (List ℕ × ℕ) → Statement → Values
 values_of symbols statement = values_in symbols (expressions statement)
 
 -- a number modulo 2^24
-unfoldable pub wrapped : ℤ → ℕ
-wrapped (pos n) = n % 2 ^ 24
-wrapped (negsuc n) = 2 ^ 24 - 1 - n % 2 ^ 24
+unfoldable pub value_modulo : ℤ → ℕ
+value_modulo (pos n) = n % 2 ^ 24
+value_modulo (negsuc n) = 2 ^ 24 - 1 - n % 2 ^ 24

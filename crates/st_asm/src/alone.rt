@@ -22,8 +22,8 @@ pub struct LaidBits {
     pub bits: u64,
 }
 
-/// What a text lays that stands on a card without a name, where the names of a table are defined; none where
-/// it has a fault of any pass. The text is what columns 10 to 72 hold, at most 63 bytes.
+/// What a text lays that stands on a card without a name, where the names of a table are defined;
+/// none where it has a fault of any pass. The text is what columns 10 to 72 hold, at most 63 bytes.
 #[tactic(auto, unfolding(crate::specs::Alone::laid_alone))]
 pub fn laid_alone(symbols: &Symbols, text: &[u8]) -> Option<LaidBits>
     requires { length text.now ≤ 63 }

@@ -4,7 +4,7 @@ ghost use Rattle.std.specs.Prelude.{◌≡◌, ◌<◌, ◌^◌, All, None, IfOk
 ghost use Rattle.st_card.specs.Cards.{cards_of};
 ghost use Rattle.st_asm.specs.Answers.{Explains};
 ghost use Rattle.st_asm.specs.Assembly as spec;
-ghost use Rattle.st_asm.specs.Sound.{IsSound};
+ghost use Rattle.st_asm.specs.Sound.{IsAssemblySound};
 
 use crate::forming::form_pass;
 use crate::naming::{Symbol, name_pass};
@@ -35,17 +35,19 @@ pub struct Assembled {
     pub controls: Controls,
 }
 
-/// The image, the start, the listing, the symbols and the controls of a job, or the first faulty card.
+/// The image, the start, the listing, the symbols and the controls of a job, or the first faulty
+/// card.
 ///
-/// The cards are gone over three times: for what each says by itself, for the names and places, and for
-/// the values. docs/strap.md has the rules and all faults. `NoMemory` where memory ran out.
+/// The cards are gone over three times: for what each says by itself, for the names and places, and
+/// for the values. docs/strap.md has the rules and all faults. `NoMemory` where memory ran out.
 pub fn assemble(alloc: Global, job: &[u8]) -> Result<Assembled, AsmError>
     requires { length job.now < 2 ^ 32 }
-    ensures ok { IfOk result (λ a. spec.assembly job.now ≡ Ok (spec.shown a)) }
+    ensures ok { IfOk result (λ a. spec.assembly job.now ≡ Ok (spec.assembly_parts a)) }
     ensures err { IfErr result (Explains (spec.assembly job.now)) }
 
     // A row for each card, and what the machine asks of an image, a start and controls.
-    ensures sound { IfOk result (λ a. IsSound (length (cards_of job.now)) (spec.shown a)) }
+    ensures sound { IfOk result (λ a. IsAssemblySound (length (cards_of job.now))
+        (spec.assembly_parts a)) }
 
     // No card has a fault by itself, so each text can be printed.
     ensures faultless { IfOk result (λ a. All (λ card. card.fault ≡ None) (cards_of job.now)) }
@@ -56,17 +58,19 @@ pub fn assemble(alloc: Global, job: &[u8]) -> Result<Assembled, AsmError>
     assemble_cards(alloc, job, cards.as_slice())
 }
 
-/// The same of a job whose cards are cut already: `cards` are those of `job`, all of them and in order.
+/// The same of a job whose cards are cut already: `cards` are those of `job`, all of them and in
+/// order.
 ///
 /// `NoMemory` where memory ran out.
 #[tactic(auto, unfolding(crate::specs::Assembly::assembly))]
 pub fn assemble_cards(alloc: Global, job: &[u8], cards: &[Card]) -> Result<Assembled, AsmError>
     requires { cards.now ≡ cards_of job.now }
-    ensures ok { IfOk result (λ a. spec.assembly job.now ≡ Ok (spec.shown a)) }
+    ensures ok { IfOk result (λ a. spec.assembly job.now ≡ Ok (spec.assembly_parts a)) }
     ensures err { IfErr result (Explains (spec.assembly job.now)) }
 
     // A row for each card, and what the machine asks of an image, a start and controls.
-    ensures sound { IfOk result (λ a. IsSound (length (cards_of job.now)) (spec.shown a)) }
+    ensures sound { IfOk result (λ a. IsAssemblySound (length (cards_of job.now))
+        (spec.assembly_parts a)) }
 
     // No card has a fault by itself, so each text can be printed.
     ensures faultless { IfOk result (λ a. All (λ card. card.fault ≡ None) (cards_of job.now)) }

@@ -46,9 +46,9 @@ pub(crate) fn form_pass(alloc: Global, job: &[u8], cards: &[Card]) -> Result<Dec
 fn read_cards(alloc: Global, job: &[u8], cards: &[Card]) -> Result<Deck, AsmError>
     requires texts { All (IsCardOf job.now) cards.now }
     ensures ok { IfOk result (λ d. pass (spec.form_card job.now) (λ card. card.number)
-        spec.unread cards.now ≡ Ok (spec.found_in d)) }
+        spec.found_at_start cards.now ≡ Ok (spec.found_in d)) }
     ensures err { IfErr result (Explains (pass (spec.form_card job.now) (λ card. card.number)
-        spec.unread cards.now)) }
+        spec.found_at_start cards.now)) }
 {
     let mut deck = empty_deck(alloc);
     let mut rest = cards;
@@ -63,7 +63,7 @@ fn read_cards(alloc: Global, job: &[u8], cards: &[Card]) -> Result<Deck, AsmErro
 
 // The deck before the first card.
 fn empty_deck(alloc: Global) -> Deck
-    ensures found { spec.found_in result ≡ spec.unread }
+    ensures found { spec.found_in result ≡ spec.found_at_start }
 {
     Deck {
         lines: Vec::new(alloc),
@@ -91,8 +91,8 @@ fn add_card(deck: &mut Deck, job: &[u8], card: Card) -> Result<(), Stop>
     }
 }
 
-// The fault that a card has by itself and that counts first: a bad column 1 of a statement card does not, behind
-// the end.
+// The fault that a card has by itself and that counts first: a bad column 1 of a statement card
+// does not, behind the end.
 fn first_fault_of(kind: CardKind, fault: Option<Fault>) -> Option<Fault>
     ensures { result ≡ spec.first_fault_of kind fault }
 {

@@ -20,6 +20,7 @@ pub(crate) fn bits_of(s: &CompactStatement, v: Values) -> u64
     requires first { unsigned_abs v.first < 2 ^ 24 }
     requires second { unsigned_abs v.second < 2 ^ 24 }
     requires fits { IsTrue (fits s.now v) }
+
     ensures bits { result ≡ spec.bits_of s.now v }
     ensures below { result < 2 ^ length_in (role_of s.now) }
 {
@@ -154,7 +155,7 @@ fn address(a: i64) -> u32
 // The half-word address of a bit address.
 pub(crate) fn half_word(a: i64) -> u32
     requires { unsigned_abs a < 2 ^ 24 }
-    ensures address { result ≡ spec.half_word a }
+    ensures address { result ≡ spec.half_word_bits a }
     ensures below { result < 2 ^ 19 }
 {
     (a.unsigned_abs() / 32) as u32
@@ -163,7 +164,7 @@ pub(crate) fn half_word(a: i64) -> u32
 // The index that an address may have.
 fn index_of(at: &Option<CompactSpot>) -> u8
     requires { IsSpotOrNone at.now }
-    ensures index { result ≡ spec.index_of at.now }
+    ensures index { result ≡ spec.spot_index at.now }
     ensures below { result < 16 }
 {
     match at {
@@ -184,7 +185,7 @@ fn instruction_bits(instr: Instr) -> u64
 
 // The two half-words of an instruction as one number, or the one.
 fn joined(first: u32, second: Option<u32>) -> u64
-    ensures bits { result ≡ spec.joined first second }
+    ensures bits { result ≡ spec.number_of_halves first second }
     ensures short { second ≡ None → result < 2 ^ 32 }
 {
     match second {

@@ -1,5 +1,5 @@
-//! The assembler: a job of cards to an image of storage, in three passes, with a listing, by the rules of
-//! `docs/strap.md`.
+//! The assembler: a job of cards to an image of storage, in three passes, with a listing, by the
+//! rules of `docs/strap.md`.
 #![tactic(auto, using(st_bits::specs::Storage::words_of_storage_is))]
 
 mod alone;

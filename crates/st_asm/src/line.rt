@@ -27,7 +27,7 @@ pub(crate) struct Line {
 
 // A comment or a control card.
 pub(crate) fn silent(card: u32) -> Line
-    ensures { result ≡ spec.silent card }
+    ensures { result ≡ spec.is_silent card }
 {
     Line {
         card,

@@ -53,7 +53,7 @@ pub(crate) fn name_pass(alloc: Global, lines: &[Line]) -> Result<Names, AsmError
     requires { All (λ line. IsWellFormedIfAny line.statement) lines.now }
     ensures ok { IfOk result (λ n. spec.name_pass lines.now ≡ Ok (spec.named_in n)) }
     ensures err { IfErr result (Explains (spec.name_pass lines.now)) }
-    ensures kept { IfOk result spec.IsKept }
+    ensures kept { IfOk result spec.AreNamesKept }
 {
     let Ok(all) = names_in(alloc, lines) else {
         return Err(AsmError::NoMemory);
@@ -65,10 +65,11 @@ pub(crate) fn name_pass(alloc: Global, lines: &[Line]) -> Result<Names, AsmError
 fn name_lines(alloc: Global, all: &Symbols, lines: &[Line]) -> Result<Names, AsmError>
     requires well { All (λ line. IsWellFormedIfAny line.statement) lines.now }
     ensures ok { IfOk result (λ n. pass (spec.name_card (is_defined all.now)) (λ line. line.card)
-        spec.unnamed lines.now ≡ Ok (spec.named_in n)) }
+        spec.naming_at_start lines.now ≡ Ok (spec.named_in n)) }
     ensures err { IfErr result (Explains
-        (pass (spec.name_card (is_defined all.now)) (λ line. line.card) spec.unnamed lines.now)) }
-    ensures kept { IfOk result spec.IsKept }
+        (pass (spec.name_card (is_defined all.now)) (λ line.
+        line.card) spec.naming_at_start lines.now)) }
+    ensures kept { IfOk result spec.AreNamesKept }
 {
     let mut names = no_names(alloc);
     let mut rest = lines;
@@ -83,8 +84,8 @@ fn name_lines(alloc: Global, all: &Symbols, lines: &[Line]) -> Result<Names, Asm
 
 // What is known before the first card.
 fn no_names(alloc: Global) -> Names
-    ensures named { spec.named_in result ≡ spec.unnamed }
-    ensures kept { spec.IsKept result }
+    ensures named { spec.named_in result ≡ spec.naming_at_start }
+    ensures kept { spec.AreNamesKept result }
 {
     Names {
         location: FIRST_LOCATION,
@@ -98,12 +99,12 @@ fn no_names(alloc: Global) -> Names
 #[tactic(auto, unfolding(crate::specs::Naming::name_card))]
 fn name_line(names: &mut Names, all: &Symbols, line: &Line) -> Result<(), Stop>
     requires well { IsWellFormedIfAny line.now.statement }
-    requires kept { spec.IsKept names.old }
+    requires kept { spec.AreNamesKept names.old }
     ensures ok { OnOk result (spec.name_card (is_defined all.now) (spec.named_in names.old) line.now
         ≡ Ok (spec.named_in names.new)) }
     ensures err { IfErr result
         (Stops (spec.name_card (is_defined all.now) (spec.named_in names.old) line.now)) }
-    ensures kept { OnOk result (spec.IsKept names.new) }
+    ensures kept { OnOk result (spec.AreNamesKept names.new) }
 {
     match name_fault(names, all, line) {
         Some(fault) => Err(Stop::Faulty(fault)),
@@ -115,7 +116,7 @@ fn name_line(names: &mut Names, all: &Symbols, line: &Line) -> Result<(), Stop>
 #[tactic(auto, unfolding(crate::specs::Naming::name_fault))]
 fn name_fault(names: &Names, all: &Symbols, line: &Line) -> Option<Fault>
     requires well { IsWellFormedIfAny line.now.statement }
-    requires kept { spec.IsKept names.now }
+    requires kept { spec.AreNamesKept names.now }
     ensures { result ≡ spec.name_fault (is_defined all.now) (spec.named_in names.now) line.now }
 {
     if is_taken(&names.table, line.name) {
@@ -133,7 +134,7 @@ fn name_fault(names: &Names, all: &Symbols, line: &Line) -> Option<Fault>
 
 // Whether a card's name is defined already.
 fn is_taken(symbols: &Symbols, name: Option<[u8; 8]>) -> bool
-    ensures { result ≡ spec.is_taken symbols.now name }
+    ensures { result ≡ spec.is_name_taken symbols.now name }
 {
     match name {
         None => false,
@@ -177,12 +178,13 @@ fn is_statement_earlier(symbols: &Symbols, statement: &CompactStatement) -> bool
 #[tactic(auto, unfolding(crate::specs::Naming::name_step))]
 fn add_line(names: &mut Names, line: &Line) -> Result<(), Stop>
     requires well { IsWellFormedIfAny line.now.statement }
-    requires kept { spec.IsKept names.old }
-    requires fresh { spec.is_taken names.old.table line.now.name ≡ false }
+    requires kept { spec.AreNamesKept names.old }
+    requires fresh { spec.is_name_taken names.old.table line.now.name ≡ false }
+
     ensures ok { OnOk result (spec.name_step (spec.named_in names.old) line.now
         ≡ spec.named_in names.new) }
     ensures err { IfErr result (λ stop. stop ≡ Stop.NoMemory) }
-    ensures kept { OnOk result (spec.IsKept names.new) }
+    ensures kept { OnOk result (spec.AreNamesKept names.new) }
 {
     let (place, behind) = place_and_behind(&names.table, names.location, &line.statement);
     if let Some(name) = line.name {
@@ -203,8 +205,8 @@ fn place_and_behind(
 ) -> (Option<u32>, u32)
     requires well { IsWellFormedIfAny statement.now }
     requires location { location < 2 ^ 24 }
-    ensures place { result.0 ≡ spec.place_of symbols.now location statement.now }
-    ensures behind { result.1 ≡ spec.behind symbols.now location statement.now }
+    ensures place { result.0 ≡ spec.place_of_card symbols.now location statement.now }
+    ensures behind { result.1 ≡ spec.location_behind symbols.now location statement.now }
     ensures below { result.1 < 2 ^ 24 }
 {
     match statement {
@@ -229,7 +231,8 @@ fn place_and_behind_statement(
     (role.place(location, value), role.behind(location, value))
 }
 
-// The value by which a statement of this role is placed; of a statement that is placed by none it is 0.
+// The value by which a statement of this role is placed; of a statement that is placed by none it
+// is 0.
 fn placing_value(role: Role, symbols: &Symbols, statement: &CompactStatement) -> i64
     ensures place { (location : ℕ) → place_in role location result
         ≡ place_in role location (values_by symbols.now statement.now).first }
@@ -245,13 +248,13 @@ fn placing_value(role: Role, symbols: &Symbols, statement: &CompactStatement) ->
 
 // A name more.
 fn define(names: &mut Names, name: [u8; 8], value: u32) -> Result<(), Stop>
-    requires kept { spec.IsKept names.old }
+    requires kept { spec.AreNamesKept names.old }
     requires fresh { is_defined names.old.table name ≡ false }
     ensures ok { OnOk result (spec.named_in names.new ≡ record (spec.named_in names.old) {
       symbols = names.old.symbols.items ++ record { name = name; value = value } ∷ [];
     }) }
     ensures err { IfErr result (λ stop. stop ≡ Stop.NoMemory) }
-    ensures kept { OnOk result (spec.IsKept names.new) }
+    ensures kept { OnOk result (spec.AreNamesKept names.new) }
 {
     if names.table.define(name, value).is_err() {
         return Err(Stop::NoMemory);

@@ -9,7 +9,7 @@ use st_strap::Form;
 // The bits of a field that are its magnitude.
 fn magnitude_bits(form: Form) -> u8
     requires { IsNumberForm form }
-    ensures bits { result ≡ spec.magnitude_bits form }
+    ensures bits { result ≡ spec.magnitude_bits_of form }
     ensures few { result ≤ form.length }
 {
     if form.unsigned {
@@ -23,9 +23,9 @@ fn magnitude_bits(form: Form) -> u8
 fn digit_count(form: Form) -> u8
     requires form { IsNumberForm form }
     requires decimal { IsTrue form.decimal }
-    ensures count { result ≡ spec.digit_count form }
+    ensures count { result ≡ spec.digits_of_form form }
     ensures few { result ≤ 16 }
-    ensures whole { form.byte * result ≡ spec.magnitude_bits form }
+    ensures whole { form.byte * result ≡ spec.magnitude_bits_of form }
 {
     magnitude_bits(form) / form.byte
 }
@@ -56,7 +56,7 @@ fn packed(byte: u8, count: u8, number: u64) -> u64
     requires some { 4 ≤ byte }
     requires room { byte * count ≤ 64 }
     requires byte_fits { byte ≤ 8 }
-    ensures value { result ≡ spec.packed byte count number }
+    ensures value { result ≡ spec.packed_digits byte count number }
     ensures below { result < 2 ^ (byte * count) }
 {
     if count == 0 {
@@ -70,7 +70,7 @@ fn magnitude(form: Form, number: u64) -> u64
     requires form { IsNumberForm form }
     requires few { number < spec.capacity form }
     ensures value { result ≡ spec.magnitude form number }
-    ensures below { result < 2 ^ spec.magnitude_bits form }
+    ensures below { result < 2 ^ spec.magnitude_bits_of form }
 {
     if form.decimal {
         packed(form.byte, digit_count(form), number)
@@ -83,18 +83,18 @@ fn magnitude(form: Form, number: u64) -> u64
 fn sign_byte(byte: u8, minus: bool) -> u64
     requires some { 1 ≤ byte }
     requires few { byte ≤ 8 }
-    ensures value { result ≡ spec.sign_byte byte minus }
+    ensures value { result ≡ spec.sign_byte_of byte minus }
     ensures below { result < 2 ^ byte }
 {
     if minus { 1 << (byte.min(4) - 1) } else { 0 }
 }
 
 // The bits of a field that holds a number.
-#[tactic(auto, unfolding(crate::specs::Numbers::field_of))]
+#[tactic(auto, unfolding(crate::specs::Numbers::field_bits_of))]
 pub(crate) fn field_of(form: Form, minus: bool, number: u64) -> u64
     requires form { IsNumberForm form }
     requires few { number < spec.capacity form }
-    ensures bits { result ≡ spec.field_of form minus number }
+    ensures bits { result ≡ spec.field_bits_of form minus number }
     ensures below { result < 2 ^ form.length }
 {
     let magnitude = magnitude(form, number);

@@ -124,7 +124,7 @@ fn aligned(unit: u32, location: u32) -> u32
     requires some { 1 ≤ unit }
     requires small { unit ≤ 64 }
     requires location { location < 2 ^ 24 }
-    ensures place { result ≡ spec.aligned unit location }
+    ensures place { result ≡ spec.next_multiple unit location }
     ensures below { result < 2 ^ 24 }
 {
     (location + (unit - 1)) / unit * unit % (1 << 24)

@@ -72,9 +72,9 @@ fn value_in(symbols: &Symbols, e: &ExprText) -> i64
 }
 
 // A number modulo 2^24.
-#[tactic(auto, unfolding(crate::specs::Values::wrapped))]
+#[tactic(auto, unfolding(crate::specs::Values::value_modulo))]
 pub(crate) fn wrapped(value: i64) -> u32
-    ensures value { result ≡ spec.wrapped value }
+    ensures value { result ≡ spec.value_modulo value }
     ensures below { result < 2 ^ 24 }
 {
     value.rem_euclid(1 << 24) as u32

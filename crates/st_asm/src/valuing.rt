@@ -5,7 +5,7 @@ ghost use Rattle.st_asm.specs.Answers.{Stops, Explains};
 ghost use Rattle.st_asm.specs.Checks.{value_fault, in_storage};
 ghost use Rattle.st_asm.specs.Valuing as spec;
 ghost use Rattle.st_asm.specs.Forming.{is_end};
-ghost use Rattle.st_asm.specs.Laying.{half_word};
+ghost use Rattle.st_asm.specs.Laying.{half_word_bits};
 ghost use Rattle.st_bits.specs.Storage.{words_of_storage};
 ghost use Rattle.st_asm.specs.Sound.{IsImage, IsRow, IsLocation};
 ghost use Rattle.st_asm.specs.Kept.{IsSoundLayout};
@@ -83,7 +83,7 @@ pub(crate) fn value_pass(
 
 // What is laid before the first card.
 fn empty_layout(alloc: Global) -> Result<Layout, AllocError>
-    ensures laid { IfOk result (λ l. spec.laid_in l ≡ spec.unlaid) }
+    ensures laid { IfOk result (λ l. spec.laid_in l ≡ spec.laying_at_start) }
     ensures sound { IfOk result (λ l. IsSoundLayout (spec.laid_in l)) }
 {
     Ok(Layout {
@@ -111,6 +111,7 @@ fn value_line(
     requires well { IsWellFormedIfAny line.now.statement }
     requires located { IsLocation place }
     requires sound { IsSoundLayout (spec.laid_in layout.old) }
+
     ensures ok { OnOk result (spec.value_card symbols.now (spec.laid_in layout.old)
         (line.now, place) ≡ Ok (spec.laid_in layout.new)) }
     ensures err { IfErr result
@@ -171,6 +172,7 @@ fn value_statement(
     requires well { IsWellFormed s.now }
     requires located { IsLocation place }
     requires sound { IsSoundLayout (spec.laid_in layout.old) }
+
     ensures ok { OnOk result (spec.value_statement (spec.laid_in layout.old) card s.now v place
         ≡ Ok (spec.laid_in layout.new)) }
     ensures err { IfErr result
@@ -195,6 +197,7 @@ fn lay(
     requires located { IsLocation place }
     requires sound { IsSoundLayout (spec.laid_in layout.old) }
     requires good { value_fault s.now v (unwrap_or place 0) ≡ None }
+
     ensures ok { OnOk result (spec.laid_in layout.new
         ≡ spec.with_laid (spec.laid_in layout.old) card s.now v place) }
     ensures err { IfErr result (λ stop. stop ≡ Stop.NoMemory) }
@@ -223,7 +226,7 @@ fn lay(
 // The start, as far as it is known behind a statement.
 fn start_behind(start: u32, s: &CompactStatement, v: Values) -> u32
     requires { unsigned_abs v.first < 2 ^ 24 }
-    ensures start { result ≡ (if is_end s.now then half_word v.first else start) }
+    ensures start { result ≡ (if is_end s.now then half_word_bits v.first else start) }
     ensures below { start < 2 ^ 19 → result < 2 ^ 19 }
 {
     if is_end(s) { half_word(v.first) } else { start }
@@ -236,6 +239,7 @@ fn put_bits(image: &mut [u64], place: u32, length: u8, bits: u64)
     requires image { IsImage image.old }
     requires inside { IsTrue (in_storage place length) }
     requires fits { bits < 2 ^ length }
+
     ensures put { image.new ≡ spec.image_with image.old place length bits }
     ensures image { IsImage image.new }
 {

@@ -4,10 +4,10 @@ use Rattle.std.specs.Prelude.{slice_index}
 use Rattle.std.proofs.lemmas.Bool.Decides.{leb_tells}
 use Rattle.std.proofs.lemmas.List.{length-set, ext_get_or, drop-append-le}
 use Rattle.circular_buffer.specs.Buffer.{keep_last}
-use Rattle.st_bits.specs.Registers.{fixed}
+use Rattle.st_bits.specs.Registers.{register_word}
 use Rattle.st_bits.specs.Storage.{words_of_storage_is}
-use Rattle.st_state.specs.Machine.{Machine, IsMachine, word, with_word, stored}
-use Rattle.st_state.specs.Interrupts.{signalled}
+use Rattle.st_state.specs.Machine.{Machine, IsMachine, word, with_word, state_with_store}
+use Rattle.st_state.specs.Interrupts.{state_with_signal}
 use Rattle.st_state.specs.declared.devices.Order.{Order}
 use Rattle.st_exec.specs.Transfer.{read_in, printed_out}
 use Rattle.st_exec.specs.Step.{IsStep}
@@ -17,7 +17,7 @@ use Rattle.st_exec.proofs.AlikeStates.{same-set}
 use Rattle.st_back.specs.declared.kept.Kept.{Kept}
 use Rattle.st_back.specs.Between.{AreAlikeAbove}
 use Rattle.st_back.specs.Steps.{Steps, IsStepKept, IsForth, IsUndone}
-use Rattle.st_back.specs.Undone.{restored, restored_words, unput, with_rest, undone}
+use Rattle.st_back.specs.Undone.{state_with_words, restored_words, unput, with_rest, state_undone}
 use Rattle.st_back.proofs.UndoneLemmas.{restored-other, restored-size, restored-in}
 
 -- ---- forth and back
@@ -41,7 +41,7 @@ back-kept a b c s t u some h k =
     let same : k.last ≡ h.last =
     same_last c.kept (drop (length (a.kept ++ h.last ∷ []) - a.depth) a.kept) k.last h.last
     (sym k.kept ∙ h.kept ∙ keeps_last a.depth a.kept h.last some) in
-    k.state ∙ ap (λ (y : Kept). undone y t) same ∙ h.before
+    k.state ∙ ap (λ (y : Kept). state_undone y t) same ∙ h.before
 
 pub back-before : (a b c : Steps) (s t u : Machine) (r : Step) → 1 ≤ a.depth → r ≢ Waits → IsForth a b s t r
     → IsUndone b c t u → u ≡ s
@@ -78,10 +78,10 @@ back-again a b c s t u v r q some made h forth k again =
 
 -- ---- what comes between
 
-pub above-stored : (s t : Machine) (w x : ℕ) → AreAlikeAbove s t → AreAlikeAbove (stored s w x) (stored t w x)
+pub above-stored : (s t : Machine) (w x : ℕ) → AreAlikeAbove s t → AreAlikeAbove (state_with_store s w x) (state_with_store t w x)
 above-stored s t w x h = record {
-  size = length-set t.words w (fixed w x) ∙ h.size ∙ sym (length-set s.words w (fixed w x));
-  words = λ i above. same-set s.words t.words w (fixed w x) i h.size (h.words i above);
+  size = length-set t.words w (register_word w x) ∙ h.size ∙ sym (length-set s.words w (register_word w x));
+  words = λ i above. same-set s.words t.words w (register_word w x) i h.size (h.words i above);
 }
 
 above-unput : (n : ℕ) (places contents : List ℕ) (s t : Machine) → AreAlikeAbove s t
@@ -92,18 +92,18 @@ above-unput (suc n) places contents s t h =
     above-unput n places contents _ _ (above-stored s t (slice_index places n) (slice_index contents n) h)
 
 above-restored : (w n f : ℕ) (xs : List ℕ) (s t : Machine) → AreAlikeAbove s t
-    → AreAlikeAbove (restored w n f xs s) (restored w n f xs t)
-unfolding restored
+    → AreAlikeAbove (state_with_words w n f xs s) (state_with_words w n f xs t)
+unfolding state_with_words
 above-restored w zero f xs s t h = h
 above-restored w (suc n) f xs s t h =
     above-restored (w + 1) n (f + 1) xs _ _ (above-stored s t w (slice_index xs f) h)
 
 -- once words 0 to 31 are put back, all words are the same
 same-registers : (xs : List ℕ) (s t : Machine) → AreAlikeAbove s t → 32 ≤ length s.words
-    → (restored 0 32 0 xs t).words ≡ (restored 0 32 0 xs s).words
+    → (state_with_words 0 32 0 xs t).words ≡ (state_with_words 0 32 0 xs s).words
 same-registers xs s t h long =
-    let u = restored 0 32 0 xs s in
-    let v = restored 0 32 0 xs t in
+    let u = state_with_words 0 32 0 xs s in
+    let v = state_with_words 0 32 0 xs t in
     ext_get_or 0 v.words u.words (restored-size 0 32 0 xs t ∙ h.size ∙ sym (restored-size 0 32 0 xs s))
     (λ i inside.
     elim (leb_tells 32 i) [
@@ -125,15 +125,15 @@ unput-size zero places contents s = refl
 unput-size (suc n) places contents s =
     unput-size n places contents _ ∙ length-set s.words (slice_index places n) _
 
-pub above-undone : (k : Kept) (s t : Machine) → IsMachine s → AreAlikeAbove s t → undone k t ≡ undone k s
-unfolding undone
+pub above-undone : (k : Kept) (s t : Machine) → IsMachine s → AreAlikeAbove s t → state_undone k t ≡ state_undone k s
+unfolding state_undone
 above-undone k s t m h =
     let q = k.trail.writes in
     let xs = k.trail.before in
     let a = unput k.puts k.places k.contents s in
     let b = unput k.puts k.places k.contents t in
     let alike = above-restored q.first2 q.len2 q.len xs _ _ (above-restored q.first q.len 0 xs a b (above-unput k.puts k.places k.contents s t h)) in
-    let size = restored-size q.first2 q.len2 q.len xs (restored q.first q.len 0 xs a) in
+    let size = restored-size q.first2 q.len2 q.len xs (state_with_words q.first q.len 0 xs a) in
     let size_1 = restored-size q.first q.len 0 xs a in
     let size_0 = unput-size k.puts k.places k.contents s in
     ap
@@ -144,7 +144,7 @@ above-undone k s t m h =
 
 -- whatever the indicators and the orders become
 indicators-undone : (k : Kept) (s : Machine) (r q : Option Order) (x : ℕ) → IsMachine s
-    → undone k (with_word (record s { reader = r; printer = q }) 11 x) ≡ undone k s
+    → state_undone k (with_word (record s { reader = r; printer = q }) 11 x) ≡ state_undone k s
 indicators-undone k s r q x m =
     above-undone k s (with_word (record s { reader = r; printer = q }) 11 x) m
     (record {
@@ -152,11 +152,11 @@ indicators-undone k s r q x m =
       words = λ w above. get_or-set_other s.words 11 w x 0 (omega arith);
     })
 
-pub signalled-undone : (k : Kept) (s : Machine) (i : ℕ) → IsMachine s → undone k (signalled s i) ≡ undone k s
+pub signalled-undone : (k : Kept) (s : Machine) (i : ℕ) → IsMachine s → state_undone k (state_with_signal s i) ≡ state_undone k s
 signalled-undone k s i m = indicators-undone k s s.reader s.printer _ m
 
-pub printed-undone : (k : Kept) (s : Machine) → IsMachine s → undone k (printed_out s) ≡ undone k s
+pub printed-undone : (k : Kept) (s : Machine) → IsMachine s → state_undone k (printed_out s) ≡ state_undone k s
 printed-undone k s m = indicators-undone k s s.reader None _ m
 
-pub no_card-undone : (k : Kept) (s : Machine) (w : ℕ) → IsMachine s → undone k (read_in s w None) ≡ undone k s
+pub no_card-undone : (k : Kept) (s : Machine) (w : ℕ) → IsMachine s → state_undone k (read_in s w None) ≡ state_undone k s
 no_card-undone k s w m = indicators-undone k s None s.printer _ m

@@ -6,25 +6,25 @@ use Rattle.st_exec.specs.declared.step.Step.{Step}
 use Rattle.st_exec.specs.declared.step.Step.TheVariants.{Plain, Interrupt, Waits}
 use Rattle.st_back.specs.declared.kept.Kept.{Kept}
 use Rattle.st_back.specs.Between.{AreAlikeAbove}
-use Rattle.st_back.specs.Undone.{undone, noted}
+use Rattle.st_back.specs.Undone.{state_undone, step_with_word}
 use Rattle.st_state.specs.Machine.{word}
 use Rattle.st_back.specs.Steps.{Steps, IsStepKept, IsForth, IsPut, IsUndone, all_undone, states_before}
 use Rattle.st_back.proofs.LawLemmas.{above-undone}
 
 -- ---- one more step
 
-all_undone-last : (ks : List Kept) (k : Kept) (s : Machine) → all_undone (ks ++ k ∷ []) s ≡ all_undone ks (undone k s)
+all_undone-last : (ks : List Kept) (k : Kept) (s : Machine) → all_undone (ks ++ k ∷ []) s ≡ all_undone ks (state_undone k s)
 unfolding all_undone
 all_undone-last [] k s = refl
-all_undone-last (j ∷ ks) k s = ap (undone j) (all_undone-last ks k s)
+all_undone-last (j ∷ ks) k s = ap (state_undone j) (all_undone-last ks k s)
 
 states_before-last : (ks : List Kept) (k : Kept) (s : Machine)
-    → states_before (ks ++ k ∷ []) s ≡ states_before ks (undone k s) ++ undone k s ∷ []
+    → states_before (ks ++ k ∷ []) s ≡ states_before ks (state_undone k s) ++ state_undone k s ∷ []
 unfolding states_before all_undone
 states_before-last [] k s = refl
 states_before-last (j ∷ ks) k s =
-    ap (λ t. undone j t ∷ states_before (ks ++ k ∷ []) s) (all_undone-last ks k s)
-    ∙ ap (λ ts. undone j (all_undone ks (undone k s)) ∷ ts) (states_before-last ks k s)
+    ap (λ t. state_undone j t ∷ states_before (ks ++ k ∷ []) s) (all_undone-last ks k s)
+    ∙ ap (λ ts. state_undone j (all_undone ks (state_undone k s)) ∷ ts) (states_before-last ks k s)
 
 states_before-drop : (n : ℕ) (ks : List Kept) (s : Machine) → states_before (drop n ks) s ≡ drop n (states_before ks s)
 unfolding states_before
@@ -63,7 +63,7 @@ pub put-states : (a b : Steps) (s t : Machine) (w x : ℕ) → IsPut a b s t w x
     → states_before b.kept t ≡ states_before a.kept s
 put-states a b s t w x h =
     ap (λ ks. states_before ks t) h.is
-    ∙ states_before-last h.others (noted h.last w (word s w)) t
+    ∙ states_before-last h.others (step_with_word h.last w (word s w)) t
     ∙ ap (λ u. states_before h.others u ++ u ∷ []) h.before
     ∙ sym (ap (λ ks. states_before ks s) h.was ∙ states_before-last h.others h.last s)
 
@@ -80,7 +80,7 @@ all_undone-above : (k : Kept) (ks : List Kept) (s t : Machine) → IsMachine s �
     → all_undone (k ∷ ks) t ≡ all_undone (k ∷ ks) s
 unfolding all_undone
 all_undone-above k [] s t m h = above-undone k s t m h
-all_undone-above k (j ∷ ks) s t m h = ap (undone k) (all_undone-above j ks s t m h)
+all_undone-above k (j ∷ ks) s t m h = ap (state_undone k) (all_undone-above j ks s t m h)
 
 pub between-states : (ks : List Kept) (s t : Machine) → IsMachine s → AreAlikeAbove s t
     → states_before ks t ≡ states_before ks s

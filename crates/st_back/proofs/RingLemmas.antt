@@ -8,15 +8,15 @@ use Rattle.std.proofs.lemmas.List.Elements.{All-append, All-drop, All-take}
 use Rattle.std.proofs.lemmas.Option.{slice_get_within, get_or_from_slice_get}
 use Rattle.circular_buffer.specs.Buffer.{Buffer, buffer, keep_last, last_item}
 use Rattle.st_bits.specs.Storage.{words_of_storage}
-use Rattle.st_state.specs.Machine.{Machine, IsMachine, word, stored}
+use Rattle.st_state.specs.Machine.{Machine, IsMachine, word, state_with_store}
 use Rattle.st_exec.specs.Step.{step, IsStep}
-use Rattle.st_exec.specs.Trails.{IsTrail, CanBePutBack, IsKept}
+use Rattle.st_exec.specs.Trails.{IsTrail, CanBePutBack, IsKeptStep}
 use Rattle.st_exec.specs.declared.kept.Trail.{Trail}
 use Rattle.st_exec.specs.declared.step.Step.{Step}
 use Rattle.st_exec.specs.declared.step.Step.TheVariants.{Plain, Interrupt, Waits}
 use Rattle.st_back.specs.declared.kept.Kept.{Kept}
-use Rattle.st_back.specs.Undone.{undone, noted}
-use Rattle.st_back.specs.Steps.{Steps, steps, IsSound, AreSound, fresh, kept_by, IsStepKept, IsForth, has_room, IsPut, IsUndone}
+use Rattle.st_back.specs.Undone.{state_undone, step_with_word}
+use Rattle.st_back.specs.Steps.{Steps, steps, IsStepSound, AreStepsSound, step_at, steps_with, IsStepKept, IsForth, has_room, IsPut, IsUndone}
 use Rattle.st_back.proofs.StepLemmas.{step-undone, put-undone}
 
 -- ---- lists
@@ -52,7 +52,7 @@ all-one P x h (suc k) d few = absurd (omega arith)
 
 -- ---- steps that can be undone
 
-pub fresh-sound : (t : Trail) → CanBePutBack t → IsSound (fresh t)
+pub fresh-sound : (t : Trail) → CanBePutBack t → IsStepSound (step_at t)
 fresh-sound t h = let size : length (replicate {A = ℕ} 8 0) ≡ 8 = length-replicate {A = ℕ} 8 0 in record {
   trail = h;
   few = omega arith;
@@ -74,7 +74,7 @@ set-all P xs k w n room h each few =
           subst P (sym (get_or-set_other xs k n w 0 other)) (each n (omega arith))
     ]
 
-pub noted-sound : (k : Kept) (w x : ℕ) → IsSound k → k.puts ≤ 7 → 32 ≤ w → w < words_of_storage → IsSound (noted k w x)
+pub noted-sound : (k : Kept) (w x : ℕ) → IsStepSound k → k.puts ≤ 7 → 32 ≤ w → w < words_of_storage → IsStepSound (step_with_word k w x)
 noted-sound k w x h few above inside =
     let room : k.puts < length k.places = omega (arith, h.eight) in
     record {
@@ -86,26 +86,26 @@ noted-sound k w x h few above inside =
       inside = λ n below. set-all (λ a. a < words_of_storage) k.places k.puts w n room inside h.inside below;
     }
 
-pub pushed-sound : (b : Steps) (k : Kept) → AreSound b → IsSound k
-    → AreSound (record b { kept = keep_last b.depth (b.kept ++ k ∷ []) })
+pub pushed-sound : (b : Steps) (k : Kept) → AreStepsSound b → IsStepSound k
+    → AreStepsSound (record b { kept = keep_last b.depth (b.kept ++ k ∷ []) })
 pushed-sound b k h sound =
     let xs = b.kept ++ k ∷ [] in
     record {
       some = h.some;
       fits = omega (arith, length-drop (length xs - b.depth) xs);
-      each = All-drop IsSound (length xs - b.depth) xs (All-append IsSound b.kept (k ∷ []) h.each (all-one IsSound k sound));
+      each = All-drop IsStepSound (length xs - b.depth) xs (All-append IsStepSound b.kept (k ∷ []) h.each (all-one IsStepSound k sound));
     }
 
-pub popped-sound : (b : Steps) → AreSound b → AreSound (record b { kept = take (length b.kept - 1) b.kept })
+pub popped-sound : (b : Steps) → AreStepsSound b → AreStepsSound (record b { kept = take (length b.kept - 1) b.kept })
 popped-sound b h = record {
   some = h.some;
   fits = omega (arith, length-take (length b.kept - 1) b.kept, h.fits);
-  each = All-take IsSound (length b.kept - 1) b.kept h.each;
+  each = All-take IsStepSound (length b.kept - 1) b.kept h.each;
 }
 
-pub last-sound : (b : Steps) (k : Kept) → AreSound b → last_item b.kept ≡ Some k → IsSound k
+pub last-sound : (b : Steps) (k : Kept) → AreStepsSound b → last_item b.kept ≡ Some k → IsStepSound k
 last-sound b k h e =
-    of_last IsSound (take (length b.kept - 1) b.kept) k (subst (All IsSound) (snoc b.kept k e) h.each)
+    of_last IsStepSound (take (length b.kept - 1) b.kept) k (subst (All IsStepSound) (snoc b.kept k e) h.each)
 
 pub room-of : (r : Option Kept) (k : Kept) → r ≡ Some k → has_room r ≡ true → k.puts ≤ 7
 room-of r k e h = leb-true k.puts 7 (ap has_room (sym e) ∙ h)
@@ -113,31 +113,31 @@ room-of r k e h = leb-true k.puts 7 (ap has_room (sym e) ∙ h)
 -- ---- what the calls do
 
 step-kept : (b : Steps) (s t : Machine) (trail : Trail) → IsMachine s → IsTrail s trail → CanBePutBack trail → t ≡ step s
-    → IsStepKept b (kept_by trail b) s t
+    → IsStepKept b (steps_with trail b) s t
 step-kept b s t trail m is fits made = record {
-  last = fresh trail;
+  last = step_at trail;
   kept = refl;
   depth = refl;
   trail = is;
   puts = refl;
-  before = ap (undone (fresh trail)) made ∙ step-undone s (fresh trail) m is fits refl;
+  before = ap (state_undone (step_at trail)) made ∙ step-undone s (step_at trail) m is fits refl;
 }
 
 pub forth-kept : (b c : Steps) (s t : Machine) (old trail : Trail) (r : Step) → IsMachine s → IsStep s t r
-    → IsKept s old trail r → r ≢ Waits → c ≡ kept_by trail b → IsForth b c s t r
+    → IsKeptStep s old trail r → r ≢ Waits → c ≡ steps_with trail b → IsForth b c s t r
 forth-kept b c s t old trail Waits m made is some e = absurd (some refl)
 forth-kept b c s t old trail Plain m made is some e =
     subst (λ d. IsStepKept b d s t) (sym e) (step-kept b s t trail m is.0 is.1 made.2)
 forth-kept b c s t old trail (Interrupt i) m made is some e =
     subst (λ d. IsStepKept b d s t) (sym e) (step-kept b s t trail m is.0 is.1 made.2)
 
-pub put-made : (a p b : Buffer Kept) (k q : Kept) (s t : Machine) (w x : ℕ) → AreSound (steps a) → IsMachine s
-    → last_item a.items ≡ Some k → k.puts ≤ 7 → q ≡ noted k w (word s w) → t ≡ stored s w x
+pub put-made : (a p b : Buffer Kept) (k q : Kept) (s t : Machine) (w x : ℕ) → AreStepsSound (steps a) → IsMachine s
+    → last_item a.items ≡ Some k → k.puts ≤ 7 → q ≡ step_with_word k w (word s w) → t ≡ state_with_store s w x
     → p ≡ buffer (take (length a.items - 1) a.items) a.capacity
     → b ≡ buffer (keep_last p.capacity (p.items ++ q ∷ [])) p.capacity → IsPut (steps a) (steps b) s t w x
 put-made a p b k q s t w x h m e few is made popped pushed =
     let xs = take (length a.items - 1) a.items in
-    let y = noted k w (word s w) in
+    let y = step_with_word k w (word s w) in
     let some : length a.items - 1 < length a.items = slice_get_within a.items (length a.items - 1) k e in
     let room : length (xs ++ y ∷ []) ≤ a.capacity =
     omega (arith, h.fits, length-append xs (y ∷ []), length-take (length a.items - 1) a.items) in
@@ -153,10 +153,10 @@ put-made a p b k q s t w x h m e few is made popped pushed =
       is = ap (λ (v : Buffer Kept). v.items) now;
       depth = ap (λ (v : Buffer Kept). v.capacity) now;
       state = made;
-      before = ap (undone y) made ∙ put-undone s k w x m (last-sound (steps a) k h e) few;
+      before = ap (state_undone y) made ∙ put-undone s k w x m (last-sound (steps a) k h e) few;
     }
 
-pub back-made : (a p : Buffer Kept) (k : Kept) (s t : Machine) → last_item a.items ≡ Some k → t ≡ undone k s
+pub back-made : (a p : Buffer Kept) (k : Kept) (s t : Machine) → last_item a.items ≡ Some k → t ≡ state_undone k s
     → p ≡ buffer (take (length a.items - 1) a.items) a.capacity → IsUndone (steps a) (steps p) s t
 back-made a p k s t e made popped = record {
   last = k;
@@ -165,11 +165,11 @@ back-made a p k s t e made popped = record {
   state = made;
 }
 
-pub put-sound : (a p b : Buffer Kept) (k q : Kept) (w x : ℕ) → AreSound (steps a) → last_item a.items ≡ Some k
-    → k.puts ≤ 7 → q ≡ noted k w x → 32 ≤ w → w < words_of_storage
+pub put-sound : (a p b : Buffer Kept) (k q : Kept) (w x : ℕ) → AreStepsSound (steps a) → last_item a.items ≡ Some k
+    → k.puts ≤ 7 → q ≡ step_with_word k w x → 32 ≤ w → w < words_of_storage
     → p ≡ buffer (take (length a.items - 1) a.items) a.capacity
-    → b ≡ buffer (keep_last p.capacity (p.items ++ q ∷ [])) p.capacity → AreSound (steps b)
+    → b ≡ buffer (keep_last p.capacity (p.items ++ q ∷ [])) p.capacity → AreStepsSound (steps b)
 put-sound a p b k q w x h e few is above inside popped pushed =
-    let before = subst (λ (v : Buffer Kept). AreSound (steps v)) (sym popped) (popped-sound (steps a) h) in
-    let last = subst IsSound (sym is) (noted-sound k w x (last-sound (steps a) k h e) few above inside) in
-    subst (λ (v : Buffer Kept). AreSound (steps v)) (sym pushed) (pushed-sound (steps p) q before last)
+    let before = subst (λ (v : Buffer Kept). AreStepsSound (steps v)) (sym popped) (popped-sound (steps a) h) in
+    let last = subst IsStepSound (sym is) (noted-sound k w x (last-sound (steps a) k h e) few above inside) in
+    subst (λ (v : Buffer Kept). AreStepsSound (steps v)) (sym pushed) (pushed-sound (steps p) q before last)

@@ -2,9 +2,9 @@
 use Rattle.std.proofs.Common.{◌≡◌, ◌≢◌, ℕ, zero, suc, ◌+◌, ◌<◌, ◌≤◌, inl, inr, Bool, true, false, if◌then◌else◌, Option, None, Some, List, length, refl, sym, ◌∙◌, ap, subst, arith, get_or-set_other}
 use Rattle.std.specs.Prelude.{IfSome, slice_index, slice_set}
 use Rattle.std.proofs.lemmas.List.{get_or-set_same, set-set, set-get_or, ext_get_or}
-use Rattle.st_bits.specs.Registers.{fixed}
+use Rattle.st_bits.specs.Registers.{register_word}
 use Rattle.st_bits.specs.Storage.{words_of_storage, words_of_storage_is}
-use Rattle.st_state.specs.Machine.{Machine, IsMachine, word, stored}
+use Rattle.st_state.specs.Machine.{Machine, IsMachine, word, state_with_store}
 use Rattle.st_state.specs.Interrupts.{is_pending, first_from, pending}
 use Rattle.st_state.specs.declared.devices.Order.{Order}
 use Rattle.st_state.proofs.Leftmost.{first_from-is}
@@ -13,7 +13,7 @@ use Rattle.st_prep.specs.Plan.{plan}
 use Rattle.st_prep.specs.Ranges.{IsPrepared}
 use Rattle.st_prep.proofs.PlanLemmas.{plan-prepared}
 use Rattle.st_exec.specs.Ahead.{IsNotAmong}
-use Rattle.st_exec.specs.Completion.{completed}
+use Rattle.st_exec.specs.Completion.{state_after_completion}
 use Rattle.st_exec.specs.Step.{interrupt, step}
 use Rattle.st_exec.specs.Trails.{IsTrail, CanBePutBack}
 use Rattle.st_exec.specs.declared.kept.Trail.{Trail}
@@ -21,8 +21,8 @@ use Rattle.st_exec.proofs.MachineKept.{kept-completed}
 use Rattle.st_exec.proofs.UnwrittenLemmas.{IsBeside, completed-unwritten}
 use Rattle.st_back.specs.declared.kept.Kept.{Kept}
 use Rattle.st_prep.specs.declared.entries.Prepared.{Prepared}
-use Rattle.st_back.specs.Undone.{restored, restored_words, unput, with_rest, undone, noted, Keeps}
-use Rattle.st_back.specs.Steps.{IsSound}
+use Rattle.st_back.specs.Undone.{state_with_words, restored_words, unput, with_rest, state_undone, step_with_word, TrailKeeps}
+use Rattle.st_back.specs.Steps.{IsStepSound}
 use Rattle.st_back.proofs.UndoneLemmas.{unput-none, restored-size, restored-back}
 
 -- ---- a step
@@ -64,18 +64,18 @@ past_registers i (inl before) = absurd (omega arith)
 past_registers i (inr after) = omega arith
 
 -- a state that has of another one each word that the trail does not have
-pub trail-undone : (s u : Machine) (k : Kept) → IsMachine s → Keeps s k.trail → CanBePutBack k.trail → k.puts ≡ 0
+pub trail-undone : (s u : Machine) (k : Kept) → IsMachine s → TrailKeeps s k.trail → CanBePutBack k.trail → k.puts ≡ 0
     → length u.words ≡ length s.words
-    → ((w : ℕ) → 32 ≤ w → IsNotAmong w k.trail.writes → word u w ≡ word s w) → undone k u ≡ s
-unfolding undone
+    → ((w : ℕ) → 32 ≤ w → IsNotAmong w k.trail.writes → word u w ≡ word s w) → state_undone k u ≡ s
+unfolding state_undone
 trail-undone s u k m t fits none size same =
     let q = k.trail.writes in
     let xs = k.trail.before in
     let a = unput k.puts k.places k.contents u in
     let is : a ≡ u = unput-none k.puts k.places k.contents u none in
-    let b = restored q.first q.len 0 xs a in
-    let c = restored q.first2 q.len2 q.len xs b in
-    let d = restored 0 32 0 k.trail.registers c in
+    let b = state_with_words q.first q.len 0 xs a in
+    let c = state_with_words q.first2 q.len2 q.len xs b in
+    let d = state_with_words 0 32 0 k.trail.registers c in
     let size_a : length a.words ≡ words_of_storage = ap (λ (v : Machine). length v.words) is ∙ size ∙ m.size in
     let size_b : length b.words ≡ words_of_storage = restored-size q.first q.len 0 xs a ∙ size_a in
     let size_c : length c.words ≡ words_of_storage = restored-size q.first2 q.len2 q.len xs b ∙ size_b in
@@ -99,7 +99,7 @@ trail-undone s u k m t fits none size same =
     t.waiting t.done t.reader t.printer
 
 -- what a trail of a step keeps
-pub trail-keeps : (s : Machine) (t : Trail) → IsTrail s t → Keeps s t
+pub trail-keeps : (s : Machine) (t : Trail) → IsTrail s t → TrailKeeps s t
 trail-keeps s t is = record {
   before = is.before;
   registers = is.registers;
@@ -112,11 +112,11 @@ trail-keeps s t is = record {
 }
 
 -- an entry is undone that is completed, whatever the counter is set to then
-pub entry-undone : (p : Prepared) (s : Machine) (ic : ℕ) (k : Kept) → IsPrepared p → IsMachine s → Keeps s k.trail → CanBePutBack k.trail
-    → k.puts ≡ 0 → k.trail.writes ≡ p.writes → undone k (record (completed p s) { ic = ic }) ≡ s
+pub entry-undone : (p : Prepared) (s : Machine) (ic : ℕ) (k : Kept) → IsPrepared p → IsMachine s → TrailKeeps s k.trail → CanBePutBack k.trail
+    → k.puts ≡ 0 → k.trail.writes ≡ p.writes → state_undone k (record (state_after_completion p s) { ic = ic }) ≡ s
 entry-undone p s ic k h m t fits none writes =
     let n = kept-completed p s h m in
-    trail-undone s (record (completed p s) { ic = ic }) k m t fits none (n.size ∙ sym m.size)
+    trail-undone s (record (state_after_completion p s) { ic = ic }) k m t fits none (n.size ∙ sym m.size)
     (λ w above apart. completed-unwritten p s w h m above (subst (IsNotAmong w) writes apart))
 
 -- the interrupt that is taken is by one of 64 indicators
@@ -132,13 +132,13 @@ interrupt-below : (s : Machine) → IfSome (interrupt s) (λ i. i < 64)
 interrupt-below s = interrupt-by s.enabled s
 
 pub step-undone : (s : Machine) (k : Kept) → IsMachine s → IsTrail s k.trail → CanBePutBack k.trail → k.puts ≡ 0
-    → undone k (step s) ≡ s
+    → state_undone k (step s) ≡ s
 unfolding step
 step-undone s k m t fits none =
     let p = plan s (interrupt s) in
     let h : IsPrepared p = plan-prepared s (interrupt s) m (interrupt-below s) in
     let n = kept-completed p s h m in
-    trail-undone s (completed p s) k m (trail-keeps s k.trail t) fits none (n.size ∙ sym m.size)
+    trail-undone s (state_after_completion p s) k m (trail-keeps s k.trail t) fits none (n.size ∙ sym m.size)
     (λ w above apart. completed-unwritten p s w h m above (subst (IsNotAmong w) t.writes apart))
 
 -- ---- words that are put since
@@ -152,42 +152,42 @@ unput-below (suc n) l w x places contents s h =
     let other : n ≢ l = λ e. omega arith in
     let place = get_or-set_other places l n w 0 other in
     let content = get_or-set_other contents l n x 0 other in
-    let t = stored s (slice_index places n) (slice_index contents n) in
-    ap (λ a. unput n (slice_set places l w) (slice_set contents l x) (stored s a (slice_index (slice_set contents l x) n))) place
-    ∙ ap (λ y. unput n (slice_set places l w) (slice_set contents l x) (stored s (slice_index places n) y)) content
+    let t = state_with_store s (slice_index places n) (slice_index contents n) in
+    ap (λ a. unput n (slice_set places l w) (slice_set contents l x) (state_with_store s a (slice_index (slice_set contents l x) n))) place
+    ∙ ap (λ y. unput n (slice_set places l w) (slice_set contents l x) (state_with_store s (slice_index places n) y)) content
     ∙ unput-below n l w x places contents t (omega arith)
 
 -- a word that is stored and then put back stands as before
-stored-back : (s : Machine) (w x : ℕ) → IsMachine s → stored (stored s w x) w (word s w) ≡ s
+stored-back : (s : Machine) (w x : ℕ) → IsMachine s → state_with_store (state_with_store s w x) w (word s w) ≡ s
 stored-back s w x m =
     ap (λ ws. record s { words = ws })
-    (set-set s.words w (fixed w x) (fixed w (word s w))
+    (set-set s.words w (register_word w x) (register_word w (word s w))
     ∙ ap (λ y. slice_set s.words w y) (fixed-word s w m)
     ∙ set-get_or s.words w 0)
 
 unput-put : (n w x : ℕ) (places contents : List ℕ) (s : Machine) → IsMachine s → n < length places → n < length contents
-    → unput (suc n) (slice_set places n w) (slice_set contents n (word s w)) (stored s w x) ≡ unput n places contents s
+    → unput (suc n) (slice_set places n w) (slice_set contents n (word s w)) (state_with_store s w x) ≡ unput n places contents s
 unfolding unput
 unput-put n w x places contents s m room room' =
     let y : ℕ = word s w in
     let ps = slice_set places n w in
     let cs = slice_set contents n y in
-    ap (λ a. unput n ps cs (stored (stored s w x) a (slice_index cs n))) (get_or-set_same places n w 0 room)
-    ∙ ap (λ b. unput n ps cs (stored (stored s w x) w b)) (get_or-set_same contents n y 0 room')
+    ap (λ a. unput n ps cs (state_with_store (state_with_store s w x) a (slice_index cs n))) (get_or-set_same places n w 0 room)
+    ∙ ap (λ b. unput n ps cs (state_with_store (state_with_store s w x) w b)) (get_or-set_same contents n y 0 room')
     ∙ ap (unput n ps cs) (stored-back s w x m)
     ∙ unput-below n n w y places contents s (omega arith)
 
-pub put-undone : (s : Machine) (k : Kept) (w x : ℕ) → IsMachine s → IsSound k → k.puts ≤ 7
-    → undone (noted k w (word s w)) (stored s w x) ≡ undone k s
-unfolding undone
+pub put-undone : (s : Machine) (k : Kept) (w x : ℕ) → IsMachine s → IsStepSound k → k.puts ≤ 7
+    → state_undone (step_with_word k w (word s w)) (state_with_store s w x) ≡ state_undone k s
+unfolding state_undone
 put-undone s k w x m h few =
     let one : k.puts + 1 ≡ suc k.puts = omega arith in
     let ps = slice_set k.places k.puts w in
     let cs = slice_set k.contents k.puts (word s w) in
-    let same : unput (k.puts + 1) ps cs (stored s w x) ≡ unput k.puts k.places k.contents s =
-    ap (λ n. unput n ps cs (stored s w x)) one
+    let same : unput (k.puts + 1) ps cs (state_with_store s w x) ≡ unput k.puts k.places k.contents s =
+    ap (λ n. unput n ps cs (state_with_store s w x)) one
     ∙ unput-put k.puts w x k.places k.contents s m (omega (arith, h.eight)) (omega (arith, h.eight_contents)) in
     ap
     (λ (v : Machine).
-    with_rest k.trail (restored 0 32 0 k.trail.registers (restored_words k.trail.writes k.trail.before v)))
+    with_rest k.trail (state_with_words 0 32 0 k.trail.registers (restored_words k.trail.writes k.trail.before v)))
     same

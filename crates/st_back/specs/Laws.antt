@@ -2,7 +2,7 @@
 use Rattle.std.specs.Prelude.{◌≡◌, ◌≢◌, ℕ, ◌≤◌, true, List, [], ◌∷◌, ◌++◌, None}
 use Rattle.circular_buffer.specs.Buffer.{keep_last}
 use Rattle.st_state.specs.Machine.{Machine, IsMachine}
-use Rattle.st_state.specs.Interrupts.{signalled}
+use Rattle.st_state.specs.Interrupts.{state_with_signal}
 use Rattle.st_exec.specs.Transfer.{read_in, printed_out}
 use Rattle.st_exec.specs.Step.{IsStep}
 use Rattle.st_exec.specs.declared.step.Step.{Step as Answer}
@@ -10,10 +10,10 @@ use Rattle.st_exec.specs.declared.step.Step.TheVariants.{Waits}
 use Rattle.st_back.specs.declared.kept.Kept.{Kept as Past}
 use Rattle.st_back.specs.Between.{AreAlikeAbove}
 use Rattle.st_back.specs.Steps.{Steps, IsForth, IsPut, IsBack, states_before}
-use Rattle.st_back.specs.Undone.{undone}
+use Rattle.st_back.specs.Undone.{state_undone}
 
--- A `back` just after a `forth` that makes a step gives the state before both, and a `forth` after that the answer and
--- the state that the first one gave.
+-- A `back` just after a `forth` that makes a step gives the state before both, and a `forth` after
+-- that the answer and the state that the first one gave.
 pub record BackUndoesForth : Type 0 where
   pub before : (a b c : Steps) (s t u : Machine) (r : Answer) → 1 ≤ a.depth → r ≢ Waits
       → IsForth a b s t r → IsBack b c t u true → u ≡ s
@@ -21,20 +21,21 @@ pub record BackUndoesForth : Type 0 where
       → IsStep s t r → IsForth a b s t r → IsBack b c t u true → IsStep u v q
       → (q ≡ r) × (v ≡ t)
 
--- What a step is undone to does not depend on the words below 32, nor on the number done, the counter, the marks and
--- the orders; so neither a signal nor an order without a card that comes between changes it.
+-- What a step is undone to does not depend on the words below 32, nor on the number done, the
+-- counter, the marks and the orders; so neither a signal nor an order without a card that comes
+-- between changes it.
 pub record UndoingPassesRegistersOver : Type 0 where
   pub above : (k : Past) (s t : Machine) → IsMachine s → AreAlikeAbove s t
-      → undone k t ≡ undone k s
+      → state_undone k t ≡ state_undone k s
   pub signalled : (k : Past) (s : Machine) (i : ℕ) → IsMachine s
-      → undone k (signalled s i) ≡ undone k s
+      → state_undone k (state_with_signal s i) ≡ state_undone k s
   pub printed : (k : Past) (s : Machine) → IsMachine s
-      → undone k (printed_out s) ≡ undone k s
+      → state_undone k (printed_out s) ≡ state_undone k s
   pub no_card : (k : Past) (s : Machine) (w : ℕ) → IsMachine s
-      → undone k (read_in s w None) ≡ undone k s
+      → state_undone k (read_in s w None) ≡ state_undone k s
 
--- The states that calls of `back` give one after another are those before the steps that were made, as many of the last
--- ones as there are places, whatever was put and came between.
+-- The states that calls of `back` give one after another are those before the steps that were made,
+-- as many of the last ones as there are places, whatever was put and came between.
 pub record BacksGiveTheStatesBefore : Type 0 where
   pub forth : (a b : Steps) (s t : Machine) (r : Answer) → r ≢ Waits → IsForth a b s t r
       → states_before b.kept t ≡ keep_last a.depth (states_before a.kept s ++ s ∷ [])

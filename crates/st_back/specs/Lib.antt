@@ -2,3 +2,12 @@ pub mod Undone
 pub mod Steps
 pub mod Between
 pub mod Laws
+pub use Rattle.st_bits.specs.Storage
+pub use Rattle.st_exec.specs.Completion
+pub use Rattle.st_exec.specs.Operand
+pub use Rattle.st_exec.specs.Step
+pub use Rattle.st_exec.specs.Trails
+pub use Rattle.st_exec.specs.Transfer
+pub use Rattle.st_prep.specs.Ranges
+pub use Rattle.st_state.specs.Interrupts
+pub use Rattle.st_state.specs.Machine

@@ -2,13 +2,13 @@
 use Rattle.std.specs.Prelude.{ℕ, ◌≡◌, ◌-◌, ◌<◌, ◌≤◌, Bool, true, false, nat_le, List, [], ◌∷◌, ◌++◌, length, slice_get, slice_index, All, Option, None, Some, replicate}
 use Rattle.circular_buffer.specs.Buffer.{Buffer, keep_last}
 use Rattle.st_bits.specs.Storage.{words_of_storage}
-use Rattle.st_state.specs.Machine.{Machine, word, stored}
+use Rattle.st_state.specs.Machine.{Machine, word, state_with_store}
 use Rattle.st_exec.specs.Trails.{IsTrail, CanBePutBack}
 use Rattle.st_exec.specs.declared.kept.Trail.{Trail}
 use Rattle.st_exec.specs.declared.step.Step.{Step}
 use Rattle.st_exec.specs.declared.step.Step.TheVariants.{Plain, Interrupt, Waits}
 use Rattle.st_back.specs.declared.kept.Kept.{Kept}
-use Rattle.st_back.specs.Undone.{undone, noted}
+use Rattle.st_back.specs.Undone.{state_undone, step_with_word}
 
 -- the steps that are kept, the oldest first, and how many there may be
 pub record Steps : Type 0 where
@@ -24,11 +24,12 @@ abbrev pub steps : Buffer Kept → Steps
 steps b = record { kept = b.items; depth = b.capacity }
 
 -- the last one
-abbrev pub newest : List Kept → Option Kept
-newest ks = slice_get ks (length ks - 1)
+abbrev pub newest_step : List Kept → Option Kept
+newest_step ks = slice_get ks (length ks - 1)
 
--- a step that can be undone: at most eight words were put since, all of them in storage above the registers
-pub record IsSound (k : Kept) : Type 0 where
+-- a step that can be undone: at most eight words were put since, all of them in storage above the
+-- registers
+pub record IsStepSound (k : Kept) : Type 0 where
   pub trail : CanBePutBack k.trail
   pub few : k.puts ≤ 8
   pub eight : length k.places ≡ 8
@@ -37,10 +38,10 @@ pub record IsSound (k : Kept) : Type 0 where
   pub inside : (n : ℕ) → n < k.puts → slice_index k.places n < words_of_storage
 
 -- some steps may be kept, and each that is can be undone
-pub record AreSound (b : Steps) : Type 0 where
+pub record AreStepsSound (b : Steps) : Type 0 where
   pub some : 1 ≤ b.depth
   pub fits : length b.kept ≤ b.depth
-  pub each : All IsSound b.kept
+  pub each : All IsStepSound b.kept
 
 -- a step is kept, and undoing it gives the state before it; a full ring gives up the oldest one
 pub record IsStepKept (old new : Steps) (s t : Machine) : Type 0 where
@@ -49,7 +50,7 @@ pub record IsStepKept (old new : Steps) (s t : Machine) : Type 0 where
   pub depth : new.depth ≡ old.depth
   pub trail : IsTrail s last.trail
   pub puts : last.puts ≡ 0
-  pub before : undone last t ≡ s
+  pub before : state_undone last t ≡ s
 
 -- what a call of `forth` keeps, by its answer
 abbrev pub IsForth : Steps → Steps → Machine → Machine → Step → Type 0
@@ -58,8 +59,8 @@ IsForth old new s t Plain = IsStepKept old new s t
 IsForth old new s t (Interrupt i) = IsStepKept old new s t
 
 -- a kept step since which no word was put
-abbrev pub fresh : Trail → Kept
-fresh t = record {
+abbrev pub step_at : Trail → Kept
+step_at t = record {
   trail = t;
   places = replicate 8 0;
   contents = replicate 8 0;
@@ -67,8 +68,8 @@ fresh t = record {
 }
 
 -- one more step is kept, and the oldest given up where there is no room
-abbrev pub kept_by : Trail → Steps → Steps
-kept_by t b = record b { kept = keep_last b.depth (b.kept ++ fresh t ∷ []) }
+abbrev pub steps_with : Trail → Steps → Steps
+steps_with t b = record b { kept = keep_last b.depth (b.kept ++ step_at t ∷ []) }
 
 -- there is room in the newest step for one more word that is put
 abbrev pub has_room : Option Kept → Bool
@@ -80,17 +81,17 @@ pub record IsPut (old new : Steps) (s t : Machine) (w x : ℕ) : Type 0 where
   pub others : List Kept
   pub last : Kept
   pub was : old.kept ≡ others ++ last ∷ []
-  pub is : new.kept ≡ others ++ noted last w (word s w) ∷ []
+  pub is : new.kept ≡ others ++ step_with_word last w (word s w) ∷ []
   pub depth : new.depth ≡ old.depth
-  pub state : t ≡ stored s w x
-  pub before : undone (noted last w (word s w)) t ≡ undone last s
+  pub state : t ≡ state_with_store s w x
+  pub before : state_undone (step_with_word last w (word s w)) t ≡ state_undone last s
 
 -- the newest step is undone, and kept no more
 pub record IsUndone (old new : Steps) (s t : Machine) : Type 0 where
   pub last : Kept
   pub kept : old.kept ≡ new.kept ++ last ∷ []
   pub depth : new.depth ≡ old.depth
-  pub state : t ≡ undone last s
+  pub state : t ≡ state_undone last s
 
 -- what a call of `back` does, by its answer
 abbrev pub IsBack : Steps → Steps → Machine → Machine → Bool → Type 0
@@ -102,9 +103,10 @@ IsBack old new s t false = (old.kept ≡ []) × (new ≡ old) × (t ≡ s)
 -- the state after all steps are undone, the last one first
 unfoldable pub all_undone : List Kept → Machine → Machine
 all_undone [] s = s
-all_undone (k ∷ ks) s = undone k (all_undone ks s)
+all_undone (k ∷ ks) s = state_undone k (all_undone ks s)
 
--- the states that `back` gives, one call after another: the last of them first, that before the oldest step at the front
+-- the states that `back` gives, one call after another: the last of them first, that before the
+-- oldest step at the front
 unfoldable pub states_before : List Kept → Machine → List Machine
 states_before [] s = []
 states_before (k ∷ ks) s = all_undone (k ∷ ks) s ∷ states_before ks s

@@ -3,7 +3,7 @@ ghost use Rattle.std.specs.Prelude.{◌≡◌, ◌<◌, ◌≤◌, ◌^◌, true
 ghost use Rattle.st_bits.specs.Storage.{words_of_storage};
 ghost use Rattle.st_exec.specs.Step.{IsStep};
 ghost use Rattle.st_exec.specs.Trails.{CanBePutBack};
-ghost use Rattle.st_back.specs.Steps.{none_of, newest, kept_by, IsForth, has_room, IsPut, IsBack};
+ghost use Rattle.st_back.specs.Steps.{none_of, newest_step, steps_with, IsForth, has_room, IsPut, IsBack};
 
 use crate::kept::{Kept, noted};
 use crate::undoing::undo;
@@ -22,17 +22,18 @@ pub struct Back {
 
 // Clauses see the steps, the oldest first, and the depth.
 impl Model for Back {
-    ghost use Rattle.st_back.specs.Steps.{Steps, steps, AreSound};
+    ghost use Rattle.st_back.specs.Steps.{Steps, steps, AreStepsSound};
 
     ghost Value = { Steps };
 
     ghost view = { λ b. steps b.ring };
 
-    ghost invariant = { λ b. AreSound (steps b.ring) };
+    ghost invariant = { λ b. AreStepsSound (steps b.ring) };
 }
 
 impl Back {
-    /// A ring without steps, of `depth` places, 1 to 64. The one error is that memory ran out; no later call takes any.
+    /// A ring without steps, of `depth` places, 1 to 64. The one error is that memory ran out; no
+    /// later call takes any.
     pub fn new(alloc: Global, depth: u8) -> Result<Back, NoMemory>
         requires some { 1 ≤ depth }
         requires few { depth ≤ 64 }
@@ -44,8 +45,8 @@ impl Back {
         Ok(Back { ring })
     }
 
-    /// Makes the next step as `st_exec::one` does, under the same condition, and keeps it, so that `back` undoes it. A full
-    /// ring gives up its oldest step. `Waits` keeps nothing.
+    /// Makes the next step as `st_exec::one` does, under the same condition, and keeps it, so that
+    /// `back` undoes it. A full ring gives up its oldest step. `Waits` keeps nothing.
     pub fn forth(&mut self, state: &mut State) -> Step
         requires { state.old.done < 2 ^ 63 }
         ensures step { IsStep state.old state.new result }
@@ -65,7 +66,7 @@ impl Back {
     // Keeps a step, since which no word was put.
     fn keep(&mut self, trail: Trail)
         requires { CanBePutBack trail }
-        ensures { self.new ≡ kept_by trail self.old }
+        ensures { self.new ≡ steps_with trail self.old }
     {
         self.ring.push_back(Kept {
             trail,
@@ -75,9 +76,10 @@ impl Back {
         });
     }
 
-    /// Whether a word can be put: there is a step, and at most seven words were put since it was made.
+    /// Whether a word can be put: there is a step, and at most seven words were put since it was
+    /// made.
     pub fn can_put(&self) -> bool
-        ensures { result ≡ has_room (newest self.now.kept) }
+        ensures { result ≡ has_room (newest_step self.now.kept) }
     {
         match self.ring.back() {
             Some(kept) => kept.puts <= 7,
@@ -85,12 +87,12 @@ impl Back {
         }
     }
 
-    /// Stores a word that a transfer brings, at the word address `w`, and keeps with the newest step what stood there. It
-    /// can be put, as `can_put` tells.
+    /// Stores a word that a transfer brings, at the word address `w`, and keeps with the newest
+    /// step what stood there. It can be put, as `can_put` tells.
     pub fn put(&mut self, state: &mut State, w: u32, word: u64)
         requires above { 32 ≤ w }
         requires inside { w < words_of_storage }
-        requires room { has_room (newest self.old.kept) ≡ true }
+        requires room { has_room (newest_step self.old.kept) ≡ true }
         ensures { IsPut self.old self.new state.old state.new w word }
     {
         state.shape();
@@ -101,8 +103,8 @@ impl Back {
         state.store(w, word);
     }
 
-    /// Undoes the newest step, which is kept no more. It answers false exactly where none is kept, and then changes
-    /// nothing.
+    /// Undoes the newest step, which is kept no more. It answers false exactly where none is kept,
+    /// and then changes nothing.
     pub fn back(&mut self, state: &mut State) -> bool
         ensures { IsBack self.old self.new state.old state.new result }
     {

@@ -1,6 +1,6 @@
 //! A step that is kept, and the words that are put behind it.
 ghost use Rattle.std.specs.Prelude.{◌≡◌, ◌≤◌};
-ghost use Rattle.st_back.specs.Undone.{noted as noted_of};
+ghost use Rattle.st_back.specs.Undone.{step_with_word as noted_of};
 
 use st_exec::Trail;
 
@@ -17,7 +17,8 @@ pub struct Kept {
     pub puts: u8,
 }
 
-// The step with one more word that is put: the one at the word address `w`, which holds `content` before.
+// The step with one more word that is put: the one at the word address `w`, which holds `content`
+// before.
 pub(crate) fn noted(mut kept: Kept, w: u32, content: u64) -> Kept
     requires { kept.puts ≤ 7 }
     ensures { result ≡ noted_of kept w content }

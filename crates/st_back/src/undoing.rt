@@ -3,10 +3,10 @@ ghost use Rattle.std.specs.Prelude.{◌≡◌, ◌+◌, ◌≤◌, ◌<◌, ℕ,
 ghost use Rattle.st_bits.specs.Storage.{words_of_storage};
 ghost use Rattle.st_state.specs.Machine.{Machine, word as word_of};
 ghost use Rattle.st_prep.specs.Ranges.{IsRuns, AreInside, IsPrepared};
-ghost use Rattle.st_exec.specs.Completion.{completed};
+ghost use Rattle.st_exec.specs.Completion.{state_after_completion};
 ghost use Rattle.st_exec.specs.Trails.{CanBePutBack};
-ghost use Rattle.st_back.specs.Undone.{restored, restored_words, unput, with_rest, undone, Keeps};
-ghost use Rattle.st_back.specs.Steps.{IsSound};
+ghost use Rattle.st_back.specs.Undone.{state_with_words, restored_words, unput, with_rest, state_undone, TrailKeeps};
+ghost use Rattle.st_back.specs.Steps.{IsStepSound};
 
 use crate::kept::Kept;
 use st_exec::{Trail, read_operands};
@@ -17,7 +17,7 @@ use st_state::State;
 fn restore(w: u32, len: u8, from: u8, words: &[u64; 32], state: &mut State)
     requires inside { 1 ≤ len → w + len ≤ words_of_storage }
     requires few { from + len ≤ 32 }
-    ensures { state.new ≡ restored w len from words.now state.old }
+    ensures { state.new ≡ state_with_words w len from words.now state.old }
 {
     for k in 0..len {
         state.store(w + u32::from(k), words[(from + k) as usize]);
@@ -36,7 +36,7 @@ fn restore_written(words: Words, before: &[u64; 32], state: &mut State)
 
 // Puts back the words that were put since, the last one first.
 fn remove_puts(kept: &Kept, state: &mut State)
-    requires { IsSound kept.now }
+    requires { IsStepSound kept.now }
     ensures { state.new ≡ unput kept.now.puts kept.now.places kept.now.contents state.old }
 {
     let mut n = kept.puts as usize;
@@ -73,7 +73,7 @@ fn registers(state: &State) -> [u64; 32]
 // What is kept of a state before an entry is completed that is prepared.
 fn trail_of(p: &Prepared, state: &State) -> Trail
     requires prepared { IsPrepared p.now }
-    ensures keeps { Keeps state.now result }
+    ensures keeps { TrailKeeps state.now result }
     ensures fits { CanBePutBack result }
     ensures writes { result.writes ≡ p.now.writes }
 {
@@ -93,13 +93,14 @@ fn trail_of(p: &Prepared, state: &State) -> Trail
     }
 }
 
-/// Keeps of a state what is needed to undo an entry that is prepared of it: once it is completed, and the counter set or
-/// not, `undo` gives the state back.
+/// Keeps of a state what is needed to undo an entry that is prepared of it: once it is completed,
+/// and the counter set or not, `undo` gives the state back.
 pub fn keep(p: &Prepared, state: &State) -> Kept
     requires prepared { IsPrepared p.now }
-    ensures sound { IsSound result }
-    ensures undone { (s : Machine) (ic : ℕ) → s ≡ record (completed p.now state.now) { ic = ic } →
-        undone result s ≡ state.now }
+    ensures sound { IsStepSound result }
+    ensures undone { (s : Machine) (ic : ℕ) → s ≡ record
+        (state_after_completion p.now state.now) { ic = ic } →
+        state_undone result s ≡ state.now }
 {
     state.shape();
     Kept {
@@ -111,10 +112,10 @@ pub fn keep(p: &Prepared, state: &State) -> Kept
 }
 
 /// Undoes a step or an entry that was kept.
-#[tactic(auto, unfolding(crate::specs::Undone::undone), using(st_bits::specs::Storage::words_of_storage_is))]
+#[tactic(auto, unfolding(crate::specs::Undone::state_undone), using(st_bits::specs::Storage::words_of_storage_is))]
 pub fn undo(kept: &Kept, state: &mut State)
-    requires { IsSound kept.now }
-    ensures { state.new ≡ undone kept.now state.old }
+    requires { IsStepSound kept.now }
+    ensures { state.new ≡ state_undone kept.now state.old }
 {
     remove_puts(kept, state);
     restore_written(kept.trail.writes, &kept.trail.before, state);

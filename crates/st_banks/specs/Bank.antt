@@ -11,7 +11,8 @@ bank_of w = if nat_lt w 65536 then w % 4 else 4 + w % 2
 abbrev pub last_of : List ℕ → ℕ → ℕ
 last_of answers w = slice_index answers (bank_of w)
 
--- the tick at which a read of the word is accepted that can be made from the tick on and is wanted from the want on
+-- the tick at which a read of the word is accepted that can be made from the tick on and is wanted
+-- from the want on
 abbrev pub accept_tick : List ℕ → ℕ → ℕ → ℕ → ℕ
 accept_tick answers w tick want = max (max tick want) (last_of answers w)
 
@@ -19,7 +20,8 @@ accept_tick answers w tick want = max (max tick want) (last_of answers w)
 abbrev pub answered_at : List ℕ → ℕ → ℕ → List ℕ
 answered_at answers w tick = slice_set answers (bank_of w) tick
 
--- the delay list, and the tick at which each bank gives or gave its last answer, 0 before its first read
+-- the delay list, and the tick at which each bank gives or gave its last answer, 0 before its first
+-- read
 pub record BankTimes : Type 0 where
   pub delays : List ℕ
   pub answers : List ℕ
@@ -30,18 +32,21 @@ pub record IsBankTimes (m : BankTimes) : Type 0 where
   pub banks : length m.answers ≡ BANKS
 
 -- the banks before the first read
-abbrev pub unread : List ℕ → BankTimes
-unread list = record { delays = list; answers = replicate BANKS 0 }
+abbrev pub banks_at_start : List ℕ → BankTimes
+banks_at_start list = record { delays = list; answers = replicate BANKS 0 }
 
 -- the last answer of the bank that the word is in
 abbrev pub last_answer : BankTimes → ℕ → ℕ
 last_answer m w = last_of m.answers w
 
--- the tick at which a read of the word is answered, if its bank accepts it at the tick: that is, if it is no longer busy
-abbrev pub accepted : BankTimes → ℕ → ℕ → Option ℕ
-accepted m w tick = if nat_le (last_answer m w) tick then Some (answer_tick m.delays tick) else None
+-- the tick at which a read of the word is answered, if its bank accepts it at the tick: that is, if
+-- it is no longer busy
+abbrev pub answer_if_accepted : BankTimes → ℕ → ℕ → Option ℕ
+answer_if_accepted m w tick = if nat_le (last_answer m w) tick then Some (answer_tick m.delays tick)
+    else None
 
--- the banks after that: an answer is the last one of the bank, and where there is none nothing has changed
+-- the banks after that: an answer is the last one of the bank, and where there is none nothing has
+-- changed
 abbrev pub after_read : BankTimes → ℕ → Option ℕ → BankTimes
 after_read m w (Some answer) = record m { answers = answered_at m.answers w answer }
 after_read m w None = m

@@ -25,8 +25,9 @@ answer_tick list tick = tick + delay list tick
 abbrev pub first_zero : List ℕ → Option ℕ
 first_zero list = position (λ d. d == 0) list
 
--- what is answered of a list: itself, or its first zero; want of memory comes only where no entry is zero
-abbrev pub IsAnswer : List ℕ → Result (List ℕ) DelayError → Type 0
-IsAnswer list (Ok delays) = (first_zero list ≡ None) × (delays ≡ list)
-IsAnswer list (Err (ZeroDelay place)) = first_zero list ≡ Some place
-IsAnswer list (Err NoMemory) = first_zero list ≡ None
+-- what is answered of a list: itself, or its first zero; want of memory comes only where no entry
+-- is zero
+abbrev pub IsDelayAnswer : List ℕ → Result (List ℕ) DelayError → Type 0
+IsDelayAnswer list (Ok delays) = (first_zero list ≡ None) × (delays ≡ list)
+IsDelayAnswer list (Err (ZeroDelay place)) = first_zero list ≡ Some place
+IsDelayAnswer list (Err NoMemory) = first_zero list ≡ None

@@ -1,6 +1,6 @@
 -- What holds of delays and banks, whatever is read.
 use Rattle.std.specs.Prelude.{◌≡◌, ◌≢◌, ◌<◌, ◌≤◌, ℕ, List, length, All, Some, None}
-use Rattle.st_banks.specs.Bank.{BankTimes, IsBankTimes, bank_of, last_answer, accept_tick, accepted, after_read}
+use Rattle.st_banks.specs.Bank.{BankTimes, IsBankTimes, bank_of, last_answer, accept_tick, answer_if_accepted, after_read}
 use Rattle.st_banks.specs.Delay.{delay, answer_tick}
 use Rattle.st_banks.specs.declared.answers.TheConstants.{BANKS}
 
@@ -20,10 +20,11 @@ pub record ReadsKeepTheirBankBusy : Type 0 where
   pub others : (m : BankTimes) (v w answer : ℕ) → bank_of v ≢ bank_of w →
       last_answer (after_read m w (Some answer)) v ≡ last_answer m v
 
--- A read that can be made from a tick on and is wanted from a want on is accepted at its accept tick, and at no earlier one.
+-- A read that can be made from a tick on and is wanted from a want on is accepted at its accept
+-- tick, and at no earlier one.
 pub record ReadsAreAcceptedAtTheirTick : Type 0 where
   pub then : (m : BankTimes) (w tick want : ℕ) →
-      accepted m w (accept_tick m.answers w tick want)
+      answer_if_accepted m w (accept_tick m.answers w tick want)
       ≡ Some (answer_tick m.delays (accept_tick m.answers w tick want))
   pub not_before : (m : BankTimes) (w tick want t : ℕ) → tick ≤ t → want ≤ t →
-      t < accept_tick m.answers w tick want → accepted m w t ≡ None
+      t < accept_tick m.answers w tick want → answer_if_accepted m w t ≡ None

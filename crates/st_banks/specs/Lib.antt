@@ -1,3 +1,4 @@
 pub mod Bank
 pub mod Delay
 pub mod Laws
+pub use Rattle.st_bits.specs.Storage

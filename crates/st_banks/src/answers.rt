@@ -32,8 +32,8 @@ impl LastAnswers {
         self.ticks[bank_of(w)]
     }
 
-    /// The tick at which a read of the word `w` is accepted that can be made from `tick` on and is wanted from `want` on: the
-    /// greatest of these two and of its bank's last answer.
+    /// The tick at which a read of the word `w` is accepted that can be made from `tick` on and is
+    /// wanted from `want` on: the greatest of these two and of its bank's last answer.
     pub fn accept_tick(&self, w: u32, tick: u64, want: u64) -> u64
         ensures { result ≡ accept_tick_of self.now.ticks w tick want }
     {

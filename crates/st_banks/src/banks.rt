@@ -6,8 +6,8 @@ use crate::answers::LastAnswers;
 use crate::delays::Delays;
 use std::marker::Model;
 
-/// The banks of storage with the delays of their reads. Contracts see the list of delays, and for each bank the tick
-/// of its last answer, 0 before its first read.
+/// The banks of storage with the delays of their reads. Contracts see the list of delays, and for
+/// each bank the tick of its last answer, 0 before its first read.
 #[derive(Drop)]
 pub struct Banks {
     delays: Delays,
@@ -27,11 +27,11 @@ impl Model for Banks {
 }
 
 impl Banks {
-    ghost use Rattle.st_banks.specs.Bank.{IsBankTimes, unread, last_answer as last_answer_of, accepted, after_read};
+    ghost use Rattle.st_banks.specs.Bank.{IsBankTimes, banks_at_start, last_answer as last_answer_of, answer_if_accepted, after_read};
 
     /// The banks before the first read.
     pub fn new(delays: Delays) -> Banks
-        ensures { result ≡ unread delays }
+        ensures { result ≡ banks_at_start delays }
     {
         Banks {
             delays,
@@ -39,7 +39,8 @@ impl Banks {
         }
     }
 
-    /// Makes known what holds of all banks: there are BANKS of them, and the delays are from 1 to 255.
+    /// Makes known what holds of all banks: there are BANKS of them, and the delays are from 1 to
+    /// 255.
     pub fn shape(&self)
         ensures { IsBankTimes self.now }
     {
@@ -53,13 +54,15 @@ impl Banks {
         self.answers.of(w)
     }
 
-    /// Reads the word `w`, a word address from 32 to 98,303, at `tick`, which is below 2^63. The result is the tick at which the bank answers;
-    /// it is None, and nothing changes, exactly where the last answer of the bank is later than `tick`.
+    /// Reads the word `w`, a word address from 32 to 98,303, at `tick`, which is below 2^63. The
+    /// result is the tick at which the bank answers; it is None, and nothing changes, exactly where
+    /// the last answer of the bank is later than `tick`.
     pub fn accept(&mut self, w: u32, tick: u64) -> Option<u64>
         requires above_registers { 32 ≤ w }
         requires inside { w < words_of_storage }
         requires early { tick < 2 ^ 63 }
-        ensures value { result ≡ accepted self.old w tick }
+
+        ensures value { result ≡ answer_if_accepted self.old w tick }
         ensures after { self.new ≡ after_read self.old w result }
         ensures bound { IfSome result (λ answer. (tick < answer) × (answer ≤ tick + 255)) }
     {

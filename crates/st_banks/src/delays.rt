@@ -32,13 +32,14 @@ impl Model for Delays {
 }
 
 impl Delays {
-    ghost use Rattle.st_banks.specs.Delay.{IsAnswer, IsDelayList, answer_tick};
+    ghost use Rattle.st_banks.specs.Delay.{IsDelayAnswer, IsDelayList, answer_tick};
 
-    /// The delays of the list, which has 1 to 4,096 entries. A list with a zero is refused before memory is asked for.
+    /// The delays of the list, which has 1 to 4,096 entries. A list with a zero is refused before
+    /// memory is asked for.
     pub fn new(alloc: Global, list: &[u8]) -> Result<Delays, DelayError>
         requires some { 1 ≤ length list.now }
         requires few { length list.now ≤ 4096 }
-        ensures { IsAnswer list.now result }
+        ensures { IsDelayAnswer list.now result }
     {
         if let Some(place) = first_zero(list) {
             return Err(DelayError::ZeroDelay {
@@ -51,14 +52,16 @@ impl Delays {
         }
     }
 
-    /// Makes known what holds of each list of delays: it is not empty, and each entry is from 1 to 255.
+    /// Makes known what holds of each list of delays: it is not empty, and each entry is from 1 to
+    /// 255.
     pub fn shape(&self)
         ensures { IsDelayList self.now }
     {
         let _ = &self.list;
     }
 
-    /// The delay, from 1 to 255 ticks, of a read that is accepted at `tick`: the list is gone round, one entry a tick.
+    /// The delay, from 1 to 255 ticks, of a read that is accepted at `tick`: the list is gone
+    /// round, one entry a tick.
     pub fn at(&self, tick: u64) -> u8
         ensures value { result ≡ delay self.now tick }
         ensures least { 1 ≤ result }
@@ -69,7 +72,8 @@ impl Delays {
         self.list[place as usize]
     }
 
-    /// The tick, 1 to 255 later, at which a read is answered that is accepted at `tick`, which is below 2^64 - 255.
+    /// The tick, 1 to 255 later, at which a read is answered that is accepted at `tick`, which is
+    /// below 2^64 - 255.
     pub fn answer(&self, tick: u64) -> u64
         requires early { tick + 255 < 2 ^ 64 }
         ensures value { result ≡ answer_tick self.now tick }

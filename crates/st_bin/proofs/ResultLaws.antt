@@ -7,7 +7,7 @@ use Rattle.st_field.specs.declared.base.Taken.{Taken}
 use Rattle.st_field.specs.declared.outcome.Done.{Done}
 use Rattle.st_field.specs.Fields.{magnitude_bits}
 use Rattle.st_field.proofs.ResultLaws.{IsInField, KeepsLength}
-use Rattle.st_bin.specs.BinaryResult.{base, product, product_added, divided, converted}
+use Rattle.st_bin.specs.BinaryResult.{base, product, product_added, quotient_result, conversion_result}
 
 -- a result of two that write no field
 of_two : (t : Taken) (b : Bool) (d e : Done) → IsInField t d → IsInField t e → IsInField t (cond b d e)
@@ -15,7 +15,7 @@ of_two t true d e p q = p
 of_two t false d e p q = q
 
 pub keeps_length : (t : Taken) → KeepsLength (base t) t
-unfolding product product_added divided converted
+unfolding product product_added quotient_result conversion_result
 keeps_length t = record {
   stored = mod-lt _ (pow_pos (magnitude_bits t.shape));
   replaced = λ n. mod-lt n (pow_pos (magnitude_bits t.shape));

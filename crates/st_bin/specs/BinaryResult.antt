@@ -9,12 +9,12 @@ use Rattle.st_field.specs.declared.fields.Field.{Field}
 use Rattle.st_field.specs.declared.fields.Shape.{Shape}
 use Rattle.st_field.specs.declared.outcome.Done.{Done}
 use Rattle.st_field.specs.declared.signed.Signed.{Signed}
-use Rattle.st_field.specs.Bases.{InBase, taken, result_of}
+use Rattle.st_field.specs.Bases.{InBase, operand_taken, result_of}
 use Rattle.st_field.specs.Indicators.{lost_carry, partial_field, flag_indicators}
 use Rattle.st_field.specs.Fields.{magnitude_bits}
 use Rattle.st_field.specs.Numbers.{exactly_one, exceeds, sum_of}
 use Rattle.st_field.specs.Digits.{digits_of}
-use Rattle.st_field.specs.Results.{is_minus, number_in, operand, cut, with_number, done_with, in_accumulator, loaded}
+use Rattle.st_field.specs.Results.{is_minus, number_in, signed_operand, number_cut, with_number, done_with, in_accumulator, load_result}
 
 -- the accumulator from the offset on
 abbrev pub from_offset : Acc → Shape → ℕ
@@ -23,47 +23,49 @@ from_offset a h = a.mag / 2 ^ h.offset
 -- ---- the operations of its own
 
 -- a product or quotient put into the accumulator: minus where exactly one of both is minus
-abbrev pub multiplied : Acc → Field → Shape → ℕ → ℕ → Done
-multiplied a f h m on =
-    in_accumulator (with_number a m (exactly_one (is_minus a) (operand f h f.mag).negative)) m on
+abbrev pub product_result : Acc → Field → Shape → ℕ → ℕ → Done
+product_result a f h m on =
+    in_accumulator (with_number a m (exactly_one (is_minus a)
+    (signed_operand f h f.mag).negative)) m on
 
 -- *: 64 bits of the accumulator times the operand
 unfoldable pub product : Acc → Field → Shape → Done
 product a f h =
-    multiplied a f h (from_offset a h % 2 ^ 64 * f.mag)
+    product_result a f h (from_offset a h % 2 ^ 64 * f.mag)
     (flag_indicators f.flags + partial_field (exceeds (from_offset a h) 64))
 
 -- *+: p is the factor register times the operand at the offset
 abbrev pub product_summed : Acc → Field → Shape → ℕ → Done
 product_summed a f h p =
-    let n : Signed = sum_of (number_in a a.mag) (operand f h (p % 2 ^ 128)) in
+    let n : Signed = sum_of (number_in a a.mag) (signed_operand f h (p % 2 ^ 128)) in
     in_accumulator (with_number a (n.mag % 2 ^ 128) n.negative) (n.mag % 2 ^ 128)
     (flag_indicators f.flags + lost_carry (exceeds p 128 || exceeds n.mag 128))
 
 unfoldable pub product_added : Acc → Field → Shape → ℕ → Done
 product_added a f h ft = product_summed a f h (ft * f.mag * 2 ^ h.offset)
 
--- /: the quotient, and the remainder in its register; for a zero divisor ZD comes on, and that is all
-unfoldable pub divided : Acc → Field → Shape → Done
-divided a f h =
+-- /: the quotient, and the remainder in its register; for a zero divisor ZD comes on, and that is
+-- all
+unfoldable pub quotient_result : Acc → Field → Shape → Done
+quotient_result a f h =
     if f.mag == 0 then done_with a (record { on = indicator ZERO_DIVISOR; off = 0 })
-    else record (multiplied a f h (from_offset a h / f.mag) (flag_indicators f.flags)) {
+    else record (product_result a f h (from_offset a h / f.mag) (flag_indicators f.flags)) {
       rm = Some (from_offset a h % f.mag);
     }
 
 -- LCV: the number t in decimal, whose digits past the 32nd are lost
 abbrev pub converted_number : Field → Shape → ℕ → Done
 converted_number f h t =
-    loaded
+    load_result
     (record {
       bits = digits_of 32 (t % 10 ^ 32);
-      number = operand f h (t % 10 ^ 32);
+      number = signed_operand f h (t % 10 ^ 32);
       on = flag_indicators f.flags + partial_field (nat_le (10 ^ 32) t);
     })
 
 -- the last digit of the magnitude stands at digit `offset / 4`
-unfoldable pub converted : Field → Shape → Done
-converted f h = converted_number f h (f.mag * 10 ^ (h.offset / 4))
+unfoldable pub conversion_result : Field → Shape → Done
+conversion_result f h = converted_number f h (f.mag * 10 ^ (h.offset / 4))
 
 -- ---- the base
 
@@ -74,16 +76,16 @@ base t = record {
   value = t.field.mag;
   content = t.field.mag;
   transit = indicator BINARY_TRANSIT;
-  at_place = cut 128 (t.field.mag * 2 ^ t.shape.offset);
-  stored = cut (magnitude_bits t.shape) (from_offset t.acc t.shape);
-  summed = cut 128;
-  replaced = cut (magnitude_bits t.shape);
+  at_place = number_cut 128 (t.field.mag * 2 ^ t.shape.offset);
+  stored = number_cut (magnitude_bits t.shape) (from_offset t.acc t.shape);
+  summed = number_cut 128;
+  replaced = number_cut (magnitude_bits t.shape);
   product = product t.acc t.field t.shape;
   product_added = product_added t.acc t.field t.shape;
-  quotient = divided t.acc t.field t.shape;
-  converted = converted t.field t.shape;
+  quotient = quotient_result t.acc t.field t.shape;
+  converted = conversion_result t.field t.shape;
 }
 
 -- the result of a binary operation on a field with the bits x
 unfoldable pub result : VflOp → Acc → ℕ → Shape → ℕ → ℕ → Done
-result op a x h ft ind = result_of op (base (taken a x h)) (taken a x h) ft ind
+result op a x h ft ind = result_of op (base (operand_taken a x h)) (operand_taken a x h) ft ind

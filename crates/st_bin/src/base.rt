@@ -1,8 +1,8 @@
 //! Base 2: what it makes of the accumulator and a field.
 ghost use Rattle.std.specs.Prelude.{◌≡◌, ◌≤◌, ◌<◌, ◌%◌, ◌^◌, ℕ};
 ghost use Rattle.st_field.specs.Numbers.{exceeds as exceeds_of};
-ghost use Rattle.st_field.specs.Fields.{IsShape};
-ghost use Rattle.st_bin.specs.BinaryResult.{base as base_two, multiplied as multiplied_of};
+ghost use Rattle.st_field.specs.Fields.{IsBinaryShape};
+ghost use Rattle.st_bin.specs.BinaryResult.{base as base_two, product_result as multiplied_of};
 
 use crate::conversion::place_digits;
 use st_bits::indicators::{BINARY_TRANSIT, ZERO_DIVISOR};
@@ -26,7 +26,8 @@ fn is_lost(sum: Sum, bits: u8) -> bool
     sum.carry || exceeds(sum.number.mag, bits)
 }
 
-// A product or quotient goes to the accumulator: minus where exactly one of accumulator and operand is minus.
+// A product or quotient goes to the accumulator: minus where exactly one of accumulator and operand
+// is minus.
 fn multiplied(taken: &Taken, mag: u128, on: u64) -> Done
     requires { on < 2 ^ 63 }
     ensures { result ≡ multiplied_of taken.now.acc taken.now.field taken.now.shape mag on }
@@ -45,7 +46,7 @@ pub struct Two;
 impl Base for Two {
     ghost base = { base_two };
 
-    ghost Allows = { IsShape };
+    ghost Allows = { IsBinaryShape };
 
     ghost limit = { 2 ^ 128 };
 
@@ -117,7 +118,7 @@ impl Base for Two {
         in_accumulator(with_number(acc, sum.number), sum.number.mag, on)
     }
 
-    #[tactic(auto, unfolding(crate::specs::BinaryResult::divided))]
+    #[tactic(auto, unfolding(crate::specs::BinaryResult::quotient_result))]
     fn divide(taken: &Taken) -> Done {
         if taken.field.mag == 0 {
             let ind = Ind {
@@ -135,7 +136,7 @@ impl Base for Two {
         }
     }
 
-    #[tactic(auto, unfolding(crate::specs::BinaryResult::converted))]
+    #[tactic(auto, unfolding(crate::specs::BinaryResult::conversion_result))]
     fn convert(taken: &Taken) -> Done {
         let (mag, is_lost) = place_digits(taken.field.mag, taken.shape.offset / 4);
         load(Aligned {

@@ -3,7 +3,8 @@ ghost use Rattle.std.specs.Prelude.{◌≡◌, ◌<◌, ◌*◌, ◌%◌, ◌^�
 
 use st_field::power_of_ten;
 
-/// A number `place` decimal digits to the left, without those past the 32nd, and whether one of these is not zero.
+/// A number `place` decimal digits to the left, without those past the 32nd, and whether one of
+/// these is not zero.
 #[tactic(auto, using(crate::proofs::PlaceLemmas::place_rules))]
 pub fn place_digits(mag: u64, place: u8) -> (u128, bool)
     requires { place < 32 }

@@ -1,5 +1,5 @@
-//! Binary operations on fields: what each makes of the accumulator, the field, the registers and the indicators.
-//! `docs/variable-fields.md` has the rules.
+//! Binary operations on fields: what each makes of the accumulator, the field, the registers and
+//! the indicators. `docs/variable-fields.md` has the rules.
 #![tactic(auto)]
 
 mod base;

@@ -1,18 +1,18 @@
 -- What the table of register words keeps.
 use Rattle.std.proofs.Common.{◌≡◌, ◌≢◌, ℕ, ◌+◌, ◌*◌, ◌-◌, ◌^◌, ◌<◌, ◌≤◌, Bool, true, false, ◌==◌, if◌then◌else◌, refl, sym, subst, arith}
 use Rattle.std.proofs.lemmas.Bool.Decides.{nat_tests}
-use Rattle.st_bits.specs.Bits.{kept}
-use Rattle.st_bits.specs.Registers.{fixed, reads_zero}
+use Rattle.st_bits.specs.Bits.{kept_bits}
+use Rattle.st_bits.specs.Registers.{register_word, reads_zero}
 
 -- the table as a function of its tests
 abbrev row : Bool → Bool → Bool → Bool → Bool → Bool → ℕ → ℕ
 row zero two three seven ten twelve x =
     if zero then 0
-    else if two then kept x 0 18
-    else if three then kept x 0 18 + kept x 32 18 + kept x 57 1
-    else if seven then kept x 17 7 + kept x 44 7
-    else if ten then kept x 0 8
-    else if twelve then (2 ^ 20 - 1) * 2 ^ 44 + kept x 20 28
+    else if two then kept_bits x 0 18
+    else if three then kept_bits x 0 18 + kept_bits x 32 18 + kept_bits x 57 1
+    else if seven then kept_bits x 17 7 + kept_bits x 44 7
+    else if ten then kept_bits x 0 8
+    else if twelve then (2 ^ 20 - 1) * 2 ^ 44 + kept_bits x 20 28
     else x
 
 row-twice : (zero two three seven ten twelve : Bool) (x : ℕ)
@@ -45,24 +45,24 @@ row-zero false false false false true = refl
 row-zero false false false false false = refl
 
 -- to write a word that was read there changes nothing
-pub fixed-twice : (w x : ℕ) → fixed w (fixed w x) ≡ fixed w x
-unfolding fixed
+pub fixed-twice : (w x : ℕ) → register_word w (register_word w x) ≡ register_word w x
+unfolding register_word
 fixed-twice w x = row-twice (reads_zero w) (w == 2) (w == 3) (w == 7) (w == 10) (w == 12) x
 
 -- a word stays a word
-pub fixed_below : (w x : ℕ) → x < 2 ^ 64 → fixed w x < 2 ^ 64
-unfolding fixed
+pub fixed_below : (w x : ℕ) → x < 2 ^ 64 → register_word w x < 2 ^ 64
+unfolding register_word
 fixed_below w x h = row_below (reads_zero w) (w == 2) (w == 3) (w == 7) (w == 10) (w == 12) x h
 
 -- the mask alone has bits that are always one
-pub fixed-zero : (w : ℕ) → w ≢ 12 → fixed w 0 ≡ 0
-unfolding fixed
+pub fixed-zero : (w : ℕ) → w ≢ 12 → register_word w 0 ≡ 0
+unfolding register_word
 fixed-zero w h =
     let other : (w == 12) ≡ false = grind (arith, nat_tests) in
     let P : Bool → Type 0 = λ t. row (reads_zero w) (w == 2) (w == 3) (w == 7) (w == 10) t 0 ≡ 0 in
     subst P (sym other) (row-zero (reads_zero w) (w == 2) (w == 3) (w == 7) (w == 10))
 
 -- index words and storage keep each bit
-pub fixed-index : (w x : ℕ) → 16 ≤ w → fixed w x ≡ x
-unfolding fixed
+pub fixed-index : (w x : ℕ) → 16 ≤ w → register_word w x ≡ x
+unfolding register_word
 fixed-index w x h = grind arith

@@ -4,7 +4,7 @@ use Rattle.std.proofs.Math.ListN.{set}
 use Rattle.std.proofs.Math.Nat.{mod-eq_of_lt}
 use Rattle.std.proofs.lemmas.List.{append-nil, take_at, drop_at}
 use Rattle.st_bits.specs.Bits.{bits, num, all_bits, field, put, words_of}
-use Rattle.st_bits.specs.Registers.{fixed, fixed_from}
+use Rattle.st_bits.specs.Registers.{register_word, fixed_from}
 use Rattle.st_bits.proofs.BitLists.{length-bits, num-bits}
 use Rattle.st_bits.proofs.WordFields.{field-beyond, field-within, put-beyond, put-within, put-in_word, next_place}
 
@@ -74,28 +74,28 @@ words_of-all_bits (x ∷ ws) below =
     ∙ ap (λ xs. x ∷ xs) (words_of-all_bits ws (λ w. below (suc w)))
 
 -- words that have their fixed bits keep each bit
-pub fixed_from-kept : (k : ℕ) (ws : List ℕ) → ((w : ℕ) → fixed (k + w) (get_or ws w 0) ≡ get_or ws w 0)
+pub fixed_from-kept : (k : ℕ) (ws : List ℕ) → ((w : ℕ) → register_word (k + w) (get_or ws w 0) ≡ get_or ws w 0)
     → fixed_from k ws ≡ ws
 unfolding fixed_from
 fixed_from-kept k [] keeps = refl
 fixed_from-kept k (x ∷ ws) keeps =
     let start : k ≡ k + 0 = omega arith in
-    ap (λ y. y ∷ fixed_from (k + 1) ws) (ap (λ w. fixed w x) start ∙ keeps 0)
+    ap (λ y. y ∷ fixed_from (k + 1) ws) (ap (λ w. register_word w x) start ∙ keeps 0)
     ∙ ap (λ xs. x ∷ xs)
     (fixed_from-kept (k + 1) ws
     (λ w.
     let next : k + 1 + w ≡ k + suc w = omega arith in
-    ap (λ m. fixed m (get_or ws w 0)) next ∙ keeps (suc w)))
+    ap (λ m. register_word m (get_or ws w 0)) next ∙ keeps (suc w)))
 
 -- the fixed bits of a list with one word changed
 pub fixed_from-set : (k : ℕ) (ws : List ℕ) (w y : ℕ)
-    → fixed_from k (set ws w y) ≡ set (fixed_from k ws) w (fixed (k + w) y)
+    → fixed_from k (set ws w y) ≡ set (fixed_from k ws) w (register_word (k + w) y)
 unfolding fixed_from
 fixed_from-set k [] w y = refl
 fixed_from-set k (x ∷ ws) zero y =
     let start : k ≡ k + 0 = omega arith in
-    ap (λ m. fixed m y ∷ fixed_from (k + 1) ws) start
+    ap (λ m. register_word m y ∷ fixed_from (k + 1) ws) start
 fixed_from-set k (x ∷ ws) (suc w) y =
     let next : k + 1 + w ≡ k + suc w = omega arith in
-    ap (λ xs. fixed k x ∷ xs)
-    (fixed_from-set (k + 1) ws w y ∙ ap (λ m. set (fixed_from (k + 1) ws) w (fixed m y)) next)
+    ap (λ xs. register_word k x ∷ xs)
+    (fixed_from-set (k + 1) ws w y ∙ ap (λ m. set (fixed_from (k + 1) ws) w (register_word m y)) next)

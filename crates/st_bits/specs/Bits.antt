@@ -40,5 +40,5 @@ with_part x a n v =
     x / 2 ^ (64 - a) * 2 ^ (64 - a) + v * 2 ^ (64 - a - n) + x % 2 ^ (64 - a - n)
 
 -- the word x with zeros in place of all but its n bits from bit a on
-abbrev pub kept : ℕ → ℕ → ℕ → ℕ
-kept x a n = part x a n * 2 ^ (64 - a - n)
+abbrev pub kept_bits : ℕ → ℕ → ℕ → ℕ
+kept_bits x a n = part x a n * 2 ^ (64 - a - n)

@@ -1,11 +1,11 @@
--- The parts of an index word: value magnitude in bits 0-23, value sign in bit 24, count in bits 28-45,
--- refill address in bits 46-63.
+-- The parts of an index word: value magnitude in bits 0-23, value sign in bit 24, count in bits
+-- 28-45, refill address in bits 46-63.
 use Rattle.std.specs.Prelude.{ℕ, ◌%◌, ◌^◌, ℤ, pos, negsuc, neg_ℤ, unsigned_abs, ◌==◌, if◌then◌else◌}
 use Rattle.st_bits.specs.Bits.{part, with_part}
 
 -- the value: negative where the sign bit is one
-abbrev pub value_of : ℕ → ℤ
-value_of x = if part x 24 1 == 0 then pos (part x 0 24) else neg_ℤ (pos (part x 0 24))
+abbrev pub index_value : ℕ → ℤ
+index_value x = if part x 24 1 == 0 then pos (part x 0 24) else neg_ℤ (pos (part x 0 24))
 
 -- the count
 abbrev pub count_of : ℕ → ℕ
@@ -21,8 +21,8 @@ sign_bit (pos _) = 0
 sign_bit (negsuc _) = 1
 
 -- the word with the number r as its value, the magnitude modulo 2 ^ 24
-abbrev pub with_value : ℕ → ℤ → ℕ
-with_value x r = with_part (with_part x 0 24 (unsigned_abs r % 2 ^ 24)) 24 1 (sign_bit r)
+abbrev pub index_word_with_value : ℕ → ℤ → ℕ
+index_word_with_value x r = with_part (with_part x 0 24 (unsigned_abs r % 2 ^ 24)) 24 1 (sign_bit r)
 
 -- the word with the count c
 abbrev pub with_count : ℕ → ℕ → ℕ

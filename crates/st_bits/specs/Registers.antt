@@ -1,6 +1,6 @@
 -- The register words, 0 to 31, and which of their bits can be one.
 use Rattle.std.specs.Prelude.{ℕ, ◌+◌, ◌-◌, ◌*◌, ◌^◌, Bool, List, [], ◌∷◌, ◌==◌, ◌||◌, if◌then◌else◌}
-use Rattle.st_bits.specs.Bits.{kept}
+use Rattle.st_bits.specs.Bits.{kept_bits}
 use Rattle.st_bits.specs.declared.register.TheConstants.{ZERO, INTERRUPT_ADDRESS, BOUNDS, COUNTS, SIGN_BYTE, MASK}
 
 -- the registers that read zero
@@ -8,17 +8,17 @@ abbrev pub reads_zero : ℕ → Bool
 reads_zero w = w == ZERO || w == 1 || w == 4 || w == 5 || w == 6
 
 -- what stands in word w after x is written to it
-unfoldable pub fixed : ℕ → ℕ → ℕ
-fixed w x =
+unfoldable pub register_word : ℕ → ℕ → ℕ
+register_word w x =
     if reads_zero w then 0
-    else if w == INTERRUPT_ADDRESS then kept x 0 18
-    else if w == BOUNDS then kept x 0 18 + kept x 32 18 + kept x 57 1
-    else if w == COUNTS then kept x 17 7 + kept x 44 7
-    else if w == SIGN_BYTE then kept x 0 8
-    else if w == MASK then (2 ^ 20 - 1) * 2 ^ 44 + kept x 20 28
+    else if w == INTERRUPT_ADDRESS then kept_bits x 0 18
+    else if w == BOUNDS then kept_bits x 0 18 + kept_bits x 32 18 + kept_bits x 57 1
+    else if w == COUNTS then kept_bits x 17 7 + kept_bits x 44 7
+    else if w == SIGN_BYTE then kept_bits x 0 8
+    else if w == MASK then (2 ^ 20 - 1) * 2 ^ 44 + kept_bits x 20 28
     else x
 
 -- what stands in the words from word w on after a list of words is written there
 unfoldable pub fixed_from : ℕ → List ℕ → List ℕ
 fixed_from w [] = []
-fixed_from w (x ∷ xs) = fixed w x ∷ fixed_from (w + 1) xs
+fixed_from w (x ∷ xs) = register_word w x ∷ fixed_from (w + 1) xs

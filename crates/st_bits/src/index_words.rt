@@ -1,6 +1,6 @@
 //! The parts of an index word: value, count and refill address.
 ghost use Rattle.std.specs.Prelude.{◌≡◌, ◌<◌, ◌≤◌, ◌^◌, unsigned_abs};
-ghost use Rattle.st_bits.specs.IndexWord.{value_of as value_by, count_of as count_by, refill_of as refill_by, with_value as with_value_of, with_count as with_count_of, with_refill as with_refill_of};
+ghost use Rattle.st_bits.specs.IndexWord.{index_value as value_by, count_of as count_by, refill_of as refill_by, index_word_with_value as with_value_of, with_count as with_count_of, with_refill as with_refill_of};
 
 use crate::parts::{part, with_part};
 
@@ -30,7 +30,8 @@ pub fn refill_of(x: u64) -> u32
     part(x, 46, 18) as u32
 }
 
-/// The index word with `r` as its value: the magnitude modulo 2^24, and the sign minus where r is below 0.
+/// The index word with `r` as its value: the magnitude modulo 2^24, and the sign minus where r is
+/// below 0.
 pub fn with_value(x: u64, r: i32) -> u64
     requires { unsigned_abs r ≤ 2 ^ 28 }
     ensures { result ≡ with_value_of x r }

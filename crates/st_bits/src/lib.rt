@@ -1,4 +1,5 @@
-//! Words, fields, register words and index words. `docs/machine.md` and `docs/index-words.md` have the rules.
+//! Words, fields, register words and index words. `docs/machine.md` and `docs/index-words.md` have
+//! the rules.
 #![tactic(auto)]
 
 mod fields;

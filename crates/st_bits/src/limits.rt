@@ -4,7 +4,8 @@
 pub const WORDS: u32 = 98_304;
 /// The address of the last word of storage.
 pub const LAST_WORD: u32 = 98_303;
-/// The most instructions that a job can ask for, and the highest number of instructions done that it can name.
+/// The most instructions that a job can ask for, and the highest number of instructions done that
+/// it can name.
 pub const MOST_INSTRUCTIONS: u64 = 10_000_000;
 /// How long a list of delays, or of signals, can be that a job gives.
 pub const LONGEST_LIST: usize = 4_096;

@@ -2,8 +2,8 @@
 
 /// An operation of the half-word format, but for the branch group.
 ///
-/// The index word is the one that the instruction's J field names; the effective address is its address part with the
-/// index word of its I field added.
+/// The index word is the one that the instruction's J field names; the effective address is its
+/// address part with the index word of its I field added.
 #[derive(Clone, Copy, Debug, PartialEq, Eq)]
 pub enum HalfOp {
     /// Load index: the index word becomes a word of storage.
@@ -98,13 +98,15 @@ pub enum VflOp {
     AddMg = 8,
     /// Add to memory: the accumulator is added to the field.
     MAdd = 9,
-    /// Add to memory, magnitude: the accumulator with its sign is added to the magnitude of the field, whose sign stays.
+    /// Add to memory, magnitude: the accumulator with its sign is added to the magnitude of the
+    /// field, whose sign stays.
     MAddMg = 10,
     /// Add one to memory.
     MAdd1 = 11,
     /// Compare the accumulator with the field.
     K = 12,
-    /// Compare field: as much of the accumulator as the field has magnitude bits, or digits, with the field.
+    /// Compare field: as much of the accumulator as the field has magnitude bits, or digits, with
+    /// the field.
     Kf = 13,
     /// Compare if equal: as `K`, only where AE is on.
     Ke = 14,

@@ -1,6 +1,6 @@
 //! The register words, the first words of storage: their addresses, and what is fixed in them.
 ghost use Rattle.std.specs.Prelude.{◌≡◌, ◌<◌};
-ghost use Rattle.st_bits.specs.Registers.{fixed};
+ghost use Rattle.st_bits.specs.Registers.{register_word};
 
 use crate::parts::kept;
 
@@ -37,10 +37,10 @@ pub const FIRST_STORAGE_WORD: u32 = 32;
 const ALWAYS_MASKED: u64 = 0xFFFF_F000_0000_0000;
 
 /// What stands in register word `w`, 0 to 31, after `value` is written to it.
-#[tactic(auto, unfolding(crate::specs::Registers::fixed))]
+#[tactic(auto, unfolding(crate::specs::Registers::register_word))]
 pub fn fix_register(w: u8, value: u64) -> u64
     requires { w < 32 }
-    ensures { result ≡ fixed w value }
+    ensures { result ≡ register_word w value }
 {
     match u32::from(w) {
         ZERO | 1 | 4 | 5 | 6 => 0,

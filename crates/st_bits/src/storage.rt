@@ -6,8 +6,8 @@ ghost use Rattle.st_bits.specs.Indicators.{indicator as indicator_of};
 #[derive(Clone, Copy, Debug, PartialEq, Eq)]
 pub struct NoMemory;
 
-/// Indicators to turn on and to turn off. Indicator n, 0 to 63, is the bit of value 2^(63 - n). One that stands in both
-/// words is turned on.
+/// Indicators to turn on and to turn off. Indicator n, 0 to 63, is the bit of value 2^(63 - n). One
+/// that stands in both words is turned on.
 #[derive(Clone, Copy, Debug, Default, PartialEq, Eq)]
 pub struct Ind {
     /// The indicators to turn on.

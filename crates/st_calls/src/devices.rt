@@ -1,5 +1,5 @@
-//! What no clause of the devices says: how often a reader or a writer is called, how much it is asked for or handed at a time, and that those
-//! of the standard library are reached.
+//! What no clause of the devices says: how often a reader or a writer is called, how much it is
+//! asked for or handed at a time, and that those of the standard library are reached.
 ghost use Rattle.st_io.specs.Memory.{sure_input};
 
 use st_io::{Failed, ReadError, Sink, Source, StdSink, StdSource, SureSource, read_all, write_all};

@@ -1,4 +1,5 @@
-//! A machine that is stopped between two entries, which no run does, against an independent model of it.
+//! A machine that is stopped between two entries, which no run does, against an independent model
+//! of it.
 ghost use Rattle.std.specs.Prelude.{◌≡◌, ◌+◌, ◌-◌, ◌<◌, ◌≤◌, true, false, IfOk};
 
 use crate::blank;
@@ -9,7 +10,8 @@ use std::alloc::{AllocError, Global};
 use std::process::Abort;
 use std::test::Fail;
 
-// The state before a multiplication, which takes 12 ticks, an addition to index word 1, and a wait; they start at word 32.
+// The state before a multiplication, which takes 12 ticks, an addition to index word 1, and a wait;
+// they start at word 32.
 fn opened(alloc: Global) -> Result<State, Fail> {
     let mut state = blank::opened(alloc)?;
     state.store(32, 0x000A_00F0_0000_0520);
@@ -38,6 +40,7 @@ fn make_tick(rt: &impl Abort, machine: &mut Machine<4>)
     requires early { machine.old.now < 1000 }
     requires done { machine.old.state.done ≡ 0 }
     requires stands { machine.old.stopped ≡ false }
+
     ensures owed { machine.new.owed ≡ true }
     ensures now { machine.new.now ≡ machine.old.now }
     ensures done { machine.new.state.done ≡ 0 }
@@ -53,6 +56,7 @@ fn settle(rt: &impl Abort, machine: &mut Machine<4>)
     requires owed { machine.old.owed ≡ true }
     requires done { machine.old.state.done ≡ 0 }
     requires stands { machine.old.stopped ≡ false }
+
     ensures settled { machine.new.owed ≡ false }
     ensures now { machine.new.now ≡ machine.old.now + 1 }
     ensures done { machine.new.state.done ≡ 0 }
@@ -69,6 +73,7 @@ fn make_ticks(rt: &impl Abort, machine: &mut Machine<4>, count: u64)
     requires early { machine.old.now + count ≤ 1000 }
     requires done { machine.old.state.done ≡ 0 }
     requires stands { machine.old.stopped ≡ false }
+
     ensures settled { machine.new.owed ≡ false }
     ensures now { machine.new.now ≡ machine.old.now + count }
     ensures done { machine.new.state.done ≡ 0 }

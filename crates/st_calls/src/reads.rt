@@ -1,4 +1,5 @@
-//! Banks, held words and levels, call by call: the machine itself plans its reads and its levels in place.
+//! Banks, held words and levels, call by call: the machine itself plans its reads and its levels in
+//! place.
 ghost use Rattle.std.specs.Prelude.{◌<◌};
 ghost use Rattle.st_ring.specs.Levels.{HasNumber};
 
@@ -31,7 +32,8 @@ fn a_list_is_refused_for_its_first_zero(rt: HostRuntime) {
 // A word that is read at a tick, and when it is answered.
 type Read = (u32, u64, Option<u64>);
 
-// Reads over the six banks, where a read takes 3 ticks at even and 5 at odd ticks: banks 0, 1, 3, 4, 5, 2, and 4 again.
+// Reads over the six banks, where a read takes 3 ticks at even and 5 at odd ticks: banks 0, 1, 3,
+// 4, 5, 2, and 4 again.
 const READS: [Read; 13] = [
     (32, 0, Some(3)),
     (36, 2, None),

@@ -4,43 +4,43 @@ use Rattle.std.proofs.lemmas.List.{take_all}
 use Rattle.std.proofs.Math.Seq.{take-append_seam}
 use Rattle.std.specs.Str.Lines.{strip_carriage_return}
 use Rattle.std.proofs.lemmas.List.Elements.{All-push}
-use Rattle.st_text.specs.Pieces.{parted, IsFront, IsBehind}
+use Rattle.st_text.specs.Pieces.{pieces_of, IsFront, IsBehind}
 use Rattle.st_text.proofs.PieceLemmas.{first_piece}
 use Rattle.st_card.proofs.TextLemmas.{card_described}
 use Rattle.st_card.specs.Cards.{card_at, cards_from, IsCardOf}
 use Rattle.st_card.specs.declared.cards.Card.{Card}
 
 -- a line that ends is a card
-pub card_first : (text line shown after : List ℕ) → parted 10 text ≡ line ∷ parted 10 after →
+pub card_first : (text line shown after : List ℕ) → pieces_of 10 text ≡ line ∷ pieces_of 10 after →
     shown ≡ strip_carriage_return line → length line + 1 + length after ≡ length text → (n place : ℕ) →
-    cards_from n place (parted 10 text)
-    ≡ card_at n place shown ∷ cards_from (n + 1) (place + (length text - length after)) (parted 10 after)
+    cards_from n place (pieces_of 10 text)
+    ≡ card_at n place shown ∷ cards_from (n + 1) (place + (length text - length after)) (pieces_of 10 after)
 card_first text line shown after parts stripped lengths n place =
     let lines = first_piece 10 after in
     let P : List (List ℕ) → Type 0 = λ p. cards_from n place (line ∷ p)
     ≡ card_at n place (strip_carriage_return line) ∷ cards_from (n + 1) (place + length line + 1) p in
-    let here : P (parted 10 after) = subst P (sym lines.1.1) refl in
+    let here : P (pieces_of 10 after) = subst P (sym lines.1.1) refl in
     let next : place + length line + 1 ≡ place + (length text - length after) = omega arith in
     ap (λ p. cards_from n place p) parts
     ∙ (here
-    ∙ (ap (λ (s : List ℕ). card_at n place s ∷ cards_from (n + 1) (place + length line + 1) (parted 10 after)) (sym stripped)
-    ∙ ap (λ k. card_at n place shown ∷ cards_from (n + 1) k (parted 10 after)) next))
+    ∙ (ap (λ (s : List ℕ). card_at n place s ∷ cards_from (n + 1) (place + length line + 1) (pieces_of 10 after)) (sym stripped)
+    ∙ ap (λ k. card_at n place shown ∷ cards_from (n + 1) k (pieces_of 10 after)) next))
 
 -- a card further on
 pub cards_further : (n : ℕ) (job rest after shown : List ℕ) (cards longer all : List Card) (card : Card) →
-    cards ++ cards_from n (length job - length rest) (parted 10 rest) ≡ all →
-    ((m place : ℕ) → cards_from m place (parted 10 rest)
-    ≡ card_at m place shown ∷ cards_from (m + 1) (place + (length rest - length after)) (parted 10 after)) →
+    cards ++ cards_from n (length job - length rest) (pieces_of 10 rest) ≡ all →
+    ((m place : ℕ) → cards_from m place (pieces_of 10 rest)
+    ≡ card_at m place shown ∷ cards_from (m + 1) (place + (length rest - length after)) (pieces_of 10 after)) →
     card ≡ card_at n (length job - length rest) shown → longer ≡ cards ++ card ∷ [] →
     length rest ≤ length job → length after < length rest →
-    longer ++ cards_from (n + 1) (length job - length after) (parted 10 after) ≡ all
+    longer ++ cards_from (n + 1) (length job - length after) (pieces_of 10 after) ≡ all
 cards_further n job rest after shown cards longer all card so_far parts is_card more within shorter =
     let place = length job - length rest in
     let step : place + (length rest - length after) ≡ length job - length after = omega arith in
-    let later = cards_from (n + 1) (length job - length after) (parted 10 after) in
-    let here : cards_from n place (parted 10 rest) ≡ card ∷ later =
+    let later = cards_from (n + 1) (length job - length after) (pieces_of 10 after) in
+    let here : cards_from n place (pieces_of 10 rest) ≡ card ∷ later =
     parts n place
-    ∙ (ap (λ k. card_at n place shown ∷ cards_from (n + 1) k (parted 10 after)) step
+    ∙ (ap (λ k. card_at n place shown ∷ cards_from (n + 1) k (pieces_of 10 after)) step
     ∙ ap (λ (x : Card). x ∷ later) (sym is_card)) in
     ap (λ (x : List Card). x ++ later) more
     ∙ (append_assoc cards (card ∷ []) later ∙ (ap (λ (x : List Card). cards ++ x) (sym here) ∙ so_far))

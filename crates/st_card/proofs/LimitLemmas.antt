@@ -11,8 +11,8 @@ use Rattle.std.proofs.lemmas.List.Elements.{All-append}
 use Rattle.std.proofs.lemmas.List.Sums.{AllPass-from_list_all}
 use Rattle.std.proofs.lemmas.List.Sorted.{IsNonDecreasingBy-push}
 use Rattle.st_card.specs.Controls as spec
-use Rattle.st_card.specs.Controls.{Asked, is_in_range, last_passes, before, card_number, card_numbers}
-use Rattle.st_text.specs.Number.{good, is_number, value, reading}
+use Rattle.st_card.specs.Controls.{Asked, is_in_range, last_passes, numbers_before, card_number, card_numbers}
+use Rattle.st_text.specs.Number.{number_if_good, is_number, digits_value, reading}
 use Rattle.st_text.specs.Pieces.{words}
 use Rattle.st_card.specs.Cards.{columns}
 use Rattle.st_text.specs.Tables.{row_of}
@@ -243,7 +243,7 @@ keyword-kept Time kept new numbers short same limits = time-kept kept new number
 keyword-kept Chart kept new numbers short same limits = chart-kept kept new numbers same limits
 
 good-short : (a b : Bool) (v n : ℕ) → nat_le v 999999999999 ≡ b →
-    good (if a then (if b then Good v else Large) else Bad) ≡ Some n → is_tick n ≡ true
+    number_if_good (if a then (if b then Good v else Large) else Bad) ≡ Some n → is_tick n ≡ true
 good-short true true v n test same =
     let number : v ≡ n = cc in
     ap is_tick (sym number) ∙ test
@@ -253,14 +253,14 @@ good-short false b v n test same = cc
 -- a number of a control card has 12 digits at most
 number-short : (word : List ℕ) (n : ℕ) → card_number word ≡ Some n → is_tick n ≡ true
 number-short word n same =
-    let read : (b : Bool) → (if b then None else good (reading 999999999999 word)) ≡ Some n → is_tick n ≡ true =
-    λ b. elim b as (λ v. (if v then None else good (reading 999999999999 word)) ≡ Some n → is_tick n ≡ true) [
+    let read : (b : Bool) → (if b then None else number_if_good (reading 999999999999 word)) ≡ Some n → is_tick n ≡ true =
+    λ b. elim b as (λ v. (if v then None else number_if_good (reading 999999999999 word)) ≡ Some n → is_tick n ≡ true) [
       | true ↦ λ e. cc
-      | false ↦ λ e. good-short (is_number word) (nat_le (value word) 999999999999) (value word) n refl e
+      | false ↦ λ e. good-short (is_number word) (nat_le (digits_value word) 999999999999) (digits_value word) n refl e
     ] in
     read (nat_lt 12 (length word)) same
 
-before-parts : (o : Option ℕ) (os : Option (List ℕ)) (numbers : List ℕ) → before o os ≡ Some numbers →
+before-parts : (o : Option ℕ) (os : Option (List ℕ)) (numbers : List ℕ) → numbers_before o os ≡ Some numbers →
     (n : ℕ) × ((ns : List ℕ) × ((o ≡ Some n) × (os ≡ Some ns) × (n ∷ ns ≡ numbers)))
 before-parts (Some n) (Some ns) numbers same = (n, (ns, (refl, refl, cc)))
 before-parts (Some n) None numbers same = cc
@@ -291,5 +291,5 @@ words-kept kept new (word ∷ more) same limits =
     card-kept kept new (row_of word spec.keywords) (card_numbers more) (λ ns is. numbers-short more ns is) same limits
 
 -- adding a control card keeps the limits
-pub added-kept : (kept new : Asked) (text : List ℕ) → spec.added kept text ≡ Some new → IsWithinLimits kept → IsWithinLimits new
+pub added-kept : (kept new : Asked) (text : List ℕ) → spec.asked_with_card kept text ≡ Some new → IsWithinLimits kept → IsWithinLimits new
 added-kept kept new text same limits = words-kept kept new (words (columns text)) same limits

@@ -3,7 +3,7 @@ use Rattle.std.proofs.Common.{◌≡◌, ◌⊎◌, inl, inr, ◌≤◌, ◌<◌
 use Rattle.std.specs.Prelude.{slice_index}
 use Rattle.std.specs.Str.Lines.{strip_carriage_return}
 use Rattle.std.proofs.lemmas.List.Elements.{All-nil, All-cons, All-take}
-use Rattle.st_text.specs.Pieces.{onto_first, parted, IsFront, IsBehind}
+use Rattle.st_text.specs.Pieces.{onto_first, pieces_of, IsFront, IsBehind}
 use Rattle.st_card.specs.Cards.{card_at, cards_from, cards_of, IsCardOf}
 use Rattle.st_card.specs.declared.cards.Card.{Card}
 use Rattle.st_card.proofs.CardLemmas.{card_first}
@@ -24,13 +24,13 @@ record HasParts (parts : List (List ℕ)) (text : List ℕ) : Type 0 where
   after : List ℕ
   end : ℕ
   whole : text ≡ line ++ end ∷ after
-  parted_so : parts ≡ line ∷ parted 10 after
+  parted_so : parts ≡ line ∷ pieces_of 10 after
 
 abbrev HasLine : List ℕ → Type 0
-HasLine text = HasParts (parted 10 text) text
+HasLine text = HasParts (pieces_of 10 text) text
 
-line_on : (c : ℕ) (cs : List ℕ) → (parted 10 cs ≡ cs ∷ []) ⊎ HasLine cs
-    → (onto_first c (parted 10 cs) ≡ (c ∷ cs) ∷ []) ⊎ HasParts (onto_first c (parted 10 cs)) (c ∷ cs)
+line_on : (c : ℕ) (cs : List ℕ) → (pieces_of 10 cs ≡ cs ∷ []) ⊎ HasLine cs
+    → (onto_first c (pieces_of 10 cs) ≡ (c ∷ cs) ∷ []) ⊎ HasParts (onto_first c (pieces_of 10 cs)) (c ∷ cs)
 line_on c cs (inl none) = inl (ap (λ p. onto_first c p) none)
 line_on c cs (inr has) = inr (record {
   line = c ∷ has.line;
@@ -40,11 +40,11 @@ line_on c cs (inr has) = inr (record {
   parted_so = ap (λ p. onto_first c p) has.parted_so;
 })
 
-first_line : (text : List ℕ) → (parted 10 text ≡ text ∷ []) ⊎ HasLine text
+first_line : (text : List ℕ) → (pieces_of 10 text ≡ text ∷ []) ⊎ HasLine text
 first_line [] = inl refl
 first_line (c ∷ cs) =
     let F : List (List ℕ) → Type 0 = λ p. (p ≡ (c ∷ cs) ∷ []) ⊎ HasParts p (c ∷ cs) in
-    elim (c == 10) as (λ b. F (if b then [] ∷ parted 10 cs else onto_first c (parted 10 cs))) [
+    elim (c == 10) as (λ b. F (if b then [] ∷ pieces_of 10 cs else onto_first c (pieces_of 10 cs))) [
       | true ↦ inr (record { line = []; after = cs; end = c; whole = refl; parted_so = refl })
       | false ↦ line_on c cs (first_line cs)
     ]
@@ -58,10 +58,10 @@ stands_last n job rest behind =
       | false ↦ All-cons (IsCardOf job) _ [] (card_described n job rest rest behind (front_itself rest)) (All-nil (IsCardOf job))
     ]
 
-stands_by : (n : ℕ) (job rest : List ℕ) → IsBehind rest job → (parted 10 rest ≡ rest ∷ []) ⊎ HasLine rest
+stands_by : (n : ℕ) (job rest : List ℕ) → IsBehind rest job → (pieces_of 10 rest ≡ rest ∷ []) ⊎ HasLine rest
     → ((m : ℕ) (after : List ℕ) → IsBehind after job → length after < length rest
-    → All (IsCardOf job) (cards_from m (length job - length after) (parted 10 after)))
-    → All (IsCardOf job) (cards_from n (length job - length rest) (parted 10 rest))
+    → All (IsCardOf job) (cards_from m (length job - length after) (pieces_of 10 after)))
+    → All (IsCardOf job) (cards_from n (length job - length rest) (pieces_of 10 rest))
 stands_by n job rest behind (inl none) more =
     subst (λ p. All (IsCardOf job) (cards_from n (length job - length rest) p)) (sym none) (stands_last n job rest behind)
 stands_by n job rest behind (inr has) more =
@@ -71,13 +71,13 @@ stands_by n job rest behind (inr has) more =
     let later = behind_behind has.after rest job (behind_whole has.line has.after rest has.end has.whole) behind in
     let next : place + (length rest - length has.after) ≡ length job - length has.after = omega (arith, lengths, behind.within) in
     let here = card_described n job rest shown behind (front_of_front shown has.line rest (front_stripped has.line) (front_of_whole has.line has.after rest has.end has.whole)) in
-    let rest_stands = subst (λ k. All (IsCardOf job) (cards_from (n + 1) k (parted 10 has.after))) (sym next)
+    let rest_stands = subst (λ k. All (IsCardOf job) (cards_from (n + 1) k (pieces_of 10 has.after))) (sym next)
     (more (n + 1) has.after later (omega (arith, lengths))) in
     subst (λ (cs : List Card). All (IsCardOf job) cs) (sym (card_first rest has.line shown has.after has.parted_so refl lengths n place))
     (All-cons (IsCardOf job) _ _ here rest_stands)
 
 stands_from : (left n : ℕ) (job rest : List ℕ) → IsBehind rest job → length rest < left
-    → All (IsCardOf job) (cards_from n (length job - length rest) (parted 10 rest))
+    → All (IsCardOf job) (cards_from n (length job - length rest) (pieces_of 10 rest))
 stands_from zero n job rest behind few = absurd (omega (arith, few))
 stands_from (suc left) n job rest behind few =
     stands_by n job rest behind (first_line rest) (λ m after later fewer. stands_from left m job after later (omega (arith, few, fewer)))
@@ -85,6 +85,6 @@ stands_from (suc left) n job rest behind few =
 pub cards_stand : (job : List ℕ) → All (IsCardOf job) (cards_of job)
 cards_stand job =
     let none : length job - length job ≡ 0 = omega arith in
-    let all = subst (λ k. All (IsCardOf job) (cards_from 1 k (parted 10 job))) none
+    let all = subst (λ k. All (IsCardOf job) (cards_from 1 k (pieces_of 10 job))) none
     (stands_from (suc (length job)) 1 job job (behind_itself job) (omega arith)) in
-    All-take (IsCardOf job) 20001 (cards_from 1 0 (parted 10 job)) all
+    All-take (IsCardOf job) 20001 (cards_from 1 0 (pieces_of 10 job)) all

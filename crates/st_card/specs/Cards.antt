@@ -3,7 +3,7 @@ use Rattle.std.specs.Prelude.{◌≡◌, ◌≤◌, ℕ, ◌+◌, ◌==◌, ◌|
 use Rattle.std.specs.List.{list_all}
 use Rattle.std.specs.Str.Lines.{strip_carriage_return}
 use Rattle.st_text.specs.Bytes.{line_end, blank, asterisk, slash, is_printable}
-use Rattle.st_text.specs.Pieces.{parted}
+use Rattle.st_text.specs.Pieces.{pieces_of}
 use Rattle.st_card.specs.declared.faults.Fault.{Fault}
 use Rattle.st_card.specs.declared.faults.Fault.TheVariants.{NotAscii, CardTooLong, BadName, TooManyCards}
 use Rattle.st_card.specs.declared.cards.CardKind.{CardKind}
@@ -57,24 +57,25 @@ card_at n place text = record {
   fault = fault_of n text;
 }
 
--- the cards that lines make from the n-th on: a last line that is empty is none, and only a line that
--- ends loses a carriage return
+-- the cards that lines make from the n-th on: a last line that is empty is none, and only a line
+-- that ends loses a carriage return
 abbrev pub cards_from : ℕ → ℕ → List (List ℕ) → List Card
 cards_from n place [] = []
 cards_from n place (line ∷ []) = if length line == 0 then [] else card_at n place line ∷ []
 cards_from n place (line ∷ next ∷ more) =
-    card_at n place (strip_carriage_return line) ∷ cards_from (n + 1) (place + length line + 1) (next ∷ more)
+    card_at n place (strip_carriage_return line) ∷ cards_from (n + 1) (place + length line + 1)
+    (next ∷ more)
 
 -- the cards of a job, up to the 20,001st
 abbrev pub cards_of : List ℕ → List Card
-cards_of job = take 20001 (cards_from 1 0 (parted line_end job))
+cards_of job = take 20001 (cards_from 1 0 (pieces_of line_end job))
 
 -- the text of a card
 abbrev pub text_in : List ℕ → Card → List ℕ
 text_in job card = take card.len (drop card.start job)
 
--- what a card says of its text: it stands in the job, its kind is the text's, and without a fault each
--- of its bytes is printable
+-- what a card says of its text: it stands in the job, its kind is the text's, and without a fault
+-- each of its bytes is printable
 pub record IsCardOf (job : List ℕ) (card : Card) : Type 0 where
   pub within : card.start + card.len ≤ length job
   pub short : card.len ≤ 80

@@ -44,8 +44,10 @@ nothing_asked = record {
 -- the words that control cards begin with
 abbrev pub keywords : List (List ℕ × Keyword)
 keywords =
-    (codes "/BUDGET", Budget) ∷ (codes "/DELAYS", Delays) ∷ (codes "/SIGNAL", Signals) ∷ (codes "/DUMP", Dump)
-    ∷ (codes "/SNAP", Snap) ∷ (codes "/BACK", Back) ∷ (codes "/LIST", Listing) ∷ (codes "/TRACE", Trace)
+    (codes "/BUDGET", Budget) ∷ (codes "/DELAYS", Delays) ∷ (codes "/SIGNAL", Signals)
+    ∷ (codes "/DUMP", Dump)
+    ∷ (codes "/SNAP", Snap) ∷ (codes "/BACK", Back) ∷ (codes "/LIST", Listing)
+    ∷ (codes "/TRACE", Trace)
     ∷ (codes "/TIME", Time) ∷ (codes "/CHART", Chart) ∷ []
 
 -- the number that a word of a control card is: 1 to 12 digits
@@ -53,15 +55,15 @@ abbrev pub card_number : List ℕ → Option ℕ
 card_number word = if nat_lt 12 (length word) then None else number_up_to MOST_NUMBER word
 
 -- a number before numbers, where there are both
-abbrev pub before : Option ℕ → Option (List ℕ) → Option (List ℕ)
-before (Some n) (Some ns) = Some (n ∷ ns)
-before (Some n) None = None
-before None ns = None
+abbrev pub numbers_before : Option ℕ → Option (List ℕ) → Option (List ℕ)
+numbers_before (Some n) (Some ns) = Some (n ∷ ns)
+numbers_before (Some n) None = None
+numbers_before None ns = None
 
 -- the numbers that words are, where each is one
 abbrev pub card_numbers : List (List ℕ) → Option (List ℕ)
 card_numbers [] = Some []
-card_numbers (word ∷ more) = before (card_number word) (card_numbers more)
+card_numbers (word ∷ more) = numbers_before (card_number word) (card_numbers more)
 
 -- whether a number is in a range
 abbrev pub is_in_range : ℕ → ℕ → ℕ → Bool
@@ -75,22 +77,27 @@ last_passes test (item ∷ more) = option_map_or test (slice_get (item ∷ more)
 -- `/BUDGET n`, once, n from 1 to 10,000,000
 abbrev pub with_budget : Asked → List ℕ → Option Asked
 with_budget kept (n ∷ []) =
-    if kept.budget == 0 && is_in_range 1 MOST_INSTRUCTIONS n then Some (record kept { budget = n }) else None
+    if kept.budget == 0 && is_in_range 1 MOST_INSTRUCTIONS n then Some (record kept { budget = n })
+    else None
 with_budget kept _ = None
 
 -- `/DELAYS d d`, one delay or more, each from 1 to 255, at most 4,096 over all cards
 abbrev pub with_delays : Asked → List ℕ → Option Asked
 with_delays kept [] = None
 with_delays kept (n ∷ ns) =
-    if nat_le (length kept.delays + length (n ∷ ns)) LONGEST_LIST && list_all (is_in_range 1 MOST_DELAY) (n ∷ ns)
+    if nat_le (length kept.delays + length (n ∷ ns)) LONGEST_LIST
+    && list_all (is_in_range 1 MOST_DELAY) (n ∷ ns)
     then Some (record kept { delays = kept.delays ++ n ∷ ns }) else None
 
--- `/SIGNAL count indicator`, at most 4,096, counts up to 10,000,000 and not falling, indicators 0 to 13
+-- `/SIGNAL count indicator`, at most 4,096, counts up to 10,000,000 and not falling, indicators 0
+-- to 13
 abbrev pub with_signal : Asked → List ℕ → Option Asked
 with_signal kept (n ∷ i ∷ []) =
-    if nat_lt (length kept.signals) LONGEST_LIST && nat_le n MOST_INSTRUCTIONS && nat_le i CHANNEL_SIGNAL
+    if nat_lt (length kept.signals) LONGEST_LIST && nat_le n MOST_INSTRUCTIONS
+    && nat_le i CHANNEL_SIGNAL
     && last_passes (λ s. nat_le s.count n) kept.signals
-    then Some (record kept { signals = kept.signals ++ record { count = n; indicator = i } ∷ [] }) else None
+    then Some (record kept { signals = kept.signals ++ record { count = n; indicator = i } ∷ [] })
+    else None
 with_signal kept _ = None
 
 -- `/DUMP from to`, at most 16, from <= to <= 98,303
@@ -158,5 +165,5 @@ with_words kept [] = None
 with_words kept (word ∷ more) = with_card kept (row_of word keywords) (card_numbers more)
 
 -- what is asked for with a further control card, where that card is good
-abbrev pub added : Asked → List ℕ → Option Asked
-added kept text = with_words kept (words (columns text))
+abbrev pub asked_with_card : Asked → List ℕ → Option Asked
+asked_with_card kept text = with_words kept (words (columns text))

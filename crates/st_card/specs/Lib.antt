@@ -4,3 +4,7 @@ pub mod Controls
 pub mod Limits
 pub mod Answers
 pub mod Laws
+pub use Rattle.st_text.specs.Bytes
+pub use Rattle.st_text.specs.Number
+pub use Rattle.st_text.specs.Pieces
+pub use Rattle.st_text.specs.Tables

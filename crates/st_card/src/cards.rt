@@ -4,7 +4,7 @@ ghost use Rattle.std.specs.Prelude.{◌≡◌, ◌+◌, ◌-◌, ◌^◌, ◌<�
 ghost use Rattle.std.specs.Str.Lines.{strip_carriage_return};
 ghost use Rattle.st_text.specs.Bytes.{is_printable};
 ghost use Rattle.st_card.specs.Cards as spec;
-ghost use Rattle.st_text.specs.Pieces.{parted, IsFront, IsBehind};
+ghost use Rattle.st_text.specs.Pieces.{pieces_of, IsFront, IsBehind};
 
 use crate::faults::Fault;
 use st_bits::NoMemory;
@@ -100,10 +100,10 @@ pub fn columns(text: &[u8]) -> &[u8]
 // The first line of a text without its end, and what stands behind it.
 fn first_line(text: &[u8]) -> Option<(&[u8], &[u8])>
     ensures cards { MatchOption result
-        ((n place : ℕ) → spec.cards_from n place (parted 10 text.now) ≡ [])
-        (λ p. (n place : ℕ) → spec.cards_from n place (parted 10 text.now)
+        ((n place : ℕ) → spec.cards_from n place (pieces_of 10 text.now) ≡ [])
+        (λ p. (n place : ℕ) → spec.cards_from n place (pieces_of 10 text.now)
         ≡ spec.card_at n place p.0.now ∷ spec.cards_from (n + 1)
-        (place + (length text.now - length p.1.now)) (parted 10 p.1.now)) }
+        (place + (length text.now - length p.1.now)) (pieces_of 10 p.1.now)) }
     ensures shorter { IfSome result (λ p. length p.1.now < length text.now) }
     ensures front { IfSome result (λ p. IsFront p.0.now text.now) }
     ensures behind { IfSome result (λ p. IsBehind p.1.now text.now) }

@@ -46,7 +46,8 @@ pub struct Controls {
     pub delays: Vec<u8>,
     /// The signals, at most 4,096, with counts that do not fall.
     pub signals: Vec<Signal>,
-    /// The word addresses, first and last, up to 98,303, of the parts of storage that are to be printed, at most 16.
+    /// The word addresses, first and last, up to 98,303, of the parts of storage that are to be
+    /// printed, at most 16.
     pub dumps: ArrayVec<(u32, u32), MOST_DUMPS>,
     /// The ticks, rising and of at most 12 digits, at which the machine is to be shown, at most 64.
     pub snaps: ArrayVec<u64, MOST_SNAPS>,
@@ -104,11 +105,11 @@ impl Controls {
     /// Adds what a control card asks for.
     ///
     /// `card` is the card's number, and of its `text` the first 72 characters are read. A card that
-    /// is unknown, malformed, given twice where once is allowed, or past a limit is refused as a bad
-    /// control card. After a refusal, and after want of memory, the controls are as before.
+    /// is unknown, malformed, given twice where once is allowed, or past a limit is refused as a
+    /// bad control card. After a refusal, and after want of memory, the controls are as before.
     pub fn add(&mut self, card: u32, text: &[u8]) -> Result<(), CardError>
-        ensures ok { OnOk result (spec.added self.old text.now ≡ Some self.new) }
-        ensures err { IfErr result (Explains (spec.added self.old text.now) card) }
+        ensures ok { OnOk result (spec.asked_with_card self.old text.now ≡ Some self.new) }
+        ensures err { IfErr result (Explains (spec.asked_with_card self.old text.now) card) }
         ensures unchanged { OnErr result (self.new ≡ self.old) }
 
         // Controls that are made by control cards alone keep the limits of control cards.
@@ -261,7 +262,8 @@ fn set_mark(mark: &mut bool, numbers: &[u64]) -> Addition
 fn delays_in(numbers: &[u64]) -> Option<ArrayVec<u8, 36>>
     requires { length numbers.now ≤ 36 }
     ensures { option_map (λ v. v.items) result
-        ≡ (if list_all (spec.is_in_range 1 MOST_DELAY) numbers.now then Some numbers.now else None) }
+        ≡ (if list_all (spec.is_in_range 1 MOST_DELAY) numbers.now then Some numbers.now
+        else None) }
 {
     let mut delays = ArrayVec::new();
     let mut rest = numbers;

@@ -5,8 +5,9 @@ ghost use Rattle.st_card.specs.Faults.{name_of};
 
 use arrayvec::ArrayString;
 
-/// Why a card is refused. On one card and in one pass the first fault of this list counts; but behind the end `CardAfterEnd`
-/// comes before `BadName`, and on the 20,001st card `TooManyCards` before all.
+/// Why a card is refused. On one card and in one pass the first fault of this list counts; but
+/// behind the end `CardAfterEnd` comes before `BadName`, and on the 20,001st card `TooManyCards`
+/// before all.
 #[derive(Clone, Copy, Debug, PartialEq, Eq)]
 pub enum Fault {
     /// A byte is not a blank or a visible character of ASCII.

@@ -10,17 +10,19 @@ use crate::limits::MOST_NUMBER;
 use arrayvec::ArrayVec;
 use st_text::{first_word, number_up_to, row_of};
 
-/// What can be asked for, by control cards and by the lines of an object text; each with the numbers that it takes.
+/// What can be asked for, by control cards and by the lines of an object text; each with the
+/// numbers that it takes.
 #[derive(Clone, Copy, Debug, PartialEq, Eq)]
 pub enum Keyword {
     /// How many instructions may be done: one number, 1 to 10,000,000; once.
     Budget,
     /// Delays of storage in ticks: one number or more, each 1 to 255; at most 4,096 delays.
     Delays,
-    /// A signal: how many instructions are done when it comes, up to 10,000,000 and not below the last, and its indicator,
-    /// 0 to 13; at most 4,096 signals.
+    /// A signal: how many instructions are done when it comes, up to 10,000,000 and not below the
+    /// last, and its indicator, 0 to 13; at most 4,096 signals.
     Signals,
-    /// A part of storage that is to be printed: its first and its last word, up to 98,303; at most 16 parts.
+    /// A part of storage that is to be printed: its first and its last word, up to 98,303; at most
+    /// 16 parts.
     Dump,
     /// A tick at which the machine is to be shown: one number, above the last; at most 64 ticks.
     Snap,

@@ -3,7 +3,7 @@ use Rattle.std.proofs.Common.{◌≡◌, ℕ, zero, suc, ◌-◌, ◌*◌, ◌/�
 use Rattle.std.specs.Int.{bit_at}
 use Rattle.std.proofs.lemmas.Nat.{shr_split}
 use Rattle.std.proofs.lemmas.Nat.Bits.{bit_at-lt, bit_at_cat_low, bit_at-zero}
-use Rattle.st_conn.specs.Connective.{entry}
+use Rattle.st_conn.specs.Connective.{truth_bit}
 
 -- the low bits of a remainder are the number's
 pub bit_at-mod : (x w i : ℕ) → i < w → bit_at (x % 2 ^ w) i ≡ bit_at x i
@@ -27,7 +27,7 @@ pub one_row : (table f a : ℕ) → f < 2 → a < 2
     (max (min (bit_at table 3) (min (1 - f) (1 - a))) (min (bit_at table 2) (min (1 - f) a)))
     (min (bit_at table 1) (min f (1 - a))))
     (min (bit_at table 0) (min f a))
-    ≡ entry table f a
+    ≡ truth_bit table f a
 one_row table zero zero p q = omega arith
 one_row table zero (suc zero) p q = omega arith
 one_row table (suc zero) zero p q = omega arith

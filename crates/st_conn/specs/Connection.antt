@@ -1,4 +1,5 @@
--- What a connective leaves: its result where its kind says, the counts of its bits, and the indicators.
+-- What a connective leaves: its result where its kind says, the counts of its bits, and the
+-- indicators.
 use Rattle.std.specs.Prelude.{ℕ, ◌+◌, ◌*◌, ◌^◌, true, false, List, sum, Some}
 use Rattle.st_bits.specs.Bits.{num}
 use Rattle.st_bits.specs.declared.operations.ConnKind.{ConnKind}
@@ -7,7 +8,7 @@ use Rattle.st_field.specs.declared.accumulator.Acc.{Acc}
 use Rattle.st_field.specs.declared.outcome.Done.{Done}
 use Rattle.st_field.specs.Indicators.{partial_field, by_number}
 use Rattle.st_field.specs.Results.{done_with}
-use Rattle.st_conn.specs.Connective.{connected, leading_zeros, inserted, is_one_lost}
+use Rattle.st_conn.specs.Connective.{connective_bits, leading_zeros, accumulator_bits, is_one_lost}
 
 -- the counts of leading zeros and of ones, as they stand in word 7
 abbrev pub counts_of : List ℕ → ℕ
@@ -16,7 +17,7 @@ counts_of bs = leading_zeros bs * 2 ^ 40 + sum bs * 2 ^ 13
 -- where the n result bits go, whose number is r: into the accumulator, into the field, nowhere
 abbrev pub put_by : ConnKind → Acc → ℕ → ℕ → ℕ → Done
 put_by C a offset n r =
-    done_with (record a { mag = num (inserted a.mag offset r n) })
+    done_with (record a { mag = num (accumulator_bits a.mag offset r n) })
     (by_number false false r (partial_field (is_one_lost offset r)))
 put_by Cm a offset n r = record (done_with a (by_number true false r 0)) { field = Some r }
 put_by Ct a offset n r = done_with a (by_number false false r 0)
@@ -24,5 +25,5 @@ put_by Ct a offset n r = done_with a (by_number false false r 0)
 -- a connective of the accumulator and a field x of n bits, and its counts
 abbrev pub connection : ConnKind → ℕ → Acc → ℕ → ℕ → ℕ → Done
 connection kind table a offset x n =
-    let bs : List ℕ = connected table a.mag offset x n in
+    let bs : List ℕ = connective_bits table a.mag offset x n in
     record (put_by kind a offset n (num bs)) { counts = Some (counts_of bs) }

@@ -1,5 +1,5 @@
--- Connectives: logic on a field and the accumulator, position by position. The rightmost bit has weight 0, and the
--- accumulator is a number below 2 ^ 128, whose bits past weight 127 are zeros.
+-- Connectives: logic on a field and the accumulator, position by position. The rightmost bit has
+-- weight 0, and the accumulator is a number below 2 ^ 128, whose bits past weight 127 are zeros.
 use Rattle.std.specs.Prelude.{ℕ, zero, suc, ◌+◌, ◌-◌, Bool, List, [], ◌∷◌, ◌==◌, ◌&&◌, nat_lt, nat_le, if◌then◌else◌}
 use Rattle.std.specs.Int.{bit_at}
 use Rattle.std.specs.List.{prefix_len, list_any}
@@ -9,20 +9,21 @@ unfoldable pub by_weight : (ℕ → ℕ) → ℕ → List ℕ
 by_weight bit zero = []
 by_weight bit (suc n) = bit n ∷ by_weight bit n
 
--- the truth table's bit for a field bit and an accumulator bit: those for 00, 01, 10 and 11 have the weights 3, 2, 1 and 0
-abbrev pub entry : ℕ → ℕ → ℕ → ℕ
-entry table zero zero = bit_at table 3
-entry table zero (suc _) = bit_at table 2
-entry table (suc _) zero = bit_at table 1
-entry table (suc _) (suc _) = bit_at table 0
+-- the truth table's bit for a field bit and an accumulator bit: those for 00, 01, 10 and 11 have
+-- the weights 3, 2, 1 and 0
+abbrev pub truth_bit : ℕ → ℕ → ℕ → ℕ
+truth_bit table zero zero = bit_at table 3
+truth_bit table zero (suc _) = bit_at table 2
+truth_bit table (suc _) zero = bit_at table 1
+truth_bit table (suc _) (suc _) = bit_at table 0
 
 -- the result at weight j, where the field's bit meets the accumulator's bit of weight offset + j
 abbrev pub result_at : ℕ → ℕ → ℕ → ℕ → ℕ → ℕ
-result_at table acc offset field j = entry table (bit_at field j) (bit_at acc (offset + j))
+result_at table acc offset field j = truth_bit table (bit_at field j) (bit_at acc (offset + j))
 
 -- the n result bits, the highest first
-unfoldable pub connected : ℕ → ℕ → ℕ → ℕ → ℕ → List ℕ
-connected table acc offset field n = by_weight (result_at table acc offset field) n
+unfoldable pub connective_bits : ℕ → ℕ → ℕ → ℕ → ℕ → List ℕ
+connective_bits table acc offset field n = by_weight (result_at table acc offset field) n
 
 -- how many zeros a list of bits begins with
 abbrev pub leading_zeros : List ℕ → ℕ
@@ -34,11 +35,12 @@ is_covered offset n i = nat_le offset i && nat_lt i (offset + n)
 
 -- the bit of weight i where n bits are put into the accumulator from weight offset on
 abbrev pub inserted_at : ℕ → ℕ → ℕ → ℕ → ℕ → ℕ
-inserted_at acc offset bits n i = if is_covered offset n i then bit_at bits (i - offset) else bit_at acc i
+inserted_at acc offset bits n i = if is_covered offset n i then bit_at bits (i - offset)
+    else bit_at acc i
 
 -- the 128 bits of the accumulator into which n bits are put from weight offset on
-unfoldable pub inserted : ℕ → ℕ → ℕ → ℕ → List ℕ
-inserted acc offset bits n = by_weight (inserted_at acc offset bits n) 128
+unfoldable pub accumulator_bits : ℕ → ℕ → ℕ → ℕ → List ℕ
+accumulator_bits acc offset bits n = by_weight (inserted_at acc offset bits n) 128
 
 -- the bit of weight j, where its place, from weight offset on, would be past weight 127
 abbrev pub bit_past : ℕ → ℕ → ℕ → ℕ

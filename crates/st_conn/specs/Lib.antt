@@ -1,2 +1,5 @@
 pub mod Connective
 pub mod Connection
+pub use Rattle.st_bits.specs.Bits
+pub use Rattle.st_field.specs.Indicators
+pub use Rattle.st_field.specs.Results

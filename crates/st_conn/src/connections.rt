@@ -10,8 +10,8 @@ use st_bits::{ConnKind, Ind};
 use st_field::indicators::{by_number, partial_field};
 use st_field::{Acc, Done, Signed, done_with};
 
-// What the result bits of a connective turn on and off. `wrote` says that they are put into the field, and `lost`
-// that a one of them was lost.
+// What the result bits of a connective turn on and off. `wrote` says that they are put into the
+// field, and `lost` that a one of them was lost.
 fn result_indicators(bits: u64, wrote: bool, lost: bool) -> Ind
     ensures { result ≡ by_number_of wrote false bits (partial_field_of lost) }
 {
@@ -43,6 +43,7 @@ fn put_by(kind: ConnKind, acc: &Acc, offset: u8, n: u8, bits: u64) -> Done
     requires some { 1 ≤ n }
     requires few { n ≤ 64 }
     requires fits { bits < 2 ^ n }
+
     ensures value { result ≡ put_by_of kind acc.now offset n bits }
     ensures field { IfSome result.field (λ x. x < 2 ^ n) }
 {
@@ -56,16 +57,18 @@ fn put_by(kind: ConnKind, acc: &Acc, offset: u8, n: u8, bits: u64) -> Done
     }
 }
 
-/// What the connective `table` of a field of `n` bits, 1 to 64, and the accumulator leaves: the result goes where its kind
-/// says, and the counts of its leading zeros and of its ones to their register. The bits of value 8, 4, 2 and 1 of `table`,
-/// below 16, are the results where the field's bit and the accumulator's are 00, 01, 10 and 11. The field's bit of weight j
-/// meets the accumulator's bit of weight `offset` + j. `offset` is 0 to 127, and `field` below 2^n.
+/// What the connective `table` of a field of `n` bits, 1 to 64, and the accumulator leaves: the
+/// result goes where its kind says, and the counts of its leading zeros and of its ones to their
+/// register. The bits of value 8, 4, 2 and 1 of `table`, below 16, are the results where the
+/// field's bit and the accumulator's are 00, 01, 10 and 11. The field's bit of weight j meets the
+/// accumulator's bit of weight `offset` + j. `offset` is 0 to 127, and `field` below 2^n.
 pub fn connective(kind: ConnKind, table: u8, acc: &Acc, offset: u8, field: u64, n: u8) -> Done
     requires table { table < 16 }
     requires offset { offset ≤ 127 }
     requires some { 1 ≤ n }
     requires few { n ≤ 64 }
     requires fits { field < 2 ^ n }
+
     ensures done { result ≡ connection kind table acc.now offset field n }
     ensures field { IfSome result.field (λ x. x < 2 ^ n) }
 {

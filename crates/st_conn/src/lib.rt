@@ -1,4 +1,5 @@
-//! Connectives: logic on a field and the accumulator, and what it leaves. `docs/connectives.md` has the rules.
+//! Connectives: logic on a field and the accumulator, and what it leaves. `docs/connectives.md` has
+//! the rules.
 #![tactic(auto)]
 
 mod connections;

@@ -2,7 +2,7 @@
 ghost use Rattle.std.specs.Prelude.{◌≡◌, ℕ, ◌+◌, ◌*◌, ◌%◌, ◌<◌, ◌≤◌, ◌^◌, sum};
 ghost use Rattle.std.specs.Int.{bit_at};
 ghost use Rattle.st_bits.specs.Bits.{bits as bits_of, num};
-ghost use Rattle.st_conn.specs.Connective.{connected, entry, leading_zeros};
+ghost use Rattle.st_conn.specs.Connective.{connective_bits, truth_bit, leading_zeros};
 
 /// The result of a connective on n positions.
 #[derive(Clone, Copy, Debug, PartialEq, Eq)]
@@ -15,19 +15,19 @@ pub struct Conn {
     pub aoc: u8,
 }
 
-/// The connective `table` of a field of `n` bits, 1 to 64, and the accumulator. The bits of value 8, 4, 2 and 1 of
-/// `table`, below 16, are the results where the field's bit and the accumulator's are 00, 01, 10 and 11. The field's
-/// bit of weight j meets the accumulator's bit of weight `offset` + j, which is zero past weight 127. `offset` is 0 to
-/// 127, and `field` below 2^n.
+/// The connective `table` of a field of `n` bits, 1 to 64, and the accumulator. The bits of value
+/// 8, 4, 2 and 1 of `table`, below 16, are the results where the field's bit and the accumulator's
+/// are 00, 01, 10 and 11. The field's bit of weight j meets the accumulator's bit of weight
+/// `offset` + j, which is zero past weight 127. `offset` is 0 to 127, and `field` below 2^n.
 pub fn connect(table: u8, acc: u128, offset: u8, field: u64, n: u8) -> Conn
     requires table { table < 16 }
     requires offset { offset ≤ 127 }
     requires some { 1 ≤ n }
     requires few { n ≤ 64 }
     requires fits { field < 2 ^ n }
-    ensures bits { result.bits ≡ num (connected table acc offset field n) }
-    ensures zeros { result.lzc ≡ leading_zeros (connected table acc offset field n) }
-    ensures ones { result.aoc ≡ sum (connected table acc offset field n) }
+    ensures bits { result.bits ≡ num (connective_bits table acc offset field n) }
+    ensures zeros { result.lzc ≡ leading_zeros (connective_bits table acc offset field n) }
+    ensures ones { result.aoc ≡ sum (connective_bits table acc offset field n) }
 
     ensures bits_bound { result.bits < 2 ^ n }
     ensures zeros_bound { result.lzc ≤ n }
@@ -46,7 +46,7 @@ fn results(table: u8, acc: u128, offset: u8, field: u64, n: u8) -> u64
     requires offset { offset ≤ 127 }
     requires some { 1 ≤ n }
     requires few { n ≤ 64 }
-    ensures each { bits_of n result ≡ connected table acc offset field n }
+    ensures each { bits_of n result ≡ connective_bits table acc offset field n }
     ensures bound { result < 2 ^ n }
 {
     low_bits(combined(table, field, bits_from(acc, offset)), n)
@@ -62,7 +62,7 @@ fn bits_from(acc: u128, offset: u8) -> u64
 
 // The results of a truth table at 64 positions, one row of the table for each pair of bits.
 fn combined(table: u8, field: u64, acc: u64) -> u64
-    ensures { (j : ℕ) → j < 64 → bit_at result j ≡ entry table (bit_at field j) (bit_at acc j) }
+    ensures { (j : ℕ) → j < 64 → bit_at result j ≡ truth_bit table (bit_at field j) (bit_at acc j) }
 {
     selected(table, 3, !field & !acc)
         | selected(table, 2, !field & acc)

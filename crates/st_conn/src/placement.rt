@@ -2,16 +2,17 @@
 ghost use Rattle.std.specs.Prelude.{◌≡◌, ℕ, ◌+◌, ◌<◌, ◌≤◌, ◌^◌, ◌↔◌, IsTrue, if◌then◌else◌};
 ghost use Rattle.std.specs.Int.{bit_at};
 ghost use Rattle.st_bits.specs.Bits.{num};
-ghost use Rattle.st_conn.specs.Connective.{is_covered, is_one_lost, inserted};
+ghost use Rattle.st_conn.specs.Connective.{is_covered, is_one_lost, accumulator_bits};
 
-/// The accumulator with the `n` bits, 1 to 64, of the number `bits`, below 2^n, in place of its own from weight
-/// `offset` on, 0 to 127; and whether a one was lost, since its place would be past weight 127. Lost zeros do not count.
+/// The accumulator with the `n` bits, 1 to 64, of the number `bits`, below 2^n, in place of its own
+/// from weight `offset` on, 0 to 127; and whether a one was lost, since its place would be past
+/// weight 127. Lost zeros do not count.
 pub fn put_acc(acc: u128, offset: u8, bits: u64, n: u8) -> (u128, bool)
     requires offset { offset ≤ 127 }
     requires some { 1 ≤ n }
     requires few { n ≤ 64 }
     requires fits { bits < 2 ^ n }
-    ensures acc { result.0 ≡ num (inserted acc offset bits n) }
+    ensures acc { result.0 ≡ num (accumulator_bits acc offset bits n) }
     ensures lost { result.1 ≡ is_one_lost offset bits }
 
     // The same, by the weight that the lost one has in `bits`.
@@ -31,7 +32,8 @@ fn places(offset: u8, n: u8) -> u128
     u128::MAX >> (128 - n) << offset
 }
 
-// Whether a one of `bits` would stand past weight 127 if they were inserted from weight `offset` on.
+// Whether a one of `bits` would stand past weight 127 if they were inserted from weight `offset`
+// on.
 fn loses_one(offset: u8, bits: u64) -> bool
     requires { offset ≤ 127 }
     ensures lost { result ≡ is_one_lost offset bits }

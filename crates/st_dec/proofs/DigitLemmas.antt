@@ -5,8 +5,8 @@ use Rattle.std.proofs.Math.Nat.{pow-suc, pow-succ', div-div-eq-div-mul}
 use Rattle.std.proofs.Math.Pow.{pow_pos}
 use Rattle.std.proofs.Math.Arith.{mod-mul}
 use Rattle.std.proofs.lemmas.Nat.{pow-add}
-use Rattle.st_field.specs.Digits.{code_at, value_of, digits_of}
-use Rattle.st_dec.specs.DigitLists.{bytes, joined, value, decimal}
+use Rattle.st_field.specs.Digits.{code_at, value_of_digits, digits_of}
+use Rattle.st_dec.specs.DigitLists.{bytes, number_of_bytes, codes_value, decimal}
 
 -- digits that have room in b bits
 abbrev pub AllBelow : ℕ → List ℕ → Type 0
@@ -21,17 +21,17 @@ first_below : (d r w p : ℕ) → d < w → r < p → d + w * r < p * w
 first_below d r w p first rest = grind arith
 
 -- n digits of b bits have b * n bits
-pub joined-below : (b : ℕ) (ds : List ℕ) → AllBelow b ds → joined b ds < 2 ^ (b * length ds)
-unfolding joined
+pub joined-below : (b : ℕ) (ds : List ℕ) → AllBelow b ds → number_of_bytes b ds < 2 ^ (b * length ds)
+unfolding number_of_bytes
 joined-below b [] all = pow_pos (b * 0)
-joined-below b (d ∷ ds) all = rw (next_power b (length ds)) (first_below d (joined b ds) (2 ^ b) (2 ^ (b * length ds)) all.0 (joined-below b ds all.1))
+joined-below b (d ∷ ds) all = rw (next_power b (length ds)) (first_below d (number_of_bytes b ds) (2 ^ b) (2 ^ (b * length ds)) all.0 (joined-below b ds all.1))
 
 pub digit_and_rest : (x w p : ℕ) → 0 < w → 0 < p → x % w + w * (x / w % p) ≡ x % (p * w)
 digit_and_rest x w p some more = rw (mod-mul x more some) (omega arith)
 
 -- the bytes of a number make it again
-pub joined-bytes : (b n x : ℕ) → joined b (bytes b n x) ≡ x % 2 ^ (b * n)
-unfolding joined bytes
+pub joined-bytes : (b n x : ℕ) → number_of_bytes b (bytes b n x) ≡ x % 2 ^ (b * n)
+unfolding number_of_bytes bytes
 joined-bytes b zero x = simp unary_clauses (omega arith)
 joined-bytes b (suc n) x =
     rw (joined-bytes b n (x / 2 ^ b), next_power b n)
@@ -42,8 +42,8 @@ code_at-next : (d n : ℕ) → code_at d (suc n) ≡ code_at (d / 16) n
 code_at-next d n = rw (pow-succ', div-div-eq-div-mul) refl
 
 -- the value of the first digit and the others
-pub value_of-first : (n d : ℕ) → value_of (suc n) d ≡ d % 16 + 10 * value_of n (d / 16)
-unfolding value_of
+pub value_of-first : (n d : ℕ) → value_of_digits (suc n) d ≡ d % 16 + 10 * value_of_digits n (d / 16)
+unfolding value_of_digits
 value_of-first zero d = omega arith
 value_of-first (suc n) d = rw (code_at-next d n, value_of-first n d, pow-suc) (omega arith)
 
@@ -55,8 +55,8 @@ unfolding digits_of
 digits_of-first zero v = omega arith
 digits_of-first (suc n) v = rw (digit_at-next v n, digits_of-first n v, pow-suc) (omega arith)
 
-value_of-zero : (n : ℕ) → value_of n 0 ≡ 0
-unfolding value_of
+value_of-zero : (n : ℕ) → value_of_digits n 0 ≡ 0
+unfolding value_of_digits
 value_of-zero zero = refl
 value_of-zero (suc n) = rw value_of-first (rw (value_of-zero n) refl)
 
@@ -67,15 +67,15 @@ code_rest : (c r : ℕ) → c < 16 → (c + 16 * r) / 16 ≡ r
 code_rest c r code = omega arith
 
 -- the value of codes is that of the number that they make
-pub value-joined : (n : ℕ) (cs : List ℕ) → AllBelow 4 cs → length cs ≤ n → value_of n (joined 4 cs) ≡ value cs
-unfolding value joined
+pub value-joined : (n : ℕ) (cs : List ℕ) → AllBelow 4 cs → length cs ≤ n → value_of_digits n (number_of_bytes 4 cs) ≡ codes_value cs
+unfolding codes_value number_of_bytes
 value-joined n [] all few = value_of-zero n
 value-joined zero (c ∷ cs) all few = absurd (omega arith)
 value-joined (suc n) (c ∷ cs) all few =
-    rw (value_of-first n (c + 16 * joined 4 cs), code_first c (joined 4 cs) all.0, code_rest c (joined 4 cs) all.0, value-joined n cs all.1 (omega arith)) refl
+    rw (value_of-first n (c + 16 * number_of_bytes 4 cs), code_first c (number_of_bytes 4 cs) all.0, code_rest c (number_of_bytes 4 cs) all.0, value-joined n cs all.1 (omega arith)) refl
 
 -- the decimal digits of a number
-pub joined-decimal : (n v : ℕ) → joined 4 (decimal n v) ≡ digits_of n v
-unfolding joined decimal digits_of
+pub joined-decimal : (n v : ℕ) → number_of_bytes 4 (decimal n v) ≡ digits_of n v
+unfolding number_of_bytes decimal digits_of
 joined-decimal zero v = refl
 joined-decimal (suc n) v = rw (joined-decimal n (v / 10)) (sym (digits_of-first n v))

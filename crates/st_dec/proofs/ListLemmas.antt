@@ -5,8 +5,8 @@ use Rattle.std.proofs.Math.Nat.{mod-eq_of_lt, div-div-eq-div-mul, div-eq_of_lt}
 use Rattle.std.proofs.Math.Pow.{pow_pos}
 use Rattle.std.proofs.lemmas.Nat.{le-div}
 use Rattle.std.proofs.lemmas.Bool.Decides.{nat_tests}
-use Rattle.st_field.specs.Digits.{value_of}
-use Rattle.st_dec.specs.DigitLists.{bytes, joined, value, decimal}
+use Rattle.st_field.specs.Digits.{value_of_digits}
+use Rattle.st_dec.specs.DigitLists.{bytes, number_of_bytes, codes_value, decimal}
 use Rattle.st_dec.specs.DecimalOperand.{any_code}
 use Rattle.st_dec.proofs.DigitLemmas.{AllBelow, next_power, digit_and_rest, value_of-first}
 
@@ -57,8 +57,8 @@ drop-below b (suc n) [] all = tt
 drop-below b (suc n) (x ∷ xs) all = drop-below b n xs all.1
 
 -- the value of the codes of a number
-pub value-bytes : (n x : ℕ) → value (bytes 4 n x) ≡ value_of n x
-unfolding bytes value value_of
+pub value-bytes : (n x : ℕ) → codes_value (bytes 4 n x) ≡ value_of_digits n x
+unfolding bytes codes_value value_of_digits
 value-bytes zero x = refl
 value-bytes (suc n) x = rw (value-bytes n (x / 16)) (sym (value_of-first n x))
 
@@ -70,39 +70,39 @@ first_mod c r w p small some =
     let both : (c + w * r) % w + w * ((c + w * r) / w % p) ≡ (c + w * r) % (p * w) = digit_and_rest (c + w * r) w p (omega arith) some in
     rw (front, rest) at both
 
-pub joined-take : (b n : ℕ) (xs : List ℕ) → AllBelow b xs → joined b (take n xs) ≡ joined b xs % 2 ^ (b * n)
-unfolding joined
+pub joined-take : (b n : ℕ) (xs : List ℕ) → AllBelow b xs → number_of_bytes b (take n xs) ≡ number_of_bytes b xs % 2 ^ (b * n)
+unfolding number_of_bytes
 joined-take b zero xs all = simp unary_clauses (omega arith)
 joined-take b (suc n) [] all = let some : 0 < 2 ^ (b * suc n) = pow_pos (b * suc n) in sym (mod-eq_of_lt some)
 joined-take b (suc n) (x ∷ xs) all =
     rw (joined-take b n xs all.1, next_power b n)
-    (first_mod x (joined b xs) (2 ^ b) (2 ^ (b * n)) all.0 (pow_pos (b * n)))
+    (first_mod x (number_of_bytes b xs) (2 ^ b) (2 ^ (b * n)) all.0 (pow_pos (b * n)))
 
 first_div : (c r w p : ℕ) → c < w → (c + w * r) / (w * p) ≡ r / p
 first_div c r w p small =
     let rest : (c + w * r) / w ≡ r = grind arith in
     rw (← div-div-eq-div-mul (c + w * r) w p, rest) refl
 
-pub joined-drop : (b n : ℕ) (xs : List ℕ) → AllBelow b xs → joined b (drop n xs) ≡ joined b xs / 2 ^ (b * n)
-unfolding joined
+pub joined-drop : (b n : ℕ) (xs : List ℕ) → AllBelow b xs → number_of_bytes b (drop n xs) ≡ number_of_bytes b xs / 2 ^ (b * n)
+unfolding number_of_bytes
 joined-drop b zero xs all = simp unary_clauses (omega arith)
 joined-drop b (suc n) [] all = let some : 0 < 2 ^ (b * suc n) = pow_pos (b * suc n) in sym (div-eq_of_lt some)
 joined-drop b (suc n) (x ∷ xs) all =
     let turned : 2 ^ (b * n) * 2 ^ b ≡ 2 ^ b * 2 ^ (b * n) = omega arith in
-    rw (joined-drop b n xs all.1, next_power b n, turned) (sym (first_div x (joined b xs) (2 ^ b) (2 ^ (b * n)) all.0))
+    rw (joined-drop b n xs all.1, next_power b n, turned) (sym (first_div x (number_of_bytes b xs) (2 ^ b) (2 ^ (b * n)) all.0))
 
-pub joined-zeros-append : (b n : ℕ) (xs : List ℕ) → joined b (replicate n 0 ++ xs) ≡ joined b xs * 2 ^ (b * n)
-unfolding joined
+pub joined-zeros-append : (b n : ℕ) (xs : List ℕ) → number_of_bytes b (replicate n 0 ++ xs) ≡ number_of_bytes b xs * 2 ^ (b * n)
+unfolding number_of_bytes
 joined-zeros-append b zero xs = simp unary_clauses (omega arith)
 joined-zeros-append b (suc n) xs = rw (joined-zeros-append b n xs, next_power b n) (omega arith)
 
-pub joined-zeros : (b n : ℕ) → joined b (replicate n 0) ≡ 0
-unfolding joined
+pub joined-zeros : (b n : ℕ) → number_of_bytes b (replicate n 0) ≡ 0
+unfolding number_of_bytes
 joined-zeros b zero = refl
 joined-zeros b (suc n) = rw (joined-zeros b n) (omega arith)
 
-pub joined-append-zeros : (b n : ℕ) (xs : List ℕ) → joined b (xs ++ replicate n 0) ≡ joined b xs
-unfolding joined
+pub joined-append-zeros : (b n : ℕ) (xs : List ℕ) → number_of_bytes b (xs ++ replicate n 0) ≡ number_of_bytes b xs
+unfolding number_of_bytes
 joined-append-zeros b n [] = joined-zeros b n
 joined-append-zeros b n (x ∷ xs) = rw (joined-append-zeros b n xs) refl
 
@@ -113,22 +113,22 @@ first_of c r w small = grind arith
 rest_of : (c r w : ℕ) → c < w → (c + w * r) / w ≡ r
 rest_of c r w small = grind arith
 
-pub bytes-joined : (b n : ℕ) (xs : List ℕ) → AllBelow b xs → length xs ≡ n → bytes b n (joined b xs) ≡ xs
-unfolding bytes joined
+pub bytes-joined : (b n : ℕ) (xs : List ℕ) → AllBelow b xs → length xs ≡ n → bytes b n (number_of_bytes b xs) ≡ xs
+unfolding bytes number_of_bytes
 bytes-joined b zero [] all is = refl
 bytes-joined b (suc n) [] all is = absurd (omega arith)
 bytes-joined b zero (x ∷ xs) all is = absurd (omega arith)
 bytes-joined b (suc n) (x ∷ xs) all is =
-    rw (first_of x (joined b xs) (2 ^ b) all.0, rest_of x (joined b xs) (2 ^ b) all.0, bytes-joined b n xs all.1 (omega arith)) refl
+    rw (first_of x (number_of_bytes b xs) (2 ^ b) all.0, rest_of x (number_of_bytes b xs) (2 ^ b) all.0, bytes-joined b n xs all.1 (omega arith)) refl
 
 -- a code that is not zero makes the number so
 any_first : (c r : ℕ) → (ltb 0 c || ltb 0 r) ≡ ltb 0 (c + 16 * r)
 any_first c r = grind (arith, nat_tests)
 
-pub any_code-joined : (cs : List ℕ) → any_code cs ≡ ltb 0 (joined 4 cs)
-unfolding joined
+pub any_code-joined : (cs : List ℕ) → any_code cs ≡ ltb 0 (number_of_bytes 4 cs)
+unfolding number_of_bytes
 any_code-joined [] = refl
-any_code-joined (c ∷ cs) = rw (any_code-joined cs) (any_first c (joined 4 cs))
+any_code-joined (c ∷ cs) = rw (any_code-joined cs) (any_first c (number_of_bytes 4 cs))
 
 -- codes behind a place that are not zero
 quotient_some : (x w : ℕ) → 0 < w → ltb 0 (x / w) ≡ leb w x
@@ -137,6 +137,6 @@ quotient_some x w some =
     let down : x < w → x / w ≡ 0 = λ h. div-eq_of_lt h in
     grind (arith, nat_tests)
 
-pub any_code-drop : (n : ℕ) (cs : List ℕ) → AllBelow 4 cs → any_code (drop n cs) ≡ leb (2 ^ (4 * n)) (joined 4 cs)
+pub any_code-drop : (n : ℕ) (cs : List ℕ) → AllBelow 4 cs → any_code (drop n cs) ≡ leb (2 ^ (4 * n)) (number_of_bytes 4 cs)
 any_code-drop n cs all =
-    rw (any_code-joined (drop n cs), joined-drop 4 n cs all) (quotient_some (joined 4 cs) (2 ^ (4 * n)) (pow_pos (4 * n)))
+    rw (any_code-joined (drop n cs), joined-drop 4 n cs all) (quotient_some (number_of_bytes 4 cs) (2 ^ (4 * n)) (pow_pos (4 * n)))

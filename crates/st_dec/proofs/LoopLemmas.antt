@@ -3,8 +3,8 @@ use Rattle.std.proofs.Common.{◌≡◌, ℕ, suc, ◌+◌, ◌-◌, ◌*◌, �
 use Rattle.std.proofs.Math.Nat.{mod-eq_of_lt}
 use Rattle.std.proofs.Math.Pow.{pow_pos, pow_mono, mod-mod-pow}
 use Rattle.std.proofs.lemmas.Nat.{pow-add}
-use Rattle.st_dec.specs.DigitLists.{bytes, joined}
-use Rattle.st_dec.specs.DecimalOperand.{zoned}
+use Rattle.st_dec.specs.DigitLists.{bytes, number_of_bytes}
+use Rattle.st_dec.specs.DecimalOperand.{codes_with_zones}
 use Rattle.st_dec.proofs.DigitLemmas.{next_power}
 
 digit_in_place : (d w x p : ℕ) → d < w → x < p → x + d * p < p * w
@@ -36,7 +36,7 @@ digit_moved b p d x rest total digit room before = rw (whole b p d digit room, a
 
 -- the codes of n bytes
 abbrev pub codes_left : ℕ → ℕ → ℕ → ℕ
-codes_left b n x = joined 4 (map (λ d. d % 16) (bytes b n x))
+codes_left b n x = number_of_bytes 4 (map (λ d. d % 16) (bytes b n x))
 
 code_of_byte : (x b : ℕ) → 4 ≤ b → x % 2 ^ b % 16 ≡ x % 16
 code_of_byte x b wide =
@@ -44,7 +44,7 @@ code_of_byte x b wide =
     subst (λ k. x % 2 ^ k % 2 ^ 4 ≡ x % 2 ^ 4) whole (mod-mod-pow x (b - 4) 4)
 
 codes_left-first : (b n x : ℕ) → 4 ≤ b → codes_left b (suc n) x ≡ x % 16 + 16 * codes_left b n (x / 2 ^ b)
-unfolding bytes joined
+unfolding bytes number_of_bytes
 codes_left-first b n x wide = rw (code_of_byte x b wide) refl
 
 pub codes_next : (b n p codes rest total : ℕ) → 4 ≤ b → p < n → 4 * (p + 1) ≤ 64 → codes + 2 ^ (4 * p) * codes_left b (n - p) rest ≡ total → codes + rest % 16 * 2 ^ (4 * p) % 2 ^ 64 + 2 ^ (4 * (p + 1)) * codes_left b (n - (p + 1)) (rest / 2 ^ b) ≡ total
@@ -55,10 +55,10 @@ codes_next b n p codes rest total wide more room before =
 
 -- n codes, with a zone before each
 abbrev pub spread_left : ℕ → ℕ → ℕ → ℕ → ℕ
-spread_left b zone n x = joined b (zoned zone (bytes 4 n x))
+spread_left b zone n x = number_of_bytes b (codes_with_zones zone (bytes 4 n x))
 
 spread_left-first : (b zone n x : ℕ) → spread_left b zone (suc n) x ≡ zone * 16 + x % 16 + 2 ^ b * spread_left b zone n (x / 16)
-unfolding bytes joined
+unfolding bytes number_of_bytes
 spread_left-first b zone n x = refl
 
 pub spread_next : (b zone n p mag rest total : ℕ) → zone * 16 + rest % 16 < 2 ^ b → p < n → b * (p + 1) ≤ 64 → mag + 2 ^ (b * p) * spread_left b zone (n - p) rest ≡ total → mag + (zone * 16 + rest % 16) * 2 ^ (b * p) % 2 ^ 64 + 2 ^ (b * (p + 1)) * spread_left b zone (n - (p + 1)) (rest / 16) ≡ total
@@ -69,14 +69,14 @@ spread_next b zone n p mag rest total digit more room before =
 
 -- nothing is left in the end
 pub codes_done : (b n p w codes rest total : ℕ) → n ≤ p → codes + w * codes_left b (n - p) rest ≡ total → codes ≡ total
-unfolding bytes joined
+unfolding bytes number_of_bytes
 codes_done b n p w codes rest total done all =
     let none : n - p ≡ 0 = omega arith in
     let left : codes + w * 0 ≡ total = rw none at all in
     omega (arith, left)
 
 pub spread_done : (b zone n p w mag rest total : ℕ) → n ≤ p → mag + w * spread_left b zone (n - p) rest ≡ total → mag ≡ total
-unfolding bytes joined
+unfolding bytes number_of_bytes
 spread_done b zone n p w mag rest total done all =
     let none : n - p ≡ 0 = omega arith in
     let left : mag + w * 0 ≡ total = rw none at all in

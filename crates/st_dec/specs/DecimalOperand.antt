@@ -4,12 +4,12 @@ use Rattle.std.specs.List.{list_any}
 use Rattle.st_field.specs.declared.accumulator.Acc.{Acc}
 use Rattle.st_field.specs.declared.fields.Field.{Field}
 use Rattle.st_field.specs.declared.fields.Shape.{Shape}
-use Rattle.st_field.specs.Fields.{IsShape, magnitude_bits}
-use Rattle.st_dec.specs.DigitLists.{bytes, value}
+use Rattle.st_field.specs.Fields.{IsBinaryShape, magnitude_bits}
+use Rattle.st_dec.specs.DigitLists.{bytes, codes_value}
 
 -- a shape that a decimal operation can have: whole bytes, each with room for a code
 pub record IsDecimalShape (h : Shape) : Type 0 where
-  pub shape : IsShape h
+  pub shape : IsBinaryShape h
   pub code : 4 ≤ h.byte
   pub whole : h.length % h.byte ≡ 0
 
@@ -26,28 +26,28 @@ codes f h = map (λ d. d % 16) (digit_bytes f h)
 
 -- its value without the sign; codes 10 to 15 count as such
 abbrev pub field_value : Field → Shape → ℕ
-field_value f h = value (codes f h)
+field_value f h = codes_value (codes f h)
 
 -- bytes with other codes; their zones stay
-unfoldable pub recoded : List ℕ → List ℕ → List ℕ
-recoded [] cs = []
-recoded (d ∷ ds) [] = []
-recoded (d ∷ ds) (c ∷ cs) = (d / 16 * 16 + c) ∷ recoded ds cs
+unfoldable pub bytes_with_codes : List ℕ → List ℕ → List ℕ
+bytes_with_codes [] cs = []
+bytes_with_codes (d ∷ ds) [] = []
+bytes_with_codes (d ∷ ds) (c ∷ cs) = (d / 16 * 16 + c) ∷ bytes_with_codes ds cs
 
 -- codes with one zone before each
-abbrev pub zoned : ℕ → List ℕ → List ℕ
-zoned zone cs = map (λ c. zone * 16 + c) cs
+abbrev pub codes_with_zones : ℕ → List ℕ → List ℕ
+codes_with_zones zone cs = map (λ c. zone * 16 + c) cs
 
 -- the digit of the accumulator at which the last digit of the field stands
-abbrev pub place : Shape → ℕ
-place h = h.offset / 4
+abbrev pub last_digit_place : Shape → ℕ
+last_digit_place h = h.offset / 4
 
 -- the 32 codes of the accumulator, and those from that digit on
 abbrev pub acc_codes : Acc → List ℕ
 acc_codes a = bytes 4 32 a.mag
 
 abbrev pub codes_from_place : Acc → Shape → List ℕ
-codes_from_place a h = drop (place h) (acc_codes a)
+codes_from_place a h = drop (last_digit_place h) (acc_codes a)
 
 -- as many of these as the field has digits; past the 32nd digit there are zeros
 abbrev pub field_codes : Acc → Shape → List ℕ
@@ -59,7 +59,7 @@ codes_left_out a h = drop (digit_count h) (codes_from_place a h)
 
 -- the codes of the operand with its last digit at that place, and zeros below
 abbrev pub codes_at_place : Field → Shape → List ℕ
-codes_at_place f h = replicate (place h) 0 ++ codes f h
+codes_at_place f h = replicate (last_digit_place h) 0 ++ codes f h
 
 -- those that the accumulator has room for, and those that are lost
 abbrev pub codes_kept : Field → Shape → List ℕ

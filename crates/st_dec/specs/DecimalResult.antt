@@ -9,79 +9,88 @@ use Rattle.st_field.specs.declared.fields.Field.{Field}
 use Rattle.st_field.specs.declared.fields.Shape.{Shape}
 use Rattle.st_field.specs.declared.operand.Kept.{Kept}
 use Rattle.st_field.specs.declared.outcome.Done.{Done}
-use Rattle.st_field.specs.Bases.{InBase, taken, result_of}
+use Rattle.st_field.specs.Bases.{InBase, operand_taken, result_of}
 use Rattle.st_field.specs.Indicators.{flag_indicators}
 use Rattle.st_field.specs.Fields.{zone_of}
-use Rattle.st_field.specs.Results.{operand, cut, aligned, loaded, transit_loaded}
-use Rattle.st_dec.specs.DigitLists.{bytes, joined, value, decimal}
-use Rattle.st_dec.specs.DecimalOperand.{digit_count, digit_bytes, codes, field_value, recoded, zoned, acc_codes, codes_from_place, field_codes, codes_left_out, codes_kept, codes_lost, any_code}
+use Rattle.st_field.specs.Results.{signed_operand, number_cut, aligned_operand, load_result, transit_loaded}
+use Rattle.st_dec.specs.DigitLists.{bytes, number_of_bytes, codes_value, decimal}
+use Rattle.st_dec.specs.DecimalOperand.{digit_count, digit_bytes, codes, field_value, bytes_with_codes, codes_with_zones, acc_codes, codes_from_place, field_codes, codes_left_out, codes_kept, codes_lost, any_code}
 
 -- ---- what is kept
 
 -- the codes of the operand at the digit place
 abbrev pub at_place : Field → Shape → Kept
 at_place f h = record {
-  bits = joined 4 (codes_kept f h);
-  value = value (codes_kept f h);
+  bits = number_of_bytes 4 (codes_kept f h);
+  value = codes_value (codes_kept f h);
   is_lost = any_code (codes_lost f h);
 }
 
 -- the accumulator with the 32 lowest decimal digits of a number
-abbrev pub summed : ℕ → Kept
-summed n = record {
-  bits = joined 4 (decimal 32 n);
-  value = value (bytes 4 32 (joined 4 (decimal 32 n)));
+abbrev pub sum_digits : ℕ → Kept
+sum_digits n = record {
+  bits = number_of_bytes 4 (decimal 32 n);
+  value = codes_value (bytes 4 32 (number_of_bytes 4 (decimal 32 n)));
   is_lost = nat_le (10 ^ 32) n;
 }
 
 -- a field with the magnitude m
-abbrev pub in_field : Field → Shape → ℕ → Bool → Kept
-in_field f h m lost = record { bits = m; value = field_value (record f { mag = m }) h; is_lost = lost }
+abbrev pub digits_in_field : Field → Shape → ℕ → Bool → Kept
+digits_in_field f h m lost = record {
+  bits = m;
+  value = field_value (record f { mag = m }) h;
+  is_lost = lost;
+}
 
 -- a field with the decimal digits of a number for its codes; all zones stay
-abbrev pub replaced : Field → Shape → ℕ → Kept
-replaced f h n =
-    in_field f h (joined h.byte (recoded (digit_bytes f h) (decimal (digit_count h) n)))
+abbrev pub field_with_digits : Field → Shape → ℕ → Kept
+field_with_digits f h n =
+    digits_in_field f h (number_of_bytes h.byte (bytes_with_codes (digit_bytes f h)
+    (decimal (digit_count h) n)))
     (nat_le (10 ^ digit_count h) n)
 
--- ST: as many codes of the accumulator from the digit place on as the field has digits, its zone before each
+-- ST: as many codes of the accumulator from the digit place on as the field has digits, its zone
+-- before each
 abbrev pub stored_magnitude : Acc → Shape → ℕ
-stored_magnitude a h = joined h.byte (zoned (zone_of a.sb % 2 ^ (h.byte - 4)) (field_codes a h))
+stored_magnitude a h = number_of_bytes h.byte (codes_with_zones (zone_of a.sb % 2 ^ (h.byte - 4))
+    (field_codes a h))
 
-abbrev pub stored : Taken → Kept
-stored t = in_field t.field t.shape (stored_magnitude t.acc t.shape) (any_code (codes_left_out t.acc t.shape))
+abbrev pub field_of_digits : Taken → Kept
+field_of_digits t = digits_in_field t.field t.shape (stored_magnitude t.acc t.shape)
+    (any_code (codes_left_out t.acc t.shape))
 
 -- ---- the operations of its own
 
 -- LTRS, *, *+ and /: the codes go to the transit register, for a routine that computes with them
 abbrev pub transit_set : Acc → Field → Shape → Done
 transit_set a f h =
-    transit_loaded a (operand f h (field_value f h)) (joined 4 (codes f h))
+    transit_loaded a (signed_operand f h (field_value f h)) (number_of_bytes 4 (codes f h))
     (flag_indicators f.flags + indicator DECIMAL_TRANSIT)
 
 -- LCV: the value of the field, loaded as a binary number
-unfoldable pub converted : Field → Shape → Done
-converted f h = loaded (aligned f h (cut 128 (field_value f h * 2 ^ h.offset)))
+unfoldable pub binary_value : Field → Shape → Done
+binary_value f h = load_result (aligned_operand f h (number_cut 128
+    (field_value f h * 2 ^ h.offset)))
 
 -- ---- the base
 
 abbrev pub base : Taken → InBase
 base t = record {
-  whole = value (acc_codes t.acc);
-  part = value (codes_from_place t.acc t.shape);
+  whole = codes_value (acc_codes t.acc);
+  part = codes_value (codes_from_place t.acc t.shape);
   value = field_value t.field t.shape;
-  content = joined 4 (codes t.field t.shape);
+  content = number_of_bytes 4 (codes t.field t.shape);
   transit = indicator DECIMAL_TRANSIT;
   at_place = at_place t.field t.shape;
-  stored = stored t;
-  summed = summed;
-  replaced = replaced t.field t.shape;
+  stored = field_of_digits t;
+  summed = sum_digits;
+  replaced = field_with_digits t.field t.shape;
   product = transit_set t.acc t.field t.shape;
   product_added = λ _. transit_set t.acc t.field t.shape;
   quotient = transit_set t.acc t.field t.shape;
-  converted = converted t.field t.shape;
+  converted = binary_value t.field t.shape;
 }
 
 -- the result of a decimal operation on a field with the bits x; no factor register is looked at
 unfoldable pub result : VflOp → Acc → ℕ → Shape → ℕ → Done
-result op a x h ind = result_of op (base (taken a x h)) (taken a x h) 0 ind
+result op a x h ind = result_of op (base (operand_taken a x h)) (operand_taken a x h) 0 ind

@@ -7,14 +7,14 @@ bytes b zero x = []
 bytes b (suc n) x = (x % 2 ^ b) ∷ bytes b n (x / 2 ^ b)
 
 -- the number that has these bytes
-unfoldable pub joined : ℕ → List ℕ → ℕ
-joined b [] = 0
-joined b (d ∷ ds) = d + 2 ^ b * joined b ds
+unfoldable pub number_of_bytes : ℕ → List ℕ → ℕ
+number_of_bytes b [] = 0
+number_of_bytes b (d ∷ ds) = d + 2 ^ b * number_of_bytes b ds
 
 -- the value of a list of codes: the sum of code times 10 ^ place
-unfoldable pub value : List ℕ → ℕ
-value [] = 0
-value (c ∷ cs) = c + 10 * value cs
+unfoldable pub codes_value : List ℕ → ℕ
+codes_value [] = 0
+codes_value (c ∷ cs) = c + 10 * codes_value cs
 
 -- the n lowest decimal digits of a number
 unfoldable pub decimal : ℕ → ℕ → List ℕ

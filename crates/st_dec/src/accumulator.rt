@@ -1,7 +1,7 @@
 //! The accumulator as decimal digits.
 ghost use Rattle.std.specs.Prelude.{◌≡◌, ◌<◌, ◌^◌};
-ghost use Rattle.st_dec.specs.DigitLists.{bytes, joined, value};
-ghost use Rattle.st_dec.specs.DecimalOperand.{IsDecimalShape, place, codes_from_place as codes_from_place_of, field_codes as field_codes_of};
+ghost use Rattle.st_dec.specs.DigitLists.{bytes, number_of_bytes, codes_value};
+ghost use Rattle.st_dec.specs.DecimalOperand.{IsDecimalShape, last_digit_place, codes_from_place as codes_from_place_of, field_codes as field_codes_of};
 
 use crate::digits::digit_count;
 use st_field::fields::Shape;
@@ -10,7 +10,7 @@ use st_field::{Acc, digits_value};
 
 /// The value of the 32 digits of an accumulator with the bits `mag`.
 pub fn whole_value(mag: u128) -> u128
-    ensures value { result ≡ value (bytes 4 32 mag) }
+    ensures value { result ≡ codes_value (bytes 4 32 mag) }
     ensures bound { result < 2 ^ 127 }
 {
     digits_value(mag)
@@ -19,7 +19,7 @@ pub fn whole_value(mag: u128) -> u128
 /// The digit of the accumulator, 0 to 31, at which the last digit of a field stands.
 pub fn digit_place(shape: &Shape) -> u8
     requires { IsDecimalShape shape.now }
-    ensures value { result ≡ place shape.now }
+    ensures value { result ≡ last_digit_place shape.now }
     ensures bound { result < 32 }
 {
     shape.offset / 4
@@ -28,7 +28,7 @@ pub fn digit_place(shape: &Shape) -> u8
 /// The codes of the accumulator from the digit place on.
 pub fn codes_from_place(acc: &Acc, shape: &Shape) -> u128
     requires { IsDecimalShape shape.now }
-    ensures { result ≡ joined 4 (codes_from_place_of acc.now shape.now) }
+    ensures { result ≡ number_of_bytes 4 (codes_from_place_of acc.now shape.now) }
 {
     acc.mag >> (4 * digit_place(shape))
 }
@@ -36,7 +36,7 @@ pub fn codes_from_place(acc: &Acc, shape: &Shape) -> u128
 /// Of these as many as the field has digits.
 pub fn field_codes(acc: &Acc, shape: &Shape) -> u64
     requires { IsDecimalShape shape.now }
-    ensures { result ≡ joined 4 (field_codes_of acc.now shape.now) }
+    ensures { result ≡ number_of_bytes 4 (field_codes_of acc.now shape.now) }
 {
     low_bits(codes_from_place(acc, shape), 4 * digit_count(shape))
 }
@@ -44,7 +44,7 @@ pub fn field_codes(acc: &Acc, shape: &Shape) -> u64
 /// The value of the digits of the accumulator from the digit place on.
 pub fn value_from_place(acc: &Acc, shape: &Shape) -> u128
     requires { IsDecimalShape shape.now }
-    ensures value { result ≡ value (codes_from_place_of acc.now shape.now) }
+    ensures value { result ≡ codes_value (codes_from_place_of acc.now shape.now) }
     ensures bound { result < 2 ^ 127 }
 {
     digits_value(codes_from_place(acc, shape))

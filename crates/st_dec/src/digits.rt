@@ -1,4 +1,5 @@
-//! Digits. Each byte of a decimal field is one, a zone and a code; in the accumulator, as in `codes`, a digit is a code.
+//! Digits. Each byte of a decimal field is one, a zone and a code; in the accumulator, as in
+//! `codes`, a digit is a code.
 //!
 //! ```text
 //! field, byte of 8   zzzzcccc zzzzcccc zzzzcccc
@@ -7,9 +8,9 @@
 //! ```
 ghost use Rattle.std.specs.Prelude.{◌≡◌, ◌-◌, ◌*◌, ◌<◌, ◌≤◌, ◌^◌, nat_le};
 ghost use Rattle.st_field.specs.Fields.{HasRoom, magnitude_bits as magnitude_bits_of};
-ghost use Rattle.st_dec.specs.DigitLists.{bytes, joined, decimal as decimal_of};
+ghost use Rattle.st_dec.specs.DigitLists.{bytes, number_of_bytes, decimal as decimal_of};
 ghost use Rattle.st_dec.specs.DecimalOperand.{IsDecimalShape, digit_count as digit_count_of, digit_bytes, codes as codes_of};
-ghost use Rattle.st_dec.specs.DecimalOperand.{zoned, recoded as recoded_of};
+ghost use Rattle.st_dec.specs.DecimalOperand.{codes_with_zones, bytes_with_codes as recoded_of};
 
 use st_field::fields::{Field, Shape, magnitude_bits};
 use st_field::{power_of_ten, to_digits};
@@ -29,7 +30,7 @@ pub fn digit_count(shape: &Shape) -> u8
 /// The codes of a field's digits, four bits each.
 pub fn codes(f: &Field, shape: &Shape) -> u64
     requires { IsDecimalShape shape.now }
-    ensures value { result ≡ joined 4 (codes_of f.now shape.now) }
+    ensures value { result ≡ number_of_bytes 4 (codes_of f.now shape.now) }
 {
     let mut codes = 0;
     let mut rest = f.mag;
@@ -40,12 +41,13 @@ pub fn codes(f: &Field, shape: &Shape) -> u64
     codes
 }
 
-/// The magnitude of a field whose digits have these codes, four bits each, with one zone before each of them.
+/// The magnitude of a field whose digits have these codes, four bits each, with one zone before
+/// each of them.
 pub fn spread(codes: u64, zone: u64, shape: &Shape) -> u64
     requires shape { IsDecimalShape shape.now }
     requires zone { zone < 2 ^ (shape.now.byte - 4) }
-    ensures value { result ≡ joined shape.now.byte
-        (zoned zone (bytes 4 (digit_count_of shape.now) codes)) }
+    ensures value { result ≡ number_of_bytes shape.now.byte
+        (codes_with_zones zone (bytes 4 (digit_count_of shape.now) codes)) }
     ensures fits { result < 2 ^ magnitude_bits_of shape.now }
 {
     let mut mag = 0;
@@ -61,7 +63,7 @@ pub fn spread(codes: u64, zone: u64, shape: &Shape) -> u64
 pub fn recoded(f: &Field, new_codes: u64, shape: &Shape) -> u64
     requires shape { IsDecimalShape shape.now }
     requires room { HasRoom f.now shape.now }
-    ensures value { result ≡ joined shape.now.byte
+    ensures value { result ≡ number_of_bytes shape.now.byte
         (recoded_of (digit_bytes f.now shape.now) (bytes 4 (digit_count_of shape.now) new_codes)) }
     ensures fits { result < 2 ^ magnitude_bits_of shape.now }
 {
@@ -72,7 +74,7 @@ pub fn recoded(f: &Field, new_codes: u64, shape: &Shape) -> u64
 /// The `count` lowest decimal digits of a number, four bits each, and whether it has more.
 pub fn to_decimal(mag: u128, count: u8) -> (u128, bool)
     requires { count ≤ 32 }
-    ensures digits { result.0 ≡ joined 4 (decimal_of count mag) }
+    ensures digits { result.0 ≡ number_of_bytes 4 (decimal_of count mag) }
     ensures fits { result.0 < 2 ^ (4 * count) }
     ensures lost { result.1 ≡ nat_le (10 ^ count) mag }
 {

@@ -2,7 +2,7 @@
 ghost use Rattle.std.specs.Prelude.{◌≡◌, ◌<◌, ◌^◌};
 ghost use Rattle.st_field.specs.Fields.{HasRoom, magnitude_bits as magnitude_bits_of};
 ghost use Rattle.st_dec.specs.DecimalOperand.{IsDecimalShape, field_value as field_value_of};
-ghost use Rattle.st_dec.specs.DecimalResult.{in_field as in_field_of, replaced};
+ghost use Rattle.st_dec.specs.DecimalResult.{digits_in_field as in_field_of, field_with_digits};
 
 use crate::digits::{codes, digit_count, recoded, to_decimal};
 use st_field::fields::{Field, Shape};
@@ -36,7 +36,7 @@ pub fn in_field(f: &Field, shape: &Shape, mag: u64, is_lost: bool) -> Kept
 pub fn with_digits(f: &Field, shape: &Shape, number: u128) -> Kept
     requires shape { IsDecimalShape shape.now }
     requires room { HasRoom f.now shape.now }
-    ensures value { result ≡ replaced f.now shape.now number }
+    ensures value { result ≡ field_with_digits f.now shape.now number }
     ensures room { result.bits < 2 ^ magnitude_bits_of shape.now }
 {
     let (digits, is_lost) = to_decimal(number, digit_count(shape));

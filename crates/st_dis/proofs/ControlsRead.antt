@@ -6,16 +6,16 @@ use Rattle.std.proofs.lemmas.List.{take_all}
 use Rattle.std.proofs.lemmas.Fmt.{length-decimal-le}
 use Rattle.std.specs.List.{list_all}
 use Rattle.st_card.specs.declared.keywords.Keyword.TheVariants.{Budget, Delays, Signals, Dump, Snap, Back}
-use Rattle.st_text.specs.Number.{is_filled, reading, good}
-use Rattle.st_text.specs.Pieces.{parted, lacks, words}
+use Rattle.st_text.specs.Number.{is_filled, reading, number_if_good}
+use Rattle.st_text.specs.Pieces.{pieces_of, lacks, words}
 use Rattle.st_card.specs.Cards.{columns}
-use Rattle.st_card.specs.Controls.{Asked, nothing_asked, card_number, before, card_numbers, with_budget, with_delays, with_signal, with_dump, with_snap, with_back, with_trace, with_time, with_chart, with_card, with_words, added}
+use Rattle.st_card.specs.Controls.{Asked, nothing_asked, card_number, numbers_before, card_numbers, with_budget, with_delays, with_signal, with_dump, with_snap, with_back, with_trace, with_time, with_chart, with_card, with_words, asked_with_card}
 use Rattle.st_card.specs.Limits.{IsWithinLimits, AreDelays, AreSignals, AreDumps, AreSnaps}
 use Rattle.st_card.specs.declared.control_cards.Signal.{Signal}
 use Rattle.st_card.proofs.OrderLemmas.{budget-asked, delay-asked, signal-asked, dump-asked, snap-asked, back-asked, delay-short, signal-short, dump-short, snap-short}
 use Rattle.st_strap.proofs.Digits.{decimal-digits, reading-decimal, digits-lack, low_other, lacks-parted}
 use Rattle.st_strap.proofs.PlaceCards.{parted-once}
-use Rattle.st_dis.specs.Deck.{marked, order_cards, back_cards, show_cards}
+use Rattle.st_dis.specs.Deck.{card_where, order_cards, back_cards, show_cards}
 use Rattle.st_dis.specs.Read.{CardsLead}
 
 -- a number that can be read has 12 digits at most
@@ -49,7 +49,7 @@ one-number word n lack filled few short =
     let size = length-append word (32 ∷ decimal n) in
     let digits = decimal-short n short in
     let whole : columns text ≡ text = take_all 72 text (omega (arith, size, digits, few)) in
-    let cut : parted 32 text ≡ word ∷ decimal n ∷ [] =
+    let cut : pieces_of 32 text ≡ word ∷ decimal n ∷ [] =
     parted-once 32 word (decimal n) lack ∙ ap (λ (ps : List (List ℕ)). word ∷ ps) (lacks-parted 32 (decimal n) (decimal-lacks n short)) in
     ap (λ (t : List ℕ). words t) whole
     ∙ (ap (λ (ps : List (List ℕ)). filter is_filled ps) cut ∙ filter-two word (decimal n) filled (decimal-filled n short))
@@ -64,10 +64,10 @@ two-numbers word a b lack filled few short_a short_b =
     let first = decimal-short a short_a in
     let second = decimal-short b short_b in
     let whole : columns text ≡ text = take_all 72 text (omega (arith, size, size_behind, first, second, few)) in
-    let cut_behind : parted 32 behind ≡ decimal a ∷ decimal b ∷ [] =
+    let cut_behind : pieces_of 32 behind ≡ decimal a ∷ decimal b ∷ [] =
     parted-once 32 (decimal a) (decimal b) (decimal-lacks a short_a)
     ∙ ap (λ (ps : List (List ℕ)). decimal a ∷ ps) (lacks-parted 32 (decimal b) (decimal-lacks b short_b)) in
-    let cut : parted 32 text ≡ word ∷ decimal a ∷ decimal b ∷ [] =
+    let cut : pieces_of 32 text ≡ word ∷ decimal a ∷ decimal b ∷ [] =
     parted-once 32 word behind lack ∙ ap (λ (ps : List (List ℕ)). word ∷ ps) cut_behind in
     ap (λ (t : List ℕ). words t) whole
     ∙ (ap (λ (ps : List (List ℕ)). filter is_filled ps) cut
@@ -79,61 +79,61 @@ number-read n short =
     let few = decimal-short n short in
     let fits : nat_lt 12 (length (decimal n)) ≡ false = grind (arith, nat_tests, few) in
     let value = reading-decimal 999999999999 n short (omega (arith, short)) in
-    ap (λ b. if b then None else good (reading 999999999999 (decimal n))) fits ∙ ap (λ r. good r) value
+    ap (λ b. if b then None else number_if_good (reading 999999999999 (decimal n))) fits ∙ ap (λ r. number_if_good r) value
 
 numbers-one : (n : ℕ) → IsShort n → card_numbers (decimal n ∷ []) ≡ Some (n ∷ [])
-numbers-one n short = ap (λ o. before o (Some [])) (number-read n short)
+numbers-one n short = ap (λ o. numbers_before o (Some [])) (number-read n short)
 
 numbers-two : (a b : ℕ) → IsShort a → IsShort b → card_numbers (decimal a ∷ decimal b ∷ []) ≡ Some (a ∷ b ∷ [])
 numbers-two a b short_a short_b =
-    ap (λ o. before o (card_numbers (decimal b ∷ []))) (number-read a short_a)
-    ∙ ap (λ (o : Option (List ℕ)). before (Some a) o) (numbers-one b short_b)
+    ap (λ o. numbers_before o (card_numbers (decimal b ∷ []))) (number-read a short_a)
+    ∙ ap (λ (o : Option (List ℕ)). numbers_before (Some a) o) (numbers-one b short_b)
 
 module _ (kept : Asked) where
   -- what each card adds
-  budget-card : (n : ℕ) → IsShort n → added kept (codes "/BUDGET " ++ decimal n) ≡ with_budget kept (n ∷ [])
+  budget-card : (n : ℕ) → IsShort n → asked_with_card kept (codes "/BUDGET " ++ decimal n) ≡ with_budget kept (n ∷ [])
   budget-card n short =
       ap (λ (ws : List (List ℕ)). with_words kept ws) (one-number (codes "/BUDGET") n refl refl (omega arith) short)
       ∙ ap (λ (ns : Option (List ℕ)). with_card kept (Some Budget) ns) (numbers-one n short)
 
-  delay-card : (n : ℕ) → IsShort n → added kept (codes "/DELAYS " ++ decimal n) ≡ with_delays kept (n ∷ [])
+  delay-card : (n : ℕ) → IsShort n → asked_with_card kept (codes "/DELAYS " ++ decimal n) ≡ with_delays kept (n ∷ [])
   delay-card n short =
       ap (λ (ws : List (List ℕ)). with_words kept ws) (one-number (codes "/DELAYS") n refl refl (omega arith) short)
       ∙ ap (λ (ns : Option (List ℕ)). with_card kept (Some Delays) ns) (numbers-one n short)
 
-  snap-card : (n : ℕ) → IsShort n → added kept (codes "/SNAP " ++ decimal n) ≡ with_snap kept (n ∷ [])
+  snap-card : (n : ℕ) → IsShort n → asked_with_card kept (codes "/SNAP " ++ decimal n) ≡ with_snap kept (n ∷ [])
   snap-card n short =
       ap (λ (ws : List (List ℕ)). with_words kept ws) (one-number (codes "/SNAP") n refl refl (omega arith) short)
       ∙ ap (λ (ns : Option (List ℕ)). with_card kept (Some Snap) ns) (numbers-one n short)
 
-  back-card : (n : ℕ) → IsShort n → added kept (codes "/BACK " ++ decimal n) ≡ with_back kept (n ∷ [])
+  back-card : (n : ℕ) → IsShort n → asked_with_card kept (codes "/BACK " ++ decimal n) ≡ with_back kept (n ∷ [])
   back-card n short =
       ap (λ (ws : List (List ℕ)). with_words kept ws) (one-number (codes "/BACK") n refl refl (omega arith) short)
       ∙ ap (λ (ns : Option (List ℕ)). with_card kept (Some Back) ns) (numbers-one n short)
 
   signal-card : (a b : ℕ) → IsShort a → IsShort b →
-      added kept (codes "/SIGNAL " ++ decimal a ++ codes " " ++ decimal b) ≡ with_signal kept (a ∷ b ∷ [])
+      asked_with_card kept (codes "/SIGNAL " ++ decimal a ++ codes " " ++ decimal b) ≡ with_signal kept (a ∷ b ∷ [])
   signal-card a b short_a short_b =
       let same : codes "/SIGNAL " ++ decimal a ++ codes " " ++ decimal b ≡ codes "/SIGNAL" ++ 32 ∷ (decimal a ++ 32 ∷ decimal b) = simp append_assoc refl in
-      ap (λ (t : List ℕ). added kept t) same
+      ap (λ (t : List ℕ). asked_with_card kept t) same
       ∙ (ap (λ (ws : List (List ℕ)). with_words kept ws) (two-numbers (codes "/SIGNAL") a b refl refl (omega arith) short_a short_b)
       ∙ ap (λ (ns : Option (List ℕ)). with_card kept (Some Signals) ns) (numbers-two a b short_a short_b))
 
   dump-card : (a b : ℕ) → IsShort a → IsShort b →
-      added kept (codes "/DUMP " ++ decimal a ++ codes " " ++ decimal b) ≡ with_dump kept (a ∷ b ∷ [])
+      asked_with_card kept (codes "/DUMP " ++ decimal a ++ codes " " ++ decimal b) ≡ with_dump kept (a ∷ b ∷ [])
   dump-card a b short_a short_b =
       let same : codes "/DUMP " ++ decimal a ++ codes " " ++ decimal b ≡ codes "/DUMP" ++ 32 ∷ (decimal a ++ 32 ∷ decimal b) = simp append_assoc refl in
-      ap (λ (t : List ℕ). added kept t) same
+      ap (λ (t : List ℕ). asked_with_card kept t) same
       ∙ (ap (λ (ws : List (List ℕ)). with_words kept ws) (two-numbers (codes "/DUMP") a b refl refl (omega arith) short_a short_b)
       ∙ ap (λ (ns : Option (List ℕ)). with_card kept (Some Dump) ns) (numbers-two a b short_a short_b))
 
-  trace-card : added kept (codes "/TRACE") ≡ with_trace kept []
+  trace-card : asked_with_card kept (codes "/TRACE") ≡ with_trace kept []
   trace-card = refl
 
-  time-card : added kept (codes "/TIME") ≡ with_time kept []
+  time-card : asked_with_card kept (codes "/TIME") ≡ with_time kept []
   time-card = refl
 
-  chart-card : added kept (codes "/CHART") ≡ with_chart kept []
+  chart-card : asked_with_card kept (codes "/CHART") ≡ with_chart kept []
   chart-card = refl
 
 leads_on : (a b c : Asked) (xs ys : List (List ℕ)) → CardsLead a xs b → CardsLead b ys c → CardsLead a (xs ++ ys) c
@@ -156,7 +156,7 @@ asked_for n ds ss us trace time chart ts k = record {
 
 -- a card for each item of a list
 cards_each : {X : Type 0} (at : List X → Asked) (card : X → List ℕ) (Fits : List X → Type 0) →
-    ((done rest : List X) (x : X) → Fits (done ++ x ∷ rest) → added (at done) (card x) ≡ Some (at (done ++ x ∷ []))) →
+    ((done rest : List X) (x : X) → Fits (done ++ x ∷ rest) → asked_with_card (at done) (card x) ≡ Some (at (done ++ x ∷ []))) →
     (done rest : List X) → Fits (done ++ rest) → CardsLead (at done) (map card rest) (at (done ++ rest))
 cards_each at card Fits step done [] fits = ap at (sym (append-nil done))
 cards_each {X} at card Fits step done (x ∷ rest) fits =
@@ -168,8 +168,8 @@ cards_each {X} at card Fits step done (x ∷ rest) fits =
     )
 
 -- a card that stands there where it is asked for
-cards_marked : (at : Bool → Asked) (card : List ℕ) → added (at false) card ≡ Some (at true) → (b : Bool) →
-    CardsLead (at false) (marked b card) (at b)
+cards_marked : (at : Bool → Asked) (card : List ℕ) → asked_with_card (at false) card ≡ Some (at true) → (b : Bool) →
+    CardsLead (at false) (card_where b card) (at b)
 cards_marked at card step false = refl
 cards_marked at card step true = (at true, step, refl)
 
@@ -205,17 +205,17 @@ module _ (n : ℕ) (ds : List ℕ) where
       dump-card (asked done) p.0 p.1 short.0 short.1 ∙ dump-asked (asked done) p rest fits) [] us are
 
   module _ (ss : List Signal) (us : List (ℕ × ℕ)) where
-    add_trace : (trace : Bool) → CardsLead (asked_for n ds ss us false false false [] 0) (marked trace (codes "/TRACE"))
+    add_trace : (trace : Bool) → CardsLead (asked_for n ds ss us false false false [] 0) (card_where trace (codes "/TRACE"))
         (asked_for n ds ss us trace false false [] 0)
     add_trace trace = cards_marked (λ b. asked_for n ds ss us b false false [] 0) (codes "/TRACE")
         (trace-card (asked_for n ds ss us false false false [] 0)) trace
 
-    add_time : (trace time : Bool) → CardsLead (asked_for n ds ss us trace false false [] 0) (marked time (codes "/TIME"))
+    add_time : (trace time : Bool) → CardsLead (asked_for n ds ss us trace false false [] 0) (card_where time (codes "/TIME"))
         (asked_for n ds ss us trace time false [] 0)
     add_time trace time = cards_marked (λ b. asked_for n ds ss us trace b false [] 0) (codes "/TIME")
         (time-card (asked_for n ds ss us trace false false [] 0)) time
 
-    add_chart : (trace time chart : Bool) → CardsLead (asked_for n ds ss us trace time false [] 0) (marked chart (codes "/CHART"))
+    add_chart : (trace time chart : Bool) → CardsLead (asked_for n ds ss us trace time false [] 0) (card_where chart (codes "/CHART"))
         (asked_for n ds ss us trace time chart [] 0)
     add_chart trace time chart = cards_marked (λ b. asked_for n ds ss us trace time b [] 0) (codes "/CHART")
         (chart-card (asked_for n ds ss us trace time false [] 0)) chart
@@ -265,9 +265,9 @@ controls-read a limits some unlisted =
     let c2 : List (List ℕ) = map (λ d. codes "/DELAYS " ++ decimal d) ds in
     let c3 : List (List ℕ) = map (λ s. codes "/SIGNAL " ++ decimal s.count ++ codes " " ++ decimal s.indicator) ss in
     let c4 : List (List ℕ) = map (λ p. codes "/DUMP " ++ decimal p.0 ++ codes " " ++ decimal p.1) us in
-    let c5 = marked a.trace (codes "/TRACE") in
-    let c6 = marked a.time (codes "/TIME") in
-    let c7 = marked a.chart (codes "/CHART") in
+    let c5 = card_where a.trace (codes "/TRACE") in
+    let c6 = card_where a.time (codes "/TIME") in
+    let c7 = card_where a.chart (codes "/CHART") in
     let c8 : List (List ℕ) = map (λ t. codes "/SNAP " ++ decimal t) a.snaps in
     let c9 = back_cards a.back in
     let budget = add_budget n some limits.budget in

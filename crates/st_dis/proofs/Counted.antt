@@ -1,14 +1,14 @@
 -- How many cards words have.
 use Rattle.std.proofs.Common.{◌≡◌, ◌≤◌, ◌+◌, ◌-◌, ◌==◌, ◌++◌, ℕ, true, false, List, [], ◌∷◌, length, map, take, drop, get_or, if◌then◌else◌, refl, ap, sym, ◌∙◌, length-append, arith}
 use Rattle.std.proofs.lemmas.List.{take_all}
-use Rattle.st_dis.specs.Deck.{statement_card, location_text, location_cards, cards_of_word, word_cards}
+use Rattle.st_dis.specs.Deck.{statement_card, location_statement, location_cards, cards_of_word, word_cards}
 use Rattle.st_dis.specs.Spelling.{statements_of}
 
 -- where a word stands does not matter
 location_cards-length : (v w before : ℕ) → length (location_cards v before) ≡ length (location_cards w before)
 location_cards-length v w before =
-    let one = statement_card (location_text v) in
-    let other = statement_card (location_text w) in
+    let one = statement_card (location_statement v) in
+    let other = statement_card (location_statement w) in
     elim (before == 0) as (λ b. length (if b then one ∷ [] else []) ≡ length (if b then other ∷ [] else []))
     [ true ↦ refl | false ↦ refl ]
 

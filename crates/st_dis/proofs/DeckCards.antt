@@ -15,7 +15,7 @@ use Rattle.st_strap.proofs.NumberCards.{word_form, data-read}
 use Rattle.st_asm.specs.Symbols.{accepts_all, is_defined}
 use Rattle.st_asm.specs.Values.{values_of}
 use Rattle.st_asm.specs.Places.{role_of, length_in}
-use Rattle.st_asm.specs.Naming.{unnamed}
+use Rattle.st_asm.specs.Naming.{naming_at_start}
 use Rattle.st_asm.specs.Checks.{value_fault}
 use Rattle.st_asm.specs.Laying.{bits_of}
 use Rattle.st_asm.specs.Forming.{form_pass}
@@ -23,7 +23,7 @@ use Rattle.st_asm.specs.Alone.{laid_alone, laid_if_read, laid_by}
 use Rattle.st_asm.specs.declared.alone.LaidBits.{LaidBits}
 use Rattle.st_object.specs.Object.{Program, IsProgram, AreWords}
 use Rattle.st_dis.specs.Spelling.{number_text, statements_of}
-use Rattle.st_dis.specs.Deck.{statement_card, location_text, location_cards, cards_of_word, word_cards, end_text, marked, order_cards, back_cards, show_cards, deck_cards, deck_of, deck_text, card_count}
+use Rattle.st_dis.specs.Deck.{statement_card, location_statement, location_cards, cards_of_word, word_cards, end_text, card_where, order_cards, back_cards, show_cards, deck_cards, deck_of, deck_text, card_count}
 use Rattle.st_dis.proofs.Spelled.{statements-cases, whole_bits, half_bits}
 use Rattle.st_dis.proofs.WordRead.{says-lays}
 use Rattle.st_dis.proofs.Printable.{IsWritten, deck_written}
@@ -40,16 +40,16 @@ placed-texts : (w before word : ℕ) → cards_of_word w before word ≡ map sta
 unfolding cards_of_word
 placed-texts w before word =
     let texts = statements_of word in
-    let card = statement_card (location_text w) in
+    let card = statement_card (location_statement w) in
     let location : (b : Bool) → (if b then card ∷ [] else []) ++ map statement_card texts
-    ≡ map statement_card ((if b then location_text w ∷ [] else []) ++ texts) = λ b.
+    ≡ map statement_card ((if b then location_statement w ∷ [] else []) ++ texts) = λ b.
     elim b as (λ b. (if b then card ∷ [] else []) ++ map statement_card texts
-    ≡ map statement_card ((if b then location_text w ∷ [] else []) ++ texts)) [
+    ≡ map statement_card ((if b then location_statement w ∷ [] else []) ++ texts)) [
       | true ↦ refl
       | false ↦ refl
     ] in
     elim (word == 0) as (λ b. (if b then [] else location_cards w before ++ map statement_card texts)
-    ≡ map statement_card (if b then [] else (if before == 0 then location_text w ∷ [] else []) ++ texts)) [
+    ≡ map statement_card (if b then [] else (if before == 0 then location_statement w ∷ [] else []) ++ texts)) [
       | true ↦ refl
       | false ↦ location (before == 0)
     ]
@@ -109,7 +109,7 @@ lays_by false faultless length bits wanted lays = let no : ⊥ = cc in absurd no
 lays-length : (s : Statement) (wanted : LaidBits) → laid_by [] s ≡ Some wanted → length_in (role_of s) ≡ wanted.length
 unfolding laid_by
 lays-length s wanted lays =
-    lays_by (accepts_all (is_defined []) s) (is_none (value_fault s (values_of [] s) unnamed.location))
+    lays_by (accepts_all (is_defined []) s) (is_none (value_fault s (values_of [] s) naming_at_start.location))
     (length_in (role_of s)) (bits_of s (values_of [] s)) wanted lays
 
 open-length : (s : Statement) → 0 < length_in (role_of s) → IsOpen s
@@ -155,14 +155,14 @@ statements-read word small =
 word-read : (w before word : ℕ) → w < 98304 → word < 2 ^ 64 → AreOpen (word_statements w before word)
 word-read w before word within small =
     let texts = statements_of word in
-    let place : AreOpen (location_text w ∷ []) =
-    one_text (location_text w) (SetLocation (number_expr (64 * w))) (location-read w within) refl in
-    let here : (b : Bool) → AreOpen ((if b then location_text w ∷ [] else []) ++ texts) = λ b.
-    elim b as (λ b. AreOpen ((if b then location_text w ∷ [] else []) ++ texts)) [
-      | true ↦ both_texts (location_text w ∷ []) texts place (statements-read word small)
+    let place : AreOpen (location_statement w ∷ []) =
+    one_text (location_statement w) (SetLocation (number_expr (64 * w))) (location-read w within) refl in
+    let here : (b : Bool) → AreOpen ((if b then location_statement w ∷ [] else []) ++ texts) = λ b.
+    elim b as (λ b. AreOpen ((if b then location_statement w ∷ [] else []) ++ texts)) [
+      | true ↦ both_texts (location_statement w ∷ []) texts place (statements-read word small)
       | false ↦ statements-read word small
     ] in
-    elim (word == 0) as (λ b. AreOpen (if b then [] else (if before == 0 then location_text w ∷ [] else []) ++ texts)) [
+    elim (word == 0) as (λ b. AreOpen (if b then [] else (if before == 0 then location_statement w ∷ [] else []) ++ texts)) [
       | true ↦ no_texts
       | false ↦ here (before == 0)
     ]
@@ -188,7 +188,7 @@ end_of p = End (number_expr (32 * p.start))
 only : (card : List ℕ) → IsControl card → All IsControl (card ∷ [])
 only card is = All-cons IsControl card [] is (All-nil IsControl)
 
-where_asked : (b : Bool) (card : List ℕ) → IsControl card → All IsControl (marked b card)
+where_asked : (b : Bool) (card : List ℕ) → IsControl card → All IsControl (card_where b card)
 where_asked true card is = only card is
 where_asked false card is = All-nil IsControl
 
@@ -220,9 +220,9 @@ back_cards-kind k =
 
 pub show_cards-kind : (a : Asked) → All IsControl (show_cards a)
 show_cards-kind a =
-    let c5 = marked a.trace (codes "/TRACE") in
-    let c6 = marked a.time (codes "/TIME") in
-    let c7 = marked a.chart (codes "/CHART") in
+    let c5 = card_where a.trace (codes "/TRACE") in
+    let c6 = card_where a.time (codes "/TIME") in
+    let c7 = card_where a.chart (codes "/CHART") in
     let c8 : List (List ℕ) = map (λ t. codes "/SNAP " ++ decimal t) a.snaps in
     All-append IsControl (c5 ++ c6 ++ c7 ++ c8) (back_cards a.back)
     (All-append IsControl (c5 ++ c6 ++ c7) c8

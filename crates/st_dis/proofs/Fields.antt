@@ -1,6 +1,6 @@
 -- The fields of a list of index words by the last of them.
 use Rattle.std.proofs.Common.{◌≡◌, ◌<◌, ◌-◌, ◌++◌, ℕ, suc, zero, [], if◌then◌else◌, refl, arith}
-use Rattle.st_dis.specs.Texts.{index_field, has_index, listed_fields}
+use Rattle.st_dis.specs.Texts.{index_field_text, has_index, listed_fields}
 
 -- of no index words none is listed
 pub listed_fields-none : (n address : ℕ) → n ≡ 0 → listed_fields n address ≡ []
@@ -10,7 +10,7 @@ listed_fields-none (suc n) address none = let no : ⊥ = omega arith in absurd n
 
 -- the last one stands behind the others
 pub listed_fields-last : (n address : ℕ) → 0 < n → listed_fields n address
-    ≡ listed_fields (n - 1) address ++ (if has_index address (n - 1) then index_field (n - 1) else [])
+    ≡ listed_fields (n - 1) address ++ (if has_index address (n - 1) then index_field_text (n - 1) else [])
 unfolding listed_fields
 listed_fields-last zero address some = let no : ⊥ = omega arith in absurd no
 listed_fields-last (suc n) address some = let less : suc n - 1 ≡ n = omega arith in rw less

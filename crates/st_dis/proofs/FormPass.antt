@@ -5,20 +5,20 @@ use Rattle.std.proofs.lemmas.List.{take_all, length-map, map-append}
 use Rattle.std.proofs.lemmas.List.Elements.{All-nil, All-cons, All-head, All-tail}
 use Rattle.std.proofs.lemmas.Bool.{and_parts}
 use Rattle.st_card.specs.Cards.{is_blank, kind_of, cards_of, text_in}
-use Rattle.st_card.specs.Controls.{Asked, nothing_asked, added}
+use Rattle.st_card.specs.Controls.{Asked, nothing_asked, asked_with_card}
 use Rattle.st_card.specs.declared.cards.Card.{Card}
 use Rattle.st_card.specs.declared.cards.CardKind.{CardKind}
 use Rattle.st_card.specs.declared.cards.CardKind.TheVariants.{Comment, Control, Statement as StatementCard}
 use Rattle.st_card.specs.declared.faults.Fault.{Fault}
 use Rattle.st_card.specs.declared.faults.Fault.TheVariants.{BadName, UnknownOperation, BadControlCard}
-use Rattle.st_strap.specs.Order.{judged, mapped}
-use Rattle.st_strap.specs.Table.{operation_of, other_operations, index_operations, field_operations, negated_operation, connective, kinds, truth_tables}
-use Rattle.st_strap.specs.Text.{clean, stop}
-use Rattle.st_strap.specs.Saying.{said, is_misnamed, clean_statement_of, statement_of}
+use Rattle.st_strap.specs.Order.{next_reading, reading_map}
+use Rattle.st_strap.specs.Table.{operation_of_word, other_operations, index_operations, field_operations, negated_operation, connective, connective_kinds, truth_tables}
+use Rattle.st_strap.specs.Text.{statement_text, stop}
+use Rattle.st_strap.specs.Saying.{reading_of_operation, is_misnamed, clean_statement_of, statement_of}
 use Rattle.st_strap.specs.Statements.{Statement}
-use Rattle.st_asm.specs.Pass.{Refusal, onward, pass, and_then, unless_faulty}
-use Rattle.st_asm.specs.Lines.{name_field, statement_field, name_in, silent, saying}
-use Rattle.st_asm.specs.Forming.{Found, unread, first_fault_of, is_end, with_statement, with_control, form_control, form_statement, form_kind, form_card, with_end, form_pass}
+use Rattle.st_asm.specs.Pass.{Refusal, onward, pass, pass_then, unless_faulty}
+use Rattle.st_asm.specs.Lines.{name_field, statement_field, name_in, is_silent, saying}
+use Rattle.st_asm.specs.Forming.{Found, found_at_start, first_fault_of, is_end, with_statement, with_control, form_control, form_statement, form_kind, form_card, with_end, form_pass}
 use Rattle.st_dis.specs.Deck.{statement_card, deck_of}
 use Rattle.st_dis.specs.Read.{CardsLead}
 use Rattle.st_dis.proofs.Printable.{IsWritten}
@@ -81,19 +81,19 @@ without_blanks (suc k) (c ∷ cs) blanks =
     ap (λ (b : Bool). if not b then c ∷ filter (λ d. not (d == 32)) (take k cs) else filter (λ d. not (d == 32)) (take k cs)) parts.0
     ∙ without_blanks k cs parts.1
 
-no_operation : operation_of [] ≡ None
-unfolding operation_of other_operations index_operations field_operations negated_operation connective kinds truth_tables
+no_operation : operation_of_word [] ≡ None
+unfolding operation_of_word other_operations index_operations field_operations negated_operation connective connective_kinds truth_tables
 no_operation = refl
 
 no_statement : clean_statement_of [] [] ≡ Err UnknownOperation
 unfolding clean_statement_of is_misnamed
-no_statement = ap (λ op. if is_misnamed [] op then Err BadName else judged UnknownOperation op (λ found. said found [])) no_operation
+no_statement = ap (λ op. if is_misnamed [] op then Err BadName else next_reading UnknownOperation op (λ found. reading_of_operation found [])) no_operation
 
 nothing_said : (s : Statement) → clean_statement_of [] [] ≡ Ok s → ⊥
 nothing_said s read = let same : Err UnknownOperation ≡ Ok s = sym no_statement ∙ read in let no : ⊥ = cc in no
 
 blank-unread : (text : List ℕ) (s : Statement) → is_blank text ≡ true → statement_of [] text ≡ Ok s → ⊥
-unfolding clean
+unfolding statement_text
 blank-unread text s blanks read =
     nothing_said s (ap (λ (t : List ℕ). clean_statement_of [] t) (sym (without_blanks (stop 59 59 text) text blanks)) ∙ read)
 
@@ -132,11 +132,11 @@ statement-formed asked lines n text s short read =
     let found = found_as false asked lines in
     let card = statement_card text in
     let reads : List ℕ → List ℕ → Result Found Fault =
-    λ name t. mapped (λ x. with_statement found n name x) (statement_of name t) in
+    λ name t. reading_map (λ x. with_statement found n name x) (statement_of name t) in
     ap (λ (k : CardKind). form_kind k found n None card) (statement-kind text s short read)
     ∙ (ap (λ (name : List ℕ). reads name (statement_field card)) (card-name text)
     ∙ (ap (λ (t : List ℕ). reads [] t) (card-statement text short)
-    ∙ ap (λ (r : Result Statement Fault). mapped (λ x. with_statement found n [] x) r) read))
+    ∙ ap (λ (r : Result Statement Fault). reading_map (λ x. with_statement found n [] x) r) read))
 
 -- a statement that is not the end
 abbrev pub IsOpen : Statement → Type 0
@@ -180,13 +180,13 @@ abbrev pub IsControl : List ℕ → Type 0
 IsControl card = kind_of card ≡ Control
 
 -- what a control card does behind the end
-control-formed : (asked next : Asked) (lines : List Line) (n : ℕ) (card : List ℕ) → IsControl card → added asked card ≡ Some next →
-    form_text (found_as true asked lines) n card ≡ Ok (found_as true next (lines ++ silent n ∷ []))
+control-formed : (asked next : Asked) (lines : List Line) (n : ℕ) (card : List ℕ) → IsControl card → asked_with_card asked card ≡ Some next →
+    form_text (found_as true asked lines) n card ≡ Ok (found_as true next (lines ++ is_silent n ∷ []))
 unfolding form_control
 control-formed asked next lines n card is adds =
     let found = found_as true asked lines in
     ap (λ (k : CardKind). form_kind k found n None card) is
-    ∙ ap (λ (o : Option Asked). judged BadControlCard o (λ a. Ok (with_control found n a))) adds
+    ∙ ap (λ (o : Option Asked). next_reading BadControlCard o (λ a. Ok (with_control found n a))) adds
 
 controls-lead : (asked to : Asked) (lines : List Line) (n : ℕ) (cards : List (List ℕ)) → All IsControl cards → CardsLead asked cards to →
     TextsLead (found_as true asked lines) n cards (found_as true to (lines ++ silent_lines n (length cards)))
@@ -194,12 +194,12 @@ controls-lead asked to lines n [] marks leads =
     ap (λ (ls : List Line). found_as true asked ls) (sym (append-nil lines))
     ∙ ap (λ (a : Asked). found_as true a (lines ++ [])) leads
 controls-lead asked to lines n (card ∷ cards) marks leads =
-    let more : List Line = lines ++ silent n ∷ [] in
+    let more : List Line = lines ++ is_silent n ∷ [] in
     let rest = controls-lead leads.0 to more (n + 1) cards (All-tail IsControl card cards marks) leads.2 in (
       found_as true leads.0 more,
       control-formed asked leads.0 lines n card (All-head IsControl card cards marks) leads.1,
       subst (λ (ls : List Line). TextsLead (found_as true leads.0 more) (n + 1) cards (found_as true to ls))
-          (append_assoc lines (silent n ∷ []) (silent_lines (n + 1) (length cards))) rest,
+          (append_assoc lines (is_silent n ∷ []) (silent_lines (n + 1) (length cards))) rest,
     )
 
 -- ---- the whole job
@@ -258,7 +258,7 @@ found_in_job ss controls asked =
 
 job-leads : (texts : List (List ℕ)) (final : List ℕ) (controls : List (List ℕ)) (before : List Statement) (last : Statement) (asked : Asked) →
     IsJob texts final controls before last asked → All IsCard (job_cards texts final controls) →
-    TextsLead unread 1 (job_cards texts final controls) (found_in_job (before ++ last ∷ []) (length controls) asked)
+    TextsLead found_at_start 1 (job_cards texts final controls) (found_in_job (before ++ last ∷ []) (length controls) asked)
 job-leads texts final controls before last asked is short =
     let cards = map statement_card texts in
     let end = statement_card final ∷ [] in
@@ -283,12 +283,12 @@ job-leads texts final controls before last asked is short =
     let one = statements-lead nothing_asked [] 1 texts before texts_short is.read is.going in
     let two = end-lead nothing_asked (spoken_lines 1 before) k final last final_short is.final_read is.ends in
     let three = controls-lead nothing_asked asked lines j controls is.marks is.leads in
-    let spoken_cards = leads-on unread until ended 1 k cards end (omega (arith, count, cards_count)) one two in
-    let whole = leads-on unread ended to 1 j (cards ++ end) controls (omega (arith, count, cards_count, all_count, size)) spoken_cards three in
+    let spoken_cards = leads-on found_at_start until ended 1 k cards end (omega (arith, count, cards_count)) one two in
+    let whole = leads-on found_at_start ended to 1 j (cards ++ end) controls (omega (arith, count, cards_count, all_count, size)) spoken_cards three in
     let found : to ≡ found_in_job all (length controls) asked =
     ap (λ (ls : List Line). found_as true asked (ls ++ silent_lines j (length controls))) (sym spoken) in
-    subst (λ (f : Found). TextsLead unread 1 (job_cards texts final controls) f) found
-    (subst (λ (cs : List (List ℕ)). TextsLead unread 1 cs to) (sym whole_cards) whole)
+    subst (λ (f : Found). TextsLead found_at_start 1 (job_cards texts final controls) f) found
+    (subst (λ (cs : List (List ℕ)). TextsLead found_at_start 1 cs to) (sym whole_cards) whole)
 
 -- the form pass over it
 pub job-formed : (texts : List (List ℕ)) (final : List ℕ) (controls : List (List ℕ)) (before : List Statement) (last : Statement)
@@ -303,6 +303,6 @@ job-formed texts final controls before last asked is written short few =
     let job = deck_of lines in
     let cards = cards_of job in
     let found = found_in_job (before ++ last ∷ []) (length controls) asked in
-    let passes = cards-pass job unread found 1 lines cards (lines_cut lines written short few).each
+    let passes = cards-pass job found_at_start found 1 lines cards (lines_cut lines written short few).each
     (job-leads texts final controls before last asked is short) in
-    ap (λ (r : Result Found Refusal). and_then r (with_end (length cards))) passes
+    ap (λ (r : Result Found Refusal). pass_then r (with_end (length cards))) passes

@@ -12,7 +12,7 @@ use Rattle.st_card.specs.Limits.{IsWithinLimits, is_signal, is_part, is_tick}
 use Rattle.st_card.specs.declared.control_cards.Signal.{Signal}
 use Rattle.st_object.specs.Object.{Program, IsProgram, AreWords}
 use Rattle.st_dis.specs.Spelling.{number_text, statements_of}
-use Rattle.st_dis.specs.Deck.{statement_card, location_text, location_cards, cards_of_word, word_cards, end_text, marked, order_cards, back_cards, show_cards, deck_cards, deck_of, deck_text, card_count}
+use Rattle.st_dis.specs.Deck.{statement_card, location_statement, location_cards, cards_of_word, word_cards, end_text, card_where, order_cards, back_cards, show_cards, deck_cards, deck_of, deck_text, card_count}
 use Rattle.st_dis.proofs.Spelled.{statements-cases, says-short, whole_bits, half_bits}
 
 -- a statement has at most 63 characters, and a card at most 72
@@ -72,7 +72,7 @@ all_statement_cards (t ∷ ts) short =
     All-cons IsCard (statement_card t) (map statement_card ts) (statement_card-short t (All-head IsShort t ts short))
     (all_statement_cards ts (All-tail IsShort t ts short))
 
-location_text-short : (w : ℕ) → w < 2 ^ 64 → IsShort (location_text w)
+location_text-short : (w : ℕ) → w < 2 ^ 64 → IsShort (location_statement w)
 location_text-short w small =
     let whole = length-append (codes "SLC,") (decimal w ++ codes ".0") in
     let behind = length-append (decimal w) (codes ".0") in
@@ -81,9 +81,9 @@ location_text-short w small =
 
 location_cards-short : (w before : ℕ) → w < 2 ^ 64 → All IsCard (location_cards w before)
 location_cards-short w before small =
-    let card : IsCard (statement_card (location_text w)) = statement_card-short (location_text w) (location_text-short w small) in
-    elim (before == 0) as (λ b. All IsCard (if b then statement_card (location_text w) ∷ [] else [])) [
-      | true ↦ All-cons IsCard (statement_card (location_text w)) [] card (All-nil IsCard)
+    let card : IsCard (statement_card (location_statement w)) = statement_card-short (location_statement w) (location_text-short w small) in
+    elim (before == 0) as (λ b. All IsCard (if b then statement_card (location_statement w) ∷ [] else [])) [
+      | true ↦ All-cons IsCard (statement_card (location_statement w)) [] card (All-nil IsCard)
       | false ↦ All-nil IsCard
     ]
 
@@ -125,7 +125,7 @@ module _ {X : Type 0} where
 one_card : (card : List ℕ) → length card ≤ 63 → All IsCard (card ∷ [])
 one_card card short = All-cons IsCard card [] (omega arith) (All-nil IsCard)
 
-if_asked : (asked : Bool) (card : List ℕ) → length card ≤ 63 → All IsCard (marked asked card)
+if_asked : (asked : Bool) (card : List ℕ) → length card ≤ 63 → All IsCard (card_where asked card)
 if_asked true card short = one_card card short
 if_asked false card short = All-nil IsCard
 

@@ -7,13 +7,13 @@ use Rattle.st_bits.specs.Storage.{words_of_storage}
 use Rattle.st_strap.specs.Statements.{Statement}
 use Rattle.st_object.specs.Object.{Program, IsProgram, AreWords}
 use Rattle.st_asm.specs.Pass.{pass, onward, unless_faulty}
-use Rattle.st_asm.specs.Lines.{silent, saying}
+use Rattle.st_asm.specs.Lines.{is_silent, saying}
 use Rattle.st_asm.specs.Symbols.{table, accepts_all, has_name, is_defined, names_of}
 use Rattle.st_asm.specs.Values.{values_of}
 use Rattle.st_asm.specs.Places.{role_of, length_in, needs_earlier}
-use Rattle.st_asm.specs.Naming.{Named, unnamed, is_statement_earlier, name_fault, name_step, name_card, name_pass}
+use Rattle.st_asm.specs.Naming.{Named, naming_at_start, is_statement_earlier, name_fault, name_step, name_card, name_pass}
 use Rattle.st_asm.specs.Forming.{is_end}
-use Rattle.st_asm.specs.Laying.{half_word, bits_of}
+use Rattle.st_asm.specs.Laying.{half_word_bits, bits_of}
 use Rattle.st_asm.specs.Valuing.{Laid, with_laid, value_statement, value_card, value_pass}
 use Rattle.st_asm.specs.declared.valuing.Listed.{Listed}
 use Rattle.st_dis.proofs.Said.{Line, deck_statements, AreRead, spoken_lines, silent_lines}
@@ -82,17 +82,17 @@ unfolding value_card value_statement
 spoken-laid here there rows n s steps =
     let all = rows ++ row_at here n s ∷ [] in
     ap (λ o. unless_faulty o (Ok (with_laid (laid_at here rows) n s (values_of [] s) (place_at here s)))) steps.faultless
-    ∙ (ap (λ k. Ok (record { image = k; start = if is_end s then half_word (values_of [] s).first else here.start; rows = all })) steps.image
+    ∙ (ap (λ k. Ok (record { image = k; start = if is_end s then half_word_bits (values_of [] s).first else here.start; rows = all })) steps.image
     ∙ ap (λ k. Ok (record { image = there.image; start = k; rows = all })) steps.start)
 
 -- a card that says nothing
 silent-named : (here : Stand) (places : List (Option ℕ)) (n : ℕ) →
-    name_card (has_name []) (named_at here places) (silent n) ≡ Ok (named_at here (places ++ None ∷ []))
+    name_card (has_name []) (named_at here places) (is_silent n) ≡ Ok (named_at here (places ++ None ∷ []))
 unfolding name_card name_fault name_step
 silent-named here places n = refl
 
 silent-laid : (here : Stand) (rows : List Listed) (n : ℕ) →
-    value_card [] (laid_at here rows) (silent n, None)
+    value_card [] (laid_at here rows) (is_silent n, None)
     ≡ Ok (laid_at here (rows ++ record { card = n; location = None; bits = 0; length = 0 } ∷ []))
 unfolding value_card
 silent-laid here rows n = refl
@@ -124,7 +124,7 @@ more-passed line lines here next there place row named laid rest = record {
 silent-passed : (n k : ℕ) (here : Stand) → Passed (silent_lines n k) here here
 silent-passed n zero here = none-passed here
 silent-passed n (suc k) here =
-    more-passed (silent n) (silent_lines (n + 1) k) here here here None (record { card = n; location = None; bits = 0; length = 0 })
+    more-passed (is_silent n) (silent_lines (n + 1) k) here here here None (record { card = n; location = None; bits = 0; length = 0 })
     (λ before. silent-named here before n) (λ before. silent-laid here before n) (silent-passed (n + 1) k here)
 
 spoken-passed : (n : ℕ) (ss : List Statement) (rest : List Line) (here next there : Stand) → Leads ss here next →
@@ -163,7 +163,7 @@ passed-gives lines words start behind none passed =
     let there = stand behind words start in
     record {
       named = named_at there passed.places;
-      names = ap (λ (ns : List (List ℕ)). pass (name_card (has_name ns)) (λ line. line.card) unnamed lines) none ∙ passed.names [];
+      names = ap (λ (ns : List (List ℕ)). pass (name_card (has_name ns)) (λ line. line.card) naming_at_start lines) none ∙ passed.names [];
       no_symbols = refl;
       laid = laid_at there passed.rows;
       values = passed.values [];

@@ -5,13 +5,13 @@ use Rattle.st_strap.specs.Reading.{number_expr}
 use Rattle.st_strap.specs.Saying.{statement_of}
 use Rattle.st_strap.specs.declared.statement.Statement.TheVariants.{SetLocation, End}
 use Rattle.st_strap.proofs.PlaceCards.{set-read, end-read}
-use Rattle.st_dis.specs.Deck.{location_text, end_text}
+use Rattle.st_dis.specs.Deck.{location_statement, end_text}
 
-pub location-read : (w : ℕ) → w < 98304 → statement_of [] (location_text w) ≡ Ok (SetLocation (number_expr (64 * w)))
+pub location-read : (w : ℕ) → w < 98304 → statement_of [] (location_statement w) ≡ Ok (SetLocation (number_expr (64 * w)))
 location-read w small =
     let zero : decimal 0 ≡ 48 ∷ [] = decimal_digit 0 (omega arith) in
-    let digit : location_text w ≡ codes "SLC," ++ decimal w ++ codes "." ++ 48 ∷ [] = simp append_assoc refl in
-    let same : location_text w ≡ codes "SLC," ++ decimal w ++ codes "." ++ decimal 0 =
+    let digit : location_statement w ≡ codes "SLC," ++ decimal w ++ codes "." ++ 48 ∷ [] = simp append_assoc refl in
+    let same : location_statement w ≡ codes "SLC," ++ decimal w ++ codes "." ++ decimal 0 =
     digit ∙ ap (λ (z : List ℕ). codes "SLC," ++ decimal w ++ codes "." ++ z) (sym zero) in
     let value : 64 * w + 0 ≡ 64 * w = omega arith in
     ap (λ (t : List ℕ). statement_of [] t) same

@@ -18,7 +18,7 @@ use Rattle.st_format.specs.Halves.{is_full}
 use Rattle.st_format.specs.Formats.{instruction_of, is_valid}
 use Rattle.st_format.specs.declared.instruction.Instr.{Instr}
 use Rattle.st_format.specs.declared.instruction.Instr.TheVariants.{Half, Branch, Floating, Vfl, Connect, Move, BitBranch, IndBranch, StoreCounter, Transfer, Invalid}
-use Rattle.st_text.specs.Pieces.{parted, lacks}
+use Rattle.st_text.specs.Pieces.{pieces_of, lacks}
 use Rattle.st_card.specs.Cards.{is_column_1, first_column}
 use Rattle.st_text.specs.Bytes.{is_printable}
 use Rattle.st_object.proofs.ReadBack.{parted_line}
@@ -27,9 +27,9 @@ use Rattle.st_object.specs.Object.{Program}
 use Rattle.st_card.specs.Controls.{Asked}
 use Rattle.st_asm.specs.declared.alone.LaidBits.{LaidBits}
 use Rattle.st_dis.specs.Names.{half_name, branch_name, field_name, negation, kind_name, truth_digits, move_name, changes, change_name, turning, order_name, mode_name, forms, form_name}
-use Rattle.st_dis.specs.Texts.{index_field, index_part, half_field, bit_field, second_field, number_field, offset_field, has_index, listed_fields, half_text, branch_text, description, operand, text_of}
+use Rattle.st_dis.specs.Texts.{index_field_text, index_part_text, half_field, bit_field, second_field, number_field, offset_field, has_index, listed_fields, half_text, branch_text, description, operand_text, instruction_text}
 use Rattle.st_dis.specs.Spelling.{says, spelling_of, word_spelling, half_spelling, number_text, statements_by, statements_of}
-use Rattle.st_dis.specs.Deck.{statement_card, location_text, location_cards, cards_of_word, word_cards, end_text, marked, order_cards, back_cards, show_cards, deck_cards, deck_of, deck_text}
+use Rattle.st_dis.specs.Deck.{statement_card, location_statement, location_cards, cards_of_word, word_cards, end_text, card_where, order_cards, back_cards, show_cards, deck_cards, deck_of, deck_text}
 
 -- a text of blanks and visible characters
 abbrev pub IsPlain : List ℕ → Type 0
@@ -183,21 +183,21 @@ form_plain p = one_of forms p refl
 
 -- ---- fields
 
-index_plain : (j : ℕ) → IsPlain (index_field j)
+index_plain : (j : ℕ) → IsPlain (index_field_text j)
 index_plain j = join (codes ",$X") (decimal j) refl (number j)
 
-part_plain : (i : ℕ) → IsPlain (index_part i)
+part_plain : (i : ℕ) → IsPlain (index_part_text i)
 part_plain i = chosen (i == 0) [] (codes "($X" ++ decimal i ++ codes ")") refl (joined (codes "($X") (decimal i) (codes ")") refl (number i) refl)
 
 half_address_plain : (h : ℕ) → IsPlain (half_address h)
 half_address_plain h = placed_at (h / 2) (32 * (h % 2))
 
 half_field_plain : (address i : ℕ) → IsPlain (half_field address i)
-half_field_plain address i = joined (codes ",") (half_address address) (index_part i) refl (half_address_plain address) (part_plain i)
+half_field_plain address i = joined (codes ",") (half_address address) (index_part_text i) refl (half_address_plain address) (part_plain i)
 
 bit_field_plain : (address i : ℕ) → IsPlain (bit_field address i)
 bit_field_plain address i =
-    joined (codes ",") (bit_address address) (index_part i) refl (placed_at (address / 64) (address % 64)) (part_plain i)
+    joined (codes ",") (bit_address address) (index_part_text i) refl (placed_at (address / 64) (address % 64)) (part_plain i)
 
 second_plain : (second : ℕ) → IsPlain (second_field second)
 second_plain second = join (codes ",") (half_address second) refl (half_address_plain second)
@@ -212,8 +212,8 @@ listed_plain : (n address : ℕ) → IsPlain (listed_fields n address)
 unfolding listed_fields
 listed_plain zero address = refl
 listed_plain (suc n) address =
-    join (listed_fields n address) (if has_index address n then index_field n else []) (listed_plain n address)
-    (chosen (has_index address n) (index_field n) [] (index_plain n) refl)
+    join (listed_fields n address) (if has_index address n then index_field_text n else []) (listed_plain n address)
+    (chosen (has_index address n) (index_field_text n) [] (index_plain n) refl)
 
 description_plain : (d u : Bool) (bits byte : ℕ) → IsPlain (description d u bits byte)
 description_plain d u bits byte =
@@ -221,20 +221,20 @@ description_plain d u bits byte =
     let middle = joined (codes "(" ++ mode_name d u) (number_field bits) (number_field byte) front (number_field_plain bits) (number_field_plain byte) in
     join (codes "(" ++ mode_name d u ++ number_field bits ++ number_field byte) (codes ")") middle refl
 
-operand_plain : (p address i offset : ℕ) → IsPlain (operand p address i offset)
+operand_plain : (p address i offset : ℕ) → IsPlain (operand_text p address i offset)
 operand_plain p address i offset =
     joined (form_name p) (bit_field address i) (offset_field offset) (form_plain p) (bit_field_plain address i) (offset_plain offset)
 
 -- ---- instructions
 
-with_fields : (op : HalfOp) (address j i : ℕ) → IsPlain (half_name op ++ index_field j ++ half_field address i)
+with_fields : (op : HalfOp) (address j i : ℕ) → IsPlain (half_name op ++ index_field_text j ++ half_field address i)
 with_fields op address j i =
-    joined (half_name op) (index_field j) (half_field address i) (half_plain op) (index_plain j) (half_field_plain address i)
+    joined (half_name op) (index_field_text j) (half_field address i) (half_plain op) (index_plain j) (half_field_plain address i)
 
 half_text_plain : (op : HalfOp) (address j i : ℕ) → IsPlain (half_text op address j i)
 half_text_plain Ex address j i = join (half_name Ex) (half_field address i) refl (half_field_plain address i)
-half_text_plain R address j i = join (half_name R) (index_field j) refl (index_plain j)
-half_text_plain Lvs address j i = joined (half_name Lvs) (index_field j) (listed_fields 16 address) refl (index_plain j) (listed_plain 16 address)
+half_text_plain R address j i = join (half_name R) (index_field_text j) refl (index_plain j)
+half_text_plain Lvs address j i = joined (half_name Lvs) (index_field_text j) (listed_fields 16 address) refl (index_plain j) (listed_plain 16 address)
 half_text_plain Lx address j i = with_fields Lx address j i
 half_text_plain Lv address j i = with_fields Lv address j i
 half_text_plain Lc address j i = with_fields Lc address j i
@@ -268,17 +268,17 @@ branch_text_plain Br address i = join (branch_name Br) (half_field address i) re
 branch_text_plain Be address i = join (branch_name Be) (half_field address i) refl (half_field_plain address i)
 branch_text_plain Bd address i = join (branch_name Bd) (half_field address i) refl (half_field_plain address i)
 
-text_plain : (instr : Instr) → IsPlain (text_of instr)
-unfolding text_of
+text_plain : (instr : Instr) → IsPlain (instruction_text instr)
+unfolding instruction_text
 text_plain (Half op address j i) = half_text_plain op address j i
 text_plain (Branch op address i) = branch_text_plain op address i
 text_plain (Floating number address i) = refl
 text_plain (Vfl op d u negated p bits byte offset address i) =
-    join (field_name op ++ negation negated ++ description d u bits byte) (operand p address i offset)
+    join (field_name op ++ negation negated ++ description d u bits byte) (operand_text p address i offset)
     (joined (field_name op) (negation negated) (description d u bits byte) (field_plain op) (negation_plain negated) (description_plain d u bits byte))
     (operand_plain p address i offset)
 text_plain (Connect kind truth p bits byte offset address i) =
-    join (kind_name kind ++ truth_digits truth ++ description false true bits byte) (operand p address i offset)
+    join (kind_name kind ++ truth_digits truth ++ description false true bits byte) (operand_text p address i offset)
     (joined (kind_name kind) (truth_digits truth) (description false true bits byte) (kind_plain kind) (truth_plain truth) (description_plain false true bits byte))
     (operand_plain p address i offset)
 text_plain (Move swap address i second count) =
@@ -314,7 +314,7 @@ where_it_is false text p = tt
 
 spelled : (instr : Instr) (wanted : LaidBits) → SpellsPlain (spelling_of instr wanted)
 unfolding spelling_of
-spelled instr wanted = where_it_is (is_valid instr && says (text_of instr) wanted) (text_of instr) (text_plain instr)
+spelled instr wanted = where_it_is (is_valid instr && says (instruction_text instr) wanted) (instruction_text instr) (text_plain instr)
 
 word_spelled : (left right : ℕ) → SpellsPlain (word_spelling left right)
 word_spelled left right =
@@ -383,8 +383,8 @@ where_not false cards p = p
 
 location_plain : (w before : ℕ) → All IsWritten (location_cards w before)
 location_plain w before =
-    let card = statement_card (location_text w) in
-    where_asked (before == 0) (card ∷ []) (only card (card_plain (location_text w) (joined (codes "SLC,") (decimal w) (codes ".0") refl (number w) refl)))
+    let card = statement_card (location_statement w) in
+    where_asked (before == 0) (card ∷ []) (only card (card_plain (location_statement w) (joined (codes "SLC,") (decimal w) (codes ".0") refl (number w) refl)))
 
 placed_plain : (w before word : ℕ) → All IsWritten (cards_of_word w before word)
 unfolding cards_of_word
@@ -426,9 +426,9 @@ back_plain k =
 
 pub shows_plain : (a : Asked) → All IsWritten (show_cards a)
 shows_plain a =
-    let c5 = marked a.trace (codes "/TRACE") in
-    let c6 = marked a.time (codes "/TIME") in
-    let c7 = marked a.chart (codes "/CHART") in
+    let c5 = card_where a.trace (codes "/TRACE") in
+    let c6 = card_where a.time (codes "/TIME") in
+    let c7 = card_where a.chart (codes "/CHART") in
     let c8 : List (List ℕ) = map (λ t. codes "/SNAP " ++ decimal t) a.snaps in
     All-append IsWritten (c5 ++ c6 ++ c7 ++ c8) (back_cards a.back)
     (All-append IsWritten (c5 ++ c6 ++ c7) c8
@@ -469,14 +469,14 @@ lacking (c ∷ cs) p =
     let other : not (c == 10) ≡ true = grind (arith, nat_tests, parts.0) in
     and_from (not (c == 10)) (lacks 10 cs) other (lacking cs parts.1)
 
-pub pieces : (cards : List (List ℕ)) → All IsWritten cards → parted 10 (deck_of cards) ≡ cards ++ [] ∷ []
+pub pieces : (cards : List (List ℕ)) → All IsWritten cards → pieces_of 10 (deck_of cards) ≡ cards ++ [] ∷ []
 pieces [] p = refl
 pieces (card ∷ cards) p =
-    ap (λ (s : List ℕ). parted 10 s) (append_assoc card (10 ∷ []) (deck_of cards))
+    ap (λ (s : List ℕ). pieces_of 10 s) (append_assoc card (10 ∷ []) (deck_of cards))
     ∙ (parted_line card (deck_of cards) (lacking card (All-head IsWritten card cards p).plain)
     ∙ ap (λ (more : List (List ℕ)). card ∷ more) (pieces cards (All-tail IsWritten card cards p)))
 
 -- the pieces of a deck between its line ends are its cards
-pub deck_pieces : (p : Program) → parted 10 (deck_text p) ≡ deck_cards p ++ [] ∷ []
+pub deck_pieces : (p : Program) → pieces_of 10 (deck_text p) ≡ deck_cards p ++ [] ∷ []
 unfolding deck_text
 deck_pieces p = pieces (deck_cards p) (deck_written p)

@@ -4,8 +4,8 @@ use Rattle.std.specs.Prelude.{List, [], ◌∷◌, ◌++◌, Ok, None}
 use Rattle.st_object.specs.Object.{Program}
 use Rattle.st_strap.specs.Saying.{statement_of}
 use Rattle.st_strap.specs.Statements.{Statement}
-use Rattle.st_asm.specs.Lines.{silent, saying}
-use Rattle.st_dis.specs.Deck.{location_text, end_text, order_cards, show_cards}
+use Rattle.st_asm.specs.Lines.{is_silent, saying}
+use Rattle.st_dis.specs.Deck.{location_statement, end_text, order_cards, show_cards}
 use Rattle.st_dis.specs.Spelling.{statements_of}
 
 -- the type of a thing
@@ -14,12 +14,12 @@ type_of {X} x = X
 
 -- what a card is to the passes behind the first one
 abbrev pub Line : Type 0
-Line = type_of (silent 0)
+Line = type_of (is_silent 0)
 
 -- the statements of word w, with the word before it: none where it is zero
 abbrev pub word_statements : ℕ → ℕ → ℕ → List (List ℕ)
 word_statements w before word =
-    if word == 0 then [] else (if before == 0 then location_text w ∷ [] else []) ++ statements_of word
+    if word == 0 then [] else (if before == 0 then location_statement w ∷ [] else []) ++ statements_of word
 
 -- those of the words from word w on, with the word before
 abbrev pub statements_from : ℕ → ℕ → List ℕ → List (List ℕ)
@@ -48,4 +48,4 @@ spoken_lines n (s ∷ ss) = saying n None s ∷ spoken_lines (n + 1) ss
 -- the lines of k cards that say nothing, from card n on
 abbrev pub silent_lines : ℕ → ℕ → List Line
 silent_lines n zero = []
-silent_lines n (suc k) = silent n ∷ silent_lines (n + 1) k
+silent_lines n (suc k) = is_silent n ∷ silent_lines (n + 1) k

@@ -7,7 +7,7 @@ use Rattle.st_format.specs.Formats.{instruction_of, is_valid}
 use Rattle.st_format.specs.declared.instruction.Instr.{Instr}
 use Rattle.st_asm.specs.Alone.{laid_alone}
 use Rattle.st_asm.specs.declared.alone.LaidBits.{LaidBits}
-use Rattle.st_dis.specs.Texts.{text_of}
+use Rattle.st_dis.specs.Texts.{instruction_text}
 use Rattle.st_dis.specs.Spelling.{is_laid, says, spelling_of, word_spelling, half_spelling, number_text, statements_by, statements_of}
 
 -- the bits of a word, and of a half-word
@@ -26,8 +26,8 @@ given false x y same = let no : ⊥ = cc in absurd no
 spelling-says : (instr : Instr) (wanted : LaidBits) (text : List ℕ) → spelling_of instr wanted ≡ Some text → says text wanted ≡ true
 unfolding spelling_of
 spelling-says instr wanted text same =
-    let parts = given (is_valid instr && says (text_of instr) wanted) (text_of instr) text same in
-    let said = (both (is_valid instr) (says (text_of instr) wanted) parts.0).1 in
+    let parts = given (is_valid instr && says (instruction_text instr) wanted) (instruction_text instr) text same in
+    let said = (both (is_valid instr) (says (instruction_text instr) wanted) parts.0).1 in
     ap (λ (t : List ℕ). says t wanted) (sym parts.1) ∙ said
 
 -- what stands only where a test holds

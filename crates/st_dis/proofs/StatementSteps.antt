@@ -11,11 +11,11 @@ use Rattle.st_strap.specs.Statements.{Statement}
 use Rattle.st_strap.specs.declared.statement.Statement.TheVariants.{Half, Sum, Refill, Branch, Floating, Vfl, Connect, Move, BitBranch, IndBranch, StoreCounter, Transfer, Data, IndexWord, Synonym, SetLocation, Reserve, End}
 use Rattle.st_asm.specs.Forming.{is_end}
 use Rattle.st_asm.specs.Symbols.{accepts_all, is_defined}
-use Rattle.st_asm.specs.Values.{values_of, wrapped}
-use Rattle.st_asm.specs.Places.{role_of, length_in, aligned, place_in, behind_in}
-use Rattle.st_asm.specs.Naming.{unnamed, place_of_statement, behind_statement}
+use Rattle.st_asm.specs.Values.{values_of, value_modulo}
+use Rattle.st_asm.specs.Places.{role_of, length_in, next_multiple, place_in, behind_in}
+use Rattle.st_asm.specs.Naming.{naming_at_start, place_of_statement, behind_statement}
 use Rattle.st_asm.specs.Checks.{in_range, fits, on_boundary, extent, in_storage, value_fault}
-use Rattle.st_asm.specs.Laying.{half_word, bits_of}
+use Rattle.st_asm.specs.Laying.{half_word_bits, bits_of}
 use Rattle.st_asm.specs.Valuing.{image_with}
 use Rattle.st_asm.specs.Alone.{laid_if_read, laid_by, laid_alone}
 use Rattle.st_asm.specs.declared.alone.LaidBits.{LaidBits}
@@ -44,12 +44,12 @@ pub record Steps (s : Statement) (here there : Stand) : Type 0 where
   pub faultless : value_fault s (values_of [] s) (unwrap_or (place_at here s) 0) ≡ None
   pub location : behind_statement [] here.location s ≡ there.location
   pub image : image_with here.image (unwrap_or (place_at here s) 0) (length_in (role_of s)) (bits_of s (values_of [] s)) ≡ there.image
-  pub start : (if is_end s then half_word (values_of [] s).first else here.start) ≡ there.start
+  pub start : (if is_end s then half_word_bits (values_of [] s).first else here.start) ≡ there.start
 
 -- what a statement is that lays bits by itself
 record LaysAlone (s : Statement) (wanted : LaidBits) : Type 0 where
   known : accepts_all (is_defined []) s ≡ true
-  faultless : value_fault s (values_of [] s) unnamed.location ≡ None
+  faultless : value_fault s (values_of [] s) naming_at_start.location ≡ None
   laid : record { length = length_in (role_of s); bits = bits_of s (values_of [] s) } ≡ wanted
 
 both_hold : (b c : Bool) (x y : LaidBits) → (if b then (if c then Some x else None) else None) ≡ Some y →
@@ -67,7 +67,7 @@ lays-alone : (t : List ℕ) (s : Statement) (wanted : LaidBits) → statement_of
 unfolding laid_alone laid_by
 lays-alone t s wanted read lays =
     let here : laid_by [] s ≡ Some wanted = sym (ap (λ r. laid_if_read [] r) read) ∙ lays in
-    let fault = value_fault s (values_of [] s) unnamed.location in
+    let fault = value_fault s (values_of [] s) naming_at_start.location in
     let parts = both_hold (accepts_all (is_defined []) s) (is_none fault)
     (record { length = length_in (role_of s); bits = bits_of s (values_of [] s) }) wanted here in
     record { known = parts.0; faultless = is-none fault parts.1; laid = parts.2 }
@@ -75,9 +75,9 @@ lays-alone t s wanted read lays =
 -- a place where n bits may be laid
 pub record IsPlace (n a : ℕ) : Type 0 where
   pub some : n ≡ 0 → ⊥
-  pub one : aligned 1 a ≡ a
-  pub half : aligned 32 a ≡ a
-  pub whole : n ≡ 64 → aligned 64 a ≡ a
+  pub one : next_multiple 1 a ≡ a
+  pub half : next_multiple 32 a ≡ a
+  pub whole : n ≡ 64 → next_multiple 64 a ≡ a
   pub behind : 2048 ≤ a
   pub room : a + n ≤ 6291456
 
@@ -118,12 +118,12 @@ record GoesOn (s : Statement) (n a : ℕ) (v : ℤ) : Type 0 where
   long : extent (role_of s) v ≡ n
   no_end : is_end s ≡ false
 
-lays-on : (s : Statement) (u m n a : ℕ) (v : ℤ) → place_in (role_of s) a v ≡ Some (aligned u a) →
-    behind_in (role_of s) a v ≡ (aligned u a + m) % 2 ^ 24 → extent (role_of s) v ≡ m → is_end s ≡ false → m ≡ n → aligned u a ≡ a →
+lays-on : (s : Statement) (u m n a : ℕ) (v : ℤ) → place_in (role_of s) a v ≡ Some (next_multiple u a) →
+    behind_in (role_of s) a v ≡ (next_multiple u a + m) % 2 ^ 24 → extent (role_of s) v ≡ m → is_end s ≡ false → m ≡ n → next_multiple u a ≡ a →
     IsPlace n a → GoesOn s n a v
 lays-on s u m n a v place behind long no_end same on is =
     let room = is.room in
-    let next : (aligned u a + m) % 2 ^ 24 ≡ a + n = ap (λ k. (k + m) % 2 ^ 24) on ∙ omega (arith, same, room) in
+    let next : (next_multiple u a + m) % 2 ^ 24 ≡ a + n = ap (λ k. (k + m) % 2 ^ 24) on ∙ omega (arith, same, room) in
     record {
       place = place ∙ ap (λ k. Some k) on;
       behind = behind ∙ next;
@@ -198,11 +198,11 @@ lays-steps t s n bits a start old new read lays is image =
     ap (λ k. in_storage k (extent (role_of s) v)) place ∙ (ap (λ k. in_storage a k) on.long ∙ in-storage a n is.behind is.room) in
     record {
       known = alone.known;
-      faultless = faultless-elsewhere s (values_of [] s) unnamed.location (unwrap_or (place_in (role_of s) a v) 0) alone.faultless inside;
+      faultless = faultless-elsewhere s (values_of [] s) naming_at_start.location (unwrap_or (place_in (role_of s) a v) 0) alone.faultless inside;
       location = on.behind;
       image = ap (λ k. image_with old k (length_in (role_of s)) (bits_of s (values_of [] s))) place
           ∙ (ap (λ k. image_with old a k (bits_of s (values_of [] s))) long ∙ (ap (λ k. image_with old a n k) number ∙ image));
-      start = ap (λ b. if b then half_word v else start) on.no_end;
+      start = ap (λ b. if b then half_word_bits v else start) on.no_end;
     }
 
 -- the location is set
@@ -216,8 +216,8 @@ set-known : (n : ℕ) → accepts_all (is_defined []) (SetLocation (number_expr 
 unfolding accepts_all
 set-known n = refl
 
-set-location : (n : ℕ) → n < 2 ^ 24 → wrapped (values_of [] (SetLocation (number_expr n))).first ≡ n
-unfolding values_of wrapped
+set-location : (n : ℕ) → n < 2 ^ 24 → value_modulo (values_of [] (SetLocation (number_expr n))).first ≡ n
+unfolding values_of value_modulo
 set-location n small = omega arith
 
 pub no-bits : (image : List ℕ) (place number : ℕ) → image_with image place 0 number ≡ image
@@ -228,7 +228,7 @@ pub set-steps : (n location start : ℕ) (image : List ℕ) → n < 2 ^ 24 →
     Steps (SetLocation (number_expr n)) (stand location image start) (stand n image start)
 set-steps n location start image small =
     let s = SetLocation (number_expr n) in
-    let place = wrapped (values_of [] s).first in
+    let place = value_modulo (values_of [] s).first in
     record {
       known = set-known n;
       faultless = set-faultless n place small;
@@ -251,7 +251,7 @@ end-known : (n : ℕ) → accepts_all (is_defined []) (End (number_expr n)) ≡ 
 unfolding accepts_all
 end-known n = refl
 
-end-start : (start : ℕ) → half_word (values_of [] (End (number_expr (32 * start)))).first ≡ start
+end-start : (start : ℕ) → half_word_bits (values_of [] (End (number_expr (32 * start)))).first ≡ start
 unfolding values_of
 end-start start = omega arith
 

@@ -3,7 +3,7 @@ use Rattle.std.proofs.Common.{◌≡◌, ◌≤◌, ◌==◌, ℕ, Bool, false, 
 use Rattle.std.proofs.lemmas.Bool.Decides.{nat_tests}
 use Rattle.st_card.specs.Cards.{cards_of}
 use Rattle.st_card.specs.Controls.{Asked}
-use Rattle.st_asm.specs.Pass.{Refusal, and_then}
+use Rattle.st_asm.specs.Pass.{Refusal, pass_then}
 use Rattle.st_asm.specs.Symbols.{table}
 use Rattle.st_asm.specs.Forming.{Found, form_pass}
 use Rattle.st_asm.specs.Naming.{Named, name_pass}
@@ -16,10 +16,10 @@ pub assembled : (job : List ℕ) (found : Found) (named : Named) (laid : Laid) �
     assembly job ≡ Ok (together found named laid)
 unfolding assembly
 assembled job found named laid formed names values =
-    let last : Found → Named → Result Laid Refusal → Result Assembly Refusal = λ f n r. and_then r (λ l. Ok (together f n l)) in
+    let last : Found → Named → Result Laid Refusal → Result Assembly Refusal = λ f n r. pass_then r (λ l. Ok (together f n l)) in
     let middle : Found → Result Named Refusal → Result Assembly Refusal =
-    λ f r. and_then r (λ n. last f n (value_pass (table n.symbols) f.lines n.places)) in
-    ap (λ (r : Result Found Refusal). and_then r (λ f. middle f (name_pass f.lines))) formed
+    λ f r. pass_then r (λ n. last f n (value_pass (table n.symbols) f.lines n.places)) in
+    ap (λ (r : Result Found Refusal). pass_then r (λ f. middle f (name_pass f.lines))) formed
     ∙ (ap (λ (r : Result Named Refusal). middle found r) names
     ∙ ap (λ (r : Result Laid Refusal). last found named r) values)
 

@@ -5,8 +5,8 @@ use Rattle.std.proofs.lemmas.Bool.Decides.{nat_tests}
 use Rattle.st_strap.specs.declared.statement.Statement.TheVariants.{Data}
 use Rattle.st_asm.specs.Symbols.{accepts_all}
 use Rattle.st_asm.specs.Values.{values_of}
-use Rattle.st_asm.specs.Numbers.{holds, field_of}
-use Rattle.st_asm.specs.Naming.{unnamed}
+use Rattle.st_asm.specs.Numbers.{holds, field_bits_of}
+use Rattle.st_asm.specs.Naming.{naming_at_start}
 use Rattle.st_asm.specs.Checks.{value_fault, in_range, fits, on_boundary, in_storage}
 use Rattle.st_asm.specs.Laying.{bits_of}
 use Rattle.st_asm.specs.Alone.{laid_alone, laid_if_read, laid_by}
@@ -40,12 +40,12 @@ unfolding holds
 number-fits n small = let below : nat_lt n (2 ^ 64) ≡ true = grind (arith, nat_tests) in below
 
 number-faultless : (n : ℕ) → n < 2 ^ 64 →
-    value_fault (Data word_form false n) (values_of [] (Data word_form false n)) unnamed.location ≡ None
+    value_fault (Data word_form false n) (values_of [] (Data word_form false n)) naming_at_start.location ≡ None
 unfolding value_fault in_range fits on_boundary in_storage values_of
 number-faultless n small = rw (number-fits n small)
 
 number-bits : (n : ℕ) → bits_of (Data word_form false n) (values_of [] (Data word_form false n)) ≡ n
-unfolding bits_of field_of
+unfolding bits_of field_bits_of
 number-bits n = refl
 
 number-laid : (n : ℕ) → n < 2 ^ 64 → laid_by [] (Data word_form false n) ≡ Some (whole_bits n)

@@ -12,7 +12,7 @@ use Rattle.st_strap.specs.Statements.{Statement}
 use Rattle.st_strap.specs.declared.statement.Statement.TheVariants.{SetLocation, End}
 use Rattle.st_asm.specs.Alone.{laid_alone}
 use Rattle.st_asm.specs.Valuing.{image_with}
-use Rattle.st_dis.specs.Deck.{location_text, end_text}
+use Rattle.st_dis.specs.Deck.{location_statement, end_text}
 use Rattle.st_dis.specs.Spelling.{number_text, statements_of}
 use Rattle.st_dis.proofs.Said.{word_statements, statements_from, deck_statements, AreRead}
 use Rattle.st_dis.proofs.Spelled.{whole_bits, half_bits, statements-cases}
@@ -96,14 +96,14 @@ IsWord x = x < 2 ^ 64
 not_none : (n : ℕ) → (n == 0) ≡ false → n ≡ 0 → ⊥
 not_none n is none = let no : ⊥ = grind (arith, nat_tests, is, none) in no
 
-place-by : (b : Bool) (w : ℕ) (texts : List (List ℕ)) (here next there : Stand) → Lead (location_text w ∷ []) here next →
-    (b ≡ false → here ≡ next) → Lead texts next there → Lead ((if b then location_text w ∷ [] else []) ++ texts) here there
-place-by true w texts here next there set same lead = lead-behind (location_text w ∷ []) texts here next there set lead
+place-by : (b : Bool) (w : ℕ) (texts : List (List ℕ)) (here next there : Stand) → Lead (location_statement w ∷ []) here next →
+    (b ≡ false → here ≡ next) → Lead texts next there → Lead ((if b then location_statement w ∷ [] else []) ++ texts) here there
+place-by true w texts here next there set same lead = lead-behind (location_statement w ∷ []) texts here next there set lead
 place-by false w texts here next there set same lead = subst (λ s. Lead texts s there) (sym (same refl)) lead
 
-place-leads : (w before : ℕ) (texts : List (List ℕ)) (here next there : Stand) → Lead (location_text w ∷ []) here next →
+place-leads : (w before : ℕ) (texts : List (List ℕ)) (here next there : Stand) → Lead (location_statement w ∷ []) here next →
     ((before ≡ 0 → ⊥) → here ≡ next) → Lead texts next there →
-    Lead ((if before == 0 then location_text w ∷ [] else []) ++ texts) here there
+    Lead ((if before == 0 then location_statement w ∷ [] else []) ++ texts) here there
 place-leads w before texts here next there set same lead =
     place-by (before == 0) w texts here next there set (λ is. same (not_none before is)) lead
 
@@ -127,12 +127,12 @@ word-led w before (suc k) done zs location start size room above words zeros sma
     let here = stand location (done ++ 0 ∷ zs) start in
     let next = stand (64 * w) (done ++ 0 ∷ zs) start in
     let there = stand (64 * w + 64) (done ++ suc k ∷ zs) start in
-    let set = one-leads (location_text w) here next (text-leads (location_text w) (SetLocation (number_expr (64 * w))) here next
+    let set = one-leads (location_statement w) here next (text-leads (location_statement w) (SetLocation (number_expr (64 * w))) here next
     (location-read w room) (set-steps (64 * w) location start (done ++ 0 ∷ zs) (omega (arith, room)))) in
     record {
       behind = 64 * w + 64;
       ready = λ some. omega arith;
-      lead = subst (λ (b : Bool). Lead (if b then [] else (if before == 0 then location_text w ∷ [] else []) ++ statements_of (suc k)) here there)
+      lead = subst (λ (b : Bool). Lead (if b then [] else (if before == 0 then location_statement w ∷ [] else []) ++ statements_of (suc k)) here there)
           (sym (more_than_none k))
           (place-leads w before (statements_of (suc k)) here next there set
           (λ other. ap (λ a. stand a (done ++ 0 ∷ zs) start) (ready other))

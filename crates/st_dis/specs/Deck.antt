@@ -16,12 +16,12 @@ abbrev pub statement_card : List ℕ → List ℕ
 statement_card text = replicate 9 32 ++ text
 
 -- the statement that sets the location to word w
-abbrev pub location_text : ℕ → List ℕ
-location_text w = codes "SLC," ++ decimal w ++ codes ".0"
+abbrev pub location_statement : ℕ → List ℕ
+location_statement w = codes "SLC," ++ decimal w ++ codes ".0"
 
 -- a card that sets the location, where the word before is zero
 abbrev pub location_cards : ℕ → ℕ → List (List ℕ)
-location_cards w before = if before == 0 then statement_card (location_text w) ∷ [] else []
+location_cards w before = if before == 0 then statement_card (location_statement w) ∷ [] else []
 
 -- the cards of word w, with the word before it: none where it is zero
 unfoldable pub cards_of_word : ℕ → ℕ → ℕ → List (List ℕ)
@@ -38,8 +38,8 @@ abbrev pub end_text : ℕ → List ℕ
 end_text start = codes "END," ++ half_address start
 
 -- a card that stands there where it is asked for
-abbrev pub marked : Bool → List ℕ → List (List ℕ)
-marked asked card = if asked then card ∷ [] else []
+abbrev pub card_where : Bool → List ℕ → List (List ℕ)
+card_where asked card = if asked then card ∷ [] else []
 
 -- the control cards up to those for parts of storage
 abbrev pub order_cards : Asked → List (List ℕ)
@@ -56,7 +56,8 @@ back_cards k = if k == 0 then [] else (codes "/BACK " ++ decimal k) ∷ []
 -- those for what is to be shown
 abbrev pub show_cards : Asked → List (List ℕ)
 show_cards a =
-    marked a.trace (codes "/TRACE") ++ marked a.time (codes "/TIME") ++ marked a.chart (codes "/CHART")
+    card_where a.trace (codes "/TRACE") ++ card_where a.time (codes "/TIME")
+    ++ card_where a.chart (codes "/CHART")
     ++ map (λ t. codes "/SNAP " ++ decimal t) a.snaps
     ++ back_cards a.back
 

@@ -5,3 +5,16 @@ pub mod Deck
 pub mod Answers
 pub mod Read
 pub mod Laws
+pub use Rattle.st_asm.specs.Alone
+pub use Rattle.st_asm.specs.Assembly
+pub use Rattle.st_card.specs.Cards
+pub use Rattle.st_card.specs.Controls
+pub use Rattle.st_card.specs.Limits
+pub use Rattle.st_format.specs.Formats
+pub use Rattle.st_format.specs.Halves
+pub use Rattle.st_object.specs.Object
+pub use Rattle.st_strap.specs.Reading
+pub use Rattle.st_strap.specs.Saying
+pub use Rattle.st_text.specs.Bytes
+pub use Rattle.st_text.specs.Numerals
+pub use Rattle.st_text.specs.Pieces

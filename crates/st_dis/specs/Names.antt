@@ -85,7 +85,8 @@ kind_name Ct = codes "CT"
 -- a truth table: the results for 00, 01, 10 and 11
 abbrev pub truth_digits : ℕ → List ℕ
 truth_digits truth =
-    flag (truth / 8 % 2 == 1) ++ flag (truth / 4 % 2 == 1) ++ flag (truth / 2 % 2 == 1) ++ flag (truth % 2 == 1)
+    flag (truth / 8 % 2 == 1) ++ flag (truth / 4 % 2 == 1) ++ flag (truth / 2 % 2 == 1)
+    ++ flag (truth % 2 == 1)
 
 -- moves of words
 abbrev pub move_name : Bool → List ℕ
@@ -116,7 +117,8 @@ mode_name decimal unsigned =
 -- progressive forms by their numbers
 abbrev pub forms : List (List ℕ)
 forms =
-    [] ∷ codes "(IM)" ∷ codes "(V+I)" ∷ codes "(V+IC)" ∷ codes "(V+ICR)" ∷ codes "(V-I)" ∷ codes "(V-IC)"
+    [] ∷ codes "(IM)" ∷ codes "(V+I)" ∷ codes "(V+IC)" ∷ codes "(V+ICR)" ∷ codes "(V-I)"
+    ∷ codes "(V-IC)"
     ∷ codes "(V-ICR)" ∷ []
 
 -- a progressive form

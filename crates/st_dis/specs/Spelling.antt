@@ -5,7 +5,7 @@ use Rattle.st_format.specs.Formats.{instruction_of, is_valid}
 use Rattle.st_format.specs.declared.instruction.Instr.{Instr}
 use Rattle.st_asm.specs.Alone.{laid_alone}
 use Rattle.st_asm.specs.declared.alone.LaidBits.{LaidBits}
-use Rattle.st_dis.specs.Texts.{text_of}
+use Rattle.st_dis.specs.Texts.{instruction_text}
 
 -- whether something is laid, and it is these bits
 abbrev pub is_laid : LaidBits → Option LaidBits → Bool
@@ -18,19 +18,22 @@ says text wanted = nat_le (length text) 63 && is_laid wanted (laid_alone [] text
 
 -- the spelling of an instruction: its text, where it is valid and its text says its bits
 unfoldable pub spelling_of : Instr → LaidBits → Option (List ℕ)
-spelling_of instr wanted = if is_valid instr && says (text_of instr) wanted then Some (text_of instr) else None
+spelling_of instr wanted = if is_valid instr && says (instruction_text instr) wanted
+    then Some (instruction_text instr) else None
 
 -- the spelling of a word that is one instruction
 abbrev pub word_spelling : ℕ → ℕ → Option (List ℕ)
 word_spelling left right =
     if is_full left
-    then spelling_of (instruction_of left right) (record { length = 64; bits = left * 2 ^ 32 + right })
+    then spelling_of (instruction_of left right)
+    (record { length = 64; bits = left * 2 ^ 32 + right })
     else None
 
 -- the spelling of a half-word that is an instruction by itself
 abbrev pub half_spelling : ℕ → Option (List ℕ)
 half_spelling half =
-    if is_full half then None else spelling_of (instruction_of half 0) (record { length = 32; bits = half })
+    if is_full half then None else spelling_of (instruction_of half 0)
+    (record { length = 32; bits = half })
 
 -- a word as a number
 abbrev pub number_text : ℕ → List ℕ

@@ -10,20 +10,20 @@ use Rattle.st_format.specs.declared.instruction.Instr.TheVariants.{Half, Branch,
 use Rattle.st_dis.specs.Names.{half_name, branch_name, field_name, negation, kind_name, truth_digits, move_name, change_name, turning, order_name, mode_name, form_name}
 
 -- an index word as a field
-abbrev pub index_field : ℕ → List ℕ
-index_field j = codes ",$X" ++ decimal j
+abbrev pub index_field_text : ℕ → List ℕ
+index_field_text j = codes ",$X" ++ decimal j
 
 -- the index part of an address, where it has one
-abbrev pub index_part : ℕ → List ℕ
-index_part i = if i == 0 then [] else codes "($X" ++ decimal i ++ codes ")"
+abbrev pub index_part_text : ℕ → List ℕ
+index_part_text i = if i == 0 then [] else codes "($X" ++ decimal i ++ codes ")"
 
 -- a half-word address as a field
 abbrev pub half_field : ℕ → ℕ → List ℕ
-half_field address i = codes "," ++ half_address address ++ index_part i
+half_field address i = codes "," ++ half_address address ++ index_part_text i
 
 -- a bit address as a field
 abbrev pub bit_field : ℕ → ℕ → List ℕ
-bit_field address i = codes "," ++ bit_address address ++ index_part i
+bit_field address i = codes "," ++ bit_address address ++ index_part_text i
 
 -- a second address as a field
 abbrev pub second_field : ℕ → List ℕ
@@ -37,7 +37,8 @@ number_field n = codes "," ++ decimal n
 abbrev pub offset_field : ℕ → List ℕ
 offset_field offset = if offset == 0 then [] else number_field offset
 
--- whether a list of index words has index word k: it stands in the first 16 of the 19 bits of an address
+-- whether a list of index words has index word k: it stands in the first 16 of the 19 bits of an
+-- address
 abbrev pub has_index : ℕ → ℕ → Bool
 has_index address k = address / 2 ^ (18 - k) % 2 == 1
 
@@ -45,14 +46,14 @@ has_index address k = address / 2 ^ (18 - k) % 2 == 1
 unfoldable pub listed_fields : ℕ → ℕ → List ℕ
 listed_fields zero address = []
 listed_fields (suc n) address =
-    listed_fields n address ++ (if has_index address n then index_field n else [])
+    listed_fields n address ++ (if has_index address n then index_field_text n else [])
 
 -- an instruction on an index word: EX has none, R no address, and LVS has a list in its place
 abbrev pub half_text : HalfOp → ℕ → ℕ → ℕ → List ℕ
 half_text Ex address j i = half_name Ex ++ half_field address i
-half_text R address j i = half_name R ++ index_field j
-half_text Lvs address j i = half_name Lvs ++ index_field j ++ listed_fields 16 address
-half_text op address j i = half_name op ++ index_field j ++ half_field address i
+half_text R address j i = half_name R ++ index_field_text j
+half_text Lvs address j i = half_name Lvs ++ index_field_text j ++ listed_fields 16 address
+half_text op address j i = half_name op ++ index_field_text j ++ half_field address i
 
 -- a branch: BEW and NOP have no address
 abbrev pub branch_text : BranchOp → ℕ → ℕ → List ℕ
@@ -63,27 +64,32 @@ branch_text op address i = branch_name op ++ half_field address i
 -- the data description, in full
 abbrev pub description : Bool → Bool → ℕ → ℕ → List ℕ
 description decimal_digits unsigned bits byte =
-    codes "(" ++ mode_name decimal_digits unsigned ++ number_field bits ++ number_field byte ++ codes ")"
+    codes "(" ++ mode_name decimal_digits unsigned ++ number_field bits ++ number_field byte
+    ++ codes ")"
 
 -- what stands behind the description: the progressive form, the address and the offset
-abbrev pub operand : ℕ → ℕ → ℕ → ℕ → List ℕ
-operand p address i offset = form_name p ++ bit_field address i ++ offset_field offset
+abbrev pub operand_text : ℕ → ℕ → ℕ → ℕ → List ℕ
+operand_text p address i offset = form_name p ++ bit_field address i ++ offset_field offset
 
 -- the text of an instruction; the floating group, and bits that spell none, have no text
-unfoldable pub text_of : Instr → List ℕ
-text_of (Half op address j i) = half_text op address j i
-text_of (Branch op address i) = branch_text op address i
-text_of (Floating number address i) = []
-text_of (Vfl op d u negated p bits byte offset address i) =
-    field_name op ++ negation negated ++ description d u bits byte ++ operand p address i offset
-text_of (Connect kind truth p bits byte offset address i) =
-    kind_name kind ++ truth_digits truth ++ description false true bits byte ++ operand p address i offset
-text_of (Move swap address i second count) =
+unfoldable pub instruction_text : Instr → List ℕ
+instruction_text (Half op address j i) = half_text op address j i
+instruction_text (Branch op address i) = branch_text op address i
+instruction_text (Floating number address i) = []
+instruction_text (Vfl op d u negated p bits byte offset address i) =
+    field_name op ++ negation negated ++ description d u bits byte
+    ++ operand_text p address i offset
+instruction_text (Connect kind truth p bits byte offset address i) =
+    kind_name kind ++ truth_digits truth ++ description false true bits byte
+    ++ operand_text p address i offset
+instruction_text (Move swap address i second count) =
     move_name swap ++ bit_field address i ++ second_field second ++ number_field count
-text_of (BitBranch sense change address i second) =
+instruction_text (BitBranch sense change address i second) =
     codes "BB" ++ flag sense ++ change_name change ++ bit_field address i ++ second_field second
-text_of (IndBranch sense off address i second) =
+instruction_text (IndBranch sense off address i second) =
     codes "BI" ++ flag sense ++ turning off ++ bit_field address i ++ second_field second
-text_of (StoreCounter address i second) = codes "SIC" ++ bit_field address i ++ second_field second
-text_of (Transfer write address i count) = order_name write ++ bit_field address i ++ number_field count
-text_of (Invalid first second full) = []
+instruction_text (StoreCounter address i second) = codes "SIC" ++ bit_field address i
+    ++ second_field second
+instruction_text (Transfer write address i count) = order_name write ++ bit_field address i
+    ++ number_field count
+instruction_text (Invalid first second full) = []

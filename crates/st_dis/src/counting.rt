@@ -72,7 +72,7 @@ fn count_orders(controls: &Controls) -> u32
 
 // One card where it is asked for.
 fn count_mark(asked: bool) -> u32
-    ensures count { (card : List ℕ) → result ≡ length (spec.marked asked card) }
+    ensures count { (card : List ℕ) → result ≡ length (spec.card_where asked card) }
     ensures few { result ≤ 1 }
 {
     if asked { 1 } else { 0 }

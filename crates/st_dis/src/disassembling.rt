@@ -25,9 +25,9 @@ pub enum DisError {
 
 /// The deck of a program: cards that assemble to it.
 ///
-/// The conditions are those of `st_object::write_object`: 98,304 words, the first 32 zero; a half-word address below
-/// 2^19 as the start; controls within their limits, with a budget, a delay at least, and no listing.
-/// `docs/disassembly.md` has the rules.
+/// The conditions are those of `st_object::write_object`: 98,304 words, the first 32 zero; a
+/// half-word address below 2^19 as the start; controls within their limits, with a budget, a delay
+/// at least, and no listing. `docs/disassembly.md` has the rules.
 pub fn disassemble(
     alloc: Global,
     words: &[u64],

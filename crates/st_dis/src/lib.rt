@@ -1,4 +1,5 @@
-//! The disassembler: a program in storage as a deck that assembles to it, by the rules of `docs/disassembly.md`.
+//! The disassembler: a program in storage as a deck that assembles to it, by the rules of
+//! `docs/disassembly.md`.
 #![tactic(auto)]
 
 mod counting;

@@ -21,7 +21,7 @@ fn push_small(line: &mut Line, n: u8)
 // Appends an index word as a field.
 pub(crate) fn push_index_field(line: &mut Line, j: u8)
     requires { array_string_len line.old + 6 ≤ 128 }
-    ensures text { line.new.bytes ≡ line.old.bytes ++ spec.index_field j }
+    ensures text { line.new.bytes ≡ line.old.bytes ++ spec.index_field_text j }
     ensures room { array_string_len line.new ≤ array_string_len line.old + 6 }
 {
     line.push_str(",$X");
@@ -31,7 +31,7 @@ pub(crate) fn push_index_field(line: &mut Line, j: u8)
 // Appends the index part of an address, where it has one.
 fn push_index_part(line: &mut Line, i: u8)
     requires { array_string_len line.old + 7 ≤ 128 }
-    ensures text { line.new.bytes ≡ line.old.bytes ++ spec.index_part i }
+    ensures text { line.new.bytes ≡ line.old.bytes ++ spec.index_part_text i }
     ensures room { array_string_len line.new ≤ array_string_len line.old + 7 }
 {
     if i == 0 {
@@ -122,7 +122,7 @@ fn push_listed_field(line: &mut Line, k: u8, address: u32)
     requires few { k < 16 }
     requires room { array_string_len line.old + 6 ≤ 128 }
     ensures text { line.new.bytes ≡ line.old.bytes
-        ++ (if spec.has_index address k then spec.index_field k else []) }
+        ++ (if spec.has_index address k then spec.index_field_text k else []) }
     ensures room { array_string_len line.new ≤ array_string_len line.old + 6 }
 {
     if !has_index(address, k) {
@@ -160,7 +160,7 @@ pub(crate) fn push_description(line: &mut Line, decimal: bool, unsigned: bool, l
 // Appends what stands behind the description.
 pub(crate) fn push_operand(line: &mut Line, p: u8, address: u32, i: u8, offset: u8)
     requires { array_string_len line.old + 40 ≤ 128 }
-    ensures text { line.new.bytes ≡ line.old.bytes ++ spec.operand p address i offset }
+    ensures text { line.new.bytes ≡ line.old.bytes ++ spec.operand_text p address i offset }
     ensures room { array_string_len line.new ≤ array_string_len line.old + 40 }
 {
     line.push_str(form_name(p));

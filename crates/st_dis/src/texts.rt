@@ -48,9 +48,9 @@ fn branch_text(op: BranchOp, address: u32, i: u8) -> Line
 }
 
 // The text of an instruction: empty where it has none.
-#[tactic(auto, unfolding(crate::specs::Texts::text_of))]
+#[tactic(auto, unfolding(crate::specs::Texts::instruction_text))]
 pub(crate) fn text_of(instr: Instr) -> Line
-    ensures { result.bytes ≡ spec.text_of instr }
+    ensures { result.bytes ≡ spec.instruction_text instr }
 {
     match instr {
         Instr::Half { op, address, j, i } => half_text(op, address, j, i),

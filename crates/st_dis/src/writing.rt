@@ -150,7 +150,7 @@ fn push_pair(deck: &mut Vec<u8>, word: &str, a: u64, b: u64) -> Result<(), Alloc
 // Appends a card that stands there where it is asked for.
 fn push_mark(deck: &mut Vec<u8>, asked: bool, card: &str) -> Result<(), AllocError>
     ensures { OnOk result (deck.new.items
-        ≡ deck.old.items ++ spec.deck_of (spec.marked asked card.now)) }
+        ≡ deck.old.items ++ spec.deck_of (spec.card_where asked card.now)) }
 {
     if !asked {
         return Ok(());

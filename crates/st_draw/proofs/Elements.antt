@@ -1,7 +1,7 @@
 -- The bytes of elements that stand one after another.
 use Rattle.std.proofs.Common.{◌≡◌, ◌<◌, ◌+◌, ◌∙◌, sym, arith, length, [], ◌∷◌, ◌++◌, List, refl, append_assoc, ℕ}
 use Rattle.std.proofs.lemmas.List.{append-nil}
-use Rattle.st_draw.specs.Drawing.{mark, grid, row, rows}
+use Rattle.st_draw.specs.Drawing.{mark, grid, row_elements, rows_elements}
 use Rattle.st_draw.specs.Element.{Element, element_text, elements_text}
 use Rattle.st_draw.specs.declared.drawing.Sheet.{Sheet}
 use Rattle.st_draw.specs.declared.timetable.Entry.{Entry}
@@ -44,14 +44,14 @@ grid_end s sheet = elements_none s
 
 -- the row of an entry and those after it, behind bytes
 pub rows_more : (s : List ℕ) (sheet : Sheet) (report : List ℕ) (y : ℕ) (e : Entry) (es : List Entry)
-    → s ++ elements_text (rows sheet report y (e ∷ es))
-    ≡ (s ++ elements_text (row sheet report y e)) ++ elements_text (rows sheet report (y + 16) es)
-unfolding rows
-rows_more s sheet report y e es = elements_joined s (row sheet report y e) (rows sheet report (y + 16) es)
+    → s ++ elements_text (rows_elements sheet report y (e ∷ es))
+    ≡ (s ++ elements_text (row_elements sheet report y e)) ++ elements_text (rows_elements sheet report (y + 16) es)
+unfolding rows_elements
+rows_more s sheet report y e es = elements_joined s (row_elements sheet report y e) (rows_elements sheet report (y + 16) es)
 
 -- no row behind bytes
-pub rows_end : (s : List ℕ) (sheet : Sheet) (report : List ℕ) (y : ℕ) → s ++ elements_text (rows sheet report y []) ≡ s
-unfolding rows
+pub rows_end : (s : List ℕ) (sheet : Sheet) (report : List ℕ) (y : ℕ) → s ++ elements_text (rows_elements sheet report y []) ≡ s
+unfolding rows_elements
 rows_end s sheet report y = elements_none s
 
 -- one more round tick is drawn
@@ -69,14 +69,14 @@ grid_done mid total (t ∷ ts) sheet none so_far = let no : ⊥ = omega arith in
 
 -- one more row is drawn
 pub rows_step : (mid new total : List ℕ) (rest es : List Entry) (sheet : Sheet) (report : List ℕ) (y : ℕ) (e : Entry)
-    → rest ≡ e ∷ es → new ≡ mid ++ elements_text (row sheet report y e)
-    → mid ++ elements_text (rows sheet report y rest) ≡ total
-    → new ++ elements_text (rows sheet report (y + 16) es) ≡ total
+    → rest ≡ e ∷ es → new ≡ mid ++ elements_text (row_elements sheet report y e)
+    → mid ++ elements_text (rows_elements sheet report y rest) ≡ total
+    → new ++ elements_text (rows_elements sheet report (y + 16) es) ≡ total
 rows_step mid new total rest es sheet report y e parts drawn so_far =
     rw (drawn, sym (rows_more mid sheet report y e es), sym parts) so_far
 
 -- all rows are drawn
 pub rows_done : (mid total : List ℕ) (rest : List Entry) (sheet : Sheet) (report : List ℕ) (y : ℕ) → length rest < 1
-    → mid ++ elements_text (rows sheet report y rest) ≡ total → mid ≡ total
+    → mid ++ elements_text (rows_elements sheet report y rest) ≡ total → mid ≡ total
 rows_done mid total [] sheet report y none so_far = sym (rows_end mid sheet report y) ∙ so_far
 rows_done mid total (e ∷ es) sheet report y none so_far = let no : ⊥ = omega arith in absurd no

@@ -2,10 +2,10 @@
 use Rattle.std.proofs.Common.{◌≡◌, ◌≤◌, ◌+◌, refl, ℕ, nat_le, if◌then◌else◌, Bool, true, false, List, [], ◌∷◌, ◌++◌, reverse, Option, None, Some, arith}
 use Rattle.std.proofs.lemmas.Bool.{leb-true}
 use Rattle.std.proofs.lemmas.List.{reverse-append}
-use Rattle.st_text.specs.Pieces.{parted}
+use Rattle.st_text.specs.Pieces.{pieces_of}
 use Rattle.st_draw.specs.Phases.{executing_at, turn_of}
 use Rattle.st_draw.specs.Report.{item}
-use Rattle.st_draw.specs.Timetable.{Timetable, untold, is_in, joined, after_said, after_line, after_lines, timetable}
+use Rattle.st_draw.specs.Timetable.{Timetable, timetable_at_start, is_in_part, timetable_with, after_said, after_line, after_lines, timetable}
 use Rattle.st_draw.specs.WellFormed.{completion_after, CompletionsRise}
 use Rattle.st_draw.specs.declared.report.Item.{Item}
 use Rattle.st_draw.specs.declared.report.Item.TheVariants.{Row, Drop, Interrupt, Snapshot}
@@ -52,16 +52,16 @@ record IsOnce (tick : ℕ) (t : Timetable) : Type 0 where
 
 -- an entry behind all that were told
 joined_at_most : (part : Part) (tick n : ℕ) (e : Entry) (t : Timetable) → IsOnce tick t
-    → executing_at tick (joined part n e t).entries ≤ executing_at tick t.entries + executing_at tick (e ∷ [])
+    → executing_at tick (timetable_with part n e t).entries ≤ executing_at tick t.entries + executing_at tick (e ∷ [])
 joined_at_most part tick n e t is =
-    let most = kept_by_test tick e (t.entries ++ reverse t.dropped) (is_in part n) in
+    let most = kept_by_test tick e (t.entries ++ reverse t.dropped) (is_in_part part n) in
     let both = executing_append tick t.entries (reverse t.dropped) in
     let none = executing_reverse tick t.dropped in
     omega (arith, most, both, none, is.dropped)
 
 -- an entry that does not execute, behind all that were told
 joined_once : (part : Part) (tick n : ℕ) (e : Entry) (t : Timetable) → executing_at tick (e ∷ []) ≡ 0 → IsOnce tick t
-    → IsOnce tick (joined part n e t)
+    → IsOnce tick (timetable_with part n e t)
 joined_once part tick n e t rests is =
     let most = joined_at_most part tick n e t is in
     record {
@@ -89,7 +89,7 @@ said_once part tick t (Some (Row n a p r c)) rise is =
       dropped = refl;
     }
 said_once part tick t (Some (Drop a p)) rise is =
-    let most = kept_by_test tick (Dropped a p t.end) t.dropped (is_in part t.row) in
+    let most = kept_by_test tick (Dropped a p t.end) t.dropped (is_in_part part t.row) in
     record {
       one = is.one;
       over = is.over;
@@ -115,12 +115,12 @@ lines_once part tick t (line ∷ lines) rise is =
     lines_once part tick (after_line part t line) lines next (said_once part tick t (item line) rise.0 is)
 
 -- what a report says
-pub executing_once : (part : Part) (report : List ℕ) (tick : ℕ) → CompletionsRise 0 (parted 10 report)
+pub executing_once : (part : Part) (report : List ℕ) (tick : ℕ) → CompletionsRise 0 (pieces_of 10 report)
     → executing_at tick (timetable part report).entries ≤ 1
 unfolding timetable
 executing_once part report tick rise =
-    let told = after_lines part untold (parted 10 report) in
-    let is = lines_once part tick untold (parted 10 report) rise (record { one = omega arith; over = λ past. refl; dropped = refl }) in
+    let told = after_lines part timetable_at_start (pieces_of 10 report) in
+    let is = lines_once part tick timetable_at_start (pieces_of 10 report) rise (record { one = omega arith; over = λ past. refl; dropped = refl }) in
     let both = executing_append tick told.entries (reverse told.dropped) in
     let none = executing_reverse tick told.dropped in
     omega (arith, both, none, is.one, is.dropped)

@@ -1,7 +1,7 @@
 -- Lines of text that stand one after another.
 use Rattle.std.proofs.Common.{◌≡◌, ◌<◌, ◌∙◌, refl, sym, ap, arith, length, [], ◌∷◌, ◌++◌, List, append_assoc, ℕ}
 use Rattle.std.proofs.lemmas.List.{append-nil}
-use Rattle.st_draw.specs.Terminal.{entry_line, entry_lines, marked, scale}
+use Rattle.st_draw.specs.Terminal.{entry_line, entry_lines, line_with_tick, scale}
 use Rattle.st_draw.specs.declared.terminal.Page.{Page}
 use Rattle.st_draw.specs.declared.timetable.Entry.{Entry}
 
@@ -33,10 +33,10 @@ lines_done mid total (e ∷ es) page report none so_far = let no : ⊥ = omega a
 
 -- one more round tick is written
 pub scale_step : (mid new total rest ts : List ℕ) (page : Page) (t : ℕ) → rest ≡ t ∷ ts
-    → new ≡ marked page mid t → scale page mid rest ≡ total → scale page new ts ≡ total
+    → new ≡ line_with_tick page mid t → scale page mid rest ≡ total → scale page new ts ≡ total
 unfolding scale
 scale_step mid new total rest ts page t parts drawn so_far =
-    let whole : scale page (marked page mid t) ts ≡ total =
+    let whole : scale page (line_with_tick page mid t) ts ≡ total =
     ap (λ (s : List ℕ). scale page mid s) (sym parts) ∙ so_far in
     ap (λ (s : List ℕ). scale page s ts) drawn ∙ whole
 

@@ -1,7 +1,7 @@
 -- Two lists of moments as one, and that sorting halves and joining them sorts the whole.
 use Rattle.std.proofs.Common.{◌≡◌, ◌∙◌, ◌≤◌, ◌<◌, sym, refl, ap, nat_le, if◌then◌else◌, Bool, true, false, List, [], ◌∷◌, ◌++◌, arith, length, append_assoc}
 use Rattle.std.proofs.lemmas.Bool.{leb-true, leb-false}
-use Rattle.st_draw.specs.Moments.{inserted, in_order}
+use Rattle.st_draw.specs.Moments.{moments_with, in_order}
 use Rattle.st_draw.specs.declared.moments.Moment.{Moment}
 
 -- two lists as one; of the two first moments the left one comes first where they come at one tick
@@ -30,10 +30,10 @@ merged-right m n ms ns first = grind (arith, first)
 
 -- a moment put into the left list is put into both, by the three tests on the first moments
 inserted_by : (p q r : Bool) (m x y : Moment) (xs ys : List Moment) → nat_le m.tick x.tick ≡ p → nat_le m.tick y.tick ≡ q
-    → nat_le x.tick y.tick ≡ r → merged (inserted m xs) (y ∷ ys) ≡ inserted m (merged xs (y ∷ ys))
-    → merged (inserted m (x ∷ xs)) ys ≡ inserted m (merged (x ∷ xs) ys)
-    → merged (inserted m (x ∷ xs)) (y ∷ ys) ≡ inserted m (merged (x ∷ xs) (y ∷ ys))
-unfolding merged inserted
+    → nat_le x.tick y.tick ≡ r → merged (moments_with m xs) (y ∷ ys) ≡ moments_with m (merged xs (y ∷ ys))
+    → merged (moments_with m (x ∷ xs)) ys ≡ moments_with m (merged (x ∷ xs) ys)
+    → merged (moments_with m (x ∷ xs)) (y ∷ ys) ≡ moments_with m (merged (x ∷ xs) (y ∷ ys))
+unfolding merged moments_with
 inserted_by true true true m x y xs ys a b c less fewer = rw (a, b, c) (rw a refl)
 inserted_by true true false m x y xs ys a b c less fewer = grind (arith, a, b, c)
 inserted_by true false true m x y xs ys a b c less fewer = let no : ⊥ = omega (arith, leb-true _ _ a, leb-false _ _ b, leb-true _ _ c) in absurd no
@@ -44,11 +44,11 @@ inserted_by false false true m x y xs ys a b c less fewer = grind (arith, a, b, 
 inserted_by false false false m x y xs ys a b c less fewer = grind (arith, a, b, c, fewer)
 
 -- a moment put into the left list is put into both
-pub inserted_left : (m : Moment) (xs ys : List Moment) → merged (inserted m xs) ys ≡ inserted m (merged xs ys)
-unfolding merged inserted
+pub inserted_left : (m : Moment) (xs ys : List Moment) → merged (moments_with m xs) ys ≡ moments_with m (merged xs ys)
+unfolding merged moments_with
 inserted_left m [] [] = refl
 inserted_left m [] (y ∷ ys) = let rest = inserted_left m [] ys in grind (arith, rest)
-inserted_left m (x ∷ xs) [] = merged-none (inserted m (x ∷ xs))
+inserted_left m (x ∷ xs) [] = merged-none (moments_with m (x ∷ xs))
 inserted_left m (x ∷ xs) (y ∷ ys) =
     inserted_by (nat_le m.tick x.tick) (nat_le m.tick y.tick) (nat_le x.tick y.tick) m x y xs ys refl refl refl
     (inserted_left m xs (y ∷ ys)) (inserted_left m (x ∷ xs) ys)
@@ -57,7 +57,7 @@ inserted_left m (x ∷ xs) (y ∷ ys) =
 pub merged_in_order : (xs ys : List Moment) → merged (in_order xs) (in_order ys) ≡ in_order (xs ++ ys)
 unfolding in_order merged
 merged_in_order [] ys = refl
-merged_in_order (m ∷ ms) ys = inserted_left m (in_order ms) (in_order ys) ∙ ap (λ s. inserted m s) (merged_in_order ms ys)
+merged_in_order (m ∷ ms) ys = inserted_left m (in_order ms) (in_order ys) ∙ ap (λ s. moments_with m s) (merged_in_order ms ys)
 
 -- the left moment comes first: one more stands before the rest
 pub left_step : (mid new total : List Moment) (ours ms theirs ns : List Moment) (m n : Moment) → ours ≡ m ∷ ms → theirs ≡ n ∷ ns
@@ -98,7 +98,7 @@ joined_in_order new left right a b joined here there = rw (joined, here, there) 
 
 -- one moment or none is in order
 pub short_in_order : (ms : List Moment) → length ms ≤ 1 → in_order ms ≡ ms
-unfolding in_order inserted
+unfolding in_order moments_with
 short_in_order [] few = refl
 short_in_order (m ∷ []) few = refl
 short_in_order (m ∷ n ∷ ms) few = let no : ⊥ = omega arith in absurd no

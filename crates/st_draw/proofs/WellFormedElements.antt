@@ -1,9 +1,9 @@
 -- Texts that stay in their elements, and elements that are closed.
 use Rattle.std.proofs.Common.{◌≡◌, inl, inr, ℕ, ◌==◌, ◌&&◌, nat_le, Bool, true, false, List, [], ◌∷◌, ◌++◌, length, take, codes, refl, arith, append_assoc}
 use Rattle.std.proofs.lemmas.List.Folds.{list_all-append}
-use Rattle.st_draw.specs.Element.{Element, Box, Bar, Line, Text, Card, element_text, front, corner, size, ends, content, title_end, titled, shown_card, card_content, ellipsis}
+use Rattle.st_draw.specs.Element.{Element, Box, Bar, Line, Text, Card, element_text, front, corner, size, ends, content, title_end, box_title, shown_card, card_content, ellipsis}
 use Rattle.st_draw.specs.Caption.{card_limit}
-use Rattle.st_draw.specs.Escape.{escaped, escaped_byte}
+use Rattle.st_draw.specs.Escape.{escaped_text, escaped_byte}
 use Rattle.st_draw.specs.WellFormed.{is_inner, are_inner, IsClosed, IsFull}
 
 -- a byte as it stands in a picture, by the tests on it
@@ -16,12 +16,12 @@ byte_inner c false false false true a b d e = grind (arith, a, b, d, e)
 byte_inner c false false false false a b d e = rw (a, b, d, e) refl
 
 -- a text as it stands in a picture
-pub escaped_inner : (text : List ℕ) → are_inner (escaped text) ≡ true
+pub escaped_inner : (text : List ℕ) → are_inner (escaped_text text) ≡ true
 escaped_inner [] = refl
 escaped_inner (c ∷ cs) =
     let here = byte_inner c (c == 60) (c == 62) (c == 38) (nat_le 32 c && nat_le c 126) refl refl refl refl in
     let there = escaped_inner cs in
-    let both = list_all-append is_inner (escaped_byte c) (escaped cs) in
+    let both = list_all-append is_inner (escaped_byte c) (escaped_text cs) in
     rw (both, here, there) refl
 
 -- a card is closed, by whether it is short enough to be shown whole
@@ -30,7 +30,7 @@ card_closed : (whole : Bool) (x y : ℕ) (text : List ℕ) → nat_le (length te
 unfolding element_text front card_content shown_card
 card_closed true x y text test = record {
   attributes = codes "c\"" ++ corner x y;
-  inner = escaped text;
+  inner = escaped_text text;
   mark = [];
   parts = rw test (grind (arith, append_assoc));
   harmless = escaped_inner text;
@@ -38,7 +38,7 @@ card_closed true x y text test = record {
 }
 card_closed false x y text test = record {
   attributes = codes "c\"" ++ corner x y;
-  inner = escaped (take 39 text);
+  inner = escaped_text (take 39 text);
   mark = ellipsis;
   parts = rw test (grind (arith, append_assoc));
   harmless = escaped_inner (take 39 text);
@@ -53,15 +53,15 @@ bar_parts front class quote place reach begin title end = simp append_assoc refl
 
 -- each element is closed
 pub element_closed : (e : Element) → IsClosed (element_text e)
-unfolding element_text front content titled
+unfolding element_text front content box_title
 element_closed (Box class x y width height) = inl (record {
   attributes = class ++ codes "\"" ++ corner x y ++ size width height;
   parts = simp append_assoc refl;
 })
 element_closed (Bar class x y width height title) = inr (inr (inl (record {
   attributes = class ++ codes "\"" ++ corner x y ++ size width height;
-  inner = escaped title;
-  parts = bar_parts (codes "<rect class=\"") class (codes "\"") (corner x y) (size width height) (codes "><title>") (escaped title) title_end;
+  inner = escaped_text title;
+  parts = bar_parts (codes "<rect class=\"") class (codes "\"") (corner x y) (size width height) (codes "><title>") (escaped_text title) title_end;
   harmless = escaped_inner title;
 })))
 element_closed (Line class x y x' y') = inr (inl (record {
@@ -70,7 +70,7 @@ element_closed (Line class x y x' y') = inr (inl (record {
 }))
 element_closed (Text class x y text) = inr (inr (inr (record {
   attributes = class ++ codes "\"" ++ corner x y;
-  inner = escaped text;
+  inner = escaped_text text;
   mark = [];
   parts = grind (arith, append_assoc);
   harmless = escaped_inner text;

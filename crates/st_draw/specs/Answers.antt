@@ -5,7 +5,7 @@ use Rattle.st_io.specs.Input.{InputState, CameWhole, CameWithin, CamePast}
 use Rattle.st_io.specs.Output.{OutputState, Wrote, WroteFront}
 use Rattle.st_draw.specs.Drawing.{svg}
 use Rattle.st_draw.specs.Log.{log}
-use Rattle.st_draw.specs.Terminal.{text}
+use Rattle.st_draw.specs.Terminal.{page_text}
 use Rattle.st_draw.specs.Timetable.{timetable}
 use Rattle.st_draw.specs.declared.status.Status.{Status}
 use Rattle.st_draw.specs.declared.status.Status.TheVariants.{Done, NoRows, Usage, ReportTooLong, ReadFault, WriteFault, NoMemory}
@@ -28,35 +28,41 @@ rows_in (Taken i t ∷ es) = rows_in es
 rows_in (Shown t ∷ es) = rows_in es
 
 -- what is drawn of the entries: nothing, where none of them is a row
-abbrev pub visible : ℕ → List Entry → List Entry
-visible shown entries = if nat_eq shown 0 then [] else entries
+abbrev pub visible_entries : ℕ → List Entry → List Entry
+visible_entries shown entries = if nat_eq shown 0 then [] else entries
 
 -- the bytes of a kind of picture
 abbrev pub picture_of : Kind → List ℕ → List Entry → ℕ → ℕ → List ℕ
 picture_of Svg report entries shown later = svg report entries shown later
-picture_of Text report entries shown later = text report entries shown later
+picture_of Text report entries shown later = page_text report entries shown later
 picture_of Kanata report entries shown later = log report entries
 
 -- the bytes of a picture of these entries, of which some are rows or none
-abbrev pub drawn : Kind → List ℕ → List Entry → ℕ → List ℕ
-drawn kind report entries later = picture_of kind report (visible (rows_in entries) entries) (rows_in entries) later
+abbrev pub picture_bytes : Kind → List ℕ → List Entry → ℕ → List ℕ
+picture_bytes kind report entries later = picture_of kind report
+    (visible_entries (rows_in entries) entries) (rows_in entries) later
 
 -- the entries of a report that are asked for
-abbrev pub entries_of : Choice → List ℕ → List Entry
-entries_of choice report = (timetable choice.part report).entries
+abbrev pub entries_asked : Choice → List ℕ → List Entry
+entries_asked choice report = (timetable choice.part report).entries
 
 -- the picture of a report that is asked for
 unfoldable pub picture : Choice → List ℕ → List ℕ
-picture choice report = drawn choice.kind report (entries_of choice report) (timetable choice.part report).later
+picture choice report = picture_bytes choice.kind report (entries_asked choice report)
+    (timetable choice.part report).later
 
 -- the status of a picture that was written: that a report has no rows is told
-unfoldable pub status_of : Choice → List ℕ → Status
-status_of choice report = if nat_eq (rows_in (entries_of choice report)) 0 then NoRows else Done
+unfoldable pub picture_status : Choice → List ℕ → Status
+picture_status choice report = if nat_eq (rows_in (entries_asked choice report)) 0 then NoRows
+    else Done
 
--- how a picture was written, by the status: wholly; or up to a write that failed; or not at all, for want of memory
+-- how a picture was written, by the status: wholly; or up to a write that failed; or not at all,
+-- for want of memory
 abbrev pub Writes : Choice → Status → OutputState → OutputState → List ℕ → Type 0
-Writes choice Done before after report = Wrote before after (picture choice report) × (status_of choice report ≡ Done)
-Writes choice NoRows before after report = Wrote before after (picture choice report) × (status_of choice report ≡ NoRows)
+Writes choice Done before after report = Wrote before after (picture choice report)
+    × (picture_status choice report ≡ Done)
+Writes choice NoRows before after report = Wrote before after (picture choice report)
+    × (picture_status choice report ≡ NoRows)
 Writes choice WriteFault before after report = WroteFront before after (picture choice report)
 Writes choice NoMemory before after report = after ≡ before
 Writes choice Usage before after report = ⊥
@@ -64,7 +70,8 @@ Writes choice ReportTooLong before after report = ⊥
 Writes choice ReadFault before after report = ⊥
 
 -- a report was read whole, and its picture written
-pub record Drew (choice : Choice) (status : Status) (input input' : InputState) (before after : OutputState) : Type 0 where
+pub record Drew (choice : Choice) (status : Status) (input input' : InputState)
+    (before after : OutputState) : Type 0 where
   pub report : List ℕ
   pub read : CameWhole input input' report_limit report
   pub written : Writes choice status before after report
@@ -82,7 +89,11 @@ Did choice NoMemory input input' before after =
     CameWithin input input' report_limit × (input'.faults ≡ input.faults) × (after ≡ before)
 Did choice Usage input input' before after = ⊥
 
--- what a call did, by the meaning of its words: words that mean nothing touch neither source nor sink
-abbrev pub IsAnswer : Option Choice → Status → InputState → InputState → OutputState → OutputState → Type 0
-IsAnswer None status input input' before after = (status ≡ Usage) × (input' ≡ input) × (after ≡ before)
-IsAnswer (Some choice) status input input' before after = Did choice status input input' before after
+-- what a call did, by the meaning of its words: words that mean nothing touch neither source nor
+-- sink
+abbrev pub IsAnswer : Option Choice → Status → InputState → InputState → OutputState → OutputState →
+    Type 0
+IsAnswer None status input input' before after = (status ≡ Usage) × (input' ≡ input)
+    × (after ≡ before)
+IsAnswer (Some choice) status input input' before after =
+    Did choice status input input' before after

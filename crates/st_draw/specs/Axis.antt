@@ -13,23 +13,24 @@ first_tick (Taken i t) = t
 first_tick (Shown t) = t
 
 -- the last tick of an entry
-abbrev pub last_tick : Entry → ℕ
-last_tick (Done n a p r t c) = c
-last_tick (Dropped a p end) = end
-last_tick (Taken i t) = t
-last_tick (Shown t) = t
+abbrev pub last_tick_of : Entry → ℕ
+last_tick_of (Done n a p r t c) = c
+last_tick_of (Dropped a p end) = end
+last_tick_of (Taken i t) = t
+last_tick_of (Shown t) = t
 
 -- the first tick of entries; the largest number, where there are none
-abbrev pub lowest : List Entry → ℕ
-lowest [] = 2 ^ 64 - 1
-lowest (e ∷ es) = min (first_tick e) (lowest es)
+abbrev pub lowest_tick : List Entry → ℕ
+lowest_tick [] = 2 ^ 64 - 1
+lowest_tick (e ∷ es) = min (first_tick e) (lowest_tick es)
 
 -- the last tick of entries
-abbrev pub highest : List Entry → ℕ
-highest [] = 0
-highest (e ∷ es) = max (last_tick e) (highest es)
+abbrev pub highest_tick : List Entry → ℕ
+highest_tick [] = 0
+highest_tick (e ∷ es) = max (last_tick_of e) (highest_tick es)
 
--- the first of 1, 2, 5, 10, 20, .. times a unit of which five or fewer make up a span; fuel times ten is tried
+-- the first of 1, 2, 5, 10, 20, .. times a unit of which five or fewer make up a span; fuel times
+-- ten is tried
 unfoldable pub step_from : ℕ → ℕ → ℕ → ℕ
 step_from zero unit span = unit
 step_from (suc fuel) unit span =
@@ -43,28 +44,30 @@ abbrev pub round_step : ℕ → ℕ
 round_step span = step_from 20 1 span
 
 -- the last multiple of a step up to a tick
-abbrev pub rounded : ℕ → ℕ → ℕ
-rounded tick step = tick / step * step
+abbrev pub round_tick : ℕ → ℕ → ℕ
+round_tick tick step = tick / step * step
 
--- an axis from the last round tick before the entries to their last tick, and at least so many ticks long
+-- an axis from the last round tick before the entries to their last tick, and at least so many
+-- ticks long
 abbrev pub axis_over : ℕ → ℕ → ℕ → Axis
 axis_over low high least =
     let step = round_step (high - low) in
-    let start = rounded low step in
+    let start = round_tick low step in
     record { start = start; last = high; step = step; span = max least (high - start) }
 
 -- the axis of entries
 unfoldable pub axis : List Entry → ℕ → Axis
-axis entries least = axis_over (lowest entries) (highest entries) least
+axis entries least = axis_over (lowest_tick entries) (highest_tick entries) least
 
 -- where a tick stands: within the room, in proportion
-unfoldable pub at : Room → Axis → ℕ → ℕ
-at room axis tick = room.left + min room.width ((tick - axis.start) * room.width / axis.span)
+unfoldable pub x_of_tick : Room → Axis → ℕ → ℕ
+x_of_tick room axis tick = room.left + min room.width ((tick - axis.start) * room.width / axis.span)
 
 -- the round ticks from one on, up to the last and at most so many
 unfoldable pub marks_from : ℕ → ℕ → ℕ → ℕ → List ℕ
 marks_from zero tick step last = []
-marks_from (suc fuel) tick step last = if nat_le tick last then tick ∷ marks_from fuel (tick + step) step last else []
+marks_from (suc fuel) tick step last = if nat_le tick last then tick
+    ∷ marks_from fuel (tick + step) step last else []
 
 -- the round ticks of an axis
 abbrev pub marks : Axis → List ℕ

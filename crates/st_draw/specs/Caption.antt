@@ -1,4 +1,5 @@
--- The texts of an entry: the three in front of its bars, and what the bars tell when they are pointed at.
+-- The texts of an entry: the three in front of its bars, and what the bars tell when they are
+-- pointed at.
 use Rattle.std.specs.Prelude.{ℕ, ◌*◌, nat_le, nat_lt, min, max, if◌then◌else◌, List, [], ◌∷◌, ◌++◌, length, take, drop, codes, decimal}
 use Rattle.st_draw.specs.Label.{label}
 use Rattle.st_draw.specs.declared.report.Place.{Place}
@@ -14,19 +15,19 @@ indicator_names =
     ++ codes "XVGZXL  XE  XH  MOP RLZ RZ  RGZ RN  AL  AE  AH      "
 
 -- the name of an indicator; blanks where it has none, and nothing past the last
-unfoldable pub indicator : ℕ → List ℕ
-indicator i = if nat_lt i 64 then take 4 (drop (4 * i) indicator_names) else []
+unfoldable pub indicator_text : ℕ → List ℕ
+indicator_text i = if nat_lt i 64 then take 4 (drop (4 * i) indicator_names) else []
 
 -- a place as word.bit
 abbrev pub place_text : Place → List ℕ
 place_text place = decimal place.word ++ codes "." ++ decimal place.bit
 
 -- the number of an entry that is done, or what else it is
-unfoldable pub first_text : Entry → List ℕ
-first_text (Done n a p r t c) = decimal n
-first_text (Dropped a p end) = codes "drop"
-first_text (Taken i t) = codes "INT"
-first_text (Shown t) = codes "SNAP"
+unfoldable pub caption_number : Entry → List ℕ
+caption_number (Done n a p r t c) = decimal n
+caption_number (Dropped a p end) = codes "drop"
+caption_number (Taken i t) = codes "INT"
+caption_number (Shown t) = codes "SNAP"
 
 -- where an entry stands in storage; the number of an indicator; the tick of a snapshot
 unfoldable pub second_text : Entry → List ℕ
@@ -39,7 +40,7 @@ second_text (Shown t) = decimal t
 unfoldable pub third_text : List ℕ → Entry → List ℕ
 third_text report (Done n a p r t c) = label report a
 third_text report (Dropped a p end) = label report a
-third_text report (Taken i t) = indicator i
+third_text report (Taken i t) = indicator_text i
 third_text report (Shown t) = []
 
 -- how many characters of a card are shown at most
@@ -56,14 +57,17 @@ widest report [] = 0
 widest report (e ∷ es) = max (min card_limit (length (third_text report e))) (widest report es)
 
 -- words and a number
-unfoldable pub numbered : List ℕ → ℕ → List ℕ
-numbered words n = words ++ decimal n
+unfoldable pub words_with_number : List ℕ → ℕ → List ℕ
+words_with_number words n = words ++ decimal n
 
 -- what the bars of an entry tell: the ticks of its phases
 unfoldable pub title : Entry → List ℕ
 title (Done n a p r t c) =
-    numbered (codes "row ") n ++ numbered (codes ": waits for operands from P ") p ++ numbered (codes " to R ") r
-    ++ numbered (codes ", for its turn to ") t ++ numbered (codes ", executes to C ") c
-title (Dropped a p end) = numbered (codes "prepared at P ") p ++ numbered (codes ", dropped at ") end
+    words_with_number (codes "row ") n ++ words_with_number (codes ": waits for operands from P ") p
+    ++ words_with_number (codes " to R ") r
+    ++ words_with_number (codes ", for its turn to ") t
+    ++ words_with_number (codes ", executes to C ") c
+title (Dropped a p end) = words_with_number (codes "prepared at P ") p
+    ++ words_with_number (codes ", dropped at ") end
 title (Taken i t) = []
 title (Shown t) = []

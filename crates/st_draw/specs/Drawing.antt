@@ -1,7 +1,7 @@
 -- The picture of a timetable: its elements in order, and its bytes.
 use Rattle.std.specs.Prelude.{ℕ, ◌+◌, ◌-◌, ◌*◌, ◌^◌, ◌≤◌, ◌<◌, max, List, [], ◌∷◌, ◌++◌, length, map, codes, decimal}
-use Rattle.st_draw.specs.Axis.{axis, at, marks}
-use Rattle.st_draw.specs.Caption.{first_text, second_text, third_text, title, widest}
+use Rattle.st_draw.specs.Axis.{axis, x_of_tick, marks}
+use Rattle.st_draw.specs.Caption.{caption_number, second_text, third_text, title, widest}
 use Rattle.st_draw.specs.Element.{Element, Box, Bar, Line, Text, Card, elements_text}
 use Rattle.st_draw.specs.Phases.{Phase, WaitsForOperands, WaitsForTurn, Executes, IsDropped, Span, spans, least_width}
 use Rattle.st_draw.specs.declared.axis.Room.{Room}
@@ -27,14 +27,14 @@ pub record IsSheet (sheet : Sheet) : Type 0 where
   pub ends : sheet.bottom < 2 ^ 70
 
 -- where a tick stands on a sheet
-abbrev pub across : Sheet → ℕ → ℕ
-across sheet tick = at sheet.room sheet.axis tick
+abbrev pub x_of : Sheet → ℕ → ℕ
+x_of sheet tick = x_of_tick sheet.room sheet.axis tick
 
 -- a round tick: a line down the sheet and its number above
 unfoldable pub mark : Sheet → ℕ → List Element
 mark sheet tick =
-    Line (codes "g") (across sheet tick) 28 (across sheet tick) sheet.bottom
-    ∷ Text (codes "m") (across sheet tick) 22 (decimal tick) ∷ []
+    Line (codes "g") (x_of sheet tick) 28 (x_of sheet tick) sheet.bottom
+    ∷ Text (codes "m") (x_of sheet tick) 22 (decimal tick) ∷ []
 
 -- round ticks
 unfoldable pub grid : Sheet → List ℕ → List Element
@@ -45,7 +45,7 @@ grid sheet (tick ∷ ticks) = mark sheet tick ++ grid sheet ticks
 abbrev pub upright : List ℕ → Sheet → ℕ → ℕ → List Element
 upright class sheet y tick =
     Line class sheet.room.left (y + 8) (sheet.room.left + sheet.room.width) (y + 8)
-    ∷ Line class (across sheet tick) 28 (across sheet tick) sheet.bottom ∷ []
+    ∷ Line class (x_of sheet tick) 28 (x_of sheet tick) sheet.bottom ∷ []
 
 -- the class of the bars of a phase
 abbrev pub class_of : Phase → List ℕ
@@ -57,8 +57,8 @@ class_of IsDropped = codes "d"
 -- the bar of a phase in the row at y
 abbrev pub bar : Sheet → ℕ → List ℕ → Span → Element
 bar sheet y text s =
-    Bar (class_of s.phase) (across sheet s.from) (y + 3)
-    (max (least_width s.phase) (across sheet s.to - across sheet s.from)) 10 text
+    Bar (class_of s.phase) (x_of sheet s.from) (y + 3)
+    (max (least_width s.phase) (x_of sheet s.to - x_of sheet s.from)) 10 text
 
 -- the lines of an entry that is a tick of its own
 abbrev pub uprights : Sheet → ℕ → Entry → List Element
@@ -74,17 +74,19 @@ bars sheet y entry = map (λ s. bar sheet y (title entry) s) (spans entry) ++ up
 -- what stands in front of an entry's bars
 unfoldable pub caption : List ℕ → ℕ → Entry → List Element
 caption report y entry =
-    Text (codes "n") 48 (y + 12) (first_text entry) ∷ Text (codes "n") 110 (y + 12) (second_text entry)
+    Text (codes "n") 48 (y + 12) (caption_number entry)
+    ∷ Text (codes "n") 110 (y + 12) (second_text entry)
     ∷ Card 120 (y + 12) (third_text report entry) ∷ []
 
 -- the row of an entry at y
-unfoldable pub row : Sheet → List ℕ → ℕ → Entry → List Element
-row sheet report y entry = caption report y entry ++ bars sheet y entry
+unfoldable pub row_elements : Sheet → List ℕ → ℕ → Entry → List Element
+row_elements sheet report y entry = caption report y entry ++ bars sheet y entry
 
 -- the rows of entries, one below the other from y on
-unfoldable pub rows : Sheet → List ℕ → ℕ → List Entry → List Element
-rows sheet report y [] = []
-rows sheet report y (e ∷ es) = row sheet report y e ++ rows sheet report (y + 16) es
+unfoldable pub rows_elements : Sheet → List ℕ → ℕ → List Entry → List Element
+rows_elements sheet report y [] = []
+rows_elements sheet report y (e ∷ es) = row_elements sheet report y e
+    ++ rows_elements sheet report (y + 16) es
 
 -- what a box of the legend means
 unfoldable pub box_key : List ℕ → ℕ → ℕ → List ℕ → List Element
@@ -92,20 +94,24 @@ box_key class x y meaning = Box class x y 20 10 ∷ Text (codes "c") (x + 26) (y
 
 -- what a line of the legend means
 unfoldable pub line_key : List ℕ → ℕ → ℕ → List ℕ → List Element
-line_key class x y meaning = Line class x (y + 5) (x + 20) (y + 5) ∷ Text (codes "c") (x + 26) (y + 9) meaning ∷ []
+line_key class x y meaning = Line class x (y + 5) (x + 20) (y + 5)
+    ∷ Text (codes "c") (x + 26) (y + 9) meaning ∷ []
 
 -- what the boxes of those that wait mean
 unfoldable pub waiting_keys : ℕ → List Element
 waiting_keys y =
-    box_key (codes "w") 12 y (codes "waiting for operands") ++ box_key (codes "t") 186 y (codes "waiting for its turn")
+    box_key (codes "w") 12 y (codes "waiting for operands")
+    ++ box_key (codes "t") 186 y (codes "waiting for its turn")
 
 -- what the boxes of those that wait no longer mean
 unfoldable pub ending_keys : ℕ → List Element
-ending_keys y = box_key (codes "e") 360 y (codes "executing") ++ box_key (codes "d") 466 y (codes "dropped")
+ending_keys y = box_key (codes "e") 360 y (codes "executing")
+    ++ box_key (codes "d") 466 y (codes "dropped")
 
 -- what the lines mean
 unfoldable pub line_keys : ℕ → List Element
-line_keys y = line_key (codes "i") 12 y (codes "interrupt") ++ line_key (codes "s") 186 y (codes "snapshot")
+line_keys y = line_key (codes "i") 12 y (codes "interrupt")
+    ++ line_key (codes "s") 186 y (codes "snapshot")
 
 -- the legend
 unfoldable pub legend : ℕ → List Element
@@ -115,7 +121,8 @@ legend y = waiting_keys y ++ ending_keys y ++ line_keys (y + 16)
 unfoldable pub remark : ℕ → ℕ → List ℕ
 remark shown later = decimal shown ++ codes " rows, " ++ decimal later ++ codes " follow"
 
--- what is said above the rows, beside the axis that begins at so many units: what its numbers are, or that there is no entry
+-- what is said above the rows, beside the axis that begins at so many units: what its numbers are,
+-- or that there is no entry
 unfoldable pub notice : ℕ → List Entry → List Element
 notice left [] = Text (codes "c") 12 20 (codes "no rows") ∷ []
 notice left (e ∷ es) = Text (codes "m") (left - 48) 22 (codes "ticks") ∷ []
@@ -130,7 +137,7 @@ ground sheet entries = Box (codes "p") 0 0 640 (sheet.bottom + 60) ∷ notice sh
 
 -- the axis and the rows
 unfoldable pub chart : Sheet → List ℕ → List Entry → List Element
-chart sheet report entries = grid sheet (marks sheet.axis) ++ rows sheet report 36 entries
+chart sheet report entries = grid sheet (marks sheet.axis) ++ rows_elements sheet report 36 entries
 
 -- the elements on a sheet
 abbrev pub drawing_on : Sheet → List ℕ → List Entry → ℕ → ℕ → List Element
@@ -156,8 +163,8 @@ unfoldable pub preamble : List ℕ
 preamble = codes "<svg xmlns=\"http://www.w3.org/2000/svg\" xml:space=\"preserve\" viewBox=\"0 0 640 "
 
 -- the front of a picture of a height
-unfoldable pub opening : ℕ → List ℕ
-opening height = preamble ++ decimal height ++ styles
+unfoldable pub picture_front : ℕ → List ℕ
+picture_front height = preamble ++ decimal height ++ styles
 
 -- the end of a picture
 abbrev pub closing : List ℕ
@@ -166,4 +173,5 @@ closing = codes "</svg>\n"
 -- the bytes of a picture
 unfoldable pub svg : List ℕ → List Entry → ℕ → ℕ → List ℕ
 svg report entries shown later =
-    opening ((sheet report entries).bottom + 60) ++ elements_text (drawing report entries shown later) ++ closing
+    picture_front ((sheet report entries).bottom + 60) ++ elements_text
+    (drawing report entries shown later) ++ closing

@@ -1,7 +1,7 @@
 -- The elements of a picture, and the bytes of each.
 use Rattle.std.specs.Prelude.{ℕ, nat_le, if◌then◌else◌, List, [], ◌∷◌, ◌++◌, length, take, codes, decimal}
 use Rattle.st_draw.specs.Caption.{card_limit}
-use Rattle.st_draw.specs.Escape.{escaped}
+use Rattle.st_draw.specs.Escape.{escaped_text}
 
 -- a number as the value of an attribute
 unfoldable pub attribute : List ℕ → ℕ → List ℕ
@@ -22,19 +22,20 @@ size width height = attribute (codes " width") width ++ attribute (codes " heigh
 -- where a line begins and ends
 unfoldable pub ends : ℕ → ℕ → ℕ → ℕ → List ℕ
 ends x y x' y' =
-    attribute (codes " x1") x ++ attribute (codes " y1") y ++ attribute (codes " x2") x' ++ attribute (codes " y2") y'
+    attribute (codes " x1") x ++ attribute (codes " y1") y ++ attribute (codes " x2") x'
+    ++ attribute (codes " y2") y'
 
 -- what a text says, and its end
 unfoldable pub content : List ℕ → List ℕ
-content text = codes ">" ++ escaped text ++ codes "</text>\n"
+content text = codes ">" ++ escaped_text text ++ codes "</text>\n"
 
 -- the end of a title and of its box
 unfoldable pub title_end : List ℕ
 title_end = codes "</title></rect>\n"
 
 -- what a box says when it is pointed at, and its end
-unfoldable pub titled : List ℕ → List ℕ
-titled text = codes "><title>" ++ escaped text ++ title_end
+unfoldable pub box_title : List ℕ → List ℕ
+box_title text = codes "><title>" ++ escaped_text text ++ title_end
 
 -- the mark at the end of a card that is too long: an ellipsis in UTF-8
 abbrev pub ellipsis : List ℕ
@@ -42,13 +43,15 @@ ellipsis = 226 ∷ 128 ∷ 166 ∷ []
 
 -- what is shown of a card: one that is too long ends in the ellipsis
 unfoldable pub shown_card : List ℕ → List ℕ
-shown_card text = if nat_le (length text) card_limit then escaped text else escaped (take 39 text) ++ ellipsis
+shown_card text = if nat_le (length text) card_limit then escaped_text text
+    else escaped_text (take 39 text) ++ ellipsis
 
 -- a card, and its end
 unfoldable pub card_content : List ℕ → List ℕ
 card_content text = codes ">" ++ shown_card text ++ codes "</text>\n"
 
--- an element of a picture: its class, where it stands, and how far it reaches or what it says. A bar is a box with a title
+-- an element of a picture: its class, where it stands, and how far it reaches or what it says. A
+-- bar is a box with a title
 pub data Element : Type 0 where
   Box : List ℕ → ℕ → ℕ → ℕ → ℕ → Element
   Bar : List ℕ → ℕ → ℕ → ℕ → ℕ → List ℕ → Element
@@ -58,9 +61,10 @@ pub data Element : Type 0 where
 
 -- the bytes of an element
 unfoldable pub element_text : Element → List ℕ
-element_text (Box class x y width height) = front (codes "<rect") class ++ corner x y ++ size width height ++ codes "/>\n"
+element_text (Box class x y width height) = front (codes "<rect") class ++ corner x y
+    ++ size width height ++ codes "/>\n"
 element_text (Bar class x y width height title) =
-    front (codes "<rect") class ++ corner x y ++ size width height ++ titled title
+    front (codes "<rect") class ++ corner x y ++ size width height ++ box_title title
 element_text (Line class x y x' y') = front (codes "<line") class ++ ends x y x' y' ++ codes "/>\n"
 element_text (Text class x y text) = front (codes "<text") class ++ corner x y ++ content text
 element_text (Card x y text) = front (codes "<text") (codes "c") ++ corner x y ++ card_content text

@@ -14,3 +14,10 @@ pub mod Terminal
 pub mod Timetable
 pub mod Words
 pub mod WellFormed
+pub use Rattle.st_io.specs.Count
+pub use Rattle.st_io.specs.Input
+pub use Rattle.st_io.specs.Output
+pub use Rattle.st_text.specs.Blanks
+pub use Rattle.st_text.specs.Bytes
+pub use Rattle.st_text.specs.Number
+pub use Rattle.st_text.specs.Pieces

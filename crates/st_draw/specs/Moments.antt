@@ -1,6 +1,6 @@
 -- What happens to the entries of a timetable, in the order of ticks.
 use Rattle.std.specs.Prelude.{ℕ, ◌+◌, nat_le, max, if◌then◌else◌, List, [], ◌∷◌, ◌++◌}
-use Rattle.st_io.specs.Count.{counted}
+use Rattle.st_io.specs.Count.{count_after}
 use Rattle.st_draw.specs.Axis.{first_tick}
 use Rattle.st_draw.specs.declared.moments.Moment.{Moment}
 use Rattle.st_draw.specs.declared.moments.Step.{Step}
@@ -26,23 +26,25 @@ turn_tick (Shown t) = t
 abbrev pub end_tick : Entry → ℕ
 end_tick (Done n a p r t c) = max (max (max p r) t) c
 end_tick (Dropped a p end) = max p end
-end_tick (Taken i t) = counted t 1
-end_tick (Shown t) = counted t 1
+end_tick (Taken i t) = count_after t 1
+end_tick (Shown t) = count_after t 1
 
 -- the tick at which something happens to an entry
-abbrev pub tick_of : Step → Entry → ℕ
-tick_of Begin e = first_tick e
-tick_of Ready e = ready_tick e
-tick_of Turn e = turn_tick e
-tick_of End e = end_tick e
+abbrev pub moment_tick : Step → Entry → ℕ
+moment_tick Begin e = first_tick e
+moment_tick Ready e = ready_tick e
+moment_tick Turn e = turn_tick e
+moment_tick End e = end_tick e
 
 -- what happens to the entry with a number
 abbrev pub moment : ℕ → Step → Entry → Moment
-moment k step e = record { tick = tick_of step e; number = k; step = step; entry = e }
+moment k step e = record { tick = moment_tick step e; number = k; step = step; entry = e }
 
--- that the operands of an entry are there, and that it is its turn: nothing else than an instruction that is done waits for these
+-- that the operands of an entry are there, and that it is its turn: nothing else than an
+-- instruction that is done waits for these
 abbrev pub waits_of : ℕ → Entry → List Moment
-waits_of k (Done n a p r t c) = moment k Ready (Done n a p r t c) ∷ moment k Turn (Done n a p r t c) ∷ []
+waits_of k (Done n a p r t c) = moment k Ready (Done n a p r t c) ∷ moment k Turn (Done n a p r t c)
+    ∷ []
 waits_of k (Dropped a p end) = []
 waits_of k (Taken i t) = []
 waits_of k (Shown t) = []
@@ -52,9 +54,9 @@ unfoldable pub moments_of : ℕ → Entry → List Moment
 moments_of k e = moment k Begin e ∷ waits_of k e ++ moment k End e ∷ []
 
 -- that entries begin
-abbrev pub begins : List Entry → List Moment
-begins [] = []
-begins (e ∷ es) = moment 0 Begin e ∷ begins es
+abbrev pub beginnings : List Entry → List Moment
+beginnings [] = []
+beginnings (e ∷ es) = moment 0 Begin e ∷ beginnings es
 
 -- all that happens to the entries that begin so, which are numbered from k on
 abbrev pub moments : ℕ → List Moment → List Moment
@@ -62,15 +64,15 @@ moments k [] = []
 moments k (m ∷ ms) = moments_of k m.entry ++ moments (k + 1) ms
 
 -- a moment before the first one of a list that is not earlier
-unfoldable pub inserted : Moment → List Moment → List Moment
-inserted m [] = m ∷ []
-inserted m (n ∷ ns) = if nat_le m.tick n.tick then m ∷ n ∷ ns else n ∷ inserted m ns
+unfoldable pub moments_with : Moment → List Moment → List Moment
+moments_with m [] = m ∷ []
+moments_with m (n ∷ ns) = if nat_le m.tick n.tick then m ∷ n ∷ ns else n ∷ moments_with m ns
 
 -- moments in the order of their ticks; those of one tick keep their order
 unfoldable pub in_order : List Moment → List Moment
 in_order [] = []
-in_order (m ∷ ms) = inserted m (in_order ms)
+in_order (m ∷ ms) = moments_with m (in_order ms)
 
 -- what happens to entries, in the order of ticks; they are numbered from 0 on as they begin
 unfoldable pub happenings : List Entry → List Moment
-happenings entries = in_order (moments 0 (in_order (begins entries)))
+happenings entries = in_order (moments 0 (in_order (beginnings entries)))

@@ -3,8 +3,8 @@ use Rattle.std.specs.Prelude.{ℕ, ◌+◌, nat_le, nat_lt, min, max, ◌&&◌, 
 use Rattle.st_draw.specs.declared.timetable.Entry.{Entry}
 use Rattle.st_draw.specs.declared.timetable.Entry.TheVariants.{Done, Dropped, Taken, Shown}
 
--- the tick at which it is a row's turn: its operands are there, and the row before it in the report is complete; not past its own
--- completion
+-- the tick at which it is a row's turn: its operands are there, and the row before it in the report
+-- is complete; not past its own completion
 abbrev pub turn_of : ℕ → ℕ → ℕ → ℕ
 turn_of before ready complete = max ready (min before complete)
 
@@ -24,7 +24,8 @@ pub record Span : Type 0 where
 -- the phases of an entry, one after another; an interrupt and a snapshot are ticks, and have none
 abbrev pub spans : Entry → List Span
 spans (Done n a p r t c) =
-    record { phase = WaitsForOperands; from = p; to = r } ∷ record { phase = WaitsForTurn; from = r; to = t }
+    record { phase = WaitsForOperands; from = p; to = r }
+    ∷ record { phase = WaitsForTurn; from = r; to = t }
     ∷ record { phase = Executes; from = t; to = c } ∷ []
 spans (Dropped a p end) = record { phase = IsDropped; from = p; to = end } ∷ []
 spans (Taken i t) = []
@@ -48,7 +49,8 @@ is_executing IsDropped = false
 abbrev pub executing_spans : ℕ → List Span → ℕ
 executing_spans tick [] = 0
 executing_spans tick (s ∷ ss) =
-    (if is_executing s.phase && nat_le s.from tick && nat_lt tick s.to then 1 else 0) + executing_spans tick ss
+    (if is_executing s.phase && nat_le s.from tick && nat_lt tick s.to then 1 else 0)
+    + executing_spans tick ss
 
 -- how many entries execute at a tick
 abbrev pub executing_at : ℕ → List Entry → ℕ

@@ -1,5 +1,6 @@
--- What the laws say of a picture: its elements are known ones, each is closed, and no text breaks out of its element; of a log: its
--- ticks go forward; of a report: the completions of its rows rise.
+-- What the laws say of a picture: its elements are known ones, each is closed, and no text breaks
+-- out of its element; of a log: its ticks go forward; of a report: the completions of its rows
+-- rise.
 use Rattle.std.specs.Prelude.{◌≡◌, ◌⊎◌, ℕ, ◌==◌, ◌≤◌, ◌&&◌, not, Bool, true, List, [], ◌∷◌, ◌++◌, ⊤, codes, Option, None, Some}
 use Rattle.std.specs.List.{list_all}
 use Rattle.st_text.specs.Bytes.{is_printable_byte}
@@ -35,13 +36,15 @@ pub record IsFull (name bytes : List ℕ) : Type 0 where
   pub inner : List ℕ
   pub mark : List ℕ
   pub parts : bytes
-      ≡ codes "<" ++ name ++ codes " class=\"" ++ attributes ++ codes ">" ++ inner ++ mark ++ codes "</" ++ name ++ codes ">\n"
+      ≡ codes "<" ++ name ++ codes " class=\"" ++ attributes ++ codes ">" ++ inner ++ mark
+      ++ codes "</" ++ name ++ codes ">\n"
   pub harmless : are_inner inner ≡ true
   pub known : (mark ≡ []) ⊎ (mark ≡ ellipsis)
 
 -- one of the known elements, closed
 abbrev pub IsClosed : List ℕ → Type 0
-IsClosed bytes = IsEmpty (codes "rect") bytes ⊎ IsEmpty (codes "line") bytes ⊎ IsTitled bytes ⊎ IsFull (codes "text") bytes
+IsClosed bytes = IsEmpty (codes "rect") bytes ⊎ IsEmpty (codes "line") bytes ⊎ IsTitled bytes
+    ⊎ IsFull (codes "text") bytes
 
 -- moments that come after a tick, or at it, and none before the one that stands before it
 abbrev pub GoForward : ℕ → List Moment → Type 0
@@ -60,4 +63,5 @@ completion_after before (Some (Snapshot t)) = before
 abbrev pub CompletionsRise : ℕ → List (List ℕ) → Type 0
 CompletionsRise before [] = ⊤
 CompletionsRise before (line ∷ lines) =
-    let after = completion_after before (item line) in (before ≤ after) × CompletionsRise after lines
+    let after = completion_after before (item line) in (before ≤ after)
+    × CompletionsRise after lines

@@ -2,7 +2,7 @@
 use Rattle.std.specs.Prelude.{ℕ, ◌+◌, nat_eq, nat_le, min, ◌&&◌, codes, if◌then◌else◌, List, [], ◌∷◌, Option, None, Some}
 use Rattle.std.specs.Option.{option_map, option_and_then}
 use Rattle.std.specs.Cmp.Lexicographic.{pointwise}
-use Rattle.st_draw.specs.Report.{number}
+use Rattle.st_draw.specs.Report.{number_in_report}
 use Rattle.st_draw.specs.declared.timetable.Part.{Part}
 use Rattle.st_draw.specs.declared.words.Choice.{Choice}
 use Rattle.st_draw.specs.declared.words.Kind.{Kind}
@@ -23,21 +23,26 @@ kind_named word =
 -- the part from a row to a row: at least one row, and at most 200
 abbrev pub part_between : ℕ → ℕ → Option Part
 part_between from to =
-    if nat_le 1 from && nat_le from to then Some (record { from = from; to = min to (from + 199) }) else None
+    if nat_le 1 from && nat_le from to then Some (record { from = from; to = min to (from + 199) })
+    else None
 
 -- the part that two words name
 unfoldable pub part_named : List ℕ → List ℕ → Option Part
-part_named from to = option_and_then (λ f. option_and_then (λ t. part_between f t) (number to)) (number from)
+part_named from to = option_and_then (λ f. option_and_then (λ t. part_between f t)
+    (number_in_report to)) (number_in_report from)
 
 -- what a word and two numbers ask for
-abbrev pub chosen : List ℕ → List ℕ → List ℕ → Option Choice
-chosen word from to =
-    option_and_then (λ k. option_map (λ p. record { kind = k; part = p }) (part_named from to)) (kind_named word)
+abbrev pub choice_of_words : List ℕ → List ℕ → List ℕ → Option Choice
+choice_of_words word from to =
+    option_and_then (λ k. option_map (λ p. record { kind = k; part = p }) (part_named from to))
+    (kind_named word)
 
 -- what the words ask for, or nothing
-unfoldable pub choice_of : List (List ℕ) → Option Choice
-choice_of [] = Some (record { kind = Svg; part = first_part })
-choice_of (word ∷ []) = option_map (λ k. record { kind = k; part = first_part }) (kind_named word)
-choice_of (from ∷ to ∷ []) = option_map (λ p. record { kind = Svg; part = p }) (part_named from to)
-choice_of (word ∷ from ∷ to ∷ []) = chosen word from to
-choice_of (word ∷ from ∷ to ∷ more ∷ words) = None
+unfoldable pub picture_choice : List (List ℕ) → Option Choice
+picture_choice [] = Some (record { kind = Svg; part = first_part })
+picture_choice (word ∷ []) = option_map (λ k. record { kind = k; part = first_part })
+    (kind_named word)
+picture_choice (from ∷ to ∷ []) = option_map (λ p. record { kind = Svg; part = p })
+    (part_named from to)
+picture_choice (word ∷ from ∷ to ∷ []) = choice_of_words word from to
+picture_choice (word ∷ from ∷ to ∷ more ∷ words) = None

@@ -41,7 +41,7 @@ pub fn first_tick(entry: &Entry) -> u64
 
 // The last tick of an entry.
 fn last_tick(entry: &Entry) -> u64
-    ensures { result ≡ spec.last_tick entry.now }
+    ensures { result ≡ spec.last_tick_of entry.now }
 {
     match *entry {
         Entry::Done { complete, .. } => complete,
@@ -54,7 +54,7 @@ fn last_tick(entry: &Entry) -> u64
 // The first tick of entries.
 #[tactic(auto, using(crate::proofs::Axes::lowest_bound))]
 fn lowest(entries: &[Entry]) -> u64
-    ensures { result ≡ spec.lowest entries.now }
+    ensures { result ≡ spec.lowest_tick entries.now }
 {
     let mut low = u64::MAX;
     let mut rest = entries;
@@ -67,7 +67,7 @@ fn lowest(entries: &[Entry]) -> u64
 
 // The last tick of entries.
 fn highest(entries: &[Entry]) -> u64
-    ensures { result ≡ spec.highest entries.now }
+    ensures { result ≡ spec.highest_tick entries.now }
 {
     let mut high = 0;
     let mut rest = entries;
@@ -120,10 +120,10 @@ pub fn axis_of(entries: &[Entry], least: u64) -> Axis
 }
 
 /// Where a tick stands.
-#[tactic(auto, unfolding(crate::specs::Axis::at))]
+#[tactic(auto, unfolding(crate::specs::Axis::x_of_tick))]
 pub fn at(room: Room, axis: Axis, tick: u64) -> u64
     requires { 1 ≤ axis.span }
-    ensures value { result ≡ spec.at room axis tick }
+    ensures value { result ≡ spec.x_of_tick room axis tick }
     ensures inside { result ≤ room.left + room.width }
 {
     let along = u128::from(tick.saturating_sub(axis.start)) * u128::from(room.width)

@@ -1,4 +1,5 @@
-//! The texts of an entry: the three in front of its bars, and what the bars tell when they are pointed at.
+//! The texts of an entry: the three in front of its bars, and what the bars tell when they are
+//! pointed at.
 ghost use Rattle.std.specs.Prelude.{◌≡◌, ◌≤◌, ◌++◌, IfOk, decimal};
 ghost use Rattle.st_draw.specs.Caption as spec;
 
@@ -28,9 +29,9 @@ fn indicator_names() -> &'static [u8]
 }
 
 // The name of an indicator; blanks where it has none, and nothing past the last.
-#[tactic(auto, unfolding(crate::specs::Caption::indicator))]
+#[tactic(auto, unfolding(crate::specs::Caption::indicator_text))]
 fn indicator(i: u64) -> &'static [u8]
-    ensures { result.now ≡ spec.indicator i }
+    ensures { result.now ≡ spec.indicator_text i }
 {
     if 64 <= i {
         return &[];
@@ -58,9 +59,9 @@ fn place_text(alloc: Global, place: Place) -> Result<Vec<u8>, AllocError>
 }
 
 /// The number of an entry that is done, or what else it is.
-#[tactic(auto, unfolding(crate::specs::Caption::first_text))]
+#[tactic(auto, unfolding(crate::specs::Caption::caption_number))]
 pub fn first_text(alloc: Global, entry: Entry) -> Result<Vec<u8>, AllocError>
-    ensures { IfOk result (λ text. text.items ≡ spec.first_text entry) }
+    ensures { IfOk result (λ text. text.items ≡ spec.caption_number entry) }
 {
     match entry {
         Entry::Done { number, .. } => decimal_text(alloc, number),
@@ -124,9 +125,10 @@ pub fn widest(report: &[u8], entries: &[Entry]) -> usize
 }
 
 // Appends words and a number.
-#[tactic(auto, unfolding(crate::specs::Caption::numbered))]
+#[tactic(auto, unfolding(crate::specs::Caption::words_with_number))]
 fn push_numbered(out: &mut Vec<u8>, words: &[u8], n: u64) -> Result<(), AllocError>
-    ensures { IfOk result (λ _. out.new.items ≡ out.old.items ++ spec.numbered words.now n) }
+    ensures { IfOk result (λ _. out.new.items ≡ out.old.items
+        ++ spec.words_with_number words.now n) }
 {
     out.extend_from_slice(words)?;
     push_decimal(out, u128::from(n))

@@ -86,7 +86,7 @@ fn sheet_of(report: &[u8], entries: &[Entry]) -> Sheet
 // Where a tick stands on a sheet.
 fn across(sheet: &Sheet, tick: u64) -> u128
     requires { IsSheet sheet.now }
-    ensures { result ≡ spec.across sheet.now tick }
+    ensures { result ≡ spec.x_of sheet.now tick }
 {
     u128::from(at(sheet.room, sheet.axis, tick))
 }
@@ -248,7 +248,7 @@ fn push_caption(
 }
 
 // Appends the row of an entry at y.
-#[tactic(auto, unfolding(crate::specs::Drawing::row), using(crate::proofs::Elements::elements_joined))]
+#[tactic(auto, unfolding(crate::specs::Drawing::row_elements), using(crate::proofs::Elements::elements_joined))]
 fn push_row(
     alloc: Global,
     out: &mut Vec<u8>,
@@ -259,7 +259,7 @@ fn push_row(
     requires sheet { IsSheet sheet.now }
     requires low { row.y < 2 ^ 70 }
     ensures { IfOk result (λ _. out.new.items ≡ out.old.items
-        ++ elements_text (spec.row sheet.now report.now row.y row.entry)) }
+        ++ elements_text (spec.row_elements sheet.now report.now row.y row.entry)) }
 {
     push_caption(alloc, out, report, row.y, row.entry)?;
     push_bars(alloc, out, sheet, row)
@@ -275,7 +275,7 @@ fn push_rows(
 ) -> Result<(), AllocError>
     requires { IsSheet sheet.now }
     ensures { IfOk result (λ _. out.new.items ≡ out.old.items
-        ++ elements_text (spec.rows sheet.now report.now 36 entries.now)) }
+        ++ elements_text (spec.rows_elements sheet.now report.now 36 entries.now)) }
 {
     let mut y = 36;
     let mut rest = entries;
@@ -403,7 +403,8 @@ pub fn remark(alloc: Global, shown: u64, later: u64) -> Result<Vec<u8>, AllocErr
     Ok(text)
 }
 
-// Appends the ground of the picture, and what is said beside the axis: what its numbers are, or that there is no entry.
+// Appends the ground of the picture, and what is said beside the axis: what its numbers are, or
+// that there is no entry.
 #[tactic(auto, unfolding(crate::specs::Drawing::ground, crate::specs::Drawing::notice, crate::specs::Element::elements_text))]
 fn push_ground(out: &mut Vec<u8>, sheet: &Sheet, entries: &[Entry]) -> Result<(), AllocError>
     requires { IsSheet sheet.now }
@@ -458,9 +459,9 @@ fn push_foot(out: &mut Vec<u8>, bottom: u128, remark: &[u8]) -> Result<(), Alloc
 }
 
 // Appends the front of a picture of a height.
-#[tactic(auto, unfolding(crate::specs::Drawing::opening))]
+#[tactic(auto, unfolding(crate::specs::Drawing::picture_front))]
 fn push_opening(out: &mut Vec<u8>, height: u128) -> Result<(), AllocError>
-    ensures { IfOk result (λ _. out.new.items ≡ out.old.items ++ spec.opening height) }
+    ensures { IfOk result (λ _. out.new.items ≡ out.old.items ++ spec.picture_front height) }
 {
     out.extend_from_slice(preamble())?;
     push_decimal(out, height)?;

@@ -1,6 +1,6 @@
 //! The elements of a picture.
 ghost use Rattle.std.specs.Prelude.{◌≡◌, ◌++◌, IfOk, decimal};
-ghost use Rattle.st_draw.specs.Element.{attribute, front, corner, size, ends, content, title_end, titled, shown_card, card_content, element_text, Box, Bar, Line, Text, Card};
+ghost use Rattle.st_draw.specs.Element.{attribute, front, corner, size, ends, content, title_end, box_title, shown_card, card_content, element_text, Box, Bar, Line, Text, Card};
 
 use crate::caption::CARD_LIMIT;
 use crate::escape::push_escaped;
@@ -95,9 +95,9 @@ fn end_of_title() -> &'static [u8]
 }
 
 // Appends what a box says when it is pointed at, and its end.
-#[tactic(auto, unfolding(crate::specs::Element::titled))]
+#[tactic(auto, unfolding(crate::specs::Element::box_title))]
 fn push_title(out: &mut Vec<u8>, text: &[u8]) -> Result<(), AllocError>
-    ensures { IfOk result (λ _. out.new.items ≡ out.old.items ++ titled text.now) }
+    ensures { IfOk result (λ _. out.new.items ≡ out.old.items ++ box_title text.now) }
 {
     out.extend_from_slice(b"><title>")?;
     push_escaped(out, text)?;

@@ -19,7 +19,7 @@ fn push_escaped_byte(out: &mut Vec<u8>, byte: u8) -> Result<(), AllocError>
 
 /// Appends a text as it may stand there.
 pub fn push_escaped(out: &mut Vec<u8>, text: &[u8]) -> Result<(), AllocError>
-    ensures { IfOk result (λ _. out.new.items ≡ out.old.items ++ spec.escaped text.now) }
+    ensures { IfOk result (λ _. out.new.items ≡ out.old.items ++ spec.escaped_text text.now) }
 {
     let mut rest = text;
     'bytes: while let [byte, after @ ..] = rest {

@@ -1,7 +1,7 @@
 //! The text of a card, from the listing at the front of a report.
 ghost use Rattle.std.specs.Prelude.{◌≡◌};
 ghost use Rattle.st_draw.specs.Label as spec;
-ghost use Rattle.st_draw.specs.Report.{place};
+ghost use Rattle.st_draw.specs.Report.{place_in_report};
 
 use crate::report::{Place, number, place_of};
 use st_text::{behind, cut, front, without_end_blanks, without_front_blanks};
@@ -16,7 +16,7 @@ fn is_listed(line: &[u8]) -> bool
 
 // Whether a text spells a place.
 fn is_place(text: &[u8], here: Place) -> bool
-    ensures { result ≡ spec.is_place (place text.now) here }
+    ensures { result ≡ spec.is_place (place_in_report text.now) here }
 {
     match place_of(text) {
         Some(place) => place.word == here.word && place.bit == here.bit,
@@ -26,7 +26,7 @@ fn is_place(text: &[u8], here: Place) -> bool
 
 // Whether a text has something else than a blank at its front.
 fn is_filled(text: &[u8]) -> bool
-    ensures { result ≡ spec.is_filled text.now }
+    ensures { result ≡ spec.has_filled_front text.now }
 {
     match text {
         [] => false,
@@ -50,7 +50,8 @@ fn card_text(line: &[u8]) -> &[u8]
     without_end_blanks(without_front_blanks(behind(line, 33)))
 }
 
-/// The text of the card that lays what stands at a place; nothing, where the report has no listing of it.
+/// The text of the card that lays what stands at a place; nothing, where the report has no listing
+/// of it.
 #[tactic(auto, unfolding(crate::specs::Label::label))]
 pub fn label_at(report: &[u8], here: Place) -> &[u8]
     ensures { result.now ≡ spec.label report.now here }

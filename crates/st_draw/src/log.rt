@@ -18,9 +18,9 @@ fn heading() -> &'static [u8]
 }
 
 // Appends the name of the log's format, and the tick at which it starts.
-#[tactic(auto, unfolding(crate::specs::Log::opening))]
+#[tactic(auto, unfolding(crate::specs::Log::log_front))]
 fn push_opening(out: &mut Vec<u8>, tick: u64) -> Result<(), AllocError>
-    ensures { IfOk result (λ _. out.new.items ≡ out.old.items ++ spec.opening tick) }
+    ensures { IfOk result (λ _. out.new.items ≡ out.old.items ++ spec.log_front tick) }
 {
     out.extend_from_slice(heading())?;
     push_decimal(out, u128::from(tick))?;
@@ -41,9 +41,9 @@ fn push_passing(out: &mut Vec<u8>, from: u64, to: u64) -> Result<(), AllocError>
 }
 
 // Appends that the entry with a number appears.
-#[tactic(auto, unfolding(crate::specs::Log::entry_line))]
+#[tactic(auto, unfolding(crate::specs::Log::log_entry_line))]
 fn push_entry_line(out: &mut Vec<u8>, number: u64) -> Result<(), AllocError>
-    ensures { IfOk result (λ _. out.new.items ≡ out.old.items ++ spec.entry_line number) }
+    ensures { IfOk result (λ _. out.new.items ≡ out.old.items ++ spec.log_entry_line number) }
 {
     out.extend_from_slice(b"I\t")?;
     push_decimal(out, u128::from(number))?;
@@ -79,10 +79,10 @@ fn push_stage(out: &mut Vec<u8>, sign: &[u8], number: u64, stage: &[u8]) -> Resu
 }
 
 // Appends that it is done with, as a row or as none: retired, 0, or flushed, 1.
-#[tactic(auto, unfolding(crate::specs::Log::end_line))]
+#[tactic(auto, unfolding(crate::specs::Log::log_end_line))]
 fn push_end_line(out: &mut Vec<u8>, number: u64, row: u64, how: &[u8]) -> Result<(), AllocError>
     ensures { IfOk result (λ _. out.new.items ≡ out.old.items
-        ++ spec.end_line number row how.now) }
+        ++ spec.log_end_line number row how.now) }
 {
     out.extend_from_slice(b"R\t")?;
     push_decimal(out, u128::from(number))?;
@@ -94,9 +94,9 @@ fn push_end_line(out: &mut Vec<u8>, number: u64, row: u64, how: &[u8]) -> Result
 }
 
 // The label of an entry: its three texts, the last one with dots where it is too long.
-#[tactic(auto, unfolding(crate::specs::Log::label))]
+#[tactic(auto, unfolding(crate::specs::Log::log_label))]
 fn label(alloc: Global, report: &[u8], entry: Entry) -> Result<Vec<u8>, AllocError>
-    ensures { IfOk result (λ text. text.items ≡ spec.label report.now entry) }
+    ensures { IfOk result (λ text. text.items ≡ spec.log_label report.now entry) }
 {
     let mut text = first_text(alloc, entry)?;
     let second = second_text(alloc, entry)?;
@@ -185,9 +185,9 @@ fn push_change(out: &mut Vec<u8>, number: u64, from: &[u8], to: &[u8]) -> Result
 }
 
 // Appends the lines of an entry that ends.
-#[tactic(auto, unfolding(crate::specs::Log::end_lines))]
+#[tactic(auto, unfolding(crate::specs::Log::log_end_lines))]
 fn push_end(out: &mut Vec<u8>, number: u64, entry: Entry) -> Result<(), AllocError>
-    ensures { IfOk result (λ _. out.new.items ≡ out.old.items ++ spec.end_lines number entry) }
+    ensures { IfOk result (λ _. out.new.items ≡ out.old.items ++ spec.log_end_lines number entry) }
 {
     push_stage(out, b"E", number, last_stage(entry))?;
     push_end_line(out, number, row_number(entry), manner(entry))
@@ -250,7 +250,7 @@ fn push_moments(
 
 // The tick of the first moment; 0 where there is none.
 fn start_of(moments: &[Moment]) -> u64
-    ensures { result ≡ spec.start moments.now }
+    ensures { result ≡ spec.first_moment_tick moments.now }
 {
     match moments {
         [] => 0,

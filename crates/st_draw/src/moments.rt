@@ -83,7 +83,7 @@ fn end_tick(entry: &Entry) -> u64
 
 // The tick at which something happens to an entry.
 fn tick_of(step: Step, entry: &Entry) -> u64
-    ensures { result ≡ spec.tick_of step entry.now }
+    ensures { result ≡ spec.moment_tick step entry.now }
 {
     match step {
         Step::Begin => first_tick(entry),
@@ -108,7 +108,8 @@ fn push(out: &mut Vec<Moment>, number: u64, step: Step, entry: Entry) -> Result<
     Ok(())
 }
 
-// Appends that the operands of an entry are there, and that it is its turn, where it waits for these.
+// Appends that the operands of an entry are there, and that it is its turn, where it waits for
+// these.
 fn push_waits(out: &mut Vec<Moment>, number: u64, entry: Entry) -> Result<(), AllocError>
     ensures { IfOk result (λ _. out.new.items ≡ out.old.items ++ spec.waits_of number entry) }
 {
@@ -135,7 +136,7 @@ fn push_moments_of(out: &mut Vec<Moment>, number: u64, entry: Entry) -> Result<(
 
 // That entries begin.
 fn begins_of(alloc: Global, entries: &[Entry]) -> Result<Vec<Moment>, AllocError>
-    ensures { IfOk result (λ out. out.items ≡ spec.begins entries.now) }
+    ensures { IfOk result (λ out. out.items ≡ spec.beginnings entries.now) }
 {
     let mut out = Vec::new(alloc);
     let mut rest = entries;
@@ -161,7 +162,8 @@ fn moments_of(alloc: Global, begins: &[Moment]) -> Result<Vec<Moment>, AllocErro
     Ok(out)
 }
 
-// Two lists in order as one: the earlier of the two first moments comes first, the left one where they come at one tick.
+// Two lists in order as one: the earlier of the two first moments comes first, the left one where
+// they come at one tick.
 fn merge(alloc: Global, left: &[Moment], right: &[Moment]) -> Result<Vec<Moment>, AllocError>
     ensures { IfOk result (λ out. (a b : List Moment) → left.now ≡ spec.in_order a
         → right.now ≡ spec.in_order b → out.items ≡ spec.in_order (a ++ b)) }

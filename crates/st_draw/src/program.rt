@@ -3,7 +3,7 @@ ghost use Rattle.std.specs.Prelude.{◌≡◌, ◌↔◌, IfOk, None, map, nat_e
 ghost use Rattle.std.specs.String.{string_bytes};
 ghost use Rattle.st_draw.specs.Answers as spec;
 ghost use Rattle.st_draw.specs.Answers.{Did, IsAnswer, Writes};
-ghost use Rattle.st_draw.specs.Words.{choice_of};
+ghost use Rattle.st_draw.specs.Words.{picture_choice};
 
 use crate::drawing::draw_svg;
 use crate::log::write_log;
@@ -34,7 +34,7 @@ fn rows_in(entries: &[Entry]) -> u64
 
 // What is drawn of the entries: nothing, where none of them is a row.
 fn visible(shown: u64, entries: &[Entry]) -> &[Entry]
-    ensures { result.now ≡ spec.visible shown entries.now }
+    ensures { result.now ≡ spec.visible_entries shown entries.now }
 {
     if shown == 0 { &[] } else { entries }
 }
@@ -69,10 +69,10 @@ fn status_with(shown: u64) -> Status
 }
 
 // The picture of a report that is asked for, and its status.
-#[tactic(auto, unfolding(crate::specs::Answers::picture, crate::specs::Answers::status_of))]
+#[tactic(auto, unfolding(crate::specs::Answers::picture, crate::specs::Answers::picture_status))]
 fn picture(alloc: Global, choice: Choice, report: &[u8]) -> Result<(Vec<u8>, Status), AllocError>
     ensures bytes { IfOk result (λ made. made.0.items ≡ spec.picture choice report.now) }
-    ensures status { IfOk result (λ made. made.1 ≡ spec.status_of choice report.now) }
+    ensures status { IfOk result (λ made. made.1 ≡ spec.picture_status choice report.now) }
 {
     let told = read_timetable(alloc, choice.part, report)?;
     let all = told.entries.as_slice();
@@ -113,10 +113,10 @@ fn draw_choice<S: Source, K: Sink>(
     }
 }
 
-/// Draws what the words of the command line, after the program's name, ask for, of a report of at most 16,000,000
-/// bytes: `svg`, `text` or `kanata`, `svg` where it is left out, and the numbers of the first and the last row, the first 200
-/// rows where they are left out.
-/// All memory is taken before the first write.
+/// Draws what the words of the command line, after the program's name, ask for, of a report of at
+/// most 16,000,000 bytes: `svg`, `text` or `kanata`, `svg` where it is left out, and the numbers of
+/// the first and the last row, the first 200 rows where they are left out. All memory is taken
+/// before the first write.
 pub fn draw<S: Source, K: Sink>(
     alloc: Global,
     words: &[String],
@@ -124,11 +124,11 @@ pub fn draw<S: Source, K: Sink>(
     out: &mut K,
 ) -> Status
     // By the meaning of the words and the status: what was read, and exactly what was written.
-    ensures answer { IsAnswer (choice_of (map string_bytes words.now)) result
+    ensures answer { IsAnswer (picture_choice (map string_bytes words.now)) result
         (S.input report.old) (S.input report.new) (K.output out.old) (K.output out.new) }
 
     // The answer is a bad command line exactly where the words mean nothing.
-    ensures usage { result ≡ Status.Usage ↔ choice_of (map string_bytes words.now) ≡ None }
+    ensures usage { result ≡ Status.Usage ↔ picture_choice (map string_bytes words.now) ≡ None }
 {
     match read_words(words) {
         Some(choice) => draw_choice(alloc, choice, report, out),

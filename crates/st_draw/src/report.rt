@@ -14,8 +14,8 @@ pub struct Place {
 /// What a line says that speaks of the timetable.
 #[derive(Clone, Copy)]
 pub enum Item {
-    /// An instruction is done: its number, its address, and the ticks at which it was prepared, its operands were there
-    /// and it was complete.
+    /// An instruction is done: its number, its address, and the ticks at which it was prepared, its
+    /// operands were there and it was complete.
     Row {
         number: u64,
         place: Place,
@@ -51,25 +51,25 @@ pub fn piece(text: &[u8], at: u8, k: usize) -> &[u8]
 }
 
 /// The k-th word of a line, counted from 0.
-#[tactic(auto, unfolding(crate::specs::Report::word))]
+#[tactic(auto, unfolding(crate::specs::Report::word_in_line))]
 pub fn word(line: &[u8], k: usize) -> &[u8]
-    ensures { result.now ≡ spec.word line.now k }
+    ensures { result.now ≡ spec.word_in_line line.now k }
 {
     piece(line, b' ', k)
 }
 
 /// The number that a word is, if it is one and fits 64 bits.
-#[tactic(auto, unfolding(crate::specs::Report::number))]
+#[tactic(auto, unfolding(crate::specs::Report::number_in_report))]
 pub fn number(text: &[u8]) -> Option<u64>
-    ensures { result ≡ spec.number text.now }
+    ensures { result ≡ spec.number_in_report text.now }
 {
     number_up_to(text, u64::MAX)
 }
 
 /// The place that a word is, written as word.bit.
-#[tactic(auto, unfolding(crate::specs::Report::place))]
+#[tactic(auto, unfolding(crate::specs::Report::place_in_report))]
 pub fn place_of(text: &[u8]) -> Option<Place>
-    ensures { result ≡ spec.place text.now }
+    ensures { result ≡ spec.place_in_report text.now }
 {
     Some(Place {
         word: number(piece(text, b'.', 0))?,
@@ -85,9 +85,9 @@ fn has(line: &[u8], k: usize, text: &[u8]) -> bool
 }
 
 // The entry that a line says is done.
-#[tactic(auto, unfolding(crate::specs::Report::row))]
+#[tactic(auto, unfolding(crate::specs::Report::row_item))]
 fn row(line: &[u8]) -> Option<Item>
-    ensures { result ≡ spec.row line.now }
+    ensures { result ≡ spec.row_item line.now }
 {
     let n = number(word(line, 1))?;
     let place = place_of(word(line, 2))?;
@@ -104,9 +104,9 @@ fn row(line: &[u8]) -> Option<Item>
 }
 
 // The entry that a line says was dropped.
-#[tactic(auto, unfolding(crate::specs::Report::drop_of))]
+#[tactic(auto, unfolding(crate::specs::Report::dropped_item))]
 fn dropped(line: &[u8]) -> Option<Item>
-    ensures { result ≡ spec.drop_of line.now }
+    ensures { result ≡ spec.dropped_item line.now }
 {
     let place = place_of(word(line, 1))?;
     let prepared = number(word(line, 3))?;

@@ -5,7 +5,8 @@
 pub enum Status {
     /// The picture was written.
     Done = 0,
-    /// The report has no row of the part that is asked for, and the picture that says so was written.
+    /// The report has no row of the part that is asked for, and the picture that says so was
+    /// written.
     NoRows = 1,
     /// The words mean nothing. Nothing was read or written.
     Usage = 2,

@@ -20,7 +20,7 @@ pub struct Page {
 
 // Appends a byte, so many times over.
 fn push_many(out: &mut Vec<u8>, count: usize, byte: u8) -> Result<(), AllocError>
-    ensures { IfOk result (λ _. out.new.items ≡ out.old.items ++ spec.many count byte) }
+    ensures { IfOk result (λ _. out.new.items ≡ out.old.items ++ spec.byte_times count byte) }
 {
     for _ in 0..count {
         out.push(byte)?;
@@ -40,7 +40,7 @@ fn plain_byte(byte: u8) -> u8
 
 /// Appends a text as a terminal may show it.
 pub fn push_plain(out: &mut Vec<u8>, text: &[u8]) -> Result<(), AllocError>
-    ensures { IfOk result (λ _. out.new.items ≡ out.old.items ++ spec.plain text.now) }
+    ensures { IfOk result (λ _. out.new.items ≡ out.old.items ++ spec.plain_text text.now) }
 {
     let mut rest = text;
     'bytes: while let [byte, after @ ..] = rest {
@@ -51,25 +51,26 @@ pub fn push_plain(out: &mut Vec<u8>, text: &[u8]) -> Result<(), AllocError>
 }
 
 // Appends a text at the right of so many places.
-#[tactic(auto, unfolding(crate::specs::Terminal::right_in))]
+#[tactic(auto, unfolding(crate::specs::Terminal::text_at_right))]
 fn push_right(out: &mut Vec<u8>, width: usize, text: &[u8]) -> Result<(), AllocError>
-    ensures { IfOk result (λ _. out.new.items ≡ out.old.items ++ spec.right_in width text.now) }
+    ensures { IfOk result (λ _. out.new.items ≡ out.old.items
+        ++ spec.text_at_right width text.now) }
 {
     push_many(out, width.saturating_sub(text.len()), b' ')?;
     out.extend_from_slice(text)
 }
 
 // Appends a text at the left of so many places.
-#[tactic(auto, unfolding(crate::specs::Terminal::left_in))]
+#[tactic(auto, unfolding(crate::specs::Terminal::text_at_left))]
 fn push_left(out: &mut Vec<u8>, width: usize, text: &[u8]) -> Result<(), AllocError>
-    ensures { IfOk result (λ _. out.new.items ≡ out.old.items ++ spec.left_in width text.now) }
+    ensures { IfOk result (λ _. out.new.items ≡ out.old.items ++ spec.text_at_left width text.now) }
 {
     push_plain(out, text)?;
     push_many(out, width.saturating_sub(text.len()), b' ')
 }
 
 // Appends three texts in columns, the last one at the left of so many places.
-#[tactic(auto, unfolding(crate::specs::Terminal::columns))]
+#[tactic(auto, unfolding(crate::specs::Terminal::text_columns))]
 fn push_columns(
     out: &mut Vec<u8>,
     places: usize,
@@ -78,7 +79,7 @@ fn push_columns(
     third: &[u8],
 ) -> Result<(), AllocError>
     ensures { IfOk result (λ _. out.new.items ≡ out.old.items
-        ++ spec.columns places first.now second.now third.now) }
+        ++ spec.text_columns places first.now second.now third.now) }
 {
     push_right(out, 7, first)?;
     push_right(out, 10, second)?;
@@ -107,7 +108,7 @@ fn push_stroke(
 ) -> Result<(), AllocError>
     requires { 1 ≤ axis.now.span }
     ensures { IfOk result (λ _. out.new.items ≡ out.old.items
-        ++ spec.many (max mark.1 (spec.column axis.now to - spec.column axis.now from)) mark.0) }
+        ++ spec.byte_times (max mark.1 (spec.column axis.now to - spec.column axis.now from)) mark.0) }
 {
     let width = column(axis, to).saturating_sub(column(axis, from));
     push_many(out, width.max(mark.1), mark.0)
@@ -189,7 +190,7 @@ fn push_entries(
 fn push_mark(line: &mut Vec<u8>, page: &Page, tick: u64) -> Result<(), AllocError>
     requires axis { 1 ≤ page.now.axis.span }
     requires places { page.now.places ≤ 40 }
-    ensures { IfOk result (λ _. line.new.items ≡ spec.marked page.now line.old.items tick) }
+    ensures { IfOk result (λ _. line.new.items ≡ spec.line_with_tick page.now line.old.items tick) }
 {
     let place = 19 + page.places + column(&page.axis, tick);
     if place <= line.len() {
@@ -243,7 +244,7 @@ fn push_key(out: &mut Vec<u8>) -> Result<(), AllocError>
 }
 
 /// Draws entries as lines of text: `shown` of them are rows, and `later` rows follow.
-#[tactic(auto, unfolding(crate::specs::Terminal::text))]
+#[tactic(auto, unfolding(crate::specs::Terminal::page_text))]
 pub fn draw_text(
     alloc: Global,
     report: &[u8],
@@ -251,7 +252,7 @@ pub fn draw_text(
     shown: u64,
     later: u64,
 ) -> Result<Vec<u8>, AllocError>
-    ensures { IfOk result (λ out. out.items ≡ spec.text report.now entries.now shown later) }
+    ensures { IfOk result (λ out. out.items ≡ spec.page_text report.now entries.now shown later) }
 {
     let page = Page {
         axis: axis_of(entries, 60),

@@ -2,7 +2,7 @@
 ghost use Rattle.std.specs.Prelude.{◌≡◌, ◌++◌, IfOk, [], reverse};
 ghost use Rattle.st_draw.specs.Timetable as spec;
 ghost use Rattle.st_draw.specs.Timetable.{kept_by};
-ghost use Rattle.st_text.specs.Pieces.{parted};
+ghost use Rattle.st_text.specs.Pieces.{pieces_of};
 
 use crate::report::{Item, Place, item_of};
 use st_text::cut;
@@ -20,8 +20,8 @@ pub struct Part {
 /// One line of the picture.
 #[derive(Clone, Copy)]
 pub enum Entry {
-    /// An instruction is done: its number, its address, and the ticks at which it was prepared, its operands were there,
-    /// it was its turn and it was complete.
+    /// An instruction is done: its number, its address, and the ticks at which it was prepared, its
+    /// operands were there, it was its turn and it was complete.
     Done {
         number: u64,
         place: Place,
@@ -64,14 +64,15 @@ pub struct Told {
 
 // Whether a row is in a part.
 fn is_in(part: Part, n: u64) -> bool
-    ensures { result ≡ spec.is_in part n }
+    ensures { result ≡ spec.is_in_part part n }
 {
     part.from <= n && n <= part.to
 }
 
 // Puts an entry that goes with a row behind the others, where the part has that row.
 fn keep(part: Part, n: u64, entry: Entry, entries: &mut Vec<Entry>) -> Result<(), AllocError>
-    ensures { IfOk result (λ _. entries.new.items ≡ spec.kept part n entry entries.old.items) }
+    ensures { IfOk result
+        (λ _. entries.new.items ≡ spec.entries_with part n entry entries.old.items) }
 {
     if is_in(part, n) {
         entries.push(entry)?;
@@ -93,7 +94,8 @@ fn settle(entries: &mut Vec<Entry>, dropped: &mut Vec<Entry>) -> Result<(), Allo
 
 // Puts an entry behind all that were told.
 fn join(part: Part, n: u64, entry: Entry, told: &mut Told) -> Result<(), AllocError>
-    ensures { IfOk result (λ _. kept_by told.new ≡ spec.joined part n entry (kept_by told.old)) }
+    ensures { IfOk result (λ _. kept_by told.new ≡ spec.timetable_with part n entry
+        (kept_by told.old)) }
 {
     settle(&mut told.entries, &mut told.dropped)?;
     keep(part, n, entry, &mut told.entries)
@@ -171,7 +173,7 @@ fn take_line(part: Part, told: &mut Told, line: &[u8]) -> Result<(), AllocError>
 // Takes in all lines.
 fn take_lines(part: Part, told: &mut Told, report: &[u8]) -> Result<(), AllocError>
     ensures { IfOk result (λ _. kept_by told.new
-        ≡ spec.after_lines part (kept_by told.old) (parted 10 report.now)) }
+        ≡ spec.after_lines part (kept_by told.old) (pieces_of 10 report.now)) }
 {
     let mut rest = report;
     'lines: while let Some((line, after)) = cut(rest, b'\n') {

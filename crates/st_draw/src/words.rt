@@ -64,7 +64,7 @@ fn part_named(from: &str, to: &str) -> Option<Part>
 
 // The picture that a word and two numbers ask for.
 fn chosen(word: &str, from: &str, to: &str) -> Option<Choice>
-    ensures { result ≡ spec.chosen word.now from.now to.now }
+    ensures { result ≡ spec.choice_of_words word.now from.now to.now }
 {
     let kind = kind_named(word)?;
     let part = part_named(from, to)?;
@@ -72,9 +72,9 @@ fn chosen(word: &str, from: &str, to: &str) -> Option<Choice>
 }
 
 /// What the words ask for; None where they mean nothing.
-#[tactic(auto, unfolding(crate::specs::Words::choice_of))]
+#[tactic(auto, unfolding(crate::specs::Words::picture_choice))]
 pub fn read_words(words: &[String]) -> Option<Choice>
-    ensures { result ≡ spec.choice_of (map string_bytes words.now) }
+    ensures { result ≡ spec.picture_choice (map string_bytes words.now) }
 {
     match words {
         [] => Some(Choice {

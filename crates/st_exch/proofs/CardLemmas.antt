@@ -4,7 +4,7 @@ use Rattle.std.proofs.Common.{◌≡◌, ℕ, zero, suc, ◌+◌, ◌<◌, ◌^�
 use Rattle.std.proofs.lemmas.List.Elements.{All-nil, All-cons, All-head, All-tail}
 use Rattle.st_card.specs.Cards.{cards_of, text_in}
 use Rattle.st_card.specs.declared.cards.Card.{Card}
-use Rattle.st_exch.specs.Reader.{column, word_from, card_words, is_comment, behind_statements, texts_in, reader_cards}
+use Rattle.st_exch.specs.Reader.{column_of_card, word_from, card_words, is_comment, behind_statements, texts_in, reader_cards}
 
 abbrev AreBytes : List ℕ → Type 0
 AreBytes = All (λ x. x < 256)
@@ -36,7 +36,7 @@ item-below (x ∷ xs) (suc k) are = item-below xs k (All-tail (λ (y : ℕ). y <
 word-below : (text : List ℕ) (c : ℕ) → AreBytes text → word_from text c < 2 ^ 64
 unfolding word_from
 word-below text c are =
-    let at : (k : ℕ) → column text k < 256 = λ k. item-below text _ are in
+    let at : (k : ℕ) → column_of_card text k < 256 = λ k. item-below text _ are in
     omega (arith, at c, at (c + 1), at (c + 2), at (c + 3), at (c + 4), at (c + 5), at (c + 6), at (c + 7))
 
 words-size : (text : List ℕ) → length (card_words text) ≡ 8

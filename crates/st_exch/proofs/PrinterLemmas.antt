@@ -4,7 +4,7 @@ use Rattle.std.proofs.lemmas.Bool.{and_from as all-both}
 use Rattle.std.proofs.lemmas.List.Folds.{list_all-append}
 use Rattle.std.specs.List.{flat_map, suffix_len}
 use Rattle.st_text.specs.Bytes.{is_printable}
-use Rattle.st_exch.specs.Printer.{bytes_of, character, characters_of, printed}
+use Rattle.st_exch.specs.Printer.{bytes_of, character, characters_of, line_of_words}
 
 is_character : ℕ → Bool
 is_character c = nat_le 32 c && nat_le c 126
@@ -36,8 +36,8 @@ take-printable (suc n) (c ∷ cs) all =
     (elim test as P [ true ↦ λ rest. take-printable n cs rest | false ↦ λ no. no ]) all
 
 -- printed text can be printed
-pub printed-printable : (words : List ℕ) → is_printable (printed words) ≡ true
-unfolding printed
+pub printed-printable : (words : List ℕ) → is_printable (line_of_words words) ≡ true
+unfolding line_of_words
 printed-printable words =
     let text = flat_map characters_of words in
     take-printable (length text - suffix_len (λ c. c == 32) text) text (flat-printable words)

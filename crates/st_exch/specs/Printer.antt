@@ -8,7 +8,8 @@ use Rattle.st_text.specs.Blanks.{without_end_blanks}
 -- the bytes of a word, the leftmost first
 abbrev pub bytes_of : ℕ → List ℕ
 bytes_of x =
-    part x 0 8 ∷ part x 8 8 ∷ part x 16 8 ∷ part x 24 8 ∷ part x 32 8 ∷ part x 40 8 ∷ part x 48 8 ∷ part x 56 8 ∷ []
+    part x 0 8 ∷ part x 8 8 ∷ part x 16 8 ∷ part x 24 8 ∷ part x 32 8 ∷ part x 40 8 ∷ part x 48 8
+    ∷ part x 56 8 ∷ []
 
 -- a byte that has no character is a blank
 abbrev pub character : ℕ → ℕ
@@ -19,5 +20,5 @@ unfoldable pub characters_of : ℕ → List ℕ
 characters_of x = map character (bytes_of x)
 
 -- the words as text, without blanks at the end
-unfoldable pub printed : List ℕ → List ℕ
-printed words = without_end_blanks (flat_map characters_of words)
+unfoldable pub line_of_words : List ℕ → List ℕ
+line_of_words words = without_end_blanks (flat_map characters_of words)

@@ -8,14 +8,16 @@ use Rattle.st_card.specs.declared.cards.CardKind.TheVariants.{Comment, Control, 
 use Rattle.st_card.specs.declared.cards.Card.{Card}
 
 -- column c of a card, counted from 1, a blank where the card has none
-abbrev pub column : List ℕ → ℕ → ℕ
-column text c = slice_index_or text (c - 1) blank
+abbrev pub column_of_card : List ℕ → ℕ → ℕ
+column_of_card text c = slice_index_or text (c - 1) blank
 
 -- the word that eight columns make from column c on, eight bits each
 unfoldable pub word_from : List ℕ → ℕ → ℕ
 word_from text c =
-    column text c * 2 ^ 56 + column text (c + 1) * 2 ^ 48 + column text (c + 2) * 2 ^ 40 + column text (c + 3) * 2 ^ 32
-    + column text (c + 4) * 2 ^ 24 + column text (c + 5) * 2 ^ 16 + column text (c + 6) * 2 ^ 8 + column text (c + 7)
+    column_of_card text c * 2 ^ 56 + column_of_card text (c + 1) * 2 ^ 48
+    + column_of_card text (c + 2) * 2 ^ 40 + column_of_card text (c + 3) * 2 ^ 32
+    + column_of_card text (c + 4) * 2 ^ 24 + column_of_card text (c + 5) * 2 ^ 16
+    + column_of_card text (c + 6) * 2 ^ 8 + column_of_card text (c + 7)
 
 -- the words that the reader reads of a card: its columns 2 to 65
 unfoldable pub card_words : List ℕ → List ℕ
@@ -47,7 +49,8 @@ behind_statements (card ∷ cards) =
 
 -- what is read of the comment cards behind the last statement card
 unfoldable pub texts_in : List ℕ → List Card → List (List ℕ)
-texts_in job cards = map (λ card. card_words (text_in job card)) (filter (λ card. is_comment card.kind) (behind_statements cards))
+texts_in job cards = map (λ card. card_words (text_in job card))
+    (filter (λ card. is_comment card.kind) (behind_statements cards))
 
 -- the cards that the reader holds of a job
 unfoldable pub reader_cards : List ℕ → List (List ℕ)

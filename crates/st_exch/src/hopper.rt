@@ -13,8 +13,8 @@ use std::marker::Model;
 
 /// The cards that stand in the card reader, the next one first.
 ///
-/// A card is eight words: its columns 2 to 65, eight characters a word, eight bits each, with blanks
-/// in place of columns that it has not.
+/// A card is eight words: its columns 2 to 65, eight characters a word, eight bits each, with
+/// blanks in place of columns that it has not.
 #[derive(Drop)]
 pub struct Hopper {
     cards: Option<VecDeque<[u64; 8]>>,
@@ -38,10 +38,11 @@ impl Hopper {
         Hopper { cards: None }
     }
 
-    /// The reader with the comment cards that stand behind the last statement card of a job, in order.
-    /// Blank cards are comment cards.
+    /// The reader with the comment cards that stand behind the last statement card of a job, in
+    /// order. Blank cards are comment cards.
     ///
-    /// The job has fewer than 2^32 bytes. The one error is that memory ran out; no later call takes any.
+    /// The job has fewer than 2^32 bytes. The one error is that memory ran out; no later call takes
+    /// any.
     pub fn new(alloc: Global, job: &[u8]) -> Result<Hopper, NoMemory>
         requires { length job.now < 2 ^ 32 }
         ensures { IfOk result (λ hopper. hopper ≡ spec.reader_cards job.now) }
@@ -50,7 +51,8 @@ impl Hopper {
         Hopper::of_cards(alloc, job, cards.as_slice())
     }
 
-    /// The same reader, of a job whose cards are cut already: `cards` are those of `job`, all of them and in order.
+    /// The same reader, of a job whose cards are cut already: `cards` are those of `job`, all of
+    /// them and in order.
     ///
     /// The one error is that memory ran out; no later call takes any.
     pub fn of_cards(alloc: Global, job: &[u8], cards: &[Card]) -> Result<Hopper, NoMemory>
@@ -163,7 +165,7 @@ fn word_from(text: &[u8], c: usize) -> u64
 // Column c of a card, counted from 1, a blank where the card has none.
 fn column(text: &[u8], c: usize) -> u8
     requires { 1 ≤ c }
-    ensures { result ≡ spec.column text.now c }
+    ensures { result ≡ spec.column_of_card text.now c }
 {
     text.get(c - 1).copied().unwrap_or(b' ')
 }

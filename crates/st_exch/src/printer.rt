@@ -8,10 +8,11 @@ ghost use Rattle.st_exch.specs.Printer as spec;
 use arrayvec::ArrayString;
 use st_text::drop_end_blanks;
 
-/// The text that the printer prints of eight words: their 64 bytes, the leftmost first, with a blank
-/// in place of each byte outside 32 to 126, and without the blanks at the end. It may be empty.
+/// The text that the printer prints of eight words: their 64 bytes, the leftmost first, with a
+/// blank in place of each byte outside 32 to 126, and without the blanks at the end. It may be
+/// empty.
 pub fn print_text(words: &[u64; 8]) -> ArrayString<64>
-    ensures text { result.bytes ≡ spec.printed words.now }
+    ensures text { result.bytes ≡ spec.line_of_words words.now }
     ensures printable { IsTrue (is_printable result.bytes) }
 {
     let mut text = ArrayString::new();

@@ -4,12 +4,12 @@ use Rattle.std.specs.Prelude.{IfSome}
 use Rattle.std.proofs.Math.ListN.{set}
 use Rattle.std.proofs.lemmas.List.{length-set, get_or-set_same, length-take, length-drop, get_or-take, get_or-drop}
 use Rattle.std.proofs.lemmas.Bool.Decides.{leb_tells, eqb_tells}
-use Rattle.st_bits.specs.Registers.{fixed}
+use Rattle.st_bits.specs.Registers.{register_word}
 use Rattle.st_bits.specs.Storage.{words_of_storage, words_of_storage_is}
 use Rattle.st_bits.proofs.RegisterLaws.{fixed-index}
 use Rattle.st_format.specs.declared.instruction.Instr.{Instr}
 use Rattle.st_format.specs.declared.instruction.Instr.TheVariants.{Half, Branch, Floating, Vfl, Connect, Move, BitBranch, IndBranch, StoreCounter, Transfer, Invalid}
-use Rattle.st_state.specs.Machine.{Machine, IsMachine, word, stored}
+use Rattle.st_state.specs.Machine.{Machine, IsMachine, word, state_with_store}
 use Rattle.st_state.proofs.Placed.{fixed-word}
 use Rattle.st_prep.specs.declared.entries.IndexChange.{IndexChange}
 use Rattle.st_prep.specs.declared.entries.Words.{Words}
@@ -17,33 +17,33 @@ use Rattle.st_prep.specs.declared.entries.Prepared.{Prepared}
 use Rattle.st_prep.specs.EarlyChange.{words_after}
 use Rattle.st_prep.specs.Entry.{acts_alone}
 use Rattle.st_prep.specs.Fetch.{index_words}
-use Rattle.st_prep.specs.Plan.{opened}
+use Rattle.st_prep.specs.Plan.{state_at_entry}
 use Rattle.st_prep.specs.Ranges.{IsChange, AreAbove, IsPrepared}
 use Rattle.st_prep.proofs.IndexWords.{are_index_words}
-use Rattle.st_exec.specs.Deed.{deed, carried_out}
-use Rattle.st_exec.specs.Completion.{with_change, early, is_taken, counter, counted, finished, completed, guessed, is_missed}
+use Rattle.st_exec.specs.Effect.{effect, carried_out}
+use Rattle.st_exec.specs.Completion.{with_change, state_with_early_changes, is_taken, counter, state_counted_on, state_after_effect, state_after_completion, guessed_state, is_missed}
 use Rattle.st_exec.specs.Ahead.{IsNotAmong, IsPast, is_indicator_branch}
 use Rattle.st_exec.proofs.Unchanged.{stored-other, early-above, early-done, done-done}
-use Rattle.st_exec.proofs.SparedLemmas.{HasMarks, marks-same, marks-then, marks-words, marks-done, quiet-deed, spares-deed, IsKept, kept-below, kept-above, kept-mask, Stands, done-keeps}
+use Rattle.st_exec.proofs.SparedLemmas.{HasMarks, marks-same, marks-then, marks-words, marks-done, quiet-effect, spares-effect, IsKept, kept-below, kept-above, kept-mask, Stands, done-keeps}
 
 -- ---- the early change
 
 pub change-marks : (c : Option IndexChange) (s : Machine) → HasMarks s (with_change c s)
 change-marks None s = marks-same s
-change-marks (Some c) s = marks-words s _ (length-set s.words (16 + c.number) (fixed (16 + c.number) c.word))
+change-marks (Some c) s = marks-words s _ (length-set s.words (16 + c.number) (register_word (16 + c.number) c.word))
 
-pub early-marks : (p : Prepared) (s : Machine) → HasMarks s (early p s)
-unfolding early
+pub early-marks : (p : Prepared) (s : Machine) → HasMarks s (state_with_early_changes p s)
+unfolding state_with_early_changes
 early-marks p s =
     let u = with_change p.index s in
-    marks-then s u (early p s) (change-marks p.index s) (marks-words u _ (length-set u.words 11 _))
+    marks-then s u (state_with_early_changes p s) (change-marks p.index s) (marks-words u _ (length-set u.words 11 _))
 
 pub change-low : (c : Option IndexChange) (s : Machine) (i : ℕ) → i < 16 → word (with_change c s) i ≡ word s i
 change-low None s i h = refl
 change-low (Some c) s i h = stored-other s (16 + c.number) c.word i (omega arith)
 
-early-low : (p : Prepared) (s : Machine) (i : ℕ) → i < 16 → i ≢ 11 → word (early p s) i ≡ word s i
-unfolding early
+early-low : (p : Prepared) (s : Machine) (i : ℕ) → i < 16 → i ≢ 11 → word (state_with_early_changes p s) i ≡ word s i
+unfolding state_with_early_changes
 early-low p s i h other =
     get_or-set_other (with_change p.index s).words 11 i _ 0 other ∙ change-low p.index s i h
 
@@ -70,8 +70,8 @@ change-index (Some c) s k long few h =
     elim (eqb_tells k c.number) [
       | inl p ↦
           let same : k ≡ c.number = p.1 in
-          ap (λ j. word (stored s (16 + c.number) c.word) (16 + j)) same
-          ∙ get_or-set_same s.words (16 + c.number) (fixed (16 + c.number) c.word) 0 (omega arith)
+          ap (λ j. word (state_with_store s (16 + c.number) c.word) (16 + j)) same
+          ∙ get_or-set_same s.words (16 + c.number) (register_word (16 + c.number) c.word) 0 (omega arith)
           ∙ fixed-index (16 + c.number) c.word (omega arith)
           ∙ sym (get_or-set_same x c.number c.word 0 (omega arith))
           ∙ ap (λ j. get_or (set x c.number c.word) j 0) (sym same)
@@ -83,8 +83,8 @@ change-index (Some c) s k long few h =
     ]
 
 pub early-index : (p : Prepared) (s : Machine) (k : ℕ) → 32 ≤ length s.words → k < 16 → IfSome p.index IsChange
-    → word (early p s) (16 + k) ≡ get_or (words_after (index_words s) p.index) k 0
-unfolding early
+    → word (state_with_early_changes p s) (16 + k) ≡ get_or (words_after (index_words s) p.index) k 0
+unfolding state_with_early_changes
 early-index p s k long few h =
     get_or-set_other (with_change p.index s).words 11 (16 + k) _ 0 (omega arith) ∙ change-index p.index s k long few h
 
@@ -107,26 +107,26 @@ index-below (Some c) s k m few h =
 
 -- ---- the words of a state after the early change, in their places
 
-stands-low : (p : Prepared) (s : Machine) (i : ℕ) → IsMachine s → i < 16 → i ≢ 11 → Stands (early p s) i (word s i)
+stands-low : (p : Prepared) (s : Machine) (i : ℕ) → IsMachine s → i < 16 → i ≢ 11 → Stands (state_with_early_changes p s) i (word s i)
 stands-low p s i m h other =
     record { is = early-low p s i h other; below = m.below i; fits = fixed-word s i m }
 
 stands-above : (p : Prepared) (s : Machine) (i : ℕ) → IsMachine s → IfSome p.index IsChange → 32 ≤ i
-    → Stands (early p s) i (word s i)
+    → Stands (state_with_early_changes p s) i (word s i)
 stands-above p s i m h above =
     record { is = early-above p s i h above; below = m.below i; fits = fixed-word s i m }
 
 stands-index : (p : Prepared) (s : Machine) (k : ℕ) → IsMachine s → IfSome p.index IsChange → k < 16
-    → Stands (early p s) (16 + k) (get_or (words_after (index_words s) p.index) k 0)
+    → Stands (state_with_early_changes p s) (16 + k) (get_or (words_after (index_words s) p.index) k 0)
 stands-index p s k m h few = record {
   is = early-index p s k (omega (arith, m.size, words_of_storage_is)) few h;
   below = index-below p.index s k m few h;
   fits = fixed-index (16 + k) (get_or (words_after (index_words s) p.index) k 0) (omega arith);
 }
 
--- ---- the deed of an entry that is not done alone
+-- ---- the effect of an entry that is not done alone
 
--- an entry with its deed, or suppressed
+-- an entry with its effect, or suppressed
 pub record Late (p : Prepared) (t u : Machine) : Type 0 where
   pub marks : HasMarks t u
   pub done : u.done ≡ t.done
@@ -135,7 +135,7 @@ pub record Late (p : Prepared) (t u : Machine) : Type 0 where
 -- a state between the early change and the counting of the instruction
 abbrev pub late : Bool → Prepared → Machine → Machine
 late true p t = t
-late false p t = carried_out (deed p t) t
+late false p t = carried_out (effect p t) t
 
 late-kept : (b : Bool) (p : Prepared) (t : Machine) → p.suppressed ≡ b → IsPrepared p → p.serial ≡ false
     → length t.words ≡ words_of_storage → Late p t (late b p t)
@@ -143,27 +143,27 @@ late-kept true p t e h free size =
     record { marks = marks-same t; done = refl; words = λ i x kept apart stands. stands.is }
 late-kept false p t e h free size =
     let entry = h.entry e in
-    let calm : acts_alone p.instr ≡ false = (h.ahead free).operation e in
+    let hazard_free : acts_alone p.instr ≡ false = (h.ahead free).operation e in
     record {
-      marks = marks-done (deed p t) t (quiet-deed p.instr p.e p.value t calm);
-      done = done-done (deed p t) t;
+      marks = marks-done (effect p t) t (quiet-effect p.instr p.e p.value t hazard_free);
+      done = done-done (effect p t) t;
       words = λ i x kept apart stands.
-          done-keeps (deed p t) t i x size kept
-          (spares-deed p.instr p.e p.value t i h.shape calm (rw entry.writes at h.writes_inside) (rw entry.writes at apart))
+          done-keeps (effect p t) t i x size kept
+          (spares-effect p.instr p.e p.value t i h.shape hazard_free (rw entry.writes at h.writes_inside) (rw entry.writes at apart))
           stands;
     }
 
 finished-late : (b : Bool) (p : Prepared) (t : Machine)
-    → (if b then counted t p.following else counted (carried_out (deed p t) t) (counter p t))
-    ≡ counted (late b p t) (if b then p.following else counter p t)
+    → (if b then state_counted_on t p.following else state_counted_on (carried_out (effect p t) t) (counter p t))
+    ≡ state_counted_on (late b p t) (if b then p.following else counter p t)
 finished-late true p t = refl
 finished-late false p t = refl
 
 pub completed-late : (p : Prepared) (s : Machine) → p.place.table ≡ None
-    → completed p s ≡ counted (late p.suppressed p (early p s)) (if p.suppressed then p.following else counter p (early p s))
-unfolding completed finished
+    → state_after_completion p s ≡ state_counted_on (late p.suppressed p (state_with_early_changes p s)) (if p.suppressed then p.following else counter p (state_with_early_changes p s))
+unfolding state_after_completion state_after_effect
 completed-late p s e =
-    ap (λ table. finished p (early p (opened table s))) e ∙ finished-late p.suppressed p (early p s)
+    ap (λ table. state_after_effect p (state_with_early_changes p (state_at_entry table s))) e ∙ finished-late p.suppressed p (state_with_early_changes p s)
 
 -- ---- all of it
 
@@ -185,12 +185,12 @@ above-apart w i h low =
     record { first = apart-low w.first w.len i h.above low; second = apart-low w.first2 w.len2 i h.above2 low }
 
 -- a state after its counting
-past : (p : Prepared) (s u : Machine) (c : ℕ) → IsMachine s → IsPrepared p → p.serial ≡ false → Late p (early p s) u
-    → IsPast p s (counted u c)
+past : (p : Prepared) (s u : Machine) (c : ℕ) → IsMachine s → IsPrepared p → p.serial ≡ false → Late p (state_with_early_changes p s) u
+    → IsPast p s (state_counted_on u c)
 past p s u c m h free k =
     let size : length s.words ≡ words_of_storage = m.size in
     let long : 32 ≤ length s.words = omega (arith, words_of_storage_is) in
-    let marks = marks-then s (early p s) u (early-marks p s) k.marks in
+    let marks = marks-then s (state_with_early_changes p s) u (early-marks p s) k.marks in
     let above : AreAbove p.writes = (h.ahead free).writes in
     let x = words_after (index_words s) p.index in
     let low : (i : ℕ) → i < 7 → word u i ≡ word s i =
@@ -205,7 +205,7 @@ past p s u c m h free k =
     record {
       size = marks.size;
       index = sym
-          (are_index_words (counted u c) x (omega (arith, marks.size))
+          (are_index_words (state_counted_on u c) x (omega (arith, marks.size))
           (length-words_after (index_words s) p.index ∙ length-index_words s long) index);
       storage = λ w there apart.
           k.words w (word s w) (kept-above w (omega arith)) apart (stands-above p s w m h.change there);
@@ -220,9 +220,9 @@ past p s u c m h free k =
     }
 
 pub completed-past : (p : Prepared) (s : Machine) → IsPrepared p → IsMachine s → p.serial ≡ false
-    → IsPast p s (completed p s)
+    → IsPast p s (state_after_completion p s)
 completed-past p s h m free =
-    let t = early p s in
+    let t = state_with_early_changes p s in
     let size : length t.words ≡ words_of_storage = (early-marks p s).size ∙ m.size in
     let k = late-kept p.suppressed p t refl h free size in
     subst (IsPast p s) (sym (completed-late p s (h.ahead free).table))
@@ -234,17 +234,17 @@ completed-past p s h m free =
 taken-ahead : (instr : Instr) (e : ℕ) (t : Machine) → acts_alone instr ≡ false → is_taken instr e t ≡ true
     → is_indicator_branch instr ≡ true
 unfolding acts_alone is_taken
-taken-ahead (BitBranch sense change a i second) e t calm h = absurd (cc)
-taken-ahead (IndBranch sense off a i second) e t calm h = refl
-taken-ahead (Half op a j i) e t calm h = absurd (cc)
-taken-ahead (Branch op a i) e t calm h = absurd (cc)
-taken-ahead (Floating n a i) e t calm h = absurd (cc)
-taken-ahead (Vfl op d u n p l b o a i) e t calm h = absurd (cc)
-taken-ahead (Connect kind table p l b o a i) e t calm h = absurd (cc)
-taken-ahead (Move swap a i second n) e t calm h = absurd (cc)
-taken-ahead (StoreCounter a i second) e t calm h = absurd (cc)
-taken-ahead (Transfer w a i n) e t calm h = absurd (cc)
-taken-ahead (Invalid first second full) e t calm h = absurd (cc)
+taken-ahead (BitBranch sense change a i second) e t hazard_free h = absurd (cc)
+taken-ahead (IndBranch sense off a i second) e t hazard_free h = refl
+taken-ahead (Half op a j i) e t hazard_free h = absurd (cc)
+taken-ahead (Branch op a i) e t hazard_free h = absurd (cc)
+taken-ahead (Floating n a i) e t hazard_free h = absurd (cc)
+taken-ahead (Vfl op d u n p l b o a i) e t hazard_free h = absurd (cc)
+taken-ahead (Connect kind table p l b o a i) e t hazard_free h = absurd (cc)
+taken-ahead (Move swap a i second n) e t hazard_free h = absurd (cc)
+taken-ahead (StoreCounter a i second) e t hazard_free h = absurd (cc)
+taken-ahead (Transfer w a i n) e t hazard_free h = absurd (cc)
+taken-ahead (Invalid first second full) e t hazard_free h = absurd (cc)
 
 -- three tests that all hold
 all_three : (a b c : Bool) → (not a && not b && c) ≡ true → (a ≡ false) × (b ≡ false) × (c ≡ true)
@@ -268,17 +268,17 @@ following-unless true p t e h = refl
 following-unless false p t e h = counter-not_taken false p t h refl
 
 right-guess : (b : Bool) (p : Prepared) (s : Machine) → p.serial ≡ b → IsPrepared p
-    → (not b && not p.suppressed && is_taken p.instr p.e (early p (opened p.place.table s))) ≡ false
-    → (if b then completed p s else record (completed p s) { ic = p.following }) ≡ completed p s
+    → (not b && not p.suppressed && is_taken p.instr p.e (state_with_early_changes p (state_at_entry p.place.table s))) ≡ false
+    → (if b then state_after_completion p s else record (state_after_completion p s) { ic = p.following }) ≡ state_after_completion p s
 right-guess true p s e h missed = refl
 right-guess false p s e h missed =
     let table : p.place.table ≡ None = (h.ahead e).table in
-    let test : (not p.suppressed && is_taken p.instr p.e (early p s)) ≡ false =
-    ap (λ k. not p.suppressed && is_taken p.instr p.e (early p (opened k s))) (sym table) ∙ missed in
-    let same : (completed p s).ic ≡ p.following =
-    ap (λ (u : Machine). u.ic) (completed-late p s table) ∙ following-unless p.suppressed p (early p s) refl test in
-    ap (λ c. record (completed p s) { ic = c }) (sym same)
+    let test : (not p.suppressed && is_taken p.instr p.e (state_with_early_changes p s)) ≡ false =
+    ap (λ k. not p.suppressed && is_taken p.instr p.e (state_with_early_changes p (state_at_entry k s))) (sym table) ∙ missed in
+    let same : (state_after_completion p s).ic ≡ p.following =
+    ap (λ (u : Machine). u.ic) (completed-late p s table) ∙ following-unless p.suppressed p (state_with_early_changes p s) refl test in
+    ap (λ c. record (state_after_completion p s) { ic = c }) (sym same)
 
-pub guessed-right : (p : Prepared) (s : Machine) → IsPrepared p → is_missed p s ≡ false → guessed p s ≡ completed p s
-unfolding guessed is_missed
+pub guessed-right : (p : Prepared) (s : Machine) → IsPrepared p → is_missed p s ≡ false → guessed_state p s ≡ state_after_completion p s
+unfolding guessed_state is_missed
 guessed-right p s h missed = right-guess p.serial p s refl h missed

@@ -4,9 +4,9 @@ use Rattle.std.proofs.Math.ListN.{set}
 use Rattle.std.proofs.lemmas.List.{length-set, get_or-set_same, get_or_past, length-take, length-drop, get_or-take, get_or-drop, get_or_append_left, get_or-append_right, ext_get_or}
 use Rattle.std.proofs.lemmas.Bool.Decides.{leb_tells, eqb_tells}
 use Rattle.st_bits.specs.Bits.{bits, num, all_bits, field, put, part}
-use Rattle.st_bits.specs.Registers.{fixed}
+use Rattle.st_bits.specs.Registers.{register_word}
 use Rattle.st_bits.proofs.WordFields.{field-in_word}
-use Rattle.st_state.specs.Machine.{Machine, word, with_word, stored, placed}
+use Rattle.st_state.specs.Machine.{Machine, word, with_word, state_with_store, state_with_bits}
 use Rattle.st_prep.specs.Alike.{AreAlike}
 use Rattle.st_exec.specs.Operand.{field_at, accumulator}
 use Rattle.st_exec.proofs.ApartLemmas.{length-all_bits, length-placed, word-placed_by}
@@ -125,10 +125,10 @@ same-set vs ws w x i size e =
       | inr q ↦ get_or-set_other ws w i x 0 q.1 ∙ e ∙ sym (get_or-set_other vs w i x 0 q.1)
     ]
 
-pub alike-stored : (s t : Machine) (w x : ℕ) → AreAlike s t → AreAlike (stored s w x) (stored t w x)
+pub alike-stored : (s t : Machine) (w x : ℕ) → AreAlike s t → AreAlike (state_with_store s w x) (state_with_store t w x)
 alike-stored s t w x h =
-    alike-words s t _ _ h (length-set t.words w (fixed w x) ∙ h.size ∙ sym (length-set s.words w (fixed w x)))
-    (λ i other. same-set s.words t.words w (fixed w x) i h.size (h.words i other))
+    alike-words s t _ _ h (length-set t.words w (register_word w x) ∙ h.size ∙ sym (length-set s.words w (register_word w x)))
+    (λ i other. same-set s.words t.words w (register_word w x) i h.size (h.words i other))
 
 -- whatever the indicators become
 pub alike-indicators : (s t : Machine) (x y : ℕ) → AreAlike s t → AreAlike (with_word s 11 x) (with_word t 11 y)
@@ -137,7 +137,7 @@ alike-indicators s t x y h =
     (λ i other. get_or-set_other t.words 11 i y 0 other ∙ h.words i other ∙ sym (get_or-set_other s.words 11 i x 0 other))
 
 pub alike-placed : (s t : Machine) (a : ℕ) (v : List ℕ) → AreAlike s t → a + length v ≤ 64 * length s.words
-    → AreAlike (placed s a v) (placed t a v)
+    → AreAlike (state_with_bits s a v) (state_with_bits t a v)
 alike-placed s t a v h inside =
     let ws = s.words in
     let vs = t.words in
@@ -149,12 +149,12 @@ alike-placed s t a v h inside =
     elim (leb_tells (length ws) i) [
       | inl p ↦
           let past : length ws ≤ i = p.1 in
-          get_or_past (placed t a v).words i 0 (omega (arith, h.size, length-placed t a v))
-          ∙ sym (get_or_past (placed s a v).words i 0 (omega (arith, length-placed s a v)))
+          get_or_past (state_with_bits t a v).words i 0 (omega (arith, h.size, length-placed t a v))
+          ∙ sym (get_or_past (state_with_bits s a v).words i 0 (omega (arith, length-placed s a v)))
       | inr q ↦
           let here : i < length ws = q.1 in
           word-placed_by t a v i (omega (arith, h.size))
-          ∙ ap (λ bs. fixed i (num bs))
+          ∙ ap (λ bs. register_word i (num bs))
           (same-field (put (all_bits ws) a v) (put (all_bits vs) a v) (64 * i) 64
           (length-put (all_bits vs) v a room' ∙ size ∙ sym (length-put (all_bits ws) v a room))
           (λ k few.

@@ -2,10 +2,10 @@
 use Rattle.std.proofs.Common.{◌≡◌, ℕ, zero, suc, ◌+◌, ◌-◌, ◌*◌, ◌/◌, ◌%◌, ◌^◌, ◌<◌, ◌≤◌, ◌⊎◌, inl, inr, List, [], ◌∷◌, ◌++◌, length, take, drop, refl, sym, ◌∙◌, ap, arith, get_or, append_assoc, length-append, zero-add}
 use Rattle.std.proofs.lemmas.List.{drop-drop, take-append-drop, length-take}
 use Rattle.st_bits.specs.Bits.{bits, num, all_bits, field, put, words_of}
-use Rattle.st_bits.specs.Registers.{fixed, fixed_from}
+use Rattle.st_bits.specs.Registers.{register_word, fixed_from}
 use Rattle.st_bits.proofs.BitLists.{length-bits}
 use Rattle.st_bits.proofs.WordFields.{field-within, field-beyond, num-in_word}
-use Rattle.st_state.specs.Machine.{Machine, word, placed}
+use Rattle.st_state.specs.Machine.{Machine, word, state_with_bits}
 
 -- ---- lengths
 
@@ -25,7 +25,7 @@ unfolding fixed_from
 length-fixed_from k [] = refl
 length-fixed_from k (x ∷ ws) = ap suc (length-fixed_from (k + 1) ws)
 
-pub length-placed : (s : Machine) (a : ℕ) (v : List ℕ) → length (placed s a v).words ≡ length s.words
+pub length-placed : (s : Machine) (a : ℕ) (v : List ℕ) → length (state_with_bits s a v).words ≡ length s.words
 length-placed s a v =
     length-fixed_from 0 (words_of (length s.words) (put (all_bits s.words) a v))
     ∙ length-words_of (length s.words) (put (all_bits s.words) a v)
@@ -42,24 +42,24 @@ get_or-words_of (suc n) (suc i) s h =
     ∙ ap (λ xs. num (take 64 xs)) (drop-drop (64 * i) 64 s ∙ ap (λ k. drop k s) place)
 
 get_or-fixed_from : (k i : ℕ) (ws : List ℕ) → i < length ws
-    → get_or (fixed_from k ws) i 0 ≡ fixed (k + i) (get_or ws i 0)
+    → get_or (fixed_from k ws) i 0 ≡ register_word (k + i) (get_or ws i 0)
 unfolding fixed_from
 get_or-fixed_from k i [] h = absurd (omega arith)
 get_or-fixed_from k zero (x ∷ ws) h =
-    let place : k ≡ k + 0 = omega arith in ap (λ j. fixed j x) place
+    let place : k ≡ k + 0 = omega arith in ap (λ j. register_word j x) place
 get_or-fixed_from k (suc i) (x ∷ ws) h =
     let place : k + 1 + i ≡ k + suc i = omega arith in
-    get_or-fixed_from (k + 1) i ws (omega arith) ∙ ap (λ j. fixed j (get_or ws i 0)) place
+    get_or-fixed_from (k + 1) i ws (omega arith) ∙ ap (λ j. register_word j (get_or ws i 0)) place
 
 -- a word of storage after bits are put into it
 pub word-placed_by : (s : Machine) (a : ℕ) (v : List ℕ) (i : ℕ) → i < length s.words
-    → word (placed s a v) i ≡ fixed i (num (field (put (all_bits s.words) a v) (64 * i) 64))
+    → word (state_with_bits s a v) i ≡ register_word i (num (field (put (all_bits s.words) a v) (64 * i) 64))
 word-placed_by s a v i here =
     let bs = put (all_bits s.words) a v in
     let ws = words_of (length s.words) bs in
     get_or-fixed_from 0 i ws (omega (arith, length-words_of (length s.words) bs))
-    ∙ ap (λ k. fixed k (get_or ws i 0)) (zero-add i)
-    ∙ ap (fixed i) (get_or-words_of (length s.words) i bs here)
+    ∙ ap (λ k. register_word k (get_or ws i 0)) (zero-add i)
+    ∙ ap (register_word i) (get_or-words_of (length s.words) i bs here)
 
 -- ---- fields apart from what is put
 
@@ -98,14 +98,14 @@ field-put_apart s v a c n inside (inr after) =
 
 -- a word of storage without a bit of what is put; a register stands with its fixed bits
 pub word-placed : (s : Machine) (a : ℕ) (v : List ℕ) (i : ℕ) → i < length s.words → a + length v ≤ 64 * length s.words
-    → (64 * i + 64 ≤ a) ⊎ (a + length v ≤ 64 * i) → word (placed s a v) i ≡ fixed i (word s i % 2 ^ 64)
+    → (64 * i + 64 ≤ a) ⊎ (a + length v ≤ 64 * i) → word (state_with_bits s a v) i ≡ register_word i (word s i % 2 ^ 64)
 word-placed s a v i here inside apart =
     let ws = s.words in
     let room : a + length v ≤ length (all_bits ws) = omega (arith, length-all_bits ws) in
     let start : 64 * i ≡ 64 * i + 0 = omega arith in
     let one : word s i / 1 ≡ word s i = omega arith in
     word-placed_by s a v i here
-    ∙ ap (fixed i)
+    ∙ ap (register_word i)
     (ap num (field-put_apart (all_bits ws) v a (64 * i) 64 room apart ∙ ap (λ k. field (all_bits ws) k 64) start)
     ∙ num-in_word ws i 0 64 here (omega arith)
     ∙ ap (λ x. x % 2 ^ 64) one)

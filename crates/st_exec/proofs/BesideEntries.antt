@@ -4,7 +4,7 @@ use Rattle.std.proofs.lemmas.List.{length-set}
 use Rattle.st_format.specs.declared.instruction.Instr.{Instr}
 use Rattle.st_format.specs.declared.instruction.Instr.TheVariants.{Half, Branch, Floating, Vfl, Connect, Move, BitBranch, IndBranch, StoreCounter, Transfer, Invalid}
 use Rattle.st_state.specs.Machine.{Machine, IsMachine, with_word}
-use Rattle.st_state.specs.Interrupts.{applied, signalled}
+use Rattle.st_state.specs.Interrupts.{state_with_indicators, state_with_signal}
 use Rattle.st_state.specs.declared.devices.Order.{Order}
 use Rattle.st_prep.specs.Alike.{AreAlike}
 use Rattle.st_prep.specs.BesideOrders.{AreAlikeBesideOrders}
@@ -13,16 +13,16 @@ use Rattle.st_prep.specs.declared.entries.Prepared.{Prepared}
 use Rattle.st_prep.specs.Entry.{acts_alone}
 use Rattle.st_prep.specs.Ranges.{IsPrepared}
 use Rattle.st_prep.proofs.BesideLemmas.{with_orders, alike-orders}
-use Rattle.st_exec.specs.Outcome.{operated, connects, with_accumulator, with_register, with_registers, with_field, with_result}
+use Rattle.st_exec.specs.Outcome.{operation_outcome, connects, with_accumulator, with_register, with_registers, with_field, with_result}
 use Rattle.st_field.specs.declared.outcome.Done.{Done}
-use Rattle.st_exec.specs.Deed.{deed_of, deed, carried_out}
-use Rattle.st_exec.specs.declared.deeds.Deed.{Deed}
-use Rattle.st_exec.specs.declared.deeds.Deed.TheVariants.{Rest, Put, Copy, Exchange, TurnOff, Enable, Wait, Give, Leave}
-use Rattle.st_exec.specs.Completion.{with_change, early, counter, counted, guessed}
+use Rattle.st_exec.specs.Effect.{effect_of, effect, carried_out}
+use Rattle.st_exec.specs.declared.effects.Effect.{Effect}
+use Rattle.st_exec.specs.declared.effects.Effect.TheVariants.{Rest, Put, Copy, Exchange, TurnOff, Enable, Wait, Give, Leave}
+use Rattle.st_exec.specs.Completion.{with_change, state_with_early_changes, counter, state_counted_on, guessed_state}
 use Rattle.st_exec.specs.Transfer.{read_in, printed_out}
-use Rattle.st_exec.proofs.SparedLemmas.{IsQuiet, quiet-deed}
+use Rattle.st_exec.proofs.SparedLemmas.{IsQuiet, quiet-effect}
 use Rattle.st_exec.proofs.AheadLemmas.{late}
-use Rattle.st_exec.proofs.AlikeDeeds.{guessed-late, guessed-alike}
+use Rattle.st_exec.proofs.AlikeEffects.{guessed-late, guessed-alike}
 
 -- ---- what is done to a state with other orders
 
@@ -32,9 +32,9 @@ change-orders r q None s = refl
 change-orders r q (Some c) s = refl
 
 early-orders : (r q : Option Order) (p : Prepared) (s : Machine)
-    → early p (with_orders r q s) ≡ with_orders r q (early p s)
-unfolding early
-early-orders r q p s = ap (applied p.ind) (change-orders r q p.index s)
+    → state_with_early_changes p (with_orders r q s) ≡ with_orders r q (state_with_early_changes p s)
+unfolding state_with_early_changes
+early-orders r q p s = ap (state_with_indicators p.ind) (change-orders r q p.index s)
 
 register-orders : (r q : Option Order) (w : ℕ) (x : Option ℕ) (t : Machine)
     → with_register w x (with_orders r q t) ≡ with_orders r q (with_register w x t)
@@ -63,10 +63,10 @@ with_result-orders : (r q : Option Order) (o : Done) (a n : ℕ) (t : Machine)
     → with_result o a n (with_orders r q t) ≡ with_orders r q (with_result o a n t)
 unfolding with_result
 with_result-orders r q o a n t =
-    ap (λ u. with_field o.field a n (applied o.ind u)) (registers-orders r q o t)
-    ∙ field-orders r q o.field a n (applied o.ind (with_registers o t))
+    ap (λ u. with_field o.field a n (state_with_indicators o.ind u)) (registers-orders r q o t)
+    ∙ field-orders r q o.field a n (state_with_indicators o.ind (with_registers o t))
 
-done-orders : (r q : Option Order) (d : Deed) (t : Machine) → IsQuiet d
+done-orders : (r q : Option Order) (d : Effect) (t : Machine) → IsQuiet d
     → carried_out d (with_orders r q t) ≡ with_orders r q (carried_out d t)
 unfolding carried_out
 done-orders r q Rest t k = refl
@@ -79,47 +79,47 @@ done-orders r q Wait t k = absurd k
 done-orders r q (Give write order) t k = absurd k
 done-orders r q (Leave o a n) t k = with_result-orders r q o a n t
 
-deed-orders : (r q : Option Order) (instr : Instr) (e v : ℕ) (t : Machine)
-    → deed_of instr e v (with_orders r q t) ≡ deed_of instr e v t
-unfolding deed_of operated connects
-deed-orders r q (Half op a j i) e v t = refl
-deed-orders r q (Branch op a i) e v t = refl
-deed-orders r q (Floating n a i) e v t = refl
-deed-orders r q (Vfl op d u n p l b o a i) e v t = refl
-deed-orders r q (Connect kind table p l b o a i) e v t = refl
-deed-orders r q (Move swap a i second n) e v t = refl
-deed-orders r q (BitBranch sense change a i second) e v t = refl
-deed-orders r q (IndBranch sense off a i second) e v t = refl
-deed-orders r q (StoreCounter a i second) e v t = refl
-deed-orders r q (Transfer w a i n) e v t = refl
-deed-orders r q (Invalid first second full) e v t = refl
+effect-orders : (r q : Option Order) (instr : Instr) (e v : ℕ) (t : Machine)
+    → effect_of instr e v (with_orders r q t) ≡ effect_of instr e v t
+unfolding effect_of operation_outcome connects
+effect-orders r q (Half op a j i) e v t = refl
+effect-orders r q (Branch op a i) e v t = refl
+effect-orders r q (Floating n a i) e v t = refl
+effect-orders r q (Vfl op d u n p l b o a i) e v t = refl
+effect-orders r q (Connect kind table p l b o a i) e v t = refl
+effect-orders r q (Move swap a i second n) e v t = refl
+effect-orders r q (BitBranch sense change a i second) e v t = refl
+effect-orders r q (IndBranch sense off a i second) e v t = refl
+effect-orders r q (StoreCounter a i second) e v t = refl
+effect-orders r q (Transfer w a i n) e v t = refl
+effect-orders r q (Invalid first second full) e v t = refl
 
 late-orders : (r q : Option Order) (b : Bool) (p : Prepared) (t : Machine) → p.suppressed ≡ b → IsPrepared p
     → p.serial ≡ false → late b p (with_orders r q t) ≡ with_orders r q (late b p t)
 late-orders r q true p t e h free = refl
 late-orders r q false p t e h free =
-    let calm : acts_alone p.instr ≡ false = (h.ahead free).operation e in
-    ap (λ d. carried_out d (with_orders r q t)) (deed-orders r q p.instr p.e p.value t)
-    ∙ done-orders r q (deed p t) t (quiet-deed p.instr p.e p.value t calm)
+    let hazard_free : acts_alone p.instr ≡ false = (h.ahead free).operation e in
+    ap (λ d. carried_out d (with_orders r q t)) (effect-orders r q p.instr p.e p.value t)
+    ∙ done-orders r q (effect p t) t (quiet-effect p.instr p.e p.value t hazard_free)
 
 -- ---- the guess
 
 -- whatever the counter is before the guess sets it
 counted-orders : (r q : Option Order) (u : Machine) (c d f : ℕ)
-    → record (counted (with_orders r q u) c) { ic = f } ≡ with_orders r q (record (counted u d) { ic = f })
+    → record (state_counted_on (with_orders r q u) c) { ic = f } ≡ with_orders r q (record (state_counted_on u d) { ic = f })
 counted-orders r q u c d f = refl
 
 guessed-orders : (r q : Option Order) (p : Prepared) (s : Machine) → IsPrepared p → p.serial ≡ false
-    → guessed p (with_orders r q s) ≡ with_orders r q (guessed p s)
+    → guessed_state p (with_orders r q s) ≡ with_orders r q (guessed_state p s)
 guessed-orders r q p s h free =
     let u = with_orders r q s in
-    let t = early p s in
-    let c : ℕ = if p.suppressed then p.following else counter p (early p u) in
+    let t = state_with_early_changes p s in
+    let c : ℕ = if p.suppressed then p.following else counter p (state_with_early_changes p u) in
     let d : ℕ = if p.suppressed then p.following else counter p t in
-    let same : late p.suppressed p (early p u) ≡ with_orders r q (late p.suppressed p t) =
+    let same : late p.suppressed p (state_with_early_changes p u) ≡ with_orders r q (late p.suppressed p t) =
     ap (late p.suppressed p) (early-orders r q p s) ∙ late-orders r q p.suppressed p t refl h free in
     guessed-late p u h free
-    ∙ ap (λ y. record (counted y c) { ic = p.following }) same
+    ∙ ap (λ y. record (state_counted_on y c) { ic = p.following }) same
     ∙ counted-orders r q (late p.suppressed p t) c d p.following
     ∙ ap (with_orders r q) (sym (guessed-late p s h free))
 
@@ -135,11 +135,11 @@ beside-orders s t r q h = record {
 }
 
 pub guessed-beside : (p : Prepared) (s t : Machine) → IsPrepared p → IsMachine s → AreAlikeBesideOrders s t
-    → p.serial ≡ false → AreAlikeBesideOrders (guessed p s) (guessed p t)
+    → p.serial ≡ false → AreAlikeBesideOrders (guessed_state p s) (guessed_state p t)
 guessed-beside p s t h m k free =
     let alike = guessed-alike p s (with_orders s.reader s.printer t) h m (alike-orders s t k) free in
-    beside-orders (guessed p s) (guessed p t) s.reader s.printer
-    (subst (AreAlike (guessed p s)) (guessed-orders s.reader s.printer p t h free) alike)
+    beside-orders (guessed_state p s) (guessed_state p t) s.reader s.printer
+    (subst (AreAlike (guessed_state p s)) (guessed-orders s.reader s.printer p t h free) alike)
 
 -- ---- which states differ so
 
@@ -175,7 +175,7 @@ beside-indicators r q x s = record {
   done = refl;
 }
 
-pub beside-signalled : (s : Machine) (i : ℕ) → AreAlikeBesideOrders s (signalled s i)
+pub beside-signalled : (s : Machine) (i : ℕ) → AreAlikeBesideOrders s (state_with_signal s i)
 beside-signalled s i = beside-indicators s.reader s.printer _ s
 
 pub beside-printed : (s : Machine) → AreAlikeBesideOrders s (printed_out s)

@@ -11,7 +11,7 @@ use Rattle.st_field.specs.declared.accumulator.Acc.{Acc}
 use Rattle.st_field.specs.declared.base.Taken.{Taken}
 use Rattle.st_field.specs.declared.fields.Shape.{Shape}
 use Rattle.st_field.specs.declared.outcome.Done.{Done}
-use Rattle.st_field.specs.Bases.{InBase, taken, result_of, stored}
+use Rattle.st_field.specs.Bases.{InBase, operand_taken, result_of, store_result}
 use Rattle.st_bin.specs.BinaryResult as binary
 use Rattle.st_dec.specs.DecimalResult as decimal
 use Rattle.st_prep.specs.Entry.{no_words, field_words}
@@ -19,7 +19,7 @@ use Rattle.st_prep.specs.Ranges.{AreInside}
 use Rattle.st_prep.proofs.Choices.{of_choice}
 use Rattle.st_conn.specs.Connection.{connection}
 use Rattle.st_exec.specs.Outcome.{result_by}
-use Rattle.st_exec.specs.Deed.{IsField}
+use Rattle.st_exec.specs.Effect.{IsField}
 use Rattle.st_exec.proofs.InsideLemmas.{inside-field_if}
 
 -- a field is left only where the test holds
@@ -35,7 +35,7 @@ record OwnLeaveNone (b : InBase) : Type 0 where
 
 based-field : (op : VflOp) (b : InBase) (t : Taken) (ft ind : ℕ) → OwnLeaveNone b
     → OnlyIf (writes_field (Variable op)) (result_of op b t ft ind)
-unfolding stored
+unfolding store_result
 based-field L b t ft ind own = tt
 based-field Lwf b t ft ind own = tt
 based-field Ltrs b t ft ind own = tt
@@ -58,7 +58,7 @@ based-field Div b t ft ind own = own.quotient
 based-field Lcv b t ft ind own = own.converted
 
 binary-own : (t : Taken) → OwnLeaveNone (binary.base t)
-unfolding binary.product binary.product_added binary.divided binary.converted
+unfolding binary.product binary.product_added binary.quotient_result binary.conversion_result
 binary-own t = record {
   product = tt;
   product_added = λ ft. tt;
@@ -67,14 +67,14 @@ binary-own t = record {
 }
 
 decimal-own : (t : Taken) → OwnLeaveNone (decimal.base t)
-unfolding decimal.converted
+unfolding decimal.binary_value
 decimal-own t = record { product = tt; product_added = λ ft. tt; quotient = tt; converted = tt }
 
 pub result-field : (d : Bool) (op : VflOp) (a : Acc) (x : ℕ) (h : Shape) (ft ind : ℕ)
     → OnlyIf (writes_field (Variable op)) (result_by d op a x h ft ind)
 unfolding binary.result decimal.result
-result-field false op a x h ft ind = based-field op _ _ ft ind (binary-own (taken a x h))
-result-field true op a x h ft ind = based-field op _ _ 0 ind (decimal-own (taken a x h))
+result-field false op a x h ft ind = based-field op _ _ ft ind (binary-own (operand_taken a x h))
+result-field true op a x h ft ind = based-field op _ _ 0 ind (decimal-own (operand_taken a x h))
 
 pub connection-field : (kind : ConnKind) (table : ℕ) (a : Acc) (offset x n : ℕ)
     → OnlyIf (writes_field (Connective kind)) (connection kind table a offset x n)

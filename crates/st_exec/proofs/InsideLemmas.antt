@@ -1,4 +1,4 @@
--- What an instruction's deed needs to be in storage is there where its words are.
+-- What an instruction's effect needs to be in storage is there where its words are.
 use Rattle.std.proofs.Common.{◌≡◌, ◌≢◌, ℕ, ◌+◌, ◌*◌, ◌/◌, ◌%◌, ◌^◌, ◌<◌, ◌≤◌, Bool, true, false, ◌==◌, if◌then◌else◌, refl, sym, ap, subst, arith}
 use Rattle.std.specs.Prelude.{nat_le, List}
 use Rattle.std.proofs.lemmas.Bool.{leb-true, leb-false, eqb-true}
@@ -7,10 +7,10 @@ use Rattle.st_bits.specs.declared.operations.HalfOp.{HalfOp}
 use Rattle.st_format.specs.declared.instruction.Instr.TheVariants.{Half, Move, BitBranch, StoreCounter}
 use Rattle.st_state.specs.Machine.{Machine}
 use Rattle.st_prep.specs.declared.entries.Words.{Words}
-use Rattle.st_prep.specs.Entry.{no_words, one_run, field_words, operand_words, is_index_store, reads, writes}
+use Rattle.st_prep.specs.Entry.{no_words, one_run, field_words, operand_words, is_index_store, reads, words_written}
 use Rattle.st_prep.specs.Ranges.{AreInside}
 use Rattle.st_exec.specs.Operand.{AreRead}
-use Rattle.st_exec.specs.Deed.{IsField, AreRuns}
+use Rattle.st_exec.specs.Effect.{IsField, AreRuns}
 
 -- words that stand where a test holds
 inside_if : (b : Bool) (w : Words) → AreInside (if b then w else no_words) → b ≡ true → AreInside w
@@ -47,16 +47,16 @@ inside-operand p e n other few h =
 
 -- ---- other words
 
-pub inside-index : (op : HalfOp) (a j i e : ℕ) → AreInside (writes (Half op a j i) e) → is_index_store op ≡ true
+pub inside-index : (op : HalfOp) (a j i e : ℕ) → AreInside (words_written (Half op a j i) e) → is_index_store op ≡ true
     → e / 64 < words_of_storage
-unfolding writes
+unfolding words_written
 inside-index op a j i e h t =
     let w : e / 64 + 1 ≤ words_of_storage = (inside_if (is_index_store op) (one_run (e / 64) 1) h t).inside (omega arith) in
     omega arith
 
 pub inside-move : (swap : Bool) (a i second n e : ℕ) → 1 ≤ n → AreInside (reads (Move swap a i second n) e)
-    → AreInside (writes (Move swap a i second n) e) → AreRuns (e / 64) (second / 2) n
-unfolding reads writes
+    → AreInside (words_written (Move swap a i second n) e) → AreRuns (e / 64) (second / 2) n
+unfolding reads words_written
 inside-move false a i second n e some h k = record { from_inside = h.inside some; to_inside = k.inside some }
 inside-move true a i second n e some h k = record { from_inside = h.inside some; to_inside = h.inside2 some }
 
@@ -66,9 +66,9 @@ unfolding reads
 inside-bit sense change a i second e h =
     let w : e / 64 + 1 ≤ words_of_storage = h.inside (omega arith) in omega arith
 
-pub inside-counter : (a i second e v : ℕ) → AreInside (writes (StoreCounter a i second) e) → v < 2 ^ 19
+pub inside-counter : (a i second e v : ℕ) → AreInside (words_written (StoreCounter a i second) e) → v < 2 ^ 19
     → IsField (32 * (e / 32)) 19 v
-unfolding writes
+unfolding words_written
 inside-counter a i second e v h fits =
     let w : e / 64 + 1 ≤ words_of_storage = h.inside (omega arith) in
     record { some = omega arith; few = omega arith; inside = omega arith; fits = fits }

@@ -1,7 +1,7 @@
 -- What holds of completion itself, and not of one call, proved.
 use Rattle.st_exec.proofs.Unchanged.{completed-done}
 use Rattle.st_exec.proofs.AheadLemmas.{completed-past, missed-branch, guessed-right}
-use Rattle.st_exec.proofs.AlikeDeeds.{guessed-alike, completed-alike}
+use Rattle.st_exec.proofs.AlikeEffects.{guessed-alike, completed-alike}
 use Rattle.st_exec.proofs.MachineKept.{kept-completed}
 use Rattle.st_exec.proofs.UnwrittenLemmas.{early-index_words, completed-unwritten, guessed-unwritten, guessed-machine, guessed-following, guessed-alone, guessed-rest, guessed-done, guessed-past}
 use Rattle.st_exec.proofs.BesideEntries.{guessed-beside, beside-printed, beside-no_card, beside-signalled, beside-same, beside-then}

@@ -10,7 +10,7 @@ pub mod AheadLemmas
 pub mod ReadLemmas
 pub mod TransferLemmas
 pub mod AlikeStates
-pub mod AlikeDeeds
+pub mod AlikeEffects
 pub mod BitBounds
 pub mod ResultBounds
 pub mod MachineKept

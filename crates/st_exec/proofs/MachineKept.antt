@@ -6,7 +6,7 @@ use Rattle.std.proofs.lemmas.Bool.Decides.{leb_tells}
 use Rattle.std.proofs.Math.Nat.{mod-lt, pow-le-pow_right}
 use Rattle.std.proofs.lemmas.Nat.{pow_pos}
 use Rattle.st_bits.specs.Bits.{bits, num, all_bits, field, put, part}
-use Rattle.st_bits.specs.Registers.{fixed}
+use Rattle.st_bits.specs.Registers.{register_word}
 use Rattle.st_bits.specs.Storage.{words_of_storage, words_of_storage_is}
 use Rattle.st_bits.specs.declared.operations.HalfOp.{HalfOp}
 use Rattle.st_bits.specs.declared.operations.HalfOp.TheVariants.{Sx, Sv, Sc, Sr, Sva}
@@ -15,26 +15,26 @@ use Rattle.st_bits.specs.declared.operations.BranchOp.TheVariants.{Be, Bd, Bew}
 use Rattle.st_bits.proofs.RegisterLaws.{fixed-twice, fixed_below}
 use Rattle.st_format.specs.declared.instruction.Instr.{Instr}
 use Rattle.st_format.specs.declared.instruction.Instr.TheVariants.{Half, Branch, Floating, Vfl, Connect, Move, BitBranch, IndBranch, StoreCounter, Transfer, Invalid}
-use Rattle.st_state.specs.Machine.{Machine, IsMachine, HasArea, word, stored, placed}
-use Rattle.st_state.specs.Interrupts.{turned, applied}
+use Rattle.st_state.specs.Machine.{Machine, IsMachine, HasArea, word, state_with_store, state_with_bits}
+use Rattle.st_state.specs.Interrupts.{indicator_word, state_with_indicators}
 use Rattle.st_state.specs.declared.devices.Order.{Order}
 use Rattle.st_state.proofs.Kept.{is_machine-with_word}
 use Rattle.st_state.proofs.Turned.{turned_below}
 use Rattle.st_field.specs.declared.accumulator.Acc.{Acc}
 use Rattle.st_prep.specs.declared.entries.IndexChange.{IndexChange}
 use Rattle.st_prep.specs.declared.entries.Prepared.{Prepared}
-use Rattle.st_prep.specs.Entry.{reads_field, reads, writes}
-use Rattle.st_prep.specs.Plan.{opened}
-use Rattle.st_prep.specs.Ranges.{HasFields, AreInside, HasRoom, IsChange, IsPrepared}
+use Rattle.st_prep.specs.Entry.{reads_field, reads, words_written}
+use Rattle.st_prep.specs.Plan.{state_at_entry}
+use Rattle.st_prep.specs.Ranges.{HasFields, AreInside, HasRoomInStorage, IsChange, IsPrepared}
 use Rattle.st_prep.proofs.Choices.{of_choice}
 use Rattle.st_prep.proofs.PlanLemmas.{fixed-indicators, is_machine-opened}
-use Rattle.st_exec.specs.Operand.{field_at, operand, accumulator}
-use Rattle.st_exec.specs.Outcome.{taken, operated, connects, shape_of, with_accumulator, with_register, with_registers, with_field, with_result}
+use Rattle.st_exec.specs.Operand.{field_at, operand_bits, accumulator}
+use Rattle.st_exec.specs.Outcome.{bits_taken, operation_outcome, connects, shape_of, with_accumulator, with_register, with_registers, with_field, with_result}
 use Rattle.st_field.specs.declared.outcome.Done.{Done}
-use Rattle.st_exec.specs.Deed.{AreRuns, copied, exchanged, index_deed, branch_deed, bit_deed, indicator_deed, move_deed, order_of, with_order, given, deed_of, deed, carried_out}
-use Rattle.st_exec.specs.Completion.{with_change, early, is_taken, target, counter, counted, finished, completed}
-use Rattle.st_exec.specs.declared.deeds.Deed.{Deed}
-use Rattle.st_exec.specs.declared.deeds.Deed.TheVariants.{Rest, Put, Copy, Exchange, TurnOff, Enable, Wait, Give, Leave}
+use Rattle.st_exec.specs.Effect.{AreRuns, state_with_copy, state_with_exchange, index_effect, branch_effect, bit_effect, indicator_effect, move_effect, order_standing, machine_with_order, state_with_order, effect_of, effect, carried_out}
+use Rattle.st_exec.specs.Completion.{with_change, state_with_early_changes, is_taken, target, counter, state_counted_on, state_after_effect, state_after_completion}
+use Rattle.st_exec.specs.declared.effects.Effect.{Effect}
+use Rattle.st_exec.specs.declared.effects.Effect.TheVariants.{Rest, Put, Copy, Exchange, TurnOff, Enable, Wait, Give, Leave}
 use Rattle.st_exec.proofs.ApartLemmas.{length-placed, word-placed_by}
 use Rattle.st_exec.proofs.BitBounds.{field-below, field-put_below}
 use Rattle.st_exec.proofs.InsideLemmas.{inside-move}
@@ -42,34 +42,34 @@ use Rattle.st_exec.proofs.ResultBounds.{FitsRegisters, is_decimal_shape, result-
 
 -- ---- one word
 
-pub kept-stored : (s : Machine) (w x : ℕ) → IsMachine s → w < words_of_storage → fixed w x < 2 ^ 64 → IsMachine (stored s w x)
-kept-stored s w x m inside below = is_machine-with_word s w (fixed w x) m inside below (fixed-twice w x)
+pub kept-stored : (s : Machine) (w x : ℕ) → IsMachine s → w < words_of_storage → register_word w x < 2 ^ 64 → IsMachine (state_with_store s w x)
+kept-stored s w x m inside below = is_machine-with_word s w (register_word w x) m inside below (fixed-twice w x)
 
-kept-word : (s : Machine) (w x : ℕ) → IsMachine s → w < words_of_storage → x < 2 ^ 64 → IsMachine (stored s w x)
+kept-word : (s : Machine) (w x : ℕ) → IsMachine s → w < words_of_storage → x < 2 ^ 64 → IsMachine (state_with_store s w x)
 kept-word s w x m inside fits = kept-stored s w x m inside (fixed_below w x fits)
 
-kept-applied : (s : Machine) (on off : ℕ) → IsMachine s → IsMachine (applied (record { on = on; off = off }) s)
+kept-applied : (s : Machine) (on off : ℕ) → IsMachine s → IsMachine (state_with_indicators (record { on = on; off = off }) s)
 kept-applied s on off m =
-    is_machine-with_word s 11 (turned 64 on off (word s 11)) m (omega (arith, words_of_storage_is))
-    (turned_below 64 on off (word s 11)) (fixed-indicators (turned 64 on off (word s 11)))
+    is_machine-with_word s 11 (indicator_word 64 on off (word s 11)) m (omega (arith, words_of_storage_is))
+    (turned_below 64 on off (word s 11)) (fixed-indicators (indicator_word 64 on off (word s 11)))
 
 -- ---- a field
 
-word-placed_below : (s : Machine) (a n v i : ℕ) → word (placed s a (bits n v)) i < 2 ^ 64
+word-placed_below : (s : Machine) (a n v i : ℕ) → word (state_with_bits s a (bits n v)) i < 2 ^ 64
 word-placed_below s a n v i =
     elim (leb_tells (length s.words) i) [
       | inl p ↦
           let past : length s.words ≤ i = p.1 in
-          let none : word (placed s a (bits n v)) i ≡ 0 =
-          get_or_past (placed s a (bits n v)).words i 0 (omega (arith, length-placed s a (bits n v))) in
+          let none : word (state_with_bits s a (bits n v)) i ≡ 0 =
+          get_or_past (state_with_bits s a (bits n v)).words i 0 (omega (arith, length-placed s a (bits n v))) in
           omega arith
       | inr q ↦
           let x : ℕ = num (field (put (all_bits s.words) a (bits n v)) (64 * i) 64) in
-          let is : word (placed s a (bits n v)) i ≡ fixed i x = word-placed_by s a (bits n v) i q.1 in
+          let is : word (state_with_bits s a (bits n v)) i ≡ register_word i x = word-placed_by s a (bits n v) i q.1 in
           subst (λ (y : ℕ). y < 2 ^ 64) (sym is) (fixed_below i x (field-put_below s.words a n v (64 * i) 64))
     ]
 
-pub kept-placed : (s : Machine) (a n v : ℕ) → IsMachine s → IsMachine (placed s a (bits n v))
+pub kept-placed : (s : Machine) (a n v : ℕ) → IsMachine s → IsMachine (state_with_bits s a (bits n v))
 kept-placed s a n v m = record {
   size = length-placed s a (bits n v) ∙ m.size;
   counter = m.counter;
@@ -77,31 +77,31 @@ kept-placed s a n v m = record {
   registers = λ i h.
       let here : i < length s.words = omega (arith, m.size, words_of_storage_is) in
       let is = word-placed_by s a (bits n v) i here in
-      ap (fixed i) is ∙ fixed-twice i _ ∙ sym is;
+      ap (register_word i) is ∙ fixed-twice i _ ∙ sym is;
   reader_area = m.reader_area;
   printer_area = m.printer_area;
 }
 
 -- ---- registers
 
-fixed-counts : (x : ℕ) → fixed 7 x < 2 ^ 64
-unfolding fixed
+fixed-counts : (x : ℕ) → register_word 7 x < 2 ^ 64
+unfolding register_word
 fixed-counts x = omega arith
 
-fixed-sign_byte : (x : ℕ) → fixed 10 x < 2 ^ 64
-unfolding fixed
+fixed-sign_byte : (x : ℕ) → register_word 10 x < 2 ^ 64
+unfolding register_word
 fixed-sign_byte x = omega arith
 
-kept-register : (w : ℕ) (x : Option ℕ) (s : Machine) → IsMachine s → w < words_of_storage → IfSome x (λ y. fixed w y < 2 ^ 64)
+kept-register : (w : ℕ) (x : Option ℕ) (s : Machine) → IsMachine s → w < words_of_storage → IfSome x (λ y. register_word w y < 2 ^ 64)
     → IsMachine (with_register w x s)
 kept-register w None s m inside h = m
 kept-register w (Some x) s m inside h = kept-stored s w x m inside h
 
-some-below : (w : ℕ) (x : Option ℕ) → IfSome x (λ y. y < 2 ^ 64) → IfSome x (λ y. fixed w y < 2 ^ 64)
+some-below : (w : ℕ) (x : Option ℕ) → IfSome x (λ y. y < 2 ^ 64) → IfSome x (λ y. register_word w y < 2 ^ 64)
 some-below w None h = tt
 some-below w (Some x) h = fixed_below w x h
 
-some-counts : (x : Option ℕ) → IfSome x (λ y. fixed 7 y < 2 ^ 64)
+some-counts : (x : Option ℕ) → IfSome x (λ y. register_word 7 y < 2 ^ 64)
 some-counts None = tt
 some-counts (Some x) = fixed-counts x
 
@@ -135,25 +135,25 @@ kept-with_result o a n s m h =
 
 -- ---- runs of words
 
-kept-copied : (from to n : ℕ) (s : Machine) → IsMachine s → to + n ≤ words_of_storage → IsMachine (copied from to n s)
-unfolding copied
+kept-copied : (from to n : ℕ) (s : Machine) → IsMachine s → to + n ≤ words_of_storage → IsMachine (state_with_copy from to n s)
+unfolding state_with_copy
 kept-copied from to zero s m inside = m
 kept-copied from to (suc n) s m inside =
-    kept-copied (from + 1) (to + 1) n (stored s to (word s from)) (kept-word s to (word s from) m (omega arith) (m.below from)) (omega arith)
+    kept-copied (from + 1) (to + 1) n (state_with_store s to (word s from)) (kept-word s to (word s from) m (omega arith) (m.below from)) (omega arith)
 
 kept-exchanged : (from to n : ℕ) (s : Machine) → IsMachine s → from + n ≤ words_of_storage → to + n ≤ words_of_storage
-    → IsMachine (exchanged from to n s)
-unfolding exchanged
+    → IsMachine (state_with_exchange from to n s)
+unfolding state_with_exchange
 kept-exchanged from to zero s m here there = m
 kept-exchanged from to (suc n) s m here there =
     kept-exchanged (from + 1) (to + 1) n _
-    (kept-word (stored s from (word s to)) to (word s from)
+    (kept-word (state_with_store s from (word s to)) to (word s from)
     (kept-word s from (word s to) m (omega arith) (m.below to)) (omega arith) (m.below from))
     (omega arith) (omega arith)
 
 -- ---- orders
 
-kept-order : (write : Bool) (order : Order) (s : Machine) → IsMachine s → HasArea (Some order) → IsMachine (with_order write order s)
+kept-order : (write : Bool) (order : Order) (s : Machine) → IsMachine s → HasArea (Some order) → IsMachine (machine_with_order write order s)
 kept-order false order s m h = record {
   size = m.size;
   counter = m.counter;
@@ -171,14 +171,14 @@ kept-order true order s m h = record {
   printer_area = h;
 }
 
-kept-given : (write : Bool) (order : Order) (s : Machine) → IsMachine s → HasArea (Some order) → IsMachine (given write order s)
+kept-given : (write : Bool) (order : Order) (s : Machine) → IsMachine s → HasArea (Some order) → IsMachine (state_with_order write order s)
 kept-given write order s m h =
-    of_choice IsMachine (is_some (order_of write s)) _ _ (kept-applied s _ 0 m) (kept-order write order s m h)
+    of_choice IsMachine (is_some (order_standing write s)) _ _ (kept-applied s _ 0 m) (kept-order write order s m h)
 
--- ---- deeds
+-- ---- effects
 
--- the words and the numbers that a deed leaves have room
-abbrev pub HasPlace : Deed → Type 0
+-- the words and the numbers that a effect leaves have room
+abbrev pub HasPlace : Effect → Type 0
 HasPlace (Copy from to n) = AreRuns from to n
 HasPlace (Exchange from to n) = AreRuns from to n
 HasPlace (Give write order) = HasArea (Some order)
@@ -195,7 +195,7 @@ kept-marks s enabled waiting m = record {
   printer_area = m.printer_area;
 }
 
-pub kept-done : (d : Deed) (s : Machine) → IsMachine s → HasPlace d → IsMachine (carried_out d s)
+pub kept-done : (d : Effect) (s : Machine) → IsMachine s → HasPlace d → IsMachine (carried_out d s)
 unfolding carried_out
 kept-done Rest s m h = m
 kept-done (Put a n v) s m h = kept-placed s a n v m
@@ -207,7 +207,7 @@ kept-done Wait s m h = kept-marks s true true m
 kept-done (Give write order) s m h = kept-given write order s m h
 kept-done (Leave o a n) s m h = kept-with_result o a n s m h
 
-place-index : (op : HalfOp) (e v : ℕ) → HasPlace (index_deed op e v)
+place-index : (op : HalfOp) (e v : ℕ) → HasPlace (index_effect op e v)
 place-index Sx e v = tt
 place-index Sv e v = tt
 place-index Sc e v = tt
@@ -215,23 +215,23 @@ place-index Sr e v = tt
 place-index Sva e v = tt
 place-index _ e v = tt
 
-place-branch : (op : BranchOp) → HasPlace (branch_deed op)
+place-branch : (op : BranchOp) → HasPlace (branch_effect op)
 place-branch Be = tt
 place-branch Bd = tt
 place-branch Bew = tt
 place-branch _ = tt
 
-place-bit : (change e b : ℕ) → HasPlace (bit_deed change e b)
+place-bit : (change e b : ℕ) → HasPlace (bit_effect change e b)
 place-bit zero e b = tt
 place-bit (suc zero) e b = tt
 place-bit (suc (suc zero)) e b = tt
 place-bit (suc (suc (suc _))) e b = tt
 
-place-indicator : (off : Bool) (e : ℕ) → HasPlace (indicator_deed off e)
+place-indicator : (off : Bool) (e : ℕ) → HasPlace (indicator_effect off e)
 place-indicator false e = tt
 place-indicator true e = tt
 
-place-move : (swap : Bool) (from to n : ℕ) → AreRuns from to n → HasPlace (move_deed swap from to n)
+place-move : (swap : Bool) (from to n : ℕ) → AreRuns from to n → HasPlace (move_effect swap from to n)
 place-move false from to n h = h
 place-move true from to n h = h
 
@@ -244,32 +244,32 @@ accumulator-below s m =
 power-few : (n : ℕ) → n ≤ 64 → 2 ^ n ≤ 2 ^ 64
 power-few n few = pow-le-pow_right (omega arith) few
 
-operand-below : (p e n : ℕ) (s : Machine) → n ≤ 64 → operand p e n s < 2 ^ 64
+operand-below : (p e n : ℕ) (s : Machine) → n ≤ 64 → operand_bits p e n s < 2 ^ 64
 operand-below p e n s few =
     let room : 2 ^ n ≤ 2 ^ 64 = power-few n few in
     let address : part e 40 n < 2 ^ n = mod-lt _ (pow_pos n) in
     let stands : field_at s e n < 2 ^ n = field-below s.words e n in
     of_choice (λ (x : ℕ). x < 2 ^ 64) (p == 1) _ _ (omega arith) (omega arith)
 
-pub place-deed : (instr : Instr) (e v : ℕ) (s : Machine) → IsMachine s → HasFields instr → AreInside (reads instr e)
-    → AreInside (writes instr e) → HasRoom instr e → HasPlace (deed_of instr e v s)
-unfolding deed_of operated connects
-place-deed (Half op a j i) e v s m fields h k room = place-index op e v
-place-deed (Branch op a i) e v s m fields h k room = place-branch op
-place-deed (Floating n a i) e v s m fields h k room = tt
-place-deed (Vfl op d u n p l b o a i) e v s m fields h k room =
-    result-fits d op (accumulator s) (taken op p e l s) (shape_of u n l b o) (word s 14) (word s 11)
+pub place-effect : (instr : Instr) (e v : ℕ) (s : Machine) → IsMachine s → HasFields instr → AreInside (reads instr e)
+    → AreInside (words_written instr e) → HasRoomInStorage instr e → HasPlace (effect_of instr e v s)
+unfolding effect_of operation_outcome connects
+place-effect (Half op a j i) e v s m fields h k room = place-index op e v
+place-effect (Branch op a i) e v s m fields h k room = place-branch op
+place-effect (Floating n a i) e v s m fields h k room = tt
+place-effect (Vfl op d u n p l b o a i) e v s m fields h k room =
+    result-fits d op (accumulator s) (bits_taken op p e l s) (shape_of u n l b o) (word s 14) (word s 11)
     (is_decimal_shape d u n p l b o fields.1 fields.2) (accumulator-below s m)
-    (of_choice (λ (x : ℕ). x < 2 ^ 64) (reads_field op) (operand p e l s) 0 (operand-below p e l s fields.1.length_fits) (omega arith))
-place-deed (Connect kind table p l b o a i) e v s m fields h k room =
+    (of_choice (λ (x : ℕ). x < 2 ^ 64) (reads_field op) (operand_bits p e l s) 0 (operand-below p e l s fields.1.length_fits) (omega arith))
+place-effect (Connect kind table p l b o a i) e v s m fields h k room =
     connection-fits kind table (accumulator s) o _ l (accumulator-below s m)
-place-deed (Move swap a i second n) e v s m fields h k room =
+place-effect (Move swap a i second n) e v s m fields h k room =
     place-move swap (e / 64) (second / 2) n (inside-move swap a i second n e fields.2 h k)
-place-deed (BitBranch sense change a i second) e v s m fields h k room = place-bit change e _
-place-deed (IndBranch sense off a i second) e v s m fields h k room = place-indicator off e
-place-deed (StoreCounter a i second) e v s m fields h k room = tt
-place-deed (Transfer write a i n) e v s m fields h k room = room
-place-deed (Invalid first second full) e v s m fields h k room = tt
+place-effect (BitBranch sense change a i second) e v s m fields h k room = place-bit change e _
+place-effect (IndBranch sense off a i second) e v s m fields h k room = place-indicator off e
+place-effect (StoreCounter a i second) e v s m fields h k room = tt
+place-effect (Transfer write a i n) e v s m fields h k room = room
+place-effect (Invalid first second full) e v s m fields h k room = tt
 
 -- ---- entries
 
@@ -280,8 +280,8 @@ kept-change (Some c) s m h =
     let number : c.number < 16 = h.number in
     kept-word s (16 + c.number) c.word m (omega arith) h.word
 
-pub kept-early : (p : Prepared) (s : Machine) → IsMachine s → IfSome p.index IsChange → IsMachine (early p s)
-unfolding early
+pub kept-early : (p : Prepared) (s : Machine) → IsMachine s → IfSome p.index IsChange → IsMachine (state_with_early_changes p s)
+unfolding state_with_early_changes
 kept-early p s m h = kept-applied (with_change p.index s) p.ind.on p.ind.off (kept-change p.index s m h)
 
 target-below : (instr : Instr) (following : ℕ) → HasFields instr → following < 2 ^ 19 → target instr following < 2 ^ 19
@@ -298,7 +298,7 @@ target-below (StoreCounter a i second) f fields h = h
 target-below (Transfer write a i n) f fields h = h
 target-below (Invalid first second full) f fields h = h
 
-kept-counted : (s : Machine) (c : ℕ) → IsMachine s → c < 2 ^ 19 → IsMachine (counted s c)
+kept-counted : (s : Machine) (c : ℕ) → IsMachine s → c < 2 ^ 19 → IsMachine (state_counted_on s c)
 kept-counted s c m h = record {
   size = m.size;
   counter = h;
@@ -309,17 +309,17 @@ kept-counted s c m h = record {
 }
 
 kept-finished : (b : Bool) (p : Prepared) (s : Machine) → p.suppressed ≡ b → IsPrepared p → IsMachine s
-    → IsMachine (if b then counted s p.following else counted (carried_out (deed p s) s) (counter p s))
+    → IsMachine (if b then state_counted_on s p.following else state_counted_on (carried_out (effect p s) s) (counter p s))
 kept-finished true p s e h m = kept-counted s p.following m h.following
 kept-finished false p s e h m =
     let entry = h.entry e in
-    kept-counted (carried_out (deed p s) s) (counter p s)
-    (kept-done (deed p s) s m
-    (place-deed p.instr p.e p.value s m h.shape (rw entry.reads at h.reads_inside) (rw entry.writes at h.writes_inside) entry.area))
+    kept-counted (carried_out (effect p s) s) (counter p s)
+    (kept-done (effect p s) s m
+    (place-effect p.instr p.e p.value s m h.shape (rw entry.reads at h.reads_inside) (rw entry.writes at h.writes_inside) entry.area))
     (of_choice (λ (c : ℕ). c < 2 ^ 19) (is_taken p.instr p.e s) _ _ (target-below p.instr p.following h.shape h.following) h.following)
 
-pub kept-completed : (p : Prepared) (s : Machine) → IsPrepared p → IsMachine s → IsMachine (completed p s)
-unfolding completed finished
+pub kept-completed : (p : Prepared) (s : Machine) → IsPrepared p → IsMachine s → IsMachine (state_after_completion p s)
+unfolding state_after_completion state_after_effect
 kept-completed p s h m =
-    kept-finished p.suppressed p (early p (opened p.place.table s)) refl h
-    (kept-early p (opened p.place.table s) (is_machine-opened p.place.table s m) h.change)
+    kept-finished p.suppressed p (state_with_early_changes p (state_at_entry p.place.table s)) refl h
+    (kept-early p (state_at_entry p.place.table s) (is_machine-opened p.place.table s m) h.change)

@@ -5,40 +5,40 @@ use Rattle.st_bits.specs.Storage.{words_of_storage_is}
 use Rattle.st_format.specs.Formats.{bit_of}
 use Rattle.st_format.specs.declared.instruction.Instr.{Instr}
 use Rattle.st_format.specs.declared.instruction.Instr.TheVariants.{BitBranch, IndBranch}
-use Rattle.st_state.specs.Interrupts.{turned}
+use Rattle.st_state.specs.Interrupts.{indicator_word}
 use Rattle.st_state.specs.Machine.{Machine, IsMachine, word}
 use Rattle.st_prep.specs.declared.entries.Prepared.{Prepared}
 use Rattle.st_prep.specs.Entry.{acts_alone}
-use Rattle.st_prep.specs.Plan.{opened}
+use Rattle.st_prep.specs.Plan.{state_at_entry}
 use Rattle.st_prep.specs.Ranges.{IsPrepared}
 use Rattle.st_exec.specs.Ahead.{is_indicator_branch}
-use Rattle.st_exec.specs.Completion.{with_change, early, is_taken, is_missed}
+use Rattle.st_exec.specs.Completion.{with_change, state_with_early_changes, is_taken, is_missed}
 use Rattle.st_exec.proofs.AheadLemmas.{change-low, change-marks}
 
 -- the indicators after the early change
-early-indicators : (p : Prepared) (s : Machine) → IsMachine s → word (early p s) 11 ≡ turned 64 p.ind.on p.ind.off (word s 11)
-unfolding early
+early-indicators : (p : Prepared) (s : Machine) → IsMachine s → word (state_with_early_changes p s) 11 ≡ indicator_word 64 p.ind.on p.ind.off (word s 11)
+unfolding state_with_early_changes
 early-indicators p s m =
     let u = with_change p.index s in
     get_or-set_same u.words 11 _ 0 (omega (arith, (change-marks p.index s).size, m.size, words_of_storage_is))
-    ∙ ap (λ x. turned 64 p.ind.on p.ind.off x) (change-low p.index s 11 (omega arith))
+    ∙ ap (λ x. indicator_word 64 p.ind.on p.ind.off x) (change-low p.index s 11 (omega arith))
 
 -- of an entry that is neither done alone nor suppressed
 missed-taken : (p : Prepared) (s : Machine) → IsPrepared p → p.serial ≡ false → p.suppressed ≡ false
-    → is_missed p s ≡ is_taken p.instr p.e (early p s)
+    → is_missed p s ≡ is_taken p.instr p.e (state_with_early_changes p s)
 unfolding is_missed
 missed-taken p s h free whole =
-    ap (λ b. not b && not p.suppressed && is_taken p.instr p.e (early p (opened p.place.table s))) free
-    ∙ ap (λ b. not b && is_taken p.instr p.e (early p (opened p.place.table s))) whole
-    ∙ ap (λ k. is_taken p.instr p.e (early p (opened k s))) (h.ahead free).table
+    ap (λ b. not b && not p.suppressed && is_taken p.instr p.e (state_with_early_changes p (state_at_entry p.place.table s))) free
+    ∙ ap (λ b. not b && is_taken p.instr p.e (state_with_early_changes p (state_at_entry p.place.table s))) whole
+    ∙ ap (λ k. is_taken p.instr p.e (state_with_early_changes p (state_at_entry k s))) (h.ahead free).table
 
 pub missed-branch : (p : Prepared) (s : Machine) (sense off : Bool) (address i second : ℕ) → IsPrepared p → IsMachine s
     → p.serial ≡ false → p.suppressed ≡ false → p.instr ≡ IndBranch sense off address i second
-    → is_missed p s ≡ (part (turned 64 p.ind.on p.ind.off (word s 11)) (p.e % 64) 1 == bit_of sense)
+    → is_missed p s ≡ (part (indicator_word 64 p.ind.on p.ind.off (word s 11)) (p.e % 64) 1 == bit_of sense)
 unfolding is_taken
 missed-branch p s sense off address i second h m free whole is =
     missed-taken p s h free whole
-    ∙ ap (λ (instr : Instr). is_taken instr p.e (early p s)) is
+    ∙ ap (λ (instr : Instr). is_taken instr p.e (state_with_early_changes p s)) is
     ∙ ap (λ x. part x (p.e % 64) 1 == bit_of sense) (early-indicators p s m)
 
 -- another one that is not done alone branches on nothing
@@ -52,7 +52,7 @@ not-taken _ e t free other = refl
 pub missed-not : (p : Prepared) (s : Machine) → IsPrepared p → p.serial ≡ false → p.suppressed ≡ false
     → is_indicator_branch p.instr ≡ false → is_missed p s ≡ false
 missed-not p s h free whole other =
-    missed-taken p s h free whole ∙ not-taken p.instr p.e (early p s) ((h.ahead free).operation whole) other
+    missed-taken p s h free whole ∙ not-taken p.instr p.e (state_with_early_changes p s) ((h.ahead free).operation whole) other
 
 pub no-branch : (instr : Instr)
     → ((sense off : Bool) (address i second : ℕ) → instr ≡ IndBranch sense off address i second → ⊥)

@@ -1,7 +1,7 @@
 -- Words that are copied or exchanged one after the other: what is left to be done after k of n.
 use Rattle.std.proofs.Common.{◌≡◌, ℕ, zero, suc, ◌+◌, ◌-◌, ◌<◌, ◌≤◌, refl, sym, ◌∙◌, ap, arith}
-use Rattle.st_state.specs.Machine.{Machine, word, stored}
-use Rattle.st_exec.specs.Deed.{copied, exchanged}
+use Rattle.st_state.specs.Machine.{Machine, word, state_with_store}
+use Rattle.st_exec.specs.Effect.{state_with_copy, state_with_exchange}
 
 -- a move from and to word addresses, of so many words
 abbrev pub Move : Type 0
@@ -19,35 +19,35 @@ rest-next move from to n k t =
     ap (λ a. move a (to + k + 1) (n - (k + 1)) t) first ∙ ap (λ a. move (from + (k + 1)) a (n - (k + 1)) t) second
 
 pub rest-copied : (from to n k : ℕ) (t : Machine) → k < n
-    → rest copied from to n (k + 1) (stored t (to + k) (word t (from + k))) ≡ rest copied from to n k t
-unfolding copied
+    → rest state_with_copy from to n (k + 1) (state_with_store t (to + k) (word t (from + k))) ≡ rest state_with_copy from to n k t
+unfolding state_with_copy
 rest-copied from to n k t h =
     let size : suc (n - (k + 1)) ≡ n - k = omega arith in
-    sym (rest-next copied from to n k (stored t (to + k) (word t (from + k))))
-    ∙ ap (λ m. copied (from + k) (to + k) m t) size
+    sym (rest-next state_with_copy from to n k (state_with_store t (to + k) (word t (from + k))))
+    ∙ ap (λ m. state_with_copy (from + k) (to + k) m t) size
 
 pub rest-exchanged : (from to n k : ℕ) (t : Machine) → k < n
-    → rest exchanged from to n (k + 1) (stored (stored t (from + k) (word t (to + k))) (to + k) (word t (from + k)))
-    ≡ rest exchanged from to n k t
-unfolding exchanged
+    → rest state_with_exchange from to n (k + 1) (state_with_store (state_with_store t (from + k) (word t (to + k))) (to + k) (word t (from + k)))
+    ≡ rest state_with_exchange from to n k t
+unfolding state_with_exchange
 rest-exchanged from to n k t h =
     let size : suc (n - (k + 1)) ≡ n - k = omega arith in
-    sym (rest-next exchanged from to n k (stored (stored t (from + k) (word t (to + k))) (to + k) (word t (from + k))))
-    ∙ ap (λ m. exchanged (from + k) (to + k) m t) size
+    sym (rest-next state_with_exchange from to n k (state_with_store (state_with_store t (from + k) (word t (to + k))) (to + k) (word t (from + k))))
+    ∙ ap (λ m. state_with_exchange (from + k) (to + k) m t) size
 
 -- nothing is left at the end
-copied-none : (from to m : ℕ) (t : Machine) → m ≡ 0 → copied from to m t ≡ t
-unfolding copied
+copied-none : (from to m : ℕ) (t : Machine) → m ≡ 0 → state_with_copy from to m t ≡ t
+unfolding state_with_copy
 copied-none from to zero t e = refl
 copied-none from to (suc m) t e = absurd (omega arith)
 
-exchanged-none : (from to m : ℕ) (t : Machine) → m ≡ 0 → exchanged from to m t ≡ t
-unfolding exchanged
+exchanged-none : (from to m : ℕ) (t : Machine) → m ≡ 0 → state_with_exchange from to m t ≡ t
+unfolding state_with_exchange
 exchanged-none from to zero t e = refl
 exchanged-none from to (suc m) t e = absurd (omega arith)
 
-pub rest-copied_all : (from to n k : ℕ) (t : Machine) → n ≤ k → rest copied from to n k t ≡ t
+pub rest-copied_all : (from to n k : ℕ) (t : Machine) → n ≤ k → rest state_with_copy from to n k t ≡ t
 rest-copied_all from to n k t h = copied-none (from + k) (to + k) (n - k) t (omega arith)
 
-pub rest-exchanged_all : (from to n k : ℕ) (t : Machine) → n ≤ k → rest exchanged from to n k t ≡ t
+pub rest-exchanged_all : (from to n k : ℕ) (t : Machine) → n ≤ k → rest state_with_exchange from to n k t ≡ t
 rest-exchanged_all from to n k t h = exchanged-none (from + k) (to + k) (n - k) t (omega arith)

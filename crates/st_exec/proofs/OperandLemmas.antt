@@ -7,7 +7,7 @@ use Rattle.st_bits.proofs.WordFields.{num-at_word, num-at_two}
 use Rattle.st_state.specs.Machine.{Machine, word}
 use Rattle.st_prep.specs.Entry.{field_words}
 use Rattle.st_prep.specs.declared.entries.Words.{Words}
-use Rattle.st_exec.specs.Operand.{AreOperands, AreFirst, AreRead}
+use Rattle.st_exec.specs.Operand.{AreOperands, AreFirstOperands, AreRead}
 
 -- ---- windows
 
@@ -70,9 +70,9 @@ first-each w x y s (suc zero) one two few some = two some
 first-each w x y s (suc (suc k)) one two few some = absurd (omega arith)
 
 pub first-two : (w : Words) (x y : ℕ) (s : Machine) → (0 < w.len → x ≡ word s (w.first + 0))
-    → (1 < w.len → y ≡ word s (w.first + 1)) → AreFirst w (x ∷ y ∷ []) s
+    → (1 < w.len → y ≡ word s (w.first + 1)) → AreFirstOperands w (x ∷ y ∷ []) s
 first-two w x y s one two = record { first = λ k few some. first-each w x y s k one two few some }
 
 pub first-of_operands : (w : Words) (operands : List ℕ) (s : Machine) → AreOperands w operands s
-    → AreFirst w (get_or operands 0 0 ∷ get_or operands 1 0 ∷ []) s
+    → AreFirstOperands w (get_or operands 0 0 ∷ get_or operands 1 0 ∷ []) s
 first-of_operands w operands s h = first-two w _ _ s (h.first 0) (h.first 1)

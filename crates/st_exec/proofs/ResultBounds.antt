@@ -15,23 +15,23 @@ use Rattle.st_format.specs.Formats.{FitsField}
 use Rattle.st_format.specs.Validity.{misfits}
 use Rattle.st_field.specs.declared.accumulator.Acc.{Acc}
 use Rattle.st_field.specs.declared.base.Taken.{Taken}
-use Rattle.st_field.specs.Bases.{InBase, taken, result_of, stored}
+use Rattle.st_field.specs.Bases.{InBase, operand_taken, result_of, store_result}
 use Rattle.st_field.specs.declared.fields.Field.{Field}
 use Rattle.st_field.specs.declared.fields.Shape.{Shape}
 use Rattle.st_field.specs.declared.outcome.Done.{Done}
-use Rattle.st_field.specs.Fields.{IsShape, field_of}
+use Rattle.st_field.specs.Fields.{IsBinaryShape, field_of}
 use Rattle.st_bin.specs.BinaryResult as binary
 use Rattle.st_field.specs.Digits.{digits_of}
 use Rattle.st_field.proofs.DigitLemmas.{digits_of-below}
 use Rattle.st_dec.specs.DecimalResult as decimal
-use Rattle.st_dec.specs.DecimalOperand.{IsDecimalShape, digit_count, digit_bytes, codes, place}
-use Rattle.st_dec.specs.DigitLists.{joined}
+use Rattle.st_dec.specs.DecimalOperand.{IsDecimalShape, digit_count, digit_bytes, codes, last_digit_place}
+use Rattle.st_dec.specs.DigitLists.{number_of_bytes}
 use Rattle.st_dec.proofs.DigitLemmas.{joined-below}
 use Rattle.st_dec.proofs.ListLemmas.{codes-below}
 use Rattle.st_dec.proofs.PartLemmas.{length-codes, joined-at_place}
 use Rattle.st_dec.proofs.RecodeLemmas.{decimal_fits}
 use Rattle.st_dec.proofs.ShapeLemmas.{count-few}
-use Rattle.st_conn.specs.Connective.{connected, is_covered, inserted_at, inserted}
+use Rattle.st_conn.specs.Connective.{connective_bits, is_covered, inserted_at, accumulator_bits}
 use Rattle.st_conn.specs.Connection.{connection}
 use Rattle.st_prep.proofs.Choices.{of_choice}
 use Rattle.st_exec.specs.Outcome.{result_by, shape_of}
@@ -65,7 +65,7 @@ and-second : (a b : Bool) → (a && b) ≡ false → a ≡ true → b ≡ false
 and-second true b h e = h
 and-second false b h e = absurd (cc)
 
-is_shape : (d u n : Bool) (p l b o : ℕ) → FitsField p l b o → misfits d u l b ≡ false → IsShape (shape_of u n l b o)
+is_shape : (d u n : Bool) (p l b o : ℕ) → FitsField p l b o → misfits d u l b ≡ false → IsBinaryShape (shape_of u n l b o)
 is_shape d u n p l b o f h = record {
   some = f.some_bits;
   few = f.length_fits;
@@ -98,7 +98,7 @@ record FitsBase (b : InBase) : Type 0 where
   converted : FitsRegisters b.converted
 
 based-fits : (op : VflOp) (b : InBase) (t : Taken) (ft ind : ℕ) → t.acc.mag < 2 ^ 128 → FitsBase b → FitsRegisters (result_of op b t ft ind)
-unfolding stored
+unfolding store_result
 based-fits L b t ft ind acc fits = fits_alone _ fits.at_place refl refl refl
 based-fits Lwf b t ft ind acc fits = fits_alone _ fits.at_place refl refl refl
 based-fits Ltrs b t ft ind acc fits = record { acc = acc; rm = tt; ft = tt; tr = fits.content }
@@ -129,8 +129,8 @@ product-fits a f h mag =
     let room : a.mag / 2 ^ h.offset % 2 ^ 64 * f.mag < 2 ^ 64 * 2 ^ 64 = mul-lt _ _ (2 ^ 64) (2 ^ 64) part_of mag in
     fits_alone _ (omega arith) refl refl refl
 
-divided-fits : (a : Acc) (f : Field) (h : Shape) → a.mag < 2 ^ 128 → f.mag < 2 ^ 64 → FitsRegisters (binary.divided a f h)
-unfolding binary.divided
+divided-fits : (a : Acc) (f : Field) (h : Shape) → a.mag < 2 ^ 128 → f.mag < 2 ^ 64 → FitsRegisters (binary.quotient_result a f h)
+unfolding binary.quotient_result
 divided-fits a f h acc mag =
     let from : ℕ = a.mag / 2 ^ h.offset in
     let less : from ≤ a.mag = div-le_self a.mag (2 ^ h.offset) in
@@ -145,7 +145,7 @@ digits_small : (v : ℕ) → digits_of 32 v < 2 ^ 128
 digits_small v = omega (arith, digits_of-below 32 v)
 
 binary-fits : (t : Taken) → t.acc.mag < 2 ^ 128 → t.field.mag < 2 ^ 64 → FitsBase (binary.base t)
-unfolding binary.product_added binary.converted
+unfolding binary.product_added binary.conversion_result
 binary-fits t acc mag = record {
   content = mag;
   at_place = omega arith;
@@ -158,23 +158,23 @@ binary-fits t acc mag = record {
 
 -- ---- decimal operations
 
-codes_small : (f : Field) (h : Shape) → IsDecimalShape h → joined 4 (codes f h) < 2 ^ 64
+codes_small : (f : Field) (h : Shape) → IsDecimalShape h → number_of_bytes 4 (codes f h) < 2 ^ 64
 codes_small f h is =
     let n : ℕ = length (codes f h) in
     let few : n ≤ 16 = omega (arith, length-codes h.byte (digit_count h) f.mag, count-few h is) in
     let bits : 4 * n ≤ 64 = omega arith in
     let room : 2 ^ (4 * n) ≤ 2 ^ 64 = pow-le-pow_right (omega arith) bits in
-    let below : joined 4 (codes f h) < 2 ^ (4 * n) = joined-below 4 (codes f h) (codes-below (digit_bytes f h)) in
+    let below : number_of_bytes 4 (codes f h) < 2 ^ (4 * n) = joined-below 4 (codes f h) (codes-below (digit_bytes f h)) in
     omega arith
 
 decimal-fits : (t : Taken) → IsDecimalShape t.shape → t.acc.mag < 2 ^ 128 → FitsBase (decimal.base t)
-unfolding decimal.converted
+unfolding decimal.binary_value
 decimal-fits t is acc =
-    let codes : joined 4 (codes t.field t.shape) < 2 ^ 64 = codes_small t.field t.shape is in
+    let codes : number_of_bytes 4 (codes t.field t.shape) < 2 ^ 64 = codes_small t.field t.shape is in
     let transit : FitsRegisters (decimal.transit_set t.acc t.field t.shape) = record { acc = acc; rm = tt; ft = tt; tr = codes } in
     record {
       content = codes;
-      at_place = omega (arith, joined-at_place (place t.shape) (digit_bytes t.field t.shape));
+      at_place = omega (arith, joined-at_place (last_digit_place t.shape) (digit_bytes t.field t.shape));
       summed = λ n. omega (arith, decimal_fits 32 n);
       product = transit;
       product_added = λ ft. transit;
@@ -185,8 +185,8 @@ decimal-fits t is acc =
 pub result-fits : (d : Bool) (op : VflOp) (a : Acc) (x : ℕ) (h : Shape) (ft ind : ℕ) → (d ≡ true → IsDecimalShape h)
     → a.mag < 2 ^ 128 → x < 2 ^ 64 → FitsRegisters (result_by d op a x h ft ind)
 unfolding binary.result decimal.result
-result-fits false op a x h ft ind is acc fits = based-fits op _ _ ft ind acc (binary-fits (taken a x h) acc (field_mag x h fits))
-result-fits true op a x h ft ind is acc fits = based-fits op _ _ 0 ind acc (decimal-fits (taken a x h) (is refl) acc)
+result-fits false op a x h ft ind is acc fits = based-fits op _ _ ft ind acc (binary-fits (operand_taken a x h) acc (field_mag x h fits))
+result-fits true op a x h ft ind is acc fits = based-fits op _ _ 0 ind acc (decimal-fits (operand_taken a x h) (is refl) acc)
 
 -- ---- connectives
 
@@ -194,13 +194,13 @@ inserted_bit : (acc offset r n i : ℕ) → inserted_at acc offset r n i < 2
 inserted_bit acc offset r n i =
     of_choice (λ (x : ℕ). x < 2) (is_covered offset n i) _ _ (bit_at-lt r (i - offset)) (bit_at-lt acc i)
 
-inserted_small : (acc offset r n : ℕ) → num (inserted acc offset r n) < 2 ^ 128
-unfolding inserted
+inserted_small : (acc offset r n : ℕ) → num (accumulator_bits acc offset r n) < 2 ^ 128
+unfolding accumulator_bits
 inserted_small acc offset r n = num-by_weight (inserted_at acc offset r n) 128 (inserted_bit acc offset r n)
 
 pub connection-fits : (kind : ConnKind) (table : ℕ) (a : Acc) (offset x n : ℕ) → a.mag < 2 ^ 128
     → FitsRegisters (connection kind table a offset x n)
 connection-fits C table a offset x n acc =
-    fits_alone _ (inserted_small a.mag offset (num (connected table a.mag offset x n)) n) refl refl refl
+    fits_alone _ (inserted_small a.mag offset (num (connective_bits table a.mag offset x n)) n) refl refl refl
 connection-fits Cm table a offset x n acc = fits_alone _ acc refl refl refl
 connection-fits Ct table a offset x n acc = fits_alone _ acc refl refl refl

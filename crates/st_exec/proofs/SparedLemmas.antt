@@ -1,4 +1,4 @@
--- What the deed of an operation that is not done alone leaves as it was.
+-- What the effect of an operation that is not done alone leaves as it was.
 use Rattle.std.proofs.Common.{◌≡◌, ◌≢◌, ℕ, ◌+◌, ◌*◌, ◌/◌, ◌%◌, ◌^◌, ◌<◌, ◌≤◌, ◌⊎◌, inl, inr, Bool, true, false, if◌then◌else◌, Option, None, Some, List, length, refl, sym, ◌∙◌, ap, subst, arith, get_or-set_other}
 use Rattle.std.specs.Prelude.{IfSome, nat_le}
 use Rattle.std.proofs.lemmas.Bool.{leb-true}
@@ -6,7 +6,7 @@ use Rattle.std.proofs.lemmas.Bool.Decides.{leb_tells}
 use Rattle.std.proofs.lemmas.List.{length-set, get_or_past}
 use Rattle.std.proofs.Math.Nat.{mod-eq_of_lt}
 use Rattle.st_bits.specs.Bits.{bits}
-use Rattle.st_bits.specs.Registers.{fixed}
+use Rattle.st_bits.specs.Registers.{register_word}
 use Rattle.st_bits.specs.Storage.{words_of_storage}
 use Rattle.st_bits.specs.declared.operations.HalfOp.{HalfOp}
 use Rattle.st_bits.specs.declared.operations.HalfOp.TheVariants.{Sx, Sv, Sc, Sr, Sva}
@@ -17,30 +17,30 @@ use Rattle.st_format.specs.declared.operations.FullOp.TheVariants.{Variable, Con
 use Rattle.st_format.specs.declared.instruction.Instr.{Instr}
 use Rattle.st_format.specs.declared.instruction.Instr.TheVariants.{Half, Branch, Floating, Vfl, Connect, Move, BitBranch, IndBranch, StoreCounter, Transfer, Invalid}
 use Rattle.st_format.specs.Operations.{writes_field}
-use Rattle.st_state.specs.Machine.{Machine, word, placed, stored}
-use Rattle.st_state.specs.Interrupts.{applied}
+use Rattle.st_state.specs.Machine.{Machine, word, state_with_bits, state_with_store}
+use Rattle.st_state.specs.Interrupts.{state_with_indicators}
 use Rattle.st_field.specs.declared.accumulator.Acc.{Acc}
-use Rattle.st_prep.specs.Entry.{no_words, one_run, field_words, is_index_store, writes, is_alone_branch, acts_alone}
+use Rattle.st_prep.specs.Entry.{no_words, one_run, field_words, is_index_store, words_written, is_alone_branch, acts_alone}
 use Rattle.st_prep.specs.Ranges.{HasFields, AreInside}
-use Rattle.st_exec.specs.Outcome.{with_accumulator, with_register, with_registers, with_field, with_result, operated, connects}
+use Rattle.st_exec.specs.Outcome.{with_accumulator, with_register, with_registers, with_field, with_result, operation_outcome, connects}
 use Rattle.st_field.specs.declared.outcome.Done.{Done}
-use Rattle.st_exec.specs.Deed.{index_deed, branch_deed, indicator_deed, deed_of, carried_out}
+use Rattle.st_exec.specs.Effect.{index_effect, branch_effect, indicator_effect, effect_of, carried_out}
 use Rattle.st_exec.specs.Ahead.{IsNotAmong}
-use Rattle.st_exec.specs.declared.deeds.Deed.{Deed}
-use Rattle.st_exec.specs.declared.deeds.Deed.TheVariants.{Rest, Put, Copy, Exchange, TurnOff, Enable, Wait, Give, Leave}
+use Rattle.st_exec.specs.declared.effects.Effect.{Effect}
+use Rattle.st_exec.specs.declared.effects.Effect.TheVariants.{Rest, Put, Copy, Exchange, TurnOff, Enable, Wait, Give, Leave}
 use Rattle.st_exec.proofs.ApartLemmas.{length-placed, word-placed}
 use Rattle.st_exec.proofs.FieldLemmas.{result-field, connection-field}
 use Rattle.st_exec.proofs.Unchanged.{stored-other}
 
--- ---- which deeds
+-- ---- which effects
 
 -- a field in storage that has no bit of word i
 pub record IsApart (a n i : ℕ) : Type 0 where
   pub inside : a + n ≤ 64 * words_of_storage
   pub apart : (64 * i + 64 ≤ a) ⊎ (a + n ≤ 64 * i)
 
--- a deed that leaves the marks and the orders
-abbrev pub IsQuiet : Deed → Type 0
+-- a effect that leaves the marks and the orders
+abbrev pub IsQuiet : Effect → Type 0
 IsQuiet Rest = Unit {0}
 IsQuiet (Put a n v) = Unit {0}
 IsQuiet (TurnOff k) = Unit {0}
@@ -48,14 +48,14 @@ IsQuiet (Leave o a n) = Unit {0}
 IsQuiet _ = ⊥
 
 -- and word i, unless it is one of the registers
-abbrev pub Spares : Deed → ℕ → Type 0
+abbrev pub Spares : Effect → ℕ → Type 0
 Spares Rest i = Unit {0}
 Spares (Put a n v) i = IsApart a n i
 Spares (TurnOff k) i = Unit {0}
 Spares (Leave o a n) i = IfSome o.field (λ _. IsApart a n i)
 Spares _ i = ⊥
 
--- ---- the deeds of operations that are not done alone
+-- ---- the effects of operations that are not done alone
 
 apart-by : (w m a n i : ℕ) → w + m ≤ words_of_storage → 64 * w ≤ a → a + n ≤ 64 * (w + m) → (i < w) ⊎ (w + m ≤ i)
     → IsApart a n i
@@ -89,7 +89,7 @@ apart-left (Some v) true e n i few only h k = apart-field e n i few h k
 apart-left (Some v) false e n i few only h k = absurd (cc)
 
 spares-index : (op : HalfOp) (e v i : ℕ) → AreInside (if is_index_store op then one_run (e / 64) 1 else no_words)
-    → IsNotAmong i (if is_index_store op then one_run (e / 64) 1 else no_words) → Spares (index_deed op e v) i
+    → IsNotAmong i (if is_index_store op then one_run (e / 64) 1 else no_words) → Spares (index_effect op e v) i
 spares-index Sx e v i h k = apart-word (e / 64) (64 * (e / 64)) 64 i h (omega arith) (omega arith) k
 spares-index Sv e v i h k = apart-word (e / 64) (64 * (e / 64)) 25 i h (omega arith) (omega arith) k
 spares-index Sc e v i h k = apart-word (e / 64) (64 * (e / 64) + 28) 18 i h (omega arith) (omega arith) k
@@ -97,34 +97,34 @@ spares-index Sr e v i h k = apart-word (e / 64) (64 * (e / 64) + 46) 18 i h (ome
 spares-index Sva e v i h k = apart-word (e / 64) (32 * (e / 32)) 19 i h (omega arith) (omega arith) k
 spares-index _ e v i h k = tt
 
-spares-branch : (op : BranchOp) (i : ℕ) → is_alone_branch op ≡ false → Spares (branch_deed op) i
+spares-branch : (op : BranchOp) (i : ℕ) → is_alone_branch op ≡ false → Spares (branch_effect op) i
 spares-branch Be i h = absurd (cc)
 spares-branch Bd i h = absurd (cc)
 spares-branch Bew i h = absurd (cc)
 spares-branch _ i h = tt
 
-spares-indicator : (off : Bool) (e i : ℕ) → Spares (indicator_deed off e) i
+spares-indicator : (off : Bool) (e i : ℕ) → Spares (indicator_effect off e) i
 spares-indicator false e i = tt
 spares-indicator true e i = tt
 
-pub spares-deed : (instr : Instr) (e v : ℕ) (t : Machine) (i : ℕ) → HasFields instr → acts_alone instr ≡ false
-    → AreInside (writes instr e) → IsNotAmong i (writes instr e) → Spares (deed_of instr e v t) i
-unfolding deed_of writes acts_alone operated connects
-spares-deed (Half op a j x) e v t i fields calm h k = spares-index op e v i h k
-spares-deed (Branch op a x) e v t i fields calm h k = spares-branch op i calm
-spares-deed (Floating n a x) e v t i fields calm h k = tt
-spares-deed (Vfl op d u n p l b o a x) e v t i fields calm h k =
+pub spares-effect : (instr : Instr) (e v : ℕ) (t : Machine) (i : ℕ) → HasFields instr → acts_alone instr ≡ false
+    → AreInside (words_written instr e) → IsNotAmong i (words_written instr e) → Spares (effect_of instr e v t) i
+unfolding effect_of words_written acts_alone operation_outcome connects
+spares-effect (Half op a j x) e v t i fields hazard_free h k = spares-index op e v i h k
+spares-effect (Branch op a x) e v t i fields hazard_free h k = spares-branch op i hazard_free
+spares-effect (Floating n a x) e v t i fields hazard_free h k = tt
+spares-effect (Vfl op d u n p l b o a x) e v t i fields hazard_free h k =
     apart-left _ (writes_field (Variable op)) e l i fields.1.length_fits (result-field d op _ _ _ _ _) h k
-spares-deed (Connect kind table p l b o a x) e v t i fields calm h k =
+spares-effect (Connect kind table p l b o a x) e v t i fields hazard_free h k =
     apart-left _ (writes_field (Connective kind)) e l i fields.1.length_fits (connection-field kind _ _ _ _ _) h k
-spares-deed (Move swap a x second n) e v t i fields calm h k = absurd (cc)
-spares-deed (BitBranch sense change a x second) e v t i fields calm h k = absurd (cc)
-spares-deed (IndBranch sense off a x second) e v t i fields calm h k = spares-indicator off e i
-spares-deed (StoreCounter a x second) e v t i fields calm h k = absurd (cc)
-spares-deed (Transfer w a x n) e v t i fields calm h k = absurd (cc)
-spares-deed (Invalid first second full) e v t i fields calm h k = tt
+spares-effect (Move swap a x second n) e v t i fields hazard_free h k = absurd (cc)
+spares-effect (BitBranch sense change a x second) e v t i fields hazard_free h k = absurd (cc)
+spares-effect (IndBranch sense off a x second) e v t i fields hazard_free h k = spares-indicator off e i
+spares-effect (StoreCounter a x second) e v t i fields hazard_free h k = absurd (cc)
+spares-effect (Transfer w a x n) e v t i fields hazard_free h k = absurd (cc)
+spares-effect (Invalid first second full) e v t i fields hazard_free h k = tt
 
-quiet-index : (op : HalfOp) (e v : ℕ) → IsQuiet (index_deed op e v)
+quiet-index : (op : HalfOp) (e v : ℕ) → IsQuiet (index_effect op e v)
 quiet-index Sx e v = tt
 quiet-index Sv e v = tt
 quiet-index Sc e v = tt
@@ -132,29 +132,29 @@ quiet-index Sr e v = tt
 quiet-index Sva e v = tt
 quiet-index _ e v = tt
 
-quiet-branch : (op : BranchOp) → is_alone_branch op ≡ false → IsQuiet (branch_deed op)
+quiet-branch : (op : BranchOp) → is_alone_branch op ≡ false → IsQuiet (branch_effect op)
 quiet-branch Be h = absurd (cc)
 quiet-branch Bd h = absurd (cc)
 quiet-branch Bew h = absurd (cc)
 quiet-branch _ h = tt
 
-quiet-indicator : (off : Bool) (e : ℕ) → IsQuiet (indicator_deed off e)
+quiet-indicator : (off : Bool) (e : ℕ) → IsQuiet (indicator_effect off e)
 quiet-indicator false e = tt
 quiet-indicator true e = tt
 
-pub quiet-deed : (instr : Instr) (e v : ℕ) (t : Machine) → acts_alone instr ≡ false → IsQuiet (deed_of instr e v t)
-unfolding deed_of acts_alone
-quiet-deed (Half op a j x) e v t calm = quiet-index op e v
-quiet-deed (Branch op a x) e v t calm = quiet-branch op calm
-quiet-deed (Floating n a x) e v t calm = tt
-quiet-deed (Vfl op d u n p l b o a x) e v t calm = tt
-quiet-deed (Connect kind table p l b o a x) e v t calm = tt
-quiet-deed (Move swap a x second n) e v t calm = absurd (cc)
-quiet-deed (BitBranch sense change a x second) e v t calm = absurd (cc)
-quiet-deed (IndBranch sense off a x second) e v t calm = quiet-indicator off e
-quiet-deed (StoreCounter a x second) e v t calm = absurd (cc)
-quiet-deed (Transfer w a x n) e v t calm = absurd (cc)
-quiet-deed (Invalid first second full) e v t calm = tt
+pub quiet-effect : (instr : Instr) (e v : ℕ) (t : Machine) → acts_alone instr ≡ false → IsQuiet (effect_of instr e v t)
+unfolding effect_of acts_alone
+quiet-effect (Half op a j x) e v t hazard_free = quiet-index op e v
+quiet-effect (Branch op a x) e v t hazard_free = quiet-branch op hazard_free
+quiet-effect (Floating n a x) e v t hazard_free = tt
+quiet-effect (Vfl op d u n p l b o a x) e v t hazard_free = tt
+quiet-effect (Connect kind table p l b o a x) e v t hazard_free = tt
+quiet-effect (Move swap a x second n) e v t hazard_free = absurd (cc)
+quiet-effect (BitBranch sense change a x second) e v t hazard_free = absurd (cc)
+quiet-effect (IndBranch sense off a x second) e v t hazard_free = quiet-indicator off e
+quiet-effect (StoreCounter a x second) e v t hazard_free = absurd (cc)
+quiet-effect (Transfer w a x n) e v t hazard_free = absurd (cc)
+quiet-effect (Invalid first second full) e v t hazard_free = tt
 
 -- ---- marks and orders
 
@@ -182,7 +182,7 @@ marks-words s ws size = record { size = size; enabled = refl; waiting = refl; re
 
 marks-register : (w : ℕ) (x : Option ℕ) (t : Machine) → HasMarks t (with_register w x t)
 marks-register w None t = marks-same t
-marks-register w (Some x) t = marks-words t _ (length-set t.words w (fixed w x))
+marks-register w (Some x) t = marks-words t _ (length-set t.words w (register_word w x))
 
 marks-field : (f : Option ℕ) (a n : ℕ) (t : Machine) → HasMarks t (with_field f a n t)
 marks-field None a n t = marks-same t
@@ -205,12 +205,12 @@ marks-with_result : (o : Done) (a n : ℕ) (t : Machine) → HasMarks t (with_re
 unfolding with_result
 marks-with_result o a n t =
     let r = with_registers o t in
-    let u = applied o.ind r in
+    let u = state_with_indicators o.ind r in
     marks-then t r (with_field o.field a n u) (marks-registers o t)
     (marks-then r u (with_field o.field a n u) (marks-words r u.words (length-set r.words 11 _))
     (marks-field o.field a n u))
 
-pub marks-done : (d : Deed) (t : Machine) → IsQuiet d → HasMarks t (carried_out d t)
+pub marks-done : (d : Effect) (t : Machine) → IsQuiet d → HasMarks t (carried_out d t)
 unfolding carried_out
 marks-done Rest t k = marks-same t
 marks-done (Put a n v) t k = marks-words t _ (length-placed t a (bits n v))
@@ -241,7 +241,7 @@ kept-mask = record { other = λ k low high not e. not (sym e) }
 pub record Stands (t : Machine) (i x : ℕ) : Type 0 where
   pub is : word t i ≡ x
   pub below : x < 2 ^ 64
-  pub fits : fixed i x ≡ x
+  pub fits : register_word i x ≡ x
 
 with_register-keeps : (w : ℕ) (x : Option ℕ) (t : Machine) (i : ℕ) → i ≢ w → word (with_register w x t) i ≡ word t i
 with_register-keeps w None t i other = refl
@@ -249,8 +249,8 @@ with_register-keeps w (Some x) t i other = stored-other t w x i other
 
 with_accumulator-keeps : (a : Acc) (t : Machine) (i : ℕ) → IsKept i → word (with_accumulator a t) i ≡ word t i
 with_accumulator-keeps a t i k =
-    let u = stored t 8 (a.mag / 2 ^ 64) in
-    let v = stored u 9 (a.mag % 2 ^ 64) in
+    let u = state_with_store t 8 (a.mag / 2 ^ 64) in
+    let v = state_with_store u 9 (a.mag % 2 ^ 64) in
     stored-other v 10 (a.sb * 2 ^ 56) i (k.other 10 (omega arith) (omega arith) (omega arith))
     ∙ stored-other u 9 (a.mag % 2 ^ 64) i (k.other 9 (omega arith) (omega arith) (omega arith))
     ∙ stored-other t 8 (a.mag / 2 ^ 64) i (k.other 8 (omega arith) (omega arith) (omega arith))
@@ -266,21 +266,21 @@ with_registers-keeps o t i k =
 
 -- a word without a bit of what is put
 placed-keeps : (t : Machine) (a n v i x : ℕ) → length t.words ≡ words_of_storage → IsApart a n i → Stands t i x
-    → word (placed t a (bits n v)) i ≡ x
+    → word (state_with_bits t a (bits n v)) i ≡ x
 placed-keeps t a n v i x size k h =
     elim (leb_tells words_of_storage i) [
       | inl p ↦
           let past : words_of_storage ≤ i = p.1 in
           let there : word t i ≡ 0 = get_or_past t.words i 0 (omega arith) in
-          get_or_past (placed t a (bits n v)).words i 0 (omega (arith, length-placed t a (bits n v)))
+          get_or_past (state_with_bits t a (bits n v)).words i 0 (omega (arith, length-placed t a (bits n v)))
           ∙ sym there ∙ h.is
       | inr q ↦
           let here : i < words_of_storage = q.1 in
           let long : length (bits n v) ≡ n = length-bits n v in
           let inside : a + n ≤ 64 * words_of_storage = k.inside in
           word-placed t a (bits n v) i (omega arith) (omega arith) (subst (λ m. (64 * i + 64 ≤ a) ⊎ (a + m ≤ 64 * i)) (sym long) k.apart)
-          ∙ ap (λ y. fixed i (y % 2 ^ 64)) h.is
-          ∙ ap (fixed i) (mod-eq_of_lt h.below)
+          ∙ ap (λ y. register_word i (y % 2 ^ 64)) h.is
+          ∙ ap (register_word i) (mod-eq_of_lt h.below)
           ∙ h.fits
     ]
 
@@ -294,13 +294,13 @@ with_result-keeps : (o : Done) (a n : ℕ) (t : Machine) (i x : ℕ) → length 
 unfolding with_result
 with_result-keeps o a n t i x size kept k h =
     let r = with_registers o t in
-    let u = applied o.ind r in
+    let u = state_with_indicators o.ind r in
     let same : word u i ≡ x =
     get_or-set_other r.words 11 i _ 0 (kept.other 11 (omega arith) (omega arith) (omega arith)) ∙ with_registers-keeps o t i kept ∙ h.is in
     let long : length u.words ≡ words_of_storage = length-set r.words 11 _ ∙ (marks-registers o t).size ∙ size in
     with_field-keeps o.field a n u i x long k (record { is = same; below = h.below; fits = h.fits })
 
-pub done-keeps : (d : Deed) (t : Machine) (i x : ℕ) → length t.words ≡ words_of_storage → IsKept i → Spares d i
+pub done-keeps : (d : Effect) (t : Machine) (i x : ℕ) → length t.words ≡ words_of_storage → IsKept i → Spares d i
     → Stands t i x → word (carried_out d t) i ≡ x
 unfolding carried_out
 done-keeps Rest t i x size kept k h = h.is

@@ -1,16 +1,16 @@
 -- The words of a card go into storage one after the other, and the words of a line are taken from it.
 use Rattle.std.proofs.Common.{◌≡◌, ℕ, zero, suc, ◌+◌, ◌<◌, ◌≤◌, List, [], ◌∷◌, length, get_or, drop, refl, sym, ◌∙◌, ap, arith}
 use Rattle.std.proofs.lemmas.List.{drop_more, length-drop}
-use Rattle.st_state.specs.Machine.{Machine, word, stored}
+use Rattle.st_state.specs.Machine.{Machine, word, state_with_store}
 use Rattle.st_exec.specs.Transfer.{all_stored, words_from}
 
 -- what is left of a card after k words
 pub all_stored-next : (s : Machine) (w k : ℕ) (xs : List ℕ) → k < length xs
-    → all_stored (stored s (w + k) (get_or xs k 0)) (w + (k + 1)) (drop (k + 1) xs) ≡ all_stored s (w + k) (drop k xs)
+    → all_stored (state_with_store s (w + k) (get_or xs k 0)) (w + (k + 1)) (drop (k + 1) xs) ≡ all_stored s (w + k) (drop k xs)
 unfolding all_stored
 all_stored-next s w k xs h =
     let next : w + (k + 1) ≡ w + k + 1 = omega arith in
-    ap (λ a. all_stored (stored s (w + k) (get_or xs k 0)) a (drop (k + 1) xs)) next
+    ap (λ a. all_stored (state_with_store s (w + k) (get_or xs k 0)) a (drop (k + 1) xs)) next
     ∙ ap (λ ys. all_stored s (w + k) ys) (sym (drop_more xs k 0 h))
 
 all_stored-none : (s : Machine) (w : ℕ) (xs : List ℕ) → length xs ≡ 0 → all_stored s w xs ≡ s

@@ -7,29 +7,29 @@ use Rattle.st_bits.specs.declared.operations.BranchOp.{BranchOp}
 use Rattle.st_bits.specs.declared.operations.BranchOp.TheVariants.{Be, Bd, Bew}
 use Rattle.st_format.specs.declared.instruction.Instr.{Instr}
 use Rattle.st_format.specs.declared.instruction.Instr.TheVariants.{Half, Branch, Floating, Vfl, Connect, Move, BitBranch, IndBranch, StoreCounter, Transfer, Invalid}
-use Rattle.st_state.specs.Machine.{Machine, IsMachine, word, stored}
+use Rattle.st_state.specs.Machine.{Machine, IsMachine, word, state_with_store}
 use Rattle.st_state.specs.declared.devices.Order.{Order}
 use Rattle.st_state.proofs.Placed.{fixed-word}
 use Rattle.st_prep.specs.declared.entries.Prepared.{Prepared}
 use Rattle.st_prep.specs.EarlyChange.{words_after}
-use Rattle.st_prep.specs.Entry.{no_words, one_run, words_moved_to, writes, acts_alone}
+use Rattle.st_prep.specs.Entry.{no_words, one_run, words_moved_to, words_written, acts_alone}
 use Rattle.st_prep.specs.Fetch.{index_words}
-use Rattle.st_prep.specs.Plan.{opened}
+use Rattle.st_prep.specs.Plan.{state_at_entry}
 use Rattle.st_prep.specs.Ranges.{HasFields, AreInside, IsPrepared}
 use Rattle.st_prep.proofs.Choices.{of_choice}
 use Rattle.st_prep.proofs.IndexWords.{are_index_words}
 use Rattle.st_prep.proofs.PlanLemmas.{is_machine-opened}
-use Rattle.st_exec.specs.Deed.{copied, exchanged, order_of, with_order, given, branch_deed, bit_deed, move_deed, deed_of, deed, carried_out}
-use Rattle.st_exec.specs.Completion.{early, counter, counted, finished, completed, guessed}
+use Rattle.st_exec.specs.Effect.{state_with_copy, state_with_exchange, order_standing, machine_with_order, state_with_order, branch_effect, bit_effect, move_effect, effect_of, effect, carried_out}
+use Rattle.st_exec.specs.Completion.{state_with_early_changes, counter, state_counted_on, state_after_effect, state_after_completion, guessed_state}
 use Rattle.st_exec.specs.Ahead.{IsNotAmong, IsPast}
-use Rattle.st_exec.specs.declared.deeds.Deed.{Deed}
-use Rattle.st_exec.specs.declared.deeds.Deed.TheVariants.{Rest, Put, Copy, Exchange, TurnOff, Enable, Wait, Give, Leave}
+use Rattle.st_exec.specs.declared.effects.Effect.{Effect}
+use Rattle.st_exec.specs.declared.effects.Effect.TheVariants.{Rest, Put, Copy, Exchange, TurnOff, Enable, Wait, Give, Leave}
 use Rattle.st_exec.proofs.AheadLemmas.{early-marks, early-index, index-at, length-index_words, length-words_after, completed-past}
 use Rattle.st_exec.proofs.MachineKept.{kept-early, kept-completed}
-use Rattle.st_exec.proofs.SparedLemmas.{IsApart, Spares, apart-word, spares-deed, kept-above, Stands, done-keeps}
+use Rattle.st_exec.proofs.SparedLemmas.{IsApart, Spares, apart-word, spares-effect, kept-above, Stands, done-keeps}
 use Rattle.st_exec.proofs.Unchanged.{stored-other, opened-above, early-above, completed-done}
 
--- ---- words that a deed does not write
+-- ---- words that a effect does not write
 
 -- word i is none of the n words from word w on
 abbrev pub IsBeside : ℕ → ℕ → ℕ → Type 0
@@ -43,34 +43,34 @@ pub beside-first : (i w n : ℕ) → IsBeside i w (suc n) → i ≢ w
 beside-first i w n (inl before) e = omega arith
 beside-first i w n (inr after) e = omega arith
 
-copied-other : (from to n : ℕ) (t : Machine) (i : ℕ) → IsBeside i to n → word (copied from to n t) i ≡ word t i
-unfolding copied
+copied-other : (from to n : ℕ) (t : Machine) (i : ℕ) → IsBeside i to n → word (state_with_copy from to n t) i ≡ word t i
+unfolding state_with_copy
 copied-other from to zero t i h = refl
 copied-other from to (suc n) t i h =
-    copied-other (from + 1) (to + 1) n (stored t to (word t from)) i (beside-rest i to n h)
+    copied-other (from + 1) (to + 1) n (state_with_store t to (word t from)) i (beside-rest i to n h)
     ∙ stored-other t to (word t from) i (beside-first i to n h)
 
 exchanged-other : (from to n : ℕ) (t : Machine) (i : ℕ) → IsBeside i from n → IsBeside i to n
-    → word (exchanged from to n t) i ≡ word t i
-unfolding exchanged
+    → word (state_with_exchange from to n t) i ≡ word t i
+unfolding state_with_exchange
 exchanged-other from to zero t i h k = refl
 exchanged-other from to (suc n) t i h k =
-    let u = stored t from (word t to) in
-    exchanged-other (from + 1) (to + 1) n (stored u to (word t from)) i (beside-rest i from n h) (beside-rest i to n k)
+    let u = state_with_store t from (word t to) in
+    exchanged-other (from + 1) (to + 1) n (state_with_store u to (word t from)) i (beside-rest i from n h) (beside-rest i to n k)
     ∙ stored-other u to (word t from) i (beside-first i to n k)
     ∙ stored-other t from (word t to) i (beside-first i from n h)
 
-with_order-other : (write : Bool) (order : Order) (t : Machine) (i : ℕ) → word (with_order write order t) i ≡ word t i
+with_order-other : (write : Bool) (order : Order) (t : Machine) (i : ℕ) → word (machine_with_order write order t) i ≡ word t i
 with_order-other false order t i = refl
 with_order-other true order t i = refl
 
-given-other : (write : Bool) (order : Order) (t : Machine) (i : ℕ) → i ≢ 11 → word (given write order t) i ≡ word t i
+given-other : (write : Bool) (order : Order) (t : Machine) (i : ℕ) → i ≢ 11 → word (state_with_order write order t) i ≡ word t i
 given-other write order t i other =
-    of_choice (λ (u : Machine). word u i ≡ word t i) (is_some (order_of write t)) _ _
+    of_choice (λ (u : Machine). word u i ≡ word t i) (is_some (order_standing write t)) _ _
     (get_or-set_other t.words 11 i _ 0 other) (with_order-other write order t i)
 
--- a deed that leaves word i, which is no register
-abbrev pub SparesAbove : Deed → ℕ → Type 0
+-- a effect that leaves word i, which is no register
+abbrev pub SparesAbove : Effect → ℕ → Type 0
 SparesAbove Rest i = Unit {0}
 SparesAbove (Put a n v) i = IsApart a n i
 SparesAbove (Copy from to n) i = IsBeside i to n
@@ -81,7 +81,7 @@ SparesAbove Wait i = Unit {0}
 SparesAbove (Give write order) i = Unit {0}
 SparesAbove (Leave o a n) i = IfSome o.field (λ _. IsApart a n i)
 
-spared : (d : Deed) (i : ℕ) → Spares d i → SparesAbove d i
+spared : (d : Effect) (i : ℕ) → Spares d i → SparesAbove d i
 spared Rest i h = tt
 spared (Put a n v) i h = h
 spared (Copy from to n) i h = absurd h
@@ -92,7 +92,7 @@ spared Wait i h = tt
 spared (Give write order) i h = tt
 spared (Leave o a n) i h = h
 
-done-above : (d : Deed) (t : Machine) (i x : ℕ) → length t.words ≡ words_of_storage → 32 ≤ i → SparesAbove d i
+done-above : (d : Effect) (t : Machine) (i x : ℕ) → length t.words ≡ words_of_storage → 32 ≤ i → SparesAbove d i
     → Stands t i x → word (carried_out d t) i ≡ x
 unfolding carried_out
 done-above Rest t i x size above k h = h.is
@@ -105,16 +105,16 @@ done-above Wait t i x size above k h = h.is
 done-above (Give write order) t i x size above k h = given-other write order t i (omega arith) ∙ h.is
 done-above (Leave o a n) t i x size above k h = done-keeps (Leave o a n) t i x size (kept-above i (omega arith)) k h
 
--- ---- the deed of each operation
+-- ---- the effect of each operation
 
-above-branch : (op : BranchOp) (i : ℕ) → SparesAbove (branch_deed op) i
+above-branch : (op : BranchOp) (i : ℕ) → SparesAbove (branch_effect op) i
 above-branch Be i = tt
 above-branch Bd i = tt
 above-branch Bew i = tt
 above-branch _ i = tt
 
 above-move : (swap : Bool) (from to n i : ℕ) → IsNotAmong i (words_moved_to swap from to n)
-    → SparesAbove (move_deed swap from to n) i
+    → SparesAbove (move_effect swap from to n) i
 above-move false from to n i k = k.first
 above-move true from to n i k = (k.first, k.second)
 
@@ -122,50 +122,50 @@ some_more : (n : ℕ) → (suc (suc (suc n)) == 0) ≡ false
 some_more n = grind (arith, nat_tests)
 
 above-bit : (change e b i : ℕ) → AreInside (if change == 0 then no_words else one_run (e / 64) 1)
-    → IsNotAmong i (if change == 0 then no_words else one_run (e / 64) 1) → SparesAbove (bit_deed change e b) i
+    → IsNotAmong i (if change == 0 then no_words else one_run (e / 64) 1) → SparesAbove (bit_effect change e b) i
 above-bit zero e b i h k = tt
 above-bit (suc zero) e b i h k = apart-word (e / 64) e 1 i h (omega arith) (omega arith) k
 above-bit (suc (suc zero)) e b i h k = apart-word (e / 64) e 1 i h (omega arith) (omega arith) k
 above-bit (suc (suc (suc n))) e b i h k =
     apart-word (e / 64) e 1 i (rw (some_more n) at h) (omega arith) (omega arith) (rw (some_more n) at k)
 
-above-deed : (instr : Instr) (e v : ℕ) (t : Machine) (i : ℕ) → HasFields instr → AreInside (writes instr e)
-    → IsNotAmong i (writes instr e) → SparesAbove (deed_of instr e v t) i
-unfolding deed_of writes acts_alone
-above-deed (Half op a j x) e v t i fields h k = spared _ i (spares-deed (Half op a j x) e v t i fields refl h k)
-above-deed (Branch op a x) e v t i fields h k = above-branch op i
-above-deed (Floating n a x) e v t i fields h k = tt
-above-deed (Vfl op d u n p l b o a x) e v t i fields h k =
-    spares-deed (Vfl op d u n p l b o a x) e v t i fields refl h k
-above-deed (Connect kind table p l b o a x) e v t i fields h k =
-    spares-deed (Connect kind table p l b o a x) e v t i fields refl h k
-above-deed (Move swap a x second n) e v t i fields h k = above-move swap (e / 64) (second / 2) n i k
-above-deed (BitBranch sense change a x second) e v t i fields h k = above-bit change e _ i h k
-above-deed (IndBranch sense off a x second) e v t i fields h k =
-    spared _ i (spares-deed (IndBranch sense off a x second) e v t i fields refl h k)
-above-deed (StoreCounter a x second) e v t i fields h k =
+above-effect : (instr : Instr) (e v : ℕ) (t : Machine) (i : ℕ) → HasFields instr → AreInside (words_written instr e)
+    → IsNotAmong i (words_written instr e) → SparesAbove (effect_of instr e v t) i
+unfolding effect_of words_written acts_alone
+above-effect (Half op a j x) e v t i fields h k = spared _ i (spares-effect (Half op a j x) e v t i fields refl h k)
+above-effect (Branch op a x) e v t i fields h k = above-branch op i
+above-effect (Floating n a x) e v t i fields h k = tt
+above-effect (Vfl op d u n p l b o a x) e v t i fields h k =
+    spares-effect (Vfl op d u n p l b o a x) e v t i fields refl h k
+above-effect (Connect kind table p l b o a x) e v t i fields h k =
+    spares-effect (Connect kind table p l b o a x) e v t i fields refl h k
+above-effect (Move swap a x second n) e v t i fields h k = above-move swap (e / 64) (second / 2) n i k
+above-effect (BitBranch sense change a x second) e v t i fields h k = above-bit change e _ i h k
+above-effect (IndBranch sense off a x second) e v t i fields h k =
+    spared _ i (spares-effect (IndBranch sense off a x second) e v t i fields refl h k)
+above-effect (StoreCounter a x second) e v t i fields h k =
     apart-word (e / 64) (32 * (e / 32)) 19 i h (omega arith) (omega arith) k
-above-deed (Transfer w a x n) e v t i fields h k = tt
-above-deed (Invalid first second full) e v t i fields h k = tt
+above-effect (Transfer w a x n) e v t i fields h k = tt
+above-effect (Invalid first second full) e v t i fields h k = tt
 
 -- ---- entries
 
 finished-unwritten : (b : Bool) (p : Prepared) (t : Machine) (i x : ℕ) → p.suppressed ≡ b → IsPrepared p
     → length t.words ≡ words_of_storage → 32 ≤ i → IsNotAmong i p.writes → Stands t i x
-    → word (if b then counted t p.following else counted (carried_out (deed p t) t) (counter p t)) i ≡ x
+    → word (if b then state_counted_on t p.following else state_counted_on (carried_out (effect p t) t) (counter p t)) i ≡ x
 finished-unwritten true p t i x e h size above k stands = stands.is
 finished-unwritten false p t i x e h size above k stands =
     let entry = h.entry e in
-    done-above (deed p t) t i x size above
-    (above-deed p.instr p.e p.value t i h.shape (rw entry.writes at h.writes_inside) (rw entry.writes at k))
+    done-above (effect p t) t i x size above
+    (above-effect p.instr p.e p.value t i h.shape (rw entry.writes at h.writes_inside) (rw entry.writes at k))
     stands
 
 pub completed-unwritten : (p : Prepared) (s : Machine) (w : ℕ) → IsPrepared p → IsMachine s → 32 ≤ w
-    → IsNotAmong w p.writes → word (completed p s) w ≡ word s w
-unfolding completed finished
+    → IsNotAmong w p.writes → word (state_after_completion p s) w ≡ word s w
+unfolding state_after_completion state_after_effect
 completed-unwritten p s w h m above k =
-    let u = opened p.place.table s in
-    let t = early p u in
+    let u = state_at_entry p.place.table s in
+    let t = state_with_early_changes p u in
     let size : length t.words ≡ words_of_storage =
     (kept-early p u (is_machine-opened p.place.table s m) h.change).size in
     finished-unwritten p.suppressed p t w (word s w) refl h size above k
@@ -177,24 +177,24 @@ completed-unwritten p s w h m above k =
 
 -- ---- index words after the early change
 
-opened-other : (table : Option ℕ) (s : Machine) (i : ℕ) → i ≢ 11 → word (opened table s) i ≡ word s i
+opened-other : (table : Option ℕ) (s : Machine) (i : ℕ) → i ≢ 11 → word (state_at_entry table s) i ≡ word s i
 opened-other None s i other = refl
 opened-other (Some k) s i other = get_or-set_other s.words 11 i _ 0 other
 
 pub early-index_words : (p : Prepared) (s : Machine) (table : Option ℕ) → IsPrepared p → IsMachine s
-    → index_words (early p (opened table s)) ≡ words_after (index_words s) p.index
+    → index_words (state_with_early_changes p (state_at_entry table s)) ≡ words_after (index_words s) p.index
 early-index_words p s table h m =
-    let u = opened table s in
+    let u = state_at_entry table s in
     let x = index_words u in
     let n = is_machine-opened table s m in
     let long : 32 ≤ length s.words = omega (arith, m.size, words_of_storage_is) in
     let long' : 32 ≤ length u.words = omega (arith, n.size, words_of_storage_is) in
-    let size : length (early p u).words ≡ length u.words = (early-marks p u).size in
+    let size : length (state_with_early_changes p u).words ≡ length u.words = (early-marks p u).size in
     let same : index_words s ≡ x =
     are_index_words u (index_words s) long' (length-index_words s long)
     (λ k few. index-at s k few ∙ sym (opened-other table s (16 + k) (omega arith))) in
-    let after : words_after x p.index ≡ index_words (early p u) =
-    are_index_words (early p u) (words_after x p.index) (omega arith)
+    let after : words_after x p.index ≡ index_words (state_with_early_changes p u) =
+    are_index_words (state_with_early_changes p u) (words_after x p.index) (omega arith)
     (length-words_after x p.index ∙ length-index_words u long')
     (λ k few. sym (early-index p u k long' few h.change)) in
     sym after ∙ ap (λ y. words_after y p.index) (sym same)
@@ -217,31 +217,31 @@ guessed-rest_by true u c = refl
 guessed-rest_by false u c = refl
 
 -- it is the entry itself, but for the counter
-pub guessed-rest : (p : Prepared) (s : Machine) → guessed p s ≡ record (completed p s) { ic = (guessed p s).ic }
-unfolding guessed
-guessed-rest p s = guessed-rest_by p.serial (completed p s) p.following
+pub guessed-rest : (p : Prepared) (s : Machine) → guessed_state p s ≡ record (state_after_completion p s) { ic = (guessed_state p s).ic }
+unfolding guessed_state
+guessed-rest p s = guessed-rest_by p.serial (state_after_completion p s) p.following
 
-pub guessed-machine : (p : Prepared) (s : Machine) → IsPrepared p → IsMachine s → IsMachine (guessed p s)
-unfolding guessed
+pub guessed-machine : (p : Prepared) (s : Machine) → IsPrepared p → IsMachine s → IsMachine (guessed_state p s)
+unfolding guessed_state
 guessed-machine p s h m =
     let after = kept-completed p s h m in
-    of_choice IsMachine p.serial (completed p s) (record (completed p s) { ic = p.following }) after
-    (kept-counter (completed p s) p.following after h.following)
+    of_choice IsMachine p.serial (state_after_completion p s) (record (state_after_completion p s) { ic = p.following }) after
+    (kept-counter (state_after_completion p s) p.following after h.following)
 
-pub guessed-alone : (p : Prepared) (s : Machine) → p.serial ≡ true → guessed p s ≡ completed p s
-unfolding guessed
-guessed-alone p s e = ap (λ b. if b then completed p s else record (completed p s) { ic = p.following }) e
+pub guessed-alone : (p : Prepared) (s : Machine) → p.serial ≡ true → guessed_state p s ≡ state_after_completion p s
+unfolding guessed_state
+guessed-alone p s e = ap (λ b. if b then state_after_completion p s else record (state_after_completion p s) { ic = p.following }) e
 
-pub guessed-following : (p : Prepared) (s : Machine) → p.serial ≡ false → (guessed p s).ic ≡ p.following
-unfolding guessed
+pub guessed-following : (p : Prepared) (s : Machine) → p.serial ≡ false → (guessed_state p s).ic ≡ p.following
+unfolding guessed_state
 guessed-following p s e =
-    ap (λ b. (if b then completed p s else record (completed p s) { ic = p.following }).ic) e
+    ap (λ b. (if b then state_after_completion p s else record (state_after_completion p s) { ic = p.following }).ic) e
 
-pub guessed-done : (p : Prepared) (s : Machine) → (guessed p s).done ≡ s.done + 1
+pub guessed-done : (p : Prepared) (s : Machine) → (guessed_state p s).done ≡ s.done + 1
 guessed-done p s = ap (λ (u : Machine). u.done) (guessed-rest p s) ∙ completed-done p s
 
 pub guessed-unwritten : (p : Prepared) (s : Machine) (w : ℕ) → IsPrepared p → IsMachine s → 32 ≤ w
-    → IsNotAmong w p.writes → word (guessed p s) w ≡ word s w
+    → IsNotAmong w p.writes → word (guessed_state p s) w ≡ word s w
 guessed-unwritten p s w h m above k =
     ap (λ (u : Machine). word u w) (guessed-rest p s) ∙ completed-unwritten p s w h m above k
 
@@ -261,7 +261,7 @@ past-counter p s u c h = record {
 }
 
 pub guessed-past : (p : Prepared) (s : Machine) → IsPrepared p → IsMachine s → p.serial ≡ false
-    → IsPast p s (guessed p s)
+    → IsPast p s (guessed_state p s)
 guessed-past p s h m free =
     subst (IsPast p s) (sym (guessed-rest p s))
-    (past-counter p s (completed p s) (guessed p s).ic (completed-past p s h m free))
+    (past-counter p s (state_after_completion p s) (guessed_state p s).ic (completed-past p s h m free))

@@ -1,4 +1,5 @@
--- What an entry that is not done alone leaves of a state, so that entries behind it can be prepared before it is done.
+-- What an entry that is not done alone leaves of a state, so that entries behind it can be prepared
+-- before it is done.
 use Rattle.std.specs.Prelude.{ℕ, ◌≡◌, ◌+◌, ◌<◌, ◌≤◌, ◌⊎◌, Bool, true, false, length}
 use Rattle.st_format.specs.declared.instruction.Instr.{Instr}
 use Rattle.st_format.specs.declared.instruction.Instr.TheVariants.{IndBranch}
@@ -13,8 +14,8 @@ pub record IsNotAmong (i : ℕ) (w : Words) : Type 0 where
   pub first : (i < w.first) ⊎ (w.first + w.len ≤ i)
   pub second : (i < w.first2) ⊎ (w.first2 + w.len2 ≤ i)
 
--- a state after an entry: the index words of its early change, each word from 32 up that it does not write, the
--- boundary register and the mask, the marks and the orders, and one more done
+-- a state after an entry: the index words of its early change, each word from 32 up that it does
+-- not write, the boundary register and the mask, the marks and the orders, and one more done
 pub record IsPast (p : Prepared) (s t : Machine) : Type 0 where
   pub size : length t.words ≡ length s.words
   pub index : index_words t ≡ words_after (index_words s) p.index

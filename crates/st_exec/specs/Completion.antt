@@ -1,27 +1,28 @@
--- What an entry that is prepared makes of a state: its early change, its deed, and the counter after it.
+-- What an entry that is prepared makes of a state: its early change, its effect, and the counter
+-- after it.
 use Rattle.std.specs.Prelude.{ℕ, ◌+◌, ◌%◌, Bool, false, not, ◌&&◌, ◌==◌, if◌then◌else◌, Option, None, Some}
 use Rattle.st_bits.specs.Bits.{part}
 use Rattle.st_format.specs.Formats.{bit_of}
 use Rattle.st_format.specs.declared.instruction.Instr.{Instr}
 use Rattle.st_format.specs.declared.instruction.Instr.TheVariants.{BitBranch, IndBranch}
-use Rattle.st_state.specs.Machine.{Machine, word, stored}
-use Rattle.st_state.specs.Interrupts.{applied}
+use Rattle.st_state.specs.Machine.{Machine, word, state_with_store}
+use Rattle.st_state.specs.Interrupts.{state_with_indicators}
 use Rattle.st_prep.specs.declared.entries.IndexChange.{IndexChange}
 use Rattle.st_prep.specs.declared.entries.Prepared.{Prepared}
-use Rattle.st_prep.specs.Plan.{opened, plan}
+use Rattle.st_prep.specs.Plan.{state_at_entry, plan}
 use Rattle.st_exec.specs.Operand.{field_at}
-use Rattle.st_exec.specs.Deed.{deed, carried_out}
+use Rattle.st_exec.specs.Effect.{effect, carried_out}
 
 -- ---- before the operands are read
 
 -- an index word is changed
 abbrev pub with_change : Option IndexChange → Machine → Machine
 with_change None s = s
-with_change (Some c) s = stored s (16 + c.number) c.word
+with_change (Some c) s = state_with_store s (16 + c.number) c.word
 
 -- and then the indicators, or the one of a fault
-unfoldable pub early : Prepared → Machine → Machine
-early p s = applied p.ind (with_change p.index s)
+unfoldable pub state_with_early_changes : Prepared → Machine → Machine
+state_with_early_changes p s = state_with_indicators p.ind (with_change p.index s)
 
 -- ---- the counter
 
@@ -41,35 +42,38 @@ abbrev pub counter : Prepared → Machine → ℕ
 counter p t = if is_taken p.instr p.e t then target p.instr p.following else p.following
 
 -- an instruction is done, and the counter is h
-abbrev pub counted : Machine → ℕ → Machine
-counted s h = record s { ic = h; done = s.done + 1 }
+abbrev pub state_counted_on : Machine → ℕ → Machine
+state_counted_on s h = record s { ic = h; done = s.done + 1 }
 
 -- ---- the whole
 
--- the deed, and then the counter; of a suppressed entry the counter alone
-unfoldable pub finished : Prepared → Machine → Machine
-finished p t =
-    if p.suppressed then counted t p.following
-    else counted (carried_out (deed p t) t) (counter p t)
+-- the effect, and then the counter; of a suppressed entry the counter alone
+unfoldable pub state_after_effect : Prepared → Machine → Machine
+state_after_effect p t =
+    if p.suppressed then state_counted_on t p.following
+    else state_counted_on (carried_out (effect p t) t) (counter p t)
 
 -- an entry is completed; where it is a table instruction, its interrupt is taken first
-unfoldable pub completed : Prepared → Machine → Machine
-completed p s = finished p (early p (opened p.place.table s))
+unfoldable pub state_after_completion : Prepared → Machine → Machine
+state_after_completion p s = state_after_effect p (state_with_early_changes p
+    (state_at_entry p.place.table s))
 
 -- the next entry of a state, or its table instruction, is executed
-abbrev pub executed : Option ℕ → Machine → Machine
-executed table s = completed (plan s table) s
+abbrev pub state_after_execution : Option ℕ → Machine → Machine
+state_after_execution table s = state_after_completion (plan s table) s
 
 -- ---- the guess that the next entry is prepared by
 
 -- a branch on an indicator is not taken; entries that are done alone need no guess
-unfoldable pub guessed : Prepared → Machine → Machine
-guessed p s = if p.serial then completed p s else record (completed p s) { ic = p.following }
+unfoldable pub guessed_state : Prepared → Machine → Machine
+guessed_state p s = if p.serial then state_after_completion p s
+    else record (state_after_completion p s) { ic = p.following }
 
 abbrev pub guess : Option ℕ → Machine → Machine
-guess table s = guessed (plan s table) s
+guess table s = guessed_state (plan s table) s
 
 -- whether the guess was wrong
 unfoldable pub is_missed : Prepared → Machine → Bool
 is_missed p s =
-    not p.serial && not p.suppressed && is_taken p.instr p.e (early p (opened p.place.table s))
+    not p.serial && not p.suppressed && is_taken p.instr p.e
+    (state_with_early_changes p (state_at_entry p.place.table s))

@@ -13,14 +13,17 @@ pub record AreOperands (w : Words) (operands : List ℕ) (s : Machine) : Type 0 
   pub second : (k : ℕ) → k < w.len2 → slice_index operands (w.len + k) ≡ word s (w.first2 + k)
 
 -- the same of the first two words: all but transmissions read no more
-pub record AreFirst (w : Words) (operands : List ℕ) (s : Machine) : Type 0 where
+pub record AreFirstOperands (w : Words) (operands : List ℕ) (s : Machine) : Type 0 where
   pub first : (k : ℕ) → k < 2 → k < w.len → slice_index operands k ≡ word s (w.first + k)
 
--- and of those of them above the registers, which the entry itself may change before its operands are read
+-- and of those of them above the registers, which the entry itself may change before its operands
+-- are read
 pub record AreRead (w : Words) (operands : List ℕ) (t : Machine) : Type 0 where
-  pub first : (k : ℕ) → k < 2 → k < w.len → 32 ≤ w.first + k → slice_index operands k ≡ word t (w.first + k)
+  pub first : (k : ℕ) → k < 2 → k < w.len → 32 ≤ w.first + k → slice_index operands k
+      ≡ word t (w.first + k)
 
--- the words that an operation on a field of n bits at e takes: none where it does not read its field
+-- the words that an operation on a field of n bits at e takes: none where it does not read its
+-- field
 abbrev pub taken_words : VflOp → ℕ → ℕ → ℕ → Words
 taken_words op p e n = if reads_field op then operand_words p e n else no_words
 
@@ -29,8 +32,8 @@ abbrev pub field_at : Machine → ℕ → ℕ → ℕ
 field_at s a n = num (field (all_bits s.words) a n)
 
 -- the operand of n bits at bit e; in form 1 it is the first n bits of e itself, which has 24 bits
-abbrev pub operand : ℕ → ℕ → ℕ → Machine → ℕ
-operand p e n s = if p == 1 then part e 40 n else field_at s e n
+abbrev pub operand_bits : ℕ → ℕ → ℕ → Machine → ℕ
+operand_bits p e n s = if p == 1 then part e 40 n else field_at s e n
 
 -- the accumulator and its sign byte
 abbrev pub accumulator : Machine → Acc

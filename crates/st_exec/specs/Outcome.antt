@@ -1,10 +1,11 @@
--- What an operation on a field leaves in the accumulator, the other registers, the indicators and the field.
+-- What an operation on a field leaves in the accumulator, the other registers, the indicators and
+-- the field.
 use Rattle.std.specs.Prelude.{ℕ, ◌*◌, ◌/◌, ◌%◌, ◌^◌, Bool, true, false, if◌then◌else◌, Option, None, Some}
 use Rattle.st_bits.specs.Bits.{bits}
 use Rattle.st_bits.specs.declared.operations.ConnKind.{ConnKind}
 use Rattle.st_bits.specs.declared.operations.VflOp.{VflOp}
-use Rattle.st_state.specs.Machine.{Machine, word, stored, placed}
-use Rattle.st_state.specs.Interrupts.{applied}
+use Rattle.st_state.specs.Machine.{Machine, word, state_with_store, state_with_bits}
+use Rattle.st_state.specs.Interrupts.{state_with_indicators}
 use Rattle.st_field.specs.declared.accumulator.Acc.{Acc}
 use Rattle.st_field.specs.declared.fields.Shape.{Shape}
 use Rattle.st_field.specs.declared.outcome.Done.{Done}
@@ -12,7 +13,7 @@ use Rattle.st_bin.specs.BinaryResult.{result as binary_result}
 use Rattle.st_dec.specs.DecimalResult.{result as decimal_result}
 use Rattle.st_conn.specs.Connection.{connection}
 use Rattle.st_prep.specs.Entry.{reads_field}
-use Rattle.st_exec.specs.Operand.{operand, accumulator}
+use Rattle.st_exec.specs.Operand.{operand_bits, accumulator}
 
 -- ---- the result
 
@@ -27,8 +28,8 @@ shape_of u n length byte offset = record {
 }
 
 -- ST does not read its field
-abbrev pub taken : VflOp → ℕ → ℕ → ℕ → Machine → ℕ
-taken op p e n t = if reads_field op then operand p e n t else 0
+abbrev pub bits_taken : VflOp → ℕ → ℕ → ℕ → Machine → ℕ
+bits_taken op p e n t = if reads_field op then operand_bits p e n t else 0
 
 -- the result, decimal or binary; ft is the factor register and ind the indicators
 abbrev pub result_by : Bool → VflOp → Acc → ℕ → Shape → ℕ → ℕ → Done
@@ -36,25 +37,27 @@ result_by false op a x h ft ind = binary_result op a x h ft ind
 result_by true op a x h ft ind = decimal_result op a x h ind
 
 -- an operation on the field at bit e
-unfoldable pub operated : Bool → VflOp → Shape → ℕ → ℕ → Machine → Done
-operated d op h p e t =
-    result_by d op (accumulator t) (taken op p e h.length t) h (word t 14) (word t 11)
+unfoldable pub operation_outcome : Bool → VflOp → Shape → ℕ → ℕ → Machine → Done
+operation_outcome d op h p e t =
+    result_by d op (accumulator t) (bits_taken op p e h.length t) h (word t 14) (word t 11)
 
 -- a connective of it
 unfoldable pub connects : ConnKind → ℕ → ℕ → ℕ → ℕ → ℕ → Machine → Done
-connects kind table p e offset n t = connection kind table (accumulator t) offset (operand p e n t) n
+connects kind table p e offset n t = connection kind table (accumulator t) offset
+    (operand_bits p e n t) n
 
 -- ---- what it leaves
 
 -- a register, where something is left for it
 abbrev pub with_register : ℕ → Option ℕ → Machine → Machine
 with_register w None t = t
-with_register w (Some x) t = stored t w x
+with_register w (Some x) t = state_with_store t w x
 
 -- the accumulator in words 8 and 9, and the sign byte in word 10
 abbrev pub with_accumulator : Acc → Machine → Machine
 with_accumulator a t =
-    stored (stored (stored t 8 (a.mag / 2 ^ 64)) 9 (a.mag % 2 ^ 64)) 10 (a.sb * 2 ^ 56)
+    state_with_store (state_with_store (state_with_store t 8 (a.mag / 2 ^ 64)) 9
+    (a.mag % 2 ^ 64)) 10 (a.sb * 2 ^ 56)
 
 -- all the registers
 unfoldable pub with_registers : Done → Machine → Machine
@@ -66,8 +69,8 @@ with_registers o t =
 -- the n bits of storage from bit a on, where the field is written
 abbrev pub with_field : Option ℕ → ℕ → ℕ → Machine → Machine
 with_field None a n t = t
-with_field (Some x) a n t = placed t a (bits n x)
+with_field (Some x) a n t = state_with_bits t a (bits n x)
 
 -- registers and indicators first, and then the field
 unfoldable pub with_result : Done → ℕ → ℕ → Machine → Machine
-with_result o a n t = with_field o.field a n (applied o.ind (with_registers o t))
+with_result o a n t = with_field o.field a n (state_with_indicators o.ind (with_registers o t))

@@ -3,7 +3,7 @@ use Rattle.std.specs.Prelude.{ℕ, ◌≡◌, Bool, true, false, ◌&&◌, is_no
 use Rattle.st_state.specs.Machine.{Machine}
 use Rattle.st_state.specs.Interrupts.{pending}
 use Rattle.st_prep.specs.Fetch.{address_by}
-use Rattle.st_exec.specs.Completion.{executed}
+use Rattle.st_exec.specs.Completion.{state_after_execution}
 use Rattle.st_exec.specs.declared.step.Step.{Step}
 use Rattle.st_exec.specs.declared.step.Step.TheVariants.{Plain, Interrupt, Waits}
 
@@ -13,7 +13,7 @@ interrupt s = if s.enabled then pending s else None
 
 -- the next step: the instruction at the counter, or the table instruction of an interrupt
 unfoldable pub step : Machine → Machine
-step s = executed (interrupt s) s
+step s = state_after_execution (interrupt s) s
 
 -- the address of the instruction that the next step executes
 unfoldable pub address : Machine → ℕ

@@ -10,8 +10,9 @@ use Rattle.st_exec.specs.declared.kept.Trail.{Trail}
 use Rattle.st_exec.specs.declared.step.Step.{Step}
 use Rattle.st_exec.specs.declared.step.Step.TheVariants.{Plain, Interrupt, Waits}
 
--- a trail of the next step of a state: what the entry reads and writes, what the words that it writes hold before it, and the
--- registers, the number done, the counter, the marks and the orders before it
+-- a trail of the next step of a state: what the entry reads and writes, what the words that it
+-- writes hold before it, and the registers, the number done, the counter, the marks and the orders
+-- before it
 pub record IsTrail (s : Machine) (t : Trail) : Type 0 where
   pub index_read : t.index_read ≡ (needs (sight s (place_of s (interrupt s)))).index_read
   pub reads : t.reads ≡ (plan s (interrupt s)).reads
@@ -25,7 +26,8 @@ pub record IsTrail (s : Machine) (t : Trail) : Type 0 where
   pub reader : t.reader ≡ s.reader
   pub printer : t.printer ≡ s.printer
 
--- what can be put back: the words lie in storage, the counter is one, and the areas of orders lie in storage
+-- what can be put back: the words lie in storage, the counter is one, and the areas of orders lie
+-- in storage
 pub record CanBePutBack (t : Trail) : Type 0 where
   pub runs : IsRuns t.writes
   pub inside : AreInside t.writes
@@ -34,7 +36,7 @@ pub record CanBePutBack (t : Trail) : Type 0 where
   pub printer_area : HasArea t.printer
 
 -- what a call of `one_kept` kept, by its answer
-abbrev pub IsKept : Machine → Trail → Trail → Step → Type 0
-IsKept s old new Waits = new ≡ old
-IsKept s old new Plain = IsTrail s new × CanBePutBack new
-IsKept s old new (Interrupt i) = IsTrail s new × CanBePutBack new
+abbrev pub IsKeptStep : Machine → Trail → Trail → Step → Type 0
+IsKeptStep s old new Waits = new ≡ old
+IsKeptStep s old new Plain = IsTrail s new × CanBePutBack new
+IsKeptStep s old new (Interrupt i) = IsTrail s new × CanBePutBack new

@@ -3,12 +3,12 @@ ghost use Rattle.std.specs.Prelude.{◌≡◌, ℕ, ◌<◌, ◌^◌, false, Opt
 ghost use Rattle.st_prep.specs.Entry.{reads};
 ghost use Rattle.st_prep.specs.Plan.{plan};
 ghost use Rattle.st_prep.specs.Ranges.{IsPrepared, HasFields, AreInside};
-ghost use Rattle.st_exec.specs.Operand.{AreOperands, AreFirst, AreRead};
-ghost use Rattle.st_exec.specs.Completion.{is_taken as is_taken_of, target as target_of, counter as counter_of, counted, finished, completed, executed};
+ghost use Rattle.st_exec.specs.Operand.{AreOperands, AreFirstOperands, AreRead};
+ghost use Rattle.st_exec.specs.Completion.{is_taken as is_taken_of, target as target_of, counter as counter_of, state_counted_on, state_after_effect, state_after_completion, state_after_execution};
 
-use crate::deeds::deed_by;
+use crate::carrying::carry_out;
 use crate::early::{change_early, take};
-use crate::effects::carry_out;
+use crate::effects::effect_by;
 use crate::operands::{first_operands, operand_field};
 use st_bits::part;
 use st_bits::register::INDICATORS;
@@ -67,59 +67,60 @@ fn counter(p: &Prepared, operands: &[u64; 2], state: &State) -> u32
 fn count(state: &mut State, h: u32)
     requires counter { h < 2 ^ 19 }
     requires few { state.old.done < 2 ^ 63 }
-    ensures { state.new ≡ counted state.old h }
+    ensures { state.new ≡ state_counted_on state.old h }
 {
     state.ic = h;
     state.done += 1;
 }
 
 // Does what an entry does once its operands are there.
-#[tactic(auto, unfolding(crate::specs::Completion::finished))]
+#[tactic(auto, unfolding(crate::specs::Completion::state_after_effect))]
 fn finish(p: &Prepared, operands: &[u64; 2], state: &mut State)
     requires prepared { IsPrepared p.now }
     requires read { AreRead p.now.reads operands.now state.old }
     requires few { state.old.done < 2 ^ 63 }
-    ensures { state.new ≡ finished p.now state.old }
+    ensures { state.new ≡ state_after_effect p.now state.old }
 {
     if p.suppressed {
         count(state, p.following);
         return;
     }
     let counter = counter(p, operands, state);
-    let deed = deed_by(&p.instr, p.e, p.value, operands, state);
-    carry_out(&deed, state);
+    let effect = effect_by(&p.instr, p.e, p.value, operands, state);
+    carry_out(&effect, state);
     count(state, counter);
 }
 
-/// Completes an entry that is prepared, of which the first two operands are given: its early change, then what it does,
-/// then the counter.
+/// Completes an entry that is prepared, of which the first two operands are given: its early
+/// change, then what it does, then the counter.
 #[inline(never)]
-#[tactic(auto, unfolding(crate::specs::Completion::completed))]
+#[tactic(auto, unfolding(crate::specs::Completion::state_after_completion))]
 pub fn complete_with(p: &Prepared, operands: &[u64; 2], state: &mut State)
     requires prepared { IsPrepared p.now }
-    requires operands { AreFirst p.now.reads operands.now state.old }
+    requires operands { AreFirstOperands p.now.reads operands.now state.old }
     requires few { state.old.done < 2 ^ 63 }
-    ensures { state.new ≡ completed p.now state.old }
+    ensures { state.new ≡ state_after_completion p.now state.old }
 {
     take(p.place.table, state);
     change_early(p, state);
     finish(p, operands, state);
 }
 
-/// Completes an entry that is prepared: its early change, then what it does, then the counter. The first
-/// `p.reads.len` operands, and the `p.reads.len2` behind them, are the words that `p` says it reads, as they stand in the
-/// state; where one of them is a register that the entry itself has changed, it is taken as that change leaves it. It gives
-/// the words that are written.
+/// Completes an entry that is prepared: its early change, then what it does, then the counter. The
+/// first `p.reads.len` operands, and the `p.reads.len2` behind them, are the words that `p` says it
+/// reads, as they stand in the state; where one of them is a register that the entry itself has
+/// changed, it is taken as that change leaves it. It gives the words that are written.
 #[inline(always)]
 pub fn complete(p: &Prepared, operands: &[u64; 32], state: &mut State) -> Words
     requires prepared { IsPrepared p.now }
     requires operands { AreOperands p.now.reads operands.now state.old }
     requires few { state.old.done < 2 ^ 63 }
-    ensures state { state.new ≡ completed p.now state.old }
+    ensures state { state.new ≡ state_after_completion p.now state.old }
     ensures written { result ≡ p.now.writes }
 
     // The next entry of the state, or its table instruction, is executed by it.
-    ensures step { (t : Option ℕ) → p.now ≡ plan state.old t → state.new ≡ executed t state.old }
+    ensures step { (t : Option ℕ) → p.now ≡ plan state.old t → state.new
+        ≡ state_after_execution t state.old }
 {
     complete_with(p, &[operands[0], operands[1]], state);
     p.writes
@@ -130,10 +131,11 @@ pub fn complete(p: &Prepared, operands: &[u64; 32], state: &mut State) -> Words
 pub fn complete_in(p: &Prepared, state: &mut State)
     requires prepared { IsPrepared p.now }
     requires few { state.old.done < 2 ^ 63 }
-    ensures state { state.new ≡ completed p.now state.old }
+    ensures state { state.new ≡ state_after_completion p.now state.old }
 
     // The next entry of the state, or its table instruction, is executed by it.
-    ensures step { (t : Option ℕ) → p.now ≡ plan state.old t → state.new ≡ executed t state.old }
+    ensures step { (t : Option ℕ) → p.now ≡ plan state.old t → state.new
+        ≡ state_after_execution t state.old }
 {
     let operands = first_operands(&p.reads, state);
     complete_with(p, &operands, state);

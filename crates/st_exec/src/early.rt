@@ -1,8 +1,8 @@
 //! What is done before the operands of an entry are read.
 ghost use Rattle.std.specs.Prelude.{◌≡◌, ◌<◌, IfSome};
-ghost use Rattle.st_prep.specs.Plan.{opened};
+ghost use Rattle.st_prep.specs.Plan.{state_at_entry};
 ghost use Rattle.st_prep.specs.Ranges.{IsPrepared};
-ghost use Rattle.st_exec.specs.Completion.{with_change, early as early_of};
+ghost use Rattle.st_exec.specs.Completion.{with_change, state_with_early_changes as early_of};
 
 use st_bits::register::FIRST_INDEX_WORD;
 use st_bits::{Ind, indicator};
@@ -12,7 +12,7 @@ use st_state::State;
 /// Takes the interrupt that executes a table instruction: its indicator goes off, and a wait ends.
 pub fn take(table: Option<u8>, state: &mut State)
     requires { IfSome table (λ i. i < 64) }
-    ensures { state.new ≡ opened table state.old }
+    ensures { state.new ≡ state_at_entry table state.old }
 {
     let Some(i) = table else {
         return;
@@ -35,7 +35,7 @@ fn change_index(index: Option<IndexChange>, state: &mut State)
 }
 
 /// Makes the early change of an entry.
-#[tactic(auto, unfolding(crate::specs::Completion::early))]
+#[tactic(auto, unfolding(crate::specs::Completion::state_with_early_changes))]
 pub fn change_early(p: &Prepared, state: &mut State)
     requires { IsPrepared p.now }
     ensures { state.new ≡ early_of p.now state.old }

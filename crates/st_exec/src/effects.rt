@@ -1,122 +1,228 @@
-//! What a deed makes of a state.
-ghost use Rattle.std.specs.Prelude.{◌≡◌, ◌*◌, ◌<◌, IfSome};
-ghost use Rattle.st_field.specs.declared.accumulator.Acc.{Acc};
-ghost use Rattle.st_state.specs.Machine.{HasArea};
-ghost use Rattle.st_exec.specs.Outcome.{with_register, with_accumulator, with_registers, with_field, with_result};
-ghost use Rattle.st_exec.specs.Deed.{IsField, CanBeDone, order_of as order_by, with_order, given, carried_out};
+//! What an operation does once its operands are there.
+ghost use Rattle.std.specs.Prelude.{◌≡◌, ◌+◌, ◌*◌, ◌/◌, ◌<◌, ◌≤◌, ◌^◌, true};
+ghost use Rattle.st_bits.specs.Storage.{words_of_storage};
+ghost use Rattle.st_state.specs.declared.devices.Order.{Order};
+ghost use Rattle.st_prep.specs.Entry.{is_index_store, reads, words_written};
+ghost use Rattle.st_prep.specs.Ranges.{HasFields, AreInside, FitsPart, IsStored, HasRoomInStorage};
+ghost use Rattle.st_exec.specs.Operand.{AreRead};
+ghost use Rattle.st_exec.specs.Effect.{index_effect as index_effect_of, branch_effect as branch_effect_of, move_effect as move_effect_of, bit_effect as bit_effect_of, indicator_effect as indicator_effect_of, order_effect as order_effect_of, effect_of, AreRuns, CanBeDone};
 
-use crate::deeds::Deed;
-use crate::transmission::{copy, exchange};
-use st_bits::indicators::CHANNEL_BUSY_REJECT;
-use st_bits::register::{COUNTS, FACTOR, LEFT_HALF, REMAINDER, RIGHT_HALF, SIGN_BYTE, TRANSIT};
-use st_bits::{Ind, indicator};
-use st_field::{Acc, Done};
+use crate::fields::{connect_field, operate};
+use crate::operands::operand_field;
+use st_bits::{BranchOp, HalfOp};
+use st_field::{Done, Shape};
+use st_format::Instr;
 use st_state::{Order, State};
 
-// The order that a device has: the printer where `write` says so.
-fn order_of(write: bool, state: &State) -> Option<Order>
-    ensures { result ≡ order_by write state.now }
-{
-    if write { state.printer } else { state.reader }
+/// What an operation does once its operands are there.
+#[derive(Clone, Copy, Debug, PartialEq, Eq)]
+pub enum Effect {
+    /// Nothing.
+    Rest,
+    /// The number `bits`, below 2^length, is put into the `length` bits, 1 to 64, from the bit
+    /// address `at` on.
+    Put { at: u32, length: u8, bits: u64 },
+    /// `count` words from one word address on are copied to those from another on, one after the
+    /// other.
+    Copy { from: u32, to: u32, count: u8 },
+    /// They are exchanged, one after the other.
+    Exchange { from: u32, to: u32, count: u8 },
+    /// An indicator, 0 to 63, goes off.
+    TurnOff { indicator: u8 },
+    /// Interrupts are enabled, or disabled.
+    Enable { enabled: bool },
+    /// Interrupts are enabled, and the machine waits.
+    Wait,
+    /// The reader, or the printer where `write` says so, is given an order.
+    Give { write: bool, order: Order },
+    /// An operation on a field leaves its result in registers, indicators, and the field at the bit
+    /// address `at`.
+    Leave { left: Done, at: u32, length: u8 },
 }
 
-// Gives a device an order, in place of any that it had.
-fn put_order(write: bool, order: Order, state: &mut State)
-    requires { HasArea (Some order) }
-    ensures { state.new ≡ with_order write order state.old }
+// An index store puts `value`, an index word or a part of it, into the word or the half-word at the
+// address `e`.
+fn index_effect(op: HalfOp, e: u32, value: u64) -> Effect
+    requires address { e < 2 ^ 24 }
+    requires part { FitsPart op value }
+    requires inside { is_index_store op ≡ true → e / 64 < words_of_storage }
+    ensures value { result ≡ index_effect_of op e value }
+    ensures can { CanBeDone result }
 {
-    if write {
-        state.printer = Some(order);
+    let word = 64 * (e / 64);
+    let (at, length) = match op {
+        HalfOp::Sx => (word, 64),
+        HalfOp::Sv => (word, 25),
+        HalfOp::Sc => (word + 28, 18),
+        HalfOp::Sr => (word + 46, 18),
+        HalfOp::Sva => (32 * (e / 32), 19),
+        _ => return Effect::Rest,
+    };
+    Effect::Put {
+        at,
+        length,
+        bits: value,
+    }
+}
+
+// A branch enables or disables interrupts, or waits.
+fn branch_effect(op: BranchOp) -> Effect
+    ensures value { result ≡ branch_effect_of op }
+    ensures can { CanBeDone result }
+{
+    match op {
+        BranchOp::Be => Effect::Enable { enabled: true },
+        BranchOp::Bd => Effect::Enable { enabled: false },
+        BranchOp::Bew => Effect::Wait,
+        BranchOp::B | BranchOp::Br | BranchOp::Nop => Effect::Rest,
+    }
+}
+
+// Words are copied or exchanged.
+fn move_effect(swap: bool, from: u32, to: u32, count: u8) -> Effect
+    requires { AreRuns from to count }
+    ensures value { result ≡ move_effect_of swap from to count }
+    ensures can { CanBeDone result }
+{
+    if swap {
+        Effect::Exchange { from, to, count }
     } else {
-        state.reader = Some(order);
+        Effect::Copy { from, to, count }
     }
 }
 
-// Gives a device an order, unless it has one.
-fn give(write: bool, order: Order, state: &mut State)
-    requires { HasArea (Some order) }
-    ensures { state.new ≡ given write order state.old }
+// A bit, which is `bit`, is left, becomes zero, becomes one, or is inverted.
+fn bit_effect(change: u8, e: u32, bit: u64) -> Effect
+    requires change { change < 4 }
+    requires inside { e + 1 ≤ 64 * words_of_storage }
+    requires bit { bit < 2 }
+    ensures value { result ≡ bit_effect_of change e bit }
+    ensures can { CanBeDone result }
 {
-    if order_of(write, state).is_some() {
-        state.signal(CHANNEL_BUSY_REJECT);
-    } else {
-        put_order(write, order, state);
+    let bits = match change {
+        0 => return Effect::Rest,
+        1 => 0,
+        2 => 1,
+        _ if bit == 0 => 1,
+        _ => 0,
+    };
+    Effect::Put {
+        at: e,
+        length: 1,
+        bits,
     }
 }
 
-// Writes a register, where something is left for it.
-fn put_register(w: u32, value: Option<u64>, state: &mut State)
-    requires { w < 32 }
-    ensures { state.new ≡ with_register w value state.old }
+// An indicator is turned off, where it is to be.
+fn indicator_effect(off: bool, e: u32) -> Effect
+    ensures value { result ≡ indicator_effect_of off e }
+    ensures can { CanBeDone result }
 {
-    if let Some(value) = value {
-        state.store(w, value);
-    }
-}
-
-// Writes the accumulator and its sign byte.
-fn put_accumulator(acc: &Acc, state: &mut State)
-    ensures { state.new ≡ with_accumulator acc.now state.old }
-{
-    state.store(LEFT_HALF, (acc.mag / (1 << 64)) as u64);
-    state.store(RIGHT_HALF, (acc.mag % (1 << 64)) as u64);
-    state.store(SIGN_BYTE, u64::from(acc.sb) * (1 << 56));
-}
-
-// Writes the registers.
-#[tactic(auto, unfolding(crate::specs::Outcome::with_registers))]
-fn put_registers(left: &Done, state: &mut State)
-    ensures { state.new ≡ with_registers left.now state.old }
-{
-    put_accumulator(&left.acc, state);
-    put_register(REMAINDER, left.rm, state);
-    put_register(FACTOR, left.ft, state);
-    put_register(TRANSIT, left.tr, state);
-    put_register(COUNTS, left.counts, state);
-}
-
-// Writes the `n` bits of the field at the bit address `a`, where it is written.
-fn put_field(field: Option<u64>, a: u32, n: u8, state: &mut State)
-    requires { IfSome field (IsField a n) }
-    ensures { state.new ≡ with_field field a n state.old }
-{
-    if let Some(bits) = field {
-        state.put_field(a, n, bits);
-    }
-}
-
-// Leaves what an operation on a field makes: registers and indicators first, and then the field.
-#[tactic(auto, unfolding(crate::specs::Outcome::with_result))]
-fn leave(left: &Done, a: u32, n: u8, state: &mut State)
-    requires { IfSome left.now.field (IsField a n) }
-    ensures { state.new ≡ with_result left.now a n state.old }
-{
-    put_registers(left, state);
-    state.apply(left.ind);
-    put_field(left.field, a, n, state);
-}
-
-/// Does a deed.
-#[tactic(auto, unfolding(crate::specs::Deed::carried_out))]
-pub fn carry_out(deed: &Deed, state: &mut State)
-    requires { CanBeDone deed.now }
-    ensures { state.new ≡ carried_out deed.now state.old }
-{
-    match *deed {
-        Deed::Rest => (),
-        Deed::Put { at, length, bits } => state.put_field(at, length, bits),
-        Deed::Copy { from, to, count } => copy(from, to, count, state),
-        Deed::Exchange { from, to, count } => exchange(from, to, count, state),
-        Deed::TurnOff { indicator: i } => state.apply(Ind {
-            on: 0,
-            off: indicator(i),
-        }),
-        Deed::Enable { enabled } => state.enabled = enabled,
-        Deed::Wait => {
-            state.enabled = true;
-            state.waiting = true;
+    if off {
+        Effect::TurnOff {
+            indicator: (e % 64) as u8,
         }
-        Deed::Give { write, order } => give(write, order, state),
-        Deed::Leave { left, at, length } => leave(&left, at, length, state),
+    } else {
+        Effect::Rest
+    }
+}
+
+// An order is given, which is due `count` instructions after this one, when `done` were done before
+// it.
+fn order_effect(write: bool, e: u32, count: u32, done: u64) -> Effect
+    requires above { 32 ≤ e / 64 }
+    requires inside { e / 64 + 8 ≤ words_of_storage }
+    requires few { done < 2 ^ 63 }
+    ensures value { result ≡ order_effect_of write e count done }
+    ensures can { CanBeDone result }
+{
+    Effect::Give {
+        write,
+        order: Order {
+            word: e / 64,
+            due: done + 1 + u64::from(count),
+        },
+    }
+}
+
+/// What an instruction with the effective address `e` does, which stores `value` where it is an
+/// index store or SIC. The operands are the words that it reads; a register among them is read
+/// anew.
+#[tactic(auto, unfolding(crate::specs::Effect::effect_of))]
+pub fn effect_by(instr: &Instr, e: u32, value: u64, operands: &[u64; 2], state: &State) -> Effect
+    requires fields { HasFields instr.now }
+    requires address { e < 2 ^ 24 }
+    requires part { IsStored instr.now value }
+    requires inside { AreInside (reads instr.now e) }
+    requires written_inside { AreInside (words_written instr.now e) }
+    requires area { HasRoomInStorage instr.now e }
+    requires read { AreRead (reads instr.now e) operands.now state.now }
+    requires few { state.now.done < 2 ^ 63 }
+
+    ensures value { result ≡ effect_of instr.now e value state.now }
+    ensures can { CanBeDone result }
+{
+    match *instr {
+        Instr::Half { op, .. } => index_effect(op, e, value),
+        Instr::Branch { op, .. } => branch_effect(op),
+        Instr::Vfl {
+            op,
+            decimal,
+            p,
+            length,
+            byte,
+            unsigned,
+            negated,
+            offset,
+            ..
+        } => {
+            let shape = Shape {
+                length,
+                byte,
+                unsigned,
+                negated,
+                offset,
+            };
+            let left = operate(decimal, op, &shape, p, e, operands, state);
+            Effect::Leave {
+                left,
+                at: e,
+                length,
+            }
+        }
+        Instr::Connect {
+            kind,
+            table,
+            p,
+            length,
+            offset,
+            ..
+        } => {
+            let left = connect_field(kind, table, p, e, offset, length, operands, state);
+            Effect::Leave {
+                left,
+                at: e,
+                length,
+            }
+        }
+        Instr::Move {
+            swap,
+            second,
+            count,
+            ..
+        } => move_effect(swap, e / 64, second / 2, count),
+        Instr::BitBranch { change, .. } => bit_effect(
+            change,
+            e,
+            operand_field(operands, e, 1, state),
+        ),
+        Instr::IndBranch { off, .. } => indicator_effect(off, e),
+        Instr::StoreCounter { .. } => Effect::Put {
+            at: 32 * (e / 32),
+            length: 19,
+            bits: value,
+        },
+        Instr::Transfer { write, count, .. } => order_effect(write, e, count, state.done),
+        Instr::Floating { .. } | Instr::Invalid { .. } => Effect::Rest,
     }
 }

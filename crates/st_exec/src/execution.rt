@@ -3,7 +3,7 @@ ghost use Rattle.std.specs.Prelude.{◌≡◌, ℕ, ◌+◌, ◌-◌, ◌<◌, �
 ghost use Rattle.st_state.specs.Machine.{word as word_of};
 ghost use Rattle.st_prep.specs.Ranges.{IsRuns, AreInside};
 ghost use Rattle.st_exec.specs.Operand.{AreOperands};
-ghost use Rattle.st_exec.specs.Completion.{executed};
+ghost use Rattle.st_exec.specs.Completion.{state_after_execution};
 
 use crate::completing::complete_in;
 use st_prep::{Prepared, Words, plan_in};
@@ -29,7 +29,8 @@ fn operand_at(words: Words, k: u8, state: &State) -> u64
     }
 }
 
-/// The operand words that are named, in order, as they stand in the state. The places behind them hold 0.
+/// The operand words that are named, in order, as they stand in the state. The places behind them
+/// hold 0.
 pub fn read_operands(words: Words, state: &State) -> [u64; 32]
     requires runs { IsRuns words }
     requires inside { AreInside words }
@@ -43,11 +44,12 @@ pub fn read_operands(words: Words, state: &State) -> [u64; 32]
     operands
 }
 
-/// Executes the next entry of a state, or the table instruction of an interrupt by the indicator in `table`.
+/// Executes the next entry of a state, or the table instruction of an interrupt by the indicator in
+/// `table`.
 pub fn execute(table: Option<u8>, state: &mut State)
     requires indicator { IfSome table (λ i. i < 64) }
     requires few { state.old.done < 2 ^ 63 }
-    ensures { state.new ≡ executed table state.old }
+    ensures { state.new ≡ state_after_execution table state.old }
 {
     let mut p = Prepared::default();
     plan_in(table, state, &mut p);

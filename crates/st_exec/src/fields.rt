@@ -1,14 +1,14 @@
 //! Operations on fields, and connectives.
 ghost use Rattle.std.specs.Prelude.{◌≡◌, ◌+◌, ◌*◌, ◌<◌, ◌≤◌, ◌^◌, IfSome, if◌then◌else◌, true};
-ghost use Rattle.st_field.specs.Fields.{IsShape};
+ghost use Rattle.st_field.specs.Fields.{IsBinaryShape};
 ghost use Rattle.st_dec.specs.DecimalOperand.{IsDecimalShape};
 ghost use Rattle.st_format.specs.Operations.{writes_field};
 ghost use Rattle.st_format.specs.declared.operations.FullOp.{FullOp};
 ghost use Rattle.st_prep.specs.Entry.{no_words, field_words, operand_words};
 ghost use Rattle.st_prep.specs.Ranges.{AreInside};
-ghost use Rattle.st_exec.specs.Operand.{AreRead, taken_words, operand as operand_of, accumulator as accumulator_of};
-ghost use Rattle.st_exec.specs.Outcome.{taken as taken_of, result_by as result_by_of, operated, connects};
-ghost use Rattle.st_exec.specs.Deed.{IsField};
+ghost use Rattle.st_exec.specs.Operand.{AreRead, taken_words, operand_bits as operand_of, accumulator as accumulator_of};
+ghost use Rattle.st_exec.specs.Outcome.{bits_taken as taken_of, result_by as result_by_of, operation_outcome, connects};
+ghost use Rattle.st_exec.specs.Effect.{IsField};
 
 use crate::operands::operand_field;
 use st_bin::binary;
@@ -20,13 +20,15 @@ use st_field::{Acc, Done, Shape};
 use st_prep::reads_field;
 use st_state::State;
 
-// The operand of `n` bits at the bit address `e`. In form 1 it is the first `n` of the 24 bits of `e` itself.
+// The operand of `n` bits at the bit address `e`. In form 1 it is the first `n` of the 24 bits of
+// `e` itself.
 fn operand(p: u8, e: u32, n: u8, operands: &[u64; 2], state: &State) -> u64
     requires some { 1 ≤ n }
     requires few { n ≤ 64 }
     requires short { p ≡ 1 → n ≤ 24 }
     requires inside { AreInside (operand_words p e n) }
     requires read { AreRead (operand_words p e n) operands.now state.now }
+
     ensures value { result ≡ operand_of p e n state.now }
     ensures bound { result < 2 ^ n }
 {
@@ -54,6 +56,7 @@ fn taken(op: VflOp, p: u8, e: u32, n: u8, operands: &[u64; 2], state: &State) ->
     requires short { p ≡ 1 → n ≤ 24 }
     requires inside { AreInside (taken_words op p e n) }
     requires read { AreRead (taken_words op p e n) operands.now state.now }
+
     ensures value { result ≡ taken_of op p e n state.now }
     ensures bound { result < 2 ^ n }
 {
@@ -74,7 +77,7 @@ fn result_by(
     ft: u64,
     ind: u64,
 ) -> Done
-    requires shape { IsShape shape.now }
+    requires shape { IsBinaryShape shape.now }
     requires decimal { is_decimal ≡ true → IsDecimalShape shape.now }
     requires fits { bits < 2 ^ shape.now.length }
     ensures value { result ≡ result_by_of is_decimal op acc.now bits shape.now ft ind }
@@ -88,7 +91,7 @@ fn result_by(
 }
 
 /// An operation on a field at the bit address `e`.
-#[tactic(auto, unfolding(crate::specs::Outcome::operated), using(st_bits::specs::Storage::words_of_storage_is))]
+#[tactic(auto, unfolding(crate::specs::Outcome::operation_outcome), using(st_bits::specs::Storage::words_of_storage_is))]
 pub fn operate(
     is_decimal: bool,
     op: VflOp,
@@ -98,14 +101,15 @@ pub fn operate(
     operands: &[u64; 2],
     state: &State,
 ) -> Done
-    requires shape { IsShape shape.now }
+    requires shape { IsBinaryShape shape.now }
     requires decimal { is_decimal ≡ true → IsDecimalShape shape.now }
     requires short { p ≡ 1 → shape.now.length ≤ 24 }
     requires inside { AreInside (taken_words op p e shape.now.length) }
     requires read { AreRead (taken_words op p e shape.now.length) operands.now state.now }
     requires written { AreInside (if writes_field (FullOp.Variable op)
         then field_words e shape.now.length else no_words) }
-    ensures value { result ≡ operated is_decimal op shape.now p e state.now }
+
+    ensures value { result ≡ operation_outcome is_decimal op shape.now p e state.now }
     ensures field { IfSome result.field (IsField e shape.now.length) }
 {
     let bits = taken(op, p, e, shape.length, operands, state);
@@ -135,6 +139,7 @@ pub fn connect_field(
     requires read { AreRead (operand_words p e n) operands.now state.now }
     requires written { AreInside (if writes_field (FullOp.Connective kind)
         then field_words e n else no_words) }
+
     ensures value { result ≡ connects kind table p e offset n state.now }
     ensures field { IfSome result.field (IsField e n) }
 {

@@ -5,7 +5,7 @@ ghost use Rattle.st_prep.specs.Fetch.{place_of as place_at};
 ghost use Rattle.st_prep.specs.Plan.{needs, sight, plan as plan_of};
 ghost use Rattle.st_prep.specs.Ranges.{IsPrepared};
 ghost use Rattle.st_exec.specs.Step.{interrupt as interrupt_of, IsStep};
-ghost use Rattle.st_exec.specs.Trails.{IsTrail, CanBePutBack, IsKept};
+ghost use Rattle.st_exec.specs.Trails.{IsTrail, CanBePutBack, IsKeptStep};
 
 use crate::completing::complete;
 use crate::execution::read_operands;
@@ -40,7 +40,8 @@ pub struct Trail {
     pub printer: Option<Order>,
 }
 
-// The word address of the index-side word of the next entry, or of the table instruction of an interrupt.
+// The word address of the index-side word of the next entry, or of the table instruction of an
+// interrupt.
 #[tactic(auto, unfolding(st_prep::specs::Plan::sight))]
 fn index_side(taken: Option<u8>, state: &State) -> Option<u32>
     requires { IfSome taken (λ i. i < 64) }
@@ -68,6 +69,7 @@ fn trail_of(taken: Option<u8>, p: &Prepared, state: &State) -> Trail
     requires indicator { IfSome taken (λ i. i < 64) }
     requires prepared { IsPrepared p.now }
     requires entry { p.now ≡ plan_of state.now taken }
+
     ensures trail { IsTrail state.now result }
     ensures fits { CanBePutBack result }
 {
@@ -87,13 +89,13 @@ fn trail_of(taken: Option<u8>, p: &Prepared, state: &State) -> Trail
     }
 }
 
-/// Makes the next step as `one` does, under the same condition, and keeps in `trail` what is needed to undo it. Where it
-/// answers `Waits`, nothing was done and `trail` is as it was.
+/// Makes the next step as `one` does, under the same condition, and keeps in `trail` what is needed
+/// to undo it. Where it answers `Waits`, nothing was done and `trail` is as it was.
 #[tactic(auto, unfolding(crate::specs::Step::step))]
 pub fn one_kept(state: &mut State, trail: &mut Trail) -> Step
     requires { state.old.done < 2 ^ 63 }
     ensures step { IsStep state.old state.new result }
-    ensures kept { IsKept state.old trail.old trail.new result }
+    ensures kept { IsKeptStep state.old trail.old trail.new result }
 {
     if is_at_rest(state) {
         return Step::Waits;

@@ -1,8 +1,8 @@
 //! One step of the machine, and what a whole run is. `docs/machine.md` has the rules.
 #![tactic(auto, using(st_bits::specs::Storage::words_of_storage_is))]
 
+mod carrying;
 mod completing;
-mod deeds;
 mod early;
 mod effects;
 mod execution;

@@ -1,6 +1,6 @@
 //! Whether the guess by which an entry was prepared is wrong.
 ghost use Rattle.std.specs.Prelude.{◌≡◌};
-ghost use Rattle.st_state.specs.Interrupts.{turned as turned_of};
+ghost use Rattle.st_state.specs.Interrupts.{indicator_word as turned_of};
 ghost use Rattle.st_prep.specs.Ranges.{IsPrepared};
 ghost use Rattle.st_exec.specs.Completion.{is_missed as is_missed_of};
 
@@ -17,8 +17,8 @@ fn turned(indicators: u64, on: u64, off: u64) -> u64
     (indicators & !off) | on
 }
 
-/// Whether the guess of an entry that is prepared of this state is wrong: it is of a branch on an indicator that is taken, wherever
-/// it leads to.
+/// Whether the guess of an entry that is prepared of this state is wrong: it is of a branch on an
+/// indicator that is taken, wherever it leads to.
 #[tactic(auto, unfolding(crate::specs::Completion::is_missed, crate::specs::Completion::is_taken), using(st_bits::specs::Storage::words_of_storage_is))]
 pub fn is_missed(p: &Prepared, state: &State) -> bool
     requires { IsPrepared p.now }

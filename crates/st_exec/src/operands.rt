@@ -4,7 +4,7 @@ ghost use Rattle.st_bits.specs.Storage.{words_of_storage};
 ghost use Rattle.st_state.specs.Machine.{word as word_of};
 ghost use Rattle.st_prep.specs.Entry.{field_words};
 ghost use Rattle.st_prep.specs.Ranges.{IsRuns, AreInside};
-ghost use Rattle.st_exec.specs.Operand.{AreFirst, AreRead, field_at};
+ghost use Rattle.st_exec.specs.Operand.{AreFirstOperands, AreRead, field_at};
 
 use st_bits::get_field;
 use st_bits::register::FIRST_STORAGE_WORD;
@@ -28,7 +28,7 @@ fn operand_in_run(words: &Words, k: u8, state: &State) -> u64
 pub fn first_operands(words: &Words, state: &State) -> [u64; 2]
     requires runs { IsRuns words.now }
     requires inside { AreInside words.now }
-    ensures { AreFirst words.now result state.now }
+    ensures { AreFirstOperands words.now result state.now }
 {
     [
         operand_in_run(words, 0, state),
@@ -36,8 +36,8 @@ pub fn first_operands(words: &Words, state: &State) -> [u64; 2]
     ]
 }
 
-// The word at the address `w`, which is in place `k` of the operands. A register is read anew, since the entry itself may
-// have changed it before its operands are read.
+// The word at the address `w`, which is in place `k` of the operands. A register is read anew,
+// since the entry itself may have changed it before its operands are read.
 fn operand_word(operands: &[u64; 2], k: usize, w: u32, state: &State) -> u64
     requires place { k < 2 }
     requires inside { w < words_of_storage }
@@ -57,6 +57,7 @@ pub fn operand_field(operands: &[u64; 2], a: u32, n: u8, state: &State) -> u64
     requires few { n ≤ 64 }
     requires inside { a + n ≤ 64 * words_of_storage }
     requires read { AreRead (field_words a n) operands.now state.now }
+
     ensures value { result ≡ field_at state.now a n }
     ensures bound { result < 2 ^ n }
 {

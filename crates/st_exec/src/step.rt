@@ -11,7 +11,8 @@ use st_state::State;
 pub enum Step {
     /// The instruction at the counter was executed, or suppressed.
     Plain,
-    /// An interrupt by this indicator, 0 to 63, was taken, and its one instruction executed or suppressed.
+    /// An interrupt by this indicator, 0 to 63, was taken, and its one instruction executed or
+    /// suppressed.
     Interrupt { indicator: u8 },
     /// The machine waits and nothing is pending: nothing was done.
     Waits,
@@ -25,8 +26,8 @@ pub fn interrupt(state: &State) -> Option<u8>
     if state.enabled { state.pending() } else { None }
 }
 
-/// The half-word address of the instruction that the next step executes: the counter, or the left half of the word
-/// of the interrupt table.
+/// The half-word address of the instruction that the next step executes: the counter, or the left
+/// half of the word of the interrupt table.
 #[tactic(auto, unfolding(crate::specs::Step::address, st_prep::specs::Fetch::place_of))]
 pub fn next_address(state: &State) -> u32
     ensures value { result ≡ address_of state.now }
@@ -42,8 +43,9 @@ pub fn is_at_rest(state: &State) -> bool
     state.waiting && state.pending().is_none()
 }
 
-/// Makes the next step: an interrupt where one is due, else the instruction at the counter. It is counted as one
-/// instruction. `Waits` changes nothing. Fewer than 2^63 instructions are done. `docs/machine.md` has the rules.
+/// Makes the next step: an interrupt where one is due, else the instruction at the counter. It is
+/// counted as one instruction. `Waits` changes nothing. Fewer than 2^63 instructions are done.
+/// `docs/machine.md` has the rules.
 #[tactic(auto, unfolding(crate::specs::Step::step))]
 pub fn one(state: &mut State) -> Step
     requires { state.old.done < 2 ^ 63 }

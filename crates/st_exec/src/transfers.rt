@@ -28,8 +28,9 @@ fn words_at(w: u32, state: &State) -> [u64; 8]
     words
 }
 
-/// The order of the reader takes effect: the words of its next card come into its area, and EOP comes on; or EE, where
-/// there is no card. The reader is free then. `docs/machine.md`, "Orders of the reader and of the printer", has the rule.
+/// The order of the reader takes effect: the words of its next card come into its area, and EOP
+/// comes on; or EE, where there is no card. The reader is free then. `docs/machine.md`, "Orders of
+/// the reader and of the printer", has the rule.
 pub fn read_in(state: &mut State, card: Option<[u64; 8]>)
     requires { IsSome state.old.reader }
     ensures { IfSome state.old.reader (λ order. state.new ≡ read_in_of state.old order.word card) }
@@ -45,8 +46,9 @@ pub fn read_in(state: &mut State, card: Option<[u64; 8]>)
     state.signal(END_OF_OPERATION);
 }
 
-/// The order of the printer takes effect: the eight words of its area are what is printed, and EOP comes on. The printer is
-/// free then. `docs/machine.md`, "Orders of the reader and of the printer", has the rule.
+/// The order of the printer takes effect: the eight words of its area are what is printed, and EOP
+/// comes on. The printer is free then. `docs/machine.md`, "Orders of the reader and of the
+/// printer", has the rule.
 pub fn print_out(state: &mut State) -> [u64; 8]
     requires { IsSome state.old.printer }
     ensures words { IfSome state.old.printer (λ order. result ≡ words_from state.old order.word 8) }

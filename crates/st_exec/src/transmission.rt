@@ -1,13 +1,14 @@
-//! Words that are copied or exchanged one after the other, so that one that was moved can be moved again.
+//! Words that are copied or exchanged one after the other, so that one that was moved can be moved
+//! again.
 ghost use Rattle.std.specs.Prelude.{◌≡◌};
-ghost use Rattle.st_exec.specs.Deed.{AreRuns, copied, exchanged};
+ghost use Rattle.st_exec.specs.Effect.{AreRuns, state_with_copy, state_with_exchange};
 
 use st_state::State;
 
 /// Copies `count` words from the word address `from` on to those from `to` on.
 pub fn copy(from: u32, to: u32, count: u8, state: &mut State)
     requires { AreRuns from to count }
-    ensures { state.new ≡ copied from to count state.old }
+    ensures { state.new ≡ state_with_copy from to count state.old }
 {
     for k in 0..u32::from(count) {
         let word = state.word(from + k);
@@ -18,7 +19,7 @@ pub fn copy(from: u32, to: u32, count: u8, state: &mut State)
 /// Exchanges them.
 pub fn exchange(from: u32, to: u32, count: u8, state: &mut State)
     requires { AreRuns from to count }
-    ensures { state.new ≡ exchanged from to count state.old }
+    ensures { state.new ≡ state_with_exchange from to count state.old }
 {
     for k in 0..u32::from(count) {
         let (first, second) = (state.word(from + k), state.word(to + k));

@@ -5,7 +5,7 @@ use Rattle.std.specs.Borrow.{Bor}
 use Rattle.std.specs.Int.RustNames.{FitsSigned}
 use Rattle.std.proofs.lemmas.Int.{ints}
 use Rattle.st_expr.specs.Expression.{parts_after, terms_of}
-use Rattle.st_expr.specs.Value.{plus, sum_of}
+use Rattle.st_expr.specs.Value.{plus, sum_of_terms}
 
 -- no sign stands behind the first part
 pub nothing_behind : (text word : List ℕ) (behind : Option (Bool × Bor (List ℕ))) → behind ≡ None →
@@ -38,23 +38,23 @@ nothing_added (Some v) = let same : v +ℤ pos 0 ≡ v = omega (arith, ints) in 
 -- the first part is the only one
 pub only_part : (symbols : List (List ℕ × ℕ)) (m : Bool) (text word : List ℕ) (value : Option ℤ) →
     parts_after m text ≡ (m, word) ∷ [] →
-    ((parts : List (Bool × List ℕ)) → plus value (sum_of symbols (terms_of parts)) ≡ sum_of symbols (terms_of ((m, word) ∷ parts))) →
-    value ≡ sum_of symbols (terms_of (parts_after m text))
+    ((parts : List (Bool × List ℕ)) → plus value (sum_of_terms symbols (terms_of parts)) ≡ sum_of_terms symbols (terms_of ((m, word) ∷ parts))) →
+    value ≡ sum_of_terms symbols (terms_of (parts_after m text))
 only_part symbols m text word value parts added =
     sym (nothing_added value)
-    ∙ (added [] ∙ ap (λ (ps : List (Bool × List ℕ)). sum_of symbols (terms_of ps)) (sym parts))
+    ∙ (added [] ∙ ap (λ (ps : List (Bool × List ℕ)). sum_of_terms symbols (terms_of ps)) (sym parts))
 
 -- more parts stand behind it
 pub first_of_parts : (symbols : List (List ℕ × ℕ)) (m n next : Bool) (text word : List ℕ) (rest behind : Bor (List ℕ)) (value sum : ℤ) →
     n ≡ next → behind ≡ rest → parts_after m text ≡ (m, word) ∷ parts_after next rest.now →
-    ((parts : List (Bool × List ℕ)) → plus (Some value) (sum_of symbols (terms_of parts)) ≡ sum_of symbols (terms_of ((m, word) ∷ parts))) →
-    Some sum ≡ sum_of symbols (terms_of (parts_after n behind.now)) →
-    Some (value +ℤ sum) ≡ sum_of symbols (terms_of (parts_after m text))
+    ((parts : List (Bool × List ℕ)) → plus (Some value) (sum_of_terms symbols (terms_of parts)) ≡ sum_of_terms symbols (terms_of ((m, word) ∷ parts))) →
+    Some sum ≡ sum_of_terms symbols (terms_of (parts_after n behind.now)) →
+    Some (value +ℤ sum) ≡ sum_of_terms symbols (terms_of (parts_after m text))
 first_of_parts symbols m n next text word rest behind value sum same_sign same_rest parts added is_sum =
     ap (plus (Some value)) (is_sum
-    ∙ (ap (λ b. sum_of symbols (terms_of (parts_after b behind.now))) same_sign
-    ∙ ap (λ (r : Bor (List ℕ)). sum_of symbols (terms_of (parts_after next r.now))) same_rest))
-    ∙ (added (parts_after next rest.now) ∙ ap (λ (ps : List (Bool × List ℕ)). sum_of symbols (terms_of ps)) (sym parts))
+    ∙ (ap (λ b. sum_of_terms symbols (terms_of (parts_after b behind.now))) same_sign
+    ∙ ap (λ (r : Bor (List ℕ)). sum_of_terms symbols (terms_of (parts_after next r.now))) same_rest))
+    ∙ (added (parts_after next rest.now) ∙ ap (λ (ps : List (Bool × List ℕ)). sum_of_terms symbols (terms_of ps)) (sym parts))
 
 -- the value of one part and that of the parts behind it have a sum, which stays in bounds
 pub sum_within : (a l : ℕ) (rest behind : Bor (List ℕ)) (v s : ℤ) → behind ≡ rest → a + 1 + length rest.now ≡ l → l ≤ 63 →

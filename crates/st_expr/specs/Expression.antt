@@ -20,7 +20,8 @@ abbrev pub parts_after : Bool → List ℕ → List (Bool × List ℕ)
 parts_after minus [] = (minus, []) ∷ []
 parts_after minus (c ∷ cs) =
     if c == plus_sign then (minus, []) ∷ parts_after false cs
-    else (if c == minus_sign then (minus, []) ∷ parts_after true cs else onto_part c (parts_after minus cs))
+    else (if c == minus_sign then (minus, []) ∷ parts_after true cs
+    else onto_part c (parts_after minus cs))
 
 -- the parts of an expression: a sign in front belongs to the first
 abbrev pub parts : List ℕ → List (Bool × List ℕ)
@@ -40,24 +41,24 @@ abbrev pub term_of : Bool × List ℕ → Option Term
 term_of part = term_in part.0 (atom_of part.1)
 
 -- whether a part says nothing
-abbrev pub is_bad : AtomReading → Bool
-is_bad Bad = true
-is_bad Large = false
-is_bad (Good atom) = false
+abbrev pub is_bad_part : AtomReading → Bool
+is_bad_part Bad = true
+is_bad_part Large = false
+is_bad_part (Good atom) = false
 
 -- whether a part is a number above the most that may stand there
-abbrev pub is_large : AtomReading → Bool
-is_large Large = true
-is_large Bad = false
-is_large (Good atom) = false
+abbrev pub is_large_part : AtomReading → Bool
+is_large_part Large = true
+is_large_part Bad = false
+is_large_part (Good atom) = false
 
 -- whether any part says nothing
 abbrev pub any_bad : List (Bool × List ℕ) → Bool
-any_bad parts = list_any (λ part. is_bad (atom_of part.1)) parts
+any_bad parts = list_any (λ part. is_bad_part (atom_of part.1)) parts
 
 -- whether any part is such a number
 abbrev pub any_large : List (Bool × List ℕ) → Bool
-any_large parts = list_any (λ part. is_large (atom_of part.1)) parts
+any_large parts = list_any (λ part. is_large_part (atom_of part.1)) parts
 
 -- the terms that parts say
 abbrev pub terms_of : List (Bool × List ℕ) → List Term

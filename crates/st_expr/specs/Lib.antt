@@ -3,3 +3,7 @@ pub mod System
 pub mod Term
 pub mod Expression
 pub mod Value
+pub use Rattle.st_text.specs.Bytes
+pub use Rattle.st_text.specs.Number
+pub use Rattle.st_text.specs.Pieces
+pub use Rattle.st_text.specs.Tables

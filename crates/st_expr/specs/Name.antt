@@ -17,8 +17,9 @@ is_name (c ∷ cs) = is_ascii_uppercase c && list_all is_name_byte cs && nat_le 
 -- whether a text is a word for the system: `$` and 1 to 7 bytes of names
 abbrev pub is_system_word : List ℕ → Bool
 is_system_word [] = false
-is_system_word (c ∷ cs) = c == dollar && is_filled cs && list_all is_name_byte cs && nat_le (length cs) 7
+is_system_word (c ∷ cs) = c == dollar && is_filled cs && list_all is_name_byte cs
+    && nat_le (length cs) 7
 
 -- a name filled with blanks to eight bytes
-abbrev pub padded : List ℕ → List ℕ
-padded name = name ++ replicate (8 - length name) blank
+abbrev pub padded_name : List ℕ → List ℕ
+padded_name name = name ++ replicate (8 - length name) blank

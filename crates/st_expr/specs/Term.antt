@@ -4,11 +4,11 @@ use Rattle.std.specs.Option.{option_map_or}
 use Rattle.st_expr.specs.declared.terms.TheConstants.{LAST_ADDRESS, LAST_BIT}
 use Rattle.st_text.specs.Bytes.{period}
 use Rattle.st_text.specs.Number.{reading}
-use Rattle.st_text.specs.Pieces.{parted}
+use Rattle.st_text.specs.Pieces.{pieces_of}
 use Rattle.st_text.specs.Tables.{row_of}
 use Rattle.st_text.specs.declared.numbers.Reading.{Reading}
 use Rattle.st_text.specs.declared.numbers.Reading.TheVariants.{Bad, Large, Good}
-use Rattle.st_expr.specs.Name.{is_name, is_system_word, padded}
+use Rattle.st_expr.specs.Name.{is_name, is_system_word, padded_name}
 use Rattle.st_expr.specs.System.{system_symbols}
 use Rattle.st_expr.specs.declared.terms.Term.{Term}
 use Rattle.st_expr.specs.declared.terms.Atom.{Atom}
@@ -17,30 +17,32 @@ use Rattle.st_expr.specs.declared.terms.AtomReading.{AtomReading}
 use Rattle.st_expr.specs.declared.terms.AtomReading.TheVariants.{Bad as BadAtom, Large as LargeAtom, Good as GoodAtom}
 
 -- word w and bit b together are bit address 64w + b: bad where one is, else large where one is
-abbrev pub bit_address : Reading → Reading → AtomReading
-bit_address (Good w) (Good b) = GoodAtom (Number (64 * w + b))
-bit_address (Good w) Large = LargeAtom
-bit_address (Good w) Bad = BadAtom
-bit_address Large (Good b) = LargeAtom
-bit_address Large Large = LargeAtom
-bit_address Large Bad = BadAtom
-bit_address Bad b = BadAtom
+abbrev pub bit_reading : Reading → Reading → AtomReading
+bit_reading (Good w) (Good b) = GoodAtom (Number (64 * w + b))
+bit_reading (Good w) Large = LargeAtom
+bit_reading (Good w) Bad = BadAtom
+bit_reading Large (Good b) = LargeAtom
+bit_reading Large Large = LargeAtom
+bit_reading Large Bad = BadAtom
+bit_reading Bad b = BadAtom
 
 -- what the pieces of `w` or `w.b` say
-abbrev pub place_of : List (List ℕ) → AtomReading
-place_of (w ∷ []) = bit_address (reading LAST_ADDRESS w) (Good 0)
-place_of (w ∷ b ∷ []) = bit_address (reading LAST_ADDRESS w) (reading LAST_BIT b)
-place_of _ = BadAtom
+abbrev pub place_reading : List (List ℕ) → AtomReading
+place_reading (w ∷ []) = bit_reading (reading LAST_ADDRESS w) (Good 0)
+place_reading (w ∷ b ∷ []) = bit_reading (reading LAST_ADDRESS w) (reading LAST_BIT b)
+place_reading _ = BadAtom
 
 -- what a word for the system says: a system symbol is its number, any other a name
 abbrev pub system_atom : List ℕ → Atom
-system_atom word = option_map_or (λ n. Number n) (row_of word system_symbols) (Name (padded word))
+system_atom word = option_map_or (λ n. Number n) (row_of word system_symbols)
+    (Name (padded_name word))
 
 -- what a piece of an expression says: a name, a word for the system, or a number
 abbrev pub atom_of : List ℕ → AtomReading
 atom_of word =
-    if is_name word then GoodAtom (Name (padded word))
-    else (if is_system_word word then GoodAtom (system_atom word) else place_of (parted period word))
+    if is_name word then GoodAtom (Name (padded_name word))
+    else (if is_system_word word then GoodAtom (system_atom word)
+    else place_reading (pieces_of period word))
 
 -- a term that adds nothing
 abbrev pub IsZero : Term → Type 0

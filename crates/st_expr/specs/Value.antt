@@ -6,7 +6,8 @@ use Rattle.st_expr.specs.declared.terms.Atom.{Atom}
 use Rattle.st_expr.specs.declared.terms.Atom.TheVariants.{Number, Name}
 use Rattle.st_expr.specs.declared.terms.Term.{Term}
 
--- a table of symbols before and after a name is defined: whether it is fresh, and then it stands last
+-- a table of symbols before and after a name is defined: whether it is fresh, and then it stands
+-- last
 abbrev pub Defines : List (List ℕ × ℕ) → List (List ℕ × ℕ) → List ℕ → ℕ → Bool → Type 0
 Defines old new name value true = (row_of name old ≡ None) × (new ≡ old ++ (name, value) ∷ [])
 Defines old new name value false = IsSome (row_of name old) × (new ≡ old)
@@ -17,12 +18,12 @@ atom_value symbols (Number n) = Some n
 atom_value symbols (Name name) = row_of name symbols
 
 -- a number with a sign
-abbrev pub signed : Bool → ℕ → ℤ
-signed minus n = if minus then pos 0 -ℤ pos n else pos n
+abbrev pub signed_value : Bool → ℕ → ℤ
+signed_value minus n = if minus then pos 0 -ℤ pos n else pos n
 
 -- the value of a term
 abbrev pub term_value : List (List ℕ × ℕ) → Term → Option ℤ
-term_value symbols term = option_map (λ n. signed term.minus n) (atom_value symbols term.atom)
+term_value symbols term = option_map (λ n. signed_value term.minus n) (atom_value symbols term.atom)
 
 -- the sum of two values, where there are both
 abbrev pub plus : Option ℤ → Option ℤ → Option ℤ
@@ -31,6 +32,6 @@ plus (Some a) None = None
 plus None b = None
 
 -- the value of terms: the sum of theirs
-abbrev pub sum_of : List (List ℕ × ℕ) → List Term → Option ℤ
-sum_of symbols [] = Some (pos 0)
-sum_of symbols (term ∷ terms) = plus (term_value symbols term) (sum_of symbols terms)
+abbrev pub sum_of_terms : List (List ℕ × ℕ) → List Term → Option ℤ
+sum_of_terms symbols [] = Some (pos 0)
+sum_of_terms symbols (term ∷ terms) = plus (term_value symbols term) (sum_of_terms symbols terms)

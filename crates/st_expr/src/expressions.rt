@@ -40,7 +40,8 @@ pub(crate) fn behind_sign(text: &[u8]) -> (bool, &[u8])
 pub(crate) fn check_parts(minus: bool, text: &[u8]) -> Result<(), Fault>
     ensures ok { IfOk result (λ _. spec.expr_in (spec.parts_after minus text.now)
         ≡ Ok (record { items = spec.terms_of (spec.parts_after minus text.now) })) }
-    ensures err { IfErr result (λ fault. spec.expr_in (spec.parts_after minus text.now) ≡ Err fault) }
+    ensures err { IfErr result (λ fault. spec.expr_in (spec.parts_after minus text.now)
+        ≡ Err fault) }
 {
     let mut large = false;
     let mut left = Some((minus, text));

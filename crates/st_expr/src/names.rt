@@ -36,7 +36,7 @@ fn all_name_bytes(text: &[u8]) -> bool
 /// A name of at most eight bytes, filled with blanks to eight.
 pub fn padded(name: &[u8]) -> [u8; 8]
     requires { length name.now ≤ 8 }
-    ensures { result ≡ spec.padded name.now }
+    ensures { result ≡ spec.padded_name name.now }
 {
     let mut filled = [b' '; 8];
     filled[..name.len()].copy_from_slice(name);

@@ -3,7 +3,7 @@
 ghost use Rattle.std.specs.Prelude.{◌≡◌, ◌≤◌, length};
 ghost use Rattle.st_text.specs.Bytes.{period};
 ghost use Rattle.st_text.specs.Number.{IsWithin};
-ghost use Rattle.st_text.specs.Pieces.{parted};
+ghost use Rattle.st_text.specs.Pieces.{pieces_of};
 ghost use Rattle.st_expr.specs.Term as spec;
 
 use crate::names::{is_name, is_system_word, padded};
@@ -80,7 +80,7 @@ fn system_atom(word: &[u8]) -> Atom
 
 // What a text says where `w` or `w.b` is wanted.
 fn read_place(word: &[u8]) -> AtomReading
-    ensures { result ≡ spec.place_of (parted period word.now) }
+    ensures { result ≡ spec.place_reading (pieces_of period word.now) }
 {
     match cut(word, b'.') {
         None => bit_address(read_number(word, LAST_ADDRESS), Reading::Good(0)),
@@ -95,7 +95,7 @@ fn read_place(word: &[u8]) -> AtomReading
 fn bit_address(word: Reading, bit: Reading) -> AtomReading
     requires word_within { IsWithin LAST_ADDRESS word }
     requires bit_within { IsWithin LAST_BIT bit }
-    ensures { result ≡ spec.bit_address word bit }
+    ensures { result ≡ spec.bit_reading word bit }
 {
     match (word, bit) {
         (Reading::Good(word), Reading::Good(bit)) => {

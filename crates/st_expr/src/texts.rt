@@ -3,7 +3,7 @@
 ghost use Rattle.std.specs.Prelude.{◌≡◌, ◌+◌, ◌≤◌, ◌*◌, ◌^◌, ℕ, ℤ, pos, ◌-ℤ◌, ◌≤ℤ◌, Bool, List, ◌∷◌, length, take, IfSome};
 ghost use Rattle.arrayvec.specs.ArrayVec.{ArrayVec as ListOf};
 ghost use Rattle.st_expr.specs.Expression as spec;
-ghost use Rattle.st_expr.specs.Value.{plus, sum_of as sum_by};
+ghost use Rattle.st_expr.specs.Value.{plus, sum_of_terms as sum_by};
 ghost use Rattle.st_expr.specs.declared.terms.Term.{Term as TermOf};
 
 use crate::expressions::{Expr, behind_sign, check_parts, first_part, terms_in};
@@ -12,7 +12,8 @@ use crate::values::{Symbols, term_value};
 use st_card::Fault;
 use std::marker::Model;
 
-/// An expression that is kept as its text, in less room than its terms take. They are read again where they are asked for.
+/// An expression that is kept as its text, in less room than its terms take. They are read again
+/// where they are asked for.
 #[derive(Drop, Debug)]
 pub struct ExprText {
     // How many bytes the text has.
@@ -97,7 +98,8 @@ fn sum_of(minus: bool, text: &[u8], symbols: &Symbols) -> Option<i64>
 
 // The value of the term that a part says; a part that says none adds nothing.
 fn part_value(minus: bool, word: &[u8], symbols: &Symbols) -> Option<i64>
-    ensures value { (parts : List (Bool × List ℕ)) → plus result (sum_by symbols.now (spec.terms_of parts))
+    ensures value { (parts : List (Bool × List ℕ)) → plus result
+        (sum_by symbols.now (spec.terms_of parts))
         ≡ sum_by symbols.now (spec.terms_of ((minus, word.now) ∷ parts)) }
     ensures low { IfSome result (λ n. (pos 0 -ℤ pos (2 ^ 32)) ≤ℤ n) }
     ensures high { IfSome result (λ n. n ≤ℤ pos (2 ^ 32)) }

@@ -77,14 +77,14 @@ fn define_in(
 ///
 /// `None` where a name is not defined.
 pub fn value_of(e: &Expr, s: &Symbols) -> Option<i64>
-    ensures { result ≡ spec.sum_of s.now e.now.items }
+    ensures { result ≡ spec.sum_of_terms s.now e.now.items }
 {
     sum_of(e.as_slice(), s)
 }
 
 fn sum_of(terms: &[Term], symbols: &Symbols) -> Option<i64>
     requires { length terms.now ≤ 32 }
-    ensures value { result ≡ spec.sum_of symbols.now terms.now }
+    ensures value { result ≡ spec.sum_of_terms symbols.now terms.now }
     ensures low { IfSome result (λ n. (pos 0 -ℤ pos (length terms.now * 2 ^ 32)) ≤ℤ n) }
     ensures high { IfSome result (λ n. n ≤ℤ pos (length terms.now * 2 ^ 32)) }
 {

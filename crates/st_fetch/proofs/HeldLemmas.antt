@@ -4,7 +4,7 @@ use Rattle.std.specs.Option.{option_map}
 use Rattle.std.proofs.Common.{◌≡◌, ◌≢◌, ℕ, true, false, List, [], ◌∷◌, map, Option, None, Some, refl, sym, ◌∙◌, inl, inr}
 use Rattle.std.proofs.lemmas.Bool.{cases_Bool}
 use Rattle.std.proofs.lemmas.Bool.Decides.{eqb_tells}
-use Rattle.st_fetch.specs.HeldWords.{is_held, found, changed_at, with_content, answer_of, answered, patched}
+use Rattle.st_fetch.specs.HeldWords.{is_held, found, changed_at, with_content, answer_of, words_after_answer, words_after_store}
 use Rattle.st_fetch.specs.declared.held.Held.{Held}
 
 module _ (w : ℕ) (f : Held → Held) (keeps : (h : Held) → (f h).w ≡ h.w) where
@@ -37,7 +37,7 @@ module _ (w : ℕ) (f : Held → Held) (keeps : (h : Held) → (f h).w ≡ h.w) 
 
 -- the answer of the word itself after a store
 pub answer_of-patched : (hold : List Held) (w word : ℕ)
-    → answer_of (patched hold w word) w ≡ option_map (λ a. (word, a.1)) (answer_of hold w)
+    → answer_of (words_after_store hold w word) w ≡ option_map (λ a. (word, a.1)) (answer_of hold w)
 answer_of-patched hold w word =
     let keeps : (h : Held) → (with_content word h).w ≡ h.w = λ _. refl in
     rw (found-changed_here w (with_content word) keeps hold)
@@ -46,7 +46,7 @@ answer_of-patched hold w word =
 
 -- and the answer of a held word after it is answered
 pub answer_of-answered : (hold : List Held) (w word tick : ℕ) → is_held hold w ≡ true
-    → answer_of (answered hold w word tick) w ≡ Some (word, tick)
+    → answer_of (words_after_answer hold w word tick) w ≡ Some (word, tick)
 answer_of-answered [] w word tick there = absurd (cc)
 answer_of-answered (h ∷ hold) w word tick there = elim (cases_Bool (h.w == w)) [
   | inl t ↦ rw (t, t) refl

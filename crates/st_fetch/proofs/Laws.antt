@@ -1,7 +1,7 @@
 -- What requests, answers and stores make of the held words, proved.
 use Rattle.std.specs.Prelude.{option_and_then}
 use Rattle.std.proofs.Common.{◌≡◌, ◌≤◌, ℕ, List, ◌∷◌, [], ◌++◌, length, drop, None, Option, refl, ap, arith}
-use Rattle.st_fetch.specs.HeldWords.{requested, with_content, with_answer}
+use Rattle.st_fetch.specs.HeldWords.{words_after_request, with_content, with_answer}
 use Rattle.st_fetch.specs.declared.held.Held.{Held}
 use Rattle.st_fetch.proofs.HeldLemmas.{answer_of-patched, found-changed_other, is_held-changed, answer_of-answered}
 use Rattle.st_fetch.specs.Laws.{StoresChangeContentAlone, AnswersAreKnown, RequestsHoldFour}
@@ -24,14 +24,14 @@ answers_are_known = record {
   held = λ hold v w word tick. is_held-changed w (with_answer word tick) (λ _. refl) hold v;
 }
 
-room-four : (hold : List Held) (w : ℕ) → length hold ≤ 3 → requested hold w ≡ hold ++ record { w = w; answer = None } ∷ []
+room-four : (hold : List Held) (w : ℕ) → length hold ≤ 3 → words_after_request hold w ≡ hold ++ record { w = w; answer = None } ∷ []
 room-four [] w few = refl
 room-four (a ∷ []) w few = refl
 room-four (a ∷ b ∷ []) w few = refl
 room-four (a ∷ b ∷ c ∷ []) w few = refl
 room-four (a ∷ b ∷ c ∷ d ∷ rest) w few = let no : ⊥ = omega (arith, few) in absurd no
 
-full-four : (hold : List Held) (w : ℕ) → length hold ≡ 4 → requested hold w ≡ drop 1 hold ++ record { w = w; answer = None } ∷ []
+full-four : (hold : List Held) (w : ℕ) → length hold ≡ 4 → words_after_request hold w ≡ drop 1 hold ++ record { w = w; answer = None } ∷ []
 full-four [] w all = let no : ⊥ = omega (arith, all) in absurd no
 full-four (a ∷ []) w all = let no : ⊥ = omega (arith, all) in absurd no
 full-four (a ∷ b ∷ []) w all = let no : ⊥ = omega (arith, all) in absurd no

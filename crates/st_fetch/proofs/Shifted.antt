@@ -1,13 +1,13 @@
 -- Four held words, moved one place on.
 use Rattle.std.specs.Prelude.{slice_set, slice_index_or}
 use Rattle.std.proofs.Common.{◌≡◌, ℕ, ◌+◌, List, [], ◌∷◌, length, take, refl, arith}
-use Rattle.st_fetch.specs.declared.fetched.Fetched.{Fetched}
+use Rattle.st_fetch.specs.declared.fetched.AskedWord.{AskedWord}
 
 -- the word at a place becomes that before it
-abbrev pub moved : ℕ → List Fetched → List Fetched
+abbrev pub moved : ℕ → List AskedWord → List AskedWord
 moved i xs = slice_set xs (i + 1) (slice_index_or xs i (record { w = 0; tick = 0 }))
 
-pub shifted : (xs : List Fetched) (newest : Fetched) → length xs ≡ 4 → slice_set (moved 0 (moved 1 (moved 2 xs))) 0 newest ≡ newest ∷ take 3 xs
+pub shifted : (xs : List AskedWord) (newest : AskedWord) → length xs ≡ 4 → slice_set (moved 0 (moved 1 (moved 2 xs))) 0 newest ≡ newest ∷ take 3 xs
 shifted (a ∷ b ∷ c ∷ d ∷ []) newest four = refl
 shifted [] newest four = absurd (omega arith)
 shifted (a ∷ []) newest four = absurd (omega arith)

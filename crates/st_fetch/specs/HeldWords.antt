@@ -13,8 +13,8 @@ abbrev pub last_four : List Held → List Held
 last_four hold = drop (length hold - 4) hold
 
 -- after a request of w: it is the newest, without an answer, and of five the oldest is dropped
-abbrev pub requested : List Held → ℕ → List Held
-requested hold w = last_four (hold ++ record { w = w; answer = None } ∷ [])
+abbrev pub words_after_request : List Held → ℕ → List Held
+words_after_request hold w = last_four (hold ++ record { w = w; answer = None } ∷ [])
 
 -- a word with what becomes of it where it is w, else as it was
 abbrev pub changed_at : ℕ → (Held → Held) → Held → Held
@@ -29,12 +29,12 @@ abbrev pub with_content : ℕ → Held → Held
 with_content word h = record h { answer = option_map (λ a. (word, a.1)) h.answer }
 
 -- after w is answered
-abbrev pub answered : List Held → ℕ → ℕ → ℕ → List Held
-answered hold w word tick = map (changed_at w (with_answer word tick)) hold
+abbrev pub words_after_answer : List Held → ℕ → ℕ → ℕ → List Held
+words_after_answer hold w word tick = map (changed_at w (with_answer word tick)) hold
 
 -- after a store to w
-abbrev pub patched : List Held → ℕ → ℕ → List Held
-patched hold w word = map (changed_at w (with_content word)) hold
+abbrev pub words_after_store : List Held → ℕ → ℕ → List Held
+words_after_store hold w word = map (changed_at w (with_content word)) hold
 
 -- the word w, if it is held
 abbrev pub found : List Held → ℕ → Option Held

@@ -1,30 +1,30 @@
 -- What requests, answers and stores make of the held words.
 use Rattle.std.specs.Prelude.{◌≡◌, ◌≢◌, ◌≤◌, ℕ, List, ◌∷◌, [], ◌++◌, length, drop, true, Some, None}
 use Rattle.std.specs.Option.{option_map}
-use Rattle.st_fetch.specs.HeldWords.{is_held, requested, answered, patched, answer_of}
+use Rattle.st_fetch.specs.HeldWords.{is_held, words_after_request, words_after_answer, words_after_store, answer_of}
 use Rattle.st_fetch.specs.declared.held.Held.{Held}
 
 -- A store changes the content of an answered word, and neither its tick nor any other word.
 pub record StoresChangeContentAlone : Type 0 where
   pub here : (hold : List Held) (w word : ℕ) →
-      answer_of (patched hold w word) w ≡ option_map (λ a. (word, a.1)) (answer_of hold w)
+      answer_of (words_after_store hold w word) w ≡ option_map (λ a. (word, a.1)) (answer_of hold w)
   pub others : (hold : List Held) (v w word : ℕ) → v ≢ w →
-      answer_of (patched hold w word) v ≡ answer_of hold v
+      answer_of (words_after_store hold w word) v ≡ answer_of hold v
   pub held : (hold : List Held) (v w word : ℕ) →
-      is_held (patched hold w word) v ≡ is_held hold v
+      is_held (words_after_store hold w word) v ≡ is_held hold v
 
 -- The word that is answered is known by that answer from then on, and no other word is touched.
 pub record AnswersAreKnown : Type 0 where
   pub here : (hold : List Held) (w word tick : ℕ) → is_held hold w ≡ true →
-      answer_of (answered hold w word tick) w ≡ Some (word, tick)
+      answer_of (words_after_answer hold w word tick) w ≡ Some (word, tick)
   pub others : (hold : List Held) (v w word tick : ℕ) → v ≢ w →
-      answer_of (answered hold w word tick) v ≡ answer_of hold v
+      answer_of (words_after_answer hold w word tick) v ≡ answer_of hold v
   pub held : (hold : List Held) (v w word tick : ℕ) →
-      is_held (answered hold w word tick) v ≡ is_held hold v
+      is_held (words_after_answer hold w word tick) v ≡ is_held hold v
 
 -- A request drops no word while there is room, and the oldest one where there are four.
 pub record RequestsHoldFour : Type 0 where
   pub room : (hold : List Held) (w : ℕ) → length hold ≤ 3 →
-      requested hold w ≡ hold ++ record { w = w; answer = None } ∷ []
+      words_after_request hold w ≡ hold ++ record { w = w; answer = None } ∷ []
   pub full : (hold : List Held) (w : ℕ) → length hold ≡ 4 →
-      requested hold w ≡ drop 1 hold ++ record { w = w; answer = None } ∷ []
+      words_after_request hold w ≡ drop 1 hold ++ record { w = w; answer = None } ∷ []

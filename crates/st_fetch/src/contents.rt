@@ -45,7 +45,8 @@ impl Contents {
         }
     }
 
-    /// The content `word` is stored into the word `w` of these held words, which changes it where it is answered.
+    /// The content `word` is stored into the word `w` of these held words, which changes it where
+    /// it is answered.
     pub fn patched(self, held: HeldWords, w: u32, word: u64) -> Contents
         ensures { result.of ≡ map (content_patched w word) (zip held.words self.of) }
     {

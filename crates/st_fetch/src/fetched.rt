@@ -1,31 +1,32 @@
 //! Held words as a plan knows them: words and the ticks of their answers.
 ghost use Rattle.std.specs.Prelude.{◌≡◌, ℕ, replicate, length};
-ghost use Rattle.st_fetch.specs.Planned.{unasked, tick_of as tick_by, asked_for, told};
+ghost use Rattle.st_fetch.specs.Planned.{no_word, tick_of as tick_by, asked_for, word_with_answer};
 
 /// An instruction word that was asked for.
 #[derive(Clone, Copy, Debug, Default, PartialEq, Eq)]
-pub struct Fetched {
+pub struct AskedWord {
     /// Its word address.
     pub w: u32,
     /// The tick at which it is answered.
     pub tick: u64,
 }
 
-/// The four instruction words that were asked for last, the newest one first, as a plan knows them: no contents, and each with
-/// the tick of its answer, which may still come. Where fewer were asked for, the word 0 fills the list up.
+/// The four instruction words that were asked for last, the newest one first, as a plan knows them:
+/// no contents, and each with the tick of its answer, which may still come. Where fewer were asked
+/// for, the word 0 fills the list up.
 #[derive(Clone, Copy, Debug, Default, PartialEq, Eq)]
 pub struct HeldWords {
     /// The words, the newest one first.
-    pub words: [Fetched; 4],
+    pub words: [AskedWord; 4],
 }
 
-impl Fetched {
+impl AskedWord {
     // The same with the tick of its answer, if it is the word `w`.
-    fn told(self, w: u32, tick: u64) -> Fetched
-        ensures { result ≡ told w tick self }
+    fn told(self, w: u32, tick: u64) -> AskedWord
+        ensures { result ≡ word_with_answer w tick self }
     {
         if self.w == w {
-            Fetched { w, tick }
+            AskedWord { w, tick }
         } else {
             self
         }
@@ -37,14 +38,15 @@ impl HeldWords {
 
     /// No word is held.
     pub fn new() -> HeldWords
-        ensures { result.words ≡ replicate 4 unasked }
+        ensures { result.words ≡ replicate 4 no_word }
     {
         HeldWords {
-            words: [Fetched { w: 0, tick: 0 }; 4],
+            words: [AskedWord { w: 0, tick: 0 }; 4],
         }
     }
 
-    /// The tick at which the word `w`, which is not 0, is answered; None exactly where it is not held.
+    /// The tick at which the word `w`, which is not 0, is answered; None exactly where it is not
+    /// held.
     pub fn tick_of(&self, w: u32) -> Option<u64>
         ensures { result ≡ tick_by self.now.words w }
     {
@@ -52,19 +54,20 @@ impl HeldWords {
         Some(found.tick)
     }
 
-    /// Holds the word `w` from now on, which is answered at `tick`, in place of the one that was asked for longest ago.
+    /// Holds the word `w` from now on, which is answered at `tick`, in place of the one that was
+    /// asked for longest ago.
     pub fn request(&mut self, w: u32, tick: u64)
         ensures { self.new.words ≡ asked_for self.old.words w tick }
     {
         self.words[3] = self.words[2];
         self.words[2] = self.words[1];
         self.words[1] = self.words[0];
-        self.words[0] = Fetched { w, tick };
+        self.words[0] = AskedWord { w, tick };
     }
 
     // The word `w` is answered at `tick`.
     pub(crate) fn answered(self, w: u32, tick: u64) -> HeldWords
-        ensures value { result.words ≡ map (told w tick) self.words }
+        ensures value { result.words ≡ map (word_with_answer w tick) self.words }
     {
         let words = self.words;
         HeldWords {

@@ -1,10 +1,10 @@
 //! The held instruction words with their contents.
 ghost use Rattle.std.specs.Prelude.{◌≡◌, ◌≤◌, [], length, false, true, if◌then◌else◌, ◌==◌, Some};
-ghost use Rattle.st_fetch.specs.HeldWords.{is_held, requested, answered, answer_of, found, patched};
+ghost use Rattle.st_fetch.specs.HeldWords.{is_held, words_after_request, words_after_answer, answer_of, found, words_after_store};
 ghost use Rattle.st_fetch.specs.Planned.{with_its_content};
 
 use crate::contents::Contents;
-use crate::fetched::{Fetched, HeldWords};
+use crate::fetched::{AskedWord, HeldWords};
 use std::marker::Model;
 
 /// A held instruction word.
@@ -16,7 +16,8 @@ pub struct Held {
     pub answer: Option<(u64, u64)>,
 }
 
-/// The instruction words that were asked for last, at most four. Contracts see their list, the oldest request first.
+/// The instruction words that were asked for last, at most four. Contracts see their list, the
+/// oldest request first.
 #[derive(Drop)]
 pub struct Hold {
     words: HeldWords,
@@ -33,7 +34,8 @@ impl Model for Hold {
 
     ghost view = { λ a. oldest_first a.len a.words.words a.contents.of };
 
-    ghost invariant = { λ a. (a.len ≤ 4) × (length a.words.words ≡ 4) × (length a.contents.of ≡ 4) };
+    ghost invariant = { λ a. (a.len ≤ 4) × (length a.words.words ≡ 4)
+        × (length a.contents.of ≡ 4) };
 }
 
 impl Hold {
@@ -63,11 +65,11 @@ impl Hold {
         self.find(w).is_some()
     }
 
-    /// Holds the word `w`, which is not held, from now on, without an answer. The word that was asked for longest
-    /// ago is dropped where there are four.
+    /// Holds the word `w`, which is not held, from now on, without an answer. The word that was
+    /// asked for longest ago is dropped where there are four.
     pub fn request(&mut self, w: u32)
         requires { is_held self.old w ≡ false }
-        ensures { self.new ≡ requested self.old w }
+        ensures { self.new ≡ words_after_request self.old w }
     {
         self.words.request(w, 0);
         self.contents = self.contents.requested();
@@ -77,13 +79,14 @@ impl Hold {
     /// The held word `w` is answered at `tick` with the content `word`.
     pub fn answer(&mut self, w: u32, word: u64, tick: u64)
         requires { is_held self.old w ≡ true }
-        ensures { self.new ≡ answered self.old w word tick }
+        ensures { self.new ≡ words_after_answer self.old w word tick }
     {
         self.words = self.words.answered(w, tick);
         self.contents = self.contents.answered(self.words, w, word);
     }
 
-    /// The content of the word `w` and the tick of its answer; None exactly where it is not held or not answered yet.
+    /// The content of the word `w` and the tick of its answer; None exactly where it is not held or
+    /// not answered yet.
     pub fn word(&self, w: u32) -> Option<(u64, u64)>
         ensures { result ≡ answer_of self.now w }
     {
@@ -101,10 +104,11 @@ impl Hold {
         here
     }
 
-    /// The content `word` is stored into the word `w`: where `w` is held and answered, that is its content from now on. The
-    /// tick of its answer stays, and so do the other words; nothing changes where it is not held, or not answered yet.
+    /// The content `word` is stored into the word `w`: where `w` is held and answered, that is its
+    /// content from now on. The tick of its answer stays, and so do the other words; nothing
+    /// changes where it is not held, or not answered yet.
     pub fn patch(&mut self, w: u32, word: u64)
-        ensures { self.new ≡ patched self.old w word }
+        ensures { self.new ≡ words_after_store self.old w word }
     {
         self.contents = self.contents.patched(self.words, w, word);
     }
@@ -119,8 +123,14 @@ impl Hold {
 }
 
 // The word with the content beside it, if it is the word `w`, else what was found before.
-fn found_next(w: u32, fetched: Fetched, content: Option<u64>, before: Option<Held>) -> Option<Held>
-    ensures { result ≡ (if fetched.w == w then Some (with_its_content (fetched, content)) else before) }
+fn found_next(
+    w: u32,
+    fetched: AskedWord,
+    content: Option<u64>,
+    before: Option<Held>,
+) -> Option<Held>
+    ensures { result ≡ (if fetched.w == w then Some (with_its_content (fetched, content))
+        else before) }
 {
     if fetched.w != w {
         return before;

@@ -1,5 +1,5 @@
-//! What the machine keeps of the words that it asks for: the four instruction words that were asked for last, and the
-//! reads that are still to be made. `docs/timetable.md` has the rules.
+//! What the machine keeps of the words that it asks for: the four instruction words that were asked
+//! for last, and the reads that are still to be made. `docs/timetable.md` has the rules.
 #![tactic(auto)]
 
 mod contents;
@@ -8,6 +8,6 @@ mod held;
 mod wants;
 
 pub use contents::Contents;
-pub use fetched::{Fetched, HeldWords};
+pub use fetched::{AskedWord, HeldWords};
 pub use held::{Held, Hold};
 pub use wants::{WANTS, Want, Wants};

@@ -17,7 +17,8 @@ pub struct Want {
 /// The number of reads that can be wanted at once.
 pub const WANTS: usize = 40;
 
-/// The reads that are still to be made, at most WANTS, first in first out. Contracts see their list, the first one first.
+/// The reads that are still to be made, at most WANTS, first in first out. Contracts see their
+/// list, the first one first.
 #[derive(Drop)]
 pub struct Wants {
     slots: [Want; WANTS],

@@ -4,7 +4,7 @@ use native.Mathlib.Numerals.{unary_clauses}
 use Rattle.std.proofs.lemmas.Nat.{pow-add, div-mul-add}
 use Rattle.std.proofs.Math.Nat.{pow-suc, pow-succ', mul-le-mul, pow-le-pow_right, div-div-eq-div-mul, mod-eq_of_lt, add-mul-div_right, add-mul-mod_self_right, zero-div}
 use Rattle.std.proofs.Math.Arith.{mod-mul}
-use Rattle.st_field.specs.Digits.{code_at, value_of, digits_of}
+use Rattle.st_field.specs.Digits.{code_at, value_of_digits, digits_of}
 use Rattle.st_field.proofs.FieldLemmas.{digit_below}
 
 -- one power more
@@ -24,8 +24,8 @@ power_16 (suc n) =
     rw (next, pow-add 2 (4 * n) 4, pow-suc 16 n) (ap (λ k. k * 16) (power_16 n))
 
 -- the value of one digit more
-pub value_of-next : (d n v rest weight : ℕ) → v ≡ value_of n d → rest ≡ d / 16 ^ n → weight ≡ 10 ^ n → v + rest % 16 * weight ≡ value_of (n + 1) d
-unfolding value_of
+pub value_of-next : (d n v rest weight : ℕ) → v ≡ value_of_digits n d → rest ≡ d / 16 ^ n → weight ≡ 10 ^ n → v + rest % 16 * weight ≡ value_of_digits (n + 1) d
+unfolding value_of_digits
 value_of-next d n v rest weight is left is_weight = rw (add-one, is, left, is_weight) (omega arith)
 
 -- what is left of a number after one digit more, in base b
@@ -36,10 +36,10 @@ bound-next : (c v p : ℕ) → c < 16 → 3 * v + 5 ≤ 5 * p → 3 * (c * p + v
 bound-next c v p code below = grind arith
 
 -- n digits of four bits have at most five thirds of 10 ^ n as their value
-pub value_of-bound : (n d : ℕ) → 3 * value_of n d + 5 ≤ 5 * 10 ^ n
-unfolding value_of
+pub value_of-bound : (n d : ℕ) → 3 * value_of_digits n d + 5 ≤ 5 * 10 ^ n
+unfolding value_of_digits
 value_of-bound zero d = omega arith
-value_of-bound (suc n) d = rw pow-suc (bound-next (code_at d n) (value_of n d) (10 ^ n) (omega arith) (value_of-bound n d))
+value_of-bound (suc n) d = rw pow-suc (bound-next (code_at d n) (value_of_digits n d) (10 ^ n) (omega arith) (value_of-bound n d))
 
 -- one digit more
 pub digits_of-next : (v n digits rest : ℕ) → digits ≡ digits_of n v → rest ≡ v / 10 ^ n → digits + rest % 10 * 16 ^ n ≡ digits_of (n + 1) v
@@ -67,8 +67,8 @@ code_at-low m n c r low =
     rw moved (code_before (c * 16 ^ (n - suc m)) r (16 ^ m) (power_some 16 m (omega arith)))
 
 -- codes past the first m do not count in their value
-value_of-low : (m n c r : ℕ) → m ≤ n → value_of m (c * 16 ^ n + r) ≡ value_of m r
-unfolding value_of
+value_of-low : (m n c r : ℕ) → m ≤ n → value_of_digits m (c * 16 ^ n + r) ≡ value_of_digits m r
+unfolding value_of_digits
 value_of-low zero n c r few = refl
 value_of-low (suc m) n c r few =
     rw (code_at-low m n c r (omega arith), value_of-low m n c r (omega arith)) refl
@@ -78,13 +78,13 @@ code_top : (c r p : ℕ) → c < 10 → r < p → (c * p + r) / p % 16 ≡ c
 code_top c r p digit below = rw (div-mul-add c p r below) (mod-eq_of_lt (omega arith))
 
 -- the digits of a number have its value
-pub value_of-digits : (n v : ℕ) → value_of n (digits_of n v) ≡ v % 10 ^ n
-unfolding value_of digits_of
+pub value_of-digits : (n v : ℕ) → value_of_digits n (digits_of n v) ≡ v % 10 ^ n
+unfolding value_of_digits digits_of
 value_of-digits zero v = omega arith
 value_of-digits (suc n) v =
     let c : ℕ = v / 10 ^ n % 10 in
     let code : code_at (c * 16 ^ n + digits_of n v) n ≡ c = code_top c (digits_of n v) (16 ^ n) (omega arith) (digits_of-below n v) in
-    let low : value_of n (c * 16 ^ n + digits_of n v) ≡ v % 10 ^ n = value_of-low n n c (digits_of n v) (omega arith) ∙ value_of-digits n v in
+    let low : value_of_digits n (c * 16 ^ n + digits_of n v) ≡ v % 10 ^ n = value_of-low n n c (digits_of n v) (omega arith) ∙ value_of-digits n v in
     let both : v % (10 * 10 ^ n) ≡ c * 10 ^ n + v % 10 ^ n = mod-mul v (omega arith) (power_some 10 n (omega arith)) in
     rw (code, low, pow-succ', both) refl
 
@@ -107,19 +107,19 @@ rest-none d b n k h =
     let step : d / b ^ n / b ^ k ≡ d / b ^ (n + k) = rw (div-div-eq-div-mul, pow-add) refl in
     sym step ∙ ap (λ q. q / b ^ k) h ∙ zero-div (b ^ k)
 
-value_of-none : (d n k : ℕ) → d / 16 ^ n ≡ 0 → value_of (n + k) d ≡ value_of n d
-unfolding value_of
-value_of-none d n zero h = let same : n + 0 ≡ n = omega arith in ap (λ m. value_of m d) same
+value_of-none : (d n k : ℕ) → d / 16 ^ n ≡ 0 → value_of_digits (n + k) d ≡ value_of_digits n d
+unfolding value_of_digits
+value_of-none d n zero h = let same : n + 0 ≡ n = omega arith in ap (λ m. value_of_digits m d) same
 value_of-none d n (suc k) h =
     let next : n + suc k ≡ suc (n + k) = omega arith in
     let none : d / 16 ^ (n + k) ≡ 0 = rest-none d 16 n k h in
-    let rest : value_of (n + k) d ≡ value_of n d = value_of-none d n k h in
-    ap (λ m. value_of m d) next ∙ rw none (omega (arith, rest))
+    let rest : value_of_digits (n + k) d ≡ value_of_digits n d = value_of-none d n k h in
+    ap (λ m. value_of_digits m d) next ∙ rw none (omega (arith, rest))
 
 -- the value of 32 digits is that of the first n, where nothing is left
-pub value_of-stop : (d n : ℕ) → n ≤ 32 → d / 16 ^ n ≡ 0 → value_of 32 d ≡ value_of n d
+pub value_of-stop : (d n : ℕ) → n ≤ 32 → d / 16 ^ n ≡ 0 → value_of_digits 32 d ≡ value_of_digits n d
 value_of-stop d n few h =
-    let all : 32 ≡ n + (32 - n) = omega arith in ap (λ m. value_of m d) all ∙ value_of-none d n (32 - n) h
+    let all : 32 ≡ n + (32 - n) = omega arith in ap (λ m. value_of_digits m d) all ∙ value_of-none d n (32 - n) h
 
 digits_of-none : (v n k : ℕ) → v / 10 ^ n ≡ 0 → digits_of (n + k) v ≡ digits_of n v
 unfolding digits_of

@@ -7,7 +7,7 @@ use Rattle.st_field.specs.declared.fields.Field.{Field}
 use Rattle.st_field.specs.declared.fields.Shape.{Shape}
 use Rattle.std.proofs.lemmas.Bool.Decides.{nat_tests}
 use Rattle.st_field.specs.Numbers.{exceeds}
-use Rattle.st_field.specs.Fields.{IsShape, magnitude_bits, sign_byte, sign_of, last_byte, field_of, field_bits}
+use Rattle.st_field.specs.Fields.{IsBinaryShape, magnitude_bits, sign_byte, sign_of, last_byte, field_of, field_bits}
 
 -- what holds of each size of a byte holds of all
 pub each_byte : (P : ℕ → Type 0) → P 1 → P 2 → P 3 → P 4 → P 5 → P 6 → P 7 → P 8 → (b : ℕ) → 1 ≤ b → b ≤ 8 → P b
@@ -103,23 +103,23 @@ last_byte-cut r b some small =
     b some small
 
 -- writing what was read gives the same bits
-same_by : (u : Bool) (x : ℕ) (h : Shape) → h.unsigned ≡ u → IsShape h → field_bits (field_of x h) h ≡ x
+same_by : (u : Bool) (x : ℕ) (h : Shape) → h.unsigned ≡ u → IsBinaryShape h → field_bits (field_of x h) h ≡ x
 same_by true x h is shape = rw is refl
 same_by false x h is shape =
     let b : ℕ = h.byte in
     let last : x % 2 ^ b < 2 ^ b = mod-lt x (pow_pos b) in
     rw (is, sign_value (last_byte x b), last_byte-cut (x % 2 ^ b) b shape.some_byte shape.small_byte last) (omega arith)
 
-pub field_bits-field_of : (x : ℕ) (h : Shape) → IsShape h → field_bits (field_of x h) h ≡ x
+pub field_bits-field_of : (x : ℕ) (h : Shape) → IsBinaryShape h → field_bits (field_of x h) h ≡ x
 field_bits-field_of x h shape = same_by h.unsigned x h refl shape
 
 -- the bits of a field that has room
-by_sign : (u : Bool) (g : Field) (h : Shape) → h.unsigned ≡ u → IsShape h → g.mag < 2 ^ magnitude_bits h → g.flags < 8 → field_bits g h < 2 ^ h.length
+by_sign : (u : Bool) (g : Field) (h : Shape) → h.unsigned ≡ u → IsBinaryShape h → g.mag < 2 ^ magnitude_bits h → g.flags < 8 → field_bits g h < 2 ^ h.length
 by_sign true g h is shape below few = rw is (subst (λ n. g.mag < 2 ^ n) (magnitude_bits-unsigned h is) below)
 by_sign false g h is shape below few =
     rw is
     (joined_below _ _ _ _ (subst (λ n. g.mag < 2 ^ n) (magnitude_bits-signed h is) below)
     (sign_byte-cut g.zone g.flags h.byte g.negative few shape.some_byte shape.small_byte) (shape.room is))
 
-pub field_bits-below : (g : Field) (h : Shape) → IsShape h → g.mag < 2 ^ magnitude_bits h → g.flags < 8 → field_bits g h < 2 ^ h.length
+pub field_bits-below : (g : Field) (h : Shape) → IsBinaryShape h → g.mag < 2 ^ magnitude_bits h → g.flags < 8 → field_bits g h < 2 ^ h.length
 field_bits-below g h shape below few = by_sign h.unsigned g h refl shape below few

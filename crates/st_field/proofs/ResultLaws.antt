@@ -5,9 +5,9 @@ use Rattle.st_bits.specs.declared.operations.VflOp.{VflOp}
 use Rattle.st_bits.specs.declared.operations.VflOp.TheVariants.{L, Lwf, Ltrs, Lft, St, Add, AddMg, MAdd, MAddMg, MAdd1, K, Kf, Ke, Kfe, Kr, Kfr, Mul, MulAdd, Div, Lcv}
 use Rattle.st_field.specs.declared.base.Taken.{Taken}
 use Rattle.st_field.specs.declared.outcome.Done.{Done}
-use Rattle.st_field.specs.Fields.{IsShape, HasRoom, magnitude_bits}
+use Rattle.st_field.specs.Fields.{IsBinaryShape, HasRoom, magnitude_bits}
 use Rattle.st_field.specs.Results.{stored_field}
-use Rattle.st_field.specs.Bases.{InBase, result_of, stored}
+use Rattle.st_field.specs.Bases.{InBase, result_of, store_result}
 use Rattle.st_field.proofs.FieldLemmas.{field_bits-below}
 
 -- the bits of a field that is written are its length
@@ -23,8 +23,8 @@ pub record KeepsLength (b : InBase) (t : Taken) : Type 0 where
   pub quotient : IsInField t b.quotient
   pub converted : IsInField t b.converted
 
-pub result_of-fits : (op : VflOp) (b : InBase) (t : Taken) (ft ind : ℕ) → IsShape t.shape → HasRoom t.field t.shape → KeepsLength b t → IsInField t (result_of op b t ft ind)
-unfolding stored
+pub result_of-fits : (op : VflOp) (b : InBase) (t : Taken) (ft ind : ℕ) → IsBinaryShape t.shape → HasRoom t.field t.shape → KeepsLength b t → IsInField t (result_of op b t ft ind)
+unfolding store_result
 result_of-fits L b t ft ind shape room keeps = tt
 result_of-fits Lwf b t ft ind shape room keeps = tt
 result_of-fits Ltrs b t ft ind shape room keeps = tt

@@ -1,4 +1,5 @@
--- What each operation on a field makes, in base 2 and in base 10. What the base decides is an argument.
+-- What each operation on a field makes, in base 2 and in base 10. What the base decides is an
+-- argument.
 use Rattle.std.specs.Prelude.{ℕ, ◌+◌}
 use Rattle.std.specs.Ordering.{int_cmp}
 use Rattle.st_bits.specs.declared.operations.VflOp.{VflOp}
@@ -11,32 +12,34 @@ use Rattle.st_field.specs.declared.operand.Aligned.{Aligned}
 use Rattle.st_field.specs.declared.operand.Kept.{Kept}
 use Rattle.st_field.specs.declared.outcome.Done.{Done}
 use Rattle.st_field.specs.declared.signed.Signed.{Signed}
-use Rattle.st_field.specs.Comparisons.{compared, compared_if_equal, compared_for_range}
-use Rattle.st_field.specs.Fields.{IsShape, HasRoom, field_of}
+use Rattle.st_field.specs.Comparisons.{comparison_result, compared_if_equal, compared_for_range}
+use Rattle.st_field.specs.Fields.{IsBinaryShape, HasRoom, field_of}
 use Rattle.st_field.specs.Indicators.{lost_carry, partial_field, flag_indicators}
 use Rattle.st_field.specs.Numbers.{number_of, sum_of, magnitude_sum}
-use Rattle.st_field.specs.Results.{number_in, number_of_field, operand as operand_of, addend as addend_of, aligned as aligned_of, with_number, stored_field, in_accumulator, in_field, loaded, loaded_with_flags, transit_loaded, factor_loaded}
+use Rattle.st_field.specs.Results.{number_in, number_of_field, signed_operand as operand_of, addend_from as addend_of, aligned_operand as aligned_of, with_number, stored_field, in_accumulator, in_field, load_result, loaded_with_flags, transit_loaded, factor_loaded}
 
 -- what an operation takes: a shape that the base allows, and a field that has room in it
 pub record IsTaken (Allows : Shape → Type 0) (t : Taken) : Type 0 where
-  pub shape : IsShape t.shape
+  pub shape : IsBinaryShape t.shape
   pub allowed : Allows t.shape
   pub room : HasRoom t.field t.shape
 
 -- what an operation takes of a field with the bits x
-abbrev pub taken : Acc → ℕ → Shape → Taken
-taken a x h = record { acc = a; field = field_of x h; shape = h }
+abbrev pub operand_taken : Acc → ℕ → Shape → Taken
+operand_taken a x h = record { acc = a; field = field_of x h; shape = h }
 
 -- what a base makes of what an operation takes
 pub record InBase : Type 0 where
   -- the value of the accumulator, and of it from the offset on
   pub whole : ℕ
   pub part : ℕ
-  -- the value of the field, its bits as a register takes them, and the indicators of the transit register
+  -- the value of the field, its bits as a register takes them, and the indicators of the transit
+  -- register
   pub value : ℕ
   pub content : ℕ
   pub transit : ℕ
-  -- the field at its place in the accumulator, and the accumulator from the offset on as the field stores it
+  -- the field at its place in the accumulator, and the accumulator from the offset on as the field
+  -- stores it
   pub at_place : Kept
   pub stored : Kept
   -- what a number makes of the accumulator, and of the field
@@ -51,15 +54,15 @@ pub record InBase : Type 0 where
 -- ---- what is taken
 
 -- the accumulator as a number
-abbrev pub number : InBase → Taken → Signed
-number b t = number_in t.acc b.whole
+abbrev pub accumulator_number : InBase → Taken → Signed
+accumulator_number b t = number_in t.acc b.whole
 
 -- the operand as its field holds it, and at its place in the accumulator
-abbrev pub operand : InBase → Taken → Signed
-operand b t = operand_of t.field t.shape b.value
+abbrev pub operand_in_base : InBase → Taken → Signed
+operand_in_base b t = operand_of t.field t.shape b.value
 
-abbrev pub aligned : InBase → Taken → Aligned
-aligned b t = aligned_of t.field t.shape b.at_place
+abbrev pub aligned_in_base : InBase → Taken → Aligned
+aligned_in_base b t = aligned_of t.field t.shape b.at_place
 
 -- the field as a number, and what is added to it: the accumulator from the offset on
 abbrev pub field_number : InBase → Taken → Signed
@@ -73,16 +76,16 @@ abbrev pub one : Shape → Signed
 one h = record { negative = h.negated; mag = 1 }
 
 -- K: the accumulator, and the operand at its place
-unfoldable pub numbers : InBase → Taken → Compared
-numbers b t = record {
-  order = int_cmp (number_of (number b t)) (number_of (aligned b t).number);
-  on = (aligned b t).on;
+unfoldable pub numbers_compared : InBase → Taken → Compared
+numbers_compared b t = record {
+  order = int_cmp (number_of (accumulator_number b t)) (number_of (aligned_in_base b t).number);
+  on = (aligned_in_base b t).on;
 }
 
 -- KF: the accumulator from the offset on as the field would store it, and the operand
 unfoldable pub fields : InBase → Taken → Compared
 fields b t = record {
-  order = int_cmp (number_of (number_in t.acc b.stored.value)) (number_of (operand b t));
+  order = int_cmp (number_of (number_in t.acc b.stored.value)) (number_of (operand_in_base b t));
   on = flag_indicators t.field.flags;
 }
 
@@ -104,28 +107,32 @@ put_in_field b t n =
 -- ---- the operations
 
 -- ST: the accumulator from the offset on goes to the field
-unfoldable pub stored : InBase → Taken → Done
-stored b t =
+unfoldable pub store_result : InBase → Taken → Done
+store_result b t =
     in_field t.acc (stored_field t.acc t.shape b.stored.bits) t.shape b.stored.value
     (partial_field b.stored.is_lost)
 
 -- the result of an operation; ft is the factor register and ind the indicators
 abbrev pub result_of : VflOp → InBase → Taken → ℕ → ℕ → Done
-result_of L b t ft ind = loaded (aligned b t)
-result_of Lwf b t ft ind = loaded_with_flags t.field (aligned b t)
-result_of Ltrs b t ft ind = transit_loaded t.acc (operand b t) b.content (flag_indicators t.field.flags + b.transit)
-result_of Lft b t ft ind = factor_loaded t.acc (operand b t) b.content (flag_indicators t.field.flags)
-result_of St b t ft ind = stored b t
-result_of Add b t ft ind = put_in_accumulator b t (sum_of (number b t) (aligned b t).number) (aligned b t).on
-result_of AddMg b t ft ind = put_in_accumulator b t (magnitude_sum (number b t) (aligned b t).number) (aligned b t).on
+result_of L b t ft ind = load_result (aligned_in_base b t)
+result_of Lwf b t ft ind = loaded_with_flags t.field (aligned_in_base b t)
+result_of Ltrs b t ft ind = transit_loaded t.acc (operand_in_base b t) b.content
+    (flag_indicators t.field.flags + b.transit)
+result_of Lft b t ft ind = factor_loaded t.acc (operand_in_base b t) b.content
+    (flag_indicators t.field.flags)
+result_of St b t ft ind = store_result b t
+result_of Add b t ft ind = put_in_accumulator b t (sum_of (accumulator_number b t)
+    (aligned_in_base b t).number) (aligned_in_base b t).on
+result_of AddMg b t ft ind = put_in_accumulator b t (magnitude_sum (accumulator_number b t)
+    (aligned_in_base b t).number) (aligned_in_base b t).on
 result_of MAdd b t ft ind = put_in_field b t (sum_of (field_number b t) (addend b t))
 result_of MAddMg b t ft ind = put_in_field b t (magnitude_sum (field_number b t) (addend b t))
 result_of MAdd1 b t ft ind = put_in_field b t (sum_of (field_number b t) (one t.shape))
-result_of K b t ft ind = compared t.acc (numbers b t)
-result_of Kf b t ft ind = compared t.acc (fields b t)
-result_of Ke b t ft ind = compared_if_equal t.acc (numbers b t) ind
+result_of K b t ft ind = comparison_result t.acc (numbers_compared b t)
+result_of Kf b t ft ind = comparison_result t.acc (fields b t)
+result_of Ke b t ft ind = compared_if_equal t.acc (numbers_compared b t) ind
 result_of Kfe b t ft ind = compared_if_equal t.acc (fields b t) ind
-result_of Kr b t ft ind = compared_for_range t.acc (numbers b t) ind
+result_of Kr b t ft ind = compared_for_range t.acc (numbers_compared b t) ind
 result_of Kfr b t ft ind = compared_for_range t.acc (fields b t) ind
 result_of Mul b t ft ind = b.product
 result_of MulAdd b t ft ind = b.product_added ft

@@ -1,4 +1,5 @@
--- What comparisons leave: the accumulator as it was, and the indicators of its side against the operand.
+-- What comparisons leave: the accumulator as it was, and the indicators of its side against the
+-- operand.
 use Rattle.std.specs.Prelude.{ℕ}
 use Rattle.st_field.specs.declared.accumulator.Acc.{Acc}
 use Rattle.st_field.specs.declared.comparisons.Compared.{Compared}
@@ -7,8 +8,8 @@ use Rattle.st_field.specs.Indicators.{by_order, by_order_if_equal, by_range}
 use Rattle.st_field.specs.Results.{done_with}
 
 -- K and KF
-abbrev pub compared : Acc → Compared → Done
-compared a sides = done_with a (by_order sides.order sides.on)
+abbrev pub comparison_result : Acc → Compared → Done
+comparison_result a sides = done_with a (by_order sides.order sides.on)
 
 -- KE and KFE, which act only if AE is on
 abbrev pub compared_if_equal : Acc → Compared → ℕ → Done

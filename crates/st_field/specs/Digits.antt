@@ -6,9 +6,9 @@ abbrev pub code_at : ℕ → ℕ → ℕ
 code_at digits place = digits / 16 ^ place % 16
 
 -- the value of the n lowest digits: the sum of code times 10 ^ place
-unfoldable pub value_of : ℕ → ℕ → ℕ
-value_of zero digits = 0
-value_of (suc n) digits = code_at digits n * 10 ^ n + value_of n digits
+unfoldable pub value_of_digits : ℕ → ℕ → ℕ
+value_of_digits zero digits = 0
+value_of_digits (suc n) digits = code_at digits n * 10 ^ n + value_of_digits n digits
 
 -- the n lowest decimal digits of a number
 unfoldable pub digits_of : ℕ → ℕ → ℕ

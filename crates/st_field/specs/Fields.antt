@@ -4,7 +4,7 @@ use Rattle.st_field.specs.declared.fields.Field.{Field}
 use Rattle.st_field.specs.declared.fields.Shape.{Shape}
 
 -- a shape that a binary operation can have
-pub record IsShape (h : Shape) : Type 0 where
+pub record IsBinaryShape (h : Shape) : Type 0 where
   pub some : 1 ≤ h.length
   pub few : h.length ≤ 64
   pub some_byte : 1 ≤ h.byte

@@ -21,12 +21,14 @@ partial_field b = on_if b PARTIAL_FIELD
 -- TF, UF and VF, by the flags T, U and V
 abbrev pub flag_indicators : ℕ → ℕ
 flag_indicators flags =
-    on_if (flags / 4 == 1) FLAG_T + on_if (flags / 2 % 2 == 1) FLAG_U + on_if (flags % 2 == 1) FLAG_V
+    on_if (flags / 4 == 1) FLAG_T + on_if (flags / 2 % 2 == 1) FLAG_U
+    + on_if (flags % 2 == 1) FLAG_V
 
 -- RLZ, RZ or RGZ, by a result number, and RN where its sign is minus
 abbrev pub number_indicators : Bool → ℕ → ℕ
 number_indicators minus m =
-    (if m == 0 then indicator RESULT_ZERO else if minus then indicator RESULT_LESS else indicator RESULT_GREATER) + on_if minus RESULT_NEGATIVE
+    (if m == 0 then indicator RESULT_ZERO else if minus then indicator RESULT_LESS
+    else indicator RESULT_GREATER) + on_if minus RESULT_NEGATIVE
 
 -- AL, AE or AH: the side of the accumulator is below, equal, above
 abbrev pub order_indicator : Ordering → ℕ
@@ -38,7 +40,8 @@ order_indicator Greater = indicator ACCUMULATOR_HIGH
 abbrev pub by_number : Bool → Bool → ℕ → ℕ → Ind
 by_number wrote minus m on = record {
   on = on + (on_if wrote TO_MEMORY_OPERATION + number_indicators minus m);
-  off = indicators (TO_MEMORY_OPERATION ∷ RESULT_LESS ∷ RESULT_ZERO ∷ RESULT_GREATER ∷ RESULT_NEGATIVE ∷ []);
+  off = indicators (TO_MEMORY_OPERATION ∷ RESULT_LESS ∷ RESULT_ZERO ∷ RESULT_GREATER
+      ∷ RESULT_NEGATIVE ∷ []);
 }
 
 -- what an operation without a result number turns on and off; it writes no field
@@ -49,12 +52,14 @@ without_number on = record { on = on; off = indicator TO_MEMORY_OPERATION }
 abbrev pub by_order : Ordering → ℕ → Ind
 by_order order on = record {
   on = on + order_indicator order;
-  off = indicators (TO_MEMORY_OPERATION ∷ ACCUMULATOR_LOW ∷ ACCUMULATOR_EQUAL ∷ ACCUMULATOR_HIGH ∷ []);
+  off = indicators (TO_MEMORY_OPERATION ∷ ACCUMULATOR_LOW ∷ ACCUMULATOR_EQUAL ∷ ACCUMULATOR_HIGH
+      ∷ []);
 }
 
 -- what a comparison turns on and off where it acts only if AE is on
 abbrev pub by_order_if_equal : ℕ → Ordering → ℕ → Ind
-by_order_if_equal ind order on = if is_on ind ACCUMULATOR_EQUAL then by_order order on else without_number on
+by_order_if_equal ind order on = if is_on ind ACCUMULATOR_EQUAL then by_order order on
+    else without_number on
 
 -- the side of a range: AE below its upper end, else AH
 abbrev pub range_indicator : Ordering → ℕ

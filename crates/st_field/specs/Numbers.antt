@@ -3,9 +3,9 @@ use Rattle.std.specs.Prelude.{ℕ, zero, suc, ◌^◌, ℤ, pos, negsuc, neg_ℤ
 use Rattle.st_field.specs.declared.signed.Signed.{Signed}
 
 -- a magnitude with a sign, which is minus where it is true
-abbrev pub signed : Bool → ℕ → ℤ
-signed false m = pos m
-signed true m = neg_ℤ (pos m)
+abbrev pub signed_magnitude : Bool → ℕ → ℤ
+signed_magnitude false m = pos m
+signed_magnitude true m = neg_ℤ (pos m)
 
 -- the sign of a number; zero has the sign that stood before
 abbrev pub sign_after : Bool → ℤ → Bool
@@ -23,7 +23,7 @@ exceeds r n = nat_le (2 ^ n) r
 
 -- a number of the code
 abbrev pub number_of : Signed → ℤ
-number_of n = signed n.negative n.mag
+number_of n = signed_magnitude n.negative n.mag
 
 -- the sum of two numbers; where it is zero the sign of the first one stays
 abbrev pub sum_of : Signed → Signed → Signed

@@ -25,22 +25,23 @@ number_in a m = record { negative = is_minus a; mag = m }
 abbrev pub number_of_field : Field → ℕ → Signed
 number_of_field f m = record { negative = f.negative; mag = m }
 
--- the operand, and what is added to a field: the same with that sign inverted, where the operation is negated
-abbrev pub operand : Field → Shape → ℕ → Signed
-operand f h m = record { negative = exactly_one f.negative h.negated; mag = m }
+-- the operand, and what is added to a field: the same with that sign inverted, where the operation
+-- is negated
+abbrev pub signed_operand : Field → Shape → ℕ → Signed
+signed_operand f h m = record { negative = exactly_one f.negative h.negated; mag = m }
 
-abbrev pub addend : Acc → Shape → ℕ → Signed
-addend a h m = record { negative = exactly_one (is_minus a) h.negated; mag = m }
+abbrev pub addend_from : Acc → Shape → ℕ → Signed
+addend_from a h m = record { negative = exactly_one (is_minus a) h.negated; mag = m }
 
 -- as much of a number as n bits hold
-abbrev pub cut : ℕ → ℕ → Kept
-cut n m = record { bits = m % 2 ^ n; value = m % 2 ^ n; is_lost = exceeds m n }
+abbrev pub number_cut : ℕ → ℕ → Kept
+number_cut n m = record { bits = m % 2 ^ n; value = m % 2 ^ n; is_lost = exceeds m n }
 
 -- the operand at its place in the accumulator, where k is kept of it
-abbrev pub aligned : Field → Shape → Kept → Aligned
-aligned f h k = record {
+abbrev pub aligned_operand : Field → Shape → Kept → Aligned
+aligned_operand f h k = record {
   bits = k.bits;
-  number = operand f h k.value;
+  number = signed_operand f h k.value;
   on = flag_indicators f.flags + partial_field k.is_lost;
 }
 
@@ -61,7 +62,15 @@ stored_field a h m = record {
 
 -- an operation that leaves the accumulator a and writes no field and no register
 abbrev pub done_with : Acc → Ind → Done
-done_with a ind = record { acc = a; field = None; rm = None; ft = None; tr = None; counts = None; ind = ind }
+done_with a ind = record {
+  acc = a;
+  field = None;
+  rm = None;
+  ft = None;
+  tr = None;
+  counts = None;
+  ind = ind;
+}
 
 -- the accumulator becomes a, whose value m is the result number
 abbrev pub in_accumulator : Acc → ℕ → ℕ → Done
@@ -73,14 +82,15 @@ in_field a f h m on =
     record (done_with a (by_number true f.negative m on)) { field = Some (field_bits f h) }
 
 -- L: the operand, with no zone and no flags
-abbrev pub loaded : Aligned → Done
-loaded x =
+abbrev pub load_result : Aligned → Done
+load_result x =
     in_accumulator (record { mag = x.bits; sb = sign_byte 0 x.number.negative 0 }) x.number.mag x.on
 
 -- LWF: the operand, with the zone and flags of its field
 abbrev pub loaded_with_flags : Field → Aligned → Done
 loaded_with_flags f x =
-    in_accumulator (record { mag = x.bits; sb = sign_byte f.zone x.number.negative f.flags }) x.number.mag x.on
+    in_accumulator
+    (record { mag = x.bits; sb = sign_byte f.zone x.number.negative f.flags }) x.number.mag x.on
 
 -- the operand n is the result number, and the accumulator stays
 abbrev pub operand_kept : Acc → Signed → ℕ → Done

@@ -1,7 +1,7 @@
 //! The accumulator with its sign byte.
 ghost use Rattle.std.specs.Prelude.{◌≡◌, ◌<◌, ◌^◌};
 ghost use Rattle.st_field.specs.Fields.{HasRoom, magnitude_bits};
-ghost use Rattle.st_field.specs.Results.{number_in, with_number as with_number_of, addend as addend_of, stored_field as stored_field_of};
+ghost use Rattle.st_field.specs.Results.{number_in, with_number as with_number_of, addend_from as addend_of, stored_field as stored_field_of};
 
 use crate::fields::{Field, Shape, is_minus, sign_byte};
 use crate::signed::{Signed, exactly_one};
@@ -11,7 +11,8 @@ use crate::signed::{Signed, exactly_one};
 pub struct Acc {
     /// The 128 bits of the accumulator.
     pub mag: u128,
-    /// The sign byte: zone in bits 0 to 3, sign in bit 4, flags T, U and V in bits 5 to 7; bit 0 is leftmost.
+    /// The sign byte: zone in bits 0 to 3, sign in bit 4, flags T, U and V in bits 5 to 7; bit 0 is
+    /// leftmost.
     pub sb: u8,
 }
 
@@ -35,7 +36,8 @@ pub fn with_number(acc: &Acc, number: Signed) -> Acc
     }
 }
 
-/// What is added to a field: `mag` with the sign of the accumulator, inverted where the operation is negated.
+/// What is added to a field: `mag` with the sign of the accumulator, inverted where the operation
+/// is negated.
 pub fn addend(acc: &Acc, shape: &Shape, mag: u128) -> Signed
     ensures { result ≡ addend_of acc.now shape.now mag }
 {
@@ -45,7 +47,8 @@ pub fn addend(acc: &Acc, shape: &Shape, mag: u128) -> Signed
     }
 }
 
-/// The field that the accumulator makes, with the magnitude `mag`, which has room; an unsigned one has plus.
+/// The field that the accumulator makes, with the magnitude `mag`, which has room; an unsigned one
+/// has plus.
 pub fn stored_field(acc: &Acc, shape: &Shape, mag: u64) -> Field
     requires { mag < 2 ^ magnitude_bits shape.now }
     ensures value { result ≡ stored_field_of acc.now shape.now mag }

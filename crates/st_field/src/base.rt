@@ -1,10 +1,11 @@
-//! What an operation on a field takes, and what the base of the numbers there, 2 or 10, makes of it.
+//! What an operation on a field takes, and what the base of the numbers there, 2 or 10, makes of
+//! it.
 ghost use Rattle.std.specs.Prelude.{◌≡◌, ◌≤◌, ◌<◌, ◌%◌, ◌^◌, ℕ, true};
-ghost use Rattle.st_field.specs.Fields.{IsShape, HasRoom, magnitude_bits};
+ghost use Rattle.st_field.specs.Fields.{IsBinaryShape, HasRoom, magnitude_bits};
 ghost use Rattle.st_field.specs.Numbers.{exceeds};
 ghost use Rattle.st_field.specs.declared.base.Taken.{Taken};
 ghost use Rattle.st_field.specs.declared.fields.Shape.{Shape};
-ghost use Rattle.st_field.specs.Bases.{InBase, IsTaken, taken};
+ghost use Rattle.st_field.specs.Bases.{InBase, IsTaken, operand_taken};
 
 use crate::accumulator::Acc;
 use crate::fields::{Field, Shape, read_field};
@@ -25,9 +26,9 @@ pub struct Taken {
 
 /// What an operation takes of a field with the bits `bits`, below 2^length.
 pub fn take(acc: &Acc, bits: u64, shape: &Shape) -> Taken
-    requires shape { IsShape shape.now }
+    requires shape { IsBinaryShape shape.now }
     requires fits { bits < 2 ^ shape.now.length }
-    ensures value { result ≡ taken acc.now bits shape.now }
+    ensures value { result ≡ operand_taken acc.now bits shape.now }
     ensures room { HasRoom result.field shape.now }
 {
     Taken {

@@ -1,6 +1,6 @@
 //! Comparisons of the accumulator with a field, of which the two sides are taken as numbers.
 ghost use Rattle.std.specs.Prelude.{◌≡◌, ◌<◌, ◌^◌};
-ghost use Rattle.st_field.specs.Comparisons.{compared, compared_if_equal, compared_for_range};
+ghost use Rattle.st_field.specs.Comparisons.{comparison_result, compared_if_equal, compared_for_range};
 
 use crate::accumulator::Acc;
 use crate::indicators::{by_order, by_order_if_equal, by_range};
@@ -19,7 +19,7 @@ pub struct Compared {
 /// Compare: exactly one of AL, AE and AH comes on.
 pub fn compare(acc: &Acc, sides: Compared) -> Done
     requires { sides.on < 2 ^ 63 }
-    ensures { result ≡ compared acc.now sides }
+    ensures { result ≡ comparison_result acc.now sides }
 {
     done_with(acc, by_order(sides.order, sides.on))
 }

@@ -1,10 +1,10 @@
 //! Thirty-two decimal digits as a number, and powers of ten.
 ghost use Rattle.std.specs.Prelude.{◌≡◌, ◌<◌, ◌≤◌, ◌^◌};
-ghost use Rattle.st_field.specs.Digits.{value_of, digits_of};
+ghost use Rattle.st_field.specs.Digits.{value_of_digits, digits_of};
 
 /// The value of 32 decimal digits of four bits each, codes 10 to 15 counted as such.
 pub fn digits_value(digits: u128) -> u128
-    ensures value { result ≡ value_of 32 digits }
+    ensures value { result ≡ value_of_digits 32 digits }
 {
     let mut value = 0;
     let mut rest = digits;
@@ -24,7 +24,7 @@ pub fn digits_value(digits: u128) -> u128
 pub fn to_digits(value: u128) -> u128
     requires { value < 10 ^ 32 }
     ensures digits { result ≡ digits_of 32 value }
-    ensures value { value_of 32 result ≡ value }
+    ensures value { value_of_digits 32 result ≡ value }
 {
     let mut digits = 0;
     let mut rest = value;

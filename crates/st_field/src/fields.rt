@@ -6,7 +6,7 @@
 //! byte 3     mmmmmmmm mmmmmsTU    a short byte holds the first of sTUV
 //! ```
 ghost use Rattle.std.specs.Prelude.{◌≡◌, ◌<◌, ◌≤◌, ◌^◌};
-ghost use Rattle.st_field.specs.Fields.{IsShape, HasRoom, magnitude_bits as magnitude_bits_of};
+ghost use Rattle.st_field.specs.Fields.{IsBinaryShape, HasRoom, magnitude_bits as magnitude_bits_of};
 ghost use Rattle.st_field.specs.Fields.{sign_of, sign_byte as sign_byte_of, last_byte as last_byte_of};
 ghost use Rattle.st_field.specs.Fields.{byte_bits as byte_bits_of, field_of, field_bits};
 
@@ -40,7 +40,7 @@ pub struct Shape {
 
 /// How many bits of a field are its magnitude.
 pub fn magnitude_bits(shape: &Shape) -> u8
-    requires { IsShape shape.now }
+    requires { IsBinaryShape shape.now }
     ensures value { result ≡ magnitude_bits_of shape.now }
     ensures bound { result ≤ 64 }
 {
@@ -79,7 +79,7 @@ fn last_byte(bits: u64, byte: u8) -> u8
 
 /// What the bits of a field, below 2^length, hold.
 pub fn read_field(bits: u64, shape: &Shape) -> Field
-    requires shape { IsShape shape.now }
+    requires shape { IsBinaryShape shape.now }
     requires fits { bits < 2 ^ shape.now.length }
     ensures parts { result ≡ field_of bits shape.now }
     ensures same { field_bits result shape.now ≡ bits }
@@ -102,13 +102,14 @@ pub fn read_field(bits: u64, shape: &Shape) -> Field
     }
 }
 
-// The bits of the last byte of a signed field: what has no room is dropped, zone bits at the left and, of a short
-// byte, flags at the right.
+// The bits of the last byte of a signed field: what has no room is dropped, zone bits at the left
+// and, of a short byte, flags at the right.
 fn byte_bits(f: &Field, byte: u8) -> u64
     requires some { 1 ≤ byte }
     requires small { byte ≤ 8 }
     requires flags { f.now.flags < 8 }
     requires zone { f.now.zone < 16 }
+
     ensures value { result ≡ byte_bits_of f.now byte }
     ensures bound { result < 2 ^ byte }
 {
@@ -116,10 +117,11 @@ fn byte_bits(f: &Field, byte: u8) -> u64
     u64::from(sign_byte(zone, f.negative, f.flags) >> 4u8.saturating_sub(byte))
 }
 
-/// The bits of the field that holds `f`. The magnitude has room: it is below 2^length, or 2^(length - byte) where the
-/// field is signed; flags are below 8 and the zone below 16. An unsigned field keeps the magnitude alone.
+/// The bits of the field that holds `f`. The magnitude has room: it is below 2^length, or 2^(length
+/// - byte) where the field is signed; flags are below 8 and the zone below 16. An unsigned field
+/// keeps the magnitude alone.
 pub fn write_field(f: &Field, shape: &Shape) -> u64
-    requires shape { IsShape shape.now }
+    requires shape { IsBinaryShape shape.now }
     requires room { HasRoom f.now shape.now }
     ensures bits { result ≡ field_bits f.now shape.now }
     ensures fits { result < 2 ^ shape.now.length }

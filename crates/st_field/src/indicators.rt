@@ -68,7 +68,8 @@ fn number_indicators(number: Signed) -> u64
     }
 }
 
-/// What a result number turns on and off, together with the indicators `on`. `wrote` says that it stands in the field.
+/// What a result number turns on and off, together with the indicators `on`. `wrote` says that it
+/// stands in the field.
 pub fn by_number(wrote: bool, number: Signed, on: u64) -> Ind
     requires { on < 2 ^ 63 }
     ensures { result ≡ by_number_of wrote number.negative number.mag on }
@@ -87,7 +88,8 @@ fn without_number(on: u64) -> Ind
     Ind { on, off: TO_MEMORY }
 }
 
-/// What a comparison turns on and off, together with the indicators `on`: exactly one of AL, AE and AH is on after it.
+/// What a comparison turns on and off, together with the indicators `on`: exactly one of AL, AE and
+/// AH is on after it.
 pub fn by_order(order: Ordering, on: u64) -> Ind
     requires { on < 2 ^ 63 }
     ensures { result ≡ by_order_of order on }
@@ -115,8 +117,9 @@ pub fn by_order_if_equal(ind: u64, order: Ordering, on: u64) -> Ind
     }
 }
 
-/// What a comparison with the upper end of a range turns on and off, together with the indicators `on`. It acts only if
-/// AL is off in `ind`: AE is on after it where the accumulator is below that end, else AH.
+/// What a comparison with the upper end of a range turns on and off, together with the indicators
+/// `on`. It acts only if AL is off in `ind`: AE is on after it where the accumulator is below that
+/// end, else AH.
 pub fn by_range(ind: u64, order: Ordering, on: u64) -> Ind
     requires { on < 2 ^ 63 }
     ensures { result ≡ by_range_of ind order on }

@@ -1,5 +1,5 @@
-//! Fields of storage, the accumulator, signed numbers and result indicators: what operations on fields have in common.
-//! `docs/variable-fields.md` has the rules.
+//! Fields of storage, the accumulator, signed numbers and result indicators: what operations on
+//! fields have in common. `docs/variable-fields.md` has the rules.
 #![tactic(auto)]
 
 pub mod accumulator;

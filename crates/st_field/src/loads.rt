@@ -1,6 +1,6 @@
 //! Loads of the accumulator, of the factor register and of the transit register.
 ghost use Rattle.std.specs.Prelude.{◌≡◌, ◌<◌, ◌^◌};
-ghost use Rattle.st_field.specs.Results.{loaded, loaded_with_flags, transit_loaded, factor_loaded};
+ghost use Rattle.st_field.specs.Results.{load_result, loaded_with_flags, transit_loaded, factor_loaded};
 
 use crate::accumulator::Acc;
 use crate::fields::{Field, sign_byte};
@@ -12,7 +12,7 @@ use crate::signed::Signed;
 /// Load: the aligned operand, with no zone and no flags.
 pub fn load(operand: Aligned) -> Done
     requires { operand.on < 2 ^ 63 }
-    ensures { result ≡ loaded operand }
+    ensures { result ≡ load_result operand }
 {
     let acc = Acc {
         mag: operand.bits,
@@ -35,8 +35,8 @@ pub fn load_with_flags(f: &Field, operand: Aligned) -> Done
     in_accumulator(acc, operand.number.mag, operand.on)
 }
 
-/// Load transit and set: `bits`, which the field holds, go to the transit register. The operand is the result number; the
-/// indicators `on` go on too.
+/// Load transit and set: `bits`, which the field holds, go to the transit register. The operand is
+/// the result number; the indicators `on` go on too.
 pub fn load_transit(acc: &Acc, operand: Signed, bits: u64, on: u64) -> Done
     requires { on < 2 ^ 63 }
     ensures { result ≡ transit_loaded acc.now operand bits on }
@@ -47,8 +47,8 @@ pub fn load_transit(acc: &Acc, operand: Signed, bits: u64, on: u64) -> Done
     }
 }
 
-/// Load factor: `bits`, which the field holds, go to the factor register. The operand is the result number; the
-/// indicators `on` go on too.
+/// Load factor: `bits`, which the field holds, go to the factor register. The operand is the result
+/// number; the indicators `on` go on too.
 pub fn load_factor(acc: &Acc, operand: Signed, bits: u64, on: u64) -> Done
     requires { on < 2 ^ 63 }
     ensures { result ≡ factor_loaded acc.now operand bits on }

@@ -1,12 +1,14 @@
-//! The operand of an operation, what is kept of a number, and the operand aligned with the accumulator.
+//! The operand of an operation, what is kept of a number, and the operand aligned with the
+//! accumulator.
 ghost use Rattle.std.specs.Prelude.{◌≡◌, ◌<◌, ◌≤◌, ◌^◌, ◌*◌};
-ghost use Rattle.st_field.specs.Results.{operand as operand_of, number_of_field, cut as cut_of, aligned};
+ghost use Rattle.st_field.specs.Results.{signed_operand as operand_of, number_of_field, number_cut as cut_of, aligned_operand};
 
 use crate::fields::{Field, Shape};
 use crate::indicators::{flag_indicators, partial_field};
 use crate::signed::{Signed, exactly_one, exceeds, low_bits};
 
-/// The operand of an operation: `mag` with the sign of the field, inverted where the operation is negated.
+/// The operand of an operation: `mag` with the sign of the field, inverted where the operation is
+/// negated.
 pub fn operand(f: &Field, shape: &Shape, mag: u128) -> Signed
     ensures { result ≡ operand_of f.now shape.now mag }
 {
@@ -78,7 +80,7 @@ pub struct Aligned {
 /// The operand of a field at its place in the accumulator, where `kept` is kept of it.
 pub fn align(f: &Field, shape: &Shape, kept: Kept) -> Aligned
     requires { f.now.flags < 8 }
-    ensures value { result ≡ aligned f.now shape.now kept }
+    ensures value { result ≡ aligned_operand f.now shape.now kept }
     ensures few { result.on < 2 ^ 42 }
 {
     Aligned {

@@ -1,11 +1,11 @@
 //! The operations on fields, in any base.
 ghost use Rattle.std.specs.Prelude.{◌≡◌, ◌<◌, ◌%◌, ◌^◌, ℕ, true};
-ghost use Rattle.st_field.specs.Fields.{IsShape, magnitude_bits};
+ghost use Rattle.st_field.specs.Fields.{IsBinaryShape, magnitude_bits};
 ghost use Rattle.st_field.specs.Numbers.{exceeds};
-ghost use Rattle.st_field.specs.Bases.{IsTaken, number as number_of, operand as operand_of, aligned as aligned_of};
-ghost use Rattle.st_field.specs.Bases.{field_number, addend as addend_of, numbers as numbers_of, fields as fields_of};
+ghost use Rattle.st_field.specs.Bases.{IsTaken, accumulator_number as number_of, operand_in_base as operand_of, aligned_in_base as aligned_of};
+ghost use Rattle.st_field.specs.Bases.{field_number, addend as addend_of, numbers_compared as numbers_of, fields as fields_of};
 ghost use Rattle.st_field.specs.Bases.{put_in_accumulator as put_in_accumulator_of, put_in_field as put_in_field_of};
-ghost use Rattle.st_field.specs.Bases.{one as one_of, stored, result_of};
+ghost use Rattle.st_field.specs.Bases.{one as one_of, store_result, result_of};
 
 use crate::accumulator::{addend, signed_as, stored_field, with_number};
 use crate::base::{Base, Taken};
@@ -64,7 +64,7 @@ fn part_added<B: Base>(taken: &Taken) -> Signed
 }
 
 // The accumulator, and the operand at its place.
-#[tactic(auto, unfolding(crate::specs::Bases::numbers))]
+#[tactic(auto, unfolding(crate::specs::Bases::numbers_compared))]
 fn numbers<B: Base>(taken: &Taken) -> Compared
     requires { IsTaken B.Allows taken.now }
     ensures sides { result ≡ numbers_of (B.base taken.now) taken.now }
@@ -91,7 +91,8 @@ fn fields<B: Base>(taken: &Taken) -> Compared
     }
 }
 
-// A sum goes to the accumulator: its sign, and what the base keeps of its magnitude. The indicators `on` go on too.
+// A sum goes to the accumulator: its sign, and what the base keeps of its magnitude. The indicators
+// `on` go on too.
 fn put_in_accumulator<B: Base>(taken: &Taken, sum: Sum, on: u64) -> Done
     requires taken { IsTaken B.Allows taken.now }
     requires large { sum.carry ≡ true → 2 ^ 127 < B.limit }
@@ -114,14 +115,15 @@ fn put_in_accumulator<B: Base>(taken: &Taken, sum: Sum, on: u64) -> Done
 
 // What a field keeps, as its magnitude.
 fn magnitude(kept: Kept, shape: &Shape) -> u64
-    requires shape { IsShape shape.now }
+    requires shape { IsBinaryShape shape.now }
     requires room { kept.bits < 2 ^ magnitude_bits shape.now }
     ensures { result ≡ kept.bits }
 {
     kept.bits as u64
 }
 
-// A sum goes to the field: its sign, and what the base keeps of its magnitude. Flags and zones stay.
+// A sum goes to the field: its sign, and what the base keeps of its magnitude. Flags and zones
+// stay.
 fn put_in_field<B: Base>(taken: &Taken, sum: Sum) -> Done
     requires taken { IsTaken B.Allows taken.now }
     requires large { sum.carry ≡ true → 2 ^ 127 < B.limit }
@@ -140,10 +142,10 @@ fn put_in_field<B: Base>(taken: &Taken, sum: Sum) -> Done
 }
 
 // Store: the accumulator from the offset on goes to the field.
-#[tactic(auto, unfolding(crate::specs::Bases::stored))]
+#[tactic(auto, unfolding(crate::specs::Bases::store_result))]
 fn store<B: Base>(taken: &Taken) -> Done
     requires { IsTaken B.Allows taken.now }
-    ensures { result ≡ stored (B.base taken.now) taken.now }
+    ensures { result ≡ store_result (B.base taken.now) taken.now }
 {
     let kept = B::stored(taken);
     let field = stored_field(&taken.acc, &taken.shape, magnitude(kept, &taken.shape));

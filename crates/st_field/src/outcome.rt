@@ -1,6 +1,6 @@
 //! What an operation on a field leaves.
 ghost use Rattle.std.specs.Prelude.{◌≡◌, ◌<◌, ◌^◌};
-ghost use Rattle.st_field.specs.Fields.{IsShape, HasRoom};
+ghost use Rattle.st_field.specs.Fields.{IsBinaryShape, HasRoom};
 ghost use Rattle.st_field.specs.Results.{done_with as done_with_of, in_accumulator as in_accumulator_of, in_field as in_field_of};
 
 use crate::accumulator::{Acc, signed_as};
@@ -43,7 +43,8 @@ pub fn done_with(acc: &Acc, ind: Ind) -> Done
     }
 }
 
-/// The accumulator becomes `acc`, whose value `mag` is the result number; the indicators `on` go on too.
+/// The accumulator becomes `acc`, whose value `mag` is the result number; the indicators `on` go on
+/// too.
 pub fn in_accumulator(acc: Acc, mag: u128, on: u64) -> Done
     requires { on < 2 ^ 63 }
     ensures { result ≡ in_accumulator_of acc mag on }
@@ -53,7 +54,7 @@ pub fn in_accumulator(acc: Acc, mag: u128, on: u64) -> Done
 
 /// The field becomes `f`, whose value `mag` is the result number; the indicators `on` go on too.
 pub fn in_field(acc: &Acc, f: &Field, shape: &Shape, mag: u128, on: u64) -> Done
-    requires shape { IsShape shape.now }
+    requires shape { IsBinaryShape shape.now }
     requires room { HasRoom f.now shape.now }
     requires few { on < 2 ^ 63 }
     ensures { result ≡ in_field_of acc.now f.now shape.now mag on }

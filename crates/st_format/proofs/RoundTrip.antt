@@ -11,10 +11,10 @@ use Rattle.st_format.specs.declared.operations.FullOp.{FullOp}
 use Rattle.st_format.specs.declared.operations.FullOp.TheVariants.{Variable, Connective, Transmission, BitTest, IndicatorTest, Order, CounterStore}
 use Rattle.st_format.specs.declared.instruction.Instr.{Instr}
 use Rattle.st_format.specs.declared.instruction.Instr.TheVariants.{Half, Branch, Floating, Vfl, Connect, Move, BitBranch, IndBranch, StoreCounter, Transfer, Invalid}
-use Rattle.st_format.specs.Halves.{later, is_one, is_full, i_of, address_of, j_of, operation_of, bit_address_of, second_address_of, p_of, length_of, byte_of, offset_of, k_of, words_moved, half_bits, first_bits, field_bits, second_bits}
+use Rattle.st_format.specs.Halves.{later, is_one, is_full, i_of, address_of, j_of, operation_of, bit_address_of, second_address_of, p_of, length_of, byte_of, offset_of, k_of, words_moved, half_bits, first_bits, second_half_bits, second_bits}
 use Rattle.st_format.specs.Operations.{full_ops, numbered_op, half_op, branch_op, kind, full_op, half_number, branch_number, kind_number, vfl_number, full_number, writes_field}
 use Rattle.st_format.specs.Validity.{is_invalid_half, breaks_rules, is_invalid, is_refused, misfits, misuses_p, miscounts}
-use Rattle.st_format.specs.Formats.{branch_word, index_word, half_word, word_of, full_word, instruction_of, first_half, second_half, bit_of, FitsHalf, FitsFull, FitsField, IsRefusal, IsShape}
+use Rattle.st_format.specs.Formats.{branch_word, index_word, half_word, full_word_instruction, full_word, instruction_of, first_half, second_half, bit_of, FitsHalf, FitsFull, FitsField, IsRefusal, IsShape}
 use Rattle.st_format.proofs.Windows.{address-half_bits, j-half_bits, operation-half_bits, i-half_bits, is_full-half_bits, address-first_bits, i-first_bits, is_full-first_bits, p-field_bits, length-field_bits, byte-field_bits, offset-field_bits, operation-field_bits, k-field_bits, second-second_bits, operation-second_bits, k-second_bits, count-second_bits}
 use Rattle.st_format.proofs.Numbers.{half_op-number, branch_op-number, kind-number, numbered_op-vfl_number, half_number-bound, half_number-short, branch_number-bound, vfl_number-bound, kind_number-bound, half_number-floating, half_number-branch, swap-bound, order-bound, half_op-unused, branch_op-late}
 use Rattle.st_format.proofs.Shapes.{invalid-full, invalid-half}
@@ -96,12 +96,12 @@ floating-back n a i s fits hn =
 
 -- a full word with a known operation that breaks no rule
 full-chosen : (op : FullOp) (f s : ℕ) → is_full f ≡ true → full_op s ≡ Some op → breaks_rules op f s ≡ false
-    → instruction_of f s ≡ word_of op f s
+    → instruction_of f s ≡ full_word_instruction op f s
 unfolding instruction_of
 full-chosen op f s full known kept =
     ap (λ b. if b then full_word (full_op s) f s else half_word f) full
     ∙ ap (λ o. full_word o f s) known
-    ∙ ap (λ b. if b then Invalid f s true else word_of op f s) kept
+    ∙ ap (λ b. if b then Invalid f s true else full_word_instruction op f s) kept
 
 -- an operation that is none of the connectives, by its number
 plain-known : (op : FullOp) (s o n : ℕ) → later s 51 9 ≡ o → o < 256 → o % 32 ≡ n → numbered_op n ≡ Some op
@@ -150,13 +150,13 @@ connective-keeps k f s p l i er ek ep el ei used = simp (er, ek, ep, el, ei, use
 vfl-back : (op : VflOp) (d u n : Bool) (p l b o a i : ℕ) → FitsFull a i → FitsField p l b o
     → misfits d u l b ≡ false → misuses_p (writes_field (Variable op)) p l i ≡ false
     → instruction_of (first_bits a i)
-    (field_bits p l b o (bit_of d * 2 ^ 7 + bit_of u * 2 ^ 6 + bit_of n * 2 ^ 5 + vfl_number op))
+    (second_half_bits p l b o (bit_of d * 2 ^ 7 + bit_of u * 2 ^ 6 + bit_of n * 2 ^ 5 + vfl_number op))
     ≡ Vfl op d u n p l b o a i
-unfolding word_of
+unfolding full_word_instruction
 vfl-back op d u n p l b o a i fits field good used =
     let code = bit_of d * 2 ^ 7 + bit_of u * 2 ^ 6 + bit_of n * 2 ^ 5 + vfl_number op in
     let f = first_bits a i in
-    let s = field_bits p l b o code in
+    let s = second_half_bits p l b o code in
     let hd : bit_of d < 2 = bit-bound d in
     let hu : bit_of u < 2 = bit-bound u in
     let hn : bit_of n < 2 = bit-bound n in
@@ -182,13 +182,13 @@ vfl-back op d u n p l b o a i fits field good used =
 
 connect-back : (k : ConnKind) (t p l b o a i : ℕ) → FitsFull a i → FitsField p l b o → t < 16
     → misuses_p (writes_field (Connective k)) p l i ≡ false
-    → instruction_of (first_bits a i) (field_bits p l b o (t * 2 ^ 4 + full_number (Connective k)))
+    → instruction_of (first_bits a i) (second_half_bits p l b o (t * 2 ^ 4 + full_number (Connective k)))
     ≡ Connect k t p l b o a i
-unfolding word_of
+unfolding full_word_instruction
 connect-back k t p l b o a i fits field ht used =
     let code = t * 2 ^ 4 + full_number (Connective k) in
     let f = first_bits a i in
-    let s = field_bits p l b o code in
+    let s = second_half_bits p l b o code in
     let hk : kind_number k < 3 = kind_number-bound k in
     let hc : code < 512 = omega arith in
     let same : later s 51 9 ≡ code = operation-field_bits p l b o code field.p_fits field.offset_fits hc in
@@ -252,7 +252,7 @@ store-known = refl
 
 move-back : (swap : Bool) (a i w n : ℕ) → FitsFull a i → w < 2 ^ 19 → 1 ≤ n → n ≤ 16
     → instruction_of (first_bits a i) (second_bits w (full_number (Transmission swap)) (n % 16)) ≡ Move swap a i w n
-unfolding word_of
+unfolding full_word_instruction
 move-back swap a i w n fits hw some many =
     let code = full_number (Transmission swap) in
     let f = first_bits a i in
@@ -272,7 +272,7 @@ move-back swap a i w n fits hw some many =
 bit-back : (sense : Bool) (c a i w : ℕ) → FitsFull a i → c < 4 → w < 2 ^ 19
     → instruction_of (first_bits a i) (second_bits w (bit_of sense * 2 ^ 7 + c * 2 ^ 5 + 26) 0)
     ≡ BitBranch sense c a i w
-unfolding word_of
+unfolding full_word_instruction
 bit-back sense c a i w fits hc hw =
     let code = bit_of sense * 2 ^ 7 + c * 2 ^ 5 + 26 in
     let f = first_bits a i in
@@ -294,7 +294,7 @@ bit-back sense c a i w fits hc hw =
 indicator-back : (sense off : Bool) (a i w : ℕ) → FitsFull a i → w < 2 ^ 19
     → instruction_of (first_bits a i) (second_bits w (bit_of sense * 2 ^ 7 + bit_of off * 2 ^ 6 + 27) 0)
     ≡ IndBranch sense off a i w
-unfolding word_of
+unfolding full_word_instruction
 indicator-back sense off a i w fits hw =
     let code = bit_of sense * 2 ^ 7 + bit_of off * 2 ^ 6 + 27 in
     let f = first_bits a i in
@@ -316,7 +316,7 @@ indicator-back sense off a i w fits hw =
 
 store-back : (a i w : ℕ) → FitsFull a i → w < 2 ^ 19
     → instruction_of (first_bits a i) (second_bits w 30 0) ≡ StoreCounter a i w
-unfolding word_of
+unfolding full_word_instruction
 store-back a i w fits hw =
     let f = first_bits a i in
     let s = second_bits w 30 0 in
@@ -337,7 +337,7 @@ good-count n some many =
 
 transfer-back : (write : Bool) (a i n : ℕ) → FitsFull a i → 1 ≤ n → n ≤ 1000
     → instruction_of (first_bits a i) (second_bits n (full_number (Order write)) 0) ≡ Transfer write a i n
-unfolding word_of
+unfolding full_word_instruction
 transfer-back write a i n fits some many =
     let code = full_number (Order write) in
     let f = first_bits a i in
@@ -357,7 +357,7 @@ transfer-back write a i n fits some many =
 
 refused-word : (op : Option FullOp) (f s : ℕ) → is_refused op f s ≡ true → full_word op f s ≡ Invalid f s true
 refused-word None f s h = refl
-refused-word (Some op) f s h = ap (λ b. if b then Invalid f s true else word_of op f s) h
+refused-word (Some op) f s h = ap (λ b. if b then Invalid f s true else full_word_instruction op f s) h
 
 full-invalid : (f s : ℕ) → is_full f ≡ true → is_invalid f s ≡ true → instruction_of f s ≡ Invalid f s true
 unfolding instruction_of

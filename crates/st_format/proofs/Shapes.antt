@@ -7,10 +7,10 @@ use Rattle.st_bits.specs.declared.operations.HalfOp.{HalfOp}
 use Rattle.st_format.specs.declared.operations.FullOp.{FullOp}
 use Rattle.st_format.specs.declared.operations.FullOp.TheVariants.{Variable, Connective, Transmission, BitTest, IndicatorTest, Order, CounterStore}
 use Rattle.st_format.specs.declared.instruction.Instr.{Instr}
-use Rattle.st_format.specs.Halves.{part, later, is_full, i_of, address_of, j_of, operation_of, bit_address_of, second_address_of, p_of, length_of, byte_of, offset_of, k_of, words_moved, or_greatest}
+use Rattle.st_format.specs.Halves.{half_word_part, later, is_full, i_of, address_of, j_of, operation_of, bit_address_of, second_address_of, p_of, length_of, byte_of, offset_of, k_of, words_moved, or_greatest}
 use Rattle.st_format.specs.Operations.{half_op, branch_op, full_op, half_number}
 use Rattle.st_format.specs.Validity.{is_invalid_half, breaks_rules, is_invalid, is_refused, miscounts}
-use Rattle.st_format.specs.Formats.{branch_word, index_word, half_word, word_of, full_word, instruction_of, FitsHalf, FitsFull, FitsField, IsRefusal, IsShape, is_no_instruction}
+use Rattle.st_format.specs.Formats.{branch_word, index_word, half_word, full_word_instruction, full_word, instruction_of, FitsHalf, FitsFull, FitsField, IsRefusal, IsShape, is_no_instruction}
 use Rattle.st_format.proofs.Numbers.{half_op-none, branch_op-none, branch_op-some, half_number-unused, number-half_op}
 use Rattle.st_format.proofs.Spelled.{of_choice, or-left, or-right, KeepsRules, keeps}
 
@@ -73,8 +73,8 @@ count-bound-by n h = ltb-false 1000 n h
 counts : (n : ℕ) → miscounts n ≡ false → (1 ≤ n) × (n ≤ 1000)
 counts n h = (some-count-by n (or-left _ _ h), count-bound-by n (or-right _ _ h))
 
-shape-word : (op : FullOp) (f s : ℕ) → KeepsRules op f s → IsShape (word_of op f s)
-unfolding word_of
+shape-word : (op : FullOp) (f s : ℕ) → KeepsRules op f s → IsShape (full_word_instruction op f s)
+unfolding full_word_instruction
 shape-word (Variable op) f s kept = (fits-full f, fits-field s, kept.fitting, kept.progress)
 shape-word (Connective kind) f s kept = (fits-full f, fits-field s, omega arith, kept.progress)
 shape-word (Transmission swap) f s kept = (fits-full f, second-bound s, some-count s, count-bound s)
@@ -108,13 +108,13 @@ shape-full (Some op) f s hf hs full e =
     (λ broken. refusal-full f s hf hs full (ap (λ o. is_refused o f s) e ∙ broken))
     (λ kept. shape-word op f s (keeps op f s kept))
 
-none-word : (op : FullOp) (f s : ℕ) → is_no_instruction (word_of op f s) ≡ false
-unfolding word_of
+none-word : (op : FullOp) (f s : ℕ) → is_no_instruction (full_word_instruction op f s) ≡ false
+unfolding full_word_instruction
 none-word (Variable op) f s = refl
 none-word _ f s = refl
 
 none-by : (b : Bool) (op : FullOp) (f s : ℕ)
-    → is_no_instruction (if b then Instr.Invalid f s true else word_of op f s) ≡ b
+    → is_no_instruction (if b then Instr.Invalid f s true else full_word_instruction op f s) ≡ b
 none-by true op f s = refl
 none-by false op f s = none-word op f s
 
@@ -137,7 +137,7 @@ refusal-half f hf short refused = record {
 short-operation : (f : ℕ) → is_full f ≡ false → (operation_of f % 16 == 15) ≡ false
 unfolding is_full operation_of
 short-operation f short =
-    let same : part f 23 5 % 16 ≡ part f 24 4 = omega arith in ap (λ n. n == 15) same ∙ short
+    let same : half_word_part f 23 5 % 16 ≡ half_word_part f 24 4 = omega arith in ap (λ n. n == 15) same ∙ short
 
 refused-branch : (f : ℕ) → operation_of f ≡ 23 → branch_op (j_of f) ≡ None → is_invalid_half f ≡ true
 unfolding is_invalid_half

@@ -8,10 +8,10 @@ use Rattle.st_bits.specs.declared.operations.ConnKind.{ConnKind}
 use Rattle.st_format.specs.declared.operations.FullOp.{FullOp}
 use Rattle.st_format.specs.declared.operations.FullOp.TheVariants.{Variable, Connective, Transmission, BitTest, IndicatorTest, Order, CounterStore}
 use Rattle.st_format.specs.declared.instruction.Instr.{Instr}
-use Rattle.st_format.specs.Halves.{later, is_one, is_full, i_of, address_of, j_of, operation_of, second_address_of, p_of, length_of, byte_of, offset_of, k_of, half_bits, field_bits, second_bits}
+use Rattle.st_format.specs.Halves.{later, is_one, is_full, i_of, address_of, j_of, operation_of, second_address_of, p_of, length_of, byte_of, offset_of, k_of, half_bits, second_half_bits, second_bits}
 use Rattle.st_format.specs.Operations.{numbered_op, half_op, branch_op, kind, full_op, kind_number, full_number}
 use Rattle.st_format.specs.Validity.{unused_in_kind, unused_k, unused_marks, has_misfit, has_misused_p, has_miscount, breaks_rules}
-use Rattle.st_format.specs.Formats.{branch_word, index_word, half_word, word_of, full_word, instruction_of, first_half, second_half, bit_of}
+use Rattle.st_format.specs.Formats.{branch_word, index_word, half_word, full_word_instruction, full_word, instruction_of, first_half, second_half, bit_of}
 use Rattle.st_format.proofs.Windows.{half_bits-fields, first_bits-fields, field_bits-fields, second_bits-fields, count_of-mod}
 use Rattle.st_format.proofs.Numbers.{number-half_op, number-branch_op, number-kind, number-numbered_op, vfl_number-bound, swap-bound, order-bound}
 
@@ -23,8 +23,8 @@ of_choice P false x y f g = g refl
 
 -- ---- the first half-word
 
-first-word : (op : FullOp) (f s : ℕ) → f < 2 ^ 32 → is_full f ≡ true → first_half (word_of op f s) ≡ f
-unfolding word_of
+first-word : (op : FullOp) (f s : ℕ) → f < 2 ^ 32 → is_full f ≡ true → first_half (full_word_instruction op f s) ≡ f
+unfolding full_word_instruction
 first-word (Variable op) f s lt full = first_bits-fields f lt full
 first-word _ f s lt full = first_bits-fields f lt full
 
@@ -166,16 +166,16 @@ second-by s o k lt same last =
 
 -- one of an operation on a field
 field-by : (s o : ℕ) → s < 2 ^ 32 → o ≡ later s 51 9 → k_of s ≡ 0
-    → field_bits (p_of s) (length_of s) (byte_of s) (offset_of s) o ≡ s
+    → second_half_bits (p_of s) (length_of s) (byte_of s) (offset_of s) o ≡ s
 field-by s o lt same none =
-    ap (field_bits (p_of s) (length_of s) (byte_of s) (offset_of s)) same ∙ field_bits-fields s lt none
+    ap (second_half_bits (p_of s) (length_of s) (byte_of s) (offset_of s)) same ∙ field_bits-fields s lt none
 
 bit-later : (s a : ℕ) → later s a 1 < 2 → bit_of (is_one s a) ≡ later s a 1
 bit-later s a lt = bit-one (later s a 1) lt
 
 second-word : (op : FullOp) (f s : ℕ) → s < 2 ^ 32 → full_op s ≡ Some op → KeepsRules op f s
-    → second_half (word_of op f s) ≡ Some s
-unfolding word_of
+    → second_half (full_word_instruction op f s) ≡ Some s
+unfolding full_word_instruction
 second-word (Variable op) f s lt e kept =
     let number = plain-full_op s (Variable op) e (vfl_number-bound op) in
     let plain : later s 51 1 ≡ 0 = number.0 in

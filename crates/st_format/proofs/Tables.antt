@@ -1,15 +1,15 @@
 -- The operations of a list and their numbers.
 use Rattle.std.proofs.Common.{◌≡◌, ℕ, zero, suc, ◌<◌, ◌==◌, ◌&&◌, Bool, true, false, List, [], ◌∷◌, Some, refl, sym, ◌∙◌, ap, if◌then◌else◌, arith}
 use Rattle.std.proofs.lemmas.Bool.{eqb-true}
-use Rattle.st_format.specs.Operations.{numbered}
+use Rattle.st_format.specs.Operations.{operation_at}
 
 -- the operation of a number has that number
 pub number-numbered : {A : Type 0} (number : A → ℕ) (ops : List A) (n : ℕ) (x : A)
-    → numbered number ops n ≡ Some x → number x ≡ n
+    → operation_at number ops n ≡ Some x → number x ≡ n
 number-numbered number [] n x e = cc
 number-numbered {A} number (op ∷ ops) n x e =
-    let by : (b : Bool) → (number op == n) ≡ b → (if b then Some op else numbered number ops n) ≡ Some x → number x ≡ n =
-    λ b. elim b as (λ v. (number op == n) ≡ v → (if v then Some op else numbered number ops n) ≡ Some x → number x ≡ n) [
+    let by : (b : Bool) → (number op == n) ≡ b → (if b then Some op else operation_at number ops n) ≡ Some x → number x ≡ n =
+    λ b. elim b as (λ v. (number op == n) ≡ v → (if v then Some op else operation_at number ops n) ≡ Some x → number x ≡ n) [
       | true ↦ λ same found. let one : op ≡ x = cc in ap number (sym one) ∙ eqb-true (number op) n same
       | false ↦ λ _ found. number-numbered number ops n x found
     ] in

@@ -2,7 +2,7 @@
 use Rattle.std.proofs.Common.{◌≡◌, ℕ, zero, suc, if◌then◌else◌, ◌+◌, ◌*◌, ◌/◌, ◌%◌, ◌^◌, ◌<◌, ◌≤◌, ◌==◌, Bool, true, false, refl, sym, ◌∙◌, ap, arith}
 use Rattle.std.proofs.Math.Nat.{mod_self, mod-eq_of_lt}
 use Rattle.std.proofs.lemmas.Bool.{eqb-true, eqb-false, ne_eqb}
-use Rattle.st_format.specs.Halves.{part, later, is_full, i_of, address_of, j_of, operation_of, bit_address_of, second_address_of, p_of, length_of, byte_of, offset_of, k_of, words_moved, or_greatest, half_bits, first_bits, field_bits, second_bits}
+use Rattle.st_format.specs.Halves.{half_word_part, later, is_full, i_of, address_of, j_of, operation_of, bit_address_of, second_address_of, p_of, length_of, byte_of, offset_of, k_of, words_moved, or_greatest, half_bits, first_bits, second_half_bits, second_bits}
 
 -- a field that is not zero stands for itself
 greatest-some : (g n : ℕ) → 1 ≤ n → or_greatest g n ≡ n
@@ -48,7 +48,7 @@ i-half_bits a j o i hi = omega arith
 pub is_full-half_bits : (a j o i : ℕ) → i < 16 → is_full (half_bits a j o i) ≡ (o % 16 == 15)
 unfolding is_full half_bits
 is_full-half_bits a j o i hi =
-    let e : part (a * 2 ^ 13 + j * 2 ^ 9 + o * 2 ^ 4 + i) 24 4 ≡ o % 16 = omega arith in ap (λ n. n == 15) e
+    let e : half_word_part (a * 2 ^ 13 + j * 2 ^ 9 + o * 2 ^ 4 + i) 24 4 ≡ o % 16 = omega arith in ap (λ n. n == 15) e
 
 -- a half-word is packed from its fields
 pub half_bits-fields : (h : ℕ) → h < 2 ^ 32 → half_bits (address_of h) (j_of h) (operation_of h) (i_of h) ≡ h
@@ -68,52 +68,52 @@ i-first_bits a i hi = omega arith
 pub is_full-first_bits : (a i : ℕ) → i < 16 → is_full (first_bits a i) ≡ true
 unfolding is_full first_bits
 is_full-first_bits a i hi =
-    let e : part (a * 2 ^ 8 + 15 * 2 ^ 4 + i) 24 4 ≡ 15 = omega arith in ap (λ n. n == 15) e
+    let e : half_word_part (a * 2 ^ 8 + 15 * 2 ^ 4 + i) 24 4 ≡ 15 = omega arith in ap (λ n. n == 15) e
 
 -- a first half with ones in bits 24-27 is packed from its fields
 pub first_bits-fields : (h : ℕ) → h < 2 ^ 32 → is_full h ≡ true → first_bits (bit_address_of h) (i_of h) ≡ h
 unfolding first_bits is_full bit_address_of i_of
 first_bits-fields h lt full =
-    let ones : part h 24 4 ≡ 15 = eqb-true (part h 24 4) 15 full in omega arith
+    let ones : half_word_part h 24 4 ≡ 15 = eqb-true (half_word_part h 24 4) 15 full in omega arith
 
 -- ---- the second half of an operation on a field
 
-pub p-field_bits : (p l b f o : ℕ) → p < 8 → f < 128 → o < 512 → p_of (field_bits p l b f o) ≡ p
-unfolding p_of field_bits
+pub p-field_bits : (p l b f o : ℕ) → p < 8 → f < 128 → o < 512 → p_of (second_half_bits p l b f o) ≡ p
+unfolding p_of second_half_bits
 p-field_bits p l b f o hp hf ho = omega arith
 
 pub length-field_bits : (p l b f o : ℕ) → p < 8 → 1 ≤ l → l ≤ 64 → f < 128 → o < 512
-    → length_of (field_bits p l b f o) ≡ l
-unfolding length_of field_bits
+    → length_of (second_half_bits p l b f o) ≡ l
+unfolding length_of second_half_bits
 length-field_bits p l b f o hp some fits hf ho =
     let e : later (p * 2 ^ 29 + l % 64 * 2 ^ 23 + b % 8 * 2 ^ 20 + f * 2 ^ 13 + o * 2 ^ 4) 35 6 ≡ l % 64 =
     omega arith in
     ap (or_greatest 64) e ∙ greatest-mod 64 l (omega arith) some fits
 
 pub byte-field_bits : (p l b f o : ℕ) → p < 8 → 1 ≤ b → b ≤ 8 → f < 128 → o < 512
-    → byte_of (field_bits p l b f o) ≡ b
-unfolding byte_of field_bits
+    → byte_of (second_half_bits p l b f o) ≡ b
+unfolding byte_of second_half_bits
 byte-field_bits p l b f o hp some fits hf ho =
     let e : later (p * 2 ^ 29 + l % 64 * 2 ^ 23 + b % 8 * 2 ^ 20 + f * 2 ^ 13 + o * 2 ^ 4) 41 3 ≡ b % 8 =
     omega arith in
     ap (or_greatest 8) e ∙ greatest-mod 8 b (omega arith) some fits
 
-pub offset-field_bits : (p l b f o : ℕ) → p < 8 → f < 128 → o < 512 → offset_of (field_bits p l b f o) ≡ f
-unfolding offset_of field_bits
+pub offset-field_bits : (p l b f o : ℕ) → p < 8 → f < 128 → o < 512 → offset_of (second_half_bits p l b f o) ≡ f
+unfolding offset_of second_half_bits
 offset-field_bits p l b f o hp hf ho = omega arith
 
-pub operation-field_bits : (p l b f o : ℕ) → p < 8 → f < 128 → o < 512 → later (field_bits p l b f o) 51 9 ≡ o
-unfolding field_bits
+pub operation-field_bits : (p l b f o : ℕ) → p < 8 → f < 128 → o < 512 → later (second_half_bits p l b f o) 51 9 ≡ o
+unfolding second_half_bits
 operation-field_bits p l b f o hp hf ho = omega arith
 
-pub k-field_bits : (p l b f o : ℕ) → k_of (field_bits p l b f o) ≡ 0
-unfolding k_of field_bits
+pub k-field_bits : (p l b f o : ℕ) → k_of (second_half_bits p l b f o) ≡ 0
+unfolding k_of second_half_bits
 k-field_bits p l b f o = omega arith
 
 -- a second half is packed from the fields of an operation on a field
 pub field_bits-fields : (s : ℕ) → s < 2 ^ 32 → k_of s ≡ 0
-    → field_bits (p_of s) (length_of s) (byte_of s) (offset_of s) (later s 51 9) ≡ s
-unfolding field_bits p_of length_of byte_of offset_of k_of
+    → second_half_bits (p_of s) (length_of s) (byte_of s) (offset_of s) (later s 51 9) ≡ s
+unfolding second_half_bits p_of length_of byte_of offset_of k_of
 field_bits-fields s lt none =
     let l : or_greatest 64 (later s 35 6) % 64 ≡ later s 35 6 =
     mod-greatest 64 (later s 35 6) (omega arith) (omega arith) in

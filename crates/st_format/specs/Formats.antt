@@ -10,7 +10,7 @@ use Rattle.st_format.specs.declared.instruction.Format.{Format}
 use Rattle.st_format.specs.declared.instruction.Format.TheVariants.{Index, Branch as BranchGroup, Floating as FloatingGroup, Whole, NoHalf, NoWhole}
 use Rattle.st_bits.specs.declared.operations.HalfOp.{HalfOp}
 use Rattle.st_bits.specs.declared.operations.BranchOp.{BranchOp}
-use Rattle.st_format.specs.Halves.{later, is_one, is_full, i_of, address_of, j_of, operation_of, bit_address_of, second_address_of, p_of, length_of, byte_of, offset_of, words_moved, half_bits, first_bits, field_bits, second_bits}
+use Rattle.st_format.specs.Halves.{later, is_one, is_full, i_of, address_of, j_of, operation_of, bit_address_of, second_address_of, p_of, length_of, byte_of, offset_of, words_moved, half_bits, first_bits, second_half_bits, second_bits}
 use Rattle.st_format.specs.Operations.{half_op, branch_op, full_op, half_number, branch_number, full_number, writes_field}
 use Rattle.st_format.specs.Validity.{breaks_rules, is_invalid, misfits, misuses_p}
 
@@ -27,36 +27,38 @@ index_word None first = Invalid first 0 false
 -- a half-word instruction
 unfoldable pub half_word : ℕ → Instr
 half_word first =
-    if operation_of first == FLOATING_GROUP then Floating (j_of first) (address_of first) (i_of first)
+    if operation_of first == FLOATING_GROUP then Floating (j_of first) (address_of first)
+    (i_of first)
     else if operation_of first == BRANCH_GROUP then branch_word (branch_op (j_of first)) first
     else index_word (half_op (operation_of first)) first
 
 -- a full-word instruction with a known operation
-unfoldable pub word_of : FullOp → ℕ → ℕ → Instr
-word_of (Variable op) first second =
+unfoldable pub full_word_instruction : FullOp → ℕ → ℕ → Instr
+full_word_instruction (Variable op) first second =
     Vfl op (is_one second 52) (is_one second 53) (is_one second 54) (p_of second) (length_of second)
     (byte_of second) (offset_of second) (bit_address_of first) (i_of first)
-word_of (Connective kind) first second =
+full_word_instruction (Connective kind) first second =
     Connect kind (later second 52 4) (p_of second) (length_of second) (byte_of second)
     (offset_of second) (bit_address_of first) (i_of first)
-word_of (Transmission swap) first second =
+full_word_instruction (Transmission swap) first second =
     Move swap (bit_address_of first) (i_of first) (second_address_of second) (words_moved second)
-word_of BitTest first second =
+full_word_instruction BitTest first second =
     BitBranch (is_one second 52) (later second 53 2) (bit_address_of first) (i_of first)
     (second_address_of second)
-word_of IndicatorTest first second =
+full_word_instruction IndicatorTest first second =
     IndBranch (is_one second 52) (is_one second 53) (bit_address_of first) (i_of first)
     (second_address_of second)
-word_of (Order write) first second =
+full_word_instruction (Order write) first second =
     Transfer write (bit_address_of first) (i_of first) (second_address_of second)
-word_of CounterStore first second =
+full_word_instruction CounterStore first second =
     StoreCounter (bit_address_of first) (i_of first) (second_address_of second)
 
 -- a full-word instruction, where the operation is one of the list and breaks no rule
 abbrev pub full_word : Option FullOp → ℕ → ℕ → Instr
 full_word None first second = Invalid first second true
 full_word (Some op) first second =
-    if breaks_rules op first second then Invalid first second true else word_of op first second
+    if breaks_rules op first second then Invalid first second true
+    else full_word_instruction op first second
 
 -- the instruction that the bits spell
 unfoldable pub instruction_of : ℕ → ℕ → Instr
@@ -68,13 +70,13 @@ abbrev pub spelled_as : Format → ℕ → ℕ → Instr
 spelled_as (Index op) first second = Half op (address_of first) (j_of first) (i_of first)
 spelled_as (BranchGroup op) first second = Branch op (address_of first) (i_of first)
 spelled_as FloatingGroup first second = Floating (j_of first) (address_of first) (i_of first)
-spelled_as (Whole op) first second = word_of op first second
+spelled_as (Whole op) first second = full_word_instruction op first second
 spelled_as NoHalf first second = Invalid first 0 false
 spelled_as NoWhole first second = Invalid first second true
 
 -- the same with the number of its half-words
-abbrev pub decoded : ℕ → ℕ → Decoded
-decoded first second = record {
+abbrev pub decoded_entry : ℕ → ℕ → Decoded
+decoded_entry first second = record {
   instr = instruction_of first second;
   halves = if is_full first then 2 else 1;
 }
@@ -103,10 +105,10 @@ second_half (Half op address j i) = None
 second_half (Branch op address i) = None
 second_half (Floating number address i) = None
 second_half (Vfl op d u n p length byte offset address i) =
-    Some (field_bits p length byte offset
+    Some (second_half_bits p length byte offset
     (bit_of d * 2 ^ 7 + bit_of u * 2 ^ 6 + bit_of n * 2 ^ 5 + full_number (Variable op)))
 second_half (Connect kind table p length byte offset address i) =
-    Some (field_bits p length byte offset
+    Some (second_half_bits p length byte offset
     (table * 2 ^ 4 + full_number (Connective kind)))
 second_half (Move swap address i second count) =
     Some (second_bits second (full_number (Transmission swap)) (count % 16))
@@ -127,7 +129,7 @@ halves_of instr = if is_some (second_half instr) then 2 else 1
 
 -- what the bits of an instruction spell; other bits stand behind those of a half-word
 abbrev pub reread : Instr → ℕ → Decoded
-reread instr rest = decoded (first_half instr) (unwrap_or (second_half instr) rest)
+reread instr rest = decoded_entry (first_half instr) (unwrap_or (second_half instr) rest)
 
 -- the address and the index field of a half-word instruction
 pub record FitsHalf (address i : ℕ) : Type 0 where

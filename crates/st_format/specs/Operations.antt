@@ -94,14 +94,15 @@ full_number (Order true) = 29
 full_number CounterStore = 30
 
 -- the operation of a list that has the number
-abbrev pub numbered : {A : Type 0} → (A → ℕ) → List A → ℕ → Option A
-numbered number [] n = None
-numbered number (op ∷ ops) n = if number op == n then Some op else numbered number ops n
+abbrev pub operation_at : {A : Type 0} → (A → ℕ) → List A → ℕ → Option A
+operation_at number [] n = None
+operation_at number (op ∷ ops) n = if number op == n then Some op else operation_at number ops n
 
 -- the operations of the half-word format, the branch group apart
 unfoldable pub half_ops : List HalfOp
 half_ops =
-    Lx ∷ Lv ∷ Lc ∷ Lr ∷ Sx ∷ Sv ∷ Sc ∷ Sr ∷ Sva ∷ VPlus ∷ VPlusC ∷ Kv ∷ Lvs ∷ Lvi ∷ Lci ∷ Lri ∷ VPlusI ∷ VMinusI
+    Lx ∷ Lv ∷ Lc ∷ Lr ∷ Sx ∷ Sv ∷ Sc ∷ Sr ∷ Sva ∷ VPlus ∷ VPlusC ∷ Kv ∷ Lvs ∷ Lvi ∷ Lci ∷ Lri
+    ∷ VPlusI ∷ VMinusI
     ∷ VPlusIC ∷ VPlusICR ∷ Kvi ∷ Kc ∷ Kci ∷ Cb ∷ Cbr ∷ R ∷ Ex ∷ []
 
 -- the branch group
@@ -111,27 +112,30 @@ branch_ops = B ∷ Br ∷ Be ∷ Bd ∷ Bew ∷ Nop ∷ []
 -- the operations of the full-word format, the connectives apart
 unfoldable pub full_ops : List FullOp
 full_ops =
-    Variable L ∷ Variable Lwf ∷ Variable Ltrs ∷ Variable Lft ∷ Variable St ∷ Variable Add ∷ Variable AddMg
-    ∷ Variable MAdd ∷ Variable MAddMg ∷ Variable MAdd1 ∷ Variable K ∷ Variable Kf ∷ Variable Ke ∷ Variable Kfe
+    Variable L ∷ Variable Lwf ∷ Variable Ltrs ∷ Variable Lft ∷ Variable St ∷ Variable Add
+    ∷ Variable AddMg
+    ∷ Variable MAdd ∷ Variable MAddMg ∷ Variable MAdd1 ∷ Variable K ∷ Variable Kf ∷ Variable Ke
+    ∷ Variable Kfe
     ∷ Variable Kr ∷ Variable Kfr ∷ Variable Mul ∷ Variable MulAdd ∷ Variable Div ∷ Variable Lcv
-    ∷ Transmission false ∷ Transmission true ∷ BitTest ∷ IndicatorTest ∷ Order false ∷ Order true ∷ CounterStore ∷ []
+    ∷ Transmission false ∷ Transmission true ∷ BitTest ∷ IndicatorTest ∷ Order false ∷ Order true
+    ∷ CounterStore ∷ []
 
 -- the kinds of connectives
 unfoldable pub kinds : List ConnKind
 kinds = C ∷ Cm ∷ Ct ∷ []
 
 unfoldable pub half_op : ℕ → Option HalfOp
-half_op n = numbered half_number half_ops n
+half_op n = operation_at half_number half_ops n
 
 unfoldable pub branch_op : ℕ → Option BranchOp
-branch_op n = numbered branch_number branch_ops n
+branch_op n = operation_at branch_number branch_ops n
 
 unfoldable pub kind : ℕ → Option ConnKind
-kind n = numbered kind_number kinds n
+kind n = operation_at kind_number kinds n
 
 -- the operation of the full-word format of a number, the connectives apart
 unfoldable pub numbered_op : ℕ → Option FullOp
-numbered_op n = numbered full_number full_ops n
+numbered_op n = operation_at full_number full_ops n
 
 -- the operation of a full word: bit 51 marks a connective, with its kind in bits 56-57;
 -- another one has its number in bits 55-59

@@ -29,8 +29,8 @@ unused_marks (Order _) second = later second 52 3
 unused_marks IndicatorTest second = later second 54 1
 unused_marks _ second = 0
 
--- a decimal field has bytes of at least four bits and is made of whole bytes; a signed field has room
--- for its sign byte
+-- a decimal field has bytes of at least four bits and is made of whole bytes; a signed field has
+-- room for its sign byte
 abbrev pub misfits : Bool → Bool → ℕ → ℕ → Bool
 misfits decimal unsigned length byte =
     (decimal && (nat_lt byte 4 || not (length % byte == 0))) || (not unsigned && nat_lt length byte)
@@ -40,8 +40,8 @@ has_misfit (Variable _) second =
     misfits (is_one second 52) (is_one second 53) (length_of second) (byte_of second)
 has_misfit _ second = false
 
--- an operand in the address is not written and has at most 24 bits; a progressive form needs an index
--- word
+-- an operand in the address is not written and has at most 24 bits; a progressive form needs an
+-- index word
 abbrev pub misuses_p : Bool → ℕ → ℕ → ℕ → Bool
 misuses_p writes p length i = (p == 1 && (writes || nat_lt 24 length)) || (nat_le 2 p && i == 0)
 

@@ -3,7 +3,7 @@ ghost use Rattle.std.specs.Prelude.{◌≡◌, ℕ, false, None, Some, if◌then
 ghost use Rattle.st_format.specs.Halves.{is_full as has_ones};
 ghost use Rattle.st_format.specs.Operations.{full_op as full_op_of};
 ghost use Rattle.st_format.specs.Validity.{is_invalid};
-ghost use Rattle.st_format.specs.Formats.{decoded, spelled_as, instruction_of, half_word, full_word, word_of, first_half, second_half, IsShape, is_no_instruction};
+ghost use Rattle.st_format.specs.Formats.{decoded_entry, spelled_as, instruction_of, half_word, full_word, full_word_instruction, first_half, second_half, IsShape, is_no_instruction};
 
 use crate::fields::{
     bit_address, byte_size, field_length, half_address, index_field, is_full, later, offset,
@@ -13,12 +13,12 @@ use crate::instruction::{Decoded, Format, Instr};
 use crate::operations::{BRANCH_GROUP, FLOATING_GROUP, FullOp, branch_op, full_op, half_op};
 use crate::rules::breaks_rules;
 
-/// The instruction that two half-words spell, and its length. The second is read only where the first is that of
-/// a full word.
+/// The instruction that two half-words spell, and its length. The second is read only where the
+/// first is that of a full word.
 ///
 /// Bits that spell no instruction are `Invalid`: docs/instructions.md lists the rules.
 pub fn decode(first: u32, second: u32) -> Decoded
-    ensures value { result ≡ decoded first second }
+    ensures value { result ≡ decoded_entry first second }
     ensures invalid { is_no_instruction result.instr ≡ is_invalid first second }
 
     // Its fields are in range, and its bits are those that were decoded.
@@ -33,7 +33,7 @@ pub fn decode(first: u32, second: u32) -> Decoded
 #[inline(always)]
 pub fn decode_as(format: Format, first: u32, second: u32) -> Decoded
     requires { spelled_as format first second ≡ instruction_of first second }
-    ensures value { result ≡ decoded first second }
+    ensures value { result ≡ decoded_entry first second }
     ensures shape { IsShape result.instr }
 {
     Decoded {
@@ -50,8 +50,8 @@ pub fn length_in_halves(first: u32) -> u8
     if is_full(first) { 2 } else { 1 }
 }
 
-/// The format of the instruction that two half-words spell. The second is read only where the first is that of a full
-/// word.
+/// The format of the instruction that two half-words spell. The second is read only where the first
+/// is that of a full word.
 #[inline(always)]
 #[tactic(auto, unfolding(crate::specs::Formats::instruction_of))]
 pub fn format_of(first: u32, second: u32) -> Format
@@ -92,7 +92,8 @@ fn whole_format(first: u32, second: u32) -> Format
     }
 }
 
-// The format of a full word with this operation. What follows knows its kind, so that it is told apart once.
+// The format of a full word with this operation. What follows knows its kind, so that it is told
+// apart once.
 #[inline(always)]
 fn ruled(op: FullOp, first: u32, second: u32) -> Format
     ensures { spelled_as result first second ≡ full_word (Some op) first second }
@@ -157,9 +158,9 @@ fn spelled_by(format: Format, first: u32, second: u32) -> Instr
 
 // The full-word instruction with this operation.
 #[inline(always)]
-#[tactic(auto, unfolding(crate::specs::Formats::word_of))]
+#[tactic(auto, unfolding(crate::specs::Formats::full_word_instruction))]
 fn spell(op: FullOp, first: u32, second: u32) -> Instr
-    ensures { result ≡ word_of op first second }
+    ensures { result ≡ full_word_instruction op first second }
 {
     let address = bit_address(first);
     let i = index_field(first);

@@ -1,6 +1,6 @@
 //! From an instruction to its bits.
 ghost use Rattle.std.specs.Prelude.{◌≡◌, ◌+◌, ◌*◌, ◌<◌, ◌^◌, ℕ, unwrap_or, is_some};
-ghost use Rattle.st_format.specs.Halves.{is_full, half_bits as half_bits_of, first_bits as first_bits_of, field_bits as field_bits_of, second_bits as second_bits_of};
+ghost use Rattle.st_format.specs.Halves.{is_full, half_bits as half_bits_of, first_bits as first_bits_of, second_half_bits as field_bits_of, second_bits as second_bits_of};
 ghost use Rattle.st_format.specs.Operations.{full_number as full_number_of};
 ghost use Rattle.st_format.specs.Formats.{instruction_of, first_half, second_half, IsShape, bit_of};
 
@@ -9,7 +9,8 @@ use crate::operations::{
     BRANCH_GROUP, FLOATING_GROUP, FullOp, branch_number, half_number, kind_number, vfl_number,
 };
 
-/// The bits of an instruction that some bits spell: the first half-word, and the second one of a full word.
+/// The bits of an instruction that some bits spell: the first half-word, and the second one of a
+/// full word.
 pub fn encode(instr: &Instr) -> (u32, Option<u32>)
     requires { IsShape instr.now }
     ensures first { result.0 ≡ first_half instr.now }
@@ -148,7 +149,7 @@ fn first_bits(address: u32, i: u8) -> u32
 }
 
 // The second half-word of an operation on a field.
-#[tactic(auto, unfolding(crate::specs::Halves::field_bits))]
+#[tactic(auto, unfolding(crate::specs::Halves::second_half_bits))]
 fn field_bits(p: u8, length: u8, byte: u8, offset: u8, operation: u32) -> u32
     requires p_fits { p < 8 }
     requires offset_fits { offset < 128 }

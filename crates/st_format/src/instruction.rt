@@ -4,9 +4,9 @@ use st_bits::{BranchOp, ConnKind, HalfOp, VflOp};
 
 /// An instruction, or bits that spell none.
 ///
-/// The address of a half-word instruction is a half-word address below 2^19, that of a full-word instruction a
-/// bit address below 2^24, and a second address is a half-word address below 2^19. The index fields `i` and `j`
-/// are 0 to 15.
+/// The address of a half-word instruction is a half-word address below 2^19, that of a full-word
+/// instruction a bit address below 2^24, and a second address is a half-word address below 2^19.
+/// The index fields `i` and `j` are 0 to 15.
 #[derive(Clone, Copy, Debug, PartialEq, Eq)]
 pub enum Instr {
     /// An operation of the half-word format.
@@ -28,8 +28,9 @@ pub enum Instr {
         address: u32,
         i: u8,
     },
-    /// An operation on a field. `p`, 0 to 7, is the progressive form, `length` is 1 to 64, `byte` is 1 to 8 and
-    /// `offset` is 0 to 127. The bits have 0 for the length 64 and 0 for the byte size 8.
+    /// An operation on a field. `p`, 0 to 7, is the progressive form, `length` is 1 to 64, `byte`
+    /// is 1 to 8 and `offset` is 0 to 127. The bits have 0 for the length 64 and 0 for the byte
+    /// size 8.
     Vfl {
         op: VflOp,
         decimal: bool,
@@ -42,8 +43,8 @@ pub enum Instr {
         address: u32,
         i: u8,
     },
-    /// A connective. `table` is 0 to 15: its highest bit is the result for two zeros, its lowest that for two
-    /// ones. The other fields are those of an operation on a field.
+    /// A connective. `table` is 0 to 15: its highest bit is the result for two zeros, its lowest
+    /// that for two ones. The other fields are those of an operation on a field.
     Connect {
         kind: ConnKind,
         table: u8,
@@ -62,8 +63,8 @@ pub enum Instr {
         second: u32,
         count: u8,
     },
-    /// A branch on a bit of storage. `change`, 0 to 3, is what then becomes of the bit: it is left, zeroed, set
-    /// to one or inverted.
+    /// A branch on a bit of storage. `change`, 0 to 3, is what then becomes of the bit: it is left,
+    /// zeroed, set to one or inverted.
     BitBranch {
         sense: bool,
         change: u8,
@@ -85,8 +86,8 @@ pub enum Instr {
         i: u8,
         second: u32,
     },
-    /// An order to the reader, or to the printer where `write` says so. It takes effect `count` instructions
-    /// later, 1 to 1,000.
+    /// An order to the reader, or to the printer where `write` says so. It takes effect `count`
+    /// instructions later, 1 to 1,000.
     Transfer {
         write: bool,
         address: u32,
@@ -101,7 +102,8 @@ pub enum Instr {
     },
 }
 
-/// A format, with the operation where it has one: what is known of an instruction before its fields are taken out.
+/// A format, with the operation where it has one: what is known of an instruction before its fields
+/// are taken out.
 #[derive(Clone, Copy, Debug, PartialEq, Eq)]
 pub enum Format {
     /// The half-word format.
@@ -159,7 +161,8 @@ impl Instr {
     ghost use Rattle.std.specs.Prelude.{◌≡◌};
     ghost use Rattle.st_format.specs.Formats.{is_valid as is_valid_of};
 
-    /// Whether the machine has this instruction: false for bits that spell none, and for the floating group.
+    /// Whether the machine has this instruction: false for bits that spell none, and for the
+    /// floating group.
     pub fn is_valid(&self) -> bool
         ensures { result ≡ is_valid_of self.now }
     {

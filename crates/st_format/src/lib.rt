@@ -1,4 +1,5 @@
-//! The two formats of an instruction, and what their bits spell. `docs/instructions.md` has the rules.
+//! The two formats of an instruction, and what their bits spell. `docs/instructions.md` has the
+//! rules.
 //!
 //! A half-word instruction has 32 bits:
 //!
@@ -9,8 +10,8 @@
 //!  +---------------------+------+-------+-----+
 //! ```
 //!
-//! A full-word instruction has two half-words, and bits 24-27 of the first are ones. The second one of an
-//! operation on a field, decimal, binary or connective:
+//! A full-word instruction has two half-words, and bits 24-27 of the first are ones. The second one
+//! of an operation on a field, decimal, binary or connective:
 //!
 //! ```text
 //!   0                       23 24  27 28 31

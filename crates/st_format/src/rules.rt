@@ -69,8 +69,9 @@ fn has_misfit(op: FullOp, second: u32) -> bool
     }
 }
 
-/// Whether a field has no such form: a decimal one has bytes of at least four bits and is made of whole bytes, and a signed one has
-/// room for its sign byte. The length is 1 to 64 bits, the byte 1 to 8.
+/// Whether a field has no such form: a decimal one has bytes of at least four bits and is made of
+/// whole bytes, and a signed one has room for its sign byte. The length is 1 to 64 bits, the byte 1
+/// to 8.
 #[inline(always)]
 pub fn misfits_field(decimal: bool, unsigned: bool, length: u8, byte: u8) -> bool
     ensures { result ≡ misfits decimal unsigned length byte }

@@ -3,7 +3,7 @@ use Rattle.std.proofs.Common.{◌≡◌, ◌≤◌, ◌<◌, ◌+◌, ◌*◌, �
 use Rattle.std.proofs.lemmas.Fmt.{length-decimal-le}
 use Rattle.std.specs.Prelude.{replicate}
 use Rattle.st_text.specs.Bytes.{blank, lf}
-use Rattle.st_gen.specs.Deck.{next, after, draw, below, index, word, bit, offset, field_length, byte_field_length, field_operands, statement, form_after, card, control, drawn_card, after_cards, drawn_cards, delay_card, delay_cards, closing_cards, made_deck}
+use Rattle.st_gen.specs.Deck.{next_number, number_after, draw, below, index, word_statement, bit_statement, offset, field_length, byte_field_length, field_operands, statement, form_after, card, control, drawn_card, after_cards, drawn_cards, delay_card, delay_cards, closing_cards, made_deck}
 use Rattle.st_gen.specs.declared.form.Form.{Form}
 use Rattle.st_gen.specs.declared.form.Form.TheVariants.{LoadValue, AddValue, LoadWord, Add, Store, AddOne, Connect, Multiply}
 
@@ -25,8 +25,8 @@ field_operands-short : (x : ℕ) → length (field_operands x) ≤ 24
 field_operands-short x =
     let length_is = held (codes "(BU,") (codes "),") 4 2 (1 + draw 1 64 x) (omega arith) (omega arith) (omega arith) in
     let word_is = held (codes "(BU," ++ field_length 1 x ++ codes "),") (codes ".") 10 1 (4096 + draw 2 256 x) length_is (omega arith) (omega arith) in
-    let bit_is = held (codes "(BU," ++ field_length 1 x ++ codes ")," ++ word 2 x ++ codes ".") (codes ",") 15 1 (draw 3 64 x) word_is (omega arith) (omega arith) in
-    joined (codes "(BU," ++ field_length 1 x ++ codes ")," ++ word 2 x ++ codes "." ++ bit 3 x ++ codes ",") (offset 4 x) 20 4 bit_is (four (draw 4 64 x) (omega arith))
+    let bit_is = held (codes "(BU," ++ field_length 1 x ++ codes ")," ++ word_statement 2 x ++ codes ".") (codes ",") 15 1 (draw 3 64 x) word_is (omega arith) (omega arith) in
+    joined (codes "(BU," ++ field_length 1 x ++ codes ")," ++ word_statement 2 x ++ codes "." ++ bit_statement 3 x ++ codes ",") (offset 4 x) 20 4 bit_is (four (draw 4 64 x) (omega arith))
 
 pub statement-short : (form : Form) (x : ℕ) → length (statement form x) ≤ 30
 statement-short LoadValue x =
@@ -49,7 +49,7 @@ statement-short Store x =
 statement-short AddOne x =
     let length_is = held (codes "M+1(B,") (codes ",8),") 6 4 (8 + draw 1 57 x) (omega arith) (omega arith) (omega arith) in
     let word_is = held (codes "M+1(B," ++ byte_field_length 1 x ++ codes ",8),") (codes ".") 14 1 (4096 + draw 2 256 x) length_is (omega arith) (omega arith) in
-    let all = joined (codes "M+1(B," ++ byte_field_length 1 x ++ codes ",8)," ++ word 2 x ++ codes ".") (bit 3 x) 19 4 word_is (four (draw 3 64 x) (omega arith)) in
+    let all = joined (codes "M+1(B," ++ byte_field_length 1 x ++ codes ",8)," ++ word_statement 2 x ++ codes ".") (bit_statement 3 x) 19 4 word_is (four (draw 3 64 x) (omega arith)) in
     omega (arith, all)
 statement-short Connect x =
     let all = joined (codes "C0110") (field_operands x) 5 24 (omega arith) (field_operands-short x) in
@@ -71,7 +71,7 @@ drawn_cards-short : (n x : ℕ) → length (drawn_cards n x) ≤ 40 * n
 drawn_cards-short zero x = omega arith
 drawn_cards-short (suc n) x =
     let y : ℕ = after_cards n x in
-    let one = card-short (statement (form_after y) (next y)) 30 (statement-short (form_after y) (next y)) in
+    let one = card-short (statement (form_after y) (next_number y)) 30 (statement-short (form_after y) (next_number y)) in
     let all = joined (drawn_cards n x) (drawn_card y) (40 * n) 40 (drawn_cards-short n x) one in
     omega (arith, all)
 
@@ -79,7 +79,7 @@ delay_cards-short : (n x : ℕ) → length (delay_cards n x) ≤ 13 * n
 unfolding delay_cards
 delay_cards-short zero x = omega arith
 delay_cards-short (suc n) x =
-    let y : ℕ = next (after n x) in
+    let y : ℕ = next_number (number_after n x) in
     let number = joined (codes "/DELAYS ") (decimal (1 + below 20 y)) 8 4 (omega arith) (four (1 + below 20 y) (omega arith)) in
     let one = control-short (codes "/DELAYS " ++ decimal (1 + below 20 y)) 12 number in
     let all = joined (delay_cards n x) (delay_card y) (13 * n) 13 (delay_cards-short n x) one in

@@ -5,13 +5,13 @@ use Rattle.st_gen.specs.declared.form.Form.{Form}
 use Rattle.st_gen.specs.declared.form.Form.TheVariants.{LoadValue, AddValue, LoadWord, Add, Store, AddOne, Connect, Multiply}
 
 -- the generator's next number
-unfoldable pub next : ℕ → ℕ
-next x = (x * 6364136223846793005 + 1442695040888963407) % 2 ^ 64
+unfoldable pub next_number : ℕ → ℕ
+next_number x = (x * 6364136223846793005 + 1442695040888963407) % 2 ^ 64
 
 -- its number after n steps
-abbrev pub after : ℕ → ℕ → ℕ
-after zero x = x
-after (suc n) x = next (after n x)
+abbrev pub number_after : ℕ → ℕ → ℕ
+number_after zero x = x
+number_after (suc n) x = next_number (number_after n x)
 
 -- what a number gives of the first m numbers: its high bits, reduced
 abbrev pub below : ℕ → ℕ → ℕ
@@ -19,27 +19,27 @@ below m x = x / 2 ^ 33 % m
 
 -- the n-th draw after x, of the first m numbers
 abbrev pub draw : ℕ → ℕ → ℕ → ℕ
-draw n m x = below m (after n x)
+draw n m x = below m (number_after n x)
 
 -- the n-th draw after x as the number of an index word
 abbrev pub index : ℕ → ℕ → List ℕ
 index n x = decimal (1 + draw n 7 x)
 
 -- as a word
-abbrev pub word : ℕ → ℕ → List ℕ
-word n x = decimal (4096 + draw n 256 x)
+abbrev pub word_statement : ℕ → ℕ → List ℕ
+word_statement n x = decimal (4096 + draw n 256 x)
 
 -- as a bit
-abbrev pub bit : ℕ → ℕ → List ℕ
-bit n x = decimal (draw n 64 x)
+abbrev pub bit_statement : ℕ → ℕ → List ℕ
+bit_statement n x = decimal (draw n 64 x)
 
 -- as an offset
 abbrev pub offset : ℕ → ℕ → List ℕ
 offset n x = decimal (draw n 64 x)
 
 -- as a small value
-abbrev pub value : ℕ → ℕ → List ℕ
-value n x = decimal (draw n 4 x)
+abbrev pub small_value : ℕ → ℕ → List ℕ
+small_value n x = decimal (draw n 4 x)
 
 -- as the length of a field
 abbrev pub field_length : ℕ → ℕ → List ℕ
@@ -52,18 +52,20 @@ byte_field_length n x = decimal (8 + draw n 57 x)
 -- the operands of an operation on an unsigned binary field: its length is drawn first
 abbrev pub field_operands : ℕ → List ℕ
 field_operands x =
-    codes "(BU," ++ field_length 1 x ++ codes ")," ++ word 2 x ++ codes "." ++ bit 3 x
+    codes "(BU," ++ field_length 1 x ++ codes ")," ++ word_statement 2 x ++ codes "."
+    ++ bit_statement 3 x
     ++ codes "," ++ offset 4 x
 
 -- a form's statement, its letters drawn after x
 abbrev pub statement : Form → ℕ → List ℕ
-statement LoadValue x = codes "LVI,$X" ++ index 1 x ++ codes "," ++ word 2 x ++ codes ".0"
-statement AddValue x = codes "V+I,$X" ++ index 1 x ++ codes "," ++ value 2 x ++ codes ".0"
-statement LoadWord x = codes "L(BU,64)," ++ word 1 x ++ codes ".0"
+statement LoadValue x = codes "LVI,$X" ++ index 1 x ++ codes "," ++ word_statement 2 x ++ codes ".0"
+statement AddValue x = codes "V+I,$X" ++ index 1 x ++ codes "," ++ small_value 2 x ++ codes ".0"
+statement LoadWord x = codes "L(BU,64)," ++ word_statement 1 x ++ codes ".0"
 statement Add x = codes "+" ++ field_operands x
 statement Store x = codes "ST" ++ field_operands x
 statement AddOne x =
-    codes "M+1(B," ++ byte_field_length 1 x ++ codes ",8)," ++ word 2 x ++ codes "." ++ bit 3 x
+    codes "M+1(B," ++ byte_field_length 1 x ++ codes ",8)," ++ word_statement 2 x ++ codes "."
+    ++ bit_statement 3 x
 statement Connect x = codes "C0110" ++ field_operands x
 statement Multiply x =
     codes "*(BU," ++ field_length 1 x ++ codes ")(V+I),0.32($X" ++ index 2 x ++ codes ")"
@@ -80,12 +82,12 @@ letters Connect = 4
 letters Multiply = 2
 
 -- the forms in the order of their numbers
-abbrev pub forms : List Form
-forms = LoadValue ∷ AddValue ∷ LoadWord ∷ Add ∷ Store ∷ AddOne ∷ Connect ∷ Multiply ∷ []
+abbrev pub deck_forms : List Form
+deck_forms = LoadValue ∷ AddValue ∷ LoadWord ∷ Add ∷ Store ∷ AddOne ∷ Connect ∷ Multiply ∷ []
 
 -- the form with this number
 abbrev pub form_of : ℕ → Form
-form_of number = slice_index_or forms number Multiply
+form_of number = slice_index_or deck_forms number Multiply
 
 -- the form that is drawn first for a card
 abbrev pub form_after : ℕ → Form
@@ -101,11 +103,11 @@ control text = text ++ lf
 
 -- the card drawn after x
 abbrev pub drawn_card : ℕ → List ℕ
-drawn_card x = card (statement (form_after x) (next x))
+drawn_card x = card (statement (form_after x) (next_number x))
 
 -- the generator's number after that card
 abbrev pub after_card : ℕ → ℕ
-after_card x = after (letters (form_after x)) (next x)
+after_card x = number_after (letters (form_after x)) (next_number x)
 
 -- the generator's number after n cards
 abbrev pub after_cards : ℕ → ℕ → ℕ
@@ -124,12 +126,13 @@ delay_card x = control (codes "/DELAYS " ++ decimal (1 + below 20 x))
 -- n cards with a delay each
 unfoldable pub delay_cards : ℕ → ℕ → List ℕ
 delay_cards zero x = []
-delay_cards (suc n) x = delay_cards n x ++ delay_card (next (after n x))
+delay_cards (suc n) x = delay_cards n x ++ delay_card (next_number (number_after n x))
 
 -- the cards behind the drawn ones: the end of the program, and the control cards
 abbrev pub closing_cards : ℕ → ℕ → List ℕ
 closing_cards cards x =
-    card (codes "BEW") ++ card (codes "END,32.0") ++ control (codes "/BUDGET " ++ decimal (cards + 2))
+    card (codes "BEW") ++ card (codes "END,32.0") ++ control
+    (codes "/BUDGET " ++ decimal (cards + 2))
     ++ delay_cards 16 x ++ control (codes "/TIME")
 
 -- the deck

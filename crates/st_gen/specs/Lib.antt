@@ -1,1 +1,2 @@
 pub mod Deck
+pub use Rattle.st_text.specs.Bytes

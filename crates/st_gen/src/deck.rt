@@ -1,7 +1,7 @@
 //! The cards of the deck.
 
 ghost use Rattle.std.specs.Prelude.{◌≡◌, ◌+◌, ◌*◌, ◌≤◌, ◌++◌, OnOk, IfOk, length};
-ghost use Rattle.st_gen.specs.Deck.{next, after_card, after_cards, card, drawn_card, drawn_cards, control, delay_card, delay_cards, closing_cards, made_deck};
+ghost use Rattle.st_gen.specs.Deck.{next_number, after_card, after_cards, card, drawn_card, drawn_cards, control, delay_card, delay_cards, closing_cards, made_deck};
 
 use crate::form::form_of;
 use crate::generator::Generator;
@@ -57,7 +57,7 @@ fn push_control(deck: &mut Vec<u8>, text: &str) -> Result<(), AllocError>
 
 // Appends a card with the next delay.
 fn push_delay_card(deck: &mut Vec<u8>, generator: &mut Generator) -> Result<(), AllocError>
-    ensures drawn { generator.new.x ≡ next generator.old.x }
+    ensures drawn { generator.new.x ≡ next_number generator.old.x }
     ensures ok { OnOk result (deck.new.items ≡ deck.old.items ++ delay_card generator.new.x) }
 {
     let mut text = begun("/DELAYS ");
@@ -108,8 +108,8 @@ fn push_deck(deck: &mut Vec<u8>, number: u64, cards: u32) -> Result<(), AllocErr
 
 /// The deck that the seed `number` makes: `cards` drawn cards, the end of the program, and control
 /// cards that give a budget of two more than `cards`, sixteen delays of 1 to 20 ticks, and ask for
-/// ticks. `soak` asks for 1 to 4,000 cards; this call makes a deck of any number. The one error is that memory ran out.
-/// `docs/deck.md` has the rules.
+/// ticks. `soak` asks for 1 to 4,000 cards; this call makes a deck of any number. The one error is
+/// that memory ran out. `docs/deck.md` has the rules.
 pub fn make_deck(alloc: Global, number: u64, cards: u32) -> Result<Vec<u8>, NoMemory>
     ensures deck { IfOk result (λ deck. deck.items ≡ made_deck number cards) }
     ensures short { IfOk result (λ deck. length deck.items ≤ 40 * cards + 300) }

@@ -1,7 +1,7 @@
 //! The generator of numbers.
 
 ghost use Rattle.std.specs.Prelude.{◌≡◌, ◌<◌};
-ghost use Rattle.st_gen.specs.Deck.{next, below};
+ghost use Rattle.st_gen.specs.Deck.{next_number, below};
 
 const MULTIPLIER: u64 = 6_364_136_223_846_793_005;
 
@@ -15,10 +15,10 @@ pub(crate) struct Generator {
 
 impl Generator {
     // The next number below the bound, by the high bits.
-    #[tactic(auto, unfolding(crate::specs::Deck::next))]
+    #[tactic(auto, unfolding(crate::specs::Deck::next_number))]
     pub(crate) fn draw(&mut self, bound: u32) -> u32
         requires { 0 < bound }
-        ensures step { self.new.x ≡ next self.old.x }
+        ensures step { self.new.x ≡ next_number self.old.x }
         ensures value { result ≡ below bound self.new.x }
         ensures in_range { result < bound }
     {

@@ -1,7 +1,7 @@
 //! The statements of the drawn cards.
 
 ghost use Rattle.std.specs.Prelude.{◌≡◌, ◌≤◌, ◌++◌, length};
-ghost use Rattle.st_gen.specs.Deck.{after, field_operands, statement, letters};
+ghost use Rattle.st_gen.specs.Deck.{number_after, field_operands, statement, letters};
 ghost use Rattle.st_gen.specs.declared.form.Form.TheVariants.{LoadValue, AddValue, LoadWord, AddOne, Multiply};
 
 use crate::form::Form;
@@ -9,7 +9,7 @@ use crate::generator::Generator;
 use st_text::{Line, begun, push_short_decimal};
 
 fn load_value(generator: &mut Generator) -> Line
-    ensures drawn { generator.new.x ≡ after 2 generator.old.x }
+    ensures drawn { generator.new.x ≡ number_after 2 generator.old.x }
     ensures text { result.bytes ≡ statement LoadValue generator.old.x }
 {
     let mut text = begun("LVI,$X");
@@ -21,7 +21,7 @@ fn load_value(generator: &mut Generator) -> Line
 }
 
 fn add_value(generator: &mut Generator) -> Line
-    ensures drawn { generator.new.x ≡ after 2 generator.old.x }
+    ensures drawn { generator.new.x ≡ number_after 2 generator.old.x }
     ensures text { result.bytes ≡ statement AddValue generator.old.x }
 {
     let mut text = begun("V+I,$X");
@@ -33,7 +33,7 @@ fn add_value(generator: &mut Generator) -> Line
 }
 
 fn load_word(generator: &mut Generator) -> Line
-    ensures drawn { generator.new.x ≡ after 1 generator.old.x }
+    ensures drawn { generator.new.x ≡ number_after 1 generator.old.x }
     ensures text { result.bytes ≡ statement LoadWord generator.old.x }
 {
     let mut text = begun("L(BU,64),");
@@ -45,7 +45,7 @@ fn load_word(generator: &mut Generator) -> Line
 // An operation on an unsigned binary field.
 fn field_operation(operation: &str, generator: &mut Generator) -> Line
     requires { length operation.now ≤ 8 }
-    ensures drawn { generator.new.x ≡ after 4 generator.old.x }
+    ensures drawn { generator.new.x ≡ number_after 4 generator.old.x }
     ensures text { result.bytes ≡ operation.now ++ field_operands generator.old.x }
 {
     let mut text = begun(operation);
@@ -61,7 +61,7 @@ fn field_operation(operation: &str, generator: &mut Generator) -> Line
 }
 
 fn add_one(generator: &mut Generator) -> Line
-    ensures drawn { generator.new.x ≡ after 3 generator.old.x }
+    ensures drawn { generator.new.x ≡ number_after 3 generator.old.x }
     ensures text { result.bytes ≡ statement AddOne generator.old.x }
 {
     let mut text = begun("M+1(B,");
@@ -74,7 +74,7 @@ fn add_one(generator: &mut Generator) -> Line
 }
 
 fn multiply(generator: &mut Generator) -> Line
-    ensures drawn { generator.new.x ≡ after 2 generator.old.x }
+    ensures drawn { generator.new.x ≡ number_after 2 generator.old.x }
     ensures text { result.bytes ≡ statement Multiply generator.old.x }
 {
     let mut text = begun("*(BU,");
@@ -87,7 +87,7 @@ fn multiply(generator: &mut Generator) -> Line
 
 // The statement of this form, with its letters drawn.
 pub(crate) fn draw_statement(form: Form, generator: &mut Generator) -> Line
-    ensures drawn { generator.new.x ≡ after (letters form) generator.old.x }
+    ensures drawn { generator.new.x ≡ number_after (letters form) generator.old.x }
     ensures text { result.bytes ≡ statement form generator.old.x }
 {
     match form {

@@ -1,10 +1,11 @@
--- What instructions make of index words: the effective address, changes of value and count, and the indicators.
+-- What instructions make of index words: the effective address, changes of value and count, and the
+-- indicators.
 use Rattle.std.specs.Prelude.{ℕ, zero, suc, ◌+◌, ◌-◌, ◌%◌, ◌^◌, ℤ, pos, negsuc, ◌+ℤ◌, neg_ℤ, Bool, ◌==◌, ◌||◌, ◌&&◌, nat_lt, if◌then◌else◌, List, [], ◌∷◌}
 use Rattle.std.specs.declared.cmp.Ordering.{Ordering}
 use Rattle.std.specs.declared.cmp.Ordering.TheVariants.{Less, Equal, Greater}
 use Rattle.std.specs.Ordering.{int_cmp}
 use Rattle.st_bits.specs.Bits.{part}
-use Rattle.st_bits.specs.IndexWord.{value_of, count_of, with_value, with_count}
+use Rattle.st_bits.specs.IndexWord.{index_value, count_of, index_word_with_value, with_count}
 use Rattle.st_bits.specs.declared.storage.Ind.{Ind}
 use Rattle.st_bits.specs.Indicators.{indicator, indicators}
 use Rattle.st_bits.specs.declared.indicators.TheConstants.{INDEX_FLAG, INDEX_COUNT_ZERO, INDEX_VALUE_LESS, INDEX_VALUE_ZERO, INDEX_VALUE_GREATER, INDEX_LOW, INDEX_EQUAL, INDEX_HIGH}
@@ -17,11 +18,11 @@ modulo (negsuc r) n = n - 1 - r % n
 
 -- the effective address: the address plus the value of the index word, modulo 2 ^ 24
 abbrev pub effective_address : ℕ → ℕ → ℕ
-effective_address a x = modulo (pos a +ℤ value_of x) (2 ^ 24)
+effective_address a x = modulo (pos a +ℤ index_value x) (2 ^ 24)
 
 -- the index word with d added to its value
 abbrev pub with_added : ℕ → ℤ → ℕ
-with_added x d = with_value x (value_of x +ℤ d)
+with_added x d = index_word_with_value x (index_value x +ℤ d)
 
 -- one less, modulo 2 ^ 18
 abbrev pub one_less : ℕ → ℕ
@@ -34,7 +35,7 @@ with_lower_count x = with_count x (one_less (count_of x))
 
 -- the value of an index word, where its bit of the list is one
 abbrev pub selected_value : ℕ → ℕ → ℤ
-selected_value b x = if b == 1 then value_of x else pos 0
+selected_value b x = if b == 1 then index_value x else pos 0
 
 -- the sum of the values of the index words that a list of bits selects
 unfoldable pub selected_sum : List ℕ → List ℕ → ℤ
@@ -43,15 +44,15 @@ selected_sum (b ∷ bs) [] = pos 0
 selected_sum (b ∷ bs) (x ∷ xs) = selected_value b x +ℤ selected_sum bs xs
 
 -- the indicator of a comparison: XL below, XE equal, XH above
-abbrev pub order_indicator : Ordering → ℕ
-order_indicator Less = indicator INDEX_LOW
-order_indicator Equal = indicator INDEX_EQUAL
-order_indicator Greater = indicator INDEX_HIGH
+abbrev pub comparison_indicator : Ordering → ℕ
+comparison_indicator Less = indicator INDEX_LOW
+comparison_indicator Equal = indicator INDEX_EQUAL
+comparison_indicator Greater = indicator INDEX_HIGH
 
 -- what a comparison of a with b turns on and off: exactly one of XL, XE and XH is on after it
 abbrev pub comparison : ℤ → ℤ → Ind
 comparison a b = record {
-  on = order_indicator (int_cmp a b);
+  on = comparison_indicator (int_cmp a b);
   off = indicators (INDEX_LOW ∷ INDEX_EQUAL ∷ INDEX_HIGH ∷ []);
 }
 
@@ -74,11 +75,13 @@ flag_indicator (suc _) = indicator INDEX_FLAG
 -- what an index word turns on and off: XCZ, one of XVLZ, XVZ and XVGZ, and XF, which only goes on
 abbrev pub index_result : ℕ → Ind
 index_result y = record {
-  on = count_indicator (count_of y) + sign_indicator (value_of y) + flag_indicator (part y 25 1);
-  off = indicators (INDEX_COUNT_ZERO ∷ INDEX_VALUE_LESS ∷ INDEX_VALUE_ZERO ∷ INDEX_VALUE_GREATER ∷ []);
+  on = count_indicator (count_of y) + sign_indicator (index_value y) + flag_indicator (part y 25 1);
+  off = indicators (INDEX_COUNT_ZERO ∷ INDEX_VALUE_LESS ∷ INDEX_VALUE_ZERO ∷ INDEX_VALUE_GREATER
+      ∷ []);
 }
 
--- what a progressive form adds to the value: V+I, V+IC and V+ICR are 2 to 4, and V-I, V-IC and V-ICR 5 to 7
+-- what a progressive form adds to the value: V+I, V+IC and V+ICR are 2 to 4, and V-I, V-IC and
+-- V-ICR 5 to 7
 abbrev pub increment_of : ℕ → ℕ → ℤ
 increment_of form e = if nat_lt form 5 then pos e else neg_ℤ (pos e)
 
@@ -91,13 +94,13 @@ abbrev pub is_refilling : ℕ → Bool
 is_refilling form = form == 4 || form == 7
 
 -- the index word after a progressive form, before a refill
-abbrev pub progressed : ℕ → ℕ → ℕ → ℕ
-progressed form x e =
+abbrev pub progressive_word : ℕ → ℕ → ℕ → ℕ
+progressive_word form x e =
     let y = with_added x (increment_of form e) in if is_counting form then with_lower_count y else y
 
 -- the index word that a progressive form leaves, whether a refill follows, and the indicators
-abbrev pub change_of : ℕ → ℕ → Changed
-change_of form y = record {
+abbrev pub progressive_outcome : ℕ → ℕ → Changed
+progressive_outcome form y = record {
   word = y;
   refill = is_refilling form && count_of y == 0;
   ind = index_result y;
@@ -105,4 +108,4 @@ change_of form y = record {
 
 -- the whole change by a progressive form
 abbrev pub progression : ℕ → ℕ → ℕ → Changed
-progression form x e = change_of form (progressed form x e)
+progression form x e = progressive_outcome form (progressive_word form x e)

@@ -1,9 +1,9 @@
 //! What instructions make of an index word.
 ghost use Rattle.std.specs.Prelude.{◌≡◌, ◌<◌, ◌≤◌, ◌^◌, unsigned_abs, ◌==◌, ◌&&◌};
 ghost use Rattle.st_bits.specs.Bits.{part};
-ghost use Rattle.st_bits.specs.IndexWord.{value_of as value, count_of as count};
+ghost use Rattle.st_bits.specs.IndexWord.{index_value as value, count_of as count};
 ghost use Rattle.st_index.specs.IndexChange.{effective_address, with_added, one_less, with_lower_count};
-ghost use Rattle.st_index.specs.IndexChange.{increment_of, is_counting, is_refilling, progressed, progression};
+ghost use Rattle.st_index.specs.IndexChange.{increment_of, is_counting, is_refilling, progressive_word, progression};
 
 use crate::results::index_result;
 use st_bits::{Ind, count_of, value_of, with_count, with_value};
@@ -13,14 +13,15 @@ use st_bits::{Ind, count_of, value_of, with_count, with_value};
 pub struct Changed {
     /// The index word after the change and before a refill.
     pub word: u64,
-    /// Whether a refill follows: the word at the refill address of `word` then replaces the whole of it.
+    /// Whether a refill follows: the word at the refill address of `word` then replaces the whole
+    /// of it.
     pub refill: bool,
     /// The index result of `word`.
     pub ind: Ind,
 }
 
-/// The effective address, a bit address below 2^24: the address part plus the value of the index word `x`, modulo
-/// 2^24. Without an index `x` is zero.
+/// The effective address, a bit address below 2^24: the address part plus the value of the index
+/// word `x`, modulo 2^24. Without an index `x` is zero.
 pub fn effective(address: u32, x: u64) -> u32
     requires { address < 2 ^ 24 }
     ensures value { result ≡ effective_address address x }
@@ -29,8 +30,8 @@ pub fn effective(address: u32, x: u64) -> u32
     (address as i32 + value_of(x)).rem_euclid(1 << 24) as u32
 }
 
-/// The index word with `d` added to its value. The magnitude of the sum is taken modulo 2^24, and the sign is minus
-/// where the sum is below zero, so that -2^24 becomes a minus zero.
+/// The index word with `d` added to its value. The magnitude of the sum is taken modulo 2^24, and
+/// the sign is minus where the sum is below zero, so that -2^24 becomes a minus zero.
 pub fn add_value(x: u64, d: i32) -> u64
     requires { unsigned_abs d < 2 ^ 25 }
     ensures word { result ≡ with_added x d }
@@ -87,15 +88,15 @@ fn refills(form: u8, count: u32) -> bool
 // The index word `x` after a progressive form, before a refill.
 fn advance(form: u8, x: u64, increment: u32) -> u64
     requires { increment < 2 ^ 24 }
-    ensures { result ≡ progressed form x increment }
+    ensures { result ≡ progressive_word form x increment }
 {
     let word = add_value(x, signed(form, increment));
     if counts(form) { count_down(word) } else { word }
 }
 
-/// The change of the index word `x` by a progressive form: 2 to 7 are V+I, V+IC, V+ICR, V-I, V-IC and V-ICR. The
-/// increment, below 2^24, is added to the value or taken from it; then the C forms count down; where the count
-/// became zero, a refill follows the R forms.
+/// The change of the index word `x` by a progressive form: 2 to 7 are V+I, V+IC, V+ICR, V-I, V-IC
+/// and V-ICR. The increment, below 2^24, is added to the value or taken from it; then the C forms
+/// count down; where the count became zero, a refill follows the R forms.
 pub fn progress(form: u8, x: u64, increment: u32) -> Changed
     requires low { 2 ≤ form }
     requires high { form ≤ 7 }

@@ -9,8 +9,8 @@ use st_bits::indicators::{
 use st_bits::{Ind, count_of, indicator, part, value_of};
 use std::cmp::Ordering;
 
-/// What a comparison of `a` with `b` turns on and off: XL where a is below b, XE where they are equal, XH where a is
-/// above b, and the other two off.
+/// What a comparison of `a` with `b` turns on and off: XL where a is below b, XE where they are
+/// equal, XH where a is above b, and the other two off.
 pub fn compare(a: i32, b: i32) -> Ind
     ensures { result ≡ comparison a b }
 {
@@ -25,8 +25,8 @@ pub fn compare(a: i32, b: i32) -> Ind
     }
 }
 
-/// What an index word turns on and off: XCZ where its count is zero, else XCZ off; exactly one of XVLZ, XVZ and XVGZ
-/// by its value; XF, which only goes on, where its first flag is one.
+/// What an index word turns on and off: XCZ where its count is zero, else XCZ off; exactly one of
+/// XVLZ, XVZ and XVGZ by its value; XF, which only goes on, where its first flag is one.
 pub fn index_result(y: u64) -> Ind
     ensures { result ≡ index_result_of y }
 {

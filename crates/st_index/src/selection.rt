@@ -19,7 +19,8 @@ fn selected_value(list: u16, j: usize, word: u64) -> i32
     }
 }
 
-/// The sum of the values of the index words that the list selects: its bit 0, the leftmost, selects the first word.
+/// The sum of the values of the index words that the list selects: its bit 0, the leftmost, selects
+/// the first word.
 pub fn sum_values(list: u16, x: &[u64; 16]) -> i32
     ensures value { result ≡ selected_sum (bits 16 list) x.now }
     ensures bound { unsigned_abs result ≤ 16 * 2 ^ 24 }

@@ -3,7 +3,7 @@ use Rattle.std.proofs.Common.{◌≡◌, ℕ, ◌+◌, ◌≤◌, List, [], ◌�
 use Rattle.std.specs.Prelude.{Option, None, Some}
 use Rattle.std.proofs.lemmas.List.{take-append-drop, append-nil, length-take-le}
 use Rattle.std.specs.Io.KnownBytes.{Consumes}
-use Rattle.st_io.specs.Count.{counted}
+use Rattle.st_io.specs.Count.{count_after}
 use Rattle.st_io.specs.Output.{OutputState, Appends, Wrote}
 use Rattle.st_io.specs.Input.{InputState, Came, Gave}
 
@@ -58,13 +58,13 @@ pub Consumes_none : (a : Option (List ℕ)) → Consumes a a []
 Consumes_none None = tt
 Consumes_none (Some a) = refl
 
-pub counted-join : (n a b : ℕ) → counted (counted n a) b ≡ counted n (a + b)
+pub counted-join : (n a b : ℕ) → count_after (count_after n a) b ≡ count_after n (a + b)
 counted-join n a b = omega arith
 
 pub Came_join : (s t u : InputState) (xs ys : List ℕ) → Came s t xs → Came t u ys → Came s u (xs ++ ys)
 Came_join s t u xs ys p q = record {
   consumed = Consumes-join s.left t.left u.left xs ys p.consumed q.consumed;
-  counts = q.counts ∙ (ap (λ n. counted n (length ys)) p.counts ∙ (counted-join s.taken (length xs) (length ys) ∙ ap (counted s.taken) (sym (length-append xs ys))));
+  counts = q.counts ∙ (ap (λ n. count_after n (length ys)) p.counts ∙ (counted-join s.taken (length xs) (length ys) ∙ ap (count_after s.taken) (sym (length-append xs ys))));
 }
 
 -- no byte comes where nothing is done

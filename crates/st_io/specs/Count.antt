@@ -6,9 +6,9 @@ abbrev pub last_count : ℕ
 last_count = 2 ^ 64 - 1
 
 -- what a count shows after n more
-abbrev pub counted : ℕ → ℕ → ℕ
-counted before n = max before (min (before + n) last_count)
+abbrev pub count_after : ℕ → ℕ → ℕ
+count_after before n = max before (min (before + n) last_count)
 
 -- a count rose, or stands at its end, where it can't
 abbrev pub HasRisen : ℕ → ℕ → Type 0
-HasRisen before after = counted before 1 ≤ after
+HasRisen before after = count_after before 1 ≤ after

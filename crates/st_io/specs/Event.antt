@@ -18,10 +18,12 @@ lines_of (event ∷ events) = event.line ∷ lines_of events
 -- these lines, all at one moment
 abbrev pub at_moment : ℕ → ℕ → List (List ℕ) → List Event
 at_moment done ticks [] = []
-at_moment done ticks (l ∷ ls) = record { line = l; done = done; ticks = ticks } ∷ at_moment done ticks ls
+at_moment done ticks (l ∷ ls) = record { line = l; done = done; ticks = ticks }
+    ∷ at_moment done ticks ls
 
 -- the writing stopped in the line of one of the events, whose moment this is
-pub record StoppedAt (before after : OutputState) (events : List Event) (done ticks : ℕ) : Type 0 where
+pub record StoppedAt (before after : OutputState) (events : List Event)
+    (done ticks : ℕ) : Type 0 where
   pub earlier : List Event
   pub failed : Event
   pub later : List Event

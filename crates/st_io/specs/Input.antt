@@ -1,7 +1,7 @@
 -- What is known of a source at a moment, and what a read does to it.
 use Rattle.std.specs.Prelude.{◌≡◌, ℕ, ◌+◌, ◌<◌, ◌≤◌, List, length, take, Option}
 use Rattle.std.specs.Io.KnownBytes.{Consumes, IsAtEnd}
-use Rattle.st_io.specs.Count.{counted, HasRisen}
+use Rattle.st_io.specs.Count.{count_after, HasRisen}
 use Rattle.st_io.specs.declared.source.ReadError.{ReadError}
 use Rattle.st_io.specs.declared.source.ReadError.TheVariants.{TooLong, Failed as ReadFailed, NoMemory}
 
@@ -14,7 +14,7 @@ pub record InputState : Type 0 where
 -- between two moments these bytes came, in order, and no others
 pub record Came (before after : InputState) (bytes : List ℕ) : Type 0 where
   pub consumed : Consumes before.left after.left bytes
-  pub counts : after.taken ≡ counted before.taken (length bytes)
+  pub counts : after.taken ≡ count_after before.taken (length bytes)
 
 -- a read gave the first n bytes of the buffer; it gives none to a buffer with room only at the end
 pub record Gave (before after : InputState) (buffer : List ℕ) (n : ℕ) : Type 0 where
@@ -41,10 +41,12 @@ CameWithin before after limit = (bytes : List ℕ) × Came before after bytes ×
 
 -- one byte more than the limit came
 abbrev pub CamePast : InputState → InputState → ℕ → Type 0
-CamePast before after limit = (bytes : List ℕ) × Came before after bytes × (length bytes ≡ limit + 1)
+CamePast before after limit = (bytes : List ℕ) × Came before after bytes
+    × (length bytes ≡ limit + 1)
 
 -- why a whole source was not read, and what came of it
 abbrev pub IsCause : InputState → InputState → ℕ → ReadError → Type 0
 IsCause before after limit TooLong = CamePast before after limit × (after.faults ≡ before.faults)
-IsCause before after limit ReadFailed = CameWithin before after limit × HasRisen before.faults after.faults
+IsCause before after limit ReadFailed = CameWithin before after limit
+    × HasRisen before.faults after.faults
 IsCause before after limit NoMemory = CameWithin before after limit × (after.faults ≡ before.faults)

@@ -28,6 +28,7 @@ pub record StoppedIn (before after : OutputState) (lines : List (List ℕ)) : Ty
   pub risen : HasRisen before.faults after.faults
 
 -- all the lines are written at Ok; at a failure the writing stopped in one of them
-pub record WritesLines (before after : OutputState) (lines : List (List ℕ)) (result : Result (Unit {0}) Failed) : Type 0 where
+pub record WritesLines (before after : OutputState) (lines : List (List ℕ))
+    (result : Result (Unit {0}) Failed) : Type 0 where
   pub ok : OnOk result (Wrote before after (text lines))
   pub err : OnErr result (StoppedIn before after lines)

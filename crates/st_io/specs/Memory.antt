@@ -1,6 +1,6 @@
 -- Sources and sinks in memory.
 use Rattle.std.specs.Prelude.{◌≡◌, ℕ, ◌<◌, ◌⊎◌, List, length, Option, Some, Contains}
-use Rattle.st_io.specs.Count.{counted}
+use Rattle.st_io.specs.Count.{count_after}
 use Rattle.st_io.specs.Input.{InputState}
 use Rattle.st_io.specs.Output.{OutputState}
 
@@ -34,7 +34,7 @@ pub record CallPlan : Type 0 where
 
 -- the number of the next call
 abbrev pub next_call : CallPlan → ℕ
-next_call calls = counted calls.made 1
+next_call calls = count_after calls.made 1
 
 -- the next call is one that fails
 abbrev pub IsToFail : CallPlan → Type 0

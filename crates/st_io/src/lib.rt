@@ -1,9 +1,9 @@
-//! Bytes in and bytes out: a source and a sink that count their faults, and the calls that read a whole
-//! source and write a whole piece. `docs/edge.md` has the rules.
+//! Bytes in and bytes out: a source and a sink that count their faults, and the calls that read a
+//! whole source and write a whole piece. `docs/edge.md` has the rules.
 #![tactic(auto)]
 
 ghost use Rattle.std.specs.Prelude.{◌≡◌};
-ghost use Rattle.st_io.specs.Count.{counted};
+ghost use Rattle.st_io.specs.Count.{count_after};
 
 mod buffer;
 mod command_line;
@@ -28,7 +28,7 @@ pub struct Failed;
 
 // Counts a fault, and is the answer to it. The count stands still at its end.
 fn count_fault(faults: &mut u64) -> Failed
-    ensures { faults.new ≡ counted faults.old 1 }
+    ensures { faults.new ≡ count_after faults.old 1 }
 {
     *faults = faults.saturating_add(1);
     Failed

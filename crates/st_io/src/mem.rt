@@ -1,6 +1,6 @@
 //! A source and a sink in memory whose failures are planned, for tests.
 ghost use Rattle.std.specs.Prelude.{◌≡◌, ◌+◌, ◌-◌, ◌<◌, ◌≤◌, ◌↔◌, min, length, take, vec_len, vec_capacity, MatchResult, IfOk, OnErr, IsErr, IsTrue};
-ghost use Rattle.st_io.specs.Count.{counted};
+ghost use Rattle.st_io.specs.Count.{count_after};
 ghost use Rattle.st_io.specs.Input.{Gave, GaveNothing};
 ghost use Rattle.st_io.specs.Output.{Wrote, WroteNothing};
 ghost use Rattle.st_io.specs.Memory.{memory_input, memory_output, IsToFail, after_call, Refuses};
@@ -41,8 +41,8 @@ impl Calls {
     }
 }
 
-/// A source of the bytes of a vector, which it tells. The calls whose numbers, from 1 on, stand in a list
-/// fail.
+/// A source of the bytes of a vector, which it tells. The calls whose numbers, from 1 on, stand in
+/// a list fail.
 #[derive(Debug, Drop)]
 pub struct MemSource {
     source: SureSource,
@@ -94,7 +94,7 @@ impl Source for MemSource {
         // It fails as planned.
         ensures failed { IsErr result ↔ IsToFail self.old.calls }
         ensures calls { self.new.calls ≡ after_call self.old.calls }
-        ensures faults { OnErr result (self.new.faults ≡ counted self.old.faults 1) }
+        ensures faults { OnErr result (self.new.faults ≡ count_after self.old.faults 1) }
 
         ensures count { IfOk result (λ n. n ≡ min (length buf.old) (length self.old.left)) }
     {
@@ -105,8 +105,9 @@ impl Source for MemSource {
     }
 }
 
-/// A sink that writes into a vector's spare capacity, and tells what it wrote. The calls whose numbers, from
-/// 1 on, stand in a list fail, and so does each call with bytes once the buffer is full.
+/// A sink that writes into a vector's spare capacity, and tells what it wrote. The calls whose
+/// numbers, from 1 on, stand in a list fail, and so does each call with bytes once the buffer is
+/// full.
 #[derive(Debug, Drop)]
 pub struct MemSink {
     buffer: Buffer,
@@ -171,7 +172,7 @@ impl Sink for MemSink {
         // It fails as planned, or for want of room.
         ensures failed { IsErr result ↔ Refuses self.old piece.now }
         ensures calls { self.new.calls ≡ after_call self.old.calls }
-        ensures faults { OnErr result (self.new.faults ≡ counted self.old.faults 1) }
+        ensures faults { OnErr result (self.new.faults ≡ count_after self.old.faults 1) }
 
         ensures count { IfOk result (λ n. n ≡ min (length piece.now) self.old.room) }
         ensures room { self.new.room + length self.new.written

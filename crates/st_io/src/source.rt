@@ -10,8 +10,9 @@ pub trait Source {
     /// The bytes still to come, the number of bytes given and the number of failed reads.
     ghost input: { Self → InputState };
 
-    /// Puts the next bytes at the front of the buffer and says how many. It gives none to a buffer with room
-    /// only at the end, and the end stays. `Failed` changes nothing but the count of faults.
+    /// Puts the next bytes at the front of the buffer and says how many. It gives none to a buffer
+    /// with room only at the end, and the end stays. `Failed` changes nothing but the count of
+    /// faults.
     fn read(&mut self, buf: &mut [u8]) -> Result<usize, Failed>
         ensures bound { IfOk result (λ n. n ≤ length buf.new) }
         ensures outcome { MatchResult result
@@ -33,8 +34,8 @@ pub enum ReadError {
 // How many bytes one read asks for.
 const PIECE: usize = 4096;
 
-/// Reads all of a source that has at most `limit` bytes. Each read asks for 4,096 bytes, or for one byte more
-/// than is left of the limit where that is less.
+/// Reads all of a source that has at most `limit` bytes. Each read asks for 4,096 bytes, or for one
+/// byte more than is left of the limit where that is less.
 pub fn read_all<S: Source>(alloc: Global, s: &mut S, limit: u32) -> Result<Vec<u8>, ReadError>
     ensures outcome { MatchResult result
         (λ all. CameWhole (S.input s.old) (S.input s.new) limit all.items)

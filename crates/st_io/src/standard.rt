@@ -1,7 +1,8 @@
-//! Sources and sinks over the readers and writers of the standard library: the edge to real devices.
+//! Sources and sinks over the readers and writers of the standard library: the edge to real
+//! devices.
 ghost use Rattle.std.specs.Prelude.{◌≡◌, ◌<◌, ◌≤◌, length, take, MatchResult, IfOk, OnErr, None};
 ghost use Rattle.std.specs.Io.KnownBytes.{ReadConsumes, WriteAppends};
-ghost use Rattle.st_io.specs.Count.{counted};
+ghost use Rattle.st_io.specs.Count.{count_after};
 ghost use Rattle.st_io.specs.Input.{Gave, GaveNothing};
 ghost use Rattle.st_io.specs.Output.{Wrote, WroteNothing};
 ghost use Rattle.st_io.specs.Devices.{device_input, device_output, reader_of, writer_of};
@@ -9,8 +10,8 @@ ghost use Rattle.st_io.specs.Devices.{device_input, device_output, reader_of, wr
 use crate::{Failed, Sink, Source, count_fault};
 use std::io::{Read, Write};
 
-/// A source over a reader. It tells no bytes, only their number. Each read is one call of the reader, and each
-/// error of the reader is a fault, whatever its kind.
+/// A source over a reader. It tells no bytes, only their number. Each read is one call of the
+/// reader, and each error of the reader is a fault, whatever its kind.
 #[derive(Debug, Drop)]
 pub struct StdSource<R> {
     reader: R,
@@ -41,7 +42,7 @@ impl<R: Read> Source for StdSource<R> {
             (λ n. Gave (device_input self.old) (device_input self.new) buf.new n)
             (λ _. GaveNothing (device_input self.old) (device_input self.new)) }
         ensures faults { OnErr result
-            ((device_input self.new).faults ≡ counted (device_input self.old).faults 1) }
+            ((device_input self.new).faults ≡ count_after (device_input self.old).faults 1) }
 
         // What it gives is what the reader gave, and nothing is lost.
         ensures passes_on { ReadConsumes
@@ -55,8 +56,9 @@ impl<R: Read> Source for StdSource<R> {
     }
 }
 
-/// A sink over a writer. It tells no bytes. Each write is one call of the writer. Each error of the writer is a
-/// fault, whatever its kind, and so is an answer that it took nothing of a piece with bytes.
+/// A sink over a writer. It tells no bytes. Each write is one call of the writer. Each error of the
+/// writer is a fault, whatever its kind, and so is an answer that it took nothing of a piece with
+/// bytes.
 #[derive(Debug, Drop)]
 pub struct StdSink<W> {
     writer: W,
@@ -83,7 +85,7 @@ impl<W: Write> Sink for StdSink<W> {
             (λ n. Wrote (device_output self.old) (device_output self.new) (take n piece.now))
             (λ _. WroteNothing (device_output self.old) (device_output self.new)) }
         ensures faults { OnErr result
-            ((device_output self.new).faults ≡ counted (device_output self.old).faults 1) }
+            ((device_output self.new).faults ≡ count_after (device_output self.old).faults 1) }
 
         // What it takes is what the writer took.
         ensures passes_on { WriteAppends

@@ -51,8 +51,8 @@ impl Source for SureSource {
     }
 }
 
-/// A sink that writes into a vector's spare capacity. It takes every piece whole, and no write fails. From the
-/// first piece on for which there is no room it tells its bytes no more.
+/// A sink that writes into a vector's spare capacity. It takes every piece whole, and no write
+/// fails. From the first piece on for which there is no room it tells its bytes no more.
 #[derive(Debug, Drop)]
 pub struct SureSink {
     buffer: Option<Buffer>,

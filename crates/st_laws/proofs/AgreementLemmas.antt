@@ -7,14 +7,14 @@ use Rattle.std.proofs.lemmas.List.Sums.{prefix_len-le-length}
 use Rattle.std.proofs.lemmas.Str.Parse.{IsNumeralModel, numerals_by_fold}
 use Rattle.std.specs.Char.{is_ascii_digit}
 use Rattle.st_bits.specs.Bits.{part}
-use Rattle.st_bits.specs.Registers.{fixed}
+use Rattle.st_bits.specs.Registers.{register_word}
 use Rattle.st_bits.specs.Storage.{words_of_storage, words_of_storage_is}
-use Rattle.st_field.specs.Digits.{value_of, digits_of}
-use Rattle.st_dec.specs.DigitLists.{bytes, joined, value, decimal as digits}
+use Rattle.st_field.specs.Digits.{value_of_digits, digits_of}
+use Rattle.st_dec.specs.DigitLists.{bytes, number_of_bytes, codes_value, decimal as digits}
 use Rattle.st_dec.proofs.DigitLemmas.{value_of-first, joined-decimal}
 use Rattle.st_conn.specs.Connective.{leading_zeros}
 use Rattle.st_conn.specs.Connection.{counts_of}
-use Rattle.st_text.specs.Number.{is_number, value as text_value, value_after, good}
+use Rattle.st_text.specs.Number.{is_number, digits_value as text_value, value_after, number_if_good}
 use Rattle.st_card.specs.Controls.{card_number}
 use Rattle.st_card.specs.Limits.{is_part}
 use Rattle.st_text.specs.declared.numbers.Reading.TheVariants.{Bad, Large, Good}
@@ -23,12 +23,12 @@ use Rattle.st_asm.specs.Checks.{in_storage}
 
 -- ---- digits
 
-pub value-bytes : (n x : ℕ) → value_of n x ≡ value (bytes 4 n x)
-unfolding value_of value bytes
+pub value-bytes : (n x : ℕ) → value_of_digits n x ≡ codes_value (bytes 4 n x)
+unfolding value_of_digits codes_value bytes
 value-bytes zero x = refl
 value-bytes (suc n) x = value_of-first n x ∙ ap (λ v. x % 16 + 10 * v) (value-bytes n (x / 16))
 
-pub digits-joined : (n v : ℕ) → digits_of n v ≡ joined 4 (digits n v)
+pub digits-joined : (n v : ℕ) → digits_of n v ≡ number_of_bytes 4 (digits n v)
 digits-joined n v = sym (joined-decimal n v)
 
 -- ---- counts
@@ -47,8 +47,8 @@ pub ones-counted : (bs : List ℕ) → length bs ≤ 64 → sum bs ≤ 64 → pa
 ones-counted bs few some =
     ones-part (leading_zeros bs) (sum bs) (omega (arith, few, prefix_len-le-length (λ b. b == 0) bs)) some
 
-pub counts-kept : (bs : List ℕ) → length bs ≤ 64 → sum bs ≤ 64 → fixed 7 (counts_of bs) ≡ counts_of bs
-unfolding fixed
+pub counts-kept : (bs : List ℕ) → length bs ≤ 64 → sum bs ≤ 64 → register_word 7 (counts_of bs) ≡ counts_of bs
+unfolding register_word
 counts-kept bs few some = rw (zeros-counted bs few some, ones-counted bs few some) refl
 
 -- ---- the size of storage
@@ -71,7 +71,7 @@ laid-in place bits = ap (λ n. bits == 0 || (nat_le 2048 place && nat_le (place 
 own : IsNumeralModel (λ ds. list_all is_ascii_digit ds ≡ true) (value_after 0)
 own = numerals_by_fold _ (search rules) value_after (search rules)
 
-past-most : (a b : Bool) (v : ℕ) → b ≡ false → good (if a then (if b then Good v else Large) else Bad) ≡ None
+past-most : (a b : Bool) (v : ℕ) → b ≡ false → number_if_good (if a then (if b then Good v else Large) else Bad) ≡ None
 past-most true true v large = cc
 past-most true false v large = refl
 past-most false b v large = refl

@@ -3,18 +3,18 @@ use Rattle.std.proofs.Common.{lit<, ◌≡◌, ℕ, zero, suc, ◌/◌, ◌%◌,
 use Rattle.std.proofs.Math.Nat.{mod-eq_of_lt, pow-suc}
 use Rattle.std.proofs.lemmas.Nat.{mod-mul-add, div-mul-add}
 use Rattle.st_field.proofs.DigitLemmas.{power_above_zero}
-use Rattle.st_asm.specs.Numbers.{packed}
+use Rattle.st_asm.specs.Numbers.{packed_digits}
 use Rattle.st_asm.proofs.FieldLemmas.{digit-below}
-use Rattle.st_dec.specs.DigitLists.{bytes, value, decimal}
+use Rattle.st_dec.specs.DigitLists.{bytes, codes_value, decimal}
 use Rattle.st_dec.proofs.DigitLemmas.{digit_and_rest}
 
 -- packed digits are the decimal digits, each in a byte
-pub bytes-packed : (b n x : ℕ) → 4 ≤ b → bytes b n (packed b n x) ≡ decimal n x
-unfolding bytes packed decimal
+pub bytes-packed : (b n x : ℕ) → 4 ≤ b → bytes b n (packed_digits b n x) ≡ decimal n x
+unfolding bytes packed_digits decimal
 bytes-packed b zero x wide = refl
 bytes-packed b (suc n) x wide =
     let small : x % 10 < 2 ^ b = digit-below b x wide in
-    rw (mod-mul-add (packed b n (x / 10)) (2 ^ b) (x % 10) small, div-mul-add (packed b n (x / 10)) (2 ^ b) (x % 10) small, bytes-packed b n (x / 10) wide) refl
+    rw (mod-mul-add (packed_digits b n (x / 10)) (2 ^ b) (x % 10) small, div-mul-add (packed_digits b n (x / 10)) (2 ^ b) (x % 10) small, bytes-packed b n (x / 10) wide) refl
 
 -- each is its own code
 codes-decimal : (n x : ℕ) → map (λ d. d % 16) (decimal n x) ≡ decimal n x
@@ -23,10 +23,10 @@ codes-decimal zero x = refl
 codes-decimal (suc n) x = let code : x % 10 % 16 ≡ x % 10 = omega arith in rw (code, codes-decimal n (x / 10)) refl
 
 -- their value is the number, as far as there are digits
-value-decimal : (n x : ℕ) → value (decimal n x) ≡ x % 10 ^ n
-unfolding value decimal
+value-decimal : (n x : ℕ) → codes_value (decimal n x) ≡ x % 10 ^ n
+unfolding codes_value decimal
 value-decimal zero x = omega arith
 value-decimal (suc n) x = rw (value-decimal n (x / 10), pow-suc 10 n) (digit_and_rest x 10 (10 ^ n) (lit< tt) (power_above_zero n))
 
-pub value-packed : (b n x : ℕ) → 4 ≤ b → x < 10 ^ n → value (map (λ d. d % 16) (bytes b n (packed b n x))) ≡ x
+pub value-packed : (b n x : ℕ) → 4 ≤ b → x < 10 ^ n → codes_value (map (λ d. d % 16) (bytes b n (packed_digits b n x))) ≡ x
 value-packed b n x wide few = rw (bytes-packed b n x wide, codes-decimal n x, value-decimal n x) (mod-eq_of_lt few)

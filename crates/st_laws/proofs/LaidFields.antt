@@ -4,11 +4,11 @@ use Rattle.std.proofs.lemmas.Bool.{or_parts as either_false}
 use Rattle.std.specs.Bool.{IsFalse}
 use Rattle.st_format.specs.Validity.{misfits}
 use Rattle.st_strap.specs.declared.statement.Form.{Form}
-use Rattle.st_asm.specs.Numbers.{holds, capacity, digit_count, magnitude, packed, field_of as laid_bits}
+use Rattle.st_asm.specs.Numbers.{holds, capacity, digits_of_form, magnitude, packed_digits, field_bits_of as laid_bits}
 use Rattle.st_asm.proofs.FieldLemmas.{holds-below}
-use Rattle.st_dec.specs.DigitLists.{bytes, value, decimal as digits}
+use Rattle.st_dec.specs.DigitLists.{bytes, codes_value, decimal as digits}
 use Rattle.st_dec.specs.DecimalOperand.{field_value, digit_bytes}
-use Rattle.st_laws.specs.LaidNumbers.{IsHeld, IsRead, shape_of, laid}
+use Rattle.st_laws.specs.LaidNumbers.{IsHeld, IsRead, laid_shape, field_of_number}
 use Rattle.st_laws.proofs.LaidDigits.{bytes-packed, value-packed}
 use Rattle.st_laws.proofs.LaidParts.{parts-read}
 
@@ -23,7 +23,7 @@ no_minus form minus number held = first_part (form.unsigned && minus) (nat_lt nu
 
 -- a laid field is read as its magnitude and its sign
 magnitude-read : (form : Form) (minus negated : Bool) (number offset : ℕ) → IsHeld form minus number →
-    let f = laid form minus number (shape_of form negated offset) in
+    let f = field_of_number form minus number (laid_shape form negated offset) in
     IsRead f f.mag minus (magnitude form number)
 unfolding laid_bits
 magnitude-read form minus negated number offset held =
@@ -31,11 +31,11 @@ magnitude-read form minus negated number offset held =
     (no_minus form minus number held.room) held.sizes.sizes.some_byte held.sizes.sizes.small_byte
 
 pub binary-read : (form : Form) (minus negated : Bool) (number offset : ℕ) → IsHeld form minus number → form.decimal ≡ false →
-    let f = laid form minus number (shape_of form negated offset) in
+    let f = field_of_number form minus number (laid_shape form negated offset) in
     IsRead f f.mag minus number
 binary-read form minus negated number offset held binary =
     let read = magnitude-read form minus negated number offset held in
-    let is = ap (λ d. if d then packed form.byte (digit_count form) number else number) binary in
+    let is = ap (λ d. if d then packed_digits form.byte (digits_of_form form) number else number) binary in
     record { same_number = read.same_number ∙ is; same_sign = read.same_sign; no_flags = read.no_flags; no_zone = read.no_zone }
 
 -- a decimal field has bytes with room for a digit
@@ -46,19 +46,19 @@ wide_bytes unsigned bits byte fits =
     grind arith
 
 pub decimal-read : (form : Form) (minus negated : Bool) (number offset : ℕ) → IsHeld form minus number → form.decimal ≡ true →
-    let h = shape_of form negated offset in
-    let f = laid form minus number h in
+    let h = laid_shape form negated offset in
+    let f = field_of_number form minus number h in
     IsRead f (field_value f h) minus number
 decimal-read form minus negated number offset held decimal =
     let read = magnitude-read form minus negated number offset held in
-    let n = digit_count form in
-    let is = ap (λ d. if d then packed form.byte n number else number) decimal in
+    let n = digits_of_form form in
+    let is = ap (λ d. if d then packed_digits form.byte n number else number) decimal in
     let wide = wide_bytes form.unsigned form.length form.byte
     (subst (λ d. IsFalse (misfits d form.unsigned form.length form.byte)) decimal held.sizes.fits) in
     let few = subst (λ k. number < k) (ap (λ d. if d then 10 ^ n else 2 ^ (if form.unsigned then form.length else form.length - form.byte)) decimal)
     (holds-below form minus number held.room) in
     record {
-      same_number = ap (λ m. value (map (λ d. d % 16) (bytes form.byte n m))) (read.same_number ∙ is)
+      same_number = ap (λ m. codes_value (map (λ d. d % 16) (bytes form.byte n m))) (read.same_number ∙ is)
           ∙ value-packed form.byte n number wide few;
       same_sign = read.same_sign;
       no_flags = read.no_flags;
@@ -67,12 +67,12 @@ decimal-read form minus negated number offset held decimal =
 
 -- the bytes of a laid decimal field are the digits of the number
 pub digits-read : (form : Form) (minus negated : Bool) (number offset : ℕ) → IsHeld form minus number → form.decimal ≡ true →
-    let h = shape_of form negated offset in
-    digit_bytes (laid form minus number h) h ≡ digits (digit_count form) number
+    let h = laid_shape form negated offset in
+    digit_bytes (field_of_number form minus number h) h ≡ digits (digits_of_form form) number
 digits-read form minus negated number offset held decimal =
     let read = magnitude-read form minus negated number offset held in
-    let n = digit_count form in
-    let is = ap (λ d. if d then packed form.byte n number else number) decimal in
+    let n = digits_of_form form in
+    let is = ap (λ d. if d then packed_digits form.byte n number else number) decimal in
     let wide = wide_bytes form.unsigned form.length form.byte
     (subst (λ d. IsFalse (misfits d form.unsigned form.length form.byte)) decimal held.sizes.fits) in
     ap (λ m. bytes form.byte n m) (read.same_number ∙ is) ∙ bytes-packed form.byte n number wide

@@ -29,7 +29,7 @@ use Rattle.st_dis.proofs.FormPass.{IsControl, job_cards, found_in_job, job-forme
 use Rattle.st_dis.proofs.StatementSteps.{stand, end-steps}
 use Rattle.st_dis.proofs.PassesLead.{GivesProgram, leads-give}
 use Rattle.st_dis.proofs.ThreePasses.{assembled, defaults-kept}
-use Rattle.st_gen.specs.Deck.{next, after, below, draw, index, word, bit, offset, value, field_length, byte_field_length, field_operands, statement, form_after, card, control, after_cards, drawn_cards, delay_cards, closing_cards, made_deck}
+use Rattle.st_gen.specs.Deck.{next_number, number_after, below, draw, index, word_statement, bit_statement, offset, small_value, field_length, byte_field_length, field_operands, statement, form_after, card, control, after_cards, drawn_cards, delay_cards, closing_cards, made_deck}
 use Rattle.st_gen.proofs.Sizes.{statement-short}
 use Rattle.st_gen.proofs.Drawn.{drawn-cases}
 use Rattle.st_laws.proofs.MadeStatements.{IsGood, made-good, wait-good, LeadOn, good-leads, leads-behind}
@@ -39,22 +39,22 @@ use Rattle.st_laws.proofs.MadeStatements.{IsGood, made-good, wait-good, LeadOn, 
 -- the texts of n drawn statements
 drawn_texts : ℕ → ℕ → List (List ℕ)
 drawn_texts zero x = []
-drawn_texts (suc n) x = drawn_texts n x ++ statement (form_after (after_cards n x)) (next (after_cards n x)) ∷ []
+drawn_texts (suc n) x = drawn_texts n x ++ statement (form_after (after_cards n x)) (next_number (after_cards n x)) ∷ []
 
 drawn-all : (P : List ℕ → Type 0) → ((y x : ℕ) → P (statement (form_after y) x)) → (n x : ℕ) → All P (drawn_texts n x)
 unfolding drawn_texts
 drawn-all P each zero x = All-nil P
 drawn-all P each (suc n) x =
     let y : ℕ = after_cards n x in
-    let one = statement (form_after y) (next y) in
-    All-append P (drawn_texts n x) (one ∷ []) (drawn-all P each n x) (All-cons P one [] (each y (next y)) (All-nil P))
+    let one = statement (form_after y) (next_number y) in
+    All-append P (drawn_texts n x) (one ∷ []) (drawn-all P each n x) (All-cons P one [] (each y (next_number y)) (All-nil P))
 
 drawn-length : (n x : ℕ) → length (drawn_texts n x) ≡ n
 unfolding drawn_texts
 drawn-length zero x = refl
 drawn-length (suc n) x =
     let y : ℕ = after_cards n x in
-    let size = length-append (drawn_texts n x) (statement (form_after y) (next y) ∷ []) in
+    let size = length-append (drawn_texts n x) (statement (form_after y) (next_number y) ∷ []) in
     let rest = drawn-length n x in
     omega (arith, size, rest)
 
@@ -65,26 +65,26 @@ held ahead behind n p q = join (ahead ++ decimal n) behind (join ahead (decimal 
 operands-plain : (x : ℕ) → IsPlain (field_operands x)
 operands-plain x =
     let bits = codes "(BU," ++ field_length 1 x ++ codes ")," in
-    let place = bits ++ word 2 x ++ codes "." in
+    let place = bits ++ word_statement 2 x ++ codes "." in
     let bits_is = held (codes "(BU,") (codes "),") (1 + draw 1 64 x) refl refl in
     let word_is = held bits (codes ".") (4096 + draw 2 256 x) bits_is refl in
     let bit_is = held place (codes ",") (draw 3 64 x) word_is refl in
-    join (place ++ bit 3 x ++ codes ",") (offset 4 x) bit_is (number (draw 4 64 x))
+    join (place ++ bit_statement 3 x ++ codes ",") (offset 4 x) bit_is (number (draw 4 64 x))
 
-load_value-plain : (x : ℕ) → IsPlain (codes "LVI,$X" ++ index 1 x ++ codes "," ++ word 2 x ++ codes ".0")
+load_value-plain : (x : ℕ) → IsPlain (codes "LVI,$X" ++ index 1 x ++ codes "," ++ word_statement 2 x ++ codes ".0")
 load_value-plain x =
     held (codes "LVI,$X" ++ index 1 x ++ codes ",") (codes ".0") (4096 + draw 2 256 x)
     (held (codes "LVI,$X") (codes ",") (1 + draw 1 7 x) refl refl) refl
 
-add_value-plain : (x : ℕ) → IsPlain (codes "V+I,$X" ++ index 1 x ++ codes "," ++ value 2 x ++ codes ".0")
+add_value-plain : (x : ℕ) → IsPlain (codes "V+I,$X" ++ index 1 x ++ codes "," ++ small_value 2 x ++ codes ".0")
 add_value-plain x =
     held (codes "V+I,$X" ++ index 1 x ++ codes ",") (codes ".0") (draw 2 4 x) (held (codes "V+I,$X") (codes ",") (1 + draw 1 7 x) refl refl) refl
 
-add_one-plain : (x : ℕ) → IsPlain (codes "M+1(B," ++ byte_field_length 1 x ++ codes ",8)," ++ word 2 x ++ codes "." ++ bit 3 x)
+add_one-plain : (x : ℕ) → IsPlain (codes "M+1(B," ++ byte_field_length 1 x ++ codes ",8)," ++ word_statement 2 x ++ codes "." ++ bit_statement 3 x)
 add_one-plain x =
     let bits = codes "M+1(B," ++ byte_field_length 1 x ++ codes ",8)," in
     let bits_is = held (codes "M+1(B,") (codes ",8),") (8 + draw 1 57 x) refl refl in
-    join (bits ++ word 2 x ++ codes ".") (bit 3 x) (held bits (codes ".") (4096 + draw 2 256 x) bits_is refl) (number (draw 3 64 x))
+    join (bits ++ word_statement 2 x ++ codes ".") (bit_statement 3 x) (held bits (codes ".") (4096 + draw 2 256 x) bits_is refl) (number (draw 3 64 x))
 
 multiply-plain : (x : ℕ) → IsPlain (codes "*(BU," ++ field_length 1 x ++ codes ")(V+I),0.32($X" ++ index 2 x ++ codes ")")
 multiply-plain x =
@@ -119,7 +119,7 @@ made-all P each wait cards x = All-append P (drawn_texts cards x) (codes "BEW" �
 -- n drawn delays
 drawn_delays : ℕ → ℕ → List ℕ
 drawn_delays zero x = []
-drawn_delays (suc n) x = drawn_delays n x ++ (1 + below 20 (next (after n x))) ∷ []
+drawn_delays (suc n) x = drawn_delays n x ++ (1 + below 20 (next_number (number_after n x))) ∷ []
 
 one-delay : (y : ℕ) → is_in_range 1 255 (1 + below 20 y) ≡ true
 one-delay y = both_true (nat_le 1 (1 + below 20 y)) (nat_le (1 + below 20 y) 255) (within 1 (1 + below 20 y) (omega arith))
@@ -129,15 +129,15 @@ drawn_delays-among : (n x : ℕ) → AllPass (is_in_range 1 255) (drawn_delays n
 unfolding drawn_delays
 drawn_delays-among zero x = All-nil (λ d. is_in_range 1 255 d ≡ true)
 drawn_delays-among (suc n) x =
-    let d : ℕ = 1 + below 20 (next (after n x)) in
+    let d : ℕ = 1 + below 20 (next_number (number_after n x)) in
     All-append (λ e. is_in_range 1 255 e ≡ true) (drawn_delays n x) (d ∷ []) (drawn_delays-among n x)
-    (All-cons (λ e. is_in_range 1 255 e ≡ true) d [] (one-delay (next (after n x))) (All-nil (λ e. is_in_range 1 255 e ≡ true)))
+    (All-cons (λ e. is_in_range 1 255 e ≡ true) d [] (one-delay (next_number (number_after n x))) (All-nil (λ e. is_in_range 1 255 e ≡ true)))
 
 drawn_delays-length : (n x : ℕ) → length (drawn_delays n x) ≡ n
 unfolding drawn_delays
 drawn_delays-length zero x = refl
 drawn_delays-length (suc n) x =
-    let size = length-append (drawn_delays n x) ((1 + below 20 (next (after n x))) ∷ []) in
+    let size = length-append (drawn_delays n x) ((1 + below 20 (next_number (number_after n x))) ∷ []) in
     let rest = drawn_delays-length n x in
     omega (arith, size, rest)
 
@@ -193,7 +193,7 @@ unfolding drawn_texts
 drawn-is zero x = refl
 drawn-is (suc n) x =
     let y : ℕ = after_cards n x in
-    let one = statement (form_after y) (next y) in
+    let one = statement (form_after y) (next_number y) in
     let before = map statement_card (drawn_texts n x) in
     ap (λ (t : List ℕ). t ++ card one) (drawn-is n x)
     ∙ (ap (λ (t : List ℕ). deck_of before ++ t) (card-is one)
@@ -204,7 +204,7 @@ delays-are : (n x : ℕ) → delay_cards n x ≡ deck_of (map (λ d. codes "/DEL
 unfolding delay_cards drawn_delays
 delays-are zero x = refl
 delays-are (suc n) x =
-    let d : ℕ = 1 + below 20 (next (after n x)) in
+    let d : ℕ = 1 + below 20 (next_number (number_after n x)) in
     let text = codes "/DELAYS " ++ decimal d in
     let before = map (λ e. codes "/DELAYS " ++ decimal e) (drawn_delays n x) in
     ap (λ (t : List ℕ). t ++ control text) (delays-are n x)

@@ -2,7 +2,7 @@
 use Rattle.std.specs.Prelude.{ℕ, ◌≡◌, Bool, true}
 use Rattle.st_strap.specs.declared.statement.Form.{Form}
 use Rattle.st_strap.specs.WellFormed.{IsNumberForm}
-use Rattle.st_asm.specs.Numbers.{holds, field_of as laid_bits}
+use Rattle.st_asm.specs.Numbers.{holds, field_bits_of as laid_bits}
 use Rattle.st_field.specs.declared.fields.Field.{Field}
 use Rattle.st_field.specs.declared.fields.Shape.{Shape}
 use Rattle.st_field.specs.Fields.{field_of}
@@ -13,8 +13,8 @@ pub record IsHeld (form : Form) (minus : Bool) (number : ℕ) : Type 0 where
   pub room : holds form minus number ≡ true
 
 -- how an operation sees a field of the form; whether it is negated, and its offset, are its own
-abbrev pub shape_of : Form → Bool → ℕ → Shape
-shape_of form negated offset = record {
+abbrev pub laid_shape : Form → Bool → ℕ → Shape
+laid_shape form negated offset = record {
   length = form.length;
   byte = form.byte;
   unsigned = form.unsigned;
@@ -23,8 +23,8 @@ shape_of form negated offset = record {
 }
 
 -- what an operation that sees it so reads of the field that is laid for a number
-abbrev pub laid : Form → Bool → ℕ → Shape → Field
-laid form minus number h = field_of (laid_bits form minus number) h
+abbrev pub field_of_number : Form → Bool → ℕ → Shape → Field
+field_of_number form minus number h = field_of (laid_bits form minus number) h
 
 -- a field of this value is read as that number with that sign, and has neither flags nor zone
 pub record IsRead (f : Field) (value : ℕ) (minus : Bool) (number : ℕ) : Type 0 where

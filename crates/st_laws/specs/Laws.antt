@@ -1,20 +1,21 @@
--- What ties crates that do not know each other, and the numbers that definitions take from the code, in figures.
+-- What ties crates that do not know each other, and the numbers that definitions take from the
+-- code, in figures.
 use Rattle.std.specs.Prelude.{◌≡◌, ◌≤◌, ◌<◌, ◌+◌, ◌*◌, ◌^◌, ◌==◌, ◌&&◌, ◌||◌, nat_le, nat_lt, ℕ, List, Some, map, codes, length, sum, decimal, Ok, true, Bool, false}
 use Rattle.st_bits.specs.declared.limits.TheConstants.{WORDS, LAST_WORD, MOST_INSTRUCTIONS, LONGEST_LIST}
 use Rattle.st_card.specs.declared.limits.TheConstants.{MOST_DELAY, MOST_DUMPS, MOST_SNAPS, MOST_BACK, MOST_NUMBER}
 use Rattle.st_bits.specs.declared.register.TheConstants.{ZERO, INTERRUPT_ADDRESS, BOUNDS, COUNTS, LEFT_HALF, RIGHT_HALF, SIGN_BYTE, INDICATORS, MASK, REMAINDER, FACTOR, TRANSIT, FIRST_INDEX_WORD, FIRST_STORAGE_WORD}
 use Rattle.st_bits.specs.declared.indicators.TheConstants.{MACHINE_CHECK, INSTRUCTION_CHECK, INSTRUCTION_REJECT, EXCHANGE_CONTROL_CHECK, TIME_SIGNAL, PROCESSOR_SIGNAL, EXCHANGE_CHECK_REJECT, UNIT_NOT_READY_REJECT, CHANNEL_BUSY_REJECT, EXCHANGE_PROGRAM_CHECK, UNIT_CHECK, END_EXCEPTION, END_OF_OPERATION, CHANNEL_SIGNAL, OPERATION_INVALID, ADDRESS_INVALID, UNENDED_SEQUENCE, EXECUTE_EXCEPTION, DATA_STORE, DATA_FETCH, INSTRUCTION_FETCH, LOST_CARRY, PARTIAL_FIELD, ZERO_DIVISOR, FLAG_T, FLAG_U, FLAG_V, INDEX_FLAG, BINARY_TRANSIT, DECIMAL_TRANSIT, FIRST_PROGRAM_INDICATOR, INDEX_COUNT_ZERO, INDEX_VALUE_LESS, INDEX_VALUE_ZERO, INDEX_VALUE_GREATER, INDEX_LOW, INDEX_EQUAL, INDEX_HIGH, TO_MEMORY_OPERATION, RESULT_LESS, RESULT_ZERO, RESULT_GREATER, RESULT_NEGATIVE, ACCUMULATOR_LOW, ACCUMULATOR_EQUAL, ACCUMULATOR_HIGH}
 use Rattle.st_bits.specs.Bits.{part}
-use Rattle.st_bits.specs.Registers.{fixed}
+use Rattle.st_bits.specs.Registers.{register_word}
 use Rattle.st_bits.specs.Storage.{words_of_storage}
-use Rattle.st_field.specs.Digits.{value_of, digits_of}
-use Rattle.st_dec.specs.DigitLists.{bytes, joined, value, decimal as digit_list}
+use Rattle.st_field.specs.Digits.{value_of_digits, digits_of}
+use Rattle.st_dec.specs.DigitLists.{bytes, number_of_bytes, codes_value, decimal as digit_list}
 use Rattle.st_conn.specs.Connective.{leading_zeros}
 use Rattle.st_conn.specs.Connection.{counts_of}
 use Rattle.st_card.specs.Controls.{card_number}
 use Rattle.st_card.specs.Limits.{is_part}
 use Rattle.st_text.specs.Tables.{row_of}
-use Rattle.st_expr.specs.System.{index_words, system_symbols}
+use Rattle.st_expr.specs.System.{index_word_names, system_symbols}
 use Rattle.st_strap.specs.Reading.{index_fields}
 use Rattle.st_object.specs.Meaning.{short_number}
 use Rattle.st_asm.specs.Checks.{in_storage}
@@ -22,20 +23,22 @@ use Rattle.st_asm.specs.Assembly.{Assembly, assembly}
 use Rattle.st_gen.specs.Deck.{made_deck}
 use Rattle.st_strap.specs.declared.statement.Form.{Form}
 use Rattle.st_dec.specs.DecimalOperand.{field_value, digit_bytes, digit_count}
-use Rattle.st_laws.specs.LaidNumbers.{IsHeld, IsRead, shape_of, laid}
+use Rattle.st_laws.specs.LaidNumbers.{IsHeld, IsRead, laid_shape, field_of_number}
 use Rattle.st_banks.specs.declared.answers.TheConstants.{BANKS}
 use Rattle.st_format.specs.declared.operations.TheConstants.{FLOATING_GROUP, BRANCH_GROUP, UNUSED}
 use Rattle.st_expr.specs.declared.terms.TheConstants.{LAST_ADDRESS, LAST_BIT}
 use Rattle.st_asm.specs.declared.checks.TheConstants.{MOST_OFFSET, MOST_MOVED, MOST_WAITED, MOST_COUNT, MOST_FLAGS}
 
--- limits of the machine and of a job: words of storage, the last of them, instructions of a run, delays and signals
+-- limits of the machine and of a job: words of storage, the last of them, instructions of a run,
+-- delays and signals
 pub record LimitsInFigures : Type 0 where
   pub words : WORDS ≡ 98304
   pub last_word : LAST_WORD ≡ 98303
   pub most_instructions : MOST_INSTRUCTIONS ≡ 10000000
   pub longest_list : LONGEST_LIST ≡ 4096
 
--- limits of control cards: a delay, and how many dumps, snapshots and steps back; the greatest number that a card spells
+-- limits of control cards: a delay, and how many dumps, snapshots and steps back; the greatest
+-- number that a card spells
 pub record ControlsInFigures : Type 0 where
   pub most_delay : MOST_DELAY ≡ 255
   pub most_dumps : MOST_DUMPS ≡ 16
@@ -109,25 +112,26 @@ pub record IndicatorsInFigures : Type 0 where
   pub accumulator_equal : ACCUMULATOR_EQUAL ≡ 61
   pub accumulator_high : ACCUMULATOR_HIGH ≡ 62
 
--- The digits of a number and their value are the same in binary operations, which see one number of codes of four bits, and
--- in decimal ones, which see a list of codes.
+-- The digits of a number and their value are the same in binary operations, which see one number of
+-- codes of four bits, and in decimal ones, which see a list of codes.
 pub record DigitsAgree : Type 0 where
-  pub value : (n x : ℕ) → value_of n x ≡ value (bytes 4 n x)
-  pub digits : (n v : ℕ) → digits_of n v ≡ joined 4 (digit_list n v)
+  pub value : (n x : ℕ) → value_of_digits n x ≡ codes_value (bytes 4 n x)
+  pub digits : (n v : ℕ) → digits_of n v ≡ number_of_bytes 4 (digit_list n v)
 
--- The counts that a connective leaves stand in their register where that register keeps bits, each in its place.
+-- The counts that a connective leaves stand in their register where that register keeps bits, each
+-- in its place.
 pub record CountsAgree : Type 0 where
   pub zeros : (bs : List ℕ) → length bs ≤ 64 → sum bs ≤ 64
       → part (counts_of bs) 17 7 ≡ leading_zeros bs
   pub ones : (bs : List ℕ) → length bs ≤ 64 → sum bs ≤ 64
       → part (counts_of bs) 44 7 ≡ sum bs
   pub kept : (bs : List ℕ) → length bs ≤ 64 → sum bs ≤ 64
-      → fixed COUNTS (counts_of bs) ≡ counts_of bs
+      → register_word COUNTS (counts_of bs) ≡ counts_of bs
 
--- The system symbols stand for the places that the machine has: `$X0` to `$X15` for the index words that index fields name, `$LZC`
--- and `$AOC` for the two counts.
+-- The system symbols stand for the places that the machine has: `$X0` to `$X15` for the index words
+-- that index fields name, `$LZC` and `$AOC` for the two counts.
 pub record SymbolsAgree : Type 0 where
-  pub index_words : index_words
+  pub index_words : index_word_names
       ≡ map (λ row. (row.0, 64 * (FIRST_INDEX_WORD + row.1))) index_fields
   pub zeros_count : row_of (codes "$LZC") system_symbols ≡ Some (64 * COUNTS + 17)
   pub ones_count : row_of (codes "$AOC") system_symbols ≡ Some (64 * COUNTS + 44)
@@ -136,47 +140,51 @@ pub record SymbolsAgree : Type 0 where
 pub record SizesOfStorageAgree : Type 0 where
   pub shown : (p : ℕ × ℕ) → is_part p ≡ (nat_le p.0 p.1 && nat_lt p.1 words_of_storage)
   pub laid : (place bits : ℕ) → in_storage place bits
-      ≡ (bits == 0 || (nat_le (64 * FIRST_STORAGE_WORD) place && nat_le (place + bits) (64 * words_of_storage)))
+      ≡ (bits == 0 || (nat_le (64 * FIRST_STORAGE_WORD) place
+      && nat_le (place + bits) (64 * words_of_storage)))
 
--- The numbers of control cards are those of the lines of an object text, as far as the one spelling goes that a line has;
--- with leading zeros too, where they have 12 digits at most.
+-- The numbers of control cards are those of the lines of an object text, as far as the one spelling
+-- goes that a line has; with leading zeros too, where they have 12 digits at most.
 pub record NumbersAgree : Type 0 where
   pub short : (text : List ℕ) → length text ≤ 12
       → card_number text ≡ short_number text
   pub spelled : (n : ℕ) → n < 2 ^ 64
       → card_number (decimal n) ≡ short_number (decimal n)
 
--- The deck that is made of a seed and a number of drawn cards is never refused, up to 19,980 of them, which with its 20 others
--- are as many as a job may have. It starts at bit 0 of word 32, half-word 64, and asks for two instructions more than it has
--- drawn cards, for sixteen delays and for the ticks.
+-- The deck that is made of a seed and a number of drawn cards is never refused, up to 19,980 of
+-- them, which with its 20 others are as many as a job may have. It starts at bit 0 of word 32,
+-- half-word 64, and asks for two instructions more than it has drawn cards, for sixteen delays and
+-- for the ticks.
 abbrev pub MadeDecksAreNotRefused : Type 0
 MadeDecksAreNotRefused = (seed cards : ℕ) → cards ≤ 19980 →
-    (a : Assembly) × (assembly (made_deck seed cards) ≡ Ok a) × (a.start ≡ 64) × (a.asked.budget ≡ cards + 2)
+    (a : Assembly) × (assembly (made_deck seed cards) ≡ Ok a) × (a.start ≡ 64)
+    × (a.asked.budget ≡ cards + 2)
     × (length a.asked.delays ≡ 16) × (a.asked.time ≡ true)
 
--- A number that is laid as a field is read there by each operation on a field of that form: the same number, as the
--- magnitude or as the value of its digits, with the same sign, no flags and no zone. The bytes of a decimal field are
--- the digits of the number, each below ten and with no zone.
+-- A number that is laid as a field is read there by each operation on a field of that form: the
+-- same number, as the magnitude or as the value of its digits, with the same sign, no flags and no
+-- zone. The bytes of a decimal field are the digits of the number, each below ten and with no zone.
 pub record LaidNumbersAreRead : Type 0 where
   pub binary : (form : Form) (minus negated : Bool) (number offset : ℕ)
       → IsHeld form minus number → form.decimal ≡ false
-      → let f = laid form minus number (shape_of form negated offset) in
+      → let f = field_of_number form minus number (laid_shape form negated offset) in
       IsRead f f.mag minus number
   pub decimal : (form : Form) (minus negated : Bool) (number offset : ℕ)
       → IsHeld form minus number → form.decimal ≡ true
-      → let h = shape_of form negated offset in
-      let f = laid form minus number h in
+      → let h = laid_shape form negated offset in
+      let f = field_of_number form minus number h in
       IsRead f (field_value f h) minus number
   pub digits : (form : Form) (minus negated : Bool) (number offset : ℕ)
       → IsHeld form minus number → form.decimal ≡ true
-      → let h = shape_of form negated offset in
-      digit_bytes (laid form minus number h) h ≡ digit_list (digit_count h) number
+      → let h = laid_shape form negated offset in
+      digit_bytes (field_of_number form minus number h) h ≡ digit_list (digit_count h) number
 
 -- how many banks storage has
 pub record BanksInFigures : Type 0 where
   pub banks : BANKS ≡ 6
 
--- numbers of operations of the half-word format: the floating group, the branch group, and the one that is none
+-- numbers of operations of the half-word format: the floating group, the branch group, and the one
+-- that is none
 pub record FormatsInFigures : Type 0 where
   pub floating_group : FLOATING_GROUP ≡ 0
   pub branch_group : BRANCH_GROUP ≡ 23
@@ -187,8 +195,8 @@ pub record ExpressionsInFigures : Type 0 where
   pub last_address : LAST_ADDRESS ≡ 262143
   pub last_bit : LAST_BIT ≡ 63
 
--- limits of statements: an offset, words that are moved, instructions that an order waits for, the count and the flags of
--- an index word
+-- limits of statements: an offset, words that are moved, instructions that an order waits for, the
+-- count and the flags of an index word
 pub record StatementsInFigures : Type 0 where
   pub most_offset : MOST_OFFSET ≡ 127
   pub most_moved : MOST_MOVED ≡ 16

@@ -12,7 +12,7 @@ use Rattle.st_ledger.specs.declared.charges.Stage.{Stage}
 use Rattle.st_ledger.specs.declared.charges.Stage.TheVariants.{Restart, Instruction, Address, Index, Preparing, Operand, Executing}
 use Rattle.st_ledger.specs.declared.totals.Sum.{Sum}
 use Rattle.st_ledger.specs.declared.totals.Totals.{Totals}
-use Rattle.st_ledger.specs.Charges.{charged, part_charges, is_stage, ticks_for, ticks_of, all_ticks}
+use Rattle.st_ledger.specs.Charges.{charges_behind, part_charges, is_stage, ticks_for, ticks_of, all_ticks}
 use Rattle.st_ledger.specs.Lines.{sum_line}
 use Rattle.st_ledger.specs.Totals.{sum_at, AreWithin, sums_by, sum_lines}
 use Rattle.st_ledger.proofs.Sums.{lt-cases}
@@ -97,18 +97,18 @@ pub part-none : (s : Stage) (t : ℕ) (x : Part) (n : ℕ) → x.end ≤ t → n
 unfolding ticks_for
 part-none s t x n past = rw (le-ltb t x.end past) (omega arith)
 
-pub parts-none : (s : Stage) (t : ℕ) (parts : List Part) (n : ℕ) → parts ≡ [] → n ≡ n + ticks_for s (charged t parts)
-unfolding charged ticks_for
+pub parts-none : (s : Stage) (t : ℕ) (parts : List Part) (n : ℕ) → parts ≡ [] → n ≡ n + ticks_for s (charges_behind t parts)
+unfolding charges_behind ticks_for
 parts-none s t parts n none = rw none (omega arith)
 
 pub parts-more : (s : Stage) (t late : ℕ) (parts xs : List Part) (x : Part) (n m k : ℕ) → parts ≡ x ∷ xs → late ≡ max t x.end
-    → m ≡ n + ticks_for s (part_charges t x) → k ≡ m + ticks_for s (charged late xs) → k ≡ n + ticks_for s (charged t parts)
+    → m ≡ n + ticks_for s (part_charges t x) → k ≡ m + ticks_for s (charges_behind late xs) → k ≡ n + ticks_for s (charges_behind t parts)
 parts-more s t late parts xs x n m k is top first rest =
-    let all : ticks_for s (charged t parts) ≡ ticks_for s (part_charges t x) + ticks_for s (charged (max t x.end) xs) =
-    ap (λ ps. ticks_for s (charged t ps)) is
+    let all : ticks_for s (charges_behind t parts) ≡ ticks_for s (part_charges t x) + ticks_for s (charges_behind (max t x.end) xs) =
+    ap (λ ps. ticks_for s (charges_behind t ps)) is
     ∙ ap (ticks_for s) (charged-parts t x xs)
-    ∙ ticks_for-append s (part_charges t x) (charged (max t x.end) xs) in
-    let later : ticks_for s (charged late xs) ≡ ticks_for s (charged (max t x.end) xs) = ap (λ u. ticks_for s (charged u xs)) top in
+    ∙ ticks_for-append s (part_charges t x) (charges_behind (max t x.end) xs) in
+    let later : ticks_for s (charges_behind late xs) ≡ ticks_for s (charges_behind (max t x.end) xs) = ap (λ u. ticks_for s (charges_behind u xs)) top in
     omega (arith, all, later, first, rest)
 
 -- so far the ticks of charges reach
@@ -125,20 +125,20 @@ part-reach t x = elim (lt-cases t x.end) [
 ]
 
 pub reach-more : (t late : ℕ) (parts xs : List Part) (x : Part) (a : Totals) → parts ≡ x ∷ xs → late ≡ max t x.end
-    → AreWithin (late + all_ticks (charged late xs)) a → AreWithin (t + all_ticks (charged t parts)) a
+    → AreWithin (late + all_ticks (charges_behind late xs)) a → AreWithin (t + all_ticks (charges_behind t parts)) a
 reach-more t late parts xs x a is top within =
-    let all : all_ticks (charged t parts) ≡ all_ticks (part_charges t x) + all_ticks (charged (max t x.end) xs) =
-    ap (λ ps. all_ticks (charged t ps)) is
+    let all : all_ticks (charges_behind t parts) ≡ all_ticks (part_charges t x) + all_ticks (charges_behind (max t x.end) xs) =
+    ap (λ ps. all_ticks (charges_behind t ps)) is
     ∙ ap all_ticks (charged-parts t x xs)
-    ∙ all-append (part_charges t x) (charged (max t x.end) xs) in
-    let later : all_ticks (charged late xs) ≡ all_ticks (charged (max t x.end) xs) = ap (λ u. all_ticks (charged u xs)) top in
-    let same : late + all_ticks (charged late xs) ≡ t + all_ticks (charged t parts) = omega (arith, all, later, top, part-reach t x) in
+    ∙ all-append (part_charges t x) (charges_behind (max t x.end) xs) in
+    let later : all_ticks (charges_behind late xs) ≡ all_ticks (charges_behind (max t x.end) xs) = ap (λ u. all_ticks (charges_behind u xs)) top in
+    let same : late + all_ticks (charges_behind late xs) ≡ t + all_ticks (charges_behind t parts) = omega (arith, all, later, top, part-reach t x) in
     subst (λ m. AreWithin m a) same within
 
-pub reach-none : (t : ℕ) (parts : List Part) (a : Totals) → parts ≡ [] → AreWithin t a → AreWithin (t + all_ticks (charged t parts)) a
-unfolding charged all_ticks
+pub reach-none : (t : ℕ) (parts : List Part) (a : Totals) → parts ≡ [] → AreWithin t a → AreWithin (t + all_ticks (charges_behind t parts)) a
+unfolding charges_behind all_ticks
 reach-none t parts a none within =
-    let same : t ≡ t + all_ticks (charged t parts) = rw none (omega arith) in
+    let same : t ≡ t + all_ticks (charges_behind t parts) = rw none (omega arith) in
     subst (λ m. AreWithin m a) same within
 
 -- ---- lines

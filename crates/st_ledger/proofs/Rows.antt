@@ -1,32 +1,32 @@
 -- What holds of the charges of each row.
 use Rattle.std.proofs.Common.{◌≡◌, ℕ, ◌+◌, ◌-◌, ◌≤◌, max, List, [], ◌∷◌, refl, ◌∙◌, ap, subst, arith}
-use Rattle.st_rows.specs.Rows.{row, prepared, tick_p, tick_c}
+use Rattle.st_rows.specs.Rows.{row_of_entry, preparation_tick, tick_p, tick_c}
 use Rattle.st_rows.specs.declared.entry.Entry.{Entry}
 use Rattle.st_rows.specs.declared.front.Front.{Front}
-use Rattle.st_rows.specs.declared.front.Row.{Row}
+use Rattle.st_rows.specs.declared.front.EntryTicks.{EntryTicks}
 use Rattle.st_rows.proofs.Awaited.{ready-after}
 use Rattle.st_ledger.specs.declared.charges.Part.{Part}
 use Rattle.st_ledger.specs.declared.charges.Stage.TheVariants.{Restart, Instruction, Address, Index, Preparing, Operand, Executing}
-use Rattle.st_ledger.specs.Charges.{parts, charges, all_ticks, ticks_for, Follow}
+use Rattle.st_ledger.specs.Charges.{parts_of_row, charges, all_ticks, ticks_for, Follow}
 use Rattle.st_ledger.proofs.Sums.{reach, AreOthers, charged-follow, follow-sum, charged-last, charged-first}
 
 -- the ticks of a row stand in this order
-record IsOrdered (f : Front) (row : Row) (cost : ℕ) : Type 0 where
+record IsOrdered (f : Front) (row : EntryTicks) (cost : ℕ) : Type 0 where
   a : row.a ≤ row.p
   p : row.p ≤ row.r
   c : row.c ≡ max f.c row.r + cost
 
-ordered : (ds : List ℕ) (n : ℕ) (f : Front) (e : Entry) → IsOrdered f (row ds n f e) e.cost
-unfolding row tick_p prepared tick_c
+ordered : (ds : List ℕ) (n : ℕ) (f : Front) (e : Entry) → IsOrdered f (row_of_entry ds n f e) e.cost
+unfolding row_of_entry tick_p preparation_tick tick_c
 ordered ds n f e = record { a = omega arith; p = ready-after ds n f e; c = refl }
 
 -- the stages of a row end where it is done
-reach-end : (t cost : ℕ) (f : Front) (r : Row) → IsOrdered f r cost → t ≤ f.c → reach t (parts f.c r) ≡ r.c
+reach-end : (t cost : ℕ) (f : Front) (r : EntryTicks) → IsOrdered f r cost → t ≤ f.c → reach t (parts_of_row f.c r) ≡ r.c
 unfolding reach
 reach-end t cost f r is early = omega (arith, is.a, is.p, is.c)
 
 -- and those before it executes where it is ready and the last entry is done
-front_parts : ℕ → Row → List Part
+front_parts : ℕ → EntryTicks → List Part
 front_parts start row =
     record { stage = Restart; end = start }
     ∷ record { stage = Instruction; end = row.a - 1 }
@@ -36,15 +36,15 @@ front_parts start row =
     ∷ record { stage = Operand; end = row.r }
     ∷ []
 
-reach-ready : (t cost : ℕ) (f : Front) (r : Row) → IsOrdered f r cost → t ≤ f.c → reach t (front_parts f.c r) ≡ max f.c r.r
+reach-ready : (t cost : ℕ) (f : Front) (r : EntryTicks) → IsOrdered f r cost → t ≤ f.c → reach t (front_parts f.c r) ≡ max f.c r.r
 unfolding reach front_parts
 reach-ready t cost f r is early = omega (arith, is.a, is.p)
 
-others : (start : ℕ) (r : Row) → AreOthers Executing (front_parts start r)
+others : (start : ℕ) (r : EntryTicks) → AreOthers Executing (front_parts start r)
 unfolding front_parts AreOthers
 others start r = (refl, (refl, (refl, (refl, (refl, (refl, tt))))))
 
-executing : (t cost : ℕ) (f : Front) (r : Row) → IsOrdered f r cost → t ≤ f.c → ticks_for Executing (charges t f r) ≡ cost
+executing : (t cost : ℕ) (f : Front) (r : EntryTicks) → IsOrdered f r cost → t ≤ f.c → ticks_for Executing (charges t f r) ≡ cost
 unfolding front_parts
 executing t cost f r is early =
     charged-last t (front_parts f.c r) (record { stage = Executing; end = r.c }) refl (others f.c r)
@@ -52,7 +52,7 @@ executing t cost f r is early =
     ∙ omega (arith, is.c)
 
 -- a restart ends where the segment starts
-later_parts : Row → List Part
+later_parts : EntryTicks → List Part
 later_parts r =
     record { stage = Instruction; end = r.a - 1 }
     ∷ record { stage = Address; end = r.a }
@@ -62,27 +62,27 @@ later_parts r =
     ∷ record { stage = Executing; end = r.c }
     ∷ []
 
-none-restarts : (r : Row) → AreOthers Restart (later_parts r)
+none-restarts : (r : EntryTicks) → AreOthers Restart (later_parts r)
 unfolding later_parts AreOthers
 none-restarts r = (refl, (refl, (refl, (refl, (refl, (refl, tt))))))
 
-restarting : (t : ℕ) (f : Front) (r : Row) → t ≤ f.c → t + ticks_for Restart (charges t f r) ≡ f.c
+restarting : (t : ℕ) (f : Front) (r : EntryTicks) → t ≤ f.c → t + ticks_for Restart (charges t f r) ≡ f.c
 unfolding later_parts
 restarting t f r early =
     let is = charged-first t (record { stage = Restart; end = f.c }) (later_parts r) refl (none-restarts r) in
     omega (arith, is)
 
 module _ (ds : List ℕ) (n t : ℕ) (f : Front) (e : Entry) (early : t ≤ f.c) where
-  pub row-follows : Follow t (row ds n f e).c (charges t f (row ds n f e))
+  pub row-follows : Follow t (row_of_entry ds n f e).c (charges t f (row_of_entry ds n f e))
   row-follows =
-      let r = row ds n f e in
-      subst (λ c. Follow t c (charges t f r)) (reach-end t e.cost f r (ordered ds n f e) early) (charged-follow t (parts f.c r))
+      let r = row_of_entry ds n f e in
+      subst (λ c. Follow t c (charges t f r)) (reach-end t e.cost f r (ordered ds n f e) early) (charged-follow t (parts_of_row f.c r))
 
-  pub row-sum : t + all_ticks (charges t f (row ds n f e)) ≡ (row ds n f e).c
-  row-sum = follow-sum t (row ds n f e).c (charges t f (row ds n f e)) row-follows
+  pub row-sum : t + all_ticks (charges t f (row_of_entry ds n f e)) ≡ (row_of_entry ds n f e).c
+  row-sum = follow-sum t (row_of_entry ds n f e).c (charges t f (row_of_entry ds n f e)) row-follows
 
-  pub row-costs : ticks_for Executing (charges t f (row ds n f e)) ≡ e.cost
-  row-costs = executing t e.cost f (row ds n f e) (ordered ds n f e) early
+  pub row-costs : ticks_for Executing (charges t f (row_of_entry ds n f e)) ≡ e.cost
+  row-costs = executing t e.cost f (row_of_entry ds n f e) (ordered ds n f e) early
 
-  pub row-restarts : t + ticks_for Restart (charges t f (row ds n f e)) ≡ f.c
-  row-restarts = restarting t f (row ds n f e) early
+  pub row-restarts : t + ticks_for Restart (charges t f (row_of_entry ds n f e)) ≡ f.c
+  row-restarts = restarting t f (row_of_entry ds n f e) early

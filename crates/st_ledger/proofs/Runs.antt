@@ -3,12 +3,12 @@ use Rattle.std.specs.Prelude.{Bool, if◌then◌else◌, map, reverse}
 use Rattle.std.proofs.Common.{◌≡◌, ℕ, zero, suc, ◌+◌, ◌≤◌, true, false, List, [], ◌∷◌, ◌++◌, length, refl, sym, ◌∙◌, ap, subst, append_assoc, arith}
 use Rattle.st_prep.proofs.Choices.{of_choice}
 use Rattle.st_exec.specs.Step.{rests, interrupt}
-use Rattle.st_rows.specs.Rows.{row, after}
+use Rattle.st_rows.specs.Rows.{row_of_entry, front_after_entry}
 use Rattle.st_run.specs.Run.{PlainEvent, Ends, interlude, interrupts_by}
 use Rattle.st_run.specs.Events.{Timed, drop_of, snapshot}
-use Rattle.st_run.specs.Moments.{Moment, Standing, next_state, standing, oldest, next_row, next_moment, next_front, next_segment, ends_segment}
-use Rattle.st_run.specs.Order.{last_tick}
-use Rattle.st_run.specs.TimedRun.{at, ticks_before, ticks_from, drops, drops_if_ends, happening_at, between, snapshot_at, last_snapshot_at, completion, until_done, last_events, timed_from}
+use Rattle.st_run.specs.Moments.{Moment, Standing, next_state, standing_at, entry_of_moment, next_row, next_moment, next_front, next_segment, ends_segment}
+use Rattle.st_run.specs.Order.{last_completion}
+use Rattle.st_run.specs.TimedRun.{event_at, ticks_before, snapshots_from, drops, drops_if_ends, happening_at, events_between, snapshot_at, last_snapshot_at, completion, until_done, last_events, timed_from}
 use Rattle.st_run.proofs.ShownLemmas.{last-append, last_events-tick}
 use Rattle.st_ledger.specs.declared.charges.Charge.{Charge}
 use Rattle.st_ledger.specs.declared.charges.Stage.{Stage}
@@ -37,45 +37,45 @@ unfolding next_front
 standing-late m at = of_choice (λ f. m.tick ≤ f.c) (ends_segment m) (next_segment m) m.front (omega arith) (omega (arith, at))
 
 next-at : (ds : List ℕ) (n : ℕ) (p : Standing) → (next_moment ds n p).front.c ≡ (next_moment ds n p).tick
-unfolding next_moment next_row row after
+unfolding next_moment next_row row_of_entry front_after_entry
 next-at ds n p = refl
 
 -- ---- the charges of a run
 
 charges-follow : (ds : List ℕ) (n : ℕ) (p : Standing) → p.tick ≤ p.front.c → Follow p.tick (next_moment ds n p).tick (charges_at ds n p)
 unfolding charges_at next_moment next_row
-charges-follow ds n p early = row-follows ds n p.tick p.front (oldest p) early
+charges-follow ds n p early = row-follows ds n p.tick p.front (entry_of_moment p) early
 
-costs-at : (ds : List ℕ) (n : ℕ) (p : Standing) → p.tick ≤ p.front.c → ticks_for Executing (charges_at ds n p) ≡ (oldest p).cost
+costs-at : (ds : List ℕ) (n : ℕ) (p : Standing) → p.tick ≤ p.front.c → ticks_for Executing (charges_at ds n p) ≡ (entry_of_moment p).cost
 unfolding charges_at next_row
-costs-at ds n p early = row-costs ds n p.tick p.front (oldest p) early
+costs-at ds n p early = row-costs ds n p.tick p.front (entry_of_moment p) early
 
 module _ (ds : List ℕ) (n : ℕ) where
-  follow-end : (m : Moment) (snaps : List ℕ) (t : ℕ) → Follow m.tick (last_tick t (last_events m snaps)) []
+  follow-end : (m : Moment) (snaps : List ℕ) (t : ℕ) → Follow m.tick (last_completion t (last_events m snaps)) []
   unfolding Follow
   follow-end m snaps t = sym (last_events-tick t m snaps)
 
   follow-if : (b : Bool) (t : ℕ) (m : Moment) (snaps : List ℕ) (turn rest : List Timed) (ps : List Standing)
-      → Follow m.tick (last_tick (last_tick t turn) rest) (all_charges ds n ps)
-      → Follow m.tick (last_tick t (if b then last_events m snaps else turn ++ rest)) (all_charges ds n (if b then [] else ps))
+      → Follow m.tick (last_completion (last_completion t turn) rest) (all_charges ds n ps)
+      → Follow m.tick (last_completion t (if b then last_events m snaps else turn ++ rest)) (all_charges ds n (if b then [] else ps))
   unfolding all_charges
   follow-if true t m snaps turn rest ps h = follow-end m snaps t
   follow-if false t m snaps turn rest ps h = subst (λ c. Follow m.tick c (all_charges ds n ps)) (sym (last-append t turn rest)) h
 
   pub run-follows : (left : ℕ) (m : Moment) (snaps : List ℕ) (t : ℕ) → m.front.c ≡ m.tick
-      → Follow m.tick (last_tick t (timed_from ds n left m snaps)) (all_charges ds n (entries_from ds n left m))
+      → Follow m.tick (last_completion t (timed_from ds n left m snaps)) (all_charges ds n (entries_from ds n left m))
   unfolding timed_from entries_from all_charges
   run-follows zero m snaps t at = follow-end m snaps t
-  run-follows (suc left) m snaps t at =
-      let p = standing m in
+  run-follows (suc left) m snaps t event_at =
+      let p = standing_at m in
       let next = next_moment ds n p in
-      let turn = between m ++ until_done ds n p snaps in
-      let rest = timed_from ds n left next (ticks_from next.tick snaps) in
-      let end = last_tick (last_tick t turn) rest in
+      let turn = events_between m ++ until_done ds n p snaps in
+      let rest = timed_from ds n left next (snapshots_from next.tick snaps) in
+      let end = last_completion (last_completion t turn) rest in
       follow-if (rests (next_state m)) t m snaps turn rest (p ∷ entries_from ds n left next)
       (follow-append m.tick next.tick end (charges_at ds n p) (all_charges ds n (entries_from ds n left next))
-      (charges-follow ds n p (standing-late m at))
-      (run-follows left next (ticks_from next.tick snaps) (last_tick t turn) (next-at ds n p)))
+      (charges-follow ds n p (standing-late m event_at))
+      (run-follows left next (snapshots_from next.tick snaps) (last_completion t turn) (next-at ds n p)))
 
   costs-if : (b : Bool) (ps : List Standing) → ticks_for Executing (all_charges ds n ps) ≡ all_costs ps
       → ticks_for Executing (all_charges ds n (if b then [] else ps)) ≡ all_costs (if b then [] else ps)
@@ -87,11 +87,11 @@ module _ (ds : List ℕ) (n : ℕ) where
       → ticks_for Executing (all_charges ds n (entries_from ds n left m)) ≡ all_costs (entries_from ds n left m)
   unfolding entries_from all_charges all_costs ticks_for
   run-costs zero m at = refl
-  run-costs (suc left) m at =
-      let p = standing m in
+  run-costs (suc left) m event_at =
+      let p = standing_at m in
       let next = next_moment ds n p in
       let rest = entries_from ds n left next in
-      let here = costs-at ds n p (standing-late m at) in
+      let here = costs-at ds n p (standing-late m event_at) in
       let later = run-costs left next (next-at ds n p) in
       costs-if (rests (next_state m)) (p ∷ rest)
       (ticks_for-append Executing (charges_at ds n p) (all_charges ds n rest) ∙ omega (arith, here, later))
@@ -116,7 +116,7 @@ each-none f (x ∷ xs) none = rw (none x) (each-none f xs none)
 
 drops-none : (m : Moment) → rows_told (drops m) ≡ []
 unfolding drops
-drops-none m = each-none (λ a. at m.tick m.scene.machine (drop_of a)) (reverse m.dropped) (λ a. refl)
+drops-none m = each-none (λ a. event_at m.tick m.scene.machine (drop_of a)) (reverse m.dropped) (λ a. refl)
 
 happenings-none : (m : Moment) (hs : List PlainEvent) → rows_told (map (happening_at m) hs) ≡ []
 happenings-none m hs = each-none (happening_at m) hs (λ h. refl)
@@ -126,8 +126,8 @@ unfolding rows_told
 drops_if-none true m = drops-none m
 drops_if-none false m = refl
 
-between-none : (m : Moment) → rows_told (between m) ≡ []
-unfolding between
+between-none : (m : Moment) → rows_told (events_between m) ≡ []
+unfolding events_between
 between-none m =
     let hs = (interlude m.scene).happened ++ interrupts_by (interrupt (next_state m)) (next_state m) in
     rows-none (drops_if_ends m) (map (happening_at m) hs) (drops_if-none (ends_segment m) m) ∙ happenings-none m hs
@@ -163,13 +163,13 @@ pub run-rows : (ds : List ℕ) (n left : ℕ) (m : Moment) (snaps : List ℕ)
 unfolding timed_from entries_from
 run-rows ds n zero m snaps = sym (last-none m snaps)
 run-rows ds n (suc left) m snaps =
-    let p = standing m in
+    let p = standing_at m in
     let next = next_moment ds n p in
-    let turn = between m ++ until_done ds n p snaps in
-    let rest = timed_from ds n left next (ticks_from next.tick snaps) in
-    let here : rows_told turn ≡ row_at ds n p ∷ [] = rows-none (between m) (until_done ds n p snaps) (between-none m) ∙ done-row ds n p snaps in
+    let turn = events_between m ++ until_done ds n p snaps in
+    let rest = timed_from ds n left next (snapshots_from next.tick snaps) in
+    let here : rows_told turn ≡ row_at ds n p ∷ [] = rows-none (events_between m) (until_done ds n p snaps) (between-none m) ∙ done-row ds n p snaps in
     rows-if (rests (next_state m)) ds n m snaps (turn ++ rest) (p ∷ entries_from ds n left next)
-    (ap (λ rows. row_at ds n p ∷ rows) (run-rows ds n left next (ticks_from next.tick snaps))
+    (ap (λ rows. row_at ds n p ∷ rows) (run-rows ds n left next (snapshots_from next.tick snaps))
     ∙ sym (rows-append turn rest ∙ ap (λ rows. rows ++ rows_told rest) here))
 
 -- ---- segments

@@ -7,9 +7,9 @@ use Rattle.std.proofs.lemmas.List.Elements.{All-nil, All-cons, All-weaker}
 use Rattle.st_ledger.specs.declared.charges.Charge.{Charge}
 use Rattle.st_ledger.specs.declared.charges.Part.{Part}
 use Rattle.st_ledger.specs.declared.charges.Stage.{Stage}
-use Rattle.st_rows.specs.declared.front.Row.{Row}
+use Rattle.st_rows.specs.declared.front.EntryTicks.{EntryTicks}
 use Rattle.st_ledger.specs.declared.charges.Stage.TheVariants.{Restart, Instruction, Address, Index, Preparing, Operand, Executing}
-use Rattle.st_ledger.specs.Charges.{stage_at, parts, charged, is_stage, all_ticks, ticks_for, Follow}
+use Rattle.st_ledger.specs.Charges.{stage_at, parts_of_row, charges_behind, is_stage, all_ticks, ticks_for, Follow}
 
 -- a tick is before another, or not
 pub lt-cases : (a t : ℕ) → ((nat_lt a t ≡ true) × (a < t)) ⊎ ((nat_lt a t ≡ false) × (t ≤ a))
@@ -22,8 +22,8 @@ reach t (x ∷ xs) = reach (max t x.end) xs
 
 -- ---- they follow each other
 
-pub charged-follow : (t : ℕ) (xs : List Part) → Follow t (reach t xs) (charged t xs)
-unfolding charged reach Follow
+pub charged-follow : (t : ℕ) (xs : List Part) → Follow t (reach t xs) (charges_behind t xs)
+unfolding charges_behind reach Follow
 charged-follow t [] = refl
 charged-follow t (x ∷ xs) = elim (lt-cases t x.end) [
   | inl y ↦
@@ -43,8 +43,8 @@ follow-sum t c (x ∷ xs) h =
 
 -- ---- the last stage
 
-last-alone : (t : ℕ) (x : Part) → is_stage x.stage x.stage ≡ true → ticks_for x.stage (charged t (x ∷ [])) ≡ x.end - t
-unfolding charged ticks_for
+last-alone : (t : ℕ) (x : Part) → is_stage x.stage x.stage ≡ true → ticks_for x.stage (charges_behind t (x ∷ [])) ≡ x.end - t
+unfolding charges_behind ticks_for
 last-alone t x own = elim (lt-cases t x.end) [
   | inl y ↦ rw (y.0, own) (omega arith)
   | inr n ↦ rw n.0 (omega (arith, n.1))
@@ -56,8 +56,8 @@ AreOthers s [] = Unit {0}
 AreOthers s (x ∷ xs) = (is_stage s x.stage ≡ false) × AreOthers s xs
 
 pub charged-last : (t : ℕ) (xs : List Part) (x : Part) → is_stage x.stage x.stage ≡ true → AreOthers x.stage xs
-    → ticks_for x.stage (charged t (xs ++ x ∷ [])) ≡ x.end - reach t xs
-unfolding charged reach ticks_for AreOthers
+    → ticks_for x.stage (charges_behind t (xs ++ x ∷ [])) ≡ x.end - reach t xs
+unfolding charges_behind reach ticks_for AreOthers
 charged-last t [] x own others = last-alone t x own
 charged-last t (y ∷ ys) x own others =
     elim (lt-cases t y.end) [
@@ -72,8 +72,8 @@ charged-last t (y ∷ ys) x own others =
 
 -- ---- the first stage
 
-charged-none : (s : Stage) (t : ℕ) (xs : List Part) → AreOthers s xs → ticks_for s (charged t xs) ≡ 0
-unfolding charged ticks_for AreOthers
+charged-none : (s : Stage) (t : ℕ) (xs : List Part) → AreOthers s xs → ticks_for s (charges_behind t xs) ≡ 0
+unfolding charges_behind ticks_for AreOthers
 charged-none s t [] others = refl
 charged-none s t (x ∷ xs) others = elim (lt-cases t x.end) [
   | inl y ↦
@@ -83,8 +83,8 @@ charged-none s t (x ∷ xs) others = elim (lt-cases t x.end) [
 ]
 
 pub charged-first : (t : ℕ) (x : Part) (xs : List Part) → is_stage x.stage x.stage ≡ true → AreOthers x.stage xs
-    → ticks_for x.stage (charged t (x ∷ xs)) ≡ x.end - t
-unfolding charged ticks_for
+    → ticks_for x.stage (charges_behind t (x ∷ xs)) ≡ x.end - t
+unfolding charges_behind ticks_for
 charged-first t x xs own others = elim (lt-cases t x.end) [
   | inl y ↦
       let rest = charged-none x.stage x.end xs others in
@@ -119,25 +119,25 @@ own-stage : (last : Stage) (t : ℕ) (x : Part) (xs : List Part) → HasStage la
 unfolding HasStage first_at
 own-stage last t x xs = (omega arith, λ u after to. rw (le-leb u x.end to) refl)
 
-charged-stages : (last : Stage) (t : ℕ) (xs : List Part) → All (HasStage last t xs) (charged t xs)
-unfolding charged
+charged-stages : (last : Stage) (t : ℕ) (xs : List Part) → All (HasStage last t xs) (charges_behind t xs)
+unfolding charges_behind
 charged-stages last t [] = All-nil (HasStage last t [])
 charged-stages last t (x ∷ xs) = elim (lt-cases t x.end) [
   | inl y ↦
       let here : HasStage last t (x ∷ xs) (record { from = t; to = x.end; stage = x.stage }) = own-stage last t x xs in
       rw y.0 (All-cons (HasStage last t (x ∷ xs)) _ _ here
       (All-weaker (HasStage last x.end xs) (HasStage last t (x ∷ xs)) (λ z h. behind-stage last t x.end x xs z (omega (arith, y.1)) (omega arith) h)
-      (charged x.end xs) (charged-stages last x.end xs)))
+      (charges_behind x.end xs) (charged-stages last x.end xs)))
   | inr n ↦
       rw n.0 (All-weaker (HasStage last t xs) (HasStage last t (x ∷ xs)) (λ z h. behind-stage last t t x xs z (omega arith) n.1 h)
-      (charged t xs) (charged-stages last t xs))
+      (charges_behind t xs) (charged-stages last t xs))
 ]
 
 -- so do they by the row
 below-le : (u a : ℕ) → 1 ≤ u → nat_lt u a ≡ nat_le u (a - 1)
 below-le u a some = grind (arith, nat_tests)
 
-last-either : (b : Bool) (start : ℕ) (row : Row) (u : ℕ) →
+last-either : (b : Bool) (start : ℕ) (row : EntryTicks) (u : ℕ) →
     (if nat_le u start then Restart else if nat_le u (row.a - 1) then Instruction else if nat_le u row.a then Address
     else if nat_le u (row.p - 1) then Index else if nat_le u row.p then Preparing else if nat_le u row.r then Operand else Executing)
     ≡ (if nat_le u start then Restart else if nat_le u (row.a - 1) then Instruction else if nat_le u row.a then Address
@@ -146,14 +146,14 @@ last-either : (b : Bool) (start : ℕ) (row : Row) (u : ℕ) →
 last-either true start row u = refl
 last-either false start row u = refl
 
-stage-first : (start : ℕ) (row : Row) (u : ℕ) → 1 ≤ u → stage_at start row u ≡ first_at u Executing (parts start row)
+stage-first : (start : ℕ) (row : EntryTicks) (u : ℕ) → 1 ≤ u → stage_at start row u ≡ first_at u Executing (parts_of_row start row)
 unfolding stage_at first_at
 stage-first start row u some = rw (below-le u row.a some, below-le u row.p some) (last-either (nat_le u row.c) start row u)
 
-pub charges-stages : (t start : ℕ) (row : Row)
-    → All (λ (x : Charge). (u : ℕ) → x.from < u → u ≤ x.to → stage_at start row u ≡ x.stage) (charged t (parts start row))
+pub charges-stages : (t start : ℕ) (row : EntryTicks)
+    → All (λ (x : Charge). (u : ℕ) → x.from < u → u ≤ x.to → stage_at start row u ≡ x.stage) (charges_behind t (parts_of_row start row))
 unfolding HasStage
 charges-stages t start row =
-    All-weaker (HasStage Executing t (parts start row)) (λ (x : Charge). (u : ℕ) → x.from < u → u ≤ x.to → stage_at start row u ≡ x.stage)
+    All-weaker (HasStage Executing t (parts_of_row start row)) (λ (x : Charge). (u : ℕ) → x.from < u → u ≤ x.to → stage_at start row u ≡ x.stage)
     (λ x h u after to. stage-first start row u (omega arith) ∙ h.1 u after to)
-    (charged t (parts start row)) (charged-stages Executing t (parts start row))
+    (charges_behind t (parts_of_row start row)) (charged-stages Executing t (parts_of_row start row))

@@ -1,8 +1,8 @@
--- What the ticks of an entry are spent on. The tick t is the time from t - 1 to t; an entry is charged with the ticks behind
--- the completion of the entry before it, up to and with its own.
+-- What the ticks of an entry are spent on. The tick t is the time from t - 1 to t; an entry is
+-- charged with the ticks behind the completion of the entry before it, up to and with its own.
 use Rattle.std.specs.Prelude.{ℕ, ◌≡◌, ◌+◌, ◌-◌, ◌<◌, nat_eq, nat_lt, nat_le, Bool, if◌then◌else◌, List, [], ◌∷◌}
 use Rattle.st_rows.specs.declared.front.Front.{Front}
-use Rattle.st_rows.specs.declared.front.Row.{Row}
+use Rattle.st_rows.specs.declared.front.EntryTicks.{EntryTicks}
 use Rattle.st_ledger.specs.declared.charges.Charge.{Charge}
 use Rattle.st_ledger.specs.declared.charges.Part.{Part}
 use Rattle.st_ledger.specs.declared.charges.Stage.{Stage}
@@ -11,7 +11,7 @@ use Rattle.st_ledger.specs.declared.charges.Stage.TheVariants.{Restart, Instruct
 -- ---- the stage of a tick
 
 -- the stage that a tick of a row belongs to, by the start of its segment and the row alone
-unfoldable pub stage_at : ℕ → Row → ℕ → Stage
+unfoldable pub stage_at : ℕ → EntryTicks → ℕ → Stage
 stage_at start row t =
     if nat_le t start then Restart
     else if nat_lt t row.a then Instruction
@@ -24,8 +24,8 @@ stage_at start row t =
 -- ---- charges
 
 -- the stages of a row in their order
-abbrev pub parts : ℕ → Row → List Part
-parts start row =
+abbrev pub parts_of_row : ℕ → EntryTicks → List Part
+parts_of_row start row =
     record { stage = Restart; end = start }
     ∷ record { stage = Instruction; end = row.a - 1 }
     ∷ record { stage = Address; end = row.a }
@@ -36,36 +36,39 @@ parts start row =
     ∷ []
 
 -- the ticks behind t, charged to the stages in order; one that ended by then has none
-unfoldable pub charged : ℕ → List Part → List Charge
-charged t [] = []
-charged t (x ∷ xs) =
-    if nat_lt t x.end then record { from = t; to = x.end; stage = x.stage } ∷ charged x.end xs
-    else charged t xs
+unfoldable pub charges_behind : ℕ → List Part → List Charge
+charges_behind t [] = []
+charges_behind t (x ∷ xs) =
+    if nat_lt t x.end then record { from = t; to = x.end; stage = x.stage }
+    ∷ charges_behind x.end xs
+    else charges_behind t xs
 
 -- the charge of one stage alone
 abbrev pub part_charges : ℕ → Part → List Charge
-part_charges t x = if nat_lt t x.end then record { from = t; to = x.end; stage = x.stage } ∷ [] else []
+part_charges t x = if nat_lt t x.end then record { from = t; to = x.end; stage = x.stage } ∷ []
+    else []
 
--- the charges of a row behind a front, where the last entry of the run was done at the tick t. The first entry of a segment has
--- the front that opens it, of which c is the start; before any other that is the tick t, so that nothing is a restart
-abbrev pub charges : ℕ → Front → Row → List Charge
-charges t f row = charged t (parts f.c row)
+-- the charges of a row behind a front, where the last entry of the run was done at the tick t. The
+-- first entry of a segment has the front that opens it, of which c is the start; before any other
+-- that is the tick t, so that nothing is a restart
+abbrev pub charges : ℕ → Front → EntryTicks → List Charge
+charges t f row = charges_behind t (parts_of_row f.c row)
 
 -- ---- sums
 
 -- the place of a stage in their order
-abbrev pub number_of : Stage → ℕ
-number_of Restart = 0
-number_of Instruction = 1
-number_of Address = 2
-number_of Index = 3
-number_of Preparing = 4
-number_of Operand = 5
-number_of Executing = 6
+abbrev pub stage_number : Stage → ℕ
+stage_number Restart = 0
+stage_number Instruction = 1
+stage_number Address = 2
+stage_number Index = 3
+stage_number Preparing = 4
+stage_number Operand = 5
+stage_number Executing = 6
 
 -- two stages are the same
 abbrev pub is_stage : Stage → Stage → Bool
-is_stage s r = nat_eq (number_of s) (number_of r)
+is_stage s r = nat_eq (stage_number s) (stage_number r)
 
 -- the ticks of a charge
 abbrev pub ticks_of : Charge → ℕ

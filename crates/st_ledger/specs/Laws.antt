@@ -1,12 +1,12 @@
 -- What holds of charges: of each row, and of all rows of a run.
 use Rattle.std.specs.Prelude.{ℕ, ◌≡◌, ◌+◌, ◌<◌, ◌≤◌, true, List, All, map, length}
-use Rattle.st_rows.specs.Rows.{row}
+use Rattle.st_rows.specs.Rows.{row_of_entry}
 use Rattle.st_rows.specs.declared.entry.Entry.{Entry}
 use Rattle.st_rows.specs.declared.front.Front.{Front}
 use Rattle.st_run.specs.Run.{Scene}
 use Rattle.st_run.specs.Moments.{Moment, ends_segment, next_front}
 use Rattle.st_run.specs.TimedRun.{timed_run}
-use Rattle.st_run.specs.Order.{last_tick}
+use Rattle.st_run.specs.Order.{last_completion}
 use Rattle.st_ledger.specs.declared.charges.Charge.{Charge}
 use Rattle.st_ledger.specs.declared.charges.Stage.TheVariants.{Restart, Executing}
 use Rattle.st_ledger.specs.Charges.{Follow, charges, stage_at, all_ticks, ticks_for}
@@ -14,24 +14,25 @@ use Rattle.st_ledger.specs.Ledger.{entries_of, all_charges, all_costs, row_at, r
 
 -- ---- one row
 
--- The charges of a row follow each other without a gap from the completion before it to its own, so they add up to the ticks
--- between; and those of executing are its cost. The completion before is that of the front, or lies before the segment that the front
--- opens.
+-- The charges of a row follow each other without a gap from the completion before it to its own, so
+-- they add up to the ticks between; and those of executing are its cost. The completion before is
+-- that of the front, or lies before the segment that the front opens.
 pub record ChargesFollow : Type 0 where
   pub gapless : (ds : List ℕ) (n t : ℕ) (f : Front) (e : Entry) → t ≤ f.c →
-      Follow t (row ds n f e).c (charges t f (row ds n f e))
+      Follow t (row_of_entry ds n f e).c (charges t f (row_of_entry ds n f e))
   pub sum : (ds : List ℕ) (n t : ℕ) (f : Front) (e : Entry) → t ≤ f.c →
-      t + all_ticks (charges t f (row ds n f e)) ≡ (row ds n f e).c
+      t + all_ticks (charges t f (row_of_entry ds n f e)) ≡ (row_of_entry ds n f e).c
   pub cost : (ds : List ℕ) (n t : ℕ) (f : Front) (e : Entry) → t ≤ f.c →
-      ticks_for Executing (charges t f (row ds n f e)) ≡ e.cost
+      ticks_for Executing (charges t f (row_of_entry ds n f e)) ≡ e.cost
   pub restart : (ds : List ℕ) (n t : ℕ) (f : Front) (e : Entry) → t ≤ f.c →
-      t + ticks_for Restart (charges t f (row ds n f e)) ≡ f.c
+      t + ticks_for Restart (charges t f (row_of_entry ds n f e)) ≡ f.c
 
 -- Each tick of a charge belongs to its stage by the start of the segment and the row alone.
 abbrev pub TicksBelongToTheirStage : Type 0
 TicksBelongToTheirStage = (ds : List ℕ) (n t : ℕ) (f : Front) (e : Entry) →
-    All (λ (x : Charge). (u : ℕ) → x.from < u → u ≤ x.to → stage_at f.c (row ds n f e) u ≡ x.stage)
-    (charges t f (row ds n f e))
+    All (λ (x : Charge). (u : ℕ) → x.from < u → u ≤ x.to → stage_at f.c (row_of_entry ds n f e) u
+    ≡ x.stage)
+    (charges t f (row_of_entry ds n f e))
 
 -- ---- a run
 
@@ -40,15 +41,18 @@ abbrev pub RowsAreThoseOfTheRun : Type 0
 RowsAreThoseOfTheRun = (ds snaps : List ℕ) (n left : ℕ) (c : Scene) →
     map (row_at ds n) (entries_of ds n left c) ≡ rows_told (timed_run ds n left c snaps)
 
--- All charges follow each other without a gap from tick 0 to the last tick of the run, so they add up to its ticks; and those of
--- executing to the costs.
+-- All charges follow each other without a gap from tick 0 to the last tick of the run, so they add
+-- up to its ticks; and those of executing to the costs.
 pub record ChargesAddUpToTheRun : Type 0 where
   pub gapless : (ds snaps : List ℕ) (n left : ℕ) (c : Scene) →
-      Follow 0 (last_tick 0 (timed_run ds n left c snaps)) (all_charges ds n (entries_of ds n left c))
+      Follow 0 (last_completion 0 (timed_run ds n left c snaps))
+      (all_charges ds n (entries_of ds n left c))
   pub sum : (ds snaps : List ℕ) (n left : ℕ) (c : Scene) →
-      all_ticks (all_charges ds n (entries_of ds n left c)) ≡ last_tick 0 (timed_run ds n left c snaps)
+      all_ticks (all_charges ds n (entries_of ds n left c))
+      ≡ last_completion 0 (timed_run ds n left c snaps)
   pub costs : (ds : List ℕ) (n left : ℕ) (c : Scene) →
-      ticks_for Executing (all_charges ds n (entries_of ds n left c)) ≡ all_costs (entries_of ds n left c)
+      ticks_for Executing (all_charges ds n (entries_of ds n left c))
+      ≡ all_costs (entries_of ds n left c)
 
 -- A segment starts one tick, and the number that is dropped, after the end of the one before.
 abbrev pub SegmentsStartBehindTheirEnd : Type 0

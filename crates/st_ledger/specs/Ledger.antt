@@ -1,10 +1,11 @@
--- The entries that are done in a run, and the charges of all of them. The machine has the delays ds and n levels.
+-- The entries that are done in a run, and the charges of all of them. The machine has the delays ds
+-- and n levels.
 use Rattle.std.specs.Prelude.{ℕ, zero, suc, ◌+◌, if◌then◌else◌, List, [], ◌∷◌, ◌++◌}
 use Rattle.st_exec.specs.Step.{rests, address}
-use Rattle.st_rows.specs.declared.front.Row.{Row}
+use Rattle.st_rows.specs.declared.front.EntryTicks.{EntryTicks}
 use Rattle.st_run.specs.Run.{Scene}
 use Rattle.st_run.specs.Events.{Event, Timed, Completes, Drops, Shows, Happens}
-use Rattle.st_run.specs.Moments.{Moment, Standing, start, next_state, standing, oldest, next_row, next_moment}
+use Rattle.st_run.specs.Moments.{Moment, Standing, moment_at_start, next_state, standing_at, entry_of_moment, next_row, next_moment}
 use Rattle.st_ledger.specs.declared.charges.Charge.{Charge}
 use Rattle.st_ledger.specs.Charges.{charges}
 
@@ -13,11 +14,11 @@ unfoldable pub entries_from : List ℕ → ℕ → ℕ → Moment → List Stand
 entries_from ds n zero m = []
 entries_from ds n (suc left) m =
     if rests (next_state m) then []
-    else standing m ∷ entries_from ds n left (next_moment ds n (standing m))
+    else standing_at m ∷ entries_from ds n left (next_moment ds n (standing_at m))
 
 -- in the whole run of a scene
 abbrev pub entries_of : List ℕ → ℕ → ℕ → Scene → List Standing
-entries_of ds n left c = entries_from ds n left (start c)
+entries_of ds n left c = entries_from ds n left (moment_at_start c)
 
 -- ---- charges
 
@@ -33,14 +34,14 @@ all_charges ds n (p ∷ ps) = charges_at ds n p ++ all_charges ds n ps
 -- the sum of their costs
 unfoldable pub all_costs : List Standing → ℕ
 all_costs [] = 0
-all_costs (p ∷ ps) = (oldest p).cost + all_costs ps
+all_costs (p ∷ ps) = (entry_of_moment p).cost + all_costs ps
 
 -- ---- rows
 
 -- an entry that is done: its address, and its row
 pub record DoneRow : Type 0 where
   pub address : ℕ
-  pub row : Row
+  pub row : EntryTicks
 
 -- that of the next entry
 abbrev pub row_at : List ℕ → ℕ → Standing → DoneRow

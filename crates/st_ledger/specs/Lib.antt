@@ -3,3 +3,12 @@ pub mod Laws
 pub mod Ledger
 pub mod Lines
 pub mod Totals
+pub use Rattle.st_exec.specs.Step
+pub use Rattle.st_rows.specs.Rows
+pub use Rattle.st_run.specs.Events
+pub use Rattle.st_run.specs.Moments
+pub use Rattle.st_run.specs.Order
+pub use Rattle.st_run.specs.Run
+pub use Rattle.st_run.specs.TimedRun
+pub use Rattle.st_text.specs.Bytes
+pub use Rattle.st_text.specs.Numerals

@@ -2,7 +2,7 @@
 use Rattle.std.specs.Prelude.{ℕ, List, [], ◌∷◌, ◌++◌, codes, decimal}
 use Rattle.st_text.specs.Bytes.{lf}
 use Rattle.st_text.specs.Numerals.{half_address}
-use Rattle.st_rows.specs.declared.front.Row.{Row}
+use Rattle.st_rows.specs.declared.front.EntryTicks.{EntryTicks}
 use Rattle.st_ledger.specs.declared.charges.Charge.{Charge}
 use Rattle.st_ledger.specs.declared.charges.Stage.{Stage}
 use Rattle.st_ledger.specs.declared.charges.Stage.TheVariants.{Restart, Instruction, Address, Index, Preparing, Operand, Executing}
@@ -18,8 +18,8 @@ stage_name Operand = codes "OPERAND"
 stage_name Executing = codes "EXECUTING"
 
 -- the n-th entry that is done, with its address and its ticks
-abbrev pub row_line : ℕ → ℕ → Row → List ℕ
-row_line n address row =
+abbrev pub row_stage_line : ℕ → ℕ → EntryTicks → List ℕ
+row_stage_line n address row =
     codes "ROW " ++ decimal n ++ codes " " ++ half_address address
     ++ codes " A " ++ decimal row.a ++ codes " P " ++ decimal row.p
     ++ codes " R " ++ decimal row.r ++ codes " C " ++ decimal row.c ++ lf
@@ -27,7 +27,8 @@ row_line n address row =
 -- ticks that are charged to a stage
 abbrev pub charge_line : Charge → List ℕ
 charge_line x =
-    codes "CHARGE " ++ decimal x.from ++ codes " " ++ decimal x.to ++ codes " " ++ stage_name x.stage ++ lf
+    codes "CHARGE " ++ decimal x.from ++ codes " " ++ decimal x.to ++ codes " "
+    ++ stage_name x.stage ++ lf
 
 -- the ticks of a stage in the whole run
 abbrev pub sum_line : Stage → ℕ → List ℕ

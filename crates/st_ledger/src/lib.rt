@@ -1,4 +1,5 @@
-//! Where the ticks of a run went: each is charged to one entry and to one stage of it. `docs/ledger.md` has the rules.
+//! Where the ticks of a run went: each is charged to one entry and to one stage of it.
+//! `docs/ledger.md` has the rules.
 #![tactic(auto, using(st_bits::specs::Storage::words_of_storage_is))]
 
 mod charges;

@@ -1,12 +1,13 @@
-//! The lines of the ledger, by the rules of `docs/ledger.md`: one call a line, each with its line end.
+//! The lines of the ledger, by the rules of `docs/ledger.md`: one call a line, each with its line
+//! end.
 ghost use Rattle.std.specs.Prelude.{◌≡◌, ◌+◌, ◌<◌, ◌≤◌, ◌++◌, length};
 ghost use Rattle.arrayvec.specs.ArrayString.{array_string_len};
 ghost use Rattle.st_text.specs.Bytes.{lf};
-ghost use Rattle.st_ledger.specs.Lines.{stage_name, row_line, charge_line, sum_line};
+ghost use Rattle.st_ledger.specs.Lines.{stage_name, row_stage_line, charge_line, sum_line};
 
 use crate::charges::{Charge, Stage};
 use st_report::LineFromEnd;
-use st_rows::Row;
+use st_rows::EntryTicks;
 use st_text::{Line, begun, push_decimal};
 
 // The line with its line end.
@@ -52,10 +53,10 @@ fn put_stage(line: &mut LineFromEnd, stage: Stage)
     }
 }
 
-/// `ROW n a A x P p R r C c`, filled into a line: the n-th entry that is done, its half-word address, and its ticks. What the line had
-/// is gone.
-pub fn fill_row(line: &mut LineFromEnd, n: u32, address: u32, row: &Row)
-    ensures { line.new ≡ row_line n address row.now }
+/// `ROW n a A x P p R r C c`, filled into a line: the n-th entry that is done, its half-word
+/// address, and its ticks. What the line had is gone.
+pub fn fill_row(line: &mut LineFromEnd, n: u32, address: u32, row: &EntryTicks)
+    ensures { line.new ≡ row_stage_line n address row.now }
 {
     line.clear();
     line.put(b"\n");
@@ -73,7 +74,8 @@ pub fn fill_row(line: &mut LineFromEnd, n: u32, address: u32, row: &Row)
     line.put(b"ROW ");
 }
 
-/// `CHARGE f t stage`, filled into a line: ticks that are charged to a stage. What the line had is gone.
+/// `CHARGE f t stage`, filled into a line: ticks that are charged to a stage. What the line had is
+/// gone.
 pub fn fill_charge(line: &mut LineFromEnd, charge: Charge)
     ensures { line.new ≡ charge_line charge }
 {

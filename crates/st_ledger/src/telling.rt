@@ -1,14 +1,14 @@
 //! The lines of a row.
 ghost use Rattle.std.specs.Prelude.{◌≡◌, ◌∷◌, ◌<◌, [], length, max, MatchOption, IfSome};
 ghost use Rattle.st_io.specs.Lines.{WritesLines};
-ghost use Rattle.st_ledger.specs.Charges.{parts as parts_of, charged, part_charges};
-ghost use Rattle.st_ledger.specs.Lines.{row_line, charge_line, charge_lines};
+ghost use Rattle.st_ledger.specs.Charges.{parts_of_row as parts_of, charges_behind, part_charges};
+ghost use Rattle.st_ledger.specs.Lines.{row_stage_line, charge_line, charge_lines};
 
 use crate::charges::{Charge, Part, Stage};
 use crate::lines::{fill_charge, fill_row};
 use st_io::{Failed, Sink, write_line};
 use st_report::LineFromEnd;
-use st_rows::Row;
+use st_rows::EntryTicks;
 
 // A stage, with the tick at which it ends.
 fn part(stage: Stage, end: u64) -> Part
@@ -17,8 +17,9 @@ fn part(stage: Stage, end: u64) -> Part
     Part { stage, end }
 }
 
-// The stages of a row in their order, each with the tick at which it ends; the segment starts at `start`.
-pub(crate) fn parts(start: u64, row: &Row) -> [Part; 7]
+// The stages of a row in their order, each with the tick at which it ends; the segment starts at
+// `start`.
+pub(crate) fn parts(start: u64, row: &EntryTicks) -> [Part; 7]
     ensures { result ≡ parts_of start row.now }
 {
     [
@@ -35,7 +36,8 @@ pub(crate) fn parts(start: u64, row: &Row) -> [Part; 7]
 // Writes the charge of a stage behind the tick `from`, where it ends later.
 #[tactic(auto, using(st_io::proofs::Progress::wrote_nothing))]
 fn write_part<K: Sink>(out: &mut K, from: u64, part: Part) -> Result<(), Failed>
-    ensures { WritesLines (K.output out.old) (K.output out.new) (charge_lines (part_charges from part)) result }
+    ensures { WritesLines (K.output out.old) (K.output out.new)
+        (charge_lines (part_charges from part)) result }
 {
     if part.end <= from {
         return Ok(());
@@ -72,7 +74,8 @@ pub(crate) fn later(a: u64, b: u64) -> u64
 
 // Writes the charges of stages behind the tick `from`.
 fn write_parts<K: Sink>(out: &mut K, from: u64, parts: &[Part]) -> Result<(), Failed>
-    ensures { WritesLines (K.output out.old) (K.output out.new) (charge_lines (charged from parts.now)) result }
+    ensures { WritesLines (K.output out.old) (K.output out.new)
+        (charge_lines (charges_behind from parts.now)) result }
 {
     let Some((part, more)) = first_part(parts) else {
         return Ok(());
@@ -82,18 +85,25 @@ fn write_parts<K: Sink>(out: &mut K, from: u64, parts: &[Part]) -> Result<(), Fa
 }
 
 /// Writes the line of the n-th entry that is done, whose half-word address and row these are.
-pub fn write_row<K: Sink>(out: &mut K, n: u32, address: u32, row: &Row) -> Result<(), Failed>
-    ensures { WritesLines (K.output out.old) (K.output out.new) (row_line n address row.now ∷ []) result }
+pub fn write_row<K: Sink>(out: &mut K, n: u32, address: u32, row: &EntryTicks) -> Result<(), Failed>
+    ensures { WritesLines (K.output out.old) (K.output out.new)
+        (row_stage_line n address row.now ∷ []) result }
 {
     let mut line = LineFromEnd::new();
     fill_row(&mut line, n, address, row);
     write_line(out, line.as_bytes())
 }
 
-/// Writes the charges of an entry that is done, whose row this is: the last one before it was done at the tick `before`, and its
-/// segment starts at `start`, if it is the first one of that.
-pub fn write_charges<K: Sink>(out: &mut K, row: &Row, before: u64, start: u64) -> Result<(), Failed>
-    ensures { WritesLines (K.output out.old) (K.output out.new) (charge_lines (charged before (parts_of start row.now))) result }
+/// Writes the charges of an entry that is done, whose row this is: the last one before it was done
+/// at the tick `before`, and its segment starts at `start`, if it is the first one of that.
+pub fn write_charges<K: Sink>(
+    out: &mut K,
+    row: &EntryTicks,
+    before: u64,
+    start: u64,
+) -> Result<(), Failed>
+    ensures { WritesLines (K.output out.old) (K.output out.new)
+        (charge_lines (charges_behind before (parts_of start row.now))) result }
 {
     write_parts(out, before, &parts(start, row))
 }

@@ -2,7 +2,7 @@
 ghost use Rattle.std.specs.Prelude.{◌≡◌, ◌+◌, ◌<◌, ◌∷◌, [], max, length, MatchOption, IfSome};
 ghost use Rattle.st_io.specs.Lines.{WritesLines};
 ghost use Rattle.st_ledger.specs.declared.charges.Stage.{Stage as StageOf};
-ghost use Rattle.st_ledger.specs.Charges.{parts as parts_of, charged, part_charges, ticks_for, all_ticks};
+ghost use Rattle.st_ledger.specs.Charges.{parts_of_row as parts_of, charges_behind, part_charges, ticks_for, all_ticks};
 ghost use Rattle.st_ledger.specs.Lines.{sum_line};
 ghost use Rattle.st_ledger.specs.Totals.{sum_at, AreWithin, stages, sums_by, sum_lines};
 
@@ -10,7 +10,7 @@ use crate::charges::{Charge, Part, Stage};
 use crate::lines::line_sum;
 use crate::telling::{first_part, later, parts};
 use st_io::{Failed, Sink, write_line};
-use st_rows::Row;
+use st_rows::EntryTicks;
 
 /// The ticks of charges, stage by stage.
 #[derive(Clone, Copy, Debug, Default, PartialEq, Eq)]
@@ -30,7 +30,8 @@ impl Totals {
         requires order { charge.from < charge.to }
         requires within { AreWithin charge.from self.old }
         ensures within { AreWithin charge.to self.new }
-        ensures sums { (s : StageOf) → sum_at s self.new ≡ sum_at s self.old + ticks_for s (charge ∷ []) }
+        ensures sums { (s : StageOf) → sum_at s self.new ≡ sum_at s self.old
+            + ticks_for s (charge ∷ []) }
     {
         let ticks = charge.to - charge.from;
         match charge.stage {
@@ -48,7 +49,8 @@ impl Totals {
     fn add_part(&mut self, from: u64, part: Part)
         requires within { AreWithin from self.old }
         ensures within { AreWithin (max from part.end) self.new }
-        ensures sums { (s : StageOf) → sum_at s self.new ≡ sum_at s self.old + ticks_for s (part_charges from part) }
+        ensures sums { (s : StageOf) → sum_at s self.new ≡ sum_at s self.old
+            + ticks_for s (part_charges from part) }
     {
         if part.end <= from {
             return;
@@ -63,8 +65,9 @@ impl Totals {
     // Adds the charges of stages behind the tick `from`.
     fn add_parts(&mut self, from: u64, parts: &[Part])
         requires within { AreWithin from self.old }
-        ensures within { AreWithin (from + all_ticks (charged from parts.now)) self.new }
-        ensures sums { (s : StageOf) → sum_at s self.new ≡ sum_at s self.old + ticks_for s (charged from parts.now) }
+        ensures within { AreWithin (from + all_ticks (charges_behind from parts.now)) self.new }
+        ensures sums { (s : StageOf) → sum_at s self.new ≡ sum_at s self.old
+            + ticks_for s (charges_behind from parts.now) }
     {
         let Some((part, more)) = first_part(parts) else {
             return;
@@ -73,13 +76,15 @@ impl Totals {
         self.add_parts(later(from, part.end), more);
     }
 
-    /// Adds the charges of an entry that is done, with its row: the last one before it was done at the tick `before`, and its segment
-    /// starts at `start`, if it is the first one of that. No sum is greater than the tick `before`.
-    pub fn add_row(&mut self, row: &Row, before: u64, start: u64)
+    /// Adds the charges of an entry that is done, with its row: the last one before it was done at
+    /// the tick `before`, and its segment starts at `start`, if it is the first one of that. No sum
+    /// is greater than the tick `before`.
+    pub fn add_row(&mut self, row: &EntryTicks, before: u64, start: u64)
         requires within { AreWithin before self.old }
-        ensures within { AreWithin (before + all_ticks (charged before (parts_of start row.now))) self.new }
+        ensures within { AreWithin (before + all_ticks (charges_behind before
+            (parts_of start row.now))) self.new }
         ensures sums { (s : StageOf) → sum_at s self.new
-            ≡ sum_at s self.old + ticks_for s (charged before (parts_of start row.now)) }
+            ≡ sum_at s self.old + ticks_for s (charges_behind before (parts_of start row.now)) }
     {
         self.add_parts(before, &parts(start, row));
     }
@@ -127,7 +132,8 @@ fn first_sum(sums: &[Sum]) -> Option<(Sum, &[Sum])>
 
 // Writes the line of a sum.
 fn write_sum<K: Sink>(out: &mut K, sum: Sum) -> Result<(), Failed>
-    ensures { WritesLines (K.output out.old) (K.output out.new) (sum_line sum.stage sum.ticks ∷ []) result }
+    ensures { WritesLines (K.output out.old) (K.output out.new)
+        (sum_line sum.stage sum.ticks ∷ []) result }
 {
     write_line(out, line_sum(sum.stage, sum.ticks).as_str().as_bytes())
 }

@@ -5,7 +5,7 @@ use Rattle.st_state.specs.Machine.{Machine, IsMachine}
 use Rattle.st_prep.specs.Fetch.{index_words}
 use Rattle.st_prep.specs.Plan.{plan}
 use Rattle.st_exec.specs.Completion.{guess}
-use Rattle.st_rows.specs.Rows.{after}
+use Rattle.st_rows.specs.Rows.{front_after_entry}
 use Rattle.st_rows.specs.declared.front.Front.{Front}
 use Rattle.st_ring.specs.declared.level.Level.{Level}
 use Rattle.st_segment.specs.Entries.{entry}
@@ -43,7 +43,7 @@ pub levels-behind : (ds : List ℕ) (n tick : ℕ) (t : Option ℕ) (s : Machine
     (plans : List Plan) (x y : List ℕ) → IsMachine s → IfSome t (λ i. i < 64)
     → AreLevels ds n tick t s f last (level ∷ ring) plans → x ≡ split_words (suc (length ring)) t s → RunAhead (length ring) t s
     → ((plan s t).serial ≡ false → y ≡ x) → ((plan s t).serial ≡ true → y ≡ index_words (guess t s))
-    → AreAhead ds n tick None (guess t s) (after ds n f (entry t s)) last (record { ring = ring; plans = drop 1 plans; x = y })
+    → AreAhead ds n tick None (guess t s) (front_after_entry ds n f (entry t s)) last (record { ring = ring; plans = drop 1 plans; x = y })
 unfolding AreLevels split_words
 levels-behind ds n tick t s f last level ring [] x y m some h before free stays new = absurd h
 levels-behind ds n tick t s f last level [] (q ∷ qs) x y m some h before free stays new = record {
@@ -68,6 +68,6 @@ first-is ds n tick t s f last level ring (r ∷ rs) q h first =
 
 -- they have all words that are there
 pub full-behind : (ds : List ℕ) (n tick : ℕ) (t : Option ℕ) (s : Machine) (f : Front) (level : Level) (ring : List Level)
-    → AreFull ds n tick t s f (level ∷ ring) → AreFull ds n tick None (guess t s) (after ds n f (entry t s)) ring
+    → AreFull ds n tick t s f (level ∷ ring) → AreFull ds n tick None (guess t s) (front_after_entry ds n f (entry t s)) ring
 unfolding AreFull
 full-behind ds n tick t s f level ring full = full.1

@@ -2,7 +2,7 @@
 use Rattle.std.proofs.Common.{◌≡◌, ◌≢◌, ℕ, zero, suc, List, [], ◌∷◌, set, Option, None, Some, refl, sym, ap}
 use Rattle.std.specs.Prelude.{slice_get}
 use Rattle.st_ring.specs.declared.level.Level.{Level}
-use Rattle.st_levels.specs.Slots.{with_word}
+use Rattle.st_levels.specs.Slots.{level_with_slot}
 
 pub set-same : (xs : List Level) (k : ℕ) (x : Level) → slice_get xs k ≡ Some x → set xs k x ≡ xs
 set-same [] k x at = refl
@@ -24,6 +24,6 @@ get-other (z ∷ xs) (suc k) (suc i) x other = get-other xs k i x (λ e. other (
 pub same-item : {X : Type 0} (o : Option X) (x y : X) → o ≡ Some x → o ≡ Some y → x ≡ y
 same-item o x y a b = cc (a, b)
 
-pub no-word : (level : Level) (k : ℕ) (word : Option ℕ) (now : ℕ) → ((w : ℕ) → word ≡ Some w → ⊥) → with_word level k word now ≡ level
+pub no-word : (level : Level) (k : ℕ) (word : Option ℕ) (now : ℕ) → ((w : ℕ) → word ≡ Some w → ⊥) → level_with_slot level k word now ≡ level
 no-word level k None now none = refl
 no-word level k (Some w) now none = absurd (none w refl)

@@ -12,27 +12,27 @@ use Rattle.st_prep.proofs.PlanLemmas.{plan-prepared}
 use Rattle.st_exec.specs.Completion.{guess}
 use Rattle.st_rows.specs.BusTimes.{accept_at, answer_at}
 use Rattle.st_rows.specs.Entries.{is_among, latest_done}
-use Rattle.st_rows.specs.Ranges.{AreDelays}
-use Rattle.st_rows.specs.Rows.{is_forwarded, fill_at, fills_of, fills, row, after, tick_p, bus_a}
+use Rattle.st_rows.specs.Ranges.{AreDelaysUpTo}
+use Rattle.st_rows.specs.Rows.{is_forwarded, fill_at, fills_of, fills, row_of_entry, front_after_entry, tick_p, bus_a}
 use Rattle.st_rows.specs.declared.bus.Bus.{Bus}
-use Rattle.st_rows.specs.declared.entry.Run.{Run}
+use Rattle.st_rows.specs.declared.entry.WordRun.{WordRun}
 use Rattle.st_rows.specs.declared.front.Front.{Front}
 use Rattle.st_rows.specs.declared.past.Past.{Past}
 use Rattle.st_rows.proofs.Within.{delay-bounds}
 use Rattle.st_ring.specs.declared.level.Level.{Level}
 use Rattle.st_segment.specs.Entries.{entry, above_registers, words_to_read}
 use Rattle.st_segment.specs.Guesses.{guesses}
-use Rattle.st_segment.specs.Alone.{RunAhead, is_written}
+use Rattle.st_segment.specs.Alone.{RunAhead, is_word_written}
 use Rattle.st_segment.proofs.GuessLemmas.{guess-machine}
 use Rattle.st_segment.proofs.RestLemmas.{storage-kept}
 use Rattle.st_levels.specs.Levels.{IsLevel, AreLevels, AreFull}
-use Rattle.st_levels.specs.Slots.{fill_tick, is_there, slot_of, have_of, IsKept, put_of, coming, came_at, with_word, with_words}
+use Rattle.st_levels.specs.Slots.{fill_tick, is_there, slot_of, have_of, IsKeptSlot, put_of, coming, came_at, level_with_slot, level_with_words}
 use Rattle.st_levels.specs.declared.plans.Plan.{Plan}
 use Rattle.st_levels.proofs.WriterLemmas.{take-latest, not-latest}
 
 -- ---- a word comes no earlier than its latest writer is done
 
-module _ (most : ℕ) (ds : List ℕ) (are : AreDelays most ds) (past : List Past) where
+module _ (most : ℕ) (ds : List ℕ) (are : AreDelaysUpTo most ds) (past : List Past) where
   behind_if : (late : Bool) (b : Bus) (w p : ℕ) → (late ≡ false → latest_done past w ≤ p)
       → latest_done past w ≤ (if late then latest_done past w else answer_at ds b w p)
   behind_if true b w p early = omega arith
@@ -42,7 +42,7 @@ module _ (most : ℕ) (ds : List ℕ) (are : AreDelays most ds) (past : List Pas
   unfolding fill_at
   behind-writer b w p = behind_if (is_forwarded past w p) b w p (λ early. ltb-false p (latest_done past w) early)
 
-  pub fills-behind : (b : Bus) (r : Run) (p i : ℕ) → i < 2 → i < r.len
+  pub fills-behind : (b : Bus) (r : WordRun) (p i : ℕ) → i < 2 → i < r.len
       → latest_done past (r.first + i) ≤ get_or (fills_of ds past b r p) i 0
   unfolding fills_of
   fills-behind b r p zero few inside =
@@ -56,14 +56,14 @@ run-is : (t : Option ℕ) (s : Machine) → (entry t s).reads.one ≡ above_regi
 unfolding entry words_to_read
 run-is t s = refl
 
-module _ (ds : List ℕ) (n most : ℕ) (t : Option ℕ) (s : Machine) (f : Front) (are : AreDelays most ds) where
+module _ (ds : List ℕ) (n most : ℕ) (t : Option ℕ) (s : Machine) (f : Front) (are : AreDelaysUpTo most ds) where
   latest-at : (i : ℕ) → i < 2 → i < (entry t s).reads.one.len
       → latest_done f.past ((entry t s).reads.one.first + i) ≤ get_or (fills ds n f (entry t s)) i 0
   latest-at i few inside =
       fills-behind most ds are f.past (bus_a ds f (entry t s)) (entry t s).reads.one (tick_p ds n f (entry t s)) i few inside
 
   latest-by : (b : Bool) (first len k : ℕ) (ticks : List ℕ) → nat_le 32 first ≡ b → k < len → k < 2 → 32 ≤ first + k
-      → (let r : Run = if b then record { first = first; len = len } else record { first = 32; len = len - (32 - first) } in
+      → (let r : WordRun = if b then record { first = first; len = len } else record { first = 32; len = len - (32 - first) } in
       (i : ℕ) → i < 2 → i < r.len → latest_done f.past (r.first + i) ≤ get_or ticks i 0)
       → latest_done f.past (first + k) ≤ (if b then get_or ticks (first + k - first) 0 else get_or ticks (first + k - 32) 0)
   latest-by true first len k ticks e inside few above late =
@@ -80,8 +80,8 @@ module _ (ds : List ℕ) (n most : ℕ) (t : Option ℕ) (s : Machine) (f : Fron
   latest-early k inside few above =
       latest-by (nat_le 32 (plan s t).reads.first) (plan s t).reads.first (plan s t).reads.len k
       (fills ds n f (entry t s)) refl inside few above
-      (λ i low within. subst (λ (r : Run). latest_done f.past (r.first + i) ≤ get_or (fills ds n f (entry t s)) i 0) (run-is t s)
-      (latest-at i low (subst (λ (r : Run). i < r.len) (sym (run-is t s)) within)))
+      (λ i low within. subst (λ (r : WordRun). latest_done f.past (r.first + i) ≤ get_or (fills ds n f (entry t s)) i 0) (run-is t s)
+      (latest-at i low (subst (λ (r : WordRun). i < r.len) (sym (run-is t s)) within)))
 
 -- ---- a slot by a tick
 
@@ -102,12 +102,12 @@ slot-later ticks p s tick later k w behind is =
     later-by (is_transmission p.instr) (nat_lt k p.reads.len) (nat_lt (p.reads.first + k) 32) (nat_le at tick) (nat_le at later) (word s (p.reads.first + k)) w
     (λ early. le-leb at later (omega (arith, behind, leb-true at tick early))) is
 
-pub kept-later : (ticks : List ℕ) (p : Prepared) (s : Machine) (tick later k : ℕ) (x : Option ℕ) → tick ≤ later → IsKept x (slot_of ticks p s tick k)
-    → IsKept x (slot_of ticks p s later k)
+pub kept-later : (ticks : List ℕ) (p : Prepared) (s : Machine) (tick later k : ℕ) (x : Option ℕ) → tick ≤ later → IsKeptSlot x (slot_of ticks p s tick k)
+    → IsKeptSlot x (slot_of ticks p s later k)
 kept-later ticks p s tick later k None behind is = tt
 kept-later ticks p s tick later k (Some w) behind is = slot-later ticks p s tick later k w behind is
 
-kept-there : (there : Option ℕ) → IsKept there there
+kept-there : (there : Option ℕ) → IsKeptSlot there there
 kept-there None = tt
 kept-there (Some w) = refl
 
@@ -133,7 +133,7 @@ or_put x None = x
 or_put x (Some w) = Some w
 
 -- a slot is filled
-slot-filled : (ticks : List ℕ) (p : Prepared) (m u : Machine) (tick now k : ℕ) (x : Option ℕ) → tick ≤ now → IsKept x (slot_of ticks p u tick k)
+slot-filled : (ticks : List ℕ) (p : Prepared) (m u : Machine) (tick now k : ℕ) (x : Option ℕ) → tick ≤ now → IsKeptSlot x (slot_of ticks p u tick k)
     → slot_of ticks p m now k ≡ slot_of ticks p u now k → or_put x (put_of x (slot_of ticks p m now k)) ≡ slot_of ticks p u now k
 slot-filled ticks p m u tick now k (Some w) behind is same = sym (slot-later ticks p u tick now k w behind is)
 slot-filled ticks p m u tick now k None behind is same = none-put (slot_of ticks p m now k) ∙ same
@@ -143,19 +143,19 @@ slot-filled ticks p m u tick now k None behind is same = none-put (slot_of ticks
     none-put (Some w) = refl
 
 have-with : (level : Level) (x y a b : Option ℕ) (i j : ℕ) → level.have ≡ x ∷ y ∷ []
-    → (with_word (with_word level 0 a i) 1 b j).have ≡ or_put x a ∷ or_put y b ∷ []
+    → (level_with_slot (level_with_slot level 0 a i) 1 b j).have ≡ or_put x a ∷ or_put y b ∷ []
 have-with level x y None None i j e = e
 have-with level x y (Some v) None i j e = ap (λ (h : List (Option ℕ)). slice_set h 0 (Some v)) e
 have-with level x y None (Some w) i j e = ap (λ (h : List (Option ℕ)). slice_set h 1 (Some w)) e
 have-with level x y (Some v) (Some w) i j e = ap (λ (h : List (Option ℕ)). slice_set (slice_set h 0 (Some v)) 1 (Some w)) e
 
-prepared-with : (level : Level) (a b : Option ℕ) (i j : ℕ) → (with_word (with_word level 0 a i) 1 b j).prepared ≡ level.prepared
+prepared-with : (level : Level) (a b : Option ℕ) (i j : ℕ) → (level_with_slot (level_with_slot level 0 a i) 1 b j).prepared ≡ level.prepared
 prepared-with level None None i j = refl
 prepared-with level (Some v) None i j = refl
 prepared-with level None (Some w) i j = refl
 prepared-with level (Some v) (Some w) i j = refl
 
-p-with : (level : Level) (a b : Option ℕ) (i j : ℕ) → (with_word (with_word level 0 a i) 1 b j).p ≡ level.p
+p-with : (level : Level) (a b : Option ℕ) (i j : ℕ) → (level_with_slot (level_with_slot level 0 a i) 1 b j).p ≡ level.p
 p-with level None None i j = refl
 p-with level (Some v) None i j = refl
 p-with level None (Some w) i j = refl
@@ -195,7 +195,7 @@ low-first m t u same = ((λ alone w low. same w), tt)
 
 guess-leaves : (t : Option ℕ) (s : Machine) (w : ℕ) → IsMachine s → IfSome t (λ i. i < 64) → 32 ≤ w
     → is_among w (entry t s).writes ≡ false → word (guess t s) w ≡ word s w
-unfolding guesses is_written
+unfolding guesses is_word_written
 guess-leaves t s w m some above h = storage-kept 1 t s w m some above (ap (λ b. b || false) h)
 
 -- a register that is read, of an entry that is done alone
@@ -210,7 +210,7 @@ there-by : (b : Bool) (w : ℕ) (ticks : List ℕ) (p : Prepared) (now : ℕ) �
 there-by true w ticks p now e there = inl (ltb-true w 32 e)
 there-by false w ticks p now e there = inr (ltb-false w 32 e, leb-true (fill_tick ticks p w) now (sym (ap (λ b. b || nat_le (fill_tick ticks p w) now) e) ∙ there))
 
-module _ (ds : List ℕ) (n tick now most : ℕ) (m : Machine) (are : AreDelays most ds) (behind : tick ≤ now) where
+module _ (ds : List ℕ) (n tick now most : ℕ) (m : Machine) (are : AreDelaysUpTo most ds) (behind : tick ≤ now) where
   word-there : (j k : ℕ) (t : Option ℕ) (u : Machine) (f : Front) → IsMachine u → IfSome t (λ i. i < 64) → Agrees now m (take j f.past) u
       → ((plan u t).serial ≡ true → (w : ℕ) → w < 32 → word m w ≡ word u w) → k < 2
       → (not (is_transmission (plan u t).instr) && nat_lt k (plan u t).reads.len && is_there (fills ds n f (entry t u)) (plan u t) now ((plan u t).reads.first + k)) ≡ true
@@ -231,7 +231,7 @@ module _ (ds : List ℕ) (n tick now most : ℕ) (m : Machine) (are : AreDelays 
 
   have-filled : (j : ℕ) (t : Option ℕ) (u : Machine) (f : Front) (level : Level) (q : Plan) → IsMachine u → IfSome t (λ i. i < 64)
       → Agrees now m (take j f.past) u → ((plan u t).serial ≡ true → (w : ℕ) → w < 32 → word m w ≡ word u w)
-      → IsLevel ds n tick t u f level q → (with_words q.fills m now level).have ≡ have_of ds n now t u f
+      → IsLevel ds n tick t u f level q → (level_with_words q.fills m now level).have ≡ have_of ds n now t u f
   have-filled j t u f level q machine some agrees low h =
       let ticks = fills ds n f (entry t u) in
       let p = plan u t in
@@ -246,8 +246,8 @@ module _ (ds : List ℕ) (n tick now most : ℕ) (m : Machine) (are : AreDelays 
       (slot-filled ticks p m u tick now 1 y behind h.have.kept_second (slot-same ticks p m u now 1 (word-there j 1 t u f machine some agrees low (omega arith))))
 
   level-filled : (t : Option ℕ) (u : Machine) (f : Front) (level : Level) (q : Plan)
-      → (with_words q.fills m now level).have ≡ have_of ds n now t u f
-      → IsLevel ds n tick t u f level q → IsLevel ds n now t u f (with_words q.fills m now level) q
+      → (level_with_words q.fills m now level).have ≡ have_of ds n now t u f
+      → IsLevel ds n tick t u f level q → IsLevel ds n now t u f (level_with_words q.fills m now level) q
   level-filled t u f level q full h =
       let a = coming q.fills level m now 0 in
       let b = coming q.fills level m now 1 in
@@ -264,8 +264,8 @@ module _ (ds : List ℕ) (n tick now most : ℕ) (m : Machine) (are : AreDelays 
       }
 
   agrees-next : (j : ℕ) (t : Option ℕ) (u : Machine) (f : Front) → IsMachine u → IfSome t (λ i. i < 64) → j ≤ 7
-      → now < (row ds n f (entry t u)).c → Agrees now m (take j f.past) u
-      → Agrees now m (take (suc j) (after ds n f (entry t u)).past) (guess t u)
+      → now < (row_of_entry ds n f (entry t u)).c → Agrees now m (take j f.past) u
+      → Agrees now m (take (suc j) (front_after_entry ds n f (entry t u)).past) (guess t u)
   agrees-next j t u f machine some few late agrees = λ w above early.
       let both = not-latest ds n j now w t u f few late early in
       agrees w above both.1 ∙ sym (guess-leaves t u w machine some above both.0)
@@ -274,7 +274,7 @@ module _ (ds : List ℕ) (n tick now most : ℕ) (m : Machine) (are : AreDelays 
       → IsMachine u → IfSome t (λ i. i < 64) → AreLevels ds n tick t u f last ring plans → All (λ q. now < q.c) plans
       → j + length ring ≤ 8 → Agrees now m (take j f.past) u → HasLow (length ring) m t u
       → ((k : ℕ) (level : Level) (q : Plan) → slice_get ring k ≡ Some level → slice_get plans k ≡ Some q
-      → slice_get new k ≡ Some (with_words q.fills m now level))
+      → slice_get new k ≡ Some (level_with_words q.fills m now level))
       → length new ≡ length ring → AreLevels ds n now t u f last new plans × AreFull ds n now t u f new
   unfolding AreLevels AreFull HasLow
   levels-filled j t u f last [] [] [] machine some h each room agrees low same len = (h, tt)
@@ -283,12 +283,12 @@ module _ (ds : List ℕ) (n tick now most : ℕ) (m : Machine) (are : AreDelays 
   levels-filled j t u f last (level ∷ levels) [] new machine some h each room agrees low same len = absurd h
   levels-filled j t u f last (level ∷ levels) (q ∷ qs) [] machine some h each room agrees low same len = absurd (omega arith)
   levels-filled j t u f last (level ∷ levels) (q ∷ qs) (x ∷ new) machine some h each room agrees low same len =
-      let first : x ≡ with_words q.fills m now level = cc (same 0 level q refl refl) in
+      let first : x ≡ level_with_words q.fills m now level = cc (same 0 level q refl refl) in
       let open_c : now < q.c = All-head (λ (r : Plan). now < r.c) q qs each in
-      let done : q.c ≡ (row ds n f (entry t u)).c = h.0.c in
-      let late : now < (row ds n f (entry t u)).c = omega arith in
+      let done : q.c ≡ (row_of_entry ds n f (entry t u)).c = h.0.c in
+      let late : now < (row_of_entry ds n f (entry t u)).c = omega arith in
       let full = have-filled j t u f level q machine some agrees low.0 h.0 in
-      let rest = levels-filled (suc j) None (guess t u) (after ds n f (entry t u)) last levels qs new (guess-machine t u machine some) tt h.1
+      let rest = levels-filled (suc j) None (guess t u) (front_after_entry ds n f (entry t u)) last levels qs new (guess-machine t u machine some) tt h.1
       (All-tail (λ (r : Plan). now < r.c) q qs each) (omega arith)
       (agrees-next j t u f machine some (omega arith) late agrees) low.1 (λ k. same (suc k)) (omega arith) in (
         (subst (λ (y : Level). IsLevel ds n now t u f y q) (sym first) (level-filled t u f level q full h.0), rest.0),
@@ -313,13 +313,13 @@ IsReady level = IsPrepared level.prepared
 pub all-next : (m : Machine) (now : ℕ) (ring : List Level) (plans : List Plan) (new : List Level) → All IsReady ring
     → length plans ≡ length ring → length new ≡ length ring
     → ((k : ℕ) (level : Level) (q : Plan) → slice_get ring k ≡ Some level → slice_get plans k ≡ Some q
-    → slice_get new k ≡ Some (with_words q.fills m now level)) → All IsReady new
+    → slice_get new k ≡ Some (level_with_words q.fills m now level)) → All IsReady new
 all-next m now [] plans [] each beside len same = each
 all-next m now [] plans (x ∷ new) each beside len same = absurd (omega arith)
 all-next m now (level ∷ levels) [] new each beside len same = absurd (omega arith)
 all-next m now (level ∷ levels) (q ∷ qs) [] each beside len same = absurd (omega arith)
 all-next m now (level ∷ levels) (q ∷ qs) (x ∷ new) each beside len same =
-    let first : x ≡ with_words q.fills m now level = cc (same 0 level q refl refl) in
+    let first : x ≡ level_with_words q.fills m now level = cc (same 0 level q refl refl) in
     let form : x.prepared ≡ level.prepared = ap (λ (y : Level). y.prepared) first ∙ prepared-with level _ _ _ _ in
     All-cons IsReady x new (subst (λ (p : Prepared). IsPrepared p) (sym form) (All-head IsReady level levels each))
     (all-next m now levels qs new (All-tail IsReady level levels each) (omega arith) (omega arith) (λ k. same (suc k)))

@@ -1,10 +1,10 @@
 -- What holds of all levels that are the entries ahead of a state, proved.
 use Rattle.st_levels.specs.Levels.{LevelsView, AreAhead, AreNotDone}
-use Rattle.st_segment.specs.Alone.{is_written}
+use Rattle.st_segment.specs.Alone.{is_word_written}
 use Rattle.st_state.specs.Machine.{Machine}
 use Rattle.std.proofs.Common.{length, refl, ap, ◌∙◌, ◌<◌, arith, ◌+◌, ◌≤◌, subst, ◌≡◌, ℕ, false, List, Option}
 use Rattle.st_levels.proofs.LevelLemmas.{levels-front, levels-oldest, levels-prepared, length-ahead}
-use Rattle.st_rows.specs.Rows.{row}
+use Rattle.st_rows.specs.Rows.{row_of_entry}
 use Rattle.st_levels.proofs.AloneLemmas.{two-ahead}
 use Rattle.st_rows.specs.Entries.{latest_done}
 use Rattle.st_rows.specs.declared.front.Front.{Front}
@@ -29,20 +29,20 @@ levels_are_the_entries_ahead = record {
 pub levels_that_are_not_done_run_ahead : LevelsThatAreNotDoneRunAhead
 levels_that_are_not_done_run_ahead = λ ds n tick now t s f last v h early late two.
     two-ahead ds n tick now (λ f e alone.
-    let a : f.c < (row ds n f e).a = rows_are_in_order.alone ds n f e alone in
-    let p : (row ds n f e).a < (row ds n f e).p = rows_are_in_order.prepared ds n f e in
+    let a : f.c < (row_of_entry ds n f e).a = rows_are_in_order.alone ds n f e alone in
+    let p : (row_of_entry ds n f e).a < (row_of_entry ds n f e).p = rows_are_in_order.prepared ds n f e in
     omega arith) t s f last v.ring v.plans h.levels early late two
 
 written-seen : (ds : List ℕ) (n tick now j w : ℕ) (t : Option ℕ) (s : Machine) (f last : Front) (v : LevelsView) →
     AreAhead ds n tick t s f last v → AreNotDone now v → j ≤ length v.ring → length v.ring ≤ 8 →
-    latest_done (front_behind ds n j t s f).past w ≤ now → is_written j t s w ≡ false
+    latest_done (front_behind ds n j t s f).past w ≤ now → is_word_written j t s w ≡ false
 written-seen ds n tick now j w t s f last v h open_c here few early =
     (unwritten-by ds n tick now w j 0 t s f last v.ring v.plans h.levels open_c here (omega arith)
     (take-latest (0 + j) (front_behind ds n j t s f).past w now early)).0
 
 last-seen : (ds : List ℕ) (n tick now w : ℕ) (t : Option ℕ) (s : Machine) (f last : Front) (v : LevelsView) →
     AreAhead ds n tick t s f last v → AreNotDone now v → length v.ring ≤ 8 →
-    latest_done last.past w ≤ now → is_written (length v.ring) t s w ≡ false
+    latest_done last.past w ≤ now → is_word_written (length v.ring) t s w ≡ false
 last-seen ds n tick now w t s f last v h open_c few early =
     written-seen ds n tick now (length v.ring) w t s f last v h open_c (omega arith) few
     (subst (λ (g : Front). latest_done g.past w ≤ now) (levels-front ds n tick t s f last v.ring v.plans h.levels) early)
@@ -62,8 +62,8 @@ pub levels_come_in_order : LevelsComeInOrder
 levels_come_in_order = record {
   prepared = λ ds n tick t s f last v h.
       prepared-order ds n tick (λ g e.
-      let a : g.p < (row ds n g e).a = (rows_are_in_order.address ds n g e).0 in
-      let p : (row ds n g e).a < (row ds n g e).p = rows_are_in_order.prepared ds n g e in
+      let a : g.p < (row_of_entry ds n g e).a = (rows_are_in_order.address ds n g e).0 in
+      let p : (row_of_entry ds n g e).a < (row_of_entry ds n g e).p = rows_are_in_order.prepared ds n g e in
       omega arith) f.p t s f last v.ring v.plans h.levels (omega arith);
   completed = λ ds n tick t s f last v m some h.
       done-order ds n tick (λ g e is. (rows_are_in_order.done ds n g e is).1) entries_are_in_range.ranges

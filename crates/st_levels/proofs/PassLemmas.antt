@@ -10,7 +10,7 @@ use Rattle.st_prep.specs.Plan.{plan}
 use Rattle.st_prep.specs.Ranges.{IsPrepared}
 use Rattle.st_prep.proofs.PlanLemmas.{plan-prepared}
 use Rattle.st_exec.specs.Completion.{guess}
-use Rattle.st_rows.specs.Rows.{row, after, fills}
+use Rattle.st_rows.specs.Rows.{row_of_entry, front_after_entry, fills}
 use Rattle.st_rows.specs.declared.entry.Entry.{Entry}
 use Rattle.st_rows.specs.declared.front.Front.{Front}
 use Rattle.st_ring.specs.declared.level.Level.{Level}
@@ -20,7 +20,7 @@ use Rattle.st_segment.specs.Alone.{RunAhead}
 use Rattle.st_segment.proofs.GuessLemmas.{guess-machine}
 use Rattle.st_segment.proofs.PassedOver.{entry-same, plan-same, passed-over}
 use Rattle.st_levels.specs.Levels.{LevelsView, IsLevel, AreLevels, AreAhead, AreFull}
-use Rattle.st_levels.specs.Slots.{fill_tick, slot_of, IsKept}
+use Rattle.st_levels.specs.Slots.{fill_tick, slot_of, IsKeptSlot}
 use Rattle.st_levels.specs.declared.plans.Plan.{Plan}
 
 -- ---- slots
@@ -58,17 +58,17 @@ level-same ds n tick s u f level q m alike free h =
     let e = sym (entry-same None s u alike) in
     record {
       prepared = h.prepared ∙ own;
-      p = h.p ∙ ap (λ (x : Entry). (row ds n f x).p) e;
+      p = h.p ∙ ap (λ (x : Entry). (row_of_entry ds n f x).p) e;
       have = record {
         first = h.have.first;
         second = h.have.second;
         slots = h.have.slots;
-        kept_first = subst (λ (there : Option ℕ). IsKept h.have.first there) (slot-moved ds n tick 0 s u f m alike free) h.have.kept_first;
-        kept_second = subst (λ (there : Option ℕ). IsKept h.have.second there) (slot-moved ds n tick 1 s u f m alike free) h.have.kept_second;
+        kept_first = subst (λ (there : Option ℕ). IsKeptSlot h.have.first there) (slot-moved ds n tick 0 s u f m alike free) h.have.kept_first;
+        kept_second = subst (λ (there : Option ℕ). IsKeptSlot h.have.second there) (slot-moved ds n tick 1 s u f m alike free) h.have.kept_second;
       };
       front = h.front;
-      r = h.r ∙ ap (λ (x : Entry). (row ds n f x).r) e;
-      c = h.c ∙ ap (λ (x : Entry). (row ds n f x).c) e;
+      r = h.r ∙ ap (λ (x : Entry). (row_of_entry ds n f x).r) e;
+      c = h.c ∙ ap (λ (x : Entry). (row_of_entry ds n f x).c) e;
       fills = h.fills ∙ ap (λ (x : Entry). fills ds n f x) e;
     }
 
@@ -85,10 +85,10 @@ levels-same ds n tick s u f last [] [] m alike free h = h
 levels-same ds n tick s u f last [] (q ∷ qs) m alike free h = absurd h
 levels-same ds n tick s u f last (level ∷ levels) [] m alike free h = absurd h
 levels-same ds n tick s u f last (level ∷ levels) (q ∷ qs) m alike free h =
-    let P : Entry → Type 0 = λ x. AreLevels ds n tick None (guess None u) (after ds n f x) last levels qs in (
+    let P : Entry → Type 0 = λ x. AreLevels ds n tick None (guess None u) (front_after_entry ds n f x) last levels qs in (
       level-same ds n tick s u f level q m alike free.0 h.0,
       subst P (sym (entry-same None s u alike))
-          (levels-same ds n tick (guess None s) (guess None u) (after ds n f (entry None s)) last levels qs (guess-machine None s m tt)
+          (levels-same ds n tick (guess None s) (guess None u) (front_after_entry ds n f (entry None s)) last levels qs (guess-machine None s m tt)
           (guess-same s u m alike free.0) free.1 h.1),
     )
 
@@ -98,10 +98,10 @@ pub full-same : (ds : List ℕ) (n tick : ℕ) (s u : Machine) (f : Front) (ring
 unfolding AreFull RunAhead
 full-same ds n tick s u f [] m alike free full = tt
 full-same ds n tick s u f (level ∷ levels) m alike free full =
-    let P : Entry → Type 0 = λ x. AreFull ds n tick None (guess None u) (after ds n f x) levels in (
+    let P : Entry → Type 0 = λ x. AreFull ds n tick None (guess None u) (front_after_entry ds n f x) levels in (
       full.0 ∙ ap₂ (λ (x y : Option ℕ). x ∷ y ∷ []) (slot-moved ds n tick 0 s u f m alike free.0) (slot-moved ds n tick 1 s u f m alike free.0),
       subst P (sym (entry-same None s u alike))
-          (full-same ds n tick (guess None s) (guess None u) (after ds n f (entry None s)) levels (guess-machine None s m tt)
+          (full-same ds n tick (guess None s) (guess None u) (front_after_entry ds n f (entry None s)) levels (guess-machine None s m tt)
           (guess-same s u m alike free.0) free.1 full.1),
     )
 

@@ -5,7 +5,7 @@ use Rattle.st_state.specs.Machine.{Machine, IsMachine}
 use Rattle.st_prep.specs.EarlyChange.{words_after}
 use Rattle.st_prep.specs.Plan.{plan}
 use Rattle.st_prep.specs.declared.entries.Prepared.{Prepared}
-use Rattle.st_rows.specs.Rows.{row, after, fills}
+use Rattle.st_rows.specs.Rows.{row_of_entry, front_after_entry, fills}
 use Rattle.st_rows.specs.declared.front.Front.{Front}
 use Rattle.st_rows.specs.declared.front.Filled.{Filled}
 use Rattle.st_ring.specs.Levels.{prepared_at}
@@ -15,7 +15,7 @@ use Rattle.st_segment.specs.Guesses.{guesses, table_behind, split_words}
 use Rattle.st_segment.specs.Alone.{RunAhead}
 use Rattle.st_segment.proofs.IndexLemmas.{split-change, index-split}
 use Rattle.st_levels.specs.Levels.{LevelsView, IsLevel, AreLevels, AreAhead}
-use Rattle.st_levels.specs.PlannedRows.{planned}
+use Rattle.st_levels.specs.PlannedRows.{row_of_plan}
 use Rattle.st_levels.specs.declared.plans.Plan.{Plan}
 use Rattle.st_levels.proofs.LevelLemmas.{levels-append}
 
@@ -24,8 +24,8 @@ abbrev pub pushed_level : Prepared → Filled → Level
 pushed_level p filled = prepared_at p filled.row.p (None ∷ None ∷ [])
 
 pub pushed-level : (ds : List ℕ) (n tick : ℕ) (k : Option ℕ) (u : Machine) (last : Front) (p : Prepared) (g : Front) (filled : Filled)
-    → g ≡ last → p ≡ plan u k → filled.row ≡ row ds n last (entry k u) → filled.fills ≡ fills ds n last (entry k u)
-    → IsLevel ds n tick k u last (pushed_level p filled) (planned g filled)
+    → g ≡ last → p ≡ plan u k → filled.row ≡ row_of_entry ds n last (entry k u) → filled.fills ≡ fills ds n last (entry k u)
+    → IsLevel ds n tick k u last (pushed_level p filled) (row_of_plan g filled)
 pushed-level ds n tick k u last p g filled front form numbers ticks = record {
   prepared = form;
   p = ap (λ r. r.p) numbers;
@@ -49,11 +49,11 @@ pub push-ahead : (ds : List ℕ) (n tick : ℕ) (t : Option ℕ) (s : Machine) (
     IsMachine s → IfSome t (λ i. i < 64) → AreAhead ds n tick t s f last v → RunAhead k t s → p ≡ plan u i
     → IsLevel ds n tick i u last level q
     → new.ring ≡ v.ring ++ level ∷ [] → new.plans ≡ v.plans ++ q ∷ [] → new.x ≡ words_after v.x p.index
-    → AreAhead ds n tick t s f (after ds n last (entry i u)) new
+    → AreAhead ds n tick t s f (front_after_entry ds n last (entry i u)) new
 push-ahead ds n tick t s f last v new level q p m some h free form is ring plans x =
     let k = length v.ring in
     let more : length new.ring ≡ suc k = ap length ring ∙ (length-append v.ring (level ∷ []) ∙ omega arith) in
-    let g = after ds n last (entry (table_behind k t) (guesses k t s)) in
+    let g = front_after_entry ds n last (entry (table_behind k t) (guesses k t s)) in
     let appended = levels-append ds n tick t (table_behind k t) s (guesses k t s) f last v.ring v.plans level q refl refl h.levels is in
     record {
       levels = subst (λ (rows : List Plan). AreLevels ds n tick t s f g new.ring rows) (sym plans)

@@ -3,7 +3,7 @@ use Rattle.std.proofs.Common.{ℕ, ◌≤◌, List, [], ◌∷◌, Option, None}
 use Rattle.st_state.specs.Machine.{Machine}
 use Rattle.st_prep.specs.Plan.{plan}
 use Rattle.st_exec.specs.Completion.{guess}
-use Rattle.st_rows.specs.Rows.{fills, after}
+use Rattle.st_rows.specs.Rows.{fills, front_after_entry}
 use Rattle.st_rows.specs.declared.front.Front.{Front}
 use Rattle.st_ring.specs.declared.level.Level.{Level}
 use Rattle.st_segment.specs.Entries.{entry}
@@ -37,7 +37,7 @@ module _ (tick later : ℕ) (behind : tick ≤ later) where
   levels-rest ds n t s f last [] (q ∷ qs) h = absurd h
   levels-rest ds n t s f last (level ∷ levels) [] h = absurd h
   levels-rest ds n t s f last (level ∷ levels) (q ∷ qs) h =
-      (level-rests ds n t s f level q h.0, levels-rest ds n None (guess t s) (after ds n f (entry t s)) last levels qs h.1)
+      (level-rests ds n t s f level q h.0, levels-rest ds n None (guess t s) (front_after_entry ds n f (entry t s)) last levels qs h.1)
 
   pub ahead-rests : (ds : List ℕ) (n : ℕ) (t : Option ℕ) (s : Machine) (f last : Front) (v : LevelsView)
       → AreAhead ds n tick t s f last v → AreAhead ds n later t s f last v

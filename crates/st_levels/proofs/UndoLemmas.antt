@@ -6,17 +6,17 @@ use Rattle.st_bits.specs.declared.operations.HalfOp.TheVariants.{Lx, Lv, Lc, Lr,
 use Rattle.st_format.specs.declared.instruction.Instr.{Instr}
 use Rattle.st_format.specs.declared.instruction.Instr.TheVariants.{Half, Vfl, Connect}
 use Rattle.st_state.specs.Machine.{Machine, IsMachine}
-use Rattle.st_prep.specs.EarlyChange.{changed, compared, unchanged, half_change, progressive_change, change, words_after}
+use Rattle.st_prep.specs.EarlyChange.{change_of_index, change_of_comparison, without_change, half_change, progressive_change, change, words_after}
 use Rattle.st_prep.specs.Fetch.{index_words, place_of}
-use Rattle.st_prep.specs.Plan.{sight, aim, needs, side_word, suppressed, entry as entry_of, prepared_by, prepared, plan}
+use Rattle.st_prep.specs.Plan.{sight, aim, needs, side_word, suppressed_entry, entry_at as entry_of, prepared_by, prepared_entry, plan}
 use Rattle.st_prep.specs.declared.entries.Aim.{Aim}
 use Rattle.st_prep.specs.declared.entries.Place.{Place}
 use Rattle.st_prep.specs.declared.entries.Prepared.{Prepared}
 use Rattle.st_exec.specs.Completion.{guess}
-use Rattle.st_rows.specs.Rows.{after}
+use Rattle.st_rows.specs.Rows.{front_after_entry}
 use Rattle.st_rows.specs.declared.front.Front.{Front}
 use Rattle.st_ring.specs.declared.level.Level.{Level}
-use Rattle.st_ring.specs.Unwinding.{made, Keeps, Kept}
+use Rattle.st_ring.specs.Unwinding.{index_words_after, ChangeKeeps, Kept}
 use Rattle.st_segment.specs.Entries.{entry}
 use Rattle.st_segment.specs.Guesses.{guesses, split_words}
 use Rattle.st_segment.specs.Alone.{RunAhead}
@@ -28,26 +28,26 @@ use Rattle.st_levels.proofs.DoneLemmas.{split-behind, behind-serial, behind-rest
 
 -- ---- a change keeps the word that it replaces
 
-changed-keeps : (xs : List ℕ) (j y : ℕ) (refill : Option ℕ) → Keeps xs (changed j (slice_index xs j) y refill).index
-unfolding changed
+changed-keeps : (xs : List ℕ) (j y : ℕ) (refill : Option ℕ) → ChangeKeeps xs (change_of_index j (slice_index xs j) y refill).index
+unfolding change_of_index
 changed-keeps xs j y refill = refl
 
-compared-keeps : (xs : List ℕ) (a b : ℤ) → Keeps xs (compared a b).index
-unfolding compared
+compared-keeps : (xs : List ℕ) (a b : ℤ) → ChangeKeeps xs (change_of_comparison a b).index
+unfolding change_of_comparison
 compared-keeps xs a b = tt
 
 progressive-keeps_if : (b : Bool) (xs : List ℕ) (i y : ℕ) (read : Option ℕ)
-    → Keeps xs (if b then unchanged else changed i (slice_index xs i) y read).index
+    → ChangeKeeps xs (if b then without_change else change_of_index i (slice_index xs i) y read).index
 progressive-keeps_if true xs i y read = tt
 progressive-keeps_if false xs i y read = changed-keeps xs i y read
 
 progressive-keeps : (xs : List ℕ) (p i address : ℕ) (read : Option ℕ)
-    → Keeps xs (progressive_change p i (slice_index xs i) address read).index
+    → ChangeKeeps xs (progressive_change p i (slice_index xs i) address read).index
 unfolding progressive_change
 progressive-keeps xs p i address read = progressive-keeps_if (nat_lt p 2) xs i _ read
 
 half-keeps : (op : HalfOp) (xs : List ℕ) (address j e : ℕ) (read : Option ℕ)
-    → Keeps xs (half_change op xs address j (slice_index xs j) e read).index
+    → ChangeKeeps xs (half_change op xs address j (slice_index xs j) e read).index
 unfolding half_change
 half-keeps Lx xs address j e read = changed-keeps xs j _ None
 half-keeps Lv xs address j e read = changed-keeps xs j _ None
@@ -72,7 +72,7 @@ half-keeps Cbr xs address j e read = changed-keeps xs j _ read
 half-keeps R xs address j e read = changed-keeps xs j _ None
 half-keeps _ xs address j e read = tt
 
-change-keeps : (xs : List ℕ) (instr : Instr) (e : ℕ) (read : Option ℕ) → Keeps xs (change xs instr e read).index
+change-keeps : (xs : List ℕ) (instr : Instr) (e : ℕ) (read : Option ℕ) → ChangeKeeps xs (change xs instr e read).index
 unfolding change
 change-keeps xs (Half op address j i) e read = half-keeps op xs address j e read
 change-keeps xs (Vfl op d u n p length byte offset address i) e read = progressive-keeps xs p i address read
@@ -80,13 +80,13 @@ change-keeps xs (Connect kind table p length byte offset address i) e read = pro
 change-keeps xs _ e read = tt
 
 prepared-keeps_by : (fault : Option ℕ) (place : Place) (a : Aim) (xs : List ℕ) (read : Option ℕ)
-    → Keeps xs (prepared_by fault place a xs read).index
-unfolding suppressed entry_of
+    → ChangeKeeps xs (prepared_by fault place a xs read).index
+unfolding suppressed_entry entry_of
 prepared-keeps_by (Some i) place a xs read = tt
 prepared-keeps_by None place a xs read = change-keeps xs a.instr a.e read
 
-pub plan-keeps : (s : Machine) (t : Option ℕ) → Keeps (index_words s) (plan s t).index
-unfolding plan prepared sight
+pub plan-keeps : (s : Machine) (t : Option ℕ) → ChangeKeeps (index_words s) (plan s t).index
+unfolding plan prepared_entry sight
 plan-keeps s t =
     let v = sight s (place_of s t) in
     prepared-keeps_by (aim v).fault v.place (aim v) (index_words s) (side_word t s (needs v).index_read)
@@ -95,14 +95,14 @@ plan-keeps s t =
 
 -- what the levels behind the first one keep and make
 abbrev KeepRest : List ℕ → List Level → List ℕ → Type 0
-KeepRest x ring y = Kept x ring × (made x ring ≡ y)
+KeepRest x ring y = Kept x ring × (index_words_after x ring ≡ y)
 
 keep-one : (t : Option ℕ) (s : Machine) (level : Level) (x : List ℕ) → IsMachine s → IfSome t (λ i. i < 64)
     → level.prepared ≡ plan s t → x ≡ index_words s → KeepRest x (level ∷ []) (split_words 1 t s)
-unfolding Kept made guesses
+unfolding Kept index_words_after guesses
 keep-one t s level x m some form before =
-    let keeps : Keeps (index_words s) level.prepared.index = subst (λ (p : Prepared). Keeps (index_words s) p.index) (sym form) (plan-keeps s t) in (
-      (subst (λ (y : List ℕ). Keeps y level.prepared.index) (sym before) keeps, tt),
+    let keeps : ChangeKeeps (index_words s) level.prepared.index = subst (λ (p : Prepared). ChangeKeeps (index_words s) p.index) (sym form) (plan-keeps s t) in (
+      (subst (λ (y : List ℕ). ChangeKeeps y level.prepared.index) (sym before) keeps, tt),
       ap₂ (λ (y : List ℕ) (p : Prepared). words_after y p.index) before form ∙ sym (split-change 0 t s m some),
     )
 
@@ -114,7 +114,7 @@ pub levels-keep : (ds : List ℕ) (n tick : ℕ) (t : Option ℕ) (s : Machine) 
     (x : List ℕ) → IsMachine s → IfSome t (λ i. i < 64)
     → AreLevels ds n tick t s f last ring plans → RunAhead (length ring - 1) t s → x ≡ index_words s
     → KeepRest x ring (split_words (length ring) t s)
-unfolding AreLevels Kept made split_words
+unfolding AreLevels Kept index_words_after split_words
 levels-keep ds n tick t s f last [] [] x m some h free before = (tt, before)
 levels-keep ds n tick t s f last [] (q ∷ qs) x m some h free before = absurd h
 levels-keep ds n tick t s f last (level ∷ ring) [] x m some h free before = absurd h
@@ -126,6 +126,6 @@ levels-keep ds n tick t s f last (level ∷ next ∷ ring) (q ∷ qs) x m some h
     let one = keep-one t s level x m some h.0.prepared before in
     let here : words_after x level.prepared.index ≡ index_words (guess t s) =
     ap₂ (λ (y : List ℕ) (p : Prepared). words_after y p.index) before h.0.prepared ∙ sym (guess-past t s m some serial).index in
-    let rest = levels-keep ds n tick None (guess t s) (after ds n f (entry t s)) last (next ∷ ring) qs (words_after x level.prepared.index)
+    let rest = levels-keep ds n tick None (guess t s) (front_after_entry ds n f (entry t s)) last (next ∷ ring) qs (words_after x level.prepared.index)
     (guess-machine t s m some) tt h.1 (behind-rest (length (next ∷ ring) - 1) t s ahead) here in
     ((one.0.0, rest.0), rest.1 ∙ sym (split-behind (length ring) t s))

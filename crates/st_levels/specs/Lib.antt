@@ -2,3 +2,15 @@ pub mod Slots
 pub mod PlannedRows
 pub mod Levels
 pub mod Laws
+pub use Rattle.st_exec.specs.Completion
+pub use Rattle.st_fetch.specs.Queue
+pub use Rattle.st_prep.specs.BesideOrders
+pub use Rattle.st_prep.specs.EarlyChange
+pub use Rattle.st_prep.specs.Fetch
+pub use Rattle.st_prep.specs.FewWords
+pub use Rattle.st_prep.specs.Plan
+pub use Rattle.st_rows.specs.Rows
+pub use Rattle.st_segment.specs.Ahead
+pub use Rattle.st_segment.specs.Alone
+pub use Rattle.st_segment.specs.Guesses
+pub use Rattle.st_state.specs.Machine

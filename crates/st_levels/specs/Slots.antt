@@ -7,7 +7,7 @@ use Rattle.st_prep.specs.FewWords.{is_transmission}
 use Rattle.st_prep.specs.declared.entries.Prepared.{Prepared}
 use Rattle.st_rows.specs.Rows.{fills}
 use Rattle.st_rows.specs.declared.front.Front.{Front}
-use Rattle.st_ring.specs.Levels.{filled}
+use Rattle.st_ring.specs.Levels.{level_with_word}
 use Rattle.st_ring.specs.declared.level.Level.{Level}
 use Rattle.st_segment.specs.Entries.{entry}
 
@@ -21,32 +21,35 @@ fill_tick ticks p w =
 abbrev pub is_there : List ℕ → Prepared → ℕ → ℕ → Bool
 is_there ticks p tick w = nat_lt w FIRST_STORAGE_WORD || nat_le (fill_tick ticks p w) tick
 
--- the word in slot k of a level, as it stands in the state s before its step, once it is there; transmissions keep none
+-- the word in slot k of a level, as it stands in the state s before its step, once it is there;
+-- transmissions keep none
 unfoldable pub slot_of : List ℕ → Prepared → Machine → ℕ → ℕ → Option ℕ
 slot_of ticks p s tick k =
-    if not (is_transmission p.instr) && nat_lt k p.reads.len && is_there ticks p tick (p.reads.first + k)
+    if not (is_transmission p.instr) && nat_lt k p.reads.len
+    && is_there ticks p tick (p.reads.first + k)
     then Some (word s (p.reads.first + k)) else None
 
 -- both slots of a level
 abbrev pub slots_of : List ℕ → Prepared → Machine → ℕ → List (Option ℕ)
 slots_of ticks p s tick = slot_of ticks p s tick 0 ∷ slot_of ticks p s tick 1 ∷ []
 
--- those of the next entry of a state behind a front, on a machine with the delays ds and with n levels
+-- those of the next entry of a state behind a front, on a machine with the delays ds and with n
+-- levels
 abbrev pub have_of : List ℕ → ℕ → ℕ → Option ℕ → Machine → Front → List (Option ℕ)
 have_of ds n tick t s f = slots_of (fills ds n f (entry t s)) (plan s t) s tick
 
 -- a slot is empty, or has the word that is there
-abbrev pub IsKept : Option ℕ → Option ℕ → Type 0
-IsKept None there = Unit {0}
-IsKept (Some w) there = there ≡ Some w
+abbrev pub IsKeptSlot : Option ℕ → Option ℕ → Type 0
+IsKeptSlot None there = Unit {0}
+IsKeptSlot (Some w) there = there ≡ Some w
 
 -- so are both slots of a level, of which these words are there
 pub record AreKept (have : List (Option ℕ)) (a b : Option ℕ) : Type 0 where
   pub first : Option ℕ
   pub second : Option ℕ
   pub slots : have ≡ first ∷ second ∷ []
-  pub kept_first : IsKept first a
-  pub kept_second : IsKept second b
+  pub kept_first : IsKeptSlot first a
+  pub kept_second : IsKeptSlot second b
 
 -- the word that is put into a slot, by what it has: one that is there, where it is empty
 abbrev pub put_of : Option ℕ → Option ℕ → Option ℕ
@@ -55,7 +58,8 @@ put_of (Some w) there = None
 
 -- the word that is put into slot k of a level by the tick `now`, as it stands in the state s
 abbrev pub coming : List ℕ → Level → Machine → ℕ → ℕ → Option ℕ
-coming ticks level s now k = put_of (slice_index_or level.have k None) (slot_of ticks level.prepared s now k)
+coming ticks level s now k = put_of (slice_index_or level.have k None)
+    (slot_of ticks level.prepared s now k)
 
 -- when it came: a register is there when the entry is prepared
 abbrev pub came_at : List ℕ → Level → ℕ → ℕ
@@ -64,11 +68,12 @@ came_at ticks level k =
     else fill_tick ticks level.prepared (level.prepared.reads.first + k)
 
 -- a level with a word in slot k, where one comes
-abbrev pub with_word : Level → ℕ → Option ℕ → ℕ → Level
-with_word level k None tick = level
-with_word level k (Some w) tick = filled level k w tick
+abbrev pub level_with_slot : Level → ℕ → Option ℕ → ℕ → Level
+level_with_slot level k None tick = level
+level_with_slot level k (Some w) tick = level_with_word level k w tick
 
 -- with the words that come by the tick `now`
-abbrev pub with_words : List ℕ → Machine → ℕ → Level → Level
-with_words ticks s now level =
-    with_word (with_word level 0 (coming ticks level s now 0) (came_at ticks level 0)) 1 (coming ticks level s now 1) (came_at ticks level 1)
+abbrev pub level_with_words : List ℕ → Machine → ℕ → Level → Level
+level_with_words ticks s now level =
+    level_with_slot (level_with_slot level 0 (coming ticks level s now 0) (came_at ticks level 0)) 1
+    (coming ticks level s now 1) (came_at ticks level 1)

@@ -2,7 +2,7 @@
 ghost use Rattle.std.specs.Prelude.{◌≡◌, ◌≢◌, ℕ, ◌+◌, ◌<◌, ◌≤◌, true, length, slice_get, slice_set, All, None, Some, Option};
 ghost use Rattle.st_prep.specs.Ranges.{IsPrepared};
 ghost use Rattle.st_ring.specs.declared.level.Level.{Level as Row};
-ghost use Rattle.st_levels.specs.Slots.{fill_tick as fill_tick_of, slot_of, coming as coming_of, came_at as came_at_of, with_word, with_words};
+ghost use Rattle.st_levels.specs.Slots.{fill_tick as fill_tick_of, slot_of, coming as coming_of, came_at as came_at_of, level_with_slot, level_with_words};
 ghost use Rattle.st_levels.specs.declared.plans.Plan.{Plan as PlanOf};
 
 use crate::plans::{Plan, Plans};
@@ -12,7 +12,8 @@ use st_prep::Prepared;
 use st_ring::{Level, SpecRing};
 use st_state::State;
 
-// When the operand word in place `k` is there, by the ticks of the first two words above the registers.
+// When the operand word in place `k` is there, by the ticks of the first two words above the
+// registers.
 fn fill_tick(p: &Prepared, fills: &[u64; 2], k: u8) -> u64
     requires prepared { IsPrepared p.now }
     requires slot { k < 2 }
@@ -45,8 +46,8 @@ fn slot(p: &Prepared, fills: &[u64; 2], k: u8, state: &State, now: u64) -> Optio
     }
 }
 
-// The word that comes into slot `k` of a level by the tick `now`: one that is there, where the slot is empty. Most levels have none that is left to
-// come, so that this is tested first.
+// The word that comes into slot `k` of a level by the tick `now`: one that is there, where the slot
+// is empty. Most levels have none that is left to come, so that this is tested first.
 #[tactic(auto, unfolding(crate::specs::Slots::slot_of))]
 #[inline(always)]
 fn coming(level: &Level, fills: &[u64; 2], k: u8, state: &State, now: u64) -> Option<u64>
@@ -88,7 +89,7 @@ fn put<const N: usize>(ring: &mut SpecRing<N>, k: usize, slot: u8, word: Option<
     requires level { k < length ring.old }
     requires slot { slot < 2 }
     ensures levels { (level : Row) → slice_get ring.old k ≡ Some level
-        → ring.new ≡ slice_set ring.old k (with_word level slot word tick) }
+        → ring.new ≡ slice_set ring.old k (level_with_slot level slot word tick) }
     ensures len { length ring.new ≡ length ring.old }
 {
     if let Some(word) = word {
@@ -108,7 +109,7 @@ fn fill_level<const N: usize>(
     requires prepared { (level : Row) → slice_get ring.old k ≡ Some level →
         IsPrepared level.prepared }
     ensures levels { (level : Row) → slice_get ring.old k ≡ Some level
-        → slice_get ring.new k ≡ Some (with_words plan.now.fills state.now now level) }
+        → slice_get ring.new k ≡ Some (level_with_words plan.now.fills state.now now level) }
     ensures others { (i : ℕ) → i ≢ k → slice_get ring.new i ≡ slice_get ring.old i }
     ensures len { length ring.new ≡ length ring.old }
 {
@@ -135,7 +136,7 @@ pub(crate) fn fill_all<const N: usize>(
     requires prepared { All (λ level. IsPrepared level.prepared) ring.old }
     ensures levels { (k : ℕ) (level : Row) (q : PlanOf) → slice_get ring.old k ≡ Some level →
         slice_get plans.now k ≡ Some q
-        → slice_get ring.new k ≡ Some (with_words q.fills state.now now level) }
+        → slice_get ring.new k ≡ Some (level_with_words q.fills state.now now level) }
     ensures len { length ring.new ≡ length ring.old }
 {
     'filling: for k in 0..ring.len() {

@@ -5,15 +5,15 @@ ghost use Rattle.st_prep.specs.EarlyChange.{words_after};
 ghost use Rattle.st_prep.specs.Fetch.{index_words as index_words_of};
 ghost use Rattle.st_prep.specs.Plan.{plan as plan_of};
 ghost use Rattle.st_prep.specs.Ranges.{IsPrepared};
-ghost use Rattle.st_exec.specs.Completion.{executed, guess};
-ghost use Rattle.st_rows.specs.Ranges.{AreDelays};
-ghost use Rattle.st_rows.specs.Rows.{row, after, fills};
+ghost use Rattle.st_exec.specs.Completion.{state_after_execution, guess};
+ghost use Rattle.st_rows.specs.Ranges.{AreDelaysUpTo};
+ghost use Rattle.st_rows.specs.Rows.{row_of_entry, front_after_entry, fills};
 ghost use Rattle.st_rows.specs.declared.front.Front.{Front as FrontOf};
 ghost use Rattle.st_segment.specs.Entries.{entry};
 ghost use Rattle.st_segment.specs.Guesses.{guesses, table_behind};
 ghost use Rattle.st_segment.specs.Alone.{RunAhead};
-ghost use Rattle.st_levels.specs.Levels.{LevelsView, AreSound, AreAhead, AreFull, AreNotDone, IsCompleted, due_of, is_due as is_due_of};
-ghost use Rattle.st_levels.specs.PlannedRows.{planned};
+ghost use Rattle.st_levels.specs.Levels.{LevelsView, AreLevelsSound, AreAhead, AreFull, AreNotDone, IsCompleted, due_of, is_oldest_due as is_due_of};
+ghost use Rattle.st_levels.specs.PlannedRows.{row_of_plan};
 
 use crate::filling::fill_all;
 use crate::plans::{Plan, Plans};
@@ -48,13 +48,13 @@ pub struct Levels<const N: usize> {
 
 // Clauses see the levels and the planned rows, oldest first, and the index words.
 impl<const N: usize> Model for Levels<N> {
-    ghost use Rattle.st_levels.specs.Levels.{LevelsView, AreSound};
+    ghost use Rattle.st_levels.specs.Levels.{LevelsView, AreLevelsSound};
 
     ghost Value = { LevelsView };
 
     ghost view = { λ levels. record { ring = levels.ring; plans = levels.plans; x = levels.x } };
 
-    ghost invariant = { λ levels. AreSound N levels.ring levels.plans };
+    ghost invariant = { λ levels. AreLevelsSound N levels.ring levels.plans };
 }
 
 impl<const N: usize> Levels<N> {
@@ -80,9 +80,10 @@ impl<const N: usize> Levels<N> {
         self.ring.len()
     }
 
-    /// Makes known what is always kept: a planned row beside each level, at most N of them, and each entry in its ranges.
+    /// Makes known what is always kept: a planned row beside each level, at most N of them, and
+    /// each entry in its ranges.
     pub fn shape(&self)
-        ensures { AreSound N self.now.ring self.now.plans }
+        ensures { AreLevelsSound N self.now.ring self.now.plans }
     {
         let _ = &self.x;
     }
@@ -109,8 +110,8 @@ impl<const N: usize> Levels<N> {
         self.plans.get(k)
     }
 
-    /// Appends an entry that is prepared behind `front`; `filled` is its row. The index word that it changes is changed, and its slots are
-    /// empty. There is room.
+    /// Appends an entry that is prepared behind `front`; `filled` is its row. The index word that
+    /// it changes is changed, and its slots are empty. There is room.
     pub fn push(&mut self, prepared: &Prepared, front: &Front, filled: &Filled)
         requires room { length self.old.ring < N }
         requires prepared { IsPrepared prepared.now }
@@ -120,21 +121,22 @@ impl<const N: usize> Levels<N> {
           r = filled.now.row.p;
           have = None ∷ None ∷ [];
         }) ∷ [] }
-        ensures plans { self.new.plans ≡ self.old.plans ++ planned front.now filled.now ∷ [] }
+        ensures plans { self.new.plans ≡ self.old.plans ++ row_of_plan front.now filled.now ∷ [] }
         ensures index { self.new.x ≡ words_after self.old.x prepared.now.index }
         ensures not_done { (now : ℕ) → AreNotDone now self.old → now < filled.now.row.c →
             AreNotDone now self.new }
 
-        // Where the levels are the entries ahead, none done alone, and it is the next one, they are so with it.
+        // Where the levels are the entries ahead, none done alone, and it is the next one, they are
+        // so with it.
         ensures ahead { (ds : List ℕ) (n tick : ℕ) (t : Option ℕ) (s : Machine)
             (f last : FrontOf) →
             let k = length self.old.ring in let u = guesses k t s in let i = table_behind k t in
             IsMachine s → IfSome t (λ i. i < 64) →
             AreAhead ds n tick t s f last self.old → RunAhead k t s →
             front.now ≡ last → prepared.now ≡ plan_of u i →
-            filled.now.row ≡ row ds n last (entry i u) →
+            filled.now.row ≡ row_of_entry ds n last (entry i u) →
             filled.now.fills ≡ fills ds n last (entry i u) →
-            AreAhead ds n tick t s f (after ds n last (entry i u)) self.new }
+            AreAhead ds n tick t s f (front_after_entry ds n last (entry i u)) self.new }
     {
         change(&mut self.x, prepared.index);
         self.ring
@@ -161,17 +163,20 @@ impl<const N: usize> Levels<N> {
         self.len() > 0 && self.plans.get(0).c == now
     }
 
-    /// The oldest level is done: its entry is executed by its operands as they stand in the state, and it is taken away. Where it is done alone
-    /// the index words become those of the state. There is one.
+    /// The oldest level is done: its entry is executed by its operands as they stand in the state,
+    /// and it is taken away. Where it is done alone the index words become those of the state.
+    /// There is one.
     pub fn complete(&mut self, state: &mut State) -> Completed
         requires some { 0 < length self.old.ring }
         requires few { state.old.done < 2 ^ 63 }
         ensures { (ds : List ℕ) (n tick : ℕ) (t : Option ℕ) (s : Machine) (f last : FrontOf) →
             IsMachine s → IfSome t (λ i. i < 64) → AreAhead ds n tick t s f last self.old →
             s ≡ state.old →
-            (state.new ≡ executed t s) × IsCompleted ds n t s f result
-            × AreAhead ds n tick None (guess t s) (after ds n f (entry t s)) last self.new
-            × (AreFull ds n tick t s f self.old.ring → AreFull ds n tick None (guess t s) (after ds n f (entry t s)) self.new.ring) }
+            (state.new ≡ state_after_execution t s) × IsCompleted ds n t s f result
+            × AreAhead ds n tick None (guess t s)
+            (front_after_entry ds n f (entry t s)) last self.new
+            × (AreFull ds n tick t s f self.old.ring → AreFull ds n tick None (guess t s)
+            (front_after_entry ds n f (entry t s)) self.new.ring) }
     {
         let r = self.plans.get(0).r;
         let level = self.ring.oldest();
@@ -189,17 +194,18 @@ impl<const N: usize> Levels<N> {
         done
     }
 
-    /// Puts the operand words that are there by this tick into their slots, where these are empty, as they stand in the state.
+    /// Puts the operand words that are there by this tick into their slots, where these are empty,
+    /// as they stand in the state.
     pub fn fill(&mut self, state: &State, now: u64)
         ensures plans { self.new.plans ≡ self.old.plans }
         ensures index { self.new.x ≡ self.old.x }
         ensures len { length self.new.ring ≡ length self.old.ring }
 
-        // All are prepared by then, and none is done yet. A word that is there is written by no older level, so it stands in the state as before the
-        // step of the entry.
+        // All are prepared by then, and none is done yet. A word that is there is written by no
+        // older level, so it stands in the state as before the step of the entry.
         ensures ahead { (ds : List ℕ) (n tick most : ℕ) (t : Option ℕ) (s : Machine)
             (f last : FrontOf) →
-            AreDelays most ds → IsMachine s → IfSome t (λ i. i < 64) →
+            AreDelaysUpTo most ds → IsMachine s → IfSome t (λ i. i < 64) →
             AreAhead ds n tick t s f last self.old →
             tick ≤ now → All (λ level. level.p ≤ now) self.old.ring → AreNotDone now self.old →
             ((w : ℕ) → word_of state.now w ≡ word_of s w) →
@@ -208,7 +214,8 @@ impl<const N: usize> Levels<N> {
         fill_all(&mut self.ring, &self.plans, state, now);
     }
 
-    /// Puts the index words back as they were before all levels, leaves no level, and gives the number of levels that there were.
+    /// Puts the index words back as they were before all levels, leaves no level, and gives the
+    /// number of levels that there were.
     pub fn undo(&mut self) -> u8
         ensures empty { (self.new.ring ≡ []) × (self.new.plans ≡ []) }
         ensures count { result ≡ length self.old.ring }
@@ -221,7 +228,8 @@ impl<const N: usize> Levels<N> {
     }
 }
 
-// The index words behind an entry that is done: those of the state where it is done alone, and else as they were.
+// The index words behind an entry that is done: those of the state where it is done alone, and else
+// as they were.
 fn renew(x: &mut [u64; 16], alone: bool, state: &State)
     ensures alone { alone ≡ true → x.new ≡ index_words_of state.now }
     ensures stays { alone ≡ false → x.new ≡ x.old }

@@ -1,5 +1,6 @@
-//! The levels of the overlapped machine: entries that are prepared and not done, with their operands, their planned rows, and the index
-//! words that run ahead. `docs/timetable.md` has the rules.
+//! The levels of the overlapped machine: entries that are prepared and not done, with their
+//! operands, their planned rows, and the index words that run ahead. `docs/timetable.md` has the
+//! rules.
 #![tactic(auto, using(st_bits::specs::Storage::words_of_storage_is))]
 
 mod filling;

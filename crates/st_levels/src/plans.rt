@@ -1,6 +1,6 @@
 //! The planned rows of the levels, oldest first.
 ghost use Rattle.std.specs.Prelude.{◌≡◌, ◌+◌, ◌<◌, ◌≤◌, [], ◌∷◌, ◌++◌, length, drop, slice_get, Some};
-ghost use Rattle.st_levels.specs.PlannedRows.{planned};
+ghost use Rattle.st_levels.specs.PlannedRows.{row_of_plan};
 
 use st_rows::{Filled, Front};
 use std::marker::Model;
@@ -18,7 +18,8 @@ pub struct Plan {
     pub r: u64,
     /// When it is done.
     pub c: u64,
-    /// When its first two operand words above the registers are there; 0 where there is no such word.
+    /// When its first two operand words above the registers are there; 0 where there is no such
+    /// word.
     pub fills: [u64; 2],
 }
 
@@ -35,13 +36,13 @@ impl Model for Plans {
     ghost use Rattle.std.specs.Prelude.{List};
     ghost use Rattle.st_fetch.specs.Queue.{window};
     ghost use Rattle.st_levels.specs.declared.plans.Plan.{Plan as Row};
-    ghost use Rattle.st_levels.specs.PlannedRows.{IsRing};
+    ghost use Rattle.st_levels.specs.PlannedRows.{IsPlanRing};
 
     ghost Value = { List Row };
 
     ghost view = { λ ring. window ring.head ring.len ring.slots };
 
-    ghost invariant = { λ ring. IsRing ring.head ring.len ring.slots };
+    ghost invariant = { λ ring. IsPlanRing ring.head ring.len ring.slots };
 }
 
 impl Plans {
@@ -73,10 +74,11 @@ impl Plans {
         self.len
     }
 
-    /// Appends the row of an entry behind `front`, whose operands are there as `filled` says; it is the youngest then. There is room.
+    /// Appends the row of an entry behind `front`, whose operands are there as `filled` says; it is
+    /// the youngest then. There is room.
     pub fn push(&mut self, front: &Front, filled: &Filled)
         requires { length self.old < 8 }
-        ensures rows { self.new ≡ self.old ++ planned front.now filled.now ∷ [] }
+        ensures rows { self.new ≡ self.old ++ row_of_plan front.now filled.now ∷ [] }
         ensures len { length self.new ≡ length self.old + 1 }
     {
         let at = (self.head + self.len) % SLOTS;
@@ -122,7 +124,7 @@ fn no_plan() -> Plan {
 
 // The slot becomes the row of an entry behind `front`, whose operands are there as `filled` says.
 fn plan_into(slot: &mut Plan, front: &Front, filled: &Filled)
-    ensures { slot.new ≡ planned front.now filled.now }
+    ensures { slot.new ≡ row_of_plan front.now filled.now }
 {
     slot.front = Snapshot::of(front);
     slot.r = filled.row.r;

@@ -7,15 +7,15 @@ use Rattle.st_fetch.specs.Planned.{tick_of}
 use Rattle.st_state.specs.Machine.{Machine, word}
 use Rattle.st_prep.specs.declared.entries.Fetched.{Fetched}
 use Rattle.st_prep.specs.declared.entries.Fetching.TheVariants.{Next as GivenWord, Found as GivenAll}
-use Rattle.st_prep.specs.Plan.{seen, sight}
+use Rattle.st_prep.specs.Plan.{sight_of, sight}
 use Rattle.st_prep.specs.Ranges.{IsPlace}
 use Rattle.st_prep.proofs.PlanLemmas.{sight-fits}
-use Rattle.st_rows.specs.Asked.{side_asked, served}
-use Rattle.st_rows.specs.BusTimes.{requested}
-use Rattle.st_rows.specs.Notes.{noted}
-use Rattle.st_rows.specs.Ranges.{IsEntry, AreDelays}
-use Rattle.st_rows.specs.Rows.{fetch_word, fetched, wanted_from, is_forwarded, tick_a, bus_a}
-use Rattle.st_rows.specs.declared.entry.Run.{Run}
+use Rattle.st_rows.specs.Asked.{side_asked, bus_after_reads}
+use Rattle.st_rows.specs.BusTimes.{bus_after_request}
+use Rattle.st_rows.specs.Notes.{log_after_reads}
+use Rattle.st_rows.specs.Ranges.{IsEntryInTime, AreDelaysUpTo}
+use Rattle.st_rows.specs.Rows.{fetch_word, words_tick, wanted_from, is_forwarded, tick_a, bus_a}
+use Rattle.st_rows.specs.declared.entry.WordRun.{WordRun}
 use Rattle.st_rows.specs.declared.past.Past.{Past}
 use Rattle.st_rows.specs.declared.fetching.Fetching.{Fetching}
 use Rattle.st_rows.specs.declared.front.Front.{Front}
@@ -29,7 +29,7 @@ use Rattle.st_segment.specs.Entries.{entry}
 use Rattle.st_segment.proofs.EntryRanges.{entry-ranges}
 use Rattle.st_next.specs.Words.{words_alone, words_so_far, asked_so_far}
 use Rattle.st_next.specs.Progress.{IsKnown, reads_so_far}
-use Rattle.st_next.specs.Going.{IsFront, IsEarly, IsReadFurther, IsPlannedAs, entry_seen, prepared_as}
+use Rattle.st_next.specs.Going.{IsFrontInTime, IsEarly, IsReadFurther, IsPlannedAs, entry_seen, prepared_as}
 use Rattle.st_next.specs.declared.next.Next.{Next}
 use Rattle.st_next.proofs.Starts.{IsNextOwn, IsNextTarget, word-behind}
 use Rattle.st_next.proofs.Contents.{words-entry}
@@ -49,8 +49,8 @@ side-late past None m a h = All-nil (IsLate m)
 side-late past (Some w) m a h = data-late (is_forwarded past w a) m w a h
 
 -- one word of an instruction on the bus
-served-read : (ds : List ℕ) (past : List Past) (from : ℕ) (s : Fetching) (w : ℕ) → (fetch_word ds past s w from).bus ≡ served ds (read_of ds past from s w) s.bus
-unfolding fetch_word requested
+served-read : (ds : List ℕ) (past : List Past) (from : ℕ) (s : Fetching) (w : ℕ) → (fetch_word ds past s w from).bus ≡ bus_after_reads ds (read_of ds past from s w) s.bus
+unfolding fetch_word bus_after_request
 served-read ds past from s w = sym (served-word ds (tick_of s.bus.held.words w) w (want_of ds past from s) s.bus)
 
 -- ---- the reads so far
@@ -67,8 +67,8 @@ reads-planned ds f next is =
 
 -- ---- the front is early enough
 
-pub words-early : (ds : List ℕ) (n : ℕ) (f : Front) (own target : Run) (words : Fetching) → AreDelays 255 ds → IsFront n f
-    → IsEntry (words_alone own target) → words ≡ words_so_far ds f own target → IsEarly f words
+pub words-early : (ds : List ℕ) (n : ℕ) (f : Front) (own target : WordRun) (words : Fetching) → AreDelaysUpTo 255 ds → IsFrontInTime n f
+    → IsEntryInTime (words_alone own target) → words ≡ words_so_far ds f own target → IsEarly f words
 words-early ds n f own target words are is e same = record {
   room = rw same (fetching-weaker (f.c + 7 * 255 + 6) (2 ^ 64 - 512) _ (omega (arith, is.early)) (fetched-within 255 ds are f (words_alone own target) e is.tight));
   before = past-weaker f.c (2 ^ 64 - 512) f.past (omega (arith, is.early)) is.tight.done;
@@ -78,13 +78,13 @@ words-early ds n f own target words are is e same = record {
 
 module _ (ds : List ℕ) (n now : ℕ) (f : Front) (x : List ℕ) (s : Machine) (before : Next) (un : before.planned ≡ false)
     (k : IsKnown ds n now f x s before) where
-  pub known-entry : IsEntry (entry k.table k.state)
+  pub known-entry : IsEntryInTime (entry k.table k.state)
   known-entry = entry-ranges k.table k.state k.before.machine k.indicator
 
-  pub known-words : IsEntry (words_alone before.own before.target)
+  pub known-words : IsEntryInTime (words_alone before.own before.target)
   known-words = words-entry before.own before.target (entry k.table k.state) k.is_next.read_on.first known-entry
 
-  pub known-early : AreDelays 255 ds → IsFront n f → IsEarly f before.words
+  pub known-early : AreDelaysUpTo 255 ds → IsFrontInTime n f → IsEarly f before.words
   known-early are is = words-early ds n f before.own before.target before.words are is known-words (k.is_next.read_on.words un)
 
   pub known-place : IsPlace before.place
@@ -101,7 +101,7 @@ module _ (ds : List ℕ) (n now : ℕ) (f : Front) (x : List ℕ) (s : Machine) 
     own-above w e = let it = known-own w e in omega (arith, it.place, known-entry.own.above (omega (arith, it.more)))
 
     pub own-asks : (w : ℕ) (after : Next) (log new : List Made) → what ds n now f x s before un due cs contents ≡ GivenWord w false
-        → after ≡ with_own ds n now f x s before un due cs contents w → new ≡ noted ds (read_of ds f.past (wanted_from f) before.words w) before.words.bus log
+        → after ≡ with_own ds n now f x s before un due cs contents w → new ≡ log_after_reads ds (read_of ds f.past (wanted_from f) before.words w) before.words.bus log
         → IsReadFurther ds f before after log new
     own-asks w after log new e same kept =
         let it = known-own w e in
@@ -126,7 +126,7 @@ module _ (ds : List ℕ) (n now : ℕ) (f : Front) (x : List ℕ) (s : Machine) 
 
     pub target-asks : (w : ℕ) (after : Next) (log new : List Made) → what ds n now f x s before un due cs contents ≡ GivenWord w true
         → after ≡ with_target ds n now f x s before un due cs contents w
-        → new ≡ noted ds (read_of ds f.past (max (wanted_from f) f.c) before.words w) before.words.bus log → IsReadFurther ds f before after log new
+        → new ≡ log_after_reads ds (read_of ds f.past (max (wanted_from f) f.c) before.words w) before.words.bus log → IsReadFurther ds f before after log new
     target-asks w after log new e same kept =
         let it = known-target w e in
         let place = word-behind before.target (entry k.table k.state).target w k.is_next.read_on.first.target_start it.place in
@@ -144,24 +144,24 @@ module _ (ds : List ℕ) (n now : ℕ) (f : Front) (x : List ℕ) (s : Machine) 
 
     -- the plan
     module _ (fd : Fetched) (e : what ds n now f x s before un due cs contents ≡ GivenAll fd) where
-      known-whole : entry_seen before.own before.target (seen before.place fd x s) ≡ entry k.table k.state
+      known-whole : entry_seen before.own before.target (sight_of before.place fd x s) ≡ entry k.table k.state
       known-whole =
           let it = comes-all ds n now f x s before un due cs contents k.table k.state k.indicator k.before k.is_next.read_on fd e in
-          entry-same k.table k.state before.own before.target (seen before.place fd x s) it.0.own_all it.0.target_all
+          entry-same k.table k.state before.own before.target (sight_of before.place fd x s) it.0.own_all it.0.target_all
           (sight-same now f x s k.state k.table before.place fd k.before k.is_next.read_on.place it.1)
 
-      pub known-seen : IsEntry (entry_seen before.own before.target (seen before.place fd x s))
+      pub known-seen : IsEntryInTime (entry_seen before.own before.target (sight_of before.place fd x s))
       known-seen = rw known-whole known-entry
 
-      pub plan-words : before.words ≡ fetched ds f (entry_seen before.own before.target (seen before.place fd x s))
-      unfolding fetched
+      pub plan-words : before.words ≡ words_tick ds f (entry_seen before.own before.target (sight_of before.place fd x s))
+      unfolding words_tick
       plan-words = k.is_next.read_on.words un
 
-      pub plan-asks : (after : Next) (log new : List Made) → IsPlannedAs ds n f (seen before.place fd x s) before after
-          → new ≡ noted ds (side_asked f.past after.entry.side after.formed.a) before.words.bus log → IsReadFurther ds f before after log new
+      pub plan-asks : (after : Next) (log new : List Made) → IsPlannedAs ds n f (sight_of before.place fd x s) before after
+          → new ≡ log_after_reads ds (side_asked f.past after.entry.side after.formed.a) before.words.bus log → IsReadFurther ds f before after log new
       unfolding bus_a
       plan-asks after log new made kept =
-          let g = entry_seen before.own before.target (seen before.place fd x s) in
+          let g = entry_seen before.own before.target (sight_of before.place fd x s) in
           let side = side_asked f.past after.entry.side after.formed.a in
           let same : side ≡ side_asked f.past g.side (tick_a ds f g) = rw (made.entry, made.address) refl in
           record {
@@ -171,9 +171,9 @@ module _ (ds : List ℕ) (n now : ℕ) (f : Front) (x : List ℕ) (s : Machine) 
                 ∙ ap (λ r. asked_so_far ds f r after.target ++ side) made.own
                 ∙ ap (λ r. asked_so_far ds f before.own r ++ side) made.target
                 ∙ ap (λ reads. reads ++ side) (sym (reads-none ds f before un));
-            bus = made.bus ∙ sym (served-side ds f.past g.side (tick_a ds f g) (fetched ds f g).bus)
-                ∙ ap (served ds (side_asked f.past g.side (tick_a ds f g))) (ap (λ (w : Fetching). w.bus) (sym plan-words))
-                ∙ ap (λ reads. served ds reads before.words.bus) (sym same);
+            bus = made.bus ∙ sym (served-side ds f.past g.side (tick_a ds f g) (words_tick ds f g).bus)
+                ∙ ap (bus_after_reads ds (side_asked f.past g.side (tick_a ds f g))) (ap (λ (w : Fetching). w.bus) (sym plan-words))
+                ∙ ap (λ reads. bus_after_reads ds reads before.words.bus) (sym same);
             kept = kept;
           }
 
@@ -184,12 +184,12 @@ pub further-then : (ds : List ℕ) (f : Front) (a b c : Next) (log one two : Lis
 further-then ds f a b c log one two first then_ = record {
   added = first.added ++ then_.added;
   so_far = then_.so_far ∙ ap (λ reads. reads ++ then_.added) first.so_far ∙ append_assoc (reads_so_far ds f a) first.added then_.added;
-  bus = then_.bus ∙ ap (served ds then_.added) first.bus ∙ sym (served-append ds first.added then_.added a.words.bus);
+  bus = then_.bus ∙ ap (bus_after_reads ds then_.added) first.bus ∙ sym (served-append ds first.added then_.added a.words.bus);
   kept = then_.kept ∙ noted-two ds first.added then_.added a.words.bus b.words.bus log one first.bus first.kept;
 }
 
 pub further-nothing : (ds : List ℕ) (f : Front) (a : Next) (log : List Made) → IsReadFurther ds f a a log log
-unfolding served noted
+unfolding bus_after_reads log_after_reads
 further-nothing ds f a log = record { added = []; so_far = sym (append-nil (reads_so_far ds f a)); bus = refl; kept = refl }
 
 -- what is prepared changes no read
@@ -204,5 +204,5 @@ further-prepared ds f x s fd a b c log one un same is = rw same (record {
 
 -- ---- how many words there are
 
-pub count-most : (own target : Run) → IsEntry (words_alone own target) → own.len + target.len ≤ 4
+pub count-most : (own target : WordRun) → IsEntryInTime (words_alone own target) → own.len + target.len ≤ 4
 count-most own target is = omega (arith, is.own_few, is.target_few)

@@ -5,21 +5,21 @@ use Rattle.std.proofs.lemmas.List.{map-append}
 use Rattle.st_state.specs.Machine.{Machine, word}
 use Rattle.st_prep.specs.declared.entries.Place.{Place}
 use Rattle.st_prep.specs.Fetch.{index_words, place_of}
-use Rattle.st_prep.specs.Reading.{Reading, reading, left_after, given}
-use Rattle.st_rows.specs.Ranges.{IsEntry, IsReadable}
-use Rattle.st_rows.specs.declared.entry.Run.{Run}
+use Rattle.st_prep.specs.Reading.{Reading, reading_at_place, left_after, fetching_of}
+use Rattle.st_rows.specs.Ranges.{IsEntryInTime, IsReadable}
+use Rattle.st_rows.specs.declared.entry.WordRun.{WordRun}
 use Rattle.st_rows.specs.declared.entry.Entry.{Entry}
 use Rattle.st_rows.specs.declared.front.Front.{Front}
 use Rattle.st_rows.specs.declared.past.Past.{Past}
 use Rattle.st_rows.proofs.Awaited.{awaited-own, awaited-target}
-use Rattle.st_segment.specs.Alone.{words_from, words_of_run}
+use Rattle.st_segment.specs.Alone.{word_list_from, words_of_run}
 use Rattle.st_segment.specs.Entries.{reading_at}
-use Rattle.st_next.specs.Words.{IsStart, AreFirst, words_alone, words_so_far}
-use Rattle.st_next.specs.Known.{IsBefore}
+use Rattle.st_next.specs.Words.{IsStart, AreFirstWords, words_alone, words_so_far}
+use Rattle.st_next.specs.Known.{IsStateBefore}
 
 -- ---- the words so far are in the ranges of an entry
 
-readable : (part whole : Run) → IsStart part whole → IsReadable whole → IsReadable part
+readable : (part whole : WordRun) → IsStart part whole → IsReadable whole → IsReadable part
 readable part whole is lies = record {
   above = λ some. omega (arith, is.few, is.first some, lies.above (omega (arith, is.few)));
   inside = λ some. omega (arith, is.few, is.first some, lies.inside (omega (arith, is.few)));
@@ -28,7 +28,7 @@ readable part whole is lies = record {
 no_words-readable : IsReadable (record { first = 0; len = 0 })
 no_words-readable = record { above = λ some. absurd (omega arith); inside = λ some. absurd (omega arith) }
 
-pub words-entry : (own target : Run) (e : Entry) → AreFirst own target e → IsEntry e → IsEntry (words_alone own target)
+pub words-entry : (own target : WordRun) (e : Entry) → AreFirstWords own target e → IsEntryInTime e → IsEntryInTime (words_alone own target)
 words-entry own target e are is = record {
   own = readable own e.own are.own_start is.own;
   own_few = omega (arith, are.own_start.few, is.own_few);
@@ -45,8 +45,8 @@ words-entry own target e are is = record {
 
 -- ---- contents
 
-map-same : (g h : ℕ → ℕ) (w n : ℕ) → ((i : ℕ) → i < n → g (w + i) ≡ h (w + i)) → map g (words_from w n) ≡ map h (words_from w n)
-unfolding words_from
+map-same : (g h : ℕ → ℕ) (w n : ℕ) → ((i : ℕ) → i < n → g (w + i) ≡ h (w + i)) → map g (word_list_from w n) ≡ map h (word_list_from w n)
+unfolding word_list_from
 map-same g h w zero same = refl
 map-same g h w (suc n) same =
     let first : g w ≡ h w = rw add-zero at (same 0 (omega arith)) in
@@ -56,8 +56,8 @@ map-same g h w (suc n) same =
     next : (i : ℕ) → g (w + suc i) ≡ h (w + suc i) → g (w + 1 + i) ≡ h (w + 1 + i)
     next i e = let place : w + 1 + i ≡ w + suc i = omega arith in rw place e
 
-pub contents-same : (ds : List ℕ) (now : ℕ) (f : Front) (x : List ℕ) (s u : Machine) (own target : Run)
-    → IsBefore now f.past x s u → IsEntry (words_alone own target) → (words_so_far ds f own target).awaited ≤ now
+pub contents-same : (ds : List ℕ) (now : ℕ) (f : Front) (x : List ℕ) (s u : Machine) (own target : WordRun)
+    → IsStateBefore now f.past x s u → IsEntryInTime (words_alone own target) → (words_so_far ds f own target).awaited ≤ now
     → map (word s) (words_of_run own ++ words_of_run target) ≡ map (word u) (words_of_run own ++ words_of_run target)
 contents-same ds now f x s u own target is words done =
     let e = words_alone own target in
@@ -70,12 +70,12 @@ contents-same ds now f x s u own target is words done =
 
 -- ---- what is given
 
-pub reading-same : (now : ℕ) (past : List Past) (x : List ℕ) (s u : Machine) (t : Option ℕ) (p : Place) → IsBefore now past x s u
-    → p ≡ place_of u t → reading x (word s 3) s.enabled p ≡ reading_at t u
+pub reading-same : (now : ℕ) (past : List Past) (x : List ℕ) (s u : Machine) (t : Option ℕ) (p : Place) → IsStateBefore now past x s u
+    → p ≡ place_of u t → reading_at_place x (word s 3) s.enabled p ≡ reading_at t u
 reading-same now past x s u t p is place =
-    ap (λ p. reading x (word s 3) s.enabled p) place ∙ ap (λ x. reading x (word s 3) s.enabled (place_of u t)) (sym is.index)
-    ∙ ap (λ b. reading (index_words u) b s.enabled (place_of u t)) (sym is.bounds)
-    ∙ ap (λ on. reading (index_words u) (word u 3) on (place_of u t)) (sym is.enabled)
+    ap (λ p. reading_at_place x (word s 3) s.enabled p) place ∙ ap (λ x. reading_at_place x (word s 3) s.enabled (place_of u t)) (sym is.index)
+    ∙ ap (λ b. reading_at_place (index_words u) b s.enabled (place_of u t)) (sym is.bounds)
+    ∙ ap (λ on. reading_at_place (index_words u) (word u 3) on (place_of u t)) (sym is.enabled)
 
-pub given-same : (r q : Reading) (cs ds : List ℕ) → r ≡ q → cs ≡ ds → given (left_after r cs) ≡ given (left_after q ds)
-given-same r q cs ds e f = ap (λ r. given (left_after r cs)) e ∙ ap (λ cs. given (left_after q cs)) f
+pub given-same : (r q : Reading) (cs ds : List ℕ) → r ≡ q → cs ≡ ds → fetching_of (left_after r cs) ≡ fetching_of (left_after q ds)
+given-same r q cs ds e f = ap (λ r. fetching_of (left_after r cs)) e ∙ ap (λ cs. fetching_of (left_after q cs)) f

@@ -2,7 +2,7 @@
 use Rattle.std.proofs.Common.{◌≡◌, ℕ, ◌-◌, ◌≤◌, Bool, true, false, List, [], ◌∷◌, ◌++◌, length, map, refl, sym, ap, arith}
 use Rattle.st_prep.specs.declared.entries.Fetched.{Fetched}
 use Rattle.st_prep.specs.declared.entries.Fetching.TheVariants.{Next, Found as FoundAll}
-use Rattle.st_prep.specs.Reading.{Reading, Finds, Reads, outcome, words_read, own_words, left_after, given}
+use Rattle.st_prep.specs.Reading.{Reading, Finds, Reads, outcome, words_read, own_words, left_after, fetching_of}
 
 -- no word of the entry's own stands behind one of the target
 unfoldable pub OwnFirst : Reading → (ℕ → ℕ) → Type 0
@@ -44,27 +44,27 @@ rest-left (Reads false v r) c (w ∷ ws) rest e first =
 
 -- ---- what is given
 
-pub given-word : (s : Reading) (c : ℕ → ℕ) (w : ℕ) (t : Bool) → given s ≡ Next w t
+pub given-word : (s : Reading) (c : ℕ → ℕ) (w : ℕ) (t : Bool) → fetching_of s ≡ Next w t
     → (rest : List ℕ) × (words_read s c ≡ w ∷ rest)
-unfolding given words_read
+unfolding fetching_of words_read
 given-word (Finds f) c w t e = absurd (cc)
 given-word (Reads u v r) c w t e =
     let same : v ≡ w = cc in (words_read (r (c v)) c, ap (λ x. x ∷ words_read (r (c v)) c) same)
 
-pub given-own : (s : Reading) (c : ℕ → ℕ) (w : ℕ) → given s ≡ Next w false → 1 ≤ own_words s c
-unfolding given own_words
+pub given-own : (s : Reading) (c : ℕ → ℕ) (w : ℕ) → fetching_of s ≡ Next w false → 1 ≤ own_words s c
+unfolding fetching_of own_words
 given-own (Finds f) c w e = absurd (cc)
 given-own (Reads true v r) c w e = absurd (cc)
 given-own (Reads false v r) c w e = omega arith
 
-pub given-target : (s : Reading) (c : ℕ → ℕ) (w : ℕ) → given s ≡ Next w true → OwnFirst s c → own_words s c ≡ 0
-unfolding given own_words OwnFirst
+pub given-target : (s : Reading) (c : ℕ → ℕ) (w : ℕ) → fetching_of s ≡ Next w true → OwnFirst s c → own_words s c ≡ 0
+unfolding fetching_of own_words OwnFirst
 given-target (Finds f) c w e first = refl
 given-target (Reads true v r) c w e first = first
 given-target (Reads false v r) c w e first = absurd (cc)
 
-pub given-found : (s : Reading) (c : ℕ → ℕ) (f : Fetched) → given s ≡ FoundAll f
+pub given-found : (s : Reading) (c : ℕ → ℕ) (f : Fetched) → fetching_of s ≡ FoundAll f
     → (words_read s c ≡ []) × (f ≡ outcome s c)
-unfolding given words_read outcome
+unfolding fetching_of words_read outcome
 given-found (Finds g) c f e = let same : g ≡ f = cc in (refl, sym same)
 given-found (Reads u v r) c f e = absurd (cc)

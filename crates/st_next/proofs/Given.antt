@@ -4,25 +4,25 @@ use Rattle.std.specs.Prelude.{is_some}
 use Rattle.st_state.specs.Machine.{Machine, word}
 use Rattle.st_prep.specs.declared.entries.Fetched.{Fetched}
 use Rattle.st_prep.specs.declared.entries.Fetching.TheVariants.{Next, Found as FoundAll}
-use Rattle.st_prep.specs.Fetch.{index_words, place_of, fetched}
+use Rattle.st_prep.specs.Fetch.{index_words, place_of, words_fetched}
 use Rattle.st_prep.specs.Plan.{plan, sight}
-use Rattle.st_prep.specs.Reading.{left_after, given, words_read, own_words, is_execute}
+use Rattle.st_prep.specs.Reading.{left_after, fetching_of, words_read, own_words, is_execute}
 use Rattle.st_prep.proofs.PreparedLemmas.{alone-serial}
-use Rattle.st_rows.specs.declared.entry.Run.{Run}
+use Rattle.st_rows.specs.declared.entry.WordRun.{WordRun}
 use Rattle.st_segment.specs.Alone.{words_of_run}
 use Rattle.st_segment.specs.Entries.{reading_at, instruction_words, own_count, entry}
 use Rattle.st_segment.proofs.EntryRanges.{entry-words, entry-own}
-use Rattle.st_next.specs.Words.{AreFirst}
+use Rattle.st_next.specs.Words.{AreFirstWords}
 use Rattle.st_next.proofs.Fronts.{IsRest, rest-left, given-word, given-own, given-target, given-found}
 use Rattle.st_next.proofs.Readings.{own-first, targets-execute}
 use Rattle.st_next.proofs.Starts.{left_of, first-left, length-first, run_of-none, IsNextOwn, next-own, IsNextTarget, next-target, IsAll, next-none}
 
 module _ (t : Option ℕ) (u : Machine) where
   -- the words so far, with their contents
-  abbrev pub words_of : Run → Run → List ℕ
+  abbrev pub words_of : WordRun → WordRun → List ℕ
   words_of own target = words_of_run own ++ words_of_run target
 
-  abbrev pub contents_of : Run → Run → List ℕ
+  abbrev pub contents_of : WordRun → WordRun → List ℕ
   contents_of own target = map (word u) (words_of own target)
 
   pub own-none : (entry t u).own.len ≡ 0 → (entry t u).own.first ≡ 0
@@ -33,7 +33,7 @@ module _ (t : Option ℕ) (u : Machine) where
   unfolding entry
   target-none e = run_of-none _ e
 
-  rest-of : (own target : Run) → AreFirst own target (entry t u)
+  rest-of : (own target : WordRun) → AreFirstWords own target (entry t u)
       → IsRest (reading_at t u) (left_after (reading_at t u) (contents_of own target)) (word u) (words_of own target) (left_of own target (entry t u))
   unfolding instruction_words
   rest-of own target are =
@@ -44,8 +44,8 @@ module _ (t : Option ℕ) (u : Machine) where
   unfolding own_count
   own-counted = entry-own t u
 
-  pub gives-own : (own target : Run) (w : ℕ) → AreFirst own target (entry t u)
-      → given (left_after (reading_at t u) (contents_of own target)) ≡ Next w false → IsNextOwn own target (entry t u) w
+  pub gives-own : (own target : WordRun) (w : ℕ) → AreFirstWords own target (entry t u)
+      → fetching_of (left_after (reading_at t u) (contents_of own target)) ≡ Next w false → IsNextOwn own target (entry t u) w
   gives-own own target w are e =
       let rest = rest-of own target are in
       let left = left_after (reading_at t u) (contents_of own target) in
@@ -54,8 +54,8 @@ module _ (t : Option ℕ) (u : Machine) where
       next-own own target (entry t u) w next.0 are (sym rest.words ∙ next.1)
       (omega (arith, some, rest.own, own-counted, length-first own target))
 
-  pub gives-target : (own target : Run) (w : ℕ) → AreFirst own target (entry t u)
-      → given (left_after (reading_at t u) (contents_of own target)) ≡ Next w true → IsNextTarget own target (entry t u) w
+  pub gives-target : (own target : WordRun) (w : ℕ) → AreFirstWords own target (entry t u)
+      → fetching_of (left_after (reading_at t u) (contents_of own target)) ≡ Next w true → IsNextTarget own target (entry t u) w
   gives-target own target w are e =
       let rest = rest-of own target are in
       let left = left_after (reading_at t u) (contents_of own target) in
@@ -64,10 +64,10 @@ module _ (t : Option ℕ) (u : Machine) where
       next-target own target (entry t u) w next.0 are own-none (sym rest.words ∙ next.1)
       (omega (arith, none, rest.own, own-counted, length-first own target))
 
-  pub gives-all : (own target : Run) (f : Fetched) → AreFirst own target (entry t u)
-      → given (left_after (reading_at t u) (contents_of own target)) ≡ FoundAll f
-      → IsAll own target (entry t u) × (f ≡ fetched u (place_of u t))
-  unfolding fetched
+  pub gives-all : (own target : WordRun) (f : Fetched) → AreFirstWords own target (entry t u)
+      → fetching_of (left_after (reading_at t u) (contents_of own target)) ≡ FoundAll f
+      → IsAll own target (entry t u) × (f ≡ words_fetched u (place_of u t))
+  unfolding words_fetched
   gives-all own target f are e =
       let rest = rest-of own target are in
       let left = left_after (reading_at t u) (contents_of own target) in
@@ -82,17 +82,17 @@ module _ (t : Option ℕ) (u : Machine) where
   or-second true b h = refl
   or-second false b h = h
 
-  execute-serial : is_execute (fetched u (place_of u t)).instr.instr ≡ true → (entry t u).serial ≡ true
+  execute-serial : is_execute (words_fetched u (place_of u t)).instr.instr ≡ true → (entry t u).serial ≡ true
   unfolding entry plan sight
   execute-serial ex =
-      let p = place_of u t in alone-serial _ _ (or-second (is_some p.table) (is_execute (fetched u p).instr.instr) ex)
+      let p = place_of u t in alone-serial _ _ (or-second (is_some p.table) (is_execute (words_fetched u p).instr.instr) ex)
 
   words-counted : length (words_read (reading_at t u) (word u)) ≡ (entry t u).own.len + (entry t u).target.len
   unfolding instruction_words
   words-counted = ap length (entry-words t u) ∙ length-first (entry t u).own (entry t u).target
 
   pub target-serial : 1 ≤ (entry t u).target.len → (entry t u).serial ≡ true
-  unfolding fetched
+  unfolding words_fetched
   target-serial some = elim (targets-execute (word u) (index_words u) (word u 3) u.enabled (place_of u t)) [
     | inl few ↦ absurd (omega (arith, few, some, words-counted, own-counted))
     | inr ex ↦ execute-serial ex

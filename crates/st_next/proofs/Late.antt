@@ -4,15 +4,15 @@ use Rattle.std.proofs.Common.{◌≡◌, ℕ, zero, suc, ◌+◌, ◌-◌, ◌�
 use Rattle.std.proofs.lemmas.List.{append-nil}
 use Rattle.std.proofs.lemmas.List.Elements.{All-append, All-cons, All-nil}
 use Rattle.st_fetch.specs.Planned.{tick_of}
-use Rattle.st_rows.specs.Rows.{fetch_word, fetch_words, wanted_from, fetched}
+use Rattle.st_rows.specs.Rows.{fetch_word, fetch_words, wanted_from, words_tick}
 use Rattle.st_rows.specs.Asked.{Read, word_asked, words_asked, fetches_asked}
-use Rattle.st_rows.specs.declared.entry.Run.{Run}
+use Rattle.st_rows.specs.declared.entry.WordRun.{WordRun}
 use Rattle.st_rows.specs.declared.entry.Entry.{Entry}
 use Rattle.st_rows.specs.declared.past.Past.{Past}
 use Rattle.st_rows.specs.declared.fetching.Fetching.{Fetching}
 use Rattle.st_rows.specs.declared.front.Front.{Front}
 use Rattle.st_prep.proofs.GivenLemmas.{differs}
-use Rattle.st_next.specs.Words.{IsStart, AreFirst, words_so_far, asked_so_far}
+use Rattle.st_next.specs.Words.{IsStart, AreFirstWords, words_so_far, asked_so_far}
 use Rattle.st_next.specs.Progress.{target_waits}
 use Rattle.st_next.proofs.WordByWord.{want_of, fetch-more, asked-more, fetch-none, asked-none}
 
@@ -50,7 +50,7 @@ module _ (ds : List ℕ) (past : List Past) (from : ℕ) where
 
   -- ---- behind the first words of a run
 
-  start-place : (part whole : Run) → IsStart part whole → (s : Fetching)
+  start-place : (part whole : WordRun) → IsStart part whole → (s : Fetching)
       → fetch_words ds past s from whole.first part.len ≡ fetch_words ds past s from part.first part.len
   start-place part whole is s = place part.len part.first whole.first is.first
     where
@@ -58,7 +58,7 @@ module _ (ds : List ℕ) (past : List Past) (from : ℕ) where
       place zero v w e = fetch-none ds past from s w 0 refl ∙ sym (fetch-none ds past from s v 0 refl)
       place (suc n) v w e = ap (λ k. fetch_words ds past s from k (suc n)) (sym (e (omega arith)))
 
-  start-reads : (part whole : Run) → IsStart part whole → (s : Fetching)
+  start-reads : (part whole : WordRun) → IsStart part whole → (s : Fetching)
       → words_asked ds past s from whole.first part.len ≡ words_asked ds past s from part.first part.len
   start-reads part whole is s = place part.len part.first whole.first is.first
     where
@@ -66,7 +66,7 @@ module _ (ds : List ℕ) (past : List Past) (from : ℕ) where
       place zero v w e = asked-none ds past from s w 0 refl ∙ sym (asked-none ds past from s v 0 refl)
       place (suc n) v w e = ap (λ k. words_asked ds past s from k (suc n)) (sym (e (omega arith)))
 
-  pub fetch-start : (part whole : Run) → IsStart part whole → (s : Fetching)
+  pub fetch-start : (part whole : WordRun) → IsStart part whole → (s : Fetching)
       → fetch_words ds past s from whole.first whole.len
       ≡ fetch_words ds past (fetch_words ds past s from part.first part.len) from (whole.first + part.len) (whole.len - part.len)
   fetch-start part whole is s =
@@ -74,7 +74,7 @@ module _ (ds : List ℕ) (past : List Past) (from : ℕ) where
       ap (fetch_words ds past s from whole.first) (sym cut) ∙ fetch-more ds past from s whole.first part.len (whole.len - part.len)
       ∙ ap (λ t. fetch_words ds past t from (whole.first + part.len) (whole.len - part.len)) (start-place part whole is s)
 
-  pub asked-start : (part whole : Run) → IsStart part whole → (s : Fetching)
+  pub asked-start : (part whole : WordRun) → IsStart part whole → (s : Fetching)
       → words_asked ds past s from whole.first whole.len
       ≡ words_asked ds past s from part.first part.len
       ++ words_asked ds past (fetch_words ds past s from part.first part.len) from (whole.first + part.len) (whole.len - part.len)
@@ -87,19 +87,19 @@ module _ (ds : List ℕ) (past : List Past) (from : ℕ) where
 -- ---- behind the first words of an entry
 
 -- the words of the target wait for the last entry
-pub waits-most : (f : Front) (run : Run) → target_waits f run ≤ f.c
+pub waits-most : (f : Front) (run : WordRun) → target_waits f run ≤ f.c
 waits-most f run = most_if (run.len == 0)
   where
     most_if : (b : Bool) → (if b then 0 else f.c) ≤ f.c
     most_if true = omega arith
     most_if false = omega arith
 
-pub waits-some : (f : Front) (run : Run) → 1 ≤ run.len → target_waits f run ≡ f.c
+pub waits-some : (f : Front) (run : WordRun) → 1 ≤ run.len → target_waits f run ≡ f.c
 waits-some f run some =
     let no : (run.len == 0) ≡ false = differs run.len 0 (λ e. omega (arith, e)) in
     ap (λ b. if b then 0 else f.c) no
 
-module _ (ds : List ℕ) (f : Front) (own target : Run) (e : Entry) (are : AreFirst own target e) where
+module _ (ds : List ℕ) (f : Front) (own target : WordRun) (e : Entry) (are : AreFirstWords own target e) where
   abbrev start : Fetching
   start = record { bus = f.bus; answered = 0; awaited = 0 }
 
@@ -122,8 +122,8 @@ module _ (ds : List ℕ) (f : Front) (own target : Run) (e : Entry) (are : AreFi
   own-awaited = rw own-whole (awaited-later ds f.past (wanted_from f) own_part (e.own.first + own.len) (e.own.len - own.len))
 
   -- the words of the target so far
-  part_by : (n : ℕ) → target.len ≡ n → ((words_so_far ds f own target).answered ≤ (fetched ds f e).answered) × ((words_so_far ds f own target).awaited ≤ (fetched ds f e).awaited)
-  unfolding fetched
+  part_by : (n : ℕ) → target.len ≡ n → ((words_so_far ds f own target).answered ≤ (words_tick ds f e).answered) × ((words_so_far ds f own target).awaited ≤ (words_tick ds f e).awaited)
+  unfolding words_tick
   part_by zero none =
       rw (fetch-none ds f.past waits own_part target.first target.len none) (
         omega (arith, own-answered, answered-later ds f.past waits own_whole e.target.first e.target.len),
@@ -131,14 +131,14 @@ module _ (ds : List ℕ) (f : Front) (own target : Run) (e : Entry) (are : AreFi
       )
   part_by (suc n) some =
       let all : own ≡ e.own = are.all_own (omega arith) in
-      let same : own_whole ≡ own_part = ap (λ (r : Run). fetch_words ds f.past start (wanted_from f) r.first r.len) (sym all) in
+      let same : own_whole ≡ own_part = ap (λ (r : WordRun). fetch_words ds f.past start (wanted_from f) r.first r.len) (sym all) in
       let there = fetch_words ds f.past own_part waits target.first target.len in
       rw (same, fetch-start ds f.past waits target e.target are.target_start own_part) (
         answered-later ds f.past waits there (e.target.first + target.len) (e.target.len - target.len),
         awaited-later ds f.past waits there (e.target.first + target.len) (e.target.len - target.len),
       )
 
-  pub words-later : ((words_so_far ds f own target).answered ≤ (fetched ds f e).answered) × ((words_so_far ds f own target).awaited ≤ (fetched ds f e).awaited)
+  pub words-later : ((words_so_far ds f own target).answered ≤ (words_tick ds f e).answered) × ((words_so_far ds f own target).awaited ≤ (words_tick ds f e).awaited)
   words-later = part_by target.len refl
 
   -- ---- the reads that are left
@@ -178,7 +178,7 @@ module _ (ds : List ℕ) (f : Front) (own target : Run) (e : Entry) (are : AreFi
       record {
         rest = more;
         reads =
-            ap (λ (r : Run). words_asked ds f.past start (wanted_from f) r.first r.len ++ words_asked ds f.past (fetch_words ds f.past start (wanted_from f) r.first r.len) waits e.target.first e.target.len) (sym all)
+            ap (λ (r : WordRun). words_asked ds f.past start (wanted_from f) r.first r.len ++ words_asked ds f.past (fetch_words ds f.past start (wanted_from f) r.first r.len) waits e.target.first e.target.len) (sym all)
             ∙ ap (λ reads. part ++ reads) (asked-start ds f.past waits target e.target are.target_start own_part)
             ∙ sym (append_assoc part targets more);
         late = words-late ds f.past waits there m (e.target.first + target.len) (e.target.len - target.len) late;

@@ -6,21 +6,21 @@ use Rattle.st_bits.specs.Storage.{words_of_storage}
 use Rattle.st_state.specs.Machine.{Machine, word}
 use Rattle.st_prep.specs.declared.entries.Needs.{Needs}
 use Rattle.st_prep.specs.declared.entries.Place.{Place}
-use Rattle.st_prep.specs.Fetch.{place_of, fetched}
-use Rattle.st_prep.specs.Plan.{Sight, seen, sight, needs, asks, prepared, plan, opened, side_word, side_of, IsSeen}
+use Rattle.st_prep.specs.Fetch.{place_of, words_fetched}
+use Rattle.st_prep.specs.Plan.{Sight, sight_of, sight, needs, asks, prepared_entry, plan, state_at_entry, side_word, side_of, IsSeen}
 use Rattle.st_prep.specs.Ranges.{IsPlace, IsFetched, IsPrepared}
 use Rattle.st_prep.proofs.PreparedLemmas.{is_needs, alone-serial, same_serial}
 use Rattle.st_prep.proofs.PlanLemmas.{sight-fits, plan-prepared}
 use Rattle.st_rows.specs.BusTimes.{answer_at}
 use Rattle.st_rows.specs.Entries.{latest_done}
-use Rattle.st_rows.specs.Rows.{fetched as fetched_words, is_forwarded, side_there, prepared as prepared_at, tick_a, tick_y, tick_p}
+use Rattle.st_rows.specs.Rows.{words_tick as fetched_words, is_forwarded, side_there, preparation_tick as prepared_at, tick_a, tick_y, tick_p}
 use Rattle.st_rows.specs.declared.bus.Bus.{Bus}
 use Rattle.st_rows.specs.declared.entry.Entry.{Entry}
 use Rattle.st_rows.specs.declared.past.Past.{Past}
 use Rattle.st_rows.specs.declared.front.Front.{Front}
 use Rattle.st_segment.specs.Entries.{entry, side_to_read}
-use Rattle.st_next.specs.Known.{IsBefore}
-use Rattle.st_next.specs.Progress.{IsPlanned, IsNext, IsReady}
+use Rattle.st_next.specs.Known.{IsStateBefore}
+use Rattle.st_next.specs.Progress.{IsPlanned, IsNext, IsNextReady}
 use Rattle.st_next.specs.declared.next.Next.{Next}
 use Rattle.st_next.proofs.Steps.{planned-is, sight-same}
 
@@ -80,12 +80,12 @@ is_some-map None t u = refl
 is_some-map (Some w) t u = refl
 
 module _ (ds : List ℕ) (n now : ℕ) (f : Front) (x : List ℕ) (s : Machine) (next : Next) (done : next.planned ≡ true)
-    (t : Option ℕ) (u : Machine) (table : IfSome t (λ i. i < 64)) (before : IsBefore now f.past x s u) (is : IsNext ds n t u f next) where
+    (t : Option ℕ) (u : Machine) (table : IfSome t (λ i. i < 64)) (before : IsStateBefore now f.past x s u) (is : IsNext ds n t u f next) where
   abbrev v : Sight
   v = sight u (place_of u t)
 
   abbrev now_seen : Sight
-  now_seen = seen next.place next.fetched x s
+  now_seen = sight_of next.place next.fetched x s
 
   planned : IsPlanned ds n t u f next
   planned = planned-is next.planned ds n t u f next done is.planned
@@ -118,7 +118,7 @@ module _ (ds : List ℕ) (n now : ℕ) (f : Front) (x : List ℕ) (s : Machine) 
 
   -- ---- without an index-side word
 
-  none_if : (o : Option ℕ) → o ≡ None → prepared v (option_map (λ w. 0) o) ≡ prepared v (side_word t u o)
+  none_if : (o : Option ℕ) → o ≡ None → prepared_entry v (option_map (λ w. 0) o) ≡ prepared_entry v (side_word t u o)
   none_if None e = refl
   none_if (Some w) e = absurd (cc)
 
@@ -134,7 +134,7 @@ module _ (ds : List ℕ) (n now : ℕ) (f : Front) (x : List ℕ) (s : Machine) 
   pub seen-is : IsSeen u now_seen
   seen-is = record {
     place = ap (place_of u) table-same ∙ sym is.read_on.place;
-    fetched = ap (fetched u) is.read_on.place ∙ sym planned.all.found;
+    fetched = ap (words_fetched u) is.read_on.place ∙ sym planned.all.found;
     words = before.index;
     bounds = before.bounds;
     enabled = before.enabled;
@@ -148,11 +148,11 @@ module _ (ds : List ℕ) (n now : ℕ) (f : Front) (x : List ℕ) (s : Machine) 
       sym (before.storage w above (omega (arith, late, writers-done ds n f (entry t u) w there)))
 
   read-by : (b : Bool) (w : ℕ) → (entry t u).serial ≡ b → next.needs.index_read ≡ Some w → tick_p ds n f (entry t u) ≤ now → ((entry t u).serial ≡ true → u ≡ s)
-      → word (opened next.place.table s) w ≡ word (opened next.place.table u) w
-  read-by true w e side late alone = ap (λ m. word (opened next.place.table m) w) (sym (alone e))
+      → word (state_at_entry next.place.table s) w ≡ word (state_at_entry next.place.table u) w
+  read-by true w e side late alone = ap (λ m. word (state_at_entry next.place.table m) w) (sym (alone e))
   read-by false w e side late alone =
       let none : next.place.table ≡ None = table-same ∙ table-none t u e in
-      ap (λ t. word (opened t s) w) none ∙ read-ahead w side e late ∙ ap (λ t. word (opened t u) w) (sym none)
+      ap (λ t. word (state_at_entry t s) w) none ∙ read-ahead w side e late ∙ ap (λ t. word (state_at_entry t u) w) (sym none)
 
   side-by : (o : Option ℕ) → next.needs.index_read ≡ o → tick_p ds n f (entry t u) ≤ now → ((entry t u).serial ≡ true → u ≡ s)
       → side_word next.place.table s o ≡ side_word next.place.table u o
@@ -175,7 +175,7 @@ none-of (Some w) true e is = absurd (cc)
 none-of (Some w) false e is = absurd (cc)
 
 -- the plan of the state before the entry
-module _ (x : List ℕ) (s : Machine) (next : Next) (done : next.planned ≡ true) (k : IsReady x s next) where
+module _ (x : List ℕ) (s : Machine) (next : Next) (done : next.planned ≡ true) (k : IsNextReady x s next) where
   pub ready-none : next.needs.index_read ≡ None → IsPrepared next.prepared
   ready-none none =
       subst IsPrepared
@@ -194,6 +194,6 @@ module _ (x : List ℕ) (s : Machine) (next : Next) (done : next.planned ≡ tru
   pub ready-fetched : IsFetched next.fetched
   ready-fetched = fetched-fits k.delays k.levels k.tick k.front x s next done k.table k.state k.indicator k.before k.is_next
 
-  pub ready-asked : is_some (side_word next.place.table s next.needs.index_read) ≡ asks (seen next.place next.fetched x s)
+  pub ready-asked : is_some (side_word next.place.table s next.needs.index_read) ≡ asks (sight_of next.place next.fetched x s)
   ready-asked =
       asked-same k.delays k.levels k.tick k.front x s next done k.table k.state k.indicator k.before k.is_next next.needs.index_read refl

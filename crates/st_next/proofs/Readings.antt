@@ -1,13 +1,13 @@
 -- Of the words of an entry its own come first, and those of a target only behind EX.
 use Rattle.std.proofs.Common.{◌≡◌, ℕ, ◌+◌, ◌/◌, ◌≤◌, ◌⊎◌, inl, inr, Bool, true, false, ◌==◌, if◌then◌else◌, List, length, Option, None, Some, refl, ◌∙◌, ap, arith}
 use Rattle.st_format.specs.declared.instruction.Decoded.{Decoded}
-use Rattle.st_format.specs.Formats.{decoded}
+use Rattle.st_format.specs.Formats.{decoded_entry}
 use Rattle.st_state.specs.Boundary.{forbidden_by}
 use Rattle.st_state.specs.declared.protection.Access.TheVariants.{Fetch}
 use Rattle.st_prep.specs.declared.entries.Place.{Place}
 use Rattle.st_prep.specs.declared.fetching.Found.{Found}
 use Rattle.st_prep.specs.EarlyChange.{effective}
-use Rattle.st_prep.specs.Reading.{Reading, Finds, Reads, outcome, words_read, own_words, half_of, Use, with_second, with_first, read_after, instruction_at, is_execute, with_target, alone, own_use, reading}
+use Rattle.st_prep.specs.Reading.{Reading, Finds, Reads, outcome, words_read, own_words, half_of, Use, with_second, with_first, read_after, instruction_at, is_execute, with_target, fetched_alone, own_use, reading_at_place}
 use Rattle.st_prep.proofs.Choices.{of_choice}
 use Rattle.st_next.proofs.Fronts.{OwnFirst, none-first}
 
@@ -24,7 +24,7 @@ module _ (P : Reading → Type 0) (t : Bool) (reads : (w : ℕ) (r : ℕ → Rea
   of-first : (h content : ℕ) (k : Use) → Uses k → P (with_first t b en h content k)
   unfolding with_first
   of-first h content k all =
-      of_choice P ((decoded (half_of content h) 0).halves == 2) _ _
+      of_choice P ((decoded_entry (half_of content h) 0).halves == 2) _ _
       (of-second (forbidden_by b en Fetch ((h + 1) / 2)) (half_of content h) (h + 1) (h / 2) content k all) (all _)
 
   of-after : (f : Option ℕ) (h : ℕ) (k : Use) → Uses k → P (read_after f t b en h k)
@@ -49,7 +49,7 @@ module _ (c : ℕ → ℕ) where
   unfolding own_words
   no_own-finds own f = refl
 
-  no_own-alone : (f : Found) → NoOwn (Finds (alone f))
+  no_own-alone : (f : Found) → NoOwn (Finds (fetched_alone f))
   unfolding own_words
   no_own-alone f = refl
 
@@ -66,8 +66,8 @@ module _ (c : ℕ → ℕ) where
   unfolding OwnFirst
   in_order-reads w r all = all (c w)
 
-  pub own-first : (x : List ℕ) (b : ℕ) (en : Bool) (p : Place) → OwnFirst (reading x b en p) c
-  unfolding reading
+  pub own-first : (x : List ℕ) (b : ℕ) (en : Bool) (p : Place) → OwnFirst (reading_at_place x b en p) c
+  unfolding reading_at_place
   own-first x b en p =
       of-at InOrder false in_order-reads b en p.address _ (λ f. none-first (own_use x b en f) c (no_own-use x b en f))
 
@@ -93,12 +93,12 @@ module _ (c : ℕ → ℕ) where
   unfolding outcome
   is_of-finds own f = refl
 
-  executes-alone : (f : Found) → Executes (Finds (alone f))
+  executes-alone : (f : Found) → Executes (Finds (fetched_alone f))
   unfolding words_read own_words
   executes-alone f = inl (omega arith)
 
   executes-use_if : (b : Bool) (r : Reading) (f : Found) → is_execute f.decoded.instr ≡ b → IsOf f.decoded r
-      → Executes (if b then r else Finds (alone f))
+      → Executes (if b then r else Finds (fetched_alone f))
   executes-use_if true r f e is = inr (ap (λ (d : Decoded). is_execute d.instr) is ∙ e)
   executes-use_if false r f e is = executes-alone f
 
@@ -109,7 +109,7 @@ module _ (c : ℕ → ℕ) where
       (of-at (IsOf own.decoded) true (is_of-reads own.decoded) b en (effective x own.decoded.instr / 32) _ (is_of-finds own.decoded))
 
   pub targets-execute : (x : List ℕ) (b : ℕ) (en : Bool) (p : Place)
-      → (length (words_read (reading x b en p) c) ≤ own_words (reading x b en p) c)
-      ⊎ (is_execute (outcome (reading x b en p) c).instr.instr ≡ true)
-  unfolding reading
+      → (length (words_read (reading_at_place x b en p) c) ≤ own_words (reading_at_place x b en p) c)
+      ⊎ (is_execute (outcome (reading_at_place x b en p) c).instr.instr ≡ true)
+  unfolding reading_at_place
   targets-execute x b en p = of-at Executes false executes-reads b en p.address _ (executes-use x b en)

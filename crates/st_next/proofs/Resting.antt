@@ -1,8 +1,8 @@
 -- While the entry rests, what is left of it is wanted later.
 use Rattle.std.proofs.Common.{◌≡◌, ℕ, zero, suc, ◌≤◌, ◌<◌, ◌||◌, max, Bool, true, false, ◌==◌, if◌then◌else◌, List, Option, refl, ◌∙◌, ap, arith}
 use Rattle.st_state.specs.Machine.{Machine}
-use Rattle.st_rows.specs.Rows.{fetch_words, wanted_from, fetched, addressed, tick_a}
-use Rattle.st_rows.specs.declared.entry.Run.{Run}
+use Rattle.st_rows.specs.Rows.{fetch_words, wanted_from, words_tick, address_tick, tick_a}
+use Rattle.st_rows.specs.declared.entry.WordRun.{WordRun}
 use Rattle.st_rows.specs.declared.entry.Entry.{Entry}
 use Rattle.st_rows.specs.declared.fetching.Fetching.{Fetching}
 use Rattle.st_rows.specs.declared.front.Front.{Front}
@@ -14,7 +14,7 @@ use Rattle.st_next.proofs.Given.{target-serial}
 use Rattle.st_next.proofs.WordByWord.{fetch-none}
 use Rattle.st_next.proofs.Late.{waits-most, words-later, AreLeft, left_none, left_target}
 
-pub waits-none : (f : Front) (run : Run) → run.len ≡ 0 → target_waits f run ≡ 0
+pub waits-none : (f : Front) (run : WordRun) → run.len ≡ 0 → target_waits f run ≡ 0
 waits-none f run none = ap (λ n. if n == 0 then 0 else f.c) none
 
 -- ---- the address is formed later
@@ -41,7 +41,7 @@ module _ (ds : List ℕ) (m : ℕ) (t : Option ℕ) (u : Machine) (f : Front) (n
   same-awaited = ap (λ (s : Fetching). s.awaited) (read.words un)
 
   after-words : m ≤ max (max (max (wanted_from f) (if e.serial || f.serial then f.c else 0)) next.words.answered) next.words.awaited → m < tick_a ds f e
-  unfolding tick_a addressed
+  unfolding tick_a address_tick
   after-words late =
       let more = words-later ds f next.own next.target e read.first in
       omega (arith, late, same-answered, same-awaited, more.0, more.1, alone-first e.serial f.serial f.p f.c)
@@ -61,7 +61,7 @@ module _ (ds : List ℕ) (m : ℕ) (t : Option ℕ) (u : Machine) (f : Front) (n
   -- ---- and so are the words that are left
 
   left-waits : (n : ℕ) → next.target.len ≡ n → m ≤ wanted_next f next → AreLeft ds f next.own next.target e read.first m
-  unfolding fetched
+  unfolding words_tick
   left-waits zero none late =
       let start : Fetching = record { bus = f.bus; answered = 0; awaited = 0 } in
       let own = fetch_words ds f.past start (wanted_from f) next.own.first next.own.len in

@@ -2,9 +2,9 @@
 use Rattle.std.proofs.Common.{◌≡◌, ℕ, ◌≤◌, false, List, [], Option, refl, sym, ◌∙◌, ap, arith}
 use Rattle.st_state.specs.Machine.{Machine}
 use Rattle.st_prep.specs.Fetch.{place_of}
-use Rattle.st_rows.specs.Rows.{fetch_words, fetched, wanted_from}
+use Rattle.st_rows.specs.Rows.{fetch_words, words_tick, wanted_from}
 use Rattle.st_rows.specs.Asked.{words_asked, fetches_asked}
-use Rattle.st_rows.specs.declared.entry.Run.{Run}
+use Rattle.st_rows.specs.declared.entry.WordRun.{WordRun}
 use Rattle.st_rows.specs.declared.fetching.Fetching.{Fetching}
 use Rattle.st_rows.specs.declared.front.Front.{Front}
 use Rattle.st_segment.specs.Entries.{entry}
@@ -14,14 +14,14 @@ use Rattle.st_next.specs.declared.next.Next.{Next}
 use Rattle.st_next.proofs.Steps.{planned-none}
 use Rattle.st_next.proofs.Asking.{reads-none}
 
-abbrev nothing : Run
+abbrev nothing : WordRun
 nothing = record { first = 0; len = 0 }
 
-nothing-start : (run : Run) → IsStart nothing run
+nothing-start : (run : WordRun) → IsStart nothing run
 nothing-start run = record { few = omega arith; first = λ some. absurd (omega arith); none = λ none. refl }
 
 nothing-fetched : (ds : List ℕ) (f : Front) → words_so_far ds f nothing nothing ≡ record { bus = f.bus; answered = 0; awaited = 0 }
-unfolding fetched fetch_words
+unfolding words_tick fetch_words
 nothing-fetched ds f = refl
 
 nothing-asked : (ds : List ℕ) (f : Front) → asked_so_far ds f nothing nothing ≡ []
@@ -37,7 +37,7 @@ new-next ds n t u f next place own target words un = record {
     first = record {
       own_start = rw own (nothing-start (entry t u).own);
       target_start = rw target (nothing-start (entry t u).target);
-      all_own = λ some. absurd (omega (arith, some, ap (λ (r : Run). r.len) target));
+      all_own = λ some. absurd (omega (arith, some, ap (λ (r : WordRun). r.len) target));
     };
     words = λ none. begun;
     awaited = ap (λ (s : Fetching). s.awaited) begun;

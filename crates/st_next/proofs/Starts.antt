@@ -4,60 +4,60 @@ use Rattle.std.specs.Prelude.{◌==◌, if◌then◌else◌, Bool, true, false}
 use Rattle.std.proofs.Math.Nat.{add-zero, zero-add, suc-add}
 use Rattle.std.proofs.lemmas.List.{append-nil, get_or_append_left, get_or-append_right}
 use Rattle.st_prep.proofs.GivenLemmas.{is_none, is_some}
-use Rattle.st_rows.specs.declared.entry.Run.{Run}
+use Rattle.st_rows.specs.declared.entry.WordRun.{WordRun}
 use Rattle.st_rows.specs.declared.entry.Entry.{Entry}
 use Rattle.st_segment.specs.Entries.{run_of}
-use Rattle.st_segment.specs.Alone.{words_from, words_of_run}
-use Rattle.st_next.specs.Words.{IsStart, AreFirst, with_word}
+use Rattle.st_segment.specs.Alone.{word_list_from, words_of_run}
+use Rattle.st_next.specs.Words.{IsStart, AreFirstWords, run_with_word}
 
-pub length-words : (w n : ℕ) → length (words_from w n) ≡ n
-unfolding words_from
+pub length-words : (w n : ℕ) → length (word_list_from w n) ≡ n
+unfolding word_list_from
 length-words w zero = refl
 length-words w (suc n) = ap suc (length-words (w + 1) n)
 
-pub words-split : (w m k : ℕ) → words_from w (m + k) ≡ words_from w m ++ words_from (w + m) k
-unfolding words_from
+pub words-split : (w m k : ℕ) → word_list_from w (m + k) ≡ word_list_from w m ++ word_list_from (w + m) k
+unfolding word_list_from
 words-split w zero k = rw (zero-add k, add-zero w) refl
 words-split w (suc m) k =
     let place : w + 1 + m ≡ w + suc m = omega arith in
-    rw (suc-add m k) (ap (λ ws. w ∷ ws) (words-split (w + 1) m k ∙ ap (λ v. words_from (w + 1) m ++ words_from v k) place))
+    rw (suc-add m k) (ap (λ ws. w ∷ ws) (words-split (w + 1) m k ∙ ap (λ v. word_list_from (w + 1) m ++ word_list_from v k) place))
 
-words-none : (w n : ℕ) → n ≡ 0 → words_from w n ≡ []
-unfolding words_from
+words-none : (w n : ℕ) → n ≡ 0 → word_list_from w n ≡ []
+unfolding word_list_from
 words-none w zero e = refl
 words-none w (suc n) e = absurd (omega arith)
 
 -- the words of a run behind its first ones
-abbrev pub behind : Run → Run → List ℕ
-behind part whole = words_from (whole.first + part.len) (whole.len - part.len)
+abbrev pub behind : WordRun → WordRun → List ℕ
+behind part whole = word_list_from (whole.first + part.len) (whole.len - part.len)
 
 -- words from a place that does not matter where there are none
-start_if : (v w n : ℕ) → (1 ≤ n → v ≡ w) → words_from v n ≡ words_from w n
+start_if : (v w n : ℕ) → (1 ≤ n → v ≡ w) → word_list_from v n ≡ word_list_from w n
 start_if v w zero e = words-none v 0 refl ∙ sym (words-none w 0 refl)
-start_if v w (suc n) e = ap (λ x. words_from x (suc n)) (e (omega arith))
+start_if v w (suc n) e = ap (λ x. word_list_from x (suc n)) (e (omega arith))
 
-start-split : (part whole : Run) → IsStart part whole → words_of_run whole ≡ words_of_run part ++ behind part whole
+start-split : (part whole : WordRun) → IsStart part whole → words_of_run whole ≡ words_of_run part ++ behind part whole
 start-split part whole is =
     let cut : part.len + (whole.len - part.len) ≡ whole.len = omega (arith, is.few) in
-    ap (words_from whole.first) (sym cut) ∙ words-split whole.first part.len (whole.len - part.len)
+    ap (word_list_from whole.first) (sym cut) ∙ words-split whole.first part.len (whole.len - part.len)
     ∙ ap (λ ws. ws ++ behind part whole) (sym (start_if part.first whole.first part.len is.first))
 
 same-first : (n v w : ℕ) → (1 ≤ n → v ≡ w) → (n ≡ 0 → v ≡ 0) → (n ≡ 0 → w ≡ 0) → v ≡ w
 same-first zero v w some none other = none refl ∙ sym (other refl)
 same-first (suc n) v w some none other = some (omega arith)
 
-abbrev run_at : ℕ → ℕ → Run
+abbrev run_at : ℕ → ℕ → WordRun
 run_at first len = record { first = first; len = len }
 
 -- a run that begins as another one, with as many words, is that run
-pub start-whole : (part whole : Run) → IsStart part whole → (whole.len ≡ 0 → whole.first ≡ 0) → whole.len ≤ part.len → part ≡ whole
+pub start-whole : (part whole : WordRun) → IsStart part whole → (whole.len ≡ 0 → whole.first ≡ 0) → whole.len ≤ part.len → part ≡ whole
 start-whole part whole is none all =
     let len : part.len ≡ whole.len = omega (arith, is.few) in
     let first : part.first ≡ whole.first = same-first part.len part.first whole.first is.first is.none (λ e. none (sym len ∙ e)) in
     ap (λ v. run_at v part.len) first ∙ ap (run_at whole.first) len
 
 -- what is left of the words of an entry
-abbrev pub left_of : Run → Run → Entry → List ℕ
+abbrev pub left_of : WordRun → WordRun → Entry → List ℕ
 left_of own target e = behind own e.own ++ behind target e.target
 
 split-both : (n : ℕ) (a b x y : List ℕ) → (n ≡ 0 → y ≡ []) → (1 ≤ n → b ≡ []) → (a ++ b) ++ (y ++ x) ≡ (a ++ y) ++ (b ++ x)
@@ -65,39 +65,39 @@ split-both zero a b x y none some = rw (none refl, append-nil a) (append_assoc a
 split-both (suc n) a b x y none some =
     let no : b ≡ [] = some (omega arith) in rw (no, append-nil a) (sym (append_assoc a y x))
 
-own-behind : (own target : Run) (e : Entry) → own ≡ e.own → behind own e.own ≡ []
-own-behind own target e same = words-none (e.own.first + own.len) (e.own.len - own.len) (omega (arith, ap (λ (r : Run). r.len) same))
+own-behind : (own target : WordRun) (e : Entry) → own ≡ e.own → behind own e.own ≡ []
+own-behind own target e same = words-none (e.own.first + own.len) (e.own.len - own.len) (omega (arith, ap (λ (r : WordRun). r.len) same))
 
-pub first-left : (own target : Run) (e : Entry) → AreFirst own target e
+pub first-left : (own target : WordRun) (e : Entry) → AreFirstWords own target e
     → words_of_run e.own ++ words_of_run e.target ≡ (words_of_run own ++ words_of_run target) ++ left_of own target e
 first-left own target e are =
     rw (start-split own e.own are.own_start, start-split target e.target are.target_start)
     (split-both target.len (words_of_run own) (behind own e.own) (behind target e.target) (words_of_run target)
     (λ none. words-none target.first target.len none) (λ some. own-behind own target e (are.all_own some)))
 
-pub length-first : (own target : Run) → length (words_of_run own ++ words_of_run target) ≡ own.len + target.len
+pub length-first : (own target : WordRun) → length (words_of_run own ++ words_of_run target) ≡ own.len + target.len
 length-first own target = length-append (words_of_run own) (words_of_run target) ∙ ap (λ n. n + length (words_of_run target)) (length-words own.first own.len) ∙ ap (λ n. own.len + n) (length-words target.first target.len)
 
 -- ---- the first of what is left
 
 -- the first of some words
-words-first : (v n w : ℕ) (rest : List ℕ) → words_from v n ≡ w ∷ rest → (1 ≤ n) × (w ≡ v)
-unfolding words_from
+words-first : (v n w : ℕ) (rest : List ℕ) → word_list_from v n ≡ w ∷ rest → (1 ≤ n) × (w ≡ v)
+unfolding word_list_from
 words-first v zero w rest e = absurd (cc)
 words-first v (suc n) w rest e = (omega arith, cc)
 
-words-nil : (v n : ℕ) → words_from v n ≡ [] → n ≡ 0
-unfolding words_from
+words-nil : (v n : ℕ) → word_list_from v n ≡ [] → n ≡ 0
+unfolding word_list_from
 words-nil v zero e = refl
 words-nil v (suc n) e = absurd (cc)
 
-append-first : (n v w : ℕ) (x rest : List ℕ) → words_from v n ++ x ≡ w ∷ rest → 1 ≤ n → w ≡ v
-unfolding words_from
+append-first : (n v w : ℕ) (x rest : List ℕ) → word_list_from v n ++ x ≡ w ∷ rest → 1 ≤ n → w ≡ v
+unfolding word_list_from
 append-first zero v w x rest e some = absurd (omega arith)
 append-first (suc n) v w x rest e some = cc
 
 -- an own word comes next
-pub record IsNextOwn (own target : Run) (e : Entry) (w : ℕ) : Type 0 where
+pub record IsNextOwn (own target : WordRun) (e : Entry) (w : ℕ) : Type 0 where
   pub none : target.len ≡ 0
   pub more : own.len < e.own.len
   pub place : w ≡ e.own.first + own.len
@@ -106,10 +106,10 @@ no-target : (n own whole : ℕ) → (1 ≤ n → own ≡ whole) → own + n < wh
 no-target zero own whole all more = refl
 no-target (suc n) own whole all more = let same : own ≡ whole = all (omega arith) in absurd (omega arith)
 
-pub next-own : (own target : Run) (e : Entry) (w : ℕ) (rest : List ℕ) → AreFirst own target e → left_of own target e ≡ w ∷ rest
+pub next-own : (own target : WordRun) (e : Entry) (w : ℕ) (rest : List ℕ) → AreFirstWords own target e → left_of own target e ≡ w ∷ rest
     → own.len + target.len < e.own.len → IsNextOwn own target e w
 next-own own target e w rest are left more =
-    let none : target.len ≡ 0 = no-target target.len own.len e.own.len (λ some. ap (λ (r : Run). r.len) (are.all_own some)) more in
+    let none : target.len ≡ 0 = no-target target.len own.len e.own.len (λ some. ap (λ (r : WordRun). r.len) (are.all_own some)) more in
     record {
       none = none;
       more = omega arith;
@@ -117,17 +117,17 @@ next-own own target e w rest are left more =
     }
 
 -- a word of the target comes next
-pub record IsNextTarget (own target : Run) (e : Entry) (w : ℕ) : Type 0 where
+pub record IsNextTarget (own target : WordRun) (e : Entry) (w : ℕ) : Type 0 where
   pub all : own ≡ e.own
   pub more : target.len < e.target.len
   pub place : w ≡ e.target.first + target.len
 
-all-there : (n : ℕ) (own whole : Run) → IsStart own whole → (whole.len ≡ 0 → whole.first ≡ 0) → (1 ≤ n → own ≡ whole)
+all-there : (n : ℕ) (own whole : WordRun) → IsStart own whole → (whole.len ≡ 0 → whole.first ≡ 0) → (1 ≤ n → own ≡ whole)
     → whole.len ≤ own.len + n → own ≡ whole
 all-there zero own whole is none all enough = start-whole own whole is none (omega arith)
 all-there (suc n) own whole is none all enough = all (omega arith)
 
-pub next-target : (own target : Run) (e : Entry) (w : ℕ) (rest : List ℕ) → AreFirst own target e → (e.own.len ≡ 0 → e.own.first ≡ 0)
+pub next-target : (own target : WordRun) (e : Entry) (w : ℕ) (rest : List ℕ) → AreFirstWords own target e → (e.own.len ≡ 0 → e.own.first ≡ 0)
     → left_of own target e ≡ w ∷ rest → e.own.len ≤ own.len + target.len → IsNextTarget own target e w
 next-target own target e w rest are none left enough =
     let all : own ≡ e.own = all-there target.len own e.own are.own_start none are.all_own enough in
@@ -136,7 +136,7 @@ next-target own target e w rest are none left enough =
     record { all = all; more = omega (arith, first.0); place = first.1 }
 
 -- nothing comes next
-pub record IsAll (own target : Run) (e : Entry) : Type 0 where
+pub record IsAll (own target : WordRun) (e : Entry) : Type 0 where
   pub own_all : own ≡ e.own
   pub target_all : target ≡ e.target
 
@@ -144,7 +144,7 @@ append-none : (xs ys : List ℕ) → xs ++ ys ≡ [] → (xs ≡ []) × (ys ≡ 
 append-none [] ys e = (refl, e)
 append-none (x ∷ xs) ys e = absurd (cc)
 
-pub next-none : (own target : Run) (e : Entry) → AreFirst own target e → (e.own.len ≡ 0 → e.own.first ≡ 0)
+pub next-none : (own target : WordRun) (e : Entry) → AreFirstWords own target e → (e.own.len ≡ 0 → e.own.first ≡ 0)
     → (e.target.len ≡ 0 → e.target.first ≡ 0) → left_of own target e ≡ [] → IsAll own target e
 next-none own target e are none_own none_target left =
     let both = append-none (behind own e.own) (behind target e.target) left in
@@ -164,24 +164,24 @@ first_by false n w v e some = some (is_some n e)
 first_if : (n w v : ℕ) → (1 ≤ n → v ≡ w) → (if n == 0 then w + n else v) ≡ w
 first_if n w v some = first_by (n == 0) n w v refl some
 
-start-word : (part whole : Run) (w : ℕ) → IsStart part whole → part.len < whole.len → w ≡ whole.first + part.len
-    → IsStart (with_word part w) whole
+start-word : (part whole : WordRun) (w : ℕ) → IsStart part whole → part.len < whole.len → w ≡ whole.first + part.len
+    → IsStart (run_with_word part w) whole
 start-word part whole w is more place = record {
   few = omega arith;
   first = λ some. ap (λ v. if part.len == 0 then v else part.first) place ∙ first_if part.len whole.first part.first is.first;
   none = λ none. absurd (omega arith);
 }
 
-pub own-more : (own target : Run) (e : Entry) (w : ℕ) → AreFirst own target e → IsNextOwn own target e w
-    → AreFirst (with_word own w) target e
+pub own-more : (own target : WordRun) (e : Entry) (w : ℕ) → AreFirstWords own target e → IsNextOwn own target e w
+    → AreFirstWords (run_with_word own w) target e
 own-more own target e w are is = record {
   own_start = start-word own e.own w are.own_start is.more is.place;
   target_start = are.target_start;
   all_own = λ some. absurd (omega (arith, is.none));
 }
 
-pub target-more : (own target : Run) (e : Entry) (w : ℕ) → AreFirst own target e → IsNextTarget own target e w
-    → AreFirst own (with_word target w) e
+pub target-more : (own target : WordRun) (e : Entry) (w : ℕ) → AreFirstWords own target e → IsNextTarget own target e w
+    → AreFirstWords own (run_with_word target w) e
 target-more own target e w are is = record {
   own_start = are.own_start;
   target_start = start-word target e.target w are.target_start is.more is.place;
@@ -189,7 +189,7 @@ target-more own target e w are is = record {
 }
 
 -- a word behind the first ones of a run
-pub word-behind : (part whole : Run) (w : ℕ) → IsStart part whole → w ≡ whole.first + part.len → 1 ≤ part.len → w ≡ part.first + part.len
+pub word-behind : (part whole : WordRun) (w : ℕ) → IsStart part whole → w ≡ whole.first + part.len → 1 ≤ part.len → w ≡ part.first + part.len
 word-behind part whole w is place some = place ∙ ap (λ v. v + part.len) (sym (is.first some))
 
 -- a run of listed words begins at 0 where there are none
@@ -200,18 +200,18 @@ run_of-none (w ∷ ws) e = absurd (omega arith)
 
 -- ---- the words one by one
 
-words-at : (w n k : ℕ) → k < n → get_or (words_from w n) k 0 ≡ w + k
-unfolding words_from
+words-at : (w n k : ℕ) → k < n → get_or (word_list_from w n) k 0 ≡ w + k
+unfolding word_list_from
 words-at w zero k few = absurd (omega arith)
 words-at w (suc n) zero few = omega arith
 words-at w (suc n) (suc k) few = words-at (w + 1) n k (omega arith) ∙ (omega arith)
 
-pub own-at : (own target : Run) (k : ℕ) → k < own.len → get_or (words_of_run own ++ words_of_run target) k 0 ≡ own.first + k
+pub own-at : (own target : WordRun) (k : ℕ) → k < own.len → get_or (words_of_run own ++ words_of_run target) k 0 ≡ own.first + k
 own-at own target k few =
     get_or_append_left (words_of_run own) (words_of_run target) 0 k (omega (arith, length-words own.first own.len))
     ∙ words-at own.first own.len k few
 
-pub target-at : (own target : Run) (k : ℕ) → own.len ≤ k → k - own.len < target.len
+pub target-at : (own target : WordRun) (k : ℕ) → own.len ≤ k → k - own.len < target.len
     → get_or (words_of_run own ++ words_of_run target) k 0 ≡ target.first + (k - own.len)
 target-at own target k more few =
     get_or-append_right (words_of_run own) (words_of_run target) own.len k 0 (length-words own.first own.len) more

@@ -6,12 +6,12 @@ use Rattle.st_prep.specs.declared.entries.Fetched.{Fetched}
 use Rattle.st_prep.specs.declared.entries.Fetching.{Fetching as Giving}
 use Rattle.st_prep.specs.declared.entries.Fetching.TheVariants.{Next as GivenWord, Found as GivenAll}
 use Rattle.st_prep.specs.declared.entries.Place.{Place}
-use Rattle.st_prep.specs.Fetch.{index_words, place_of, fetched as fetched_at}
-use Rattle.st_prep.specs.Plan.{Sight, seen, sight, needs, prepared}
-use Rattle.st_prep.specs.Reading.{reading, left_after, given}
+use Rattle.st_prep.specs.Fetch.{index_words, place_of, words_fetched as fetched_at}
+use Rattle.st_prep.specs.Plan.{Sight, sight_of, sight, needs, prepared_entry}
+use Rattle.st_prep.specs.Reading.{reading_at_place, left_after, fetching_of}
 use Rattle.st_rows.specs.Rows.{fetch_word, wanted_from, tick_a, bus_a, tick_p}
-use Rattle.st_rows.specs.declared.entry.Run.{Run}
-use Rattle.st_rows.specs.declared.entry.Runs.{Runs}
+use Rattle.st_rows.specs.declared.entry.WordRun.{WordRun}
+use Rattle.st_rows.specs.declared.entry.WordRuns.{WordRuns}
 use Rattle.st_rows.specs.declared.entry.Entry.{Entry}
 use Rattle.st_rows.specs.declared.fetching.Fetching.{Fetching}
 use Rattle.st_rows.specs.declared.front.Front.{Front}
@@ -19,10 +19,10 @@ use Rattle.st_segment.specs.Alone.{words_of_run}
 use Rattle.st_segment.specs.Entries.{reading_at, entry, side_to_read, words_to_read, words_to_write}
 use Rattle.st_segment.proofs.EntryRanges.{entry-ranges}
 use Rattle.st_segment.proofs.KnownEarly.{known-early}
-use Rattle.st_next.specs.Words.{with_word, words_so_far}
-use Rattle.st_next.specs.Known.{IsBefore}
+use Rattle.st_next.specs.Words.{run_with_word, words_so_far}
+use Rattle.st_next.specs.Known.{IsStateBefore}
 use Rattle.st_next.specs.Progress.{IsReadOn, IsPlanned, IsPlannedIf, Rests, Planned, Waits, Target}
-use Rattle.st_next.specs.Going.{GoesOn, IsPlannedAs, IsPreparedBy, entry_seen, prepared_as}
+use Rattle.st_next.specs.Going.{GoesOnTo, IsPlannedAs, IsPreparedBy, entry_seen, prepared_as}
 use Rattle.st_next.specs.declared.next.Next.{Next}
 use Rattle.st_next.proofs.Starts.{IsNextOwn, own-more, IsNextTarget, target-more, word-behind, IsAll}
 use Rattle.st_next.proofs.Given.{contents_of, gives-own, gives-target, gives-all}
@@ -46,17 +46,17 @@ abbrev sight_with : Place → Fetched → List ℕ → ℕ → Bool → Sight
 sight_with p fd x b on = record { place = p; fetched = fd; x = x; bounds = b; enabled = on }
 
 -- what is seen of the state before the entry is seen of it
-pub sight-same : (now : ℕ) (f : Front) (x : List ℕ) (s u : Machine) (t : Option ℕ) (p : Place) (fd : Fetched) → IsBefore now f.past x s u
-    → p ≡ place_of u t → fd ≡ fetched_at u (place_of u t) → seen p fd x s ≡ sight u (place_of u t)
+pub sight-same : (now : ℕ) (f : Front) (x : List ℕ) (s u : Machine) (t : Option ℕ) (p : Place) (fd : Fetched) → IsStateBefore now f.past x s u
+    → p ≡ place_of u t → fd ≡ fetched_at u (place_of u t) → sight_of p fd x s ≡ sight u (place_of u t)
 unfolding sight
 sight-same now f x s u t p fd is place found =
-    ap (λ p. seen p fd x s) place ∙ ap (λ fd. seen (place_of u t) fd x s) found
-    ∙ ap (λ x. seen (place_of u t) (fetched_at u (place_of u t)) x s) (sym is.index)
+    ap (λ p. sight_of p fd x s) place ∙ ap (λ fd. sight_of (place_of u t) fd x s) found
+    ∙ ap (λ x. sight_of (place_of u t) (fetched_at u (place_of u t)) x s) (sym is.index)
     ∙ ap (λ b. sight_with (place_of u t) (fetched_at u (place_of u t)) (index_words u) b s.enabled) (sym is.bounds)
     ∙ ap (λ on. sight_with (place_of u t) (fetched_at u (place_of u t)) (index_words u) (word u 3) on) (sym is.enabled)
 
 -- so is the entry
-abbrev entry_with : Run → Run → Option ℕ → Runs → Runs → ℕ → Bool → Bool → Entry
+abbrev entry_with : WordRun → WordRun → Option ℕ → WordRuns → WordRuns → ℕ → Bool → Bool → Entry
 entry_with own target side reads writes cost serial follows = record {
   own = own;
   target = target;
@@ -68,7 +68,7 @@ entry_with own target side reads writes cost serial follows = record {
   follows = follows;
 }
 
-same_fields : (o p g h : Run) (a b : Option ℕ) (r q v w : Runs) (m n : ℕ) (c d e f : Bool) → o ≡ p → g ≡ h → a ≡ b → r ≡ q → v ≡ w → m ≡ n → c ≡ d → e ≡ f
+same_fields : (o p g h : WordRun) (a b : Option ℕ) (r q v w : WordRuns) (m n : ℕ) (c d e f : Bool) → o ≡ p → g ≡ h → a ≡ b → r ≡ q → v ≡ w → m ≡ n → c ≡ d → e ≡ f
     → entry_with o g a r v m c e ≡ entry_with p h b q w n d f
 same_fields o p g h a b r q v w m n c d e f e1 e2 e3 e4 e5 e6 e7 e8 = cc
 
@@ -76,31 +76,31 @@ follows-same : (t : Option ℕ) (u : Machine) → let v = sight u (place_of u t)
 unfolding entry sight place_of
 follows-same t u = refl
 
-entry-whole : (t : Option ℕ) (u : Machine) (own target : Run) → own ≡ (entry t u).own → target ≡ (entry t u).target
+entry-whole : (t : Option ℕ) (u : Machine) (own target : WordRun) → own ≡ (entry t u).own → target ≡ (entry t u).target
     → entry_seen own target (sight u (place_of u t)) ≡ entry t u
 entry-whole t u own target o g =
     let v = sight u (place_of u t) in
     let q = option_map (λ w. 0) (needs v).index_read in
     let k = known-early t u q in
     same_fields own (entry t u).own target (entry t u).target (side_to_read (needs v).index_read) (entry t u).side
-    (words_to_read (prepared v q).reads) (entry t u).reads (words_to_write (prepared v q).writes) (entry t u).writes
-    (prepared v q).cost (entry t u).cost (prepared v q).serial (entry t u).serial _ (entry t u).follows
+    (words_to_read (prepared_entry v q).reads) (entry t u).reads (words_to_write (prepared_entry v q).writes) (entry t u).writes
+    (prepared_entry v q).cost (entry t u).cost (prepared_entry v q).serial (entry t u).serial _ (entry t u).follows
     o g (sym k.4) (sym k.0) (sym k.1) (sym k.2) (sym k.3) (follows-same t u)
 
-pub entry-same : (t : Option ℕ) (u : Machine) (own target : Run) (v : Sight) → own ≡ (entry t u).own → target ≡ (entry t u).target
+pub entry-same : (t : Option ℕ) (u : Machine) (own target : WordRun) (v : Sight) → own ≡ (entry t u).own → target ≡ (entry t u).target
     → v ≡ sight u (place_of u t) → entry_seen own target v ≡ entry t u
 entry-same t u own target v o g e = ap (λ v. entry_seen own target v) e ∙ entry-whole t u own target o g
 
 module _ (ds : List ℕ) (n now : ℕ) (f : Front) (x : List ℕ) (s : Machine) (before : Next) (un : before.planned ≡ false) (due : before.words.awaited ≤ now)
     (cs : List ℕ) (contents : cs ≡ map (word s) (words_of_run before.own ++ words_of_run before.target)) where
   abbrev pub what : Giving
-  what = given (left_after (reading x (word s 3) s.enabled before.place) cs)
+  what = fetching_of (left_after (reading_at_place x (word s 3) s.enabled before.place) cs)
 
-  module _ (t : Option ℕ) (u : Machine) (table : IfSome t (λ i. i < 64)) (is : IsBefore now f.past x s u) (read : IsReadOn ds t u f before) where
-    there : what ≡ given (left_after (reading_at t u) (contents_of t u before.own before.target))
+  module _ (t : Option ℕ) (u : Machine) (table : IfSome t (λ i. i < 64)) (is : IsStateBefore now f.past x s u) (read : IsReadOn ds t u f before) where
+    there : what ≡ fetching_of (left_after (reading_at t u) (contents_of t u before.own before.target))
     there =
         let words = words-entry before.own before.target (entry t u) read.first (entry-ranges t u is.machine table) in
-        given-same (reading x (word s 3) s.enabled before.place) (reading_at t u) cs (contents_of t u before.own before.target)
+        given-same (reading_at_place x (word s 3) s.enabled before.place) (reading_at t u) cs (contents_of t u before.own before.target)
         (reading-same now f.past x s u t before.place is read.place)
         (contents ∙ contents-same ds now f x s u before.own before.target is words (omega (arith, due, ap (λ (w : Fetching). w.awaited) (read.words un))))
 
@@ -116,7 +116,7 @@ module _ (ds : List ℕ) (n now : ℕ) (f : Front) (x : List ℕ) (s : Machine) 
   -- ---- an own word
 
   abbrev pub with_own : ℕ → Next
-  with_own w = record before { words = fetch_word ds f.past before.words w (wanted_from f); own = with_word before.own w }
+  with_own w = record before { words = fetch_word ds f.past before.words w (wanted_from f); own = run_with_word before.own w }
 
   own-read : (t : Option ℕ) (u : Machine) (w : ℕ) → IsReadOn ds t u f before → IsNextOwn before.own before.target (entry t u) w → IsReadOn ds t u f (with_own w)
   own-read t u w read is =
@@ -129,8 +129,8 @@ module _ (ds : List ℕ) (n now : ℕ) (f : Front) (x : List ℕ) (s : Machine) 
         awaited = ap (λ (s : Fetching). s.awaited) words;
       }
 
-  pub own-goes : (w : ℕ) (after : Next) → what ≡ GivenWord w false → after ≡ with_own w → GoesOn ds n now f x s before after 0
-  own-goes w after e same = subst (λ a. GoesOn ds n now f x s before a 0) (sym same) (record {
+  pub own-goes : (w : ℕ) (after : Next) → what ≡ GivenWord w false → after ≡ with_own w → GoesOnTo ds n now f x s before after 0
+  own-goes w after e same = subst (λ a. GoesOnTo ds n now f x s before a 0) (sym same) (record {
     each = λ t u table is next. let it = comes-own t u table is next.read_on w e in (
       record { read_on = own-read t u w next.read_on it; planned = planned-none before.planned ds n t u f (with_own w) un },
       Waits un (omega arith),
@@ -140,7 +140,7 @@ module _ (ds : List ℕ) (n now : ℕ) (f : Front) (x : List ℕ) (s : Machine) 
   -- ---- a word of the target
 
   abbrev pub with_target : ℕ → Next
-  with_target w = record before { words = fetch_word ds f.past before.words w (max (wanted_from f) f.c); target = with_word before.target w }
+  with_target w = record before { words = fetch_word ds f.past before.words w (max (wanted_from f) f.c); target = run_with_word before.target w }
 
   target-read : (t : Option ℕ) (u : Machine) (w : ℕ) → IsReadOn ds t u f before → IsNextTarget before.own before.target (entry t u) w → IsReadOn ds t u f (with_target w)
   target-read t u w read is =
@@ -153,8 +153,8 @@ module _ (ds : List ℕ) (n now : ℕ) (f : Front) (x : List ℕ) (s : Machine) 
         awaited = ap (λ (s : Fetching). s.awaited) words;
       }
 
-  pub target-goes : (w : ℕ) (after : Next) → what ≡ GivenWord w true → after ≡ with_target w → GoesOn ds n now f x s before after 0
-  target-goes w after e same = subst (λ a. GoesOn ds n now f x s before a 0) (sym same) (record {
+  pub target-goes : (w : ℕ) (after : Next) → what ≡ GivenWord w true → after ≡ with_target w → GoesOnTo ds n now f x s before after 0
+  target-goes w after e same = subst (λ a. GoesOnTo ds n now f x s before a 0) (sym same) (record {
     each = λ t u table is next. let it = comes-target t u table is next.read_on w e in (
       record { read_on = target-read t u w next.read_on it; planned = planned-none before.planned ds n t u f (with_target w) un },
       Waits un (omega arith),
@@ -168,15 +168,15 @@ module _ (ds : List ℕ) (n now : ℕ) (f : Front) (x : List ℕ) (s : Machine) 
   waits-rests zero later t u w none early is = Target un is.all none (let more = is.more in omega arith) early
   waits-rests (suc k) later t u w some early is = Waits un (omega (arith, early, waits-some f before.target (omega arith)))
 
-  pub target-waits : (later w : ℕ) → what ≡ GivenWord w true → later ≤ f.c → GoesOn ds n now f x s before before later
+  pub target-waits : (later w : ℕ) → what ≡ GivenWord w true → later ≤ f.c → GoesOnTo ds n now f x s before before later
   target-waits later w e early = record {
     each = λ t u table is next. let it = comes-target t u table is next.read_on w e in (next, waits-rests before.target.len later t u w refl early it);
   }
 
   -- ---- it is prepared
 
-  pub prepared-goes : (fd : Fetched) (after : Next) → after ≡ prepared_as fd x s before → GoesOn ds n now f x s before after 0
-  prepared-goes fd after same = subst (λ a. GoesOn ds n now f x s before a 0) (sym same) (record {
+  pub prepared-goes : (fd : Fetched) (after : Next) → after ≡ prepared_as fd x s before → GoesOnTo ds n now f x s before after 0
+  prepared-goes fd after same = subst (λ a. GoesOnTo ds n now f x s before a 0) (sym same) (record {
     each = λ t u table is next. (
       record {
         read_on = record { place = next.read_on.place; first = next.read_on.first; words = next.read_on.words; awaited = next.read_on.awaited };
@@ -188,7 +188,7 @@ module _ (ds : List ℕ) (n now : ℕ) (f : Front) (x : List ℕ) (s : Machine) 
 
   pub prepared-by : (fd : Fetched) (after : Next) → what ≡ GivenAll fd → after ≡ prepared_as fd x s before → IsPreparedBy now x s after
   prepared-by fd after e same = subst (IsPreparedBy now x s) (sym same) (record {
-    found = ap (λ (words : List ℕ). given (left_after (reading x (word s 3) s.enabled before.place) words)) (sym contents) ∙ e;
+    found = ap (λ (words : List ℕ). fetching_of (left_after (reading_at_place x (word s 3) s.enabled before.place) words)) (sym contents) ∙ e;
     done = due;
     needed = refl;
     ready = refl;
@@ -197,12 +197,12 @@ module _ (ds : List ℕ) (n now : ℕ) (f : Front) (x : List ℕ) (s : Machine) 
 
   -- ---- the plan
 
-  pub plan-goes : (fd : Fetched) (after : Next) (later : ℕ) → what ≡ GivenAll fd → IsPlannedAs ds n f (seen before.place fd x s) before after → GoesOn ds n now f x s before after later
+  pub plan-goes : (fd : Fetched) (after : Next) (later : ℕ) → what ≡ GivenAll fd → IsPlannedAs ds n f (sight_of before.place fd x s) before after → GoesOnTo ds n now f x s before after later
   plan-goes fd after later e made = record {
     each = λ t u table is next.
         let it = comes-all t u table is next.read_on fd e in
         let same = sight-same now f x s u t before.place fd is next.read_on.place it.1 in
-        let v = seen before.place fd x s in
+        let v = sight_of before.place fd x s in
         let whole = entry-same t u before.own before.target v it.0.own_all it.0.target_all same in (
           record {
             read_on = record {
@@ -216,7 +216,7 @@ module _ (ds : List ℕ) (n now : ℕ) (f : Front) (x : List ℕ) (s : Machine) 
             planned = planned-some after.planned ds n t u f after made.planned (record {
               all = record { own = made.own ∙ it.0.own_all; target = made.target ∙ it.0.target_all; found = made.found ∙ it.1 };
               needs = made.needed ∙ ap needs same;
-              prepared = made.ready ∙ ap (λ v. prepared v (option_map (λ w. 0) (needs v).index_read)) same;
+              prepared = made.ready ∙ ap (λ v. prepared_entry v (option_map (λ w. 0) (needs v).index_read)) same;
               entry = made.entry ∙ whole;
               address = made.address ∙ ap (tick_a ds f) whole;
               bus = made.bus ∙ ap (bus_a ds f) whole;

@@ -3,9 +3,9 @@ use Rattle.std.specs.Prelude.{All}
 use Rattle.std.proofs.Common.{◌≡◌, ℕ, ◌≤◌, ◌<◌, Bool, true, false, List, ◌++◌, append_assoc, Option, refl, sym, ◌∙◌, ap, arith}
 use Rattle.std.proofs.lemmas.List.Elements.{All-append}
 use Rattle.st_state.specs.Machine.{Machine}
-use Rattle.st_rows.specs.Asked.{Read, asked, served, side_asked, runs_asked, following_asked, fetches_asked, prepared_asked, data_of}
-use Rattle.st_rows.specs.Rows.{fetched, tick_a, bus_a, tick_p, operands}
-use Rattle.st_rows.specs.declared.entry.Run.{Run}
+use Rattle.st_rows.specs.Asked.{Read, reads_of_entry, bus_after_reads, side_asked, runs_asked, following_asked, fetches_asked, prepared_asked, data_of}
+use Rattle.st_rows.specs.Rows.{words_tick, tick_a, bus_a, tick_p, operands}
+use Rattle.st_rows.specs.declared.entry.WordRun.{WordRun}
 use Rattle.st_rows.specs.declared.entry.Entry.{Entry}
 use Rattle.st_rows.specs.declared.fetching.Fetching.{Fetching}
 use Rattle.st_rows.specs.declared.front.Front.{Front}
@@ -31,7 +31,7 @@ data-late ds n m f e late =
     (each-following (IsLate m) ds (operands ds n f e).bus e (tick_p ds n f e) (λ follows v least most. p))
 
 -- the words of the entry, with whatever else
-fetches-same : (ds : List ℕ) (f : Front) (own target : Run) (e : Entry) → own ≡ e.own → target ≡ e.target → asked_so_far ds f own target ≡ fetches_asked ds f e
+fetches-same : (ds : List ℕ) (f : Front) (own target : WordRun) (e : Entry) → own ≡ e.own → target ≡ e.target → asked_so_far ds f own target ≡ fetches_asked ds f e
 unfolding fetches_asked
 fetches-same ds f own target e o g = rw (o, g) refl
 
@@ -71,12 +71,12 @@ module _ (ds : List ℕ) (n : ℕ) (t : Option ℕ) (u : Machine) (f : Front) (n
   abbrev behind : List Read
   behind = runs_asked f.past e.reads (tick_p ds n f e) ++ following_asked ds (operands ds n f e).bus e (tick_p ds n f e)
 
-  whole : asked ds n f e ≡ reads_so_far ds f next ++ behind
+  whole : reads_of_entry ds n f e ≡ reads_so_far ds f next ++ behind
   whole =
       asked-parts ds n f e ∙ sym (append_assoc (fetches_asked ds f e) (side_asked f.past e.side (tick_a ds f e)) behind)
       ∙ ap (λ reads. reads ++ behind) (sym planned-reads)
 
-  pub asked-planned : asked ds n f e ≡ reads_so_far ds f next ++ prepared_asked ds n f e
+  pub asked-planned : reads_of_entry ds n f e ≡ reads_so_far ds f next ++ prepared_asked ds n f e
   asked-planned = whole
 
   pub left-planned : AreLeft ds n next.formed.p t u f next
@@ -91,26 +91,26 @@ module _ (ds : List ℕ) (n : ℕ) (t : Option ℕ) (u : Machine) (f : Front) (n
             (each-following (IsLate next.formed.p) ds (operands ds n f e).bus e (tick_p ds n f e) (λ follows v least most. p));
       }
 
-  served-planned : served ds (reads_so_far ds f next) f.bus ≡ next.words.bus
+  served-planned : bus_after_reads ds (reads_so_far ds f next) f.bus ≡ next.words.bus
   unfolding bus_a
   served-planned =
       let side = side_asked f.past e.side (tick_a ds f e) in
-      ap (λ reads. served ds reads f.bus) planned-reads ∙ served-append ds (fetches_asked ds f e) side f.bus
-      ∙ ap (served ds side) (served-fetches ds f e) ∙ served-side ds f.past e.side (tick_a ds f e) (fetched ds f e).bus ∙ sym planned.bus
+      ap (λ reads. bus_after_reads ds reads f.bus) planned-reads ∙ served-append ds (fetches_asked ds f e) side f.bus
+      ∙ ap (bus_after_reads ds side) (served-fetches ds f e) ∙ served-side ds f.past e.side (tick_a ds f e) (words_tick ds f e).bus ∙ sym planned.bus
 
 -- ---- the bus
 
 served-resting : (ds : List ℕ) (n : ℕ) (t : Option ℕ) (u : Machine) (f : Front) (next : Next) → IsNext ds n t u f next → next.planned ≡ false
-    → served ds (reads_so_far ds f next) f.bus ≡ next.words.bus
+    → bus_after_reads ds (reads_so_far ds f next) f.bus ≡ next.words.bus
 served-resting ds n t u f next is un =
-    ap (λ reads. served ds reads f.bus) (reads-none ds f next un) ∙ served-fetches ds f (words_alone next.own next.target)
+    ap (λ reads. bus_after_reads ds reads f.bus) (reads-none ds f next un) ∙ served-fetches ds f (words_alone next.own next.target)
     ∙ ap (λ (s : Fetching). s.bus) (sym (is.read_on.words un))
 
 served-by : (b : Bool) (ds : List ℕ) (n : ℕ) (t : Option ℕ) (u : Machine) (f : Front) (next : Next) → next.planned ≡ b → IsNext ds n t u f next
-    → served ds (reads_so_far ds f next) f.bus ≡ next.words.bus
+    → bus_after_reads ds (reads_so_far ds f next) f.bus ≡ next.words.bus
 served-by true ds n t u f next e is = served-planned ds n t u f next is e
 served-by false ds n t u f next e is = served-resting ds n t u f next is e
 
 pub served-so-far : (ds : List ℕ) (n : ℕ) (t : Option ℕ) (u : Machine) (f : Front) (next : Next) → IsNext ds n t u f next
-    → served ds (reads_so_far ds f next) f.bus ≡ next.words.bus
+    → bus_after_reads ds (reads_so_far ds f next) f.bus ≡ next.words.bus
 served-so-far ds n t u f next is = served-by next.planned ds n t u f next refl is

@@ -4,13 +4,13 @@ use Rattle.std.proofs.Math.Nat.{add-zero, zero-add, suc-add}
 use Rattle.std.proofs.lemmas.List.{append-nil}
 use Rattle.st_fetch.specs.Planned.{tick_of}
 use Rattle.st_prep.proofs.GivenLemmas.{is_none, is_some}
-use Rattle.st_rows.specs.Rows.{fetch_word, fetch_words, wanted_from, fetched}
+use Rattle.st_rows.specs.Rows.{fetch_word, fetch_words, wanted_from, words_tick}
 use Rattle.st_rows.specs.Asked.{Read, word_asked, words_asked, fetches_asked}
-use Rattle.st_rows.specs.declared.entry.Run.{Run}
+use Rattle.st_rows.specs.declared.entry.WordRun.{WordRun}
 use Rattle.st_rows.specs.declared.past.Past.{Past}
 use Rattle.st_rows.specs.declared.fetching.Fetching.{Fetching}
 use Rattle.st_rows.specs.declared.front.Front.{Front}
-use Rattle.st_next.specs.Words.{with_word, words_so_far, asked_so_far}
+use Rattle.st_next.specs.Words.{run_with_word, words_so_far, asked_so_far}
 
 module _ (ds : List ℕ) (past : List Past) (from : ℕ) where
   -- the want of the next word
@@ -61,8 +61,8 @@ module _ (ds : List ℕ) (past : List Past) (from : ℕ) where
   fetch-by false s v n w e place =
       fetch-more s v n 1 ∙ ap (λ k. fetch_word ds past (fetch_words ds past s from v n) k from) (sym (place (is_some n e)))
 
-  pub fetch-word : (s : Fetching) (run : Run) (w : ℕ) → (1 ≤ run.len → w ≡ run.first + run.len)
-      → fetch_words ds past s from (with_word run w).first (with_word run w).len
+  pub fetch-word : (s : Fetching) (run : WordRun) (w : ℕ) → (1 ≤ run.len → w ≡ run.first + run.len)
+      → fetch_words ds past s from (run_with_word run w).first (run_with_word run w).len
       ≡ fetch_word ds past (fetch_words ds past s from run.first run.len) w from
   fetch-word s run w place = fetch-by (run.len == 0) s run.first run.len w refl place
 
@@ -80,14 +80,14 @@ module _ (ds : List ℕ) (past : List Past) (from : ℕ) where
       ∙ ap (λ reads. words_asked ds past s from v n ++ reads) (append-nil (read_of (fetch_words ds past s from v n) (v + n)))
       ∙ ap (λ k. words_asked ds past s from v n ++ read_of (fetch_words ds past s from v n) k) (sym (place (is_some n e)))
 
-  pub asked-word : (s : Fetching) (run : Run) (w : ℕ) → (1 ≤ run.len → w ≡ run.first + run.len)
-      → words_asked ds past s from (with_word run w).first (with_word run w).len
+  pub asked-word : (s : Fetching) (run : WordRun) (w : ℕ) → (1 ≤ run.len → w ≡ run.first + run.len)
+      → words_asked ds past s from (run_with_word run w).first (run_with_word run w).len
       ≡ words_asked ds past s from run.first run.len ++ read_of (fetch_words ds past s from run.first run.len) w
   asked-word s run w place = asked-by (run.len == 0) s run.first run.len w refl place
 
 -- ---- of an entry
 
-module _ (ds : List ℕ) (f : Front) (own target : Run) (w : ℕ) where
+module _ (ds : List ℕ) (f : Front) (own target : WordRun) (w : ℕ) where
   abbrev before : Fetching
   before = record { bus = f.bus; answered = 0; awaited = 0 }
 
@@ -98,19 +98,19 @@ module _ (ds : List ℕ) (f : Front) (own target : Run) (w : ℕ) where
   waits = max (wanted_from f) f.c
 
   pub own-fetched : target.len ≡ 0 → (1 ≤ own.len → w ≡ own.first + own.len)
-      → words_so_far ds f (with_word own w) target ≡ fetch_word ds f.past (words_so_far ds f own target) w (wanted_from f)
-  unfolding fetched
+      → words_so_far ds f (run_with_word own w) target ≡ fetch_word ds f.past (words_so_far ds f own target) w (wanted_from f)
+  unfolding words_tick
   own-fetched none place =
       fetch-none ds f.past waits _ target.first target.len none ∙ fetch-word ds f.past (wanted_from f) before own w place
       ∙ ap (λ s. fetch_word ds f.past s w (wanted_from f)) (sym (fetch-none ds f.past waits own_words target.first target.len none))
 
   pub target-fetched : (1 ≤ target.len → w ≡ target.first + target.len)
-      → words_so_far ds f own (with_word target w) ≡ fetch_word ds f.past (words_so_far ds f own target) w (max (wanted_from f) f.c)
-  unfolding fetched
+      → words_so_far ds f own (run_with_word target w) ≡ fetch_word ds f.past (words_so_far ds f own target) w (max (wanted_from f) f.c)
+  unfolding words_tick
   target-fetched place = fetch-word ds f.past waits own_words target w place
 
   own-words : target.len ≡ 0 → words_so_far ds f own target ≡ own_words
-  unfolding fetched
+  unfolding words_tick
   own-words none = fetch-none ds f.past waits own_words target.first target.len none
 
   own-reads : target.len ≡ 0 → asked_so_far ds f own target ≡ words_asked ds f.past before (wanted_from f) own.first own.len
@@ -121,16 +121,16 @@ module _ (ds : List ℕ) (f : Front) (own target : Run) (w : ℕ) where
       ∙ append-nil (words_asked ds f.past before (wanted_from f) own.first own.len)
 
   pub target-asked : (1 ≤ target.len → w ≡ target.first + target.len)
-      → asked_so_far ds f own (with_word target w) ≡ asked_so_far ds f own target ++ read_of ds f.past (max (wanted_from f) f.c) (words_so_far ds f own target) w
-  unfolding fetched fetches_asked
+      → asked_so_far ds f own (run_with_word target w) ≡ asked_so_far ds f own target ++ read_of ds f.past (max (wanted_from f) f.c) (words_so_far ds f own target) w
+  unfolding words_tick fetches_asked
   target-asked place =
       ap (λ reads. words_asked ds f.past before (wanted_from f) own.first own.len ++ reads) (asked-word ds f.past waits own_words target w place)
       ∙ sym (append_assoc (words_asked ds f.past before (wanted_from f) own.first own.len) (words_asked ds f.past own_words waits target.first target.len) _)
 
-pub own-asked : (ds : List ℕ) (f : Front) (own target : Run) (w : ℕ) → target.len ≡ 0 → (1 ≤ own.len → w ≡ own.first + own.len)
-    → asked_so_far ds f (with_word own w) target ≡ asked_so_far ds f own target ++ read_of ds f.past (wanted_from f) (words_so_far ds f own target) w
+pub own-asked : (ds : List ℕ) (f : Front) (own target : WordRun) (w : ℕ) → target.len ≡ 0 → (1 ≤ own.len → w ≡ own.first + own.len)
+    → asked_so_far ds f (run_with_word own w) target ≡ asked_so_far ds f own target ++ read_of ds f.past (wanted_from f) (words_so_far ds f own target) w
 own-asked ds f own target w none place =
-    own-reads ds f (with_word own w) target w none
+    own-reads ds f (run_with_word own w) target w none
     ∙ asked-word ds f.past (wanted_from f) (before ds f own target w) own w place
     ∙ ap (λ reads. reads ++ read_of ds f.past (wanted_from f) (own_words ds f own target w) w) (sym (own-reads ds f own target w none))
     ∙ ap (λ s. asked_so_far ds f own target ++ read_of ds f.past (wanted_from f) s w) (sym (own-words ds f own target w none))

@@ -4,42 +4,45 @@ use Rattle.st_state.specs.Machine.{Machine, word}
 use Rattle.st_prep.specs.declared.entries.Fetched.{Fetched}
 use Rattle.st_prep.specs.declared.entries.Prepared.{Prepared}
 use Rattle.st_prep.specs.declared.entries.Fetching.TheVariants.{Found as FoundAll}
-use Rattle.st_prep.specs.Plan.{Sight, seen, needs, prepared}
-use Rattle.st_prep.specs.Reading.{reading, left_after, given}
-use Rattle.st_rows.specs.Asked.{Read, asked, served}
-use Rattle.st_rows.specs.Notes.{noted}
+use Rattle.st_prep.specs.Plan.{Sight, sight_of, needs, prepared_entry}
+use Rattle.st_prep.specs.Reading.{reading_at_place, left_after, fetching_of}
+use Rattle.st_rows.specs.Asked.{Read, reads_of_entry, bus_after_reads}
+use Rattle.st_rows.specs.Notes.{log_after_reads}
 use Rattle.st_rows.specs.Ranges.{IsTight, IsFetchingWithin, ArePastWithin}
 use Rattle.st_rows.specs.Rows.{wanted_from, tick_a, bus_a, tick_p}
-use Rattle.st_rows.specs.declared.entry.Run.{Run}
+use Rattle.st_rows.specs.declared.entry.WordRun.{WordRun}
 use Rattle.st_rows.specs.declared.entry.Entry.{Entry}
 use Rattle.st_rows.specs.declared.fetching.Fetching.{Fetching}
 use Rattle.st_rows.specs.declared.front.Front.{Front}
 use Rattle.st_rows.specs.declared.log.Made.{Made}
 use Rattle.st_segment.specs.Alone.{words_of_run}
 use Rattle.st_segment.specs.Entries.{entry, side_to_read, words_to_read, words_to_write}
-use Rattle.st_next.specs.Known.{IsBefore}
+use Rattle.st_next.specs.Known.{IsStateBefore}
 use Rattle.st_next.specs.Progress.{IsNext, Rests, reads_so_far}
 use Rattle.st_next.specs.declared.next.Next.{Next}
 
 -- a machine of 1 to 8 levels, and a front whose ticks lie close together and are early enough
-pub record IsFront (n : ℕ) (f : Front) : Type 0 where
+pub record IsFrontInTime (n : ℕ) (f : Front) : Type 0 where
   pub some : 1 ≤ n
   pub most : n ≤ 8
   pub tight : IsTight 255 f
   pub early : f.c ≤ 2 ^ 63 + 2 ^ 20
 
--- whatever the state before the entry is, what is known of it stays so, and then nothing more can be known before the tick `later`; by the tick `now` the
--- entries are done that write what is read of the state
-pub record GoesOn (ds : List ℕ) (n now : ℕ) (f : Front) (x : List ℕ) (s : Machine) (before after : Next) (later : ℕ) : Type 0 where
-  pub each : (t : Option ℕ) (u : Machine) → IfSome t (λ i. i < 64) → IsBefore now f.past x s u
+-- whatever the state before the entry is, what is known of it stays so, and then nothing more can
+-- be known before the tick `later`; by the tick `now` the entries are done that write what is read
+-- of the state
+pub record GoesOnTo (ds : List ℕ) (n now : ℕ) (f : Front) (x : List ℕ) (s : Machine)
+    (before after : Next) (later : ℕ) : Type 0 where
+  pub each : (t : Option ℕ) (u : Machine) → IfSome t (λ i. i < 64) → IsStateBefore now f.past x s u
       → IsNext ds n t u f before → IsNext ds n t u f after × Rests later t u f after
 
 -- the reads that are asked for it come behind the others, are made on its bus, and are noted
-pub record IsReadFurther (ds : List ℕ) (f : Front) (before after : Next) (log new : List Made) : Type 0 where
+pub record IsReadFurther (ds : List ℕ) (f : Front) (before after : Next)
+    (log new : List Made) : Type 0 where
   pub added : List Read
   pub so_far : reads_so_far ds f after ≡ reads_so_far ds f before ++ added
-  pub bus : after.words.bus ≡ served ds added before.words.bus
-  pub kept : new ≡ noted ds added before.words.bus log
+  pub bus : after.words.bus ≡ bus_after_reads ds added before.words.bus
+  pub kept : new ≡ log_after_reads ds added before.words.bus log
 
 -- what is fetched so far and what the front awaits is early enough for one read more
 pub record IsEarly (f : Front) (words : Fetching) : Type 0 where
@@ -48,8 +51,9 @@ pub record IsEarly (f : Front) (words : Fetching) : Type 0 where
   pub wanted : wanted_from f ≤ 2 ^ 64 - 512
   pub done : f.c ≤ 2 ^ 64 - 512
 
--- an entry with these words, its index-side word and what it is prepared to; following words are asked for as `follows` says
-abbrev pub entry_with : Run → Run → Option ℕ → Prepared → Bool → Entry
+-- an entry with these words, its index-side word and what it is prepared to; following words are
+-- asked for as `follows` says
+abbrev pub entry_with : WordRun → WordRun → Option ℕ → Prepared → Bool → Entry
 entry_with own target side p follows = record {
   own = own;
   target = target;
@@ -62,9 +66,10 @@ entry_with own target side p follows = record {
 }
 
 -- the entry with these instruction words, of which so much is seen
-abbrev pub entry_seen : Run → Run → Sight → Entry
+abbrev pub entry_seen : WordRun → WordRun → Sight → Entry
 entry_seen own target v =
-    entry_with own target (needs v).index_read (prepared v (option_map (λ w. 0) (needs v).index_read))
+    entry_with own target (needs v).index_read
+    (prepared_entry v (option_map (λ w. 0) (needs v).index_read))
     (is_none v.place.table && is_none v.fetched.fault)
 
 -- an entry as the timetable sees it, by what is fetched, what it needs and what it is prepared to
@@ -76,25 +81,29 @@ as_entry next =
 -- an entry of which this is fetched, prepared as far as it goes without its index-side word
 abbrev pub prepared_as : Fetched → List ℕ → Machine → Next → Next
 prepared_as fd x s next =
-    let v = seen next.place fd x s in
+    let v = sight_of next.place fd x s in
     record next {
       fetched = fd;
       needs = needs v;
-      prepared = prepared v (option_map (λ w. 0) (needs v).index_read);
+      prepared = prepared_entry v (option_map (λ w. 0) (needs v).index_read);
       entry = entry_seen next.own next.target v;
     }
 
--- its words tell all of it, and their writers are done by the tick `now`: it is prepared as far as it goes without its index-side word
+-- its words tell all of it, and their writers are done by the tick `now`: it is prepared as far as
+-- it goes without its index-side word
 pub record IsPreparedBy (now : ℕ) (x : List ℕ) (s : Machine) (next : Next) : Type 0 where
-  pub found : given (left_after (reading x (word s 3) s.enabled next.place) (map (word s) (words_of_run next.own ++ words_of_run next.target))) ≡ FoundAll next.fetched
+  pub found : fetching_of (left_after (reading_at_place x (word s 3) s.enabled next.place)
+      (map (word s) (words_of_run next.own ++ words_of_run next.target))) ≡ FoundAll next.fetched
   pub done : next.words.awaited ≤ now
-  pub needed : next.needs ≡ needs (seen next.place next.fetched x s)
+  pub needed : next.needs ≡ needs (sight_of next.place next.fetched x s)
   pub ready : next.prepared
-      ≡ prepared (seen next.place next.fetched x s) (option_map (λ w. 0) (needs (seen next.place next.fetched x s)).index_read)
-  pub entry : next.entry ≡ entry_seen next.own next.target (seen next.place next.fetched x s)
+      ≡ prepared_entry (sight_of next.place next.fetched x s)
+      (option_map (λ w. 0) (needs (sight_of next.place next.fetched x s)).index_read)
+  pub entry : next.entry ≡ entry_seen next.own next.target (sight_of next.place next.fetched x s)
 
 -- an entry of which the words are there is planned, of which so much is seen
-pub record IsPlannedAs (ds : List ℕ) (n : ℕ) (f : Front) (v : Sight) (before after : Next) : Type 0 where
+pub record IsPlannedAs (ds : List ℕ) (n : ℕ) (f : Front) (v : Sight)
+    (before after : Next) : Type 0 where
   pub place : after.place ≡ before.place
   pub own : after.own ≡ before.own
   pub target : after.target ≡ before.target
@@ -102,14 +111,16 @@ pub record IsPlannedAs (ds : List ℕ) (n : ℕ) (f : Front) (v : Sight) (before
   pub planned : after.planned ≡ true
   pub found : after.fetched ≡ v.fetched
   pub needed : after.needs ≡ needs v
-  pub ready : after.prepared ≡ prepared v (option_map (λ w. 0) (needs v).index_read)
+  pub ready : after.prepared ≡ prepared_entry v (option_map (λ w. 0) (needs v).index_read)
   pub entry : after.entry ≡ entry_seen before.own before.target v
   pub address : after.formed.a ≡ tick_a ds f (entry_seen before.own before.target v)
   pub bus : after.words.bus ≡ bus_a ds f (entry_seen before.own before.target v)
   pub tick : after.formed.p ≡ tick_p ds n f (entry_seen before.own before.target v)
 
--- the reads so far are the first ones of the entry, and those that are left are wanted at a tick or later
-pub record AreLeft (ds : List ℕ) (n want : ℕ) (t : Option ℕ) (u : Machine) (f : Front) (next : Next) : Type 0 where
+-- the reads so far are the first ones of the entry, and those that are left are wanted at a tick or
+-- later
+pub record AreLeft (ds : List ℕ) (n want : ℕ) (t : Option ℕ) (u : Machine) (f : Front)
+    (next : Next) : Type 0 where
   pub rest : List Read
-  pub reads : asked ds n f (entry t u) ≡ reads_so_far ds f next ++ rest
+  pub reads : reads_of_entry ds n f (entry t u) ≡ reads_so_far ds f next ++ rest
   pub late : All (λ (r : Read). want ≤ r.want) rest

@@ -1,13 +1,15 @@
--- What the entry that is prepared next is known by: the state before it, which is not there yet, and the state that is.
+-- What the entry that is prepared next is known by: the state before it, which is not there yet,
+-- and the state that is.
 use Rattle.std.specs.Prelude.{ℕ, ◌≡◌, ◌≤◌, List}
 use Rattle.st_state.specs.Machine.{Machine, IsMachine, word}
 use Rattle.st_prep.specs.Fetch.{index_words}
 use Rattle.st_rows.specs.Entries.{latest_done}
 use Rattle.st_rows.specs.declared.past.Past.{Past}
 
--- u is the state before the next entry, s the state that stands now, and x are the index words that run ahead: both agree where nothing
--- between them can have written, and on each word from 32 up whose writers are done at the tick
-pub record IsBefore (now : ℕ) (past : List Past) (x : List ℕ) (s u : Machine) : Type 0 where
+-- u is the state before the next entry, s the state that stands now, and x are the index words that
+-- run ahead: both agree where nothing between them can have written, and on each word from 32 up
+-- whose writers are done at the tick
+pub record IsStateBefore (now : ℕ) (past : List Past) (x : List ℕ) (s u : Machine) : Type 0 where
   pub machine : IsMachine u
   pub index : index_words u ≡ x
   pub origin : word u 2 ≡ word s 2

@@ -3,3 +3,14 @@ pub mod Progress
 pub mod Known
 pub mod Going
 pub mod Laws
+pub use Rattle.st_bits.specs.Storage
+pub use Rattle.st_fetch.specs.Planned
+pub use Rattle.st_format.specs.Formats
+pub use Rattle.st_prep.specs.Fetch
+pub use Rattle.st_prep.specs.Plan
+pub use Rattle.st_prep.specs.Reading
+pub use Rattle.st_rows.specs.Asked
+pub use Rattle.st_rows.specs.Notes
+pub use Rattle.st_rows.specs.Rows
+pub use Rattle.st_segment.specs.Alone
+pub use Rattle.st_state.specs.Machine

@@ -1,38 +1,41 @@
 -- How far the entry that is prepared next is known.
 use Rattle.std.specs.Prelude.{ℕ, ◌≡◌, ◌≤◌, ◌<◌, ◌==◌, max, Bool, true, false, if◌then◌else◌, List, [], ◌++◌, Option, IfSome, option_map}
 use Rattle.st_state.specs.Machine.{Machine}
-use Rattle.st_prep.specs.Fetch.{place_of, fetched as fetched_at}
-use Rattle.st_prep.specs.Plan.{needs as needs_of, sight, prepared as prepared_of}
+use Rattle.st_prep.specs.Fetch.{place_of, words_fetched as fetched_at}
+use Rattle.st_prep.specs.Plan.{needs as needs_of, sight, prepared_entry as prepared_of}
 use Rattle.st_rows.specs.Rows.{wanted_from, tick_a, bus_a, tick_p}
 use Rattle.st_rows.specs.Asked.{Read, side_asked}
-use Rattle.st_rows.specs.declared.entry.Run.{Run}
+use Rattle.st_rows.specs.declared.entry.WordRun.{WordRun}
 use Rattle.st_rows.specs.declared.front.Front.{Front}
 use Rattle.st_segment.specs.Entries.{entry as entry_of}
-use Rattle.st_next.specs.Known.{IsBefore}
-use Rattle.st_next.specs.Words.{AreFirst, words_so_far, asked_so_far}
+use Rattle.st_next.specs.Known.{IsStateBefore}
+use Rattle.st_next.specs.Words.{AreFirstWords, words_so_far, asked_so_far}
 use Rattle.st_next.specs.declared.next.Next.{Next}
 
 -- ---- the entry that is prepared next: t says whether it is a table instruction, u is the state before it, and f the front
 
 -- so many of its words are asked for, and the bus is behind them until the entry is planned
-pub record IsReadOn (ds : List ℕ) (t : Option ℕ) (u : Machine) (f : Front) (next : Next) : Type 0 where
+pub record IsReadOn (ds : List ℕ) (t : Option ℕ) (u : Machine) (f : Front)
+    (next : Next) : Type 0 where
   pub place : next.place ≡ place_of u t
-  pub first : AreFirst next.own next.target (entry_of t u)
+  pub first : AreFirstWords next.own next.target (entry_of t u)
   pub words : next.planned ≡ false → next.words ≡ words_so_far ds f next.own next.target
   pub awaited : next.words.awaited ≡ (words_so_far ds f next.own next.target).awaited
 
 -- these are all of them, and this is what is fetched
-pub record IsFound (t : Option ℕ) (u : Machine) (next : Next) : Type 0 where
+pub record IsFoundNext (t : Option ℕ) (u : Machine) (next : Next) : Type 0 where
   pub own : next.own ≡ (entry_of t u).own
   pub target : next.target ≡ (entry_of t u).target
   pub found : next.fetched ≡ fetched_at u (place_of u t)
 
 -- all of it is known but its index-side word
-pub record IsPlanned (ds : List ℕ) (n : ℕ) (t : Option ℕ) (u : Machine) (f : Front) (next : Next) : Type 0 where
-  pub all : IsFound t u next
+pub record IsPlanned (ds : List ℕ) (n : ℕ) (t : Option ℕ) (u : Machine) (f : Front)
+    (next : Next) : Type 0 where
+  pub all : IsFoundNext t u next
   pub needs : next.needs ≡ needs_of (sight u (place_of u t))
   pub prepared : next.prepared
-      ≡ prepared_of (sight u (place_of u t)) (option_map (λ w. 0) (needs_of (sight u (place_of u t))).index_read)
+      ≡ prepared_of (sight u (place_of u t))
+      (option_map (λ w. 0) (needs_of (sight u (place_of u t))).index_read)
   pub entry : next.entry ≡ entry_of t u
   pub address : next.formed.a ≡ tick_a ds f (entry_of t u)
   pub bus : next.words.bus ≡ bus_a ds f (entry_of t u)
@@ -44,7 +47,8 @@ IsPlannedIf false ds n t u f next = Unit {0}
 IsPlannedIf true ds n t u f next = IsPlanned ds n t u f next
 
 -- it is read as far as its words tell, and planned where its mark says so
-pub record IsNext (ds : List ℕ) (n : ℕ) (t : Option ℕ) (u : Machine) (f : Front) (next : Next) : Type 0 where
+pub record IsNext (ds : List ℕ) (n : ℕ) (t : Option ℕ) (u : Machine) (f : Front)
+    (next : Next) : Type 0 where
   pub read_on : IsReadOn ds t u f next
   pub planned : IsPlannedIf next.planned ds n t u f next
 
@@ -58,31 +62,35 @@ reads_so_far ds f next =
 -- writes one of them is not done; or it is EX, whose target waits for the entry before
 
 -- the words of the target wait for the last entry, once one of them is asked for
-abbrev pub target_waits : Front → Run → ℕ
+abbrev pub target_waits : Front → WordRun → ℕ
 target_waits f target = if target.len == 0 then 0 else f.c
 
 -- the tick from which on the next word is wanted, as far as the words so far tell
 abbrev pub wanted_next : Front → Next → ℕ
 wanted_next f next =
-    max (max (max (wanted_from f) (target_waits f next.target)) next.words.answered) next.words.awaited
+    max (max (max (wanted_from f)
+    (target_waits f next.target)) next.words.answered) next.words.awaited
 
 -- nothing more of it can be known before the tick `now`
 pub data Rests (now : ℕ) (t : Option ℕ) (u : Machine) (f : Front) (next : Next) : Type 0 where
   Planned : next.planned ≡ true → Rests now t u f next
   Waits : next.planned ≡ false → now ≤ wanted_next f next → Rests now t u f next
-  Target : next.planned ≡ false → next.own ≡ (entry_of t u).own → next.target.len ≡ 0 → 1 ≤ (entry_of t u).target.len
+  Target : next.planned ≡ false → next.own ≡ (entry_of t u).own → next.target.len ≡ 0 → 1
+      ≤ (entry_of t u).target.len
       → now ≤ f.c → Rests now t u f next
 
--- what the calls take for granted: there is such a state u, by the entries that are done at this tick
-pub record IsKnown (ds : List ℕ) (n now : ℕ) (f : Front) (x : List ℕ) (s : Machine) (next : Next) : Type 0 where
+-- what the calls take for granted: there is such a state u, by the entries that are done at this
+-- tick
+pub record IsKnown (ds : List ℕ) (n now : ℕ) (f : Front) (x : List ℕ) (s : Machine)
+    (next : Next) : Type 0 where
   pub table : Option ℕ
   pub state : Machine
   pub indicator : IfSome table (λ i. i < 64)
-  pub before : IsBefore now f.past x s state
+  pub before : IsStateBefore now f.past x s state
   pub is_next : IsNext ds n table state f next
 
 -- it is known by some state before it, whatever the tick, the delays, the levels and the front are
-pub record IsReady (x : List ℕ) (s : Machine) (next : Next) : Type 0 where
+pub record IsNextReady (x : List ℕ) (s : Machine) (next : Next) : Type 0 where
   pub delays : List ℕ
   pub levels : ℕ
   pub tick : ℕ
@@ -90,5 +98,5 @@ pub record IsReady (x : List ℕ) (s : Machine) (next : Next) : Type 0 where
   pub table : Option ℕ
   pub state : Machine
   pub indicator : IfSome table (λ i. i < 64)
-  pub before : IsBefore tick front.past x s state
+  pub before : IsStateBefore tick front.past x s state
   pub is_next : IsNext delays levels table state front next

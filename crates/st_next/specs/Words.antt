@@ -1,9 +1,9 @@
 -- The instruction words of an entry that are asked for so far.
 use Rattle.std.specs.Prelude.{ℕ, ◌≡◌, ◌+◌, ◌≤◌, ◌==◌, false, if◌then◌else◌, List, None}
-use Rattle.st_rows.specs.Entries.{no_words}
-use Rattle.st_rows.specs.Rows.{fetched}
+use Rattle.st_rows.specs.Entries.{no_runs}
+use Rattle.st_rows.specs.Rows.{words_tick}
 use Rattle.st_rows.specs.Asked.{Read, fetches_asked}
-use Rattle.st_rows.specs.declared.entry.Run.{Run}
+use Rattle.st_rows.specs.declared.entry.WordRun.{WordRun}
 use Rattle.st_rows.specs.declared.entry.Entry.{Entry}
 use Rattle.st_rows.specs.declared.fetching.Fetching.{Fetching}
 use Rattle.st_rows.specs.declared.front.Front.{Front}
@@ -11,38 +11,38 @@ use Rattle.st_rows.specs.declared.front.Front.{Front}
 -- ---- the words so far: a front of the entry's own words, and then of those of its target
 
 -- an entry that has these instruction words, and no other words
-abbrev pub words_alone : Run → Run → Entry
+abbrev pub words_alone : WordRun → WordRun → Entry
 words_alone own target = record {
   own = own;
   target = target;
   side = None;
-  reads = no_words;
-  writes = no_words;
+  reads = no_runs;
+  writes = no_runs;
   cost = 1;
   serial = false;
   follows = false;
 }
 
 -- what is fetched where these are its words so far
-abbrev pub words_so_far : List ℕ → Front → Run → Run → Fetching
-words_so_far ds f own target = fetched ds f (words_alone own target)
+abbrev pub words_so_far : List ℕ → Front → WordRun → WordRun → Fetching
+words_so_far ds f own target = words_tick ds f (words_alone own target)
 
 -- the reads that are asked for then
-abbrev pub asked_so_far : List ℕ → Front → Run → Run → List Read
+abbrev pub asked_so_far : List ℕ → Front → WordRun → WordRun → List Read
 asked_so_far ds f own target = fetches_asked ds f (words_alone own target)
 
 -- the first words of a run
-pub record IsStart (part whole : Run) : Type 0 where
+pub record IsStart (part whole : WordRun) : Type 0 where
   pub few : part.len ≤ whole.len
   pub first : 1 ≤ part.len → part.first ≡ whole.first
   pub none : part.len ≡ 0 → part.first ≡ 0
 
 -- the first words of an entry; those of the target come once its own are there
-pub record AreFirst (own target : Run) (e : Entry) : Type 0 where
+pub record AreFirstWords (own target : WordRun) (e : Entry) : Type 0 where
   pub own_start : IsStart own e.own
   pub target_start : IsStart target e.target
   pub all_own : 1 ≤ target.len → own ≡ e.own
 
 -- one word more
-abbrev pub with_word : Run → ℕ → Run
-with_word run w = record { first = if run.len == 0 then w else run.first; len = run.len + 1 }
+abbrev pub run_with_word : WordRun → ℕ → WordRun
+run_with_word run w = record { first = if run.len == 0 then w else run.first; len = run.len + 1 }

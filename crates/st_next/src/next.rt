@@ -5,20 +5,20 @@ ghost use Rattle.st_fetch.specs.Planned.{tick_of};
 ghost use Rattle.st_state.specs.Machine.{Machine, word};
 ghost use Rattle.st_prep.specs.Plan.{plan as plan_of};
 ghost use Rattle.st_prep.specs.Ranges.{HasFields, IsPlace, IsFetched, IsFetching, IsPrepared};
-ghost use Rattle.st_prep.specs.Reading.{reading, left_after, given as given_of, plain, is_execute};
+ghost use Rattle.st_prep.specs.Reading.{reading_at_place, left_after, fetching_of as given_of, fetched_plain, is_execute};
 ghost use Rattle.st_prep.specs.declared.entries.Fetching.TheVariants.{Found as FoundAll};
-ghost use Rattle.st_format.specs.Formats.{decoded, instruction_of, spelled_as};
+ghost use Rattle.st_format.specs.Formats.{decoded_entry, instruction_of, spelled_as};
 ghost use Rattle.st_rows.specs.Asked.{word_asked};
 ghost use Rattle.st_rows.specs.declared.front.Front.{Front as FrontAt};
-ghost use Rattle.st_rows.specs.Notes.{noted};
-ghost use Rattle.st_rows.specs.Ranges.{IsEntry};
+ghost use Rattle.st_rows.specs.Notes.{log_after_reads};
+ghost use Rattle.st_rows.specs.Ranges.{IsEntryInTime};
 ghost use Rattle.st_rows.specs.Rows.{wanted_from, fetch_word};
 ghost use Rattle.st_segment.specs.Alone.{words_of_run};
 ghost use Rattle.st_segment.specs.Entries.{above_registers as above_registers_of, words_to_read as words_to_read_of, words_to_write as words_to_write_of, side_to_read as side_to_read_of, entry as entry_at};
-ghost use Rattle.st_next.specs.Words.{words_alone, with_word as with_word_of};
-ghost use Rattle.st_next.specs.Known.{IsBefore};
-ghost use Rattle.st_next.specs.Progress.{IsKnown, IsReady, IsNext};
-ghost use Rattle.st_next.specs.Going.{IsFront, IsEarly, GoesOn, IsReadFurther, IsPreparedBy, as_entry, prepared_as};
+ghost use Rattle.st_next.specs.Words.{words_alone, run_with_word as with_word_of};
+ghost use Rattle.st_next.specs.Known.{IsStateBefore};
+ghost use Rattle.st_next.specs.Progress.{IsKnown, IsNextReady, IsNext};
+ghost use Rattle.st_next.specs.Going.{IsFrontInTime, IsEarly, GoesOnTo, IsReadFurther, IsPreparedBy, as_entry, prepared_as};
 
 use st_banks::Delays;
 use st_bits::register::FIRST_STORAGE_WORD;
@@ -27,7 +27,7 @@ use st_prep::{
     Fetched, Fetching as Given, Needs, Place, Prepared, Words, fetch_on, halves_known,
     is_execute_format, prepare_in, prepare_without_side, side_word,
 };
-use st_rows::{Bus, Entry, Fetching, Formed, Front, Log, Run, Runs};
+use st_rows::{Bus, Entry, Fetching, Formed, Front, Log, WordRun, WordRuns};
 use st_state::State;
 
 /// The entry that is prepared next, as far as it is known.
@@ -36,12 +36,14 @@ pub struct Next {
     /// Where it stands.
     pub place: Place,
     /// Its own instruction words that are asked for.
-    pub own: Run,
+    pub own: WordRun,
     /// Those of the target of EX.
-    pub target: Run,
-    /// The bus behind them, their answers, and which writers of them are awaited. The bus of an entry that is planned is behind its index-side word.
+    pub target: WordRun,
+    /// The bus behind them, their answers, and which writers of them are awaited. The bus of an
+    /// entry that is planned is behind its index-side word.
     pub words: Fetching,
-    /// Whether all of it is known but its index-side word; what follows is said of such an entry alone.
+    /// Whether all of it is known but its index-side word; what follows is said of such an entry
+    /// alone.
     pub planned: bool,
     /// What is fetched.
     pub fetched: Fetched,
@@ -84,19 +86,23 @@ impl Next {
         ensures place { self.new.place ≡ place }
         ensures own { self.new.own ≡ record { first = 0; len = 0 } }
         ensures target { self.new.target ≡ record { first = 0; len = 0 } }
-        ensures words { self.new.words ≡ record { bus = self.old.words.bus; answered = 0; awaited = 0 } }
+        ensures words { self.new.words ≡ record {
+          bus = self.old.words.bus;
+          answered = 0;
+          awaited = 0;
+        } }
         ensures unplanned { self.new.planned ≡ false }
     {
         self.place = place;
-        self.own = Run::default();
-        self.target = Run::default();
+        self.own = WordRun::default();
+        self.target = WordRun::default();
         self.words.restart();
         self.planned = false;
     }
 
     // The address of one of the words so far, 0 behind them.
     fn word_at(&self, k: u8) -> u32
-        requires words { IsEntry (words_alone self.now.own self.now.target) }
+        requires words { IsEntryInTime (words_alone self.now.own self.now.target) }
         ensures value { k < self.now.own.len + self.now.target.len → result
             ≡ get_or (words_of_run self.now.own ++ words_of_run self.now.target) k 0 }
         ensures inside { result < words_of_storage }
@@ -113,7 +119,7 @@ impl Next {
 
     // The contents of the words so far.
     fn contents(&self, state: &State) -> [u64; 4]
-        requires words { IsEntry (words_alone self.now.own self.now.target) }
+        requires words { IsEntryInTime (words_alone self.now.own self.now.target) }
         ensures { take (self.now.own.len + self.now.target.len) result
             ≡ map (word state.now) (words_of_run self.now.own ++ words_of_run self.now.target) }
     {
@@ -129,8 +135,9 @@ impl Next {
     #[inline(always)]
     fn given(&self, x: &[u64; 16], state: &State) -> Given
         requires place { IsPlace self.now.place }
-        requires words { IsEntry (words_alone self.now.own self.now.target) }
-        ensures value { result ≡ given_of (left_after (reading x.now (word state.now 3) state.now.enabled self.now.place)
+        requires words { IsEntryInTime (words_alone self.now.own self.now.target) }
+        ensures value { result ≡ given_of (left_after (reading_at_place x.now
+            (word state.now 3) state.now.enabled self.now.place)
             (map (word state.now) (words_of_run self.now.own ++ words_of_run self.now.target))) }
         ensures shape { IsFetching result }
     {
@@ -148,8 +155,9 @@ impl Next {
     #[inline(never)]
     fn given_more(&self, x: &[u64; 16], state: &State) -> Given
         requires place { IsPlace self.now.place }
-        requires words { IsEntry (words_alone self.now.own self.now.target) }
-        ensures value { result ≡ given_of (left_after (reading x.now (word state.now 3) state.now.enabled self.now.place)
+        requires words { IsEntryInTime (words_alone self.now.own self.now.target) }
+        ensures value { result ≡ given_of (left_after (reading_at_place x.now
+            (word state.now 3) state.now.enabled self.now.place)
             (map (word state.now) (words_of_run self.now.own ++ words_of_run self.now.target))) }
         ensures shape { IsFetching result }
     {
@@ -168,7 +176,7 @@ impl Next {
           words =
               fetch_word delays.now front.now.past self.old.words w from;
         } }
-        ensures log { log.new ≡ noted delays.now (word_asked
+        ensures log { log.new ≡ log_after_reads delays.now (word_asked
             (tick_of self.old.words.bus.held.words w) w
             (max (max from self.old.words.answered) self.old.words.awaited)) self.old.words.bus log.old }
     {
@@ -185,7 +193,7 @@ impl Next {
           words = fetch_word delays.now front.now.past self.old.words w (wanted_from front.now);
           own = with_word_of self.old.own w;
         } }
-        ensures log { log.new ≡ noted delays.now (word_asked
+        ensures log { log.new ≡ log_after_reads delays.now (word_asked
             (tick_of self.old.words.bus.held.words w) w
             (max (max (wanted_from front.now) self.old.words.answered) self.old.words.awaited)) self.old.words.bus log.old }
     {
@@ -204,7 +212,7 @@ impl Next {
               (max (wanted_from front.now) front.now.c);
           target = with_word_of self.old.target w;
         } }
-        ensures log { log.new ≡ noted delays.now (word_asked
+        ensures log { log.new ≡ log_after_reads delays.now (word_asked
             (tick_of self.old.words.bus.held.words w) w
             (max (max (max (wanted_from front.now) front.now.c) self.old.words.answered)
             self.old.words.awaited)) self.old.words.bus log.old }
@@ -213,20 +221,23 @@ impl Next {
         self.target = with_word(self.target, w);
     }
 
-    // The last completion that it waits for, as far as its words so far tell: that of an entry that writes one of them, or of the one before it that is
-    // done alone.
+    // The last completion that it waits for, as far as its words so far tell: that of an entry that
+    // writes one of them, or of the one before it that is done alone.
     #[inline(always)]
     fn waits_for(&self, front: &Front) -> u64
-        ensures { result ≡ max self.now.words.awaited (if front.now.serial then front.now.c else 0) }
+        ensures { result ≡ max self.now.words.awaited (if front.now.serial then front.now.c
+            else 0) }
     {
         let alone = if front.serial { front.c } else { 0 };
         self.words.awaited.max(alone)
     }
 
-    /// Plans it: its words are asked for, one after another, and with them it is prepared as far as it goes without its index-side word. It stops at a
-    /// word that an entry writes which is done at the tick `due` or later, and at one that waits for the entry before until then, and goes on behind that
-    /// word when it is called again. The result says whether it is planned. Whatever the state before it is, what is known of it stays so; where it is not
-    /// planned, nothing more of it can be known before that tick.
+    /// Plans it: its words are asked for, one after another, and with them it is prepared as far as
+    /// it goes without its index-side word. It stops at a word that an entry writes which is done
+    /// at the tick `due` or later, and at one that waits for the entry before until then, and goes
+    /// on behind that word when it is called again. The result says whether it is planned. Whatever
+    /// the state before it is, what is known of it stays so; where it is not planned, nothing more
+    /// of it can be known before that tick.
     #[inline(always)]
     pub fn plan_before(
         &mut self,
@@ -238,14 +249,18 @@ impl Next {
         delays: &Delays,
         log: &mut Log,
     ) -> bool
-        requires known { max self.old.words.awaited (if front.now.serial then front.now.c else 0) < due →
+        requires known { max self.old.words.awaited (if front.now.serial then front.now.c else 0)
+            < due →
             IsKnown delays.now levels (due - 1) front.now x.now state.now self.old }
-        requires front { IsFront levels front.now }
+        requires front { IsFrontInTime levels front.now }
         requires unplanned { self.old.planned ≡ false }
-        ensures next { GoesOn delays.now levels (due - 1) front.now x.now state.now self.old self.new due }
+
+        ensures next { GoesOnTo delays.now levels
+            (due - 1) front.now x.now state.now self.old self.new due }
         ensures further { IsReadFurther delays.now front.now self.old self.new log.old log.new }
         ensures planned { result ≡ self.new.planned }
-        ensures still { due ≤ max self.old.words.awaited (if front.now.serial then front.now.c else 0) →
+        ensures still { due ≤ max self.old.words.awaited
+            (if front.now.serial then front.now.c else 0) →
             (self.new ≡ self.old) × (log.new ≡ log.old) }
     {
         delays.shape();
@@ -260,7 +275,8 @@ impl Next {
         true
     }
 
-    // Prepares it as far as it goes without its index-side word. Mostly nothing is asked for yet: asking for the first word is straight code.
+    // Prepares it as far as it goes without its index-side word. Mostly nothing is asked for yet:
+    // asking for the first word is straight code.
     #[inline(always)]
     fn prepare_own_before(
         &mut self,
@@ -273,10 +289,12 @@ impl Next {
         log: &mut Log,
     ) -> bool
         requires known { IsKnown delays.now levels (due - 1) front.now x.now state.now self.old }
-        requires front { IsFront levels front.now }
+        requires front { IsFrontInTime levels front.now }
         requires unplanned { self.old.planned ≡ false }
         requires soon { self.old.words.awaited < due }
-        ensures next { GoesOn delays.now levels (due - 1) front.now x.now state.now self.old self.new
+
+        ensures next { GoesOnTo delays.now levels
+            (due - 1) front.now x.now state.now self.old self.new
             (if result then 0 else due) }
         ensures further { IsReadFurther delays.now front.now self.old self.new log.old log.new }
         ensures unplanned { self.new.planned ≡ false }
@@ -299,10 +317,12 @@ impl Next {
         log: &mut Log,
     )
         requires known { IsKnown delays.now levels (due - 1) front.now x.now state.now self.old }
-        requires front { IsFront levels front.now }
+        requires front { IsFrontInTime levels front.now }
         requires unplanned { self.old.planned ≡ false }
         requires soon { self.old.words.awaited < due }
-        ensures next { GoesOn delays.now levels (due - 1) front.now x.now state.now self.old self.new 0 }
+
+        ensures next { GoesOnTo delays.now levels
+            (due - 1) front.now x.now state.now self.old self.new 0 }
         ensures further { IsReadFurther delays.now front.now self.old self.new log.old log.new }
         ensures unplanned { self.new.planned ≡ false }
     {
@@ -320,8 +340,8 @@ impl Next {
         }
     }
 
-    // Prepares it as far as it goes without its index-side word, however far its words are asked for, and whatever they are. It stands once, and what it
-    // calls alone is inlined here.
+    // Prepares it as far as it goes without its index-side word, however far its words are asked
+    // for, and whatever they are. It stands once, and what it calls alone is inlined here.
     #[inline(never)]
     fn prepare_before(
         &mut self,
@@ -334,9 +354,11 @@ impl Next {
         log: &mut Log,
     ) -> bool
         requires known { IsKnown delays.now levels (due - 1) front.now x.now state.now self.old }
-        requires front { IsFront levels front.now }
+        requires front { IsFrontInTime levels front.now }
         requires unplanned { self.old.planned ≡ false }
-        ensures next { GoesOn delays.now levels (due - 1) front.now x.now state.now self.old self.new
+
+        ensures next { GoesOnTo delays.now levels
+            (due - 1) front.now x.now state.now self.old self.new
             (if result then 0 else due) }
         ensures further { IsReadFurther delays.now front.now self.old self.new log.old log.new }
         ensures unplanned { self.new.planned ≡ false }
@@ -375,9 +397,9 @@ impl Next {
     #[inline(always)]
     pub fn prepare(&mut self, x: &[u64; 16], state: &State)
         requires planned { self.old.planned ≡ true }
-        requires ready { IsReady x.now state.now self.old }
+        requires ready { IsNextReady x.now state.now self.old }
         ensures value { (ds : List ℕ) (n now : ℕ) (f : FrontAt) (t : Option ℕ) (u : Machine) →
-            IfSome t (λ i. i < 64) → IsBefore now f.past x.now state.now u →
+            IfSome t (λ i. i < 64) → IsStateBefore now f.past x.now state.now u →
             IsNext ds n t u f self.old → now ≡ self.old.formed.p →
             ((entry_at t u).serial ≡ true → u ≡ state.now) → self.new.prepared ≡ plan_of u t }
         ensures ranges { IsPrepared self.new.prepared }
@@ -393,9 +415,9 @@ impl Next {
     #[inline(never)]
     fn prepare_with_side(&mut self, x: &[u64; 16], state: &State)
         requires planned { self.old.planned ≡ true }
-        requires ready { IsReady x.now state.now self.old }
+        requires ready { IsNextReady x.now state.now self.old }
         ensures value { (ds : List ℕ) (n now : ℕ) (f : FrontAt) (t : Option ℕ) (u : Machine) →
-            IfSome t (λ i. i < 64) → IsBefore now f.past x.now state.now u →
+            IfSome t (λ i. i < 64) → IsStateBefore now f.past x.now state.now u →
             IsNext ds n t u f self.old → now ≡ self.old.formed.p →
             ((entry_at t u).serial ≡ true → u ≡ state.now) → self.new.prepared ≡ plan_of u t }
         ensures ranges { IsPrepared self.new.prepared }
@@ -407,14 +429,15 @@ impl Next {
         prepare_in(&mut self.prepared, &self.fetched, &mut after, read, state);
     }
 
-    // The instruction with its format, where its words tell all of it and it is not EX. Its words are its own.
+    // The instruction with its format, where its words tell all of it and it is not EX. Its words
+    // are its own.
     fn spelled(&self, state: &State) -> Option<Spelled>
         requires place { IsPlace self.now.place }
-        requires words { IsEntry (words_alone self.now.own self.now.target) }
+        requires words { IsEntryInTime (words_alone self.now.own self.now.target) }
         ensures found { IfSome result (λ r. (x : List ℕ) → given_of (left_after
-            (reading x (word state.now 3) state.now.enabled self.now.place)
+            (reading_at_place x (word state.now 3) state.now.enabled self.now.place)
             (map (word state.now) (words_of_run self.now.own ++ words_of_run self.now.target)))
-            ≡ FoundAll (plain (decoded r.first r.second))) }
+            ≡ FoundAll (fetched_plain (decoded_entry r.first r.second))) }
         ensures format { IfSome result (λ r. spelled_as r.format r.first r.second
             ≡ instruction_of r.first r.second) }
     {
@@ -426,11 +449,11 @@ impl Next {
     #[inline(always)]
     fn halves(&self, state: &State) -> Option<(u32, u32)>
         requires place { IsPlace self.now.place }
-        requires words { IsEntry (words_alone self.now.own self.now.target) }
+        requires words { IsEntryInTime (words_alone self.now.own self.now.target) }
         ensures { IfSome result (λ r. (x : List ℕ) → is_execute (instruction_of r.0 r.1) ≡ false →
-            given_of (left_after (reading x (word state.now 3) state.now.enabled self.now.place)
+            given_of (left_after (reading_at_place x (word state.now 3) state.now.enabled self.now.place)
             (map (word state.now) (words_of_run self.now.own ++ words_of_run self.now.target)))
-            ≡ FoundAll (plain (decoded r.0 r.1))) }
+            ≡ FoundAll (fetched_plain (decoded_entry r.0 r.1))) }
     {
         if self.target.len != 0 {
             return None;
@@ -459,13 +482,14 @@ impl Next {
         self.show();
     }
 
-    // Prepares the entry, which is this instruction, as far as it goes without its index-side word. What follows knows the format of
-    // a frequent instruction, so that it is told apart once.
+    // Prepares the entry, which is this instruction, as far as it goes without its index-side word.
+    // What follows knows the format of a frequent instruction, so that it is told apart once.
     fn prepare_spelled(&mut self, spelled: Spelled, x: &[u64; 16], state: &State)
         requires place { IsPlace self.old.place }
         requires format { spelled_as spelled.format spelled.first spelled.second
             ≡ instruction_of spelled.first spelled.second }
-        ensures value { self.new ≡ prepared_as (plain (decoded spelled.first spelled.second)) x.now
+        ensures value { self.new ≡ prepared_as (fetched_plain
+            (decoded_entry spelled.first spelled.second)) x.now
             state.now self.old }
     {
         let Spelled {
@@ -484,26 +508,27 @@ impl Next {
                 let format = Format::Whole(FullOp::Variable(op));
                 self.prepare_own(decode_as(format, first, second), x, state)
             }
-            _ => self.prepare_seldom(decode_as(format, first, second), x, state),
+            _ => self.prepare_cold(decode_as(format, first, second), x, state),
         }
     }
 
     // The same of an instruction that is not frequent.
     #[inline(never)]
-    fn prepare_seldom(&mut self, own: Decoded, x: &[u64; 16], state: &State)
+    fn prepare_cold(&mut self, own: Decoded, x: &[u64; 16], state: &State)
         requires place { IsPlace self.old.place }
         requires fields { HasFields own.instr }
-        ensures value { self.new ≡ prepared_as (plain own) x.now state.now self.old }
+        ensures value { self.new ≡ prepared_as (fetched_plain own) x.now state.now self.old }
     {
         self.prepare_own(own, x, state);
     }
 
-    // The same of any instruction. What is fetched is kept field by field, before it is read, so that no copy of it is made with tests.
+    // The same of any instruction. What is fetched is kept field by field, before it is read, so
+    // that no copy of it is made with tests.
     #[inline(always)]
     fn prepare_own(&mut self, own: Decoded, x: &[u64; 16], state: &State)
         requires place { IsPlace self.old.place }
         requires fields { HasFields own.instr }
-        ensures value { self.new ≡ prepared_as (plain own) x.now state.now self.old }
+        ensures value { self.new ≡ prepared_as (fetched_plain own) x.now state.now self.old }
     {
         let fetched = Fetched {
             instr: own,
@@ -540,7 +565,8 @@ impl Next {
 #[inline(always)]
 fn spelled_unless_execute(first: u32, second: u32) -> Option<Spelled>
     ensures same { IfSome result (λ r. (r.first ≡ first) × (r.second ≡ second)) }
-    ensures format { IfSome result (λ r. spelled_as r.format first second ≡ instruction_of first second) }
+    ensures format { IfSome result (λ r. spelled_as r.format first second
+        ≡ instruction_of first second) }
     ensures plain { IfSome result (λ r. is_execute (instruction_of first second) ≡ false) }
 {
     let format = format_of(first, second);
@@ -555,12 +581,12 @@ fn spelled_unless_execute(first: u32, second: u32) -> Option<Spelled>
 }
 
 // A run with one word more.
-fn with_word(run: Run, w: u32) -> Run
+fn with_word(run: WordRun, w: u32) -> WordRun
     requires { run.len ≤ 16 }
     ensures { result ≡ with_word_of run w }
 {
     let first = if run.len == 0 { w } else { run.first };
-    Run {
+    WordRun {
         first,
         len: run.len + 1,
     }
@@ -568,12 +594,12 @@ fn with_word(run: Run, w: u32) -> Run
 
 // A run of words without the registers at its front.
 #[tactic(auto, unfolding(st_segment::specs::Entries::above_registers))]
-fn above_registers(first: u32, len: u8) -> Run
+fn above_registers(first: u32, len: u8) -> WordRun
     ensures { result ≡ above_registers_of first len }
 {
     let above = first.max(FIRST_STORAGE_WORD);
     let registers = (above - first) as u8;
-    Run {
+    WordRun {
         first: above,
         len: len.saturating_sub(registers),
     }
@@ -581,25 +607,25 @@ fn above_registers(first: u32, len: u8) -> Run
 
 // The operand words that make reads.
 #[tactic(auto, unfolding(st_segment::specs::Entries::words_to_read))]
-fn words_to_read(words: Words) -> Runs
+fn words_to_read(words: Words) -> WordRuns
     ensures { result ≡ words_to_read_of words }
 {
-    Runs {
+    WordRuns {
         one: above_registers(words.first, words.len),
         two: above_registers(words.first2, words.len2),
     }
 }
 
 // The words that are written.
-fn words_to_write(words: Words) -> Runs
+fn words_to_write(words: Words) -> WordRuns
     ensures { result ≡ words_to_write_of words }
 {
-    Runs {
-        one: Run {
+    WordRuns {
+        one: WordRun {
             first: words.first,
             len: words.len,
         },
-        two: Run {
+        two: WordRun {
             first: words.first2,
             len: words.len2,
         },

@@ -5,10 +5,10 @@ use Rattle.std.specs.Option.{option_map_or}
 use Rattle.std.proofs.lemmas.Bool.{eqb-true}
 use Rattle.std.proofs.lemmas.Bool.Decides.{nat_tests}
 use Rattle.st_text.specs.Bytes.{lf}
-use Rattle.st_text.specs.Pieces.{parted, lacks}
-use Rattle.st_object.specs.Lines.{text_of}
-use Rattle.st_object.specs.Draft.{Draft, blank, IsDraft, is_empty, lines_of, is_whole}
-use Rattle.st_object.specs.Object.{Program, IsProgram, AreWords, object_text, program_of, with_line, read_from, read_text, lines_in, text_lines}
+use Rattle.st_text.specs.Pieces.{pieces_of, lacks}
+use Rattle.st_object.specs.Lines.{object_text_of}
+use Rattle.st_object.specs.Draft.{Draft, draft_at_start, IsDraft, is_empty, lines_read, is_whole}
+use Rattle.st_object.specs.Object.{Program, IsProgram, AreWords, object_text, program_of, draft_with_line, read_from, read_text, lines_in, text_lines}
 use Rattle.st_object.specs.declared.items.Item.{Item}
 use Rattle.st_object.proofs.LineByLine.{read_step, IsGood, good_line}
 use Rattle.st_object.proofs.WholeDrafts.{whole_program, whole_words, whole_lines_of}
@@ -28,11 +28,11 @@ pub record Cut (text : List ℕ) : Type 0 where
   pub lines : List (List ℕ)
   pub rest : List ℕ
   pub lacking : AreLines (lines ++ rest ∷ [])
-  pub pieces : parted 10 text ≡ lines ++ rest ∷ []
+  pub pieces : pieces_of 10 text ≡ lines ++ rest ∷ []
   pub whole : text ≡ closed lines ++ rest
 
 cut_more : (c : ℕ) (cs : List ℕ) (lines : List (List ℕ)) (rest : List ℕ) → (c == 10) ≡ false → AreLines (lines ++ rest ∷ []) →
-    parted 10 cs ≡ lines ++ rest ∷ [] → cs ≡ closed lines ++ rest → Cut (c ∷ cs)
+    pieces_of 10 cs ≡ lines ++ rest ∷ [] → cs ≡ closed lines ++ rest → Cut (c ∷ cs)
 cut_more c cs [] rest other lacking pieces whole =
     record { lines = []; rest = c ∷ rest; lacking = (rw other lacking.0, tt); pieces = rw (other, pieces); whole = rw whole }
 cut_more c cs (line ∷ lines) rest other lacking pieces whole =
@@ -63,15 +63,15 @@ pub record ReadsOn (d : Draft) (front : List (List ℕ)) : Type 0 where
   pub last : Draft
   pub draft : IsDraft last
   pub orderly : IsOrderly last
-  pub before : text_of (lines_of last) ≡ text_of (lines_of d) ++ closed front
+  pub before : object_text_of (lines_read last) ≡ object_text_of (lines_read d) ++ closed front
 
 abbrev no_line_on : (d : Draft) → IsDraft d → IsOrderly d → ReadsOn d []
-no_line_on d draft orderly = record { last = d; draft = draft; orderly = orderly; before = sym (append-nil (text_of (lines_of d))) }
+no_line_on d draft orderly = record { last = d; draft = draft; orderly = orderly; before = sym (append-nil (object_text_of (lines_read d))) }
 
 abbrev line_on : (d e : Draft) (line : List ℕ) (front : List (List ℕ)) → IsGood d e line → ReadsOn e front → ReadsOn d (line ∷ front)
 line_on d e line front good on =
     let regrouped : (a l b : List ℕ) → (a ++ l ++ 10 ∷ []) ++ b ≡ a ++ ((l ++ 10 ∷ []) ++ b) = λ a l b. simp append_assoc in
-    let before = on.before ∙ (ap (λ (s : List ℕ). s ++ closed front) good.behind ∙ regrouped (text_of (lines_of d)) line (closed front)) in
+    let before = on.before ∙ (ap (λ (s : List ℕ). s ++ closed front) good.behind ∙ regrouped (object_text_of (lines_read d)) line (closed front)) in
     record { last = on.last; draft = on.draft; orderly = on.orderly; before = before }
 
 -- lines that are read as a program
@@ -93,7 +93,7 @@ abbrev pub Outcome : Draft → ℕ → List (List ℕ) → List ℕ → List (Li
 Outcome d n lines rest all (Ok p) = Accepts d lines rest p
 Outcome d n lines rest all (Err m) = Refuses d n all m
 
-bad_at_once : (d : Draft) (n : ℕ) (line : List ℕ) (more : List (List ℕ)) → IsDraft d → IsOrderly d → with_line d line ≡ None → Refuses d n (line ∷ more) n
+bad_at_once : (d : Draft) (n : ℕ) (line : List ℕ) (more : List (List ℕ)) → IsDraft d → IsOrderly d → draft_with_line d line ≡ None → Refuses d n (line ∷ more) n
 bad_at_once d n line more draft orderly bad =
     record { good = 0; counted = omega arith; within = omega arith; on = no_line_on d draft orderly; bad = λ inside next rest. rw bad }
 
@@ -104,7 +104,7 @@ bad_at_end d n draft orderly =
 
 -- a good line before the others
 line_before : (d e : Draft) (n : ℕ) (line : List ℕ) (lines : List (List ℕ)) (rest : List ℕ) (all : List (List ℕ)) (r : Result Program ℕ) →
-    with_line d line ≡ Some e → Outcome e (n + 1) lines rest all r → Outcome d n (line ∷ lines) rest (line ∷ all) r
+    draft_with_line d line ≡ Some e → Outcome e (n + 1) lines rest all r → Outcome d n (line ∷ lines) rest (line ∷ all) r
 line_before d e n line lines rest all (Ok p) good later =
     record { on = line_on d e line lines (good_line d e line good) later.on; none = later.none; ended = later.ended; program = later.program }
 line_before d e n line lines rest all (Err m) good later = record {
@@ -125,17 +125,17 @@ read_on [] d n [] draft orderly = go (is_whole d) refl
     go : (b : Bool) → is_whole d ≡ b → Outcome d n [] [] [] (if b then Ok (program_of d) else Err n)
     go true ended = record { on = no_line_on d draft orderly; none = refl; ended = ended; program = refl }
     go false lacking = bad_at_end d n draft orderly
-read_on [] d n (c ∷ cs) draft orderly = rw (not_empty c cs) (go (with_line d (c ∷ cs)) refl)
+read_on [] d n (c ∷ cs) draft orderly = rw (not_empty c cs) (go (draft_with_line d (c ∷ cs)) refl)
   where
-    go : (o : Option Draft) → with_line d (c ∷ cs) ≡ o → Outcome d n [] (c ∷ cs) ((c ∷ cs) ∷ []) (if is_some o then Err (n + 1) else Err n)
+    go : (o : Option Draft) → draft_with_line d (c ∷ cs) ≡ o → Outcome d n [] (c ∷ cs) ((c ∷ cs) ∷ []) (if is_some o then Err (n + 1) else Err n)
     go None bad = bad_at_once d n (c ∷ cs) [] draft orderly bad
     go (Some e) good =
         let is = good_line d e (c ∷ cs) good in
         line_before d e n (c ∷ cs) [] [] [] (Err (n + 1)) good (bad_at_end e (n + 1) (is.kept draft) is.orderly)
 read_on (line ∷ lines) d n rest draft orderly =
-    rw (read_step d n line rest lines []) (go (with_line d line) refl (λ e later_draft later_orderly. read_on lines e (n + 1) rest later_draft later_orderly))
+    rw (read_step d n line rest lines []) (go (draft_with_line d line) refl (λ e later_draft later_orderly. read_on lines e (n + 1) rest later_draft later_orderly))
   where
-    go : (o : Option Draft) → with_line d line ≡ o →
+    go : (o : Option Draft) → draft_with_line d line ≡ o →
         ((e : Draft) → IsDraft e → IsOrderly e → Outcome e (n + 1) lines rest (lines ++ last_line rest) (read_from e (n + 1) (lines ++ rest ∷ []))) →
         Outcome d n (line ∷ lines) rest (line ∷ lines ++ last_line rest) (option_map_or (λ e. read_from e (n + 1) (lines ++ rest ∷ [])) o (Err n))
     go None bad on = bad_at_once d n line (lines ++ last_line rest) draft orderly bad
@@ -143,14 +143,14 @@ read_on (line ∷ lines) d n rest draft orderly =
         let is = good_line d e line good in
         line_before d e n line lines rest (lines ++ last_line rest) (read_from e (n + 1) (lines ++ rest ∷ [])) good (on e (is.kept draft) is.orderly)
 
-blank_draft : IsDraft blank
+blank_draft : IsDraft draft_at_start
 blank_draft = search (rules, arith)
 
 -- what reading a whole text leads to
-pub outcome : (text : List ℕ) (r : Result Program ℕ) → read_text text ≡ r → Outcome blank 1 (cut text).lines (cut text).rest (text_lines text) r
+pub outcome : (text : List ℕ) (r : Result Program ℕ) → read_text text ≡ r → Outcome draft_at_start 1 (cut text).lines (cut text).rest (text_lines text) r
 unfolding read_text
 outcome text r read =
-    let c = cut text in rw (← read, c.pieces, lines_in_all c.lines c.rest) (read_on c.lines blank 1 c.rest blank_draft blank_orderly)
+    let c = cut text in rw (← read, c.pieces, lines_in_all c.lines c.rest) (read_on c.lines draft_at_start 1 c.rest blank_draft blank_orderly)
 
 -- a text that is read is the object text of a program
 pub record IsRead (text : List ℕ) (p : Program) : Type 0 where
@@ -161,8 +161,8 @@ pub record IsRead (text : List ℕ) (p : Program) : Type 0 where
 pub accepted : (text : List ℕ) (p : Program) → read_text text ≡ Ok p → IsRead text p
 accepted text p read =
     let c = cut text in
-    let is : Accepts blank c.lines c.rest p = outcome text (Ok p) read in
-    let lines = ap (λ (s : List Item). text_of s) (sym (whole_lines_of is.on.last is.ended)) ∙ ap (λ (q : Program). object_text q) is.program in
+    let is : Accepts draft_at_start c.lines c.rest p = outcome text (Ok p) read in
+    let lines = ap (λ (s : List Item). object_text_of s) (sym (whole_lines_of is.on.last is.ended)) ∙ ap (λ (q : Program). object_text q) is.program in
     record {
       program = rw is.program at (whole_program is.on.last is.on.draft is.ended);
       words = subst (λ (q : Program). AreWords q.words) is.program (whole_words is.on.last is.on.draft);

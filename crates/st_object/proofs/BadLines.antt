@@ -4,9 +4,9 @@ use Rattle.std.proofs.lemmas.Bool.{cond_both}
 use Rattle.std.proofs.lemmas.List.{take-append-drop, take-take}
 use Rattle.std.proofs.lemmas.List.Concat.{flat_map-append}
 use Rattle.st_text.specs.Bytes.{lf}
-use Rattle.st_text.specs.Pieces.{parted}
+use Rattle.st_text.specs.Pieces.{pieces_of}
 use Rattle.st_text.proofs.PieceLemmas.{first_piece}
-use Rattle.st_object.specs.Draft.{blank, is_empty}
+use Rattle.st_object.specs.Draft.{draft_at_start, is_empty}
 use Rattle.st_object.specs.Object.{Program, IsProgram, object_text, read_from, read_text, text_lines, BeginsObjectText, IsBadLine}
 use Rattle.st_object.specs.Answers.{Gives, NamesBadLine}
 use Rattle.st_object.specs.declared.reading.ObjectError.{ObjectError}
@@ -26,7 +26,7 @@ taken_lines (suc n) [] are = tt
 taken_lines (suc n) (line ∷ more) are = (are.0, taken_lines n more are.1)
 
 -- lines that a text begins with
-parted-closed : (lines : List (List ℕ)) (rest : List ℕ) → AreLines lines → parted 10 (closed lines ++ rest) ≡ lines ++ parted 10 rest
+parted-closed : (lines : List (List ℕ)) (rest : List ℕ) → AreLines lines → pieces_of 10 (closed lines ++ rest) ≡ lines ++ pieces_of 10 rest
 parted-closed [] rest are = refl
 parted-closed (line ∷ more) rest are =
     let here = parted_line line (closed more ++ rest) are.0 in
@@ -37,17 +37,17 @@ not_both p n r read refused = cc
 
 -- lines that are refused whatever stands behind them begin no object text
 not_front : (lines : List (List ℕ)) (n : ℕ) → AreLines lines →
-    ((next : List ℕ) (more : List (List ℕ)) → read_from blank 1 (lines ++ next ∷ more) ≡ Err n) → BeginsObjectText (closed lines) → ⊥
+    ((next : List ℕ) (more : List (List ℕ)) → read_from draft_at_start 1 (lines ++ next ∷ more) ≡ Err n) → BeginsObjectText (closed lines) → ⊥
 unfolding read_text
 not_front lines n are bad front =
     let first = first_piece 10 front.3 in
     not_both front.0 n (read_text (object_text front.0)) (read_back front.0 front.1 front.2)
-    (ap (λ (s : List ℕ). read_from blank 1 (parted 10 s)) front.4 ∙ rw (parted-closed lines front.3 are, first.1.1) (bad first.0 first.1.0))
+    (ap (λ (s : List ℕ). read_from draft_at_start 1 (pieces_of 10 s)) front.4 ∙ rw (parted-closed lines front.3 are, first.1.1) (bad first.0 first.1.0))
 
 -- the named line is the first bad one
 pub bad_line : (text : List ℕ) (n : ℕ) → read_text text ≡ Err n → IsBadLine text n
 bad_line text n read =
-    let is : Refuses blank 1 (text_lines text) n = outcome text (Err n) read in
+    let is : Refuses draft_at_start 1 (text_lines text) n = outcome text (Err n) read in
     let c = cut text in
     let are : AreLines (text_lines text) = rw (c.pieces, lines_in_all c.lines c.rest) (all_lines c.lines c.rest c.lacking) in
     let before : n - 1 ≡ is.good = omega (arith, is.counted) in

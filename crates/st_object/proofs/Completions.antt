@@ -6,9 +6,9 @@ use Rattle.std.proofs.lemmas.List.Sums.{AllPass-from_list_all}
 use Rattle.std.specs.List.{flat_map}
 use Rattle.st_card.specs.Controls.{is_in_range}
 use Rattle.st_card.specs.Limits.{AreDelays}
-use Rattle.st_object.specs.Order.{order, row, before, behind, kind_of, is_met, are_met, none_stands}
-use Rattle.st_object.specs.Draft.{Draft, blank, IsDraft, is_empty, kind_lines, lines_of, stands, is_whole, with_item}
-use Rattle.st_object.specs.Lines.{text_of}
+use Rattle.st_object.specs.Order.{order, row_of_kind, kinds_before, kinds_behind, kind_of_line, is_met, are_met, none_stands}
+use Rattle.st_object.specs.Draft.{Draft, draft_at_start, IsDraft, is_empty, kind_lines, lines_read, has_line, is_whole, with_item}
+use Rattle.st_object.specs.Lines.{object_text_of}
 use Rattle.st_object.specs.Object.{program_of, BeginsObjectText}
 use Rattle.st_object.specs.declared.items.Item.{Item}
 use Rattle.st_object.specs.declared.items.Kind.{Kind}
@@ -19,19 +19,19 @@ use Rattle.st_object.proofs.WholeDrafts.{start_small, whole_program, whole_words
 -- behind the first kind that must stand and does not, none does
 abbrev orderly : Draft → List Kind → Bool
 orderly d [] = true
-orderly d (kind ∷ more) = if is_met (stands d) kind then orderly d more else none_stands (stands d) (kind ∷ more)
+orderly d (kind ∷ more) = if is_met (has_line d) kind then orderly d more else none_stands (has_line d) (kind ∷ more)
 
 abbrev pub IsOrderly : Draft → Type 0
 IsOrderly d = orderly d order ≡ true
 
-pub blank_orderly : IsOrderly blank
+pub blank_orderly : IsOrderly draft_at_start
 blank_orderly = refl
 
-none_orderly : (d : Draft) (kinds : List Kind) → none_stands (stands d) kinds ≡ true → orderly d kinds ≡ true
+none_orderly : (d : Draft) (kinds : List Kind) → none_stands (has_line d) kinds ≡ true → orderly d kinds ≡ true
 none_orderly d [] none = refl
 none_orderly d (kind ∷ more) none = grind (arith, none_orderly d more)
 
-met_orderly : (d : Draft) (xs ys : List Kind) → are_met (stands d) xs ≡ true → orderly d ys ≡ true → orderly d (xs ++ ys) ≡ true
+met_orderly : (d : Draft) (xs ys : List Kind) → are_met (has_line d) xs ≡ true → orderly d ys ≡ true → orderly d (xs ++ ys) ≡ true
 met_orderly d [] ys met later = later
 met_orderly d (kind ∷ xs) ys met later = grind (arith, met_orderly d xs ys)
 
@@ -39,11 +39,11 @@ met_orderly d (kind ∷ xs) ys met later = grind (arith, met_orderly d xs ys)
 put_orderly : (kind : Kind) (d e : Draft) (item : Item) → IsPut kind d item e → IsOrderly e
 put_orderly kind d e item is =
     subst (λ ks. orderly e ks ≡ true) (cut kind)
-    (met_orderly e (before kind) (kind ∷ behind kind) is.met
-    (rw (or_right (not (row kind).required) (stands e kind) is.there) (none_orderly e (behind kind) is.none_now)))
+    (met_orderly e (kinds_before kind) (kind ∷ kinds_behind kind) is.met
+    (rw (or_right (not (row_of_kind kind).required) (has_line e kind) is.there) (none_orderly e (kinds_behind kind) is.none_now)))
 
 pub ordered : (d e : Draft) (item : Item) → with_item d item ≡ Some e → IsOrderly e
-ordered d e item same = put_orderly (kind_of item) d e item (added d e item same)
+ordered d e item same = put_orderly (kind_of_line item) d e item (added d e item same)
 
 -- a draft with all that must stand
 abbrev completion : Draft → Draft
@@ -58,7 +58,7 @@ completion d = record {
   ended = true;
 }
 
-met_kept : (d : Draft) (kind : Kind) → is_met (stands d) kind ≡ true → kind_lines (completion d) kind ≡ kind_lines d kind
+met_kept : (d : Draft) (kind : Kind) → is_met (has_line d) kind ≡ true → kind_lines (completion d) kind ≡ kind_lines d kind
 met_kept d kind met = grind arith
 
 -- its lines go on behind those that were read
@@ -67,10 +67,10 @@ GoesOn d kinds = (more : List Item) × (flat_map (λ k. kind_lines (completion d
 
 goes_on : (d : Draft) (kinds : List Kind) → orderly d kinds ≡ true → GoesOn d kinds
 goes_on d [] orders = ([], refl)
-goes_on d (kind ∷ kinds) orders = go (is_met (stands d) kind) refl (λ later_orders. goes_on d kinds later_orders) orders
+goes_on d (kind ∷ kinds) orders = go (is_met (has_line d) kind) refl (λ later_orders. goes_on d kinds later_orders) orders
   where
-    go : (b : Bool) → is_met (stands d) kind ≡ b → (orderly d kinds ≡ true → GoesOn d kinds) →
-        (if b then orderly d kinds else none_stands (stands d) (kind ∷ kinds)) ≡ true → GoesOn d (kind ∷ kinds)
+    go : (b : Bool) → is_met (has_line d) kind ≡ b → (orderly d kinds ≡ true → GoesOn d kinds) →
+        (if b then orderly d kinds else none_stands (has_line d) (kind ∷ kinds)) ≡ true → GoesOn d (kind ∷ kinds)
     go true met on later_orders = let later = on later_orders in (later.0, rw (met_kept d kind met, later.1, append_assoc))
     go false lacking on none = (flat_map (λ k. kind_lines (completion d) k) (kind ∷ kinds), rw (no_lines_of d (kind ∷ kinds) none))
 
@@ -94,11 +94,11 @@ unfolding is_whole
 completion_whole d = grind (arith, nat_tests)
 
 -- lines that were read begin an object text
-pub begins : (d : Draft) (front : List ℕ) → IsDraft d → IsOrderly d → text_of (lines_of d) ≡ front → BeginsObjectText front
+pub begins : (d : Draft) (front : List ℕ) → IsDraft d → IsOrderly d → object_text_of (lines_read d) ≡ front → BeginsObjectText front
 begins d front draft orders same =
     let last = completion d in
     let is = completion_draft d draft in
     let whole = completion_whole d in
     let on = goes_on d order orders in
-    let text = ap (λ (s : List Item). text_of s) (whole_lines_of last whole ∙ on.1) ∙ (text_of-append (lines_of d) on.0 ∙ rw same) in
-    (program_of last, whole_program last is whole, whole_words last is, text_of on.0, text)
+    let text = ap (λ (s : List Item). object_text_of s) (whole_lines_of last whole ∙ on.1) ∙ (text_of-append (lines_read d) on.0 ∙ rw same) in
+    (program_of last, whole_program last is whole, whole_words last is, object_text_of on.0, text)

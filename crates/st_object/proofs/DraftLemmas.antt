@@ -13,7 +13,7 @@ use Rattle.st_card.specs.declared.keywords.Keyword.{Keyword}
 use Rattle.st_card.specs.declared.keywords.Keyword.TheVariants as keywords
 use Rattle.st_card.specs.Limits.{is_tick, IsWithinLimits}
 use Rattle.st_card.proofs.LimitLemmas.{budget-kept, delays-kept, signal-kept, dump-kept, trace-kept, time-kept, chart-kept, snap-kept, back-kept}
-use Rattle.st_object.specs.Draft.{Draft, IsDraft, may_hold, with_order, with_value, with_item}
+use Rattle.st_object.specs.Draft.{Draft, IsDraft, may_hold, draft_with_order, draft_with_value, with_item}
 use Rattle.st_object.specs.declared.items.Item.{Item}
 use Rattle.st_object.specs.declared.items.Item.TheVariants.{Object, Start, Word, Budget, Delay, Signal, Dump, Trace, Time, Chart, Snap, Back, Fin}
 use Rattle.st_object.proofs.LineMeanings.{IsNarrow}
@@ -49,7 +49,7 @@ unlisted : (keyword : Keyword) (old new : Asked) (numbers : List ℕ) → (keywo
 unlisted keyword old new numbers other same = grind arith
 
 -- what is asked for, where it is within its limits
-kept_asked : (d e : Draft) (place : Bool) (keyword : Keyword) (numbers : List ℕ) → (if place then with_order d keyword numbers else None) ≡ Some e →
+kept_asked : (d e : Draft) (place : Bool) (keyword : Keyword) (numbers : List ℕ) → (if place then draft_with_order d keyword numbers else None) ≡ Some e →
     (keyword ≡ keywords.Listing → ⊥) →
     ((new : Asked) → with_keyword keyword d.asked numbers ≡ Some new → IsWithinLimits d.asked → IsWithinLimits new) → IsDraft d → IsDraft e
 kept_asked d e place keyword numbers same other limits draft =
@@ -67,7 +67,7 @@ by_value d e new place test same holds = grind arith
 
 -- each line that is added keeps what holds of drafts
 pub kept : (d e : Draft) (item : Item) → with_item d item ≡ Some e → IsNarrow item → IsDraft d → IsDraft e
-unfolding with_value
+unfolding draft_with_value
 kept d e Object same narrow draft = by_value d e (record d { begun = true }) _ true same (λ placed test. assumption)
 kept d e (Start h) same narrow draft = by_value d e (record d { start = Some h }) _ (nat_lt h (2 ^ 19)) same
     (λ placed fits. let small = below h (2 ^ 19) fits in assumption)

@@ -6,8 +6,8 @@ use Rattle.std.proofs.lemmas.Bool.Decides.{nat_tests}
 use Rattle.std.proofs.lemmas.Grind.{common_steps}
 use Rattle.std.specs.List.{flat_map}
 use Rattle.st_object.specs.Lines.{word_lines}
-use Rattle.st_object.specs.Order.{order, row, before, behind, kind_of, are_met, none_stands}
-use Rattle.st_object.specs.Draft.{Draft, is_empty, kind_lines, lines_of, stands, has_place, with_value, with_item}
+use Rattle.st_object.specs.Order.{order, row_of_kind, kinds_before, kinds_behind, kind_of_line, are_met, none_stands}
+use Rattle.st_object.specs.Draft.{Draft, is_empty, kind_lines, lines_read, has_line, has_place, draft_with_value, with_item}
 use Rattle.st_object.specs.declared.items.Item.{Item}
 use Rattle.st_object.specs.declared.items.Item.TheVariants.{Object, Start, Word, Budget, Delay, Signal, Dump, Trace, Time, Chart, Snap, Back, Fin}
 use Rattle.st_object.specs.declared.items.Kind.{Kind}
@@ -17,25 +17,25 @@ none_of : {X : Type 0} (xs : List X) → (length xs == 0) ≡ true → xs ≡ []
 none_of [] none = refl
 none_of (x ∷ xs) none = grind (arith, nat_tests)
 
-no_lines : (d : Draft) (kind : Kind) → not (stands d kind) ≡ true → kind_lines d kind ≡ []
+no_lines : (d : Draft) (kind : Kind) → not (has_line d kind) ≡ true → kind_lines d kind ≡ []
 no_lines d kind off = grind (arith, nat_tests, none_of)
 
-pub no_lines_of : (d : Draft) (kinds : List Kind) → none_stands (stands d) kinds ≡ true → flat_map (λ kind. kind_lines d kind) kinds ≡ []
+pub no_lines_of : (d : Draft) (kinds : List Kind) → none_stands (has_line d) kinds ≡ true → flat_map (λ kind. kind_lines d kind) kinds ≡ []
 no_lines_of d [] off = refl
 no_lines_of d (kind ∷ more) off = grind (arith, no_lines d, no_lines_of d more)
 
 -- the order, cut at a kind
-pub cut : (kind : Kind) → before kind ++ kind ∷ behind kind ≡ order
+pub cut : (kind : Kind) → kinds_before kind ++ kind ∷ kinds_behind kind ≡ order
 cut kind = grind arith
 
 -- a line that was put in: what stands before its kind is as it was, it is the last of its kind, and nothing stands behind
 pub record IsPut (kind : Kind) (d : Draft) (item : Item) (e : Draft) : Type 0 where
-  pub front : flat_map (λ k. kind_lines e k) (before kind) ≡ flat_map (λ k. kind_lines d k) (before kind)
+  pub front : flat_map (λ k. kind_lines e k) (kinds_before kind) ≡ flat_map (λ k. kind_lines d k) (kinds_before kind)
   pub here : kind_lines e kind ≡ kind_lines d kind ++ item ∷ []
-  pub there : stands e kind ≡ true
-  pub met : are_met (stands e) (before kind) ≡ true
-  pub none_then : none_stands (stands d) (behind kind) ≡ true
-  pub none_now : none_stands (stands e) (behind kind) ≡ true
+  pub there : has_line e kind ≡ true
+  pub met : are_met (has_line e) (kinds_before kind) ≡ true
+  pub none_then : none_stands (has_line d) (kinds_behind kind) ≡ true
+  pub none_now : none_stands (has_line e) (kinds_behind kind) ≡ true
 
 -- what a place tells: what must stand before does, nothing stands behind, and what may not repeat does not stand
 place_parts : (met repeats here none : Bool) → (met && (repeats || not here) && none) ≡ true →
@@ -44,22 +44,22 @@ place_parts met repeats here none placed = grind arith
 
 -- what stands before a kind and behind it
 abbrev beside : Draft → Kind → List Item × (Bool × Bool)
-beside d kind = (flat_map (λ k. kind_lines d k) (before kind), (are_met (stands d) (before kind), none_stands (stands d) (behind kind)))
+beside d kind = (flat_map (λ k. kind_lines d k) (kinds_before kind), (are_met (has_line d) (kinds_before kind), none_stands (has_line d) (kinds_behind kind)))
 
 -- lines up to a kind behind which nothing stands
-lines_up_to : (kind : Kind) (d : Draft) → none_stands (stands d) (behind kind) ≡ true →
-    lines_of d ≡ flat_map (λ k. kind_lines d k) (before kind) ++ kind_lines d kind
+lines_up_to : (kind : Kind) (d : Draft) → none_stands (has_line d) (kinds_behind kind) ≡ true →
+    lines_read d ≡ flat_map (λ k. kind_lines d k) (kinds_before kind) ++ kind_lines d kind
 lines_up_to kind d none =
     ap (λ ks. flat_map (λ k. kind_lines d k) ks) (sym (cut kind))
-    ∙ rw (flat_map-append (λ k. kind_lines d k) (before kind) (kind ∷ behind kind), no_lines_of d (behind kind) none, append-nil)
+    ∙ rw (flat_map-append (λ k. kind_lines d k) (kinds_before kind) (kind ∷ kinds_behind kind), no_lines_of d (kinds_behind kind) none, append-nil)
 
 abbrev Grows : List Item → List Item → Item → Type 0
 Grows old new item = new ≡ old ++ item ∷ []
 
-put_last : (kind : Kind) (d e : Draft) (item : Item) → IsPut kind d item e → Grows (lines_of d) (lines_of e) item
+put_last : (kind : Kind) (d e : Draft) (item : Item) → IsPut kind d item e → Grows (lines_read d) (lines_read e) item
 put_last kind d e item is =
     lines_up_to kind e is.none_now
-    ∙ rw (is.front, is.here, ← append_assoc (flat_map (λ k. kind_lines d k) (before kind)) (kind_lines d kind) (item ∷ []))
+    ∙ rw (is.front, is.here, ← append_assoc (flat_map (λ k. kind_lines d k) (kinds_before kind)) (kind_lines d kind) (item ∷ []))
     (ap (λ (s : List Item). s ++ item ∷ []) (sym (lines_up_to kind d is.none_then)))
 
 -- a further one
@@ -102,29 +102,29 @@ said d (Back k) = record d { asked = record d.asked { back = k } }
 said d Fin = record d { ended = true }
 
 -- what is put in is that
-value_said : (d e : Draft) (item : Item) → with_value d item ≡ Some e → said d item ≡ e
-unfolding with_value
+value_said : (d e : Draft) (item : Item) → draft_with_value d item ≡ Some e → said d item ≡ e
+unfolding draft_with_value
 value_said d e item same = grind arith
 
 -- it changes the lines of its kind alone, and is the last of them
-beside_said : (d : Draft) (item : Item) → beside (said d item) (kind_of item) ≡ beside d (kind_of item)
+beside_said : (d : Draft) (item : Item) → beside (said d item) (kind_of_line item) ≡ beside d (kind_of_line item)
 beside_said d item = grind arith
 
 abbrev IsLast : Draft → Item → Type 0
-IsLast d item = (Grows (kind_lines d (kind_of item)) (kind_lines (said d item) (kind_of item)) item) × (stands (said d item) (kind_of item) ≡ true)
+IsLast d item = (Grows (kind_lines d (kind_of_line item)) (kind_lines (said d item) (kind_of_line item)) item) × (has_line (said d item) (kind_of_line item) ≡ true)
 
-said_last : (d e : Draft) (item : Item) → with_value d item ≡ Some e → ((row (kind_of item)).repeats ≡ false → kind_lines d (kind_of item) ≡ []) → IsLast d item
-unfolding with_value
+said_last : (d e : Draft) (item : Item) → draft_with_value d item ≡ Some e → ((row_of_kind (kind_of_line item)).repeats ≡ false → kind_lines d (kind_of_line item) ≡ []) → IsLast d item
+unfolding draft_with_value
 said_last d e item same first = grind (arith, nat_tests, word_more, filled_more, mapped_more)
 
 -- each line that is added is put in
-pub added : (d e : Draft) (item : Item) → with_item d item ≡ Some e → IsPut (kind_of item) d item e
+pub added : (d e : Draft) (item : Item) → with_item d item ≡ Some e → IsPut (kind_of_line item) d item e
 unfolding has_place
 added d e item same =
-    let kind : Kind = kind_of item in
+    let kind : Kind = kind_of_line item in
     let given : (b : Bool) (o : Option Draft) → (if b then o else None) ≡ Some e → (b ≡ true) × (o ≡ Some e) = λ b o is. grind arith in
-    let parts = given (has_place d kind) (with_value d item) same in
-    let places = place_parts (are_met (stands d) (before kind)) (row kind).repeats (stands d kind) _ parts.0 in
+    let parts = given (has_place d kind) (draft_with_value d item) same in
+    let places = place_parts (are_met (has_line d) (kinds_before kind)) (row_of_kind kind).repeats (has_line d kind) _ parts.0 in
     let last = said_last d e item parts.1 (λ once. no_lines d kind (places.1.1 once)) in
     let beside : beside (said d item) kind ≡ beside d kind = beside_said d item in
     subst (λ (x : Draft). IsPut kind d item x) (value_said d e item parts.1) record {
@@ -137,5 +137,5 @@ added d e item same =
     }
 
 -- each line that is added stands behind those that were read
-pub grown : (d e : Draft) (item : Item) → with_item d item ≡ Some e → Grows (lines_of d) (lines_of e) item
-grown d e item same = put_last (kind_of item) d e item (added d e item same)
+pub grown : (d e : Draft) (item : Item) → with_item d item ≡ Some e → Grows (lines_read d) (lines_read e) item
+grown d e item same = put_last (kind_of_line item) d e item (added d e item same)

@@ -1,12 +1,12 @@
 -- A text line by line.
 use Rattle.std.proofs.Common.{◌≡◌, ◌+◌, ℕ, List, [], ◌∷◌, ◌++◌, length, Option, Some, None, Result, Err, arith, refl, ap, sym, ◌∙◌, append_assoc, append-nil, length-append}
 use Rattle.std.specs.Option.{option_map_or, option_and_then}
-use Rattle.st_text.specs.Pieces.{parted}
+use Rattle.st_text.specs.Pieces.{pieces_of}
 use Rattle.st_text.proofs.PieceLemmas.{first_piece}
-use Rattle.st_object.specs.Lines.{spelled, text_of}
-use Rattle.st_object.specs.Draft.{Draft, IsDraft, lines_of, with_item}
+use Rattle.st_object.specs.Lines.{line_text, object_text_of}
+use Rattle.st_object.specs.Draft.{Draft, IsDraft, lines_read, with_item}
 use Rattle.st_object.specs.Meaning.{item_in}
-use Rattle.st_object.specs.Object.{Program, with_line, read_from}
+use Rattle.st_object.specs.Object.{Program, draft_with_line, read_from}
 use Rattle.st_object.specs.declared.items.Item.{Item}
 use Rattle.st_object.proofs.LineMeanings.{told}
 use Rattle.st_object.proofs.FurtherLines.{grown}
@@ -16,36 +16,36 @@ use Rattle.st_object.proofs.Completions.{IsOrderly, ordered}
 
 -- the first line of more than one
 pub read_step : (d : Draft) (n : ℕ) (line next : List ℕ) (before more : List (List ℕ)) →
-    read_from d n (line ∷ before ++ next ∷ more) ≡ option_map_or (λ e. read_from e (n + 1) (before ++ next ∷ more)) (with_line d line) (Err n)
+    read_from d n (line ∷ before ++ next ∷ more) ≡ option_map_or (λ e. read_from e (n + 1) (before ++ next ∷ more)) (draft_with_line d line) (Err n)
 read_step d n line next [] more = refl
 read_step d n line next (first ∷ before) more = refl
 
-first_line : (d : Draft) (n : ℕ) (line rest after : List ℕ) → parted 10 rest ≡ line ∷ parted 10 after →
-    read_from d n (parted 10 rest) ≡ option_map_or (λ e. read_from e (n + 1) (parted 10 after)) (with_line d line) (Err n)
+first_line : (d : Draft) (n : ℕ) (line rest after : List ℕ) → pieces_of 10 rest ≡ line ∷ pieces_of 10 after →
+    read_from d n (pieces_of 10 rest) ≡ option_map_or (λ e. read_from e (n + 1) (pieces_of 10 after)) (draft_with_line d line) (Err n)
 first_line d n line rest after cut = let first = first_piece 10 after in rw (cut, first.1.1)
 
 -- a bad line
 pub line_refused : (d : Draft) (n : ℕ) (line rest after : List ℕ) (read : Result Program ℕ) →
-    parted 10 rest ≡ line ∷ parted 10 after → with_line d line ≡ None → read_from d n (parted 10 rest) ≡ read → read ≡ Err n
+    pieces_of 10 rest ≡ line ∷ pieces_of 10 after → draft_with_line d line ≡ None → read_from d n (pieces_of 10 rest) ≡ read → read ≡ Err n
 line_refused d n line rest after read cut bad same = sym same ∙ (first_line d n line rest after cut ∙ rw bad)
 
 -- a good line
 pub line_added : (d e : Draft) (n : ℕ) (line rest after : List ℕ) (read : Result Program ℕ) →
-    parted 10 rest ≡ line ∷ parted 10 after → with_line d line ≡ Some e → read_from d n (parted 10 rest) ≡ read →
-    read_from e (n + 1) (parted 10 after) ≡ read
+    pieces_of 10 rest ≡ line ∷ pieces_of 10 after → draft_with_line d line ≡ Some e → read_from d n (pieces_of 10 rest) ≡ read →
+    read_from e (n + 1) (pieces_of 10 after) ≡ read
 line_added d e n line rest after read cut good same = rw good at (sym (first_line d n line rest after cut) ∙ same)
 
 -- what a good line makes of a draft
 pub record IsGood (d e : Draft) (line : List ℕ) : Type 0 where
   pub kept : IsDraft d → IsDraft e
   pub orderly : IsOrderly e
-  pub behind : text_of (lines_of e) ≡ text_of (lines_of d) ++ line ++ 10 ∷ []
-  pub more : length (lines_of e) ≡ length (lines_of d) + 1
+  pub behind : object_text_of (lines_read e) ≡ object_text_of (lines_read d) ++ line ++ 10 ∷ []
+  pub more : length (lines_read e) ≡ length (lines_read d) + 1
 
 chained : (o : Option Item) (d e : Draft) → option_and_then (λ i. with_item d i) o ≡ Some e → (item : Item) × ((o ≡ Some item) × (with_item d item ≡ Some e))
 chained o d e same = grind arith
 
-pub good_line : (d e : Draft) (line : List ℕ) → with_line d line ≡ Some e → IsGood d e line
+pub good_line : (d e : Draft) (line : List ℕ) → draft_with_line d line ≡ Some e → IsGood d e line
 good_line d e line good =
     let parts = chained (item_in line) d e good in
     let item : Item = parts.0 in
@@ -54,7 +54,7 @@ good_line d e line good =
     record {
       kept = kept d e item parts.1.1 meaning.1;
       orderly = ordered d e item parts.1.1;
-      behind = ap (λ (s : List Item). text_of s) grows ∙ (text_of-append (lines_of d) (item ∷ [])
-          ∙ rw (append-nil (spelled item ++ 10 ∷ []), meaning.0, append_assoc (text_of (lines_of d)) line (10 ∷ [])));
-      more = ap (λ (s : List Item). length s) grows ∙ length-append (lines_of d) (item ∷ []);
+      behind = ap (λ (s : List Item). object_text_of s) grows ∙ (text_of-append (lines_read d) (item ∷ [])
+          ∙ rw (append-nil (line_text item ++ 10 ∷ []), meaning.0, append_assoc (object_text_of (lines_read d)) line (10 ∷ [])));
+      more = ap (λ (s : List Item). length s) grows ∙ length-append (lines_read d) (item ∷ []);
     }

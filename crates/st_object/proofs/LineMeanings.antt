@@ -4,8 +4,8 @@ use Rattle.std.specs.Option.{option_and_then}
 use Rattle.std.specs.Cmp.Lexicographic.{same_text}
 use Rattle.std.proofs.lemmas.Bool.Decides.{nat_tests}
 use Rattle.st_text.specs.Tables.{row_of}
-use Rattle.st_object.specs.Lines.{spelled}
-use Rattle.st_object.specs.Meaning.{short_number, IsShort, hex_digit_in, hex_after, keywords, item_behind, item_loosely, item_in}
+use Rattle.st_object.specs.Lines.{line_text}
+use Rattle.st_object.specs.Meaning.{short_number, IsShort, hex_digit_in, hex_after, line_keywords, item_behind, item_loosely, item_in}
 use Rattle.st_object.specs.declared.items.Item.{Item}
 use Rattle.st_object.specs.declared.items.Item.TheVariants.{Word, Snap}
 use Rattle.st_object.specs.declared.items.Kind.{Kind}
@@ -31,9 +31,9 @@ item_narrow None text item same = cc
 item_narrow (Some kind) text item same = behind_narrow kind text item same
 
 loosely_narrow : (parts : Option (List ℕ × List ℕ)) (line : List ℕ) (item : Item) → item_loosely parts line ≡ Some item → IsNarrow item
-loosely_narrow None line item same = item_narrow (row_of line keywords) [] item same
-loosely_narrow (Some p) line item same = item_narrow (row_of p.0 keywords) p.1 item same
+loosely_narrow None line item same = item_narrow (row_of line line_keywords) [] item same
+loosely_narrow (Some p) line item same = item_narrow (row_of p.0 line_keywords) p.1 item same
 
 -- what was read spells the line
-pub told : (line : List ℕ) (item : Item) → item_in line ≡ Some item → (spelled item ≡ line) × IsNarrow item
+pub told : (line : List ℕ) (item : Item) → item_in line ≡ Some item → (line_text item ≡ line) × IsNarrow item
 told line item same = grind (arith, same_text, loosely_narrow)

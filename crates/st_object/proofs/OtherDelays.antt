@@ -5,9 +5,9 @@ use Rattle.std.proofs.lemmas.Bool.Decides.{nat_tests}
 use Rattle.std.proofs.lemmas.List.{map-append}
 use Rattle.std.proofs.lemmas.List.Elements.{filter-append}
 use Rattle.st_text.specs.Bytes.{line_end}
-use Rattle.st_text.specs.Pieces.{parted}
-use Rattle.st_object.specs.Lines.{spelled, marked, word_lines, budget_lines, back_lines, show_lines}
-use Rattle.st_object.specs.Draft.{blank}
+use Rattle.st_text.specs.Pieces.{pieces_of}
+use Rattle.st_object.specs.Lines.{line_text, line_where, word_lines, budget_lines, back_lines, show_lines}
+use Rattle.st_object.specs.Draft.{draft_at_start}
 use Rattle.st_object.specs.Object.{Program, IsProgram, AreWords, object_lines, object_text, read_from, read_text}
 use Rattle.st_object.specs.declared.items.Item.{Item}
 use Rattle.st_object.specs.declared.items.Item.TheVariants.{Object, Start, Word, Budget, Delay, Signal, Dump, Trace, Time, Chart, Snap, Back, Fin}
@@ -18,7 +18,7 @@ use Rattle.st_object.specs.DelayLines.{is_delay_line, is_budget_line, with_delay
 
 -- the lines that items spell
 abbrev lines_of : List Item → List (List ℕ)
-lines_of items = map spelled items
+lines_of items = map line_text items
 
 -- lines without those of delays
 abbrev others : List (List ℕ) → List (List ℕ)
@@ -35,31 +35,31 @@ Stay items = others (lines_of items) ≡ lines_of items
 
 stay-both : (xs ys : List Item) → Stay xs → Stay ys → Stay (xs ++ ys)
 stay-both xs ys first second =
-    ap others (map-append spelled xs ys) ∙ filter-append (λ line. not (is_delay_line line)) (lines_of xs) (lines_of ys)
-    ∙ ap (λ l. l ++ others (lines_of ys)) first ∙ ap (λ l. lines_of xs ++ l) second ∙ sym (map-append spelled xs ys)
+    ap others (map-append line_text xs ys) ∙ filter-append (λ line. not (is_delay_line line)) (lines_of xs) (lines_of ys)
+    ∙ ap (λ l. l ++ others (lines_of ys)) first ∙ ap (λ l. lines_of xs ++ l) second ∙ sym (map-append line_text xs ys)
 
 stay-words : (w : ℕ) (xs : List ℕ) → Stay (word_lines w xs)
-unfolding spelled is_delay_line
+unfolding line_text is_delay_line
 stay-words w [] = refl
 stay-words w (x ∷ xs) =
-    cond_both (x == 0) _ _ Stay (λ none. stay-words (w + 1) xs) (λ some. ap (λ l. spelled (Word w x) ∷ l) (stay-words (w + 1) xs))
+    cond_both (x == 0) _ _ Stay (λ none. stay-words (w + 1) xs) (λ some. ap (λ l. line_text (Word w x) ∷ l) (stay-words (w + 1) xs))
 
 -- a line for each of a list
-stay-each : {X : Type 0} (line : X → Item) → ((x : X) → is_delay_line (spelled (line x)) ≡ false) → (xs : List X) → Stay (map line xs)
+stay-each : {X : Type 0} (line : X → Item) → ((x : X) → is_delay_line (line_text (line x)) ≡ false) → (xs : List X) → Stay (map line xs)
 stay-each line other [] = refl
-stay-each line other (x ∷ xs) = rw (other x) (ap (λ l. spelled (line x) ∷ l) (stay-each line other xs))
+stay-each line other (x ∷ xs) = rw (other x) (ap (λ l. line_text (line x) ∷ l) (stay-each line other xs))
 
 -- one line or none
-stay-if : (b : Bool) (item : Item) → is_delay_line (spelled item) ≡ false → Stay (if b then item ∷ [] else [])
+stay-if : (b : Bool) (item : Item) → is_delay_line (line_text item) ≡ false → Stay (if b then item ∷ [] else [])
 stay-if true item other = rw other refl
 stay-if false item other = refl
 
-stay-unless : (b : Bool) (item : Item) → is_delay_line (spelled item) ≡ false → Stay (if b then [] else item ∷ [])
+stay-unless : (b : Bool) (item : Item) → is_delay_line (line_text item) ≡ false → Stay (if b then [] else item ∷ [])
 stay-unless true item other = refl
 stay-unless false item other = rw other refl
 
 none-stays : (delays : List ℕ) → others (lines_of (map (λ n. Delay n) delays)) ≡ []
-unfolding spelled is_delay_line
+unfolding line_text is_delay_line
 none-stays [] = refl
 none-stays (d ∷ delays) = none-stays delays
 
@@ -90,7 +90,7 @@ in-parts p = regrouped (head p) (budget_lines p.controls.budget) (map (λ n. Del
 four-parts : (w b d r : List Item) (end : List (List ℕ)) → lines_of (w ++ (b ++ (d ++ r))) ++ end
     ≡ lines_of w ++ (lines_of b ++ (lines_of d ++ (lines_of r ++ end)))
 four-parts w b d r end =
-    rw (map-append spelled w (b ++ (d ++ r)), map-append spelled b (d ++ r), map-append spelled d r) (simp append_assoc refl)
+    rw (map-append line_text w (b ++ (d ++ r)), map-append line_text b (d ++ r), map-append line_text d r) (simp append_assoc refl)
 
 pieces-parts : (p : Program) → pieces p
     ≡ lines_of (head p) ++ (lines_of (budget_lines p.controls.budget)
@@ -102,27 +102,27 @@ pieces-parts p =
 -- ---- without delays
 
 stay-head : (p : Program) → Stay (head p)
-unfolding spelled is_delay_line
-stay-head p = ap (λ l. spelled Object ∷ spelled (Start p.start) ∷ l) (stay-words 0 p.words)
+unfolding line_text is_delay_line
+stay-head p = ap (λ l. line_text Object ∷ line_text (Start p.start) ∷ l) (stay-words 0 p.words)
 
 stay-budget : (p : Program) → Stay (budget_lines p.controls.budget)
-unfolding spelled is_delay_line
+unfolding line_text is_delay_line
 stay-budget p = stay-unless (p.controls.budget == 0) (Budget p.controls.budget) refl
 
 stay-show : (p : Program) → Stay (show_lines p.controls)
-unfolding spelled is_delay_line
+unfolding line_text is_delay_line
 stay-show p =
     let c = p.controls in
     let trace = stay-if c.trace Trace refl in
-    let time = stay-both (marked c.trace Trace) (marked c.time Time) trace (stay-if c.time Time refl) in
-    let chart = stay-both (marked c.trace Trace ++ marked c.time Time) (marked c.chart Chart) time (stay-if c.chart Chart refl) in
-    let snaps = stay-both (marked c.trace Trace ++ marked c.time Time ++ marked c.chart Chart) (map (λ t. Snap t) c.snaps) chart
+    let time = stay-both (line_where c.trace Trace) (line_where c.time Time) trace (stay-if c.time Time refl) in
+    let chart = stay-both (line_where c.trace Trace ++ line_where c.time Time) (line_where c.chart Chart) time (stay-if c.chart Chart refl) in
+    let snaps = stay-both (line_where c.trace Trace ++ line_where c.time Time ++ line_where c.chart Chart) (map (λ t. Snap t) c.snaps) chart
     (stay-each (λ t. Snap t) (λ t. refl) c.snaps) in
-    stay-both (marked c.trace Trace ++ marked c.time Time ++ marked c.chart Chart ++ map (λ t. Snap t) c.snaps) (back_lines c.back) snaps
+    stay-both (line_where c.trace Trace ++ line_where c.time Time ++ line_where c.chart Chart ++ map (λ t. Snap t) c.snaps) (back_lines c.back) snaps
     (stay-unless (c.back == 0) (Back c.back) refl)
 
 stay-rest : (p : Program) → Stay (rest p)
-unfolding spelled is_delay_line
+unfolding line_text is_delay_line
 stay-rest p =
     let signals = map (λ s. Signal s.count s.indicator) p.controls.signals in
     let dumps = map (λ q. Dump q.0 q.1) p.controls.dumps in
@@ -157,20 +157,20 @@ others-parts p =
 -- the words are passed
 passes-words : (delays : List ℕ) (w : ℕ) (xs : List ℕ) (more : List (List ℕ))
     → with_delay_lines delays (lines_of (word_lines w xs) ++ more) ≡ lines_of (word_lines w xs) ++ with_delay_lines delays more
-unfolding spelled is_budget_line
+unfolding line_text is_budget_line
 passes-words delays w [] more = refl
 passes-words delays w (x ∷ xs) more =
     cond_both (x == 0) _ _ (λ items. with_delay_lines delays (lines_of items ++ more) ≡ lines_of items ++ with_delay_lines delays more)
-    (λ none. passes-words delays (w + 1) xs more) (λ some. ap (λ l. spelled (Word w x) ∷ l) (passes-words delays (w + 1) xs more))
+    (λ none. passes-words delays (w + 1) xs more) (λ some. ap (λ l. line_text (Word w x) ∷ l) (passes-words delays (w + 1) xs more))
 
 passes-head : (delays : List ℕ) (p : Program) (more : List (List ℕ))
     → with_delay_lines delays (lines_of (head p) ++ more) ≡ lines_of (head p) ++ with_delay_lines delays more
-unfolding spelled is_budget_line
-passes-head delays p more = ap (λ l. spelled Object ∷ spelled (Start p.start) ∷ l) (passes-words delays 0 p.words more)
+unfolding line_text is_budget_line
+passes-head delays p more = ap (λ l. line_text Object ∷ line_text (Start p.start) ∷ l) (passes-words delays 0 p.words more)
 
-spelled-each : (delays : List ℕ) → map (λ d. spelled (Delay d)) delays ≡ lines_of (map (λ n. Delay n) delays)
+spelled-each : (delays : List ℕ) → map (λ d. line_text (Delay d)) delays ≡ lines_of (map (λ n. Delay n) delays)
 spelled-each [] = refl
-spelled-each (d ∷ delays) = ap (λ l. spelled (Delay d) ∷ l) (spelled-each delays)
+spelled-each (d ∷ delays) = ap (λ l. line_text (Delay d) ∷ l) (spelled-each delays)
 
 one-budget : (n : ℕ) → 1 ≤ n → budget_lines n ≡ Budget n ∷ []
 one-budget n some = let is : (n == 0) ≡ false = grind (arith, nat_tests) in rw is refl
@@ -178,10 +178,10 @@ one-budget n some = let is : (n == 0) ≡ false = grind (arith, nat_tests) in rw
 -- behind the budget they come
 comes : (delays : List ℕ) (n : ℕ) (more : List (List ℕ)) → 1 ≤ n → with_delay_lines delays (lines_of (budget_lines n) ++ more)
     ≡ lines_of (budget_lines n) ++ (lines_of (map (λ d. Delay d) delays) ++ more)
-unfolding spelled is_budget_line
+unfolding line_text is_budget_line
 comes delays n more some =
     ap (λ items. with_delay_lines delays (lines_of items ++ more)) (one-budget n some)
-    ∙ ap (λ l. spelled (Budget n) ∷ (l ++ more)) (spelled-each delays)
+    ∙ ap (λ l. line_text (Budget n) ∷ (l ++ more)) (spelled-each delays)
     ∙ sym (ap (λ items. lines_of items ++ (lines_of (map (λ d. Delay d) delays) ++ more)) (one-budget n some))
 
 exchanged : (p : Program) (delays : List ℕ) → 1 ≤ p.controls.budget → with_delay_lines delays (others (pieces p)) ≡ pieces (with_delays p delays)
@@ -194,15 +194,15 @@ exchanged p delays some =
 
 -- ---- texts
 
-pieces-are : (p : Program) → IsProgram p → AreWords p.words → parted line_end (object_text p) ≡ pieces p
+pieces-are : (p : Program) → IsProgram p → AreWords p.words → pieces_of line_end (object_text p) ≡ pieces p
 pieces-are p is each =
     let makes = made_again p is each in
-    parted-text_of (object_lines p) blank makes.last makes.steps
+    parted-text_of (object_lines p) draft_at_start makes.last makes.steps
 
-text-pieces : (text : List ℕ) (p : Program) → read_text text ≡ Ok p → parted line_end text ≡ pieces p
+text-pieces : (text : List ℕ) (p : Program) → read_text text ≡ Ok p → pieces_of line_end text ≡ pieces p
 text-pieces text p read =
     let is = accepted text p read in
-    ap (parted line_end) is.same ∙ pieces-are p is.program is.words
+    ap (pieces_of line_end) is.same ∙ pieces-are p is.program is.words
 
 -- the lines of an object text's own delays
 pub has-lines : (text : List ℕ) (p : Program) → read_text text ≡ Ok p → HasDelayLines text p.controls.delays
@@ -238,11 +238,11 @@ again-read text other delays p read same good =
       delays = good.some;
       unlisted = is.program.unlisted;
     } in
-    let lines : parted line_end other ≡ parted line_end (object_text (with_delays p delays)) =
+    let lines : pieces_of line_end other ≡ pieces_of line_end (object_text (with_delays p delays)) =
     good.lines ∙ ap (with_delay_lines delays) (sym same)
     ∙ ap (λ l. with_delay_lines delays (others l)) (text-pieces text p read)
     ∙ exchanged p delays is.program.budget ∙ sym (pieces-are (with_delays p delays) program is.words) in
-    ap (read_from blank 1) lines ∙ read_back (with_delays p delays) program is.words
+    ap (read_from draft_at_start 1) lines ∙ read_back (with_delays p delays) program is.words
 
 -- two object texts with the same lines but for those of delays are of programs that differ in their delays alone
 pub lines-differ : (text other : List ℕ) (p q : Program) → read_text text ≡ Ok p → read_text other ≡ Ok q → DifferInDelayLines text other

@@ -10,9 +10,9 @@ use Rattle.st_card.specs.Controls.{Asked, nothing_asked}
 use Rattle.st_card.specs.Limits.{AreDelays, AreSignals, AreDumps, AreSnaps}
 use Rattle.st_card.specs.declared.control_cards.Signal.{Signal as GivenSignal}
 use Rattle.st_card.proofs.OrderLemmas.{budget-asked, delay-asked, signal-asked, dump-asked, snap-asked, back-asked, delay-short, signal-short, dump-short, snap-short}
-use Rattle.st_object.specs.Lines.{marked, word_lines}
-use Rattle.st_object.specs.Order.{order, row}
-use Rattle.st_object.specs.Draft.{Draft, blank, is_empty, kind_lines, is_whole, has_place, may_hold, with_value, with_item}
+use Rattle.st_object.specs.Lines.{line_where, word_lines}
+use Rattle.st_object.specs.Order.{order, row_of_kind}
+use Rattle.st_object.specs.Draft.{Draft, draft_at_start, is_empty, kind_lines, is_whole, has_place, may_hold, draft_with_value, with_item}
 use Rattle.st_object.specs.Meaning.{IsItem}
 use Rattle.st_object.specs.Object.{Program, IsProgram, AreWords, object_lines, filled_up, program_of}
 use Rattle.st_object.specs.declared.items.Item.{Item}
@@ -49,7 +49,7 @@ leads_each at line Fits step done (x ∷ rest) fits =
 
 -- a line that stands there where it is asked for
 leads_marked : (at : Bool → Draft) (item : Item) → IsStep (at false) item (at true) → (b : Bool) →
-    Leads (at false) (marked b item) (at b)
+    Leads (at false) (line_where b item) (at b)
 leads_marked at item step false = refl
 leads_marked at item step true = one (at false) (at true) item step
 
@@ -76,7 +76,7 @@ holds next w x registers behind inside some = grind (arith, nat_tests)
 
 add_words : (h k w : ℕ) (ws rest : List ℕ) → w ≡ length ws + k → ((i : ℕ) → w + i < 32 → get_or rest i 0 ≡ 0) →
     w + length rest ≤ words_of_storage → All (λ x. x < 2 ^ 64) rest → Adds h ws (ws ++ replicate k 0 ++ rest) (word_lines w rest)
-unfolding has_place with_value
+unfolding has_place draft_with_value
 add_words h k w ws [] place registers room each = record { last = ws; zeros = k; filled = sym (append-nil (ws ++ replicate k 0)); steps = refl }
 add_words h k w ws (x ∷ rest) place registers room each =
     let storage : words_of_storage ≡ 98304 = words_of_storage_is in
@@ -105,7 +105,7 @@ filled_again last words count whole size = grind (arith, common_steps)
 -- kinds that stand one behind the other from a place on
 abbrev AreNext : ℕ → List Kind → Type 0
 AreNext i [] = Unit {0}
-AreNext i (kind ∷ more) = ((row kind).place ≡ i) × AreNext (i + 1) more
+AreNext i (kind ∷ more) = ((row_of_kind kind).place ≡ i) × AreNext (i + 1) more
 
 -- the lines of a program, kind by kind
 module _ (p : Program) (ws : List ℕ) where
@@ -144,8 +144,8 @@ module _ (p : Program) (ws : List ℕ) where
     delays = some_is (length p.controls.delays) is.delays
 
     -- the lines of a kind lead from what the kinds before say to what they say with it
-    add_kind : (kind : Kind) → Leads (draft_before (row kind).place) (lines_at kind) (draft_before ((row kind).place + 1))
-    unfolding has_place with_value
+    add_kind : (kind : Kind) → Leads (draft_before (row_of_kind kind).place) (lines_at kind) (draft_before ((row_of_kind kind).place + 1))
+    unfolding has_place draft_with_value
     add_kind kinds.Object = one (draft_before 0) (draft_before 1) Object (refl, tt)
     add_kind kinds.Start = one (draft_before 1) (draft_before 2) (Start p.start) (rw (below p.start (2 ^ 19) is.start), omega (arith, is.start))
     add_kind kinds.Word = words
@@ -194,7 +194,7 @@ module _ (p : Program) (ws : List ℕ) where
 -- the whole draft of a program, and the lines that lead to it
 pub record Makes (p : Program) : Type 0 where
   pub last : Draft
-  pub steps : Leads blank (object_lines p) last
+  pub steps : Leads draft_at_start (object_lines p) last
   pub ended : is_whole last ≡ true
   pub program : program_of last ≡ p
 
@@ -206,7 +206,7 @@ made_again p is each =
     let next : AreNext 0 order = (refl, (refl, (refl, (refl, (refl, (refl, (refl, (refl, (refl, (refl, (refl, (refl, (refl, tt))))))))))))) in
     record {
       last = draft_before p ws 13;
-      steps = subst (λ (items : List Item). Leads blank items (draft_before p ws 13)) (whole_lines p) (add_kinds p ws is words.steps order 0 next);
+      steps = subst (λ (items : List Item). Leads draft_at_start items (draft_before p ws 13)) (whole_lines p) (add_kinds p ws is words.steps order 0 next);
       ended = rw (some_is p.controls.budget is.budget, some_is (length p.controls.delays) is.delays);
       program = ap (λ (s : List ℕ). record p { words = s; controls = asked_before p ws 13 }) (filled_again ws p.words words.zeros words.filled is.whole)
           ∙ ap (λ (b : Bool). record p { controls = record p.controls { list = b } }) (sym is.unlisted);

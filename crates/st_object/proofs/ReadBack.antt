@@ -1,11 +1,11 @@
 -- The object text of a program is read as that program.
 use Rattle.std.proofs.Common.{◌≡◌, ◌+◌, ◌==◌, ℕ, true, not, List, [], ◌∷◌, ◌++◌, map, decimal, Some, Ok, refl, ap, append_assoc, arith}
 use Rattle.std.proofs.lemmas.Grind.{common_steps}
-use Rattle.st_text.specs.Pieces.{parted, lacks}
-use Rattle.st_object.specs.Lines.{spelled, text_of}
-use Rattle.st_object.specs.Draft.{Draft, blank, with_item, is_whole}
+use Rattle.st_text.specs.Pieces.{pieces_of, lacks}
+use Rattle.st_object.specs.Lines.{line_text, object_text_of}
+use Rattle.st_object.specs.Draft.{Draft, draft_at_start, with_item, is_whole}
 use Rattle.st_object.specs.Meaning.{IsShort, IsItem}
-use Rattle.st_object.specs.Object.{Program, IsProgram, AreWords, object_lines, object_text, program_of, with_line, read_from, read_text}
+use Rattle.st_object.specs.Object.{Program, IsProgram, AreWords, object_lines, object_text, program_of, draft_with_line, read_from, read_text}
 use Rattle.st_object.specs.declared.items.Item.{Item}
 use Rattle.st_object.proofs.Spellings.{short_small, lacks-decimal, lacks-hex, spelled_again}
 use Rattle.st_object.proofs.LineByLine.{read_step}
@@ -19,35 +19,35 @@ lacks_behind : (n c : ℕ) (back : List ℕ) → IsShort n → not (c == 10) ≡
 lacks_behind n c back short other lacking = grind (arith, common_steps, lacks_number)
 
 -- no line end stands in a line
-lacks-spelled : (item : Item) → IsItem item → lacks 10 (spelled item) ≡ true
-unfolding spelled
+lacks-spelled : (item : Item) → IsItem item → lacks 10 (line_text item) ≡ true
+unfolding line_text
 lacks-spelled item short = grind (arith, lacks_number, lacks_behind, lacks-hex)
 
 -- the first line of a text
-pub parted_line : (line rest : List ℕ) → lacks 10 line ≡ true → parted 10 (line ++ 10 ∷ rest) ≡ line ∷ parted 10 rest
+pub parted_line : (line rest : List ℕ) → lacks 10 line ≡ true → pieces_of 10 (line ++ 10 ∷ rest) ≡ line ∷ pieces_of 10 rest
 parted_line [] rest lacking = refl
 parted_line (c ∷ cs) rest lacking = grind (arith, parted_line cs rest)
 
 -- the lines of a text that lines were written to
-pub parted-text_of : (items : List Item) (d e : Draft) → Leads d items e → parted 10 (text_of items) ≡ map spelled items ++ [] ∷ []
+pub parted-text_of : (items : List Item) (d e : Draft) → Leads d items e → pieces_of 10 (object_text_of items) ≡ map line_text items ++ [] ∷ []
 parted-text_of [] d e leads = refl
 parted-text_of (item ∷ more) d e leads =
-    rw (append_assoc (spelled item) (10 ∷ []) (text_of more), parted_line (spelled item) (text_of more) (lacks-spelled item leads.2))
-    (ap (λ (pieces : List (List ℕ)). spelled item ∷ pieces) (parted-text_of more leads.0 e leads.3))
+    rw (append_assoc (line_text item) (10 ∷ []) (object_text_of more), parted_line (line_text item) (object_text_of more) (lacks-spelled item leads.2))
+    (ap (λ (pieces : List (List ℕ)). line_text item ∷ pieces) (parted-text_of more leads.0 e leads.3))
 
 -- a line that may follow is read
-pub with_spelled : (d e : Draft) (item : Item) → with_item d item ≡ Some e → IsItem item → with_line d (spelled item) ≡ Some e
+pub with_spelled : (d e : Draft) (item : Item) → with_item d item ≡ Some e → IsItem item → draft_with_line d (line_text item) ≡ Some e
 with_spelled d e item added readable = cc (spelled_again item readable)
 
 read_lines : (items : List Item) (d e : Draft) (n : ℕ) → Leads d items e → is_whole e ≡ true →
-    read_from d n (map spelled items ++ [] ∷ []) ≡ Ok (program_of e)
+    read_from d n (map line_text items ++ [] ∷ []) ≡ Ok (program_of e)
 read_lines [] d e n leads whole = rw (leads, whole)
 read_lines (item ∷ more) d e n leads whole =
-    rw (read_step d n (spelled item) [] (map spelled more) [], with_spelled d leads.0 item leads.1 leads.2) (read_lines more leads.0 e (n + 1) leads.3 whole)
+    rw (read_step d n (line_text item) [] (map line_text more) [], with_spelled d leads.0 item leads.1 leads.2) (read_lines more leads.0 e (n + 1) leads.3 whole)
 
 -- what was written reads as the same program
 pub read_back : (p : Program) → IsProgram p → AreWords p.words → read_text (object_text p) ≡ Ok p
 unfolding read_text
 read_back p is each =
     let makes = made_again p is each in
-    rw (parted-text_of (object_lines p) blank makes.last makes.steps, read_lines (object_lines p) blank makes.last 1 makes.steps makes.ended, makes.program)
+    rw (parted-text_of (object_lines p) draft_at_start makes.last makes.steps, read_lines (object_lines p) draft_at_start makes.last 1 makes.steps makes.ended, makes.program)

@@ -10,10 +10,10 @@ use Rattle.std.proofs.lemmas.Fmt.{digits_decimal, digits_value-decimal, decimal_
 use Rattle.std.proofs.lemmas.List.Folds.{list_all-append}
 use Rattle.std.proofs.Math.Nat.{mod-eq_of_lt, pow-succ'}
 use Rattle.st_text.specs.Numerals.{hex_digit, hex_text, hex_word, half_address}
-use Rattle.st_text.specs.Number.{value, value_after}
+use Rattle.st_text.specs.Number.{digits_value, value_after}
 use Rattle.st_text.specs.Pieces.{lacks}
 use Rattle.st_text.specs.Tables.{is_same}
-use Rattle.st_object.specs.Lines.{spelled}
+use Rattle.st_object.specs.Lines.{line_text}
 use Rattle.st_object.specs.Meaning.{parts_at, short_number, two_numbers, IsShort, IsItem, hex_digit_in, hex_after, word_in, item_behind, item_loosely, item_in}
 use Rattle.st_object.specs.declared.items.Item.{Item}
 use Rattle.st_object.specs.declared.items.Item.TheVariants.{Start, Word}
@@ -31,7 +31,7 @@ pub short_number-decimal : (n : ℕ) → IsShort n → short_number (decimal n) 
 short_number-decimal n short =
     let small = short_small n short in
     let digits : list_all is_ascii_digit (decimal n) ≡ true = digits_decimal own n small in
-    let same : value (decimal n) ≡ n = digits_value-decimal own n small in
+    let same : digits_value (decimal n) ≡ n = digits_value-decimal own n small in
     let some : 0 < length (decimal n) = decimal_nonempty n small in
     grind (arith, nat_tests)
 
@@ -89,10 +89,10 @@ start_again h short =
     rw (both_numbers 46 (h / 2) (32 * (h % 2)) (omega arith) short (omega arith), same)
 
 -- what a line means, where it is spelled so
-loosely_again : (item : Item) → IsItem item → item_loosely (parts_at 32 (spelled item)) (spelled item) ≡ Some item
-unfolding spelled
+loosely_again : (item : Item) → IsItem item → item_loosely (parts_at 32 (line_text item)) (line_text item) ≡ Some item
+unfolding line_text
 loosely_again item short = grind (arith, short_number-decimal, both_numbers, word_again, start_again)
 
 -- each line is read as the item that it spells
-pub spelled_again : (item : Item) → IsItem item → item_in (spelled item) ≡ Some item
-spelled_again item short = rw (loosely_again item short, is_same-refl (spelled item))
+pub spelled_again : (item : Item) → IsItem item → item_in (line_text item) ≡ Some item
+spelled_again item short = rw (loosely_again item short, is_same-refl (line_text item))

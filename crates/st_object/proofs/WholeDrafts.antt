@@ -6,7 +6,7 @@ use Rattle.std.proofs.lemmas.List.{length-replicate}
 use Rattle.std.proofs.lemmas.List.Elements.{All-append, All-replicate}
 use Rattle.st_bits.specs.Storage.{words_of_storage}
 use Rattle.st_object.specs.Lines.{word_lines}
-use Rattle.st_object.specs.Draft.{Draft, IsDraft, lines_of, is_whole}
+use Rattle.st_object.specs.Draft.{Draft, IsDraft, lines_read, is_whole}
 use Rattle.st_object.specs.Object.{IsProgram, AreWords, object_lines, filled_up, program_of}
 use Rattle.st_object.proofs.FurtherLines.{word_lines-append, word_lines-zeros}
 use Rattle.st_object.proofs.WrittenLines.{whole_lines}
@@ -50,6 +50,6 @@ filled_lines : (xs : List ℕ) → word_lines 0 (filled_up xs) ≡ word_lines 0 
 filled_lines xs = rw (word_lines-append 0 xs (replicate (words_of_storage - length xs) 0), word_lines-zeros, append-nil)
 
 -- the lines of a whole draft are those of its program
-pub whole_lines_of : (d : Draft) → is_whole d ≡ true → object_lines (program_of d) ≡ lines_of d
+pub whole_lines_of : (d : Draft) → is_whole d ≡ true → object_lines (program_of d) ≡ lines_read d
 whole_lines_of d whole =
-    sym (whole_lines (program_of d)) ∙ rw (filled_lines d.words) (ap (λ (x : Draft). lines_of x) (has_all d whole).0)
+    sym (whole_lines (program_of d)) ∙ rw (filled_lines d.words) (ap (λ (x : Draft). lines_read x) (has_all d whole).0)

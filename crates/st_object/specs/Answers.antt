@@ -8,7 +8,8 @@ use Rattle.st_object.specs.declared.reading.ObjectError.TheVariants.{Refused as 
 use Rattle.st_card.specs.declared.keywords.Addition.{Addition}
 use Rattle.st_card.specs.declared.keywords.Addition.TheVariants.{Added, Refused, NoMemory}
 
--- what an addition says of a draft after a line: it is the one that is wanted, or none is; there may be no memory
+-- what an addition says of a draft after a line: it is the one that is wanted, or none is; there
+-- may be no memory
 abbrev pub Settles : Draft → Option Draft → Addition → Type 0
 Settles new wanted Added = wanted ≡ Some new
 Settles new wanted Refused = wanted ≡ None

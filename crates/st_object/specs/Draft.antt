@@ -8,15 +8,15 @@ use Rattle.st_card.specs.Controls.{Asked, nothing_asked, with_keyword}
 use Rattle.st_card.specs.Limits.{IsWithinLimits}
 use Rattle.st_card.specs.declared.keywords.Keyword.{Keyword}
 use Rattle.st_card.specs.declared.keywords.Keyword.TheVariants as keywords
-use Rattle.st_object.specs.Lines.{marked, word_lines, budget_lines, back_lines}
-use Rattle.st_object.specs.Order.{kind_of, order, are_met, may_follow}
+use Rattle.st_object.specs.Lines.{line_where, word_lines, budget_lines, back_lines}
+use Rattle.st_object.specs.Order.{kind_of_line, order, are_met, may_follow}
 use Rattle.st_object.specs.declared.items.Item.{Item}
 use Rattle.st_object.specs.declared.items.Item.TheVariants.{Object, Start, Word, Budget, Delay, Signal, Dump, Trace, Time, Chart, Snap, Back, Fin}
 use Rattle.st_object.specs.declared.items.Kind.{Kind}
 use Rattle.st_object.specs.declared.items.Kind.TheVariants as kinds
 
--- whether the first line was read, the start, the words up to the last that was read, what is asked for, and
--- whether the last line was read
+-- whether the first line was read, the start, the words up to the last that was read, what is asked
+-- for, and whether the last line was read
 pub record Draft : Type 0 where
   pub begun : Bool
   pub start : Option ℕ
@@ -25,8 +25,14 @@ pub record Draft : Type 0 where
   pub ended : Bool
 
 -- before the first line
-abbrev pub blank : Draft
-blank = record { begun = false; start = None; words = []; asked = nothing_asked; ended = false }
+abbrev pub draft_at_start : Draft
+draft_at_start = record {
+  begun = false;
+  start = None;
+  words = [];
+  asked = nothing_asked;
+  ended = false;
+}
 
 -- whether a list is empty
 abbrev pub is_empty : {X : Type 0} → List X → Bool
@@ -39,47 +45,47 @@ start_lines (Some h) = Start h ∷ []
 
 -- the lines of a kind that were read
 abbrev pub kind_lines : Draft → Kind → List Item
-kind_lines d kinds.Object = marked d.begun Object
+kind_lines d kinds.Object = line_where d.begun Object
 kind_lines d kinds.Start = start_lines d.start
 kind_lines d kinds.Word = word_lines 0 d.words
 kind_lines d kinds.Budget = budget_lines d.asked.budget
 kind_lines d kinds.Delay = map (λ n. Delay n) d.asked.delays
 kind_lines d kinds.Signal = map (λ s. Signal s.count s.indicator) d.asked.signals
 kind_lines d kinds.Dump = map (λ p. Dump p.0 p.1) d.asked.dumps
-kind_lines d kinds.Trace = marked d.asked.trace Trace
-kind_lines d kinds.Time = marked d.asked.time Time
-kind_lines d kinds.Chart = marked d.asked.chart Chart
+kind_lines d kinds.Trace = line_where d.asked.trace Trace
+kind_lines d kinds.Time = line_where d.asked.time Time
+kind_lines d kinds.Chart = line_where d.asked.chart Chart
 kind_lines d kinds.Snap = map (λ t. Snap t) d.asked.snaps
 kind_lines d kinds.Back = back_lines d.asked.back
-kind_lines d kinds.Fin = marked d.ended Fin
+kind_lines d kinds.Fin = line_where d.ended Fin
 
 -- all lines that were read, in their order
-abbrev pub lines_of : Draft → List Item
-lines_of d = flat_map (λ kind. kind_lines d kind) order
+abbrev pub lines_read : Draft → List Item
+lines_read d = flat_map (λ kind. kind_lines d kind) order
 
 -- whether a line of a kind was read
-abbrev pub stands : Draft → Kind → Bool
-stands d kinds.Object = d.begun
-stands d kinds.Start = is_some d.start
-stands d kinds.Word = not (is_empty d.words)
-stands d kinds.Budget = not (d.asked.budget == 0)
-stands d kinds.Delay = not (is_empty d.asked.delays)
-stands d kinds.Signal = not (is_empty d.asked.signals)
-stands d kinds.Dump = not (is_empty d.asked.dumps)
-stands d kinds.Trace = d.asked.trace
-stands d kinds.Time = d.asked.time
-stands d kinds.Chart = d.asked.chart
-stands d kinds.Snap = not (is_empty d.asked.snaps)
-stands d kinds.Back = not (d.asked.back == 0)
-stands d kinds.Fin = d.ended
+abbrev pub has_line : Draft → Kind → Bool
+has_line d kinds.Object = d.begun
+has_line d kinds.Start = is_some d.start
+has_line d kinds.Word = not (is_empty d.words)
+has_line d kinds.Budget = not (d.asked.budget == 0)
+has_line d kinds.Delay = not (is_empty d.asked.delays)
+has_line d kinds.Signal = not (is_empty d.asked.signals)
+has_line d kinds.Dump = not (is_empty d.asked.dumps)
+has_line d kinds.Trace = d.asked.trace
+has_line d kinds.Time = d.asked.time
+has_line d kinds.Chart = d.asked.chart
+has_line d kinds.Snap = not (is_empty d.asked.snaps)
+has_line d kinds.Back = not (d.asked.back == 0)
+has_line d kinds.Fin = d.ended
 
 -- whether all that must stand was read
 unfoldable pub is_whole : Draft → Bool
-is_whole d = are_met (stands d) order
+is_whole d = are_met (has_line d) order
 
 -- whether a line of a kind has its place here
 unfoldable pub has_place : Draft → Kind → Bool
-has_place d kind = may_follow (stands d) kind
+has_place d kind = may_follow (has_line d) kind
 
 -- a start is a half-word of the first 2^18 words
 abbrev pub with_start : Draft → ℕ → Option Draft
@@ -87,37 +93,39 @@ with_start d h = if nat_lt h (2 ^ 19) then Some (record d { start = Some h }) el
 
 -- whether a word is not zero and lies in storage, above the registers and above the words before it
 abbrev pub may_hold : ℕ → ℕ → ℕ → Bool
-may_hold next w x = nat_le FIRST_STORAGE_WORD w && nat_le next w && nat_lt w words_of_storage && not (x == 0)
+may_hold next w x = nat_le FIRST_STORAGE_WORD w && nat_le next w && nat_lt w words_of_storage
+    && not (x == 0)
 
 -- the draft with a word at a place, with zeros up to it
-abbrev pub with_word : Draft → ℕ → ℕ → Option Draft
-with_word d w x =
+abbrev pub draft_with_word : Draft → ℕ → ℕ → Option Draft
+draft_with_word d w x =
     if may_hold (length d.words) w x
     then Some (record d { words = d.words ++ replicate (w - length d.words) 0 ++ x ∷ [] }) else None
 
 -- what is asked for, where that is within the limits of control cards
-abbrev pub with_order : Draft → Keyword → List ℕ → Option Draft
-with_order d keyword numbers = option_map (λ a. record d { asked = a }) (with_keyword keyword d.asked numbers)
+abbrev pub draft_with_order : Draft → Keyword → List ℕ → Option Draft
+draft_with_order d keyword numbers = option_map (λ a. record d { asked = a })
+    (with_keyword keyword d.asked numbers)
 
 -- what a line says is put in
-unfoldable pub with_value : Draft → Item → Option Draft
-with_value d Object = Some (record d { begun = true })
-with_value d (Start h) = with_start d h
-with_value d (Word w x) = with_word d w x
-with_value d (Budget n) = with_order d keywords.Budget (n ∷ [])
-with_value d (Delay n) = with_order d keywords.Delays (n ∷ [])
-with_value d (Signal c i) = with_order d keywords.Signals (c ∷ i ∷ [])
-with_value d (Dump f t) = with_order d keywords.Dump (f ∷ t ∷ [])
-with_value d Trace = with_order d keywords.Trace []
-with_value d Time = with_order d keywords.Time []
-with_value d Chart = with_order d keywords.Chart []
-with_value d (Snap t) = with_order d keywords.Snap (t ∷ [])
-with_value d (Back k) = with_order d keywords.Back (k ∷ [])
-with_value d Fin = Some (record d { ended = true })
+unfoldable pub draft_with_value : Draft → Item → Option Draft
+draft_with_value d Object = Some (record d { begun = true })
+draft_with_value d (Start h) = with_start d h
+draft_with_value d (Word w x) = draft_with_word d w x
+draft_with_value d (Budget n) = draft_with_order d keywords.Budget (n ∷ [])
+draft_with_value d (Delay n) = draft_with_order d keywords.Delays (n ∷ [])
+draft_with_value d (Signal c i) = draft_with_order d keywords.Signals (c ∷ i ∷ [])
+draft_with_value d (Dump f t) = draft_with_order d keywords.Dump (f ∷ t ∷ [])
+draft_with_value d Trace = draft_with_order d keywords.Trace []
+draft_with_value d Time = draft_with_order d keywords.Time []
+draft_with_value d Chart = draft_with_order d keywords.Chart []
+draft_with_value d (Snap t) = draft_with_order d keywords.Snap (t ∷ [])
+draft_with_value d (Back k) = draft_with_order d keywords.Back (k ∷ [])
+draft_with_value d Fin = Some (record d { ended = true })
 
 -- the draft with a further line, where that line may follow
 abbrev pub with_item : Draft → Item → Option Draft
-with_item d item = if has_place d (kind_of item) then with_value d item else None
+with_item d item = if has_place d (kind_of_line item) then draft_with_value d item else None
 
 -- what holds of each draft that lines make
 pub record IsDraft (d : Draft) : Type 0 where

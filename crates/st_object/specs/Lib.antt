@@ -6,3 +6,11 @@ pub mod Object
 pub mod Answers
 pub mod Laws
 pub mod DelayLines
+pub use Rattle.st_bits.specs.Storage
+pub use Rattle.st_card.specs.Controls
+pub use Rattle.st_card.specs.Limits
+pub use Rattle.st_text.specs.Bytes
+pub use Rattle.st_text.specs.Number
+pub use Rattle.st_text.specs.Numerals
+pub use Rattle.st_text.specs.Pieces
+pub use Rattle.st_text.specs.Tables

@@ -8,28 +8,28 @@ use Rattle.st_object.specs.declared.items.Item.{Item}
 use Rattle.st_object.specs.declared.items.Item.TheVariants.{Object, Start, Word, Budget, Delay, Signal, Dump, Trace, Time, Chart, Snap, Back, Fin}
 
 -- what a line says, in its one spelling
-unfoldable pub spelled : Item → List ℕ
-spelled Object = codes "OBJECT"
-spelled (Start h) = codes "START " ++ half_address h
-spelled (Word w x) = codes "W " ++ decimal w ++ codes " " ++ hex_word x
-spelled (Budget n) = codes "BUDGET " ++ decimal n
-spelled (Delay d) = codes "DELAY " ++ decimal d
-spelled (Signal c i) = codes "SIGNAL " ++ decimal c ++ codes " " ++ decimal i
-spelled (Dump f t) = codes "DUMP " ++ decimal f ++ codes " " ++ decimal t
-spelled Trace = codes "TRACE"
-spelled Time = codes "TIME"
-spelled Chart = codes "CHART"
-spelled (Snap t) = codes "SNAP " ++ decimal t
-spelled (Back k) = codes "BACK " ++ decimal k
-spelled Fin = codes "FIN"
+unfoldable pub line_text : Item → List ℕ
+line_text Object = codes "OBJECT"
+line_text (Start h) = codes "START " ++ half_address h
+line_text (Word w x) = codes "W " ++ decimal w ++ codes " " ++ hex_word x
+line_text (Budget n) = codes "BUDGET " ++ decimal n
+line_text (Delay d) = codes "DELAY " ++ decimal d
+line_text (Signal c i) = codes "SIGNAL " ++ decimal c ++ codes " " ++ decimal i
+line_text (Dump f t) = codes "DUMP " ++ decimal f ++ codes " " ++ decimal t
+line_text Trace = codes "TRACE"
+line_text Time = codes "TIME"
+line_text Chart = codes "CHART"
+line_text (Snap t) = codes "SNAP " ++ decimal t
+line_text (Back k) = codes "BACK " ++ decimal k
+line_text Fin = codes "FIN"
 
 -- lines, each with its line end
-abbrev pub text_of : List Item → List ℕ
-text_of items = flat_map (λ i. spelled i ++ lf) items
+abbrev pub object_text_of : List Item → List ℕ
+object_text_of items = flat_map (λ i. line_text i ++ lf) items
 
 -- a line that stands there where it is asked for
-abbrev pub marked : Bool → Item → List Item
-marked asked item = if asked then item ∷ [] else []
+abbrev pub line_where : Bool → Item → List Item
+line_where asked item = if asked then item ∷ [] else []
 
 -- the words from word w on that are not zero, rising
 abbrev pub word_lines : ℕ → List ℕ → List Item
@@ -51,5 +51,5 @@ order_lines a = budget_lines a.budget ++ map (λ n. Delay n) a.delays
 
 -- what is to be shown
 abbrev pub show_lines : Asked → List Item
-show_lines a = marked a.trace Trace ++ marked a.time Time ++ marked a.chart Chart
+show_lines a = line_where a.trace Trace ++ line_where a.time Time ++ line_where a.chart Chart
     ++ map (λ t. Snap t) a.snaps ++ back_lines a.back

@@ -5,7 +5,7 @@ use Rattle.st_card.specs.declared.limits.TheConstants.{MOST_NUMBER}
 use Rattle.st_text.specs.Bytes.{blank, period, letter_a}
 use Rattle.st_text.specs.Number.{number_up_to}
 use Rattle.st_text.specs.Tables.{is_same, row_of}
-use Rattle.st_object.specs.Lines.{spelled}
+use Rattle.st_object.specs.Lines.{line_text}
 use Rattle.st_object.specs.declared.items.Item.{Item}
 use Rattle.st_object.specs.declared.items.Item.TheVariants.{Object, Start, Word, Budget, Delay, Signal, Dump, Trace, Time, Chart, Snap, Back, Fin}
 use Rattle.st_object.specs.declared.items.Kind.{Kind}
@@ -14,23 +14,26 @@ use Rattle.st_object.specs.declared.items.Kind.TheVariants as kinds
 -- what stands before the first byte `at` of a text, and what stands behind it
 abbrev pub parts_at : ℕ → List ℕ → Option (List ℕ × List ℕ)
 parts_at at [] = None
-parts_at at (c ∷ cs) = if c == at then Some ([], cs) else option_map (λ p. (c ∷ p.0, p.1)) (parts_at at cs)
+parts_at at (c ∷ cs) = if c == at then Some ([], cs) else option_map (λ p. (c ∷ p.0, p.1))
+    (parts_at at cs)
 
 -- the number that a text is, of 12 digits at most
 abbrev pub short_number : List ℕ → Option ℕ
 short_number text = number_up_to MOST_NUMBER text
 
 -- a pair of values, where there are both
-abbrev pub both : {X Y : Type 0} → Option X → Option Y → Option (X × Y)
-both (Some x) (Some y) = Some (x, y)
-both (Some x) None = None
-both None y = None
+abbrev pub pair_of : {X Y : Type 0} → Option X → Option Y → Option (X × Y)
+pair_of (Some x) (Some y) = Some (x, y)
+pair_of (Some x) None = None
+pair_of None y = None
 
 -- two numbers with a byte between them
 abbrev pub two_numbers : ℕ → List ℕ → Option (ℕ × ℕ)
-two_numbers at text = option_and_then (λ p. both (short_number p.0) (short_number p.1)) (parts_at at text)
+two_numbers at text = option_and_then (λ p. pair_of (short_number p.0) (short_number p.1))
+    (parts_at at text)
 
--- a hexadecimal digit: the character of 0 is a multiple of 16, and nine behind that of A, which is 10, stands ten behind one
+-- a hexadecimal digit: the character of 0 is a multiple of 16, and nine behind that of A, which is
+-- 10, stands ten behind one
 abbrev pub hex_digit_in : ℕ → ℕ
 hex_digit_in c = (if nat_lt c letter_a then c else c + 9) % 16
 
@@ -45,9 +48,10 @@ word_in text = option_and_then
     (λ p. option_map (λ w. Word w (hex_after 0 p.1)) (short_number p.0)) (parts_at blank text)
 
 -- the first words of lines
-abbrev pub keywords : List (List ℕ × Kind)
-keywords =
-    (codes "OBJECT", kinds.Object) ∷ (codes "START", kinds.Start) ∷ (codes "W", kinds.Word) ∷ (codes "BUDGET", kinds.Budget)
+abbrev pub line_keywords : List (List ℕ × Kind)
+line_keywords =
+    (codes "OBJECT", kinds.Object) ∷ (codes "START", kinds.Start) ∷ (codes "W", kinds.Word)
+    ∷ (codes "BUDGET", kinds.Budget)
     ∷ (codes "DELAY", kinds.Delay) ∷ (codes "SIGNAL", kinds.Signal) ∷ (codes "DUMP", kinds.Dump)
     ∷ (codes "TRACE", kinds.Trace) ∷ (codes "TIME", kinds.Time) ∷ (codes "CHART", kinds.Chart)
     ∷ (codes "SNAP", kinds.Snap) ∷ (codes "BACK", kinds.Back) ∷ (codes "FIN", kinds.Fin) ∷ []
@@ -55,7 +59,8 @@ keywords =
 -- what stands behind a first word
 abbrev pub item_behind : Kind → List ℕ → Option Item
 item_behind kinds.Object text = Some Object
-item_behind kinds.Start text = option_map (λ p. Start (2 * p.0 + p.1 / 32)) (two_numbers period text)
+item_behind kinds.Start text = option_map (λ p. Start (2 * p.0 + p.1 / 32))
+    (two_numbers period text)
 item_behind kinds.Word text = word_in text
 item_behind kinds.Budget text = option_map (λ n. Budget n) (short_number text)
 item_behind kinds.Delay text = option_map (λ n. Delay n) (short_number text)
@@ -70,20 +75,22 @@ item_behind kinds.Fin text = Some Fin
 
 -- what a first word says with what stands behind it
 abbrev pub item_of : List ℕ → List ℕ → Option Item
-item_of word rest = option_and_then (λ kind. item_behind kind rest) (row_of word keywords)
+item_of word rest = option_and_then (λ kind. item_behind kind rest) (row_of word line_keywords)
 
--- what a line means if it is spelled so: leading zeros, other letters and what stands in excess are not looked at here
+-- what a line means if it is spelled so: leading zeros, other letters and what stands in excess are
+-- not looked at here
 abbrev pub item_loosely : Option (List ℕ × List ℕ) → List ℕ → Option Item
 item_loosely None line = item_of line []
 item_loosely (Some p) line = item_of p.0 p.1
 
 -- an item, where the line is its spelling
 abbrev pub if_spelled : List ℕ → Item → Option Item
-if_spelled line item = if is_same (spelled item) line then Some item else None
+if_spelled line item = if is_same (line_text item) line then Some item else None
 
 -- the item that a line spells
 abbrev pub item_in : List ℕ → Option Item
-item_in line = option_and_then (λ item. if_spelled line item) (item_loosely (parts_at blank line) line)
+item_in line = option_and_then (λ item. if_spelled line item)
+    (item_loosely (parts_at blank line) line)
 
 -- numbers that can be read: of 12 digits at most
 abbrev pub IsShort : ℕ → Type 0

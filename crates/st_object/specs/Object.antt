@@ -7,9 +7,9 @@ use Rattle.st_bits.specs.declared.register.TheConstants.{FIRST_STORAGE_WORD}
 use Rattle.st_bits.specs.Storage.{words_of_storage}
 use Rattle.st_card.specs.Controls.{Asked}
 use Rattle.st_card.specs.Limits.{IsWithinLimits}
-use Rattle.st_text.specs.Pieces.{parted}
-use Rattle.st_object.specs.Lines.{text_of, word_lines, order_lines, show_lines}
-use Rattle.st_object.specs.Draft.{Draft, blank, is_empty, is_whole, with_item}
+use Rattle.st_text.specs.Pieces.{pieces_of}
+use Rattle.st_object.specs.Lines.{object_text_of, word_lines, order_lines, show_lines}
+use Rattle.st_object.specs.Draft.{Draft, draft_at_start, is_empty, is_whole, with_item}
 use Rattle.st_object.specs.Meaning.{item_in}
 use Rattle.st_object.specs.declared.items.Item.{Item}
 use Rattle.st_object.specs.declared.items.Item.TheVariants.{Object, Start, Fin}
@@ -37,11 +37,12 @@ AreWords words = All (λ x. x < 2 ^ 64) words
 -- the lines of a program
 abbrev pub object_lines : Program → List Item
 object_lines p =
-    Object ∷ Start p.start ∷ [] ++ word_lines 0 p.words ++ order_lines p.controls ++ show_lines p.controls ++ Fin ∷ []
+    Object ∷ Start p.start ∷ [] ++ word_lines 0 p.words ++ order_lines p.controls
+    ++ show_lines p.controls ++ Fin ∷ []
 
 -- the object text of a program
 abbrev pub object_text : Program → List ℕ
-object_text p = text_of (object_lines p)
+object_text p = object_text_of (object_lines p)
 
 -- words with zeros up to the end of storage
 abbrev pub filled_up : List ℕ → List ℕ
@@ -52,33 +53,35 @@ abbrev pub program_of : Draft → Program
 program_of d = record { words = filled_up d.words; start = unwrap_or d.start 0; controls = d.asked }
 
 -- the draft with a further line, where that line may follow
-abbrev pub with_line : Draft → List ℕ → Option Draft
-with_line d line = option_and_then (λ item. with_item d item) (item_in line)
+abbrev pub draft_with_line : Draft → List ℕ → Option Draft
+draft_with_line d line = option_and_then (λ item. with_item d item) (item_in line)
 
 -- a text that ends here, where n is the number of the line behind its last
-abbrev pub finished : Draft → ℕ → Result Program ℕ
-finished d n = if is_whole d then Ok (program_of d) else Err n
+abbrev pub program_at_end : Draft → ℕ → Result Program ℕ
+program_at_end d n = if is_whole d then Ok (program_of d) else Err n
 
 -- a text whose n-th line has no line end: it ends too early, where that line is not bad itself
-abbrev pub unended : Draft → ℕ → List ℕ → Result Program ℕ
-unended d n line = if is_some (with_line d line) then Err (n + 1) else Err n
+abbrev pub program_cut : Draft → ℕ → List ℕ → Result Program ℕ
+program_cut d n line = if is_some (draft_with_line d line) then Err (n + 1) else Err n
 
 -- what stands behind the last line end
-abbrev pub end_of : Draft → ℕ → List ℕ → Result Program ℕ
-end_of d n rest = if is_empty rest then finished d n else unended d n rest
+abbrev pub program_behind : Draft → ℕ → List ℕ → Result Program ℕ
+program_behind d n rest = if is_empty rest then program_at_end d n else program_cut d n rest
 
--- the pieces of a text between its line ends, from the n-th on: the program, or the number of the bad line
+-- the pieces of a text between its line ends, from the n-th on: the program, or the number of the
+-- bad line
 abbrev pub read_from : Draft → ℕ → List (List ℕ) → Result Program ℕ
 read_from d n [] = Err n
-read_from d n (rest ∷ []) = end_of d n rest
+read_from d n (rest ∷ []) = program_behind d n rest
 read_from d n (line ∷ next ∷ more) =
-    option_map_or (λ e. read_from e (n + 1) (next ∷ more)) (with_line d line) (Err n)
+    option_map_or (λ e. read_from e (n + 1) (next ∷ more)) (draft_with_line d line) (Err n)
 
 -- the program that a text holds, or the number of its bad line
 unfoldable pub read_text : List ℕ → Result Program ℕ
-read_text text = read_from blank 1 (parted line_end text)
+read_text text = read_from draft_at_start 1 (pieces_of line_end text)
 
--- the lines that pieces between line ends are: what stands behind the last line end is a line too, where it is not empty
+-- the lines that pieces between line ends are: what stands behind the last line end is a line too,
+-- where it is not empty
 abbrev pub lines_in : List (List ℕ) → List (List ℕ)
 lines_in [] = []
 lines_in (rest ∷ []) = if is_empty rest then [] else rest ∷ []
@@ -86,7 +89,7 @@ lines_in (line ∷ next ∷ more) = line ∷ lines_in (next ∷ more)
 
 -- the lines of a text
 abbrev pub text_lines : List ℕ → List (List ℕ)
-text_lines text = lines_in (parted line_end text)
+text_lines text = lines_in (pieces_of line_end text)
 
 -- the first n lines of a text, each with its line end
 abbrev pub first_lines : ℕ → List ℕ → List ℕ
@@ -101,8 +104,8 @@ BeginsObjectText front = (p : Program) × IsProgram p × AreWords p.words
 abbrev pub IsObjectText : List ℕ → Type 0
 IsObjectText text = (p : Program) × IsProgram p × AreWords p.words × (text ≡ object_text p)
 
--- the bad line of a text that is no object text: the first after which the lines so far begin none; where the
--- text ends too early, the line behind the last
+-- the bad line of a text that is no object text: the first after which the lines so far begin none;
+-- where the text ends too early, the line behind the last
 pub record IsBadLine (text : List ℕ) (n : ℕ) : Type 0 where
   pub none : IsObjectText text → ⊥
   pub counted : (1 ≤ n) × (n ≤ length (text_lines text) + 1)

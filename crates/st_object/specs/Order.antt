@@ -8,56 +8,57 @@ use Rattle.st_object.specs.declared.items.Kind.TheVariants as kinds
 use Rattle.st_object.specs.declared.order.KindRow.{KindRow}
 
 -- the kind of a line
-abbrev pub kind_of : Item → Kind
-kind_of Object = kinds.Object
-kind_of (Start h) = kinds.Start
-kind_of (Word w x) = kinds.Word
-kind_of (Budget n) = kinds.Budget
-kind_of (Delay d) = kinds.Delay
-kind_of (Signal c i) = kinds.Signal
-kind_of (Dump f t) = kinds.Dump
-kind_of Trace = kinds.Trace
-kind_of Time = kinds.Time
-kind_of Chart = kinds.Chart
-kind_of (Snap t) = kinds.Snap
-kind_of (Back k) = kinds.Back
-kind_of Fin = kinds.Fin
+abbrev pub kind_of_line : Item → Kind
+kind_of_line Object = kinds.Object
+kind_of_line (Start h) = kinds.Start
+kind_of_line (Word w x) = kinds.Word
+kind_of_line (Budget n) = kinds.Budget
+kind_of_line (Delay d) = kinds.Delay
+kind_of_line (Signal c i) = kinds.Signal
+kind_of_line (Dump f t) = kinds.Dump
+kind_of_line Trace = kinds.Trace
+kind_of_line Time = kinds.Time
+kind_of_line Chart = kinds.Chart
+kind_of_line (Snap t) = kinds.Snap
+kind_of_line (Back k) = kinds.Back
+kind_of_line Fin = kinds.Fin
 
 -- the kinds of lines in their order
 abbrev pub order : List Kind
 order =
-    kinds.Object ∷ kinds.Start ∷ kinds.Word ∷ kinds.Budget ∷ kinds.Delay ∷ kinds.Signal ∷ kinds.Dump ∷ kinds.Trace
+    kinds.Object ∷ kinds.Start ∷ kinds.Word ∷ kinds.Budget ∷ kinds.Delay ∷ kinds.Signal ∷ kinds.Dump
+    ∷ kinds.Trace
     ∷ kinds.Time ∷ kinds.Chart ∷ kinds.Snap ∷ kinds.Back ∷ kinds.Fin ∷ []
 
 -- a kind's place in that order, whether it may stand more than once, and whether it must stand
-abbrev pub row : Kind → KindRow
-row kinds.Object = record { place = 0; repeats = false; required = true }
-row kinds.Start = record { place = 1; repeats = false; required = true }
-row kinds.Word = record { place = 2; repeats = true; required = false }
-row kinds.Budget = record { place = 3; repeats = false; required = true }
-row kinds.Delay = record { place = 4; repeats = true; required = true }
-row kinds.Signal = record { place = 5; repeats = true; required = false }
-row kinds.Dump = record { place = 6; repeats = true; required = false }
-row kinds.Trace = record { place = 7; repeats = false; required = false }
-row kinds.Time = record { place = 8; repeats = false; required = false }
-row kinds.Chart = record { place = 9; repeats = false; required = false }
-row kinds.Snap = record { place = 10; repeats = true; required = false }
-row kinds.Back = record { place = 11; repeats = false; required = false }
-row kinds.Fin = record { place = 12; repeats = false; required = true }
+abbrev pub row_of_kind : Kind → KindRow
+row_of_kind kinds.Object = record { place = 0; repeats = false; required = true }
+row_of_kind kinds.Start = record { place = 1; repeats = false; required = true }
+row_of_kind kinds.Word = record { place = 2; repeats = true; required = false }
+row_of_kind kinds.Budget = record { place = 3; repeats = false; required = true }
+row_of_kind kinds.Delay = record { place = 4; repeats = true; required = true }
+row_of_kind kinds.Signal = record { place = 5; repeats = true; required = false }
+row_of_kind kinds.Dump = record { place = 6; repeats = true; required = false }
+row_of_kind kinds.Trace = record { place = 7; repeats = false; required = false }
+row_of_kind kinds.Time = record { place = 8; repeats = false; required = false }
+row_of_kind kinds.Chart = record { place = 9; repeats = false; required = false }
+row_of_kind kinds.Snap = record { place = 10; repeats = true; required = false }
+row_of_kind kinds.Back = record { place = 11; repeats = false; required = false }
+row_of_kind kinds.Fin = record { place = 12; repeats = false; required = true }
 
 -- the kinds before one
-abbrev pub before : Kind → List Kind
-before kind = take (row kind).place order
+abbrev pub kinds_before : Kind → List Kind
+kinds_before kind = take (row_of_kind kind).place order
 
 -- the kinds behind one
-abbrev pub behind : Kind → List Kind
-behind kind = drop ((row kind).place + 1) order
+abbrev pub kinds_behind : Kind → List Kind
+kinds_behind kind = drop ((row_of_kind kind).place + 1) order
 
 -- by which kinds stand
 module _ (stands : Kind → Bool) where
   -- whether a kind stands or need not
   abbrev pub is_met : Kind → Bool
-  is_met kind = not (row kind).required || stands kind
+  is_met kind = not (row_of_kind kind).required || stands kind
 
   -- whether each of some kinds does
   abbrev pub are_met : List Kind → Bool
@@ -67,7 +68,8 @@ module _ (stands : Kind → Bool) where
   abbrev pub none_stands : List Kind → Bool
   none_stands kinds = list_all (λ kind. not (stands kind)) kinds
 
-  -- whether a line of a kind may follow: what must stand before it does, it is the first or may stand more than once, and
-  -- nothing stands behind it
+  -- whether a line of a kind may follow: what must stand before it does, it is the first or may
+  -- stand more than once, and nothing stands behind it
   abbrev pub may_follow : Kind → Bool
-  may_follow kind = are_met (before kind) && ((row kind).repeats || not (stands kind)) && none_stands (behind kind)
+  may_follow kind = are_met (kinds_before kind) && ((row_of_kind kind).repeats || not (stands kind))
+      && none_stands (kinds_behind kind)

@@ -44,7 +44,7 @@ impl Model for Draft {
 impl Draft {
     // Whether a line of a kind was read.
     fn stands(&self, kind: Kind) -> bool
-        ensures { result ≡ spec.stands self.now kind }
+        ensures { result ≡ spec.has_line self.now kind }
     {
         match kind {
             Kind::Object => self.begun,
@@ -65,7 +65,7 @@ impl Draft {
 
     // Whether a kind stands, where it must.
     fn is_met(&self, kind: Kind) -> bool
-        ensures { result ≡ is_met (spec.stands self.now) kind }
+        ensures { result ≡ is_met (spec.has_line self.now) kind }
     {
         let needed = row(kind).required;
         !needed || self.stands(kind)
@@ -73,7 +73,7 @@ impl Draft {
 
     // Whether each of some kinds stands that must.
     fn are_met(&self, kinds: &[Kind]) -> bool
-        ensures { result ≡ are_met (spec.stands self.now) kinds.now }
+        ensures { result ≡ are_met (spec.has_line self.now) kinds.now }
     {
         let mut rest = kinds;
         'kinds: while let [kind, after @ ..] = rest {
@@ -87,7 +87,7 @@ impl Draft {
 
     // Whether none of some kinds stands.
     fn none_stands(&self, kinds: &[Kind]) -> bool
-        ensures { result ≡ none_stands (spec.stands self.now) kinds.now }
+        ensures { result ≡ none_stands (spec.has_line self.now) kinds.now }
     {
         let mut rest = kinds;
         'kinds: while let [kind, after @ ..] = rest {
@@ -122,7 +122,7 @@ impl Draft {
 impl Draft {
     // A draft before the first line.
     pub(crate) fn new(alloc: Global) -> Draft
-        ensures { result ≡ spec.blank }
+        ensures { result ≡ spec.draft_at_start }
     {
         Draft {
             begun: false,
@@ -145,9 +145,9 @@ impl Draft {
     }
 
     // Puts in what a line says.
-    #[tactic(auto, unfolding(crate::specs::Draft::with_value))]
+    #[tactic(auto, unfolding(crate::specs::Draft::draft_with_value))]
     pub(crate) fn put(&mut self, item: Item) -> Addition
-        ensures { Settles self.new (spec.with_value self.old item) result }
+        ensures { Settles self.new (spec.draft_with_value self.old item) result }
     {
         match item {
             Item::Object => self.put_object(),
@@ -169,7 +169,7 @@ impl Draft {
     // Adds what is asked for, within the limits of control cards.
     fn ask(&mut self, keyword: Keyword, numbers: &[u64]) -> Addition
         requires { length numbers.now ≤ 36 }
-        ensures { Settles self.new (spec.with_order self.old keyword numbers.now) result }
+        ensures { Settles self.new (spec.draft_with_order self.old keyword numbers.now) result }
     {
         self.controls.ask(keyword, numbers)
     }
@@ -193,7 +193,7 @@ impl Draft {
     }
 
     fn put_word(&mut self, address: u64, word: u64) -> Addition
-        ensures { Settles self.new (spec.with_word self.old address word) result }
+        ensures { Settles self.new (spec.draft_with_word self.old address word) result }
     {
         if may_hold(self.words.len() as u64, address, word) {
             push_word(&mut self.words, address as usize, word)

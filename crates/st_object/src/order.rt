@@ -46,7 +46,7 @@ fn kind_row(place: usize, repeats: bool, required: bool) -> KindRow
 
 // A kind's place in that order, whether it may stand more than once, and whether it must stand.
 pub(crate) fn row(kind: Kind) -> KindRow
-    ensures row { result ≡ spec.row kind }
+    ensures row { result ≡ spec.row_of_kind kind }
     ensures within { result.place < 13 }
 {
     match kind {
@@ -68,7 +68,7 @@ pub(crate) fn row(kind: Kind) -> KindRow
 
 // The kind of a line.
 pub(crate) fn kind_of(item: Item) -> Kind
-    ensures { result ≡ spec.kind_of item }
+    ensures { result ≡ spec.kind_of_line item }
 {
     match item {
         Item::Object => Kind::Object,

@@ -27,7 +27,7 @@ pub enum ObjectError {
 
 // Adds a line, where it may follow.
 fn add_line(draft: &mut Draft, line: &[u8]) -> Addition
-    ensures { Settles draft.new (spec.with_line draft.old line.now) result }
+    ensures { Settles draft.new (spec.draft_with_line draft.old line.now) result }
 {
     match item_in(line) {
         None => Addition::Refused,
@@ -69,7 +69,7 @@ fn image_of(draft: Draft) -> Result<Image, ObjectError>
 // A text that ends here, where `card` is the number of the line behind its last.
 fn finish(draft: Draft, card: u32) -> Result<Image, ObjectError>
     requires { IsDraft draft }
-    ensures { Gives (spec.finished draft card) result }
+    ensures { Gives (spec.program_at_end draft card) result }
 {
     if !draft.is_whole() {
         return Err(refused(card));
@@ -80,7 +80,7 @@ fn finish(draft: Draft, card: u32) -> Result<Image, ObjectError>
 // A text whose last line has no line end.
 fn refuse_unended(draft: &mut Draft, card: u32, line: &[u8]) -> ObjectError
     requires { card + 1 < 2 ^ 32 }
-    ensures { Explains (spec.unended draft.old card line.now) result }
+    ensures { Explains (spec.program_cut draft.old card line.now) result }
 {
     match add_line(draft, line) {
         Addition::Added => refused(card + 1),
@@ -93,7 +93,7 @@ fn refuse_unended(draft: &mut Draft, card: u32, line: &[u8]) -> ObjectError
 fn end_of(mut draft: Draft, card: u32, rest: &[u8]) -> Result<Image, ObjectError>
     requires draft { IsDraft draft }
     requires counted { card + 1 < 2 ^ 32 }
-    ensures { Gives (spec.end_of draft card rest.now) result }
+    ensures { Gives (spec.program_behind draft card rest.now) result }
 {
     if rest.is_empty() {
         return finish(draft, card);

@@ -42,9 +42,9 @@ fn word_line(w: u64, word: u64) -> Line
 }
 
 // What a line says, in its one spelling.
-#[tactic(auto, unfolding(crate::specs::Lines::spelled))]
+#[tactic(auto, unfolding(crate::specs::Lines::line_text))]
 pub(crate) fn spelled(item: Item) -> Line
-    ensures { result.bytes ≡ spec.spelled item }
+    ensures { result.bytes ≡ spec.line_text item }
 {
     match item {
         Item::Object => begun("OBJECT"),

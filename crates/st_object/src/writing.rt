@@ -14,7 +14,7 @@ use std::alloc::{AllocError, Global};
 
 // Appends a line.
 fn push_line(text: &mut Vec<u8>, item: Item) -> Result<(), AllocError>
-    ensures { OnOk result (text.new.items ≡ text.old.items ++ lines.text_of (item ∷ [])) }
+    ensures { OnOk result (text.new.items ≡ text.old.items ++ lines.object_text_of (item ∷ [])) }
 {
     text.extend_from_slice(spelled(item).as_str().as_bytes())?;
     text.extend_from_slice(b"\n")
@@ -23,7 +23,7 @@ fn push_line(text: &mut Vec<u8>, item: Item) -> Result<(), AllocError>
 // Appends a line where it is asked for.
 fn push_mark(text: &mut Vec<u8>, asked: bool, item: Item) -> Result<(), AllocError>
     ensures { OnOk result
-        (text.new.items ≡ text.old.items ++ lines.text_of (lines.marked asked item)) }
+        (text.new.items ≡ text.old.items ++ lines.object_text_of (lines.line_where asked item)) }
 {
     if !asked {
         return Ok(());
@@ -34,7 +34,7 @@ fn push_mark(text: &mut Vec<u8>, asked: bool, item: Item) -> Result<(), AllocErr
 // Appends the words that are not zero.
 fn push_words(text: &mut Vec<u8>, words: &[u64]) -> Result<(), AllocError>
     ensures { OnOk result
-        (text.new.items ≡ text.old.items ++ lines.text_of (lines.word_lines 0 words.now)) }
+        (text.new.items ≡ text.old.items ++ lines.object_text_of (lines.word_lines 0 words.now)) }
 {
     'words: for (address, word) in words.iter().enumerate() {
         push_mark(text, *word != 0, Item::Word(address as u64, *word))?;
@@ -44,7 +44,7 @@ fn push_words(text: &mut Vec<u8>, words: &[u64]) -> Result<(), AllocError>
 
 fn push_budget(text: &mut Vec<u8>, budget: u64) -> Result<(), AllocError>
     ensures { OnOk result
-        (text.new.items ≡ text.old.items ++ lines.text_of (lines.budget_lines budget)) }
+        (text.new.items ≡ text.old.items ++ lines.object_text_of (lines.budget_lines budget)) }
 {
     if budget == 0 {
         return Ok(());
@@ -54,7 +54,7 @@ fn push_budget(text: &mut Vec<u8>, budget: u64) -> Result<(), AllocError>
 
 fn push_delays(text: &mut Vec<u8>, delays: &[u8]) -> Result<(), AllocError>
     ensures { let delays = map (λ n. items.Delay n) delays.now in OnOk result
-        (text.new.items ≡ text.old.items ++ lines.text_of delays) }
+        (text.new.items ≡ text.old.items ++ lines.object_text_of delays) }
 {
     'delays: for ticks in delays {
         push_line(text, Item::Delay(u64::from(*ticks)))?;
@@ -64,7 +64,7 @@ fn push_delays(text: &mut Vec<u8>, delays: &[u8]) -> Result<(), AllocError>
 
 fn push_signals(text: &mut Vec<u8>, signals: &[Signal]) -> Result<(), AllocError>
     ensures { let signals = map (λ s. items.Signal s.count s.indicator) signals.now in OnOk result
-        (text.new.items ≡ text.old.items ++ lines.text_of signals) }
+        (text.new.items ≡ text.old.items ++ lines.object_text_of signals) }
 {
     'signals: for signal in signals {
         push_line(
@@ -77,7 +77,7 @@ fn push_signals(text: &mut Vec<u8>, signals: &[Signal]) -> Result<(), AllocError
 
 fn push_dumps(text: &mut Vec<u8>, dumps: &[(u32, u32)]) -> Result<(), AllocError>
     ensures { let dumps = map (λ p. items.Dump p.0 p.1) dumps.now in OnOk result
-        (text.new.items ≡ text.old.items ++ lines.text_of dumps) }
+        (text.new.items ≡ text.old.items ++ lines.object_text_of dumps) }
 {
     'dumps: for part in dumps {
         push_line(text, Item::Dump(u64::from(part.0), u64::from(part.1)))?;
@@ -87,7 +87,7 @@ fn push_dumps(text: &mut Vec<u8>, dumps: &[(u32, u32)]) -> Result<(), AllocError
 
 fn push_snaps(text: &mut Vec<u8>, snaps: &[u64]) -> Result<(), AllocError>
     ensures { let snaps = map (λ t. items.Snap t) snaps.now in OnOk result
-        (text.new.items ≡ text.old.items ++ lines.text_of snaps) }
+        (text.new.items ≡ text.old.items ++ lines.object_text_of snaps) }
 {
     'snaps: for tick in snaps {
         push_line(text, Item::Snap(*tick))?;
@@ -97,7 +97,7 @@ fn push_snaps(text: &mut Vec<u8>, snaps: &[u64]) -> Result<(), AllocError>
 
 fn push_back(text: &mut Vec<u8>, back: u8) -> Result<(), AllocError>
     ensures { OnOk result
-        (text.new.items ≡ text.old.items ++ lines.text_of (lines.back_lines back)) }
+        (text.new.items ≡ text.old.items ++ lines.object_text_of (lines.back_lines back)) }
 {
     if back == 0 {
         return Ok(());
@@ -108,7 +108,7 @@ fn push_back(text: &mut Vec<u8>, back: u8) -> Result<(), AllocError>
 // Appends the lines of a program before what is asked for.
 fn push_program(text: &mut Vec<u8>, words: &[u64], start: u32) -> Result<(), AllocError>
     ensures { let program = items.Object ∷ items.Start start ∷ [] ++ lines.word_lines 0 words.now in
-        OnOk result (text.new.items ≡ text.old.items ++ lines.text_of program) }
+        OnOk result (text.new.items ≡ text.old.items ++ lines.object_text_of program) }
 {
     push_line(text, Item::Object)?;
     push_line(text, Item::Start(u64::from(start)))?;
@@ -118,7 +118,7 @@ fn push_program(text: &mut Vec<u8>, words: &[u64], start: u32) -> Result<(), All
 // Appends the lines of what is asked for, up to the parts of storage.
 fn push_orders(text: &mut Vec<u8>, controls: &Controls) -> Result<(), AllocError>
     ensures { OnOk result
-        (text.new.items ≡ text.old.items ++ lines.text_of (lines.order_lines controls.now)) }
+        (text.new.items ≡ text.old.items ++ lines.object_text_of (lines.order_lines controls.now)) }
 {
     push_budget(text, controls.budget)?;
     push_delays(text, controls.delays.as_slice())?;
@@ -129,7 +129,7 @@ fn push_orders(text: &mut Vec<u8>, controls: &Controls) -> Result<(), AllocError
 // Appends the lines of what is to be shown.
 fn push_shows(text: &mut Vec<u8>, controls: &Controls) -> Result<(), AllocError>
     ensures { OnOk result
-        (text.new.items ≡ text.old.items ++ lines.text_of (lines.show_lines controls.now)) }
+        (text.new.items ≡ text.old.items ++ lines.object_text_of (lines.show_lines controls.now)) }
 {
     push_mark(text, controls.trace, Item::Trace)?;
     push_mark(text, controls.time, Item::Time)?;

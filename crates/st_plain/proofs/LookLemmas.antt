@@ -5,11 +5,11 @@ use Rattle.std.proofs.lemmas.List.{append-nil}
 use Rattle.std.proofs.lemmas.Bool.{lt-ltb, le-ltb}
 use Rattle.st_state.specs.Machine.{Machine}
 use Rattle.st_prep.specs.declared.entries.Prepared.{Prepared}
-use Rattle.st_exec.specs.Completion.{completed, guessed, guess}
-use Rattle.st_rows.specs.Asked.{Read, formed_asked, asked, served}
-use Rattle.st_rows.specs.Entries.{no_words}
-use Rattle.st_rows.specs.Notes.{noted}
-use Rattle.st_rows.specs.Rows.{row, after, bus_a, tick_p, tick_c, prepared, done_before}
+use Rattle.st_exec.specs.Completion.{state_after_completion, guessed_state, guess}
+use Rattle.st_rows.specs.Asked.{Read, formed_asked, reads_of_entry, bus_after_reads}
+use Rattle.st_rows.specs.Entries.{no_runs}
+use Rattle.st_rows.specs.Notes.{log_after_reads}
+use Rattle.st_rows.specs.Rows.{row_of_entry, front_after_entry, bus_a, tick_p, tick_c, preparation_tick, done_before}
 use Rattle.st_rows.specs.declared.entry.Entry.{Entry}
 use Rattle.st_rows.specs.declared.log.Made.{Made}
 use Rattle.st_rows.specs.declared.past.Past.{Past}
@@ -22,122 +22,122 @@ use Rattle.st_rows.specs.declared.bus.Bus.{Bus}
 use Rattle.st_segment.specs.Ahead.{Ahead, ahead, next_ahead, prepared_before}
 use Rattle.st_exec.proofs.Unchanged.{completed-done}
 use Rattle.st_plain.specs.declared.looking.Ahead.{Ahead as Seen}
-use Rattle.st_plain.specs.Looking.{seen_of, looked}
+use Rattle.st_plain.specs.Looking.{seen_ahead, reads_up_to}
 
 -- a guessed step is completed, and its counter set
 pub record IsCounted (p : Prepared) (s : Machine) : Type 0 where
   pub ic : ℕ
-  pub is : guessed p s ≡ record (completed p s) { ic = ic }
+  pub is : guessed_state p s ≡ record (state_after_completion p s) { ic = ic }
 
 counted-by : (b : Bool) (u : Machine) (f : ℕ) → (if b then u else record u { ic = f }) ≡ record u { ic = if b then u.ic else f }
 counted-by true u f = refl
 counted-by false u f = refl
 
 pub guess-counted : (p : Prepared) (s : Machine) → IsCounted p s
-unfolding guessed
+unfolding guessed_state
 guess-counted p s = record {
-  ic = if p.serial then (completed p s).ic else p.following;
-  is = counted-by p.serial (completed p s) p.following;
+  ic = if p.serial then (state_after_completion p s).ic else p.following;
+  is = counted-by p.serial (state_after_completion p s) p.following;
 }
 
-pub guess-done : (p : Prepared) (s : Machine) → (guessed p s).done ≡ s.done + 1
+pub guess-done : (p : Prepared) (s : Machine) → (guessed_state p s).done ≡ s.done + 1
 guess-done p s = let c = guess-counted p s in ap (λ (u : Machine). u.done) c.is ∙ completed-done p s
 
 module _ (ds : List ℕ) (n t : ℕ) (s : Machine) (f : Front) where
   -- the entries that are found
-  pub found-late : (k : ℕ) → t ≤ (row ds n f (entry None s)).p → prepared_before t (ahead ds n k None s f) ≡ []
+  pub found-late : (k : ℕ) → t ≤ (row_of_entry ds n f (entry None s)).p → prepared_before t (ahead ds n k None s f) ≡ []
   unfolding ahead prepared_before
   found-late zero late = refl
   found-late (suc k) late = rw (le-ltb _ t late) refl
 
-  pub found-next : (k : ℕ) → 1 ≤ k → (row ds n f (entry None s)).p < t
+  pub found-next : (k : ℕ) → 1 ≤ k → (row_of_entry ds n f (entry None s)).p < t
       → prepared_before t (ahead ds n k None s f)
-      ≡ next_ahead ds n None s f ∷ prepared_before t (ahead ds n (k - 1) None (guess None s) (after ds n f (entry None s)))
+      ≡ next_ahead ds n None s f ∷ prepared_before t (ahead ds n (k - 1) None (guess None s) (front_after_entry ds n f (entry None s)))
   unfolding ahead prepared_before
   found-next zero some early = let no : ⊥ = omega arith in absurd no
   found-next (suc k) some early =
       let one : k ≡ suc k - 1 = omega arith in
       rw (lt-ltb _ t early)
-      (ap (λ j. next_ahead ds n None s f ∷ prepared_before t (ahead ds n j None (guess None s) (after ds n f (entry None s)))) one)
+      (ap (λ j. next_ahead ds n None s f ∷ prepared_before t (ahead ds n j None (guess None s) (front_after_entry ds n f (entry None s)))) one)
 
   -- the reads that are made
-  pub looked-late : (k : ℕ) → t ≤ (row ds n f (entry None s)).p → looked ds n t (ahead ds n (suc k) None s f) ≡ formed_asked ds f (entry None s)
-  unfolding ahead looked
+  pub looked-late : (k : ℕ) → t ≤ (row_of_entry ds n f (entry None s)).p → reads_up_to ds n t (ahead ds n (suc k) None s f) ≡ formed_asked ds f (entry None s)
+  unfolding ahead reads_up_to
   looked-late k late = rw (le-ltb _ t late) refl
 
-  pub looked-next : (k : ℕ) → 1 ≤ k → (row ds n f (entry None s)).p < t
-      → looked ds n t (ahead ds n (suc k) None s f)
-      ≡ asked ds n f (entry None s) ++ looked ds n t (ahead ds n (suc (k - 1)) None (guess None s) (after ds n f (entry None s)))
-  unfolding ahead looked
+  pub looked-next : (k : ℕ) → 1 ≤ k → (row_of_entry ds n f (entry None s)).p < t
+      → reads_up_to ds n t (ahead ds n (suc k) None s f)
+      ≡ reads_of_entry ds n f (entry None s) ++ reads_up_to ds n t (ahead ds n (suc (k - 1)) None (guess None s) (front_after_entry ds n f (entry None s)))
+  unfolding ahead reads_up_to
   looked-next zero some early = let no : ⊥ = omega arith in absurd no
   looked-next (suc k) some early =
       let one : suc k ≡ suc (suc k - 1) = omega arith in
       rw (lt-ltb _ t early)
-      (ap (λ j. asked ds n f (entry None s) ++ looked ds n t (ahead ds n j None (guess None s) (after ds n f (entry None s)))) one)
+      (ap (λ j. reads_of_entry ds n f (entry None s) ++ reads_up_to ds n t (ahead ds n j None (guess None s) (front_after_entry ds n f (entry None s)))) one)
 
 -- what is found, and what is made
-pub found-same : (xs : List Seen) (ys : List Ahead) → ys ≡ [] → xs ≡ xs ++ map seen_of ys
+pub found-same : (xs : List Seen) (ys : List Ahead) → ys ≡ [] → xs ≡ xs ++ map seen_ahead ys
 found-same xs ys none = rw none (sym (append-nil xs))
 
 module _ (ds : List ℕ) (n t : ℕ) (s : Machine) (f : Front) where
-  pub found-look : (u : Machine) (g : Front) (k : ℕ) (xs ys ws : List Seen) (x : Seen) → 1 ≤ k → (row ds n f (entry None s)).p < t
-      → x ≡ seen_of (next_ahead ds n None s f) → u ≡ guess None s → g ≡ after ds n f (entry None s) → ys ≡ xs ++ x ∷ []
-      → ws ≡ ys ++ map seen_of (prepared_before t (ahead ds n (k - 1) None u g))
-      → ws ≡ xs ++ map seen_of (prepared_before t (ahead ds n k None s f))
+  pub found-look : (u : Machine) (g : Front) (k : ℕ) (xs ys ws : List Seen) (x : Seen) → 1 ≤ k → (row_of_entry ds n f (entry None s)).p < t
+      → x ≡ seen_ahead (next_ahead ds n None s f) → u ≡ guess None s → g ≡ front_after_entry ds n f (entry None s) → ys ≡ xs ++ x ∷ []
+      → ws ≡ ys ++ map seen_ahead (prepared_before t (ahead ds n (k - 1) None u g))
+      → ws ≡ xs ++ map seen_ahead (prepared_before t (ahead ds n k None s f))
   found-look u g k xs ys ws x some early is next behind one rest =
-      let later : List Seen = map seen_of (prepared_before t (ahead ds n (k - 1) None (guess None s) (after ds n f (entry None s)))) in
+      let later : List Seen = map seen_ahead (prepared_before t (ahead ds n (k - 1) None (guess None s) (front_after_entry ds n f (entry None s)))) in
       rest
-      ∙ ap (λ v. ys ++ map seen_of (prepared_before t (ahead ds n (k - 1) None v g))) next
-      ∙ ap (λ h. ys ++ map seen_of (prepared_before t (ahead ds n (k - 1) None (guess None s) h))) behind
+      ∙ ap (λ v. ys ++ map seen_ahead (prepared_before t (ahead ds n (k - 1) None v g))) next
+      ∙ ap (λ h. ys ++ map seen_ahead (prepared_before t (ahead ds n (k - 1) None (guess None s) h))) behind
       ∙ ap (λ l. l ++ later) one
       ∙ append_assoc xs (x ∷ []) later
       ∙ ap (λ y. xs ++ y ∷ later) is
-      ∙ ap (λ l. xs ++ map seen_of l) (sym (found-next ds n t s f k some early))
+      ∙ ap (λ l. xs ++ map seen_ahead l) (sym (found-next ds n t s f k some early))
 
   -- nothing is read behind the entry that comes too late
-  pub bus-late : (k : ℕ) (b : Bus) → t ≤ (row ds n f (entry None s)).p → b ≡ bus_a ds f (entry None s)
-      → b ≡ served ds (looked ds n t (ahead ds n (suc k) None s f)) f.bus
+  pub bus-late : (k : ℕ) (b : Bus) → t ≤ (row_of_entry ds n f (entry None s)).p → b ≡ bus_a ds f (entry None s)
+      → b ≡ bus_after_reads ds (reads_up_to ds n t (ahead ds n (suc k) None s f)) f.bus
   bus-late k b late is =
-      is ∙ sym (ap (λ reads. served ds reads f.bus) (looked-late ds n t s f k late) ∙ served-formed ds f (entry None s))
+      is ∙ sym (ap (λ reads. bus_after_reads ds reads f.bus) (looked-late ds n t s f k late) ∙ served-formed ds f (entry None s))
 
-  pub log-late : (k : ℕ) (log new : List Made) → t ≤ (row ds n f (entry None s)).p → new ≡ noted ds (formed_asked ds f (entry None s)) f.bus log
-      → new ≡ noted ds (looked ds n t (ahead ds n (suc k) None s f)) f.bus log
-  log-late k log new late is = is ∙ ap (λ reads. noted ds reads f.bus log) (sym (looked-late ds n t s f k late))
+  pub log-late : (k : ℕ) (log new : List Made) → t ≤ (row_of_entry ds n f (entry None s)).p → new ≡ log_after_reads ds (formed_asked ds f (entry None s)) f.bus log
+      → new ≡ log_after_reads ds (reads_up_to ds n t (ahead ds n (suc k) None s f)) f.bus log
+  log-late k log new late is = is ∙ ap (λ reads. log_after_reads ds reads f.bus log) (sym (looked-late ds n t s f k late))
 
-  module _ (u : Machine) (g : Front) (k : ℕ) (some : 1 ≤ k) (early : (row ds n f (entry None s)).p < t) (next : u ≡ guess None s)
-      (behind : g ≡ after ds n f (entry None s)) where
+  module _ (u : Machine) (g : Front) (k : ℕ) (some : 1 ≤ k) (early : (row_of_entry ds n f (entry None s)).p < t) (next : u ≡ guess None s)
+      (behind : g ≡ front_after_entry ds n f (entry None s)) where
     here : List Read
-    here = asked ds n f (entry None s)
+    here = reads_of_entry ds n f (entry None s)
 
     later : List Read
-    later = looked ds n t (ahead ds n (suc (k - 1)) None u g)
+    later = reads_up_to ds n t (ahead ds n (suc (k - 1)) None u g)
 
-    all : looked ds n t (ahead ds n (suc k) None s f) ≡ here ++ later
+    all : reads_up_to ds n t (ahead ds n (suc k) None s f) ≡ here ++ later
     unfolding here later
     all =
         looked-next ds n t s f k some early
-        ∙ ap (λ v. asked ds n f (entry None s) ++ looked ds n t (ahead ds n (suc (k - 1)) None v (after ds n f (entry None s)))) (sym next)
-        ∙ ap (λ h. asked ds n f (entry None s) ++ looked ds n t (ahead ds n (suc (k - 1)) None u h)) (sym behind)
+        ∙ ap (λ v. reads_of_entry ds n f (entry None s) ++ reads_up_to ds n t (ahead ds n (suc (k - 1)) None v (front_after_entry ds n f (entry None s)))) (sym next)
+        ∙ ap (λ h. reads_of_entry ds n f (entry None s) ++ reads_up_to ds n t (ahead ds n (suc (k - 1)) None u h)) (sym behind)
 
-    bus : g.bus ≡ served ds here f.bus
+    bus : g.bus ≡ bus_after_reads ds here f.bus
     unfolding here
     bus = ap (λ (h : Front). h.bus) behind ∙ sym (served-asked ds n f (entry None s))
 
-    pub bus-look : (b : Bus) → b ≡ served ds (looked ds n t (ahead ds n (suc (k - 1)) None u g)) g.bus
-        → b ≡ served ds (looked ds n t (ahead ds n (suc k) None s f)) f.bus
+    pub bus-look : (b : Bus) → b ≡ bus_after_reads ds (reads_up_to ds n t (ahead ds n (suc (k - 1)) None u g)) g.bus
+        → b ≡ bus_after_reads ds (reads_up_to ds n t (ahead ds n (suc k) None s f)) f.bus
     unfolding later
     bus-look b is =
         is
-        ∙ ap (served ds later) bus
+        ∙ ap (bus_after_reads ds later) bus
         ∙ sym (served-append ds here later f.bus)
-        ∙ ap (λ reads. served ds reads f.bus) (sym all)
+        ∙ ap (λ reads. bus_after_reads ds reads f.bus) (sym all)
 
-    pub log-look : (log one two : List Made) → one ≡ noted ds (asked ds n f (entry None s)) f.bus log
-        → two ≡ noted ds (looked ds n t (ahead ds n (suc (k - 1)) None u g)) g.bus one
-        → two ≡ noted ds (looked ds n t (ahead ds n (suc k) None s f)) f.bus log
+    pub log-look : (log one two : List Made) → one ≡ log_after_reads ds (reads_of_entry ds n f (entry None s)) f.bus log
+        → two ≡ log_after_reads ds (reads_up_to ds n t (ahead ds n (suc (k - 1)) None u g)) g.bus one
+        → two ≡ log_after_reads ds (reads_up_to ds n t (ahead ds n (suc k) None s f)) f.bus log
     unfolding here later
     log-look log one two made rest =
-        rest ∙ noted-two ds here later f.bus g.bus log one bus made ∙ ap (λ reads. noted ds reads f.bus log) (sym all)
+        rest ∙ noted-two ds here later f.bus g.bus log one bus made ∙ ap (λ reads. log_after_reads ds reads f.bus log) (sym all)
 
 -- ---- no more entries are prepared in time than there are levels
 
@@ -147,31 +147,31 @@ get-take (suc n) j d [] few = refl
 get-take (suc n) zero d (x ∷ xs) few = refl
 get-take (suc n) (suc j) d (x ∷ xs) few = get-take n j d xs (omega (arith, few))
 
-done-at : (i : ℕ) (past : List Past) → done_before (suc i) past ≡ (get_or past i (record { c = 0; writes = no_words })).c
-done-at i past = let e : suc i - 1 ≡ i = omega arith in ap (λ j. (get_or past j (record { c = 0; writes = no_words })).c) e
+done-at : (i : ℕ) (past : List Past) → done_before (suc i) past ≡ (get_or past i (record { c = 0; writes = no_runs })).c
+done-at i past = let e : suc i - 1 ≡ i = omega arith in ap (λ j. (get_or past j (record { c = 0; writes = no_runs })).c) e
 
 pub first-next : (ds : List ℕ) (n levels more t : ℕ) (f g : Front) (e : Entry) → levels ≤ 8 → 1 ≤ more → more ≤ levels → t ≤ f.c → f.c < g.c
-    → (more < levels → t ≤ done_before (levels - more) f.past) → g ≡ after ds n f e → more - 1 < levels → t ≤ done_before (levels - (more - 1)) g.past
-unfolding after
+    → (more < levels → t ≤ done_before (levels - more) f.past) → g ≡ front_after_entry ds n f e → more - 1 < levels → t ≤ done_before (levels - (more - 1)) g.past
+unfolding front_after_entry
 first-next ds n levels more t f g e eight some few early rises first behind less = by_place (levels - more) refl
   where
     by_place : (j : ℕ) → levels - more ≡ j → t ≤ done_before (levels - (more - 1)) g.past
     by_place zero is =
         let one : levels - (more - 1) ≡ 1 = omega (arith, some, few, is) in
-        let c : g.c ≡ (after ds n f e).c = ap (λ (h : Front). h.c) behind in
+        let c : g.c ≡ (front_after_entry ds n f e).c = ap (λ (h : Front). h.c) behind in
         rw (one, behind) (omega (arith, early, rises, c))
     by_place (suc j) is =
         let two : levels - (more - 1) ≡ suc (suc j) = omega (arith, some, few, is) in
         let known : t ≤ done_before (suc j) f.past = subst (λ i. t ≤ done_before i f.past) is (first (omega (arith, is))) in
-        let there : t ≤ (get_or f.past j (record { c = 0; writes = no_words })).c = subst (λ v. t ≤ v) (done-at j f.past) known in
-        let kept : t ≤ (get_or (after ds n f e).past (suc j) (record { c = 0; writes = no_words })).c =
-        subst (λ (x : Past). t ≤ x.c) (sym (get-take 7 j (record { c = 0; writes = no_words }) f.past (omega (arith, eight, is, some)))) there in
-        let at : t ≤ done_before (suc (suc j)) (after ds n f e).past = subst (λ v. t ≤ v) (sym (done-at (suc j) (after ds n f e).past)) kept in
+        let there : t ≤ (get_or f.past j (record { c = 0; writes = no_runs })).c = subst (λ v. t ≤ v) (done-at j f.past) known in
+        let kept : t ≤ (get_or (front_after_entry ds n f e).past (suc j) (record { c = 0; writes = no_runs })).c =
+        subst (λ (x : Past). t ≤ x.c) (sym (get-take 7 j (record { c = 0; writes = no_runs }) f.past (omega (arith, eight, is, some)))) there in
+        let at : t ≤ done_before (suc (suc j)) (front_after_entry ds n f e).past = subst (λ v. t ≤ v) (sym (done-at (suc j) (front_after_entry ds n f e).past)) kept in
         subst (λ i. t ≤ done_before i g.past) (sym two) (subst (λ (h : Front). t ≤ done_before (suc (suc j)) h.past) (sym behind) at)
 
 -- the one behind the last level is too late
 pub last-late : (ds : List ℕ) (n more t : ℕ) (f : Front) (e : Entry) → more ≡ 0 → 1 ≤ n → (more < n → t ≤ done_before (n - more) f.past) → t ≤ tick_p ds n f e
-unfolding tick_p prepared
+unfolding tick_p preparation_tick
 last-late ds n more t f e none some first =
     let all : n - more ≡ n = omega (arith, none) in
     let known : t ≤ done_before n f.past = subst (λ i. t ≤ done_before i f.past) all (first (omega (arith, none, some))) in
@@ -183,10 +183,10 @@ some-more ds n zero t f e some first early =
     let no : ⊥ = omega (arith, late, early) in absurd no
 some-more ds n (suc more) t f e some first early = omega arith
 
-pub row-p : (ds : List ℕ) (n : ℕ) (f : Front) (e : Entry) → (row ds n f e).p ≡ tick_p ds n f e
-unfolding row
+pub row-p : (ds : List ℕ) (n : ℕ) (f : Front) (e : Entry) → (row_of_entry ds n f e).p ≡ tick_p ds n f e
+unfolding row_of_entry
 row-p ds n f e = refl
 
-pub after-c : (ds : List ℕ) (n : ℕ) (f : Front) (e : Entry) → (after ds n f e).c ≡ tick_c ds n f e
-unfolding after
+pub after-c : (ds : List ℕ) (n : ℕ) (f : Front) (e : Entry) → (front_after_entry ds n f e).c ≡ tick_c ds n f e
+unfolding front_after_entry
 after-c ds n f e = refl

@@ -2,7 +2,7 @@
 use Rattle.std.specs.Prelude.{is_none, ◌&&◌}
 use Rattle.std.proofs.Common.{◌≡◌, ℕ, List, Option, take, drop, subst, ◌∙◌, ap}
 use Rattle.st_state.specs.Machine.{Machine, word}
-use Rattle.st_prep.specs.Fetch.{index_words, place_of, reading_of, fetched}
+use Rattle.st_prep.specs.Fetch.{index_words, place_of, reading_of, words_fetched}
 use Rattle.st_prep.specs.Plan.{sight, needs, plan}
 use Rattle.st_prep.specs.Reading.{words_read, own_words}
 use Rattle.st_prep.specs.declared.entries.Place.{Place}
@@ -16,7 +16,7 @@ use Rattle.st_plain.specs.declared.entries.Planned.{Planned}
 abbrev pub IsPlannedAt : Machine → List ℕ → Place → Prepared → Planned → Type 0
 IsPlannedAt s x q p e =
     let r = reading_of s q in
-    IsPlanned s x q (fetched s q) (run_of (take (own_words r (word s)) (words_read r (word s))))
+    IsPlanned s x q (words_fetched s q) (run_of (take (own_words r (word s)) (words_read r (word s))))
     (run_of (drop (own_words r (word s)) (words_read r (word s)))) p e
 
 module _ (s : Machine) (table : Option ℕ) (q : Place) (x : List ℕ) (p : Prepared) (e : Planned) (at : q ≡ place_of s table)
@@ -43,4 +43,4 @@ module _ (s : Machine) (table : Option ℕ) (q : Place) (x : List ℕ) (p : Prep
       let r = reading_of s q in
       there.entry
       ∙ ap (λ p. shown (run_of (take (own_words r (word s)) (words_read r (word s)))) (run_of (drop (own_words r (word s)) (words_read r (word s))))
-      (needs (sight s q)) p (is_none table && is_none (fetched s q).fault)) plan-planned
+      (needs (sight s q)) p (is_none table && is_none (words_fetched s q).fault)) plan-planned

@@ -1,10 +1,10 @@
 -- The reads of an entry, part by part, in the log.
 use Rattle.std.proofs.Common.{◌≡◌, ℕ, zero, suc, ◌+◌, ◌-◌, ◌≤◌, max, List, refl, sym, ap, ◌∙◌, arith}
 use Rattle.st_fetch.specs.Planned.{tick_of}
-use Rattle.st_rows.specs.Asked.{word_asked, words_asked, side_asked, fetches_asked, formed_asked, prepared_asked, asked, served}
-use Rattle.st_rows.specs.BusTimes.{requested}
-use Rattle.st_rows.specs.Notes.{noted}
-use Rattle.st_rows.specs.Rows.{fetch_word, fetch_words, wanted_from, fetched, tick_a, bus_a}
+use Rattle.st_rows.specs.Asked.{word_asked, words_asked, side_asked, fetches_asked, formed_asked, prepared_asked, reads_of_entry, bus_after_reads}
+use Rattle.st_rows.specs.BusTimes.{bus_after_request}
+use Rattle.st_rows.specs.Notes.{log_after_reads}
+use Rattle.st_rows.specs.Rows.{fetch_word, fetch_words, wanted_from, words_tick, tick_a, bus_a}
 use Rattle.st_rows.specs.declared.bus.Bus.{Bus}
 use Rattle.st_rows.specs.declared.entry.Entry.{Entry}
 use Rattle.st_rows.specs.declared.fetching.Fetching.{Fetching}
@@ -23,13 +23,13 @@ module _ (ds : List ℕ) (past : List Past) (from w : ℕ) where
   fetch-turn s t (suc n) is some = let e : suc n - 1 ≡ n = omega arith in rw (is, e) refl
 
   word-bus : (s : Fetching) → (fetch_word ds past s w from).bus
-      ≡ served ds (word_asked (tick_of s.bus.held.words w) w (max (max from s.answered) s.awaited)) s.bus
-  unfolding fetch_word requested
+      ≡ bus_after_reads ds (word_asked (tick_of s.bus.held.words w) w (max (max from s.answered) s.awaited)) s.bus
+  unfolding fetch_word bus_after_request
   word-bus s = sym (served-word ds (tick_of s.bus.held.words w) w (max (max from s.answered) s.awaited) s.bus)
 
   pub noted-turn : (s t : Fetching) (n : ℕ) (log new : List Made) → t ≡ fetch_word ds past s w from
-      → new ≡ noted ds (word_asked (tick_of s.bus.held.words w) w (max (max from s.answered) s.awaited)) s.bus log → 1 ≤ n
-      → noted ds (words_asked ds past t from (w + 1) (n - 1)) t.bus new ≡ noted ds (words_asked ds past s from w n) s.bus log
+      → new ≡ log_after_reads ds (word_asked (tick_of s.bus.held.words w) w (max (max from s.answered) s.awaited)) s.bus log → 1 ≤ n
+      → log_after_reads ds (words_asked ds past t from (w + 1) (n - 1)) t.bus new ≡ log_after_reads ds (words_asked ds past s from w n) s.bus log
   unfolding words_asked
   noted-turn s t zero log new is made some = let no : ⊥ = omega arith in absurd no
   noted-turn s t (suc n) log new is made some =
@@ -39,8 +39,8 @@ module _ (ds : List ℕ) (past : List Past) (from w : ℕ) where
       (words_asked ds past (fetch_word ds past s w from) from (w + 1) n) s.bus (fetch_word ds past s w from).bus log new (word-bus s) made)
 
   pub noted-end : (s : Fetching) (n : ℕ) (log all : List Made) → n ≡ 0
-      → noted ds (words_asked ds past s from w n) s.bus log ≡ all → log ≡ all
-  unfolding words_asked noted
+      → log_after_reads ds (words_asked ds past s from w n) s.bus log ≡ all → log ≡ all
+  unfolding words_asked log_after_reads
   noted-end s zero log all none h = h
   noted-end s (suc n) log all none h = let no : ⊥ = omega arith in absurd no
 
@@ -56,31 +56,31 @@ module _ (ds : List ℕ) (f : Front) (e : Entry) where
   -- the words of the target behind the entry's own ones
   pub noted-fetches : (s t : Fetching) (from late : ℕ) (log one two : List Made) → s ≡ record { bus = f.bus; answered = 0; awaited = 0 }
       → from ≡ wanted_from f → late ≡ max from f.c
-      → t ≡ fetch_words ds f.past s from e.own.first e.own.len → one ≡ noted ds (words_asked ds f.past s from e.own.first e.own.len) s.bus log
-      → two ≡ noted ds (words_asked ds f.past t late e.target.first e.target.len) t.bus one → two ≡ noted ds (fetches_asked ds f e) f.bus log
+      → t ≡ fetch_words ds f.past s from e.own.first e.own.len → one ≡ log_after_reads ds (words_asked ds f.past s from e.own.first e.own.len) s.bus log
+      → two ≡ log_after_reads ds (words_asked ds f.past t late e.target.first e.target.len) t.bus one → two ≡ log_after_reads ds (fetches_asked ds f e) f.bus log
   unfolding fetches_asked start
   noted-fetches s t from late log one two is wanted later own one_is two_is =
       let own_reads = words_asked ds f.past start (wanted_from f) e.own.first e.own.len in
       let behind = fetch_words ds f.past start (wanted_from f) e.own.first e.own.len in
       let t_is : t ≡ behind = own ∙ rw (is, wanted) refl in
-      let made : one ≡ noted ds own_reads f.bus log = one_is ∙ rw (is, wanted) refl in
+      let made : one ≡ log_after_reads ds own_reads f.bus log = one_is ∙ rw (is, wanted) refl in
       two_is
       ∙ rw (t_is, later, wanted) (noted-two ds own_reads (words_asked ds f.past behind (max (wanted_from f) f.c) e.target.first e.target.len) f.bus behind.bus log one
       (sym (served-words ds f.past (wanted_from f) start e.own.first e.own.len)) made)
 
   -- the index-side word behind the instruction words
-  pub noted-formed : (s : Fetching) (a : ℕ) (log one two : List Made) → s ≡ fetched ds f e → a ≡ tick_a ds f e
-      → one ≡ noted ds (fetches_asked ds f e) f.bus log → two ≡ noted ds (side_asked f.past e.side a) s.bus one
-      → two ≡ noted ds (formed_asked ds f e) f.bus log
+  pub noted-formed : (s : Fetching) (a : ℕ) (log one two : List Made) → s ≡ words_tick ds f e → a ≡ tick_a ds f e
+      → one ≡ log_after_reads ds (fetches_asked ds f e) f.bus log → two ≡ log_after_reads ds (side_asked f.past e.side a) s.bus one
+      → two ≡ log_after_reads ds (formed_asked ds f e) f.bus log
   noted-formed s a log one two is at made next =
       next
-      ∙ rw (is, at) (noted-two ds (fetches_asked ds f e) (side_asked f.past e.side (tick_a ds f e)) f.bus (fetched ds f e).bus log one
+      ∙ rw (is, at) (noted-two ds (fetches_asked ds f e) (side_asked f.past e.side (tick_a ds f e)) f.bus (words_tick ds f e).bus log one
       (sym (served-fetches ds f e)) made)
 
   -- and what is wanted at preparation behind these
-  pub noted-asked : (n : ℕ) (b : Bus) (log one two : List Made) → b ≡ bus_a ds f e → one ≡ noted ds (formed_asked ds f e) f.bus log
-      → two ≡ noted ds (prepared_asked ds n f e) b one → two ≡ noted ds (asked ds n f e) f.bus log
+  pub noted-asked : (n : ℕ) (b : Bus) (log one two : List Made) → b ≡ bus_a ds f e → one ≡ log_after_reads ds (formed_asked ds f e) f.bus log
+      → two ≡ log_after_reads ds (prepared_asked ds n f e) b one → two ≡ log_after_reads ds (reads_of_entry ds n f e) f.bus log
   noted-asked n b log one two is made next =
       next
       ∙ rw is (noted-two ds (formed_asked ds f e) (prepared_asked ds n f e) f.bus (bus_a ds f e) log one (sym (served-formed ds f e)) made)
-      ∙ ap (λ reads. noted ds reads f.bus log) (sym (two-parts ds n f e))
+      ∙ ap (λ reads. log_after_reads ds reads f.bus log) (sym (two-parts ds n f e))

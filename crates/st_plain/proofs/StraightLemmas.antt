@@ -2,15 +2,15 @@
 use Rattle.std.specs.Prelude.{if◌then◌else◌}
 use Rattle.std.proofs.Common.{◌≡◌, ℕ, ◌+◌, ◌/◌, Bool, true, false, ◌==◌, List, [], ◌∷◌, length, take, drop, Option, None, Some, refl, sym, subst, ◌∙◌, ap, arith}
 use Rattle.std.proofs.lemmas.List.{append-nil, take_all, drop_all}
-use Rattle.st_format.specs.Formats.{decoded, instruction_of}
+use Rattle.st_format.specs.Formats.{decoded_entry, instruction_of}
 use Rattle.st_state.specs.Machine.{Machine, word}
-use Rattle.st_prep.specs.Fetch.{index_words, reading_of, fetched}
-use Rattle.st_prep.specs.Reading.{Reading, Reads, Use, Finds, outcome, words_read, own_words, half_of, plain, with_second, with_first, read_after, instruction_at, is_execute, own_use, reading, allowed_found}
+use Rattle.st_prep.specs.Fetch.{index_words, reading_of, words_fetched}
+use Rattle.st_prep.specs.Reading.{Reading, Reads, Use, Finds, outcome, words_read, own_words, half_of, fetched_plain, with_second, with_first, read_after, instruction_at, is_execute, own_use, reading_at_place, allowed_found}
 use Rattle.st_prep.specs.declared.entries.Place.{Place}
 use Rattle.st_prep.specs.declared.entries.Fetched.{Fetched}
 use Rattle.st_prep.specs.declared.entries.Prepared.{Prepared}
 use Rattle.st_plain.specs.declared.entries.Planned.{Planned}
-use Rattle.st_rows.specs.declared.entry.Run.{Run}
+use Rattle.st_rows.specs.declared.entry.WordRun.{WordRun}
 use Rattle.st_segment.specs.Entries.{run_of}
 use Rattle.st_plain.specs.Straight.{Leads, IsPlanned}
 
@@ -67,8 +67,8 @@ not-chosen false r q h = refl
 
 lead-plain : (x : List ℕ) (b : ℕ) (en : Bool) (place : Place) (c : ℕ → ℕ) (first second : ℕ) (ws : List ℕ)
     → ((k : Use) → Leads c (instruction_at false b en place.address k) (k (allowed_found first second)) ws)
-    → is_execute (instruction_of first second) ≡ false → Leads c (reading x b en place) (Finds (plain (decoded first second))) ws
-unfolding reading own_use
+    → is_execute (instruction_of first second) ≡ false → Leads c (reading_at_place x b en place) (Finds (fetched_plain (decoded_entry first second))) ws
+unfolding reading_at_place own_use
 lead-plain x b en place c first second ws lead other =
     subst (λ q. Leads c (instruction_at false b en place.address (own_use x b en)) q ws)
     (not-chosen (is_execute (instruction_of first second)) _ _ other) (lead (own_use x b en))
@@ -93,14 +93,14 @@ module _ (c : ℕ → ℕ) (r : Reading) (f : Fetched) (ws : List ℕ) (lead : L
   lead-target = ap (λ k. drop k (words_read r c)) all-own ∙ ap (drop (length ws)) all-words ∙ drop_all (length ws) ws (omega arith)
 
 -- an entry that is planned by its half-words, and the words that they come from, is planned by what is fetched
-module _ (s : Machine) (x : List ℕ) (q : Place) (first second : ℕ) (ws : List ℕ) (own target : Run) (p : Prepared) (e : Planned)
+module _ (s : Machine) (x : List ℕ) (q : Place) (first second : ℕ) (ws : List ℕ) (own target : WordRun) (p : Prepared) (e : Planned)
     (lead : (k : Use) → Leads (word s) (instruction_at false (word s 3) s.enabled q.address k) (k (allowed_found first second)) ws)
     (other : is_execute (instruction_of first second) ≡ false) (o : own ≡ run_of ws) (t : target ≡ run_of []) where
-  here : Leads (word s) (reading_of s q) (Finds (plain (decoded first second))) ws
+  here : Leads (word s) (reading_of s q) (Finds (fetched_plain (decoded_entry first second))) ws
   here = lead-plain (index_words s) (word s 3) s.enabled q (word s) first second ws lead other
 
-  is-fetched : plain (decoded first second) ≡ fetched s q
-  unfolding fetched
+  is-fetched : fetched_plain (decoded_entry first second) ≡ words_fetched s q
+  unfolding words_fetched
   is-fetched = sym (lead-fetched (word s) (reading_of s q) _ ws here)
 
   is-own : own ≡ run_of (take (own_words (reading_of s q) (word s)) (words_read (reading_of s q) (word s)))
@@ -109,12 +109,12 @@ module _ (s : Machine) (x : List ℕ) (q : Place) (first second : ℕ) (ws : Lis
   is-target : target ≡ run_of (drop (own_words (reading_of s q) (word s)) (words_read (reading_of s q) (word s)))
   is-target = t ∙ ap run_of (sym (lead-target (word s) (reading_of s q) _ ws here))
 
-  pub planned-spelled : IsPlanned s x q (plain (decoded first second)) own target p e
-      → IsPlanned s x q (fetched s q) (run_of (take (own_words (reading_of s q) (word s)) (words_read (reading_of s q) (word s))))
+  pub planned-spelled : IsPlanned s x q (fetched_plain (decoded_entry first second)) own target p e
+      → IsPlanned s x q (words_fetched s q) (run_of (take (own_words (reading_of s q) (word s)) (words_read (reading_of s q) (word s))))
       (run_of (drop (own_words (reading_of s q) (word s)) (words_read (reading_of s q) (word s)))) p e
   planned-spelled h =
-      subst (λ r. IsPlanned s x q (fetched s q) (run_of (take (own_words (reading_of s q) (word s)) (words_read (reading_of s q) (word s)))) r p e) is-target
-      (subst (λ r. IsPlanned s x q (fetched s q) r target p e) is-own
+      subst (λ r. IsPlanned s x q (words_fetched s q) (run_of (take (own_words (reading_of s q) (word s)) (words_read (reading_of s q) (word s)))) r p e) is-target
+      (subst (λ r. IsPlanned s x q (words_fetched s q) r target p e) is-own
       (subst (λ f. IsPlanned s x q f own target p e) is-fetched h))
 
 pub none-run : record { first = 0; len = 0 } ≡ run_of []

@@ -2,7 +2,7 @@
 use Rattle.std.specs.Prelude.{Bool, if◌then◌else◌}
 use Rattle.std.proofs.Common.{◌≡◌, ℕ, zero, suc, ◌+◌, ◌-◌, ◌≤◌, true, false, List, [], ◌∷◌, ◌++◌, take, drop, append_assoc, refl, sym, ◌∙◌, ap, arith}
 use Rattle.std.proofs.lemmas.List.{append-nil, drop-take}
-use Rattle.st_prep.specs.Reading.{Reading, Finds, Reads, given, left_after, words_read, own_words}
+use Rattle.st_prep.specs.Reading.{Reading, Finds, Reads, fetching_of, left_after, words_read, own_words}
 use Rattle.st_prep.specs.declared.entries.Fetched.{Fetched}
 use Rattle.st_prep.specs.declared.entries.Fetching.TheVariants.{Next, Found as FoundAll}
 use Rattle.st_prep.proofs.ReadingLemmas.{left_after-none, left_after-more}
@@ -17,8 +17,8 @@ abbrev pub one_own : Bool → ℕ
 one_own t = if t then 0 else 1
 
 -- what is left reads the word that is given, and then what is left behind its content
-next-words : (l : Reading) (c : ℕ → ℕ) (w : ℕ) (t : Bool) → given l ≡ Next w t → words_read l c ≡ w ∷ words_read (left_after l (c w ∷ [])) c
-unfolding given left_after words_read
+next-words : (l : Reading) (c : ℕ → ℕ) (w : ℕ) (t : Bool) → fetching_of l ≡ Next w t → words_read l c ≡ w ∷ words_read (left_after l (c w ∷ [])) c
+unfolding fetching_of left_after words_read
 next-words (Finds f) c w t e = cc
 next-words (Reads u v r) c w t e =
     let word : v ≡ w = same_word v w u t e in
@@ -30,9 +30,9 @@ unfolding own_words
 own-if true v r c = omega arith
 own-if false v r c = omega arith
 
-next-own : (l : Reading) (c : ℕ → ℕ) (w : ℕ) (t : Bool) → given l ≡ Next w t
+next-own : (l : Reading) (c : ℕ → ℕ) (w : ℕ) (t : Bool) → fetching_of l ≡ Next w t
     → own_words l c ≡ one_own t + own_words (left_after l (c w ∷ [])) c
-unfolding given left_after
+unfolding fetching_of left_after
 next-own (Finds f) c w t e = cc
 next-own (Reads u v r) c w t e =
     let word : v ≡ w = same_word v w u t e in
@@ -42,7 +42,7 @@ next-own (Reads u v r) c w t e =
     ∙ ap (λ q. one_own t + own_words q c) (ap (λ x. r (c x)) word ∙ sym (left_after-none (r (c w))))
 
 module _ (r : Reading) (c : ℕ → ℕ) (cs ds : List ℕ) (w x : ℕ) (t : Bool) (more : ds ≡ cs ++ x ∷ []) (content : x ≡ c w)
-    (next : given (left_after r cs) ≡ Next w t) where
+    (next : fetching_of (left_after r cs) ≡ Next w t) where
   left-next : left_after (left_after r cs) (c w ∷ []) ≡ left_after r ds
   left-next = sym (ap (left_after r) more ∙ left_after-more r cs x ∙ ap (λ y. left_after (left_after r cs) (y ∷ [])) content)
 
@@ -61,13 +61,13 @@ module _ (r : Reading) (c : ℕ → ℕ) (cs ds : List ℕ) (w x : ℕ) (t : Boo
       omega (arith, so_far, here, there, one)
 
 -- nothing is left to be read where all is found
-pub found-words : (l : Reading) (c : ℕ → ℕ) (f : Fetched) → given l ≡ FoundAll f → words_read l c ≡ []
-unfolding given words_read
+pub found-words : (l : Reading) (c : ℕ → ℕ) (f : Fetched) → fetching_of l ≡ FoundAll f → words_read l c ≡ []
+unfolding fetching_of words_read
 found-words (Finds g) c f e = refl
 found-words (Reads u v r) c f e = cc
 
-pub found-own : (l : Reading) (c : ℕ → ℕ) (f : Fetched) → given l ≡ FoundAll f → own_words l c ≡ 0
-unfolding given own_words
+pub found-own : (l : Reading) (c : ℕ → ℕ) (f : Fetched) → fetching_of l ≡ FoundAll f → own_words l c ≡ 0
+unfolding fetching_of own_words
 found-own (Finds g) c f e = refl
 found-own (Reads u v r) c f e = cc
 
@@ -84,7 +84,7 @@ take-take (suc k) (suc n) [] few = refl
 take-take (suc k) (suc n) (x ∷ xs) few = ap (λ ys. x ∷ ys) (take-take k n xs (omega arith))
 
 module _ (r : Reading) (c : ℕ → ℕ) (cs read : List ℕ) (n own : ℕ) (f : Fetched) (few : own ≤ n)
-    (found : given (left_after r cs) ≡ FoundAll f) (so_far : words_read r c ≡ take n read ++ words_read (left_after r cs) c)
+    (found : fetching_of (left_after r cs) ≡ FoundAll f) (so_far : words_read r c ≡ take n read ++ words_read (left_after r cs) c)
     (own_so_far : own_words r c ≡ own + own_words (left_after r cs) c) where
   all-read : words_read r c ≡ take n read
   all-read = so_far ∙ ap (λ ws. take n read ++ ws) (found-words (left_after r cs) c f found) ∙ append-nil (take n read)

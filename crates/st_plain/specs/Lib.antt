@@ -1,2 +1,14 @@
 pub mod Looking
 pub mod Straight
+pub use Rattle.st_exec.specs.Completion
+pub use Rattle.st_format.specs.Formats
+pub use Rattle.st_prep.specs.Fetch
+pub use Rattle.st_prep.specs.Plan
+pub use Rattle.st_prep.specs.Reading
+pub use Rattle.st_rows.specs.Asked
+pub use Rattle.st_rows.specs.Notes
+pub use Rattle.st_rows.specs.Rows
+pub use Rattle.st_segment.specs.Ahead
+pub use Rattle.st_segment.specs.Entries
+pub use Rattle.st_state.specs.Boundary
+pub use Rattle.st_state.specs.Machine

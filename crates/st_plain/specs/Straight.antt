@@ -1,20 +1,21 @@
 -- An entry that is planned at once: its words, and what the timetable sees of it.
 use Rattle.std.specs.Prelude.{ℕ, ◌+◌, ◌≡◌, Bool, true, false, ◌&&◌, is_none, List, [], ◌∷◌, ◌++◌, length}
 use Rattle.st_state.specs.Machine.{Machine}
-use Rattle.st_prep.specs.Plan.{seen, needs, prepared, side_of}
+use Rattle.st_prep.specs.Plan.{sight_of, needs, prepared_entry, side_of}
 use Rattle.st_prep.specs.Reading.{Reading, outcome, words_read, own_words, is_execute}
 use Rattle.st_prep.specs.declared.entries.Place.{Place}
 use Rattle.st_prep.specs.declared.entries.Fetched.{Fetched}
 use Rattle.st_prep.specs.declared.entries.Needs.{Needs}
 use Rattle.st_prep.specs.declared.entries.Prepared.{Prepared}
 use Rattle.st_segment.specs.Entries.{words_to_read, words_to_write, side_to_read}
-use Rattle.st_rows.specs.declared.entry.Run.{Run}
+use Rattle.st_rows.specs.declared.entry.WordRun.{WordRun}
 use Rattle.st_rows.specs.declared.entry.Entry.{Entry}
 use Rattle.st_plain.specs.declared.entries.Planned.{Planned}
 
 -- ---- words
 
--- a reading goes on as another one behind these words, all of which are the entry's own; word w has the content c w
+-- a reading goes on as another one behind these words, all of which are the entry's own; word w has
+-- the content c w
 pub record Leads (c : ℕ → ℕ) (r q : Reading) (ws : List ℕ) : Type 0 where
   pub found : outcome r c ≡ outcome q c
   pub read : words_read r c ≡ ws ++ words_read q c
@@ -27,8 +28,9 @@ if_more false w = []
 
 -- ---- the entry
 
--- what the timetable sees of an entry, by its runs of instruction words, by what it needs and what it is
-unfoldable pub shown : Run → Run → Needs → Prepared → Bool → Entry
+-- what the timetable sees of an entry, by its runs of instruction words, by what it needs and what
+-- it is
+unfoldable pub shown : WordRun → WordRun → Needs → Prepared → Bool → Entry
 shown own target n p follows = record {
   own = own;
   target = target;
@@ -40,9 +42,12 @@ shown own target n p follows = record {
   follows = follows;
 }
 
--- the entry at a place of a state is planned, by what is fetched there, by its runs of instruction words and by the index words
-pub record IsPlanned (s : Machine) (x : List ℕ) (q : Place) (f : Fetched) (own target : Run) (p : Prepared) (e : Planned) : Type 0 where
-  pub plan : let v = seen q f x s in p ≡ prepared v (side_of s v)
-  pub entry : e.entry ≡ shown own target (needs (seen q f x s)) p (is_none q.table && is_none f.fault)
-  pub side : e.side ≡ (needs (seen q f x s)).index_read
+-- the entry at a place of a state is planned, by what is fetched there, by its runs of instruction
+-- words and by the index words
+pub record IsPlanned (s : Machine) (x : List ℕ) (q : Place) (f : Fetched) (own target : WordRun)
+    (p : Prepared) (e : Planned) : Type 0 where
+  pub plan : let v = sight_of q f x s in p ≡ prepared_entry v (side_of s v)
+  pub entry : e.entry ≡ shown own target (needs (sight_of q f x s)) p
+      (is_none q.table && is_none f.fault)
+  pub side : e.side ≡ (needs (sight_of q f x s)).index_read
   pub execute : e.execute ≡ is_execute f.instr.instr

@@ -1,13 +1,13 @@
 //! The next entry of a state, as the timetable sees it.
 ghost use Rattle.std.specs.Prelude.{◌≡◌, ℕ, ◌+◌, ◌/◌, ◌<◌, ◌≤◌, ◌^◌, ◌∷◌, ◌&&◌, false, None, is_none, if◌then◌else◌, IfSome, length, take, drop};
-ghost use Rattle.st_format.specs.Formats.{decoded, instruction_of, spelled_as};
+ghost use Rattle.st_format.specs.Formats.{decoded_entry, instruction_of, spelled_as};
 ghost use Rattle.st_state.specs.Boundary.{forbidden_by};
 ghost use Rattle.st_state.specs.Machine.{word};
 ghost use Rattle.st_state.specs.declared.protection.Access.{Access as AccessOf};
-ghost use Rattle.st_prep.specs.Fetch.{index_words as index_words_of, reading_of, fetched as fetched_of};
-ghost use Rattle.st_prep.specs.Plan.{needs as needs_of, plan as plan_of, prepared as prepared_of, seen, side_of};
+ghost use Rattle.st_prep.specs.Fetch.{index_words as index_words_of, reading_of, words_fetched as fetched_of};
+ghost use Rattle.st_prep.specs.Plan.{needs as needs_of, plan as plan_of, prepared_entry as prepared_of, sight_of, side_of};
 ghost use Rattle.st_prep.specs.Ranges.{HasFields, IsPlace, IsFetched, IsNeeds, IsPrepared};
-ghost use Rattle.st_prep.specs.Reading.{Use, words_read, own_words, half_of as half_by, with_second as with_second_of, with_first as with_first_of, instruction_at, is_execute as is_execute_of, plain, allowed_found};
+ghost use Rattle.st_prep.specs.Reading.{Use, words_read, own_words, half_of as half_by, with_second as with_second_of, with_first as with_first_of, instruction_at, is_execute as is_execute_of, fetched_plain, allowed_found};
 ghost use Rattle.st_plain.specs.Looking.{side_at, executes_at};
 ghost use Rattle.st_plain.specs.Straight.{Leads, if_more, shown, IsPlanned};
 ghost use Rattle.st_segment.specs.Entries.{run_of as run_by, above_registers as above_registers_of, words_to_read as words_to_read_of, words_to_write as words_to_write_of, side_to_read as side_to_read_of, entry as entry_of};
@@ -19,18 +19,18 @@ use st_prep::{
     Fetched, Fetching, Needs, Place, Prepared, Words, fetch_on, index_words, is_execute_format,
     place_of, prepare_in, prepare_without_side, side_word,
 };
-use st_rows::{Entry, Run, Runs};
+use st_rows::{Entry, WordRun, WordRuns};
 use st_state::{Access, State};
 
 // Words that follow each other, at most four, as a run.
 #[tactic(auto, unfolding(st_segment::specs::Entries::run_of))]
-fn run_of(words: &[u32]) -> Run
+fn run_of(words: &[u32]) -> WordRun
     requires { length words.now ≤ 4 }
     ensures { result ≡ run_by words.now }
 {
     match words {
-        [] => Run::default(),
-        [first, ..] => Run {
+        [] => WordRun::default(),
+        [first, ..] => WordRun {
             first: *first,
             len: words.len() as u8,
         },
@@ -45,24 +45,27 @@ fn own_after(own: usize, target: bool) -> usize
     if target { own } else { own + 1 }
 }
 
-// An entry as far as it is fetched: what is fetched, and its instruction words, its own and those of the target of EX.
+// An entry as far as it is fetched: what is fetched, and its instruction words, its own and those
+// of the target of EX.
 #[derive(Drop)]
 struct Found {
     fetched: Fetched,
-    own: Run,
-    target: Run,
+    own: WordRun,
+    target: WordRun,
 }
 
 // What is fetched at a place by these index words, which are those of the state.
 fn find(place: &Place, x: &[u64; 16], state: &State) -> Found
     requires place { IsPlace place.now }
     requires words { x.now ≡ index_words_of state.now }
+
     ensures fetched { result.fetched ≡ fetched_of state.now place.now }
     ensures shape { IsFetched result.fetched }
     ensures own { let r = reading_of state.now place.now in
         result.own ≡ run_by (take (own_words r (word state.now)) (words_read r (word state.now))) }
     ensures target { let r = reading_of state.now place.now in
-        result.target ≡ run_by (drop (own_words r (word state.now)) (words_read r (word state.now))) }
+        result.target ≡ run_by (drop (own_words r (word state.now))
+        (words_read r (word state.now))) }
 {
     let mut read = [0; 4];
     let mut contents = [0; 4];
@@ -89,12 +92,12 @@ fn find(place: &Place, x: &[u64; 16], state: &State) -> Found
 
 // A run of words without the registers at its front.
 #[tactic(auto, unfolding(st_segment::specs::Entries::above_registers))]
-fn above_registers(first: u32, len: u8) -> Run
+fn above_registers(first: u32, len: u8) -> WordRun
     ensures { result ≡ above_registers_of first len }
 {
     let above = first.max(FIRST_STORAGE_WORD);
     let registers = (above - first) as u8;
-    Run {
+    WordRun {
         first: above,
         len: len.saturating_sub(registers),
     }
@@ -102,25 +105,25 @@ fn above_registers(first: u32, len: u8) -> Run
 
 // The operand words that make reads.
 #[tactic(auto, unfolding(st_segment::specs::Entries::words_to_read))]
-fn words_to_read(words: Words) -> Runs
+fn words_to_read(words: Words) -> WordRuns
     ensures { result ≡ words_to_read_of words }
 {
-    Runs {
+    WordRuns {
         one: above_registers(words.first, words.len),
         two: above_registers(words.first2, words.len2),
     }
 }
 
 // The words that are written.
-fn words_to_write(words: Words) -> Runs
+fn words_to_write(words: Words) -> WordRuns
     ensures { result ≡ words_to_write_of words }
 {
-    Runs {
-        one: Run {
+    WordRuns {
+        one: WordRun {
             first: words.first,
             len: words.len,
         },
-        two: Run {
+        two: WordRun {
             first: words.first2,
             len: words.len2,
         },
@@ -150,9 +153,10 @@ fn asks_for_following(table: Option<u8>, fault: Option<u8>) -> bool
 fn prepare_by_side(p: &mut Prepared, fetched: &Fetched, x: &[u64; 16], needs: Needs, state: &State)
     requires place { IsPlace p.old.place }
     requires fetched { IsFetched fetched.now }
-    requires asked { needs ≡ needs_of (seen p.old.place fetched.now x.now state.now) }
+    requires asked { needs ≡ needs_of (sight_of p.old.place fetched.now x.now state.now) }
     requires shape { IsNeeds needs }
-    ensures value { let v = seen p.old.place fetched.now x.now state.now in
+
+    ensures value { let v = sight_of p.old.place fetched.now x.now state.now in
         p.new ≡ prepared_of v (side_of state.now v) }
     ensures ranges { IsPrepared p.new }
 {
@@ -161,14 +165,15 @@ fn prepare_by_side(p: &mut Prepared, fetched: &Fetched, x: &[u64; 16], needs: Ne
     prepare_in(p, fetched, &mut after, read, state);
 }
 
-// Prepares what is fetched at `p.place` in a state, by these index words. The result says what it needs.
+// Prepares what is fetched at `p.place` in a state, by these index words. The result says what it
+// needs.
 #[inline(always)]
 fn prepare_found(p: &mut Prepared, fetched: &Fetched, x: &[u64; 16], state: &State) -> Needs
     requires place { IsPlace p.old.place }
     requires fetched { IsFetched fetched.now }
-    ensures value { let v = seen p.old.place fetched.now x.now state.now in
+    ensures value { let v = sight_of p.old.place fetched.now x.now state.now in
         p.new ≡ prepared_of v (side_of state.now v) }
-    ensures needs { result ≡ needs_of (seen p.old.place fetched.now x.now state.now) }
+    ensures needs { result ≡ needs_of (sight_of p.old.place fetched.now x.now state.now) }
     ensures ranges { IsPrepared p.new }
 {
     let needs = prepare_without_side(p, fetched, x, state);
@@ -178,7 +183,8 @@ fn prepare_found(p: &mut Prepared, fetched: &Fetched, x: &[u64; 16], state: &Sta
     needs
 }
 
-// The half-words of an instruction, whose first word is read, and whether the word behind it is read too.
+// The half-words of an instruction, whose first word is read, and whether the word behind it is
+// read too.
 #[derive(Clone, Copy, Debug, PartialEq, Eq)]
 struct Spelled {
     first: u32,
@@ -214,12 +220,13 @@ fn half_of(content: u64, h: u32) -> u32
     part(content, 32 * (h % 2), 32) as u32
 }
 
-// The second half-word of the instruction at the half-word address `h`, whose first word has this content, unless it may
-// not be fetched.
+// The second half-word of the instruction at the half-word address `h`, whose first word has this
+// content, unless it may not be fetched.
 #[inline(always)]
 fn second_half(h: u32, content: u64, state: &State) -> Option<Second>
     requires address { h < 2 ^ 19 }
-    requires allowed { forbidden_by (word state.now 3) state.now.enabled AccessOf.Fetch (h / 2) ≡ None }
+    requires allowed { forbidden_by (word state.now 3) state.now.enabled AccessOf.Fetch (h / 2)
+        ≡ None }
     ensures { IfSome result (λ r. (first : ℕ) (k : Use) → Leads (word state.now) (with_second_of
         (forbidden_by (word state.now 3) state.now.enabled AccessOf.Fetch ((h + 1) / 2)) false first
         (h + 1) (h / 2) content k) (k (allowed_found first r.half)) (if_more r.more ((h + 1) / 2))) }
@@ -239,14 +246,17 @@ fn second_half(h: u32, content: u64, state: &State) -> Option<Second>
     }
 }
 
-// The half-words of the instruction at the half-word address `h`, the content of its first word being known, unless one
-// of them may not be fetched. Where there is only one, 0 stands for the second.
+// The half-words of the instruction at the half-word address `h`, the content of its first word
+// being known, unless one of them may not be fetched. Where there is only one, 0 stands for the
+// second.
 #[inline(always)]
 #[tactic(auto, unfolding(st_prep::specs::Reading::with_first))]
 fn halves_in(h: u32, content: u64, state: &State) -> Option<Spelled>
     requires address { h < 2 ^ 19 }
-    requires allowed { forbidden_by (word state.now 3) state.now.enabled AccessOf.Fetch (h / 2) ≡ None }
-    ensures { IfSome result (λ r. (k : Use) → Leads (word state.now) (with_first_of false (word state.now 3)
+    requires allowed { forbidden_by (word state.now 3) state.now.enabled AccessOf.Fetch (h / 2)
+        ≡ None }
+    ensures { IfSome result (λ r. (k : Use) → Leads (word state.now)
+        (with_first_of false (word state.now 3)
         state.now.enabled h content k) (k (allowed_found r.first r.second)) (if_more r.more ((h + 1) / 2))) }
 {
     let first = half_of(content, h);
@@ -273,8 +283,10 @@ fn halves_in(h: u32, content: u64, state: &State) -> Option<Spelled>
 #[tactic(auto, unfolding(st_prep::specs::Reading::instruction_at))]
 fn halves_at(h: u32, state: &State) -> Option<Spelled>
     requires { h < 2 ^ 19 }
-    ensures { IfSome result (λ r. (k : Use) → Leads (word state.now) (instruction_at false (word state.now 3)
-        state.now.enabled h k) (k (allowed_found r.first r.second)) (h / 2 ∷ if_more r.more ((h + 1) / 2))) }
+    ensures { IfSome result (λ r. (k : Use) → Leads (word state.now)
+        (instruction_at false (word state.now 3)
+        state.now.enabled h k) (k (allowed_found r.first r.second))
+        (h / 2 ∷ if_more r.more ((h + 1) / 2))) }
 {
     match fetched_word(h / 2, state) {
         Some(content) => match halves_in(h, content, state) {
@@ -288,10 +300,10 @@ fn halves_at(h: u32, state: &State) -> Option<Spelled>
 // The words of the instruction at the half-word address `h`, as a run.
 #[inline(always)]
 #[tactic(auto, unfolding(st_segment::specs::Entries::run_of))]
-fn words_at(h: u32, more: bool) -> Run
+fn words_at(h: u32, more: bool) -> WordRun
     ensures { result ≡ run_by (h / 2 ∷ if_more more ((h + 1) / 2)) }
 {
-    Run {
+    WordRun {
         first: h / 2,
         len: if more { 2 } else { 1 },
     }
@@ -320,7 +332,14 @@ fn is_execute(instr: &Instr) -> bool
 // What is known of an entry.
 #[inline(always)]
 #[tactic(auto, unfolding(crate::specs::Straight::shown))]
-fn show(own: Run, target: Run, needs: Needs, p: &Prepared, follows: bool, execute: bool) -> Planned
+fn show(
+    own: WordRun,
+    target: WordRun,
+    needs: Needs,
+    p: &Prepared,
+    follows: bool,
+    execute: bool,
+) -> Planned
     ensures entry { result.entry ≡ shown own target needs p.now follows }
     ensures side { result.side ≡ needs.index_read }
     ensures execute { result.execute ≡ execute }
@@ -343,10 +362,11 @@ fn show(own: Run, target: Run, needs: Needs, p: &Prepared, follows: bool, execut
 
 // Plans the entry at `p.place`, an own instruction that is not EX and whose words may be fetched.
 #[inline(always)]
-fn plan_own(own: Decoded, words: Run, x: &[u64; 16], state: &State, p: &mut Prepared) -> Planned
+fn plan_own(own: Decoded, words: WordRun, x: &[u64; 16], state: &State, p: &mut Prepared) -> Planned
     requires place { IsPlace p.old.place }
     requires fields { HasFields own.instr }
-    ensures planned { IsPlanned state.now x.now p.old.place (plain own) words (record { first = 0; len = 0 }) p.new result }
+    ensures planned { IsPlanned state.now x.now p.old.place (fetched_plain own) words
+        (record { first = 0; len = 0 }) p.new result }
     ensures ranges { IsPrepared p.new }
 {
     let fetched = Fetched {
@@ -358,7 +378,7 @@ fn plan_own(own: Decoded, words: Run, x: &[u64; 16], state: &State, p: &mut Prep
     let needs = prepare_found(p, &fetched, x, state);
     let follows = asks_for_following(table, None);
     let execute = is_execute(&fetched.instr.instr);
-    show(words, Run::default(), needs, p, follows, execute)
+    show(words, WordRun::default(), needs, p, follows, execute)
 }
 
 // The same of half-words whose format is known.
@@ -366,14 +386,15 @@ fn plan_own(own: Decoded, words: Run, x: &[u64; 16], state: &State, p: &mut Prep
 fn plan_as(
     format: Format,
     halves: (u32, u32),
-    words: Run,
+    words: WordRun,
     x: &[u64; 16],
     state: &State,
     p: &mut Prepared,
 ) -> Planned
     requires place { IsPlace p.old.place }
     requires format { spelled_as format halves.0 halves.1 ≡ instruction_of halves.0 halves.1 }
-    ensures planned { IsPlanned state.now x.now p.old.place (plain (decoded halves.0 halves.1)) words (record { first = 0; len = 0 })
+    ensures planned { IsPlanned state.now x.now p.old.place
+        (fetched_plain (decoded_entry halves.0 halves.1)) words (record { first = 0; len = 0 })
         p.new result }
     ensures ranges { IsPrepared p.new }
 {
@@ -382,36 +403,39 @@ fn plan_as(
 
 // The same of a format that is not frequent.
 #[inline(never)]
-fn plan_seldom(
+fn plan_cold(
     format: Format,
     halves: (u32, u32),
-    words: Run,
+    words: WordRun,
     x: &[u64; 16],
     state: &State,
     p: &mut Prepared,
 ) -> Planned
     requires place { IsPlace p.old.place }
     requires format { spelled_as format halves.0 halves.1 ≡ instruction_of halves.0 halves.1 }
-    ensures planned { IsPlanned state.now x.now p.old.place (plain (decoded halves.0 halves.1)) words (record { first = 0; len = 0 })
+    ensures planned { IsPlanned state.now x.now p.old.place
+        (fetched_plain (decoded_entry halves.0 halves.1)) words (record { first = 0; len = 0 })
         p.new result }
     ensures ranges { IsPrepared p.new }
 {
     plan_as(format, halves, words, x, state, p)
 }
 
-// The same of any format. What follows knows the format of a frequent instruction, so that it is told apart once.
+// The same of any format. What follows knows the format of a frequent instruction, so that it is
+// told apart once.
 #[inline(always)]
 fn plan_known(
     format: Format,
     halves: (u32, u32),
-    words: Run,
+    words: WordRun,
     x: &[u64; 16],
     state: &State,
     p: &mut Prepared,
 ) -> Planned
     requires place { IsPlace p.old.place }
     requires format { spelled_as format halves.0 halves.1 ≡ instruction_of halves.0 halves.1 }
-    ensures planned { IsPlanned state.now x.now p.old.place (plain (decoded halves.0 halves.1)) words (record { first = 0; len = 0 })
+    ensures planned { IsPlanned state.now x.now p.old.place
+        (fetched_plain (decoded_entry halves.0 halves.1)) words (record { first = 0; len = 0 })
         p.new result }
     ensures ranges { IsPrepared p.new }
 {
@@ -422,7 +446,7 @@ fn plan_known(
             let format = Format::Whole(FullOp::Variable(op));
             plan_as(format, halves, words, x, state, p)
         }
-        _ => plan_seldom(format, halves, words, x, state, p),
+        _ => plan_cold(format, halves, words, x, state, p),
     }
 }
 
@@ -450,7 +474,8 @@ fn plan_other(x: &[u64; 16], state: &State, p: &mut Prepared) -> Planned
 fn plan_spelled(spelled: Spelled, x: &[u64; 16], state: &State, p: &mut Prepared) -> Planned
     requires place { IsPlace p.old.place }
     requires words { x.now ≡ index_words_of state.now }
-    requires spelled { (k : Use) → Leads (word state.now) (instruction_at false (word state.now 3) state.now.enabled
+    requires spelled { (k : Use) → Leads (word state.now)
+        (instruction_at false (word state.now 3) state.now.enabled
         p.old.place.address k) (k (allowed_found spelled.first spelled.second))
         (p.old.place.address / 2 ∷ if_more spelled.more ((p.old.place.address + 1) / 2)) }
     ensures planned { let r = reading_of state.now p.old.place in
@@ -468,10 +493,11 @@ fn plan_spelled(spelled: Spelled, x: &[u64; 16], state: &State, p: &mut Prepared
     }
 }
 
-/// Plans the next entry of a state, or the table instruction of an interrupt by the indicator in `table`, in place. The result is
-/// what else is known of it.
+/// Plans the next entry of a state, or the table instruction of an interrupt by the indicator in
+/// `table`, in place. The result is what else is known of it.
 pub fn plan_entry(table: Option<u8>, state: &State, p: &mut Prepared) -> Planned
     requires indicator { IfSome table (λ i. i < 64) }
+
     ensures plan { p.new ≡ plan_of state.now table }
     ensures ranges { IsPrepared p.new }
     ensures entry { result.entry ≡ entry_of table state.now }

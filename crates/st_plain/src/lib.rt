@@ -1,5 +1,5 @@
-//! What the timetable sees of a state by itself: its next entry, the row of that with its reads, and the entries that run ahead
-//! by guessed steps. `docs/timetable.md` has the rules.
+//! What the timetable sees of a state by itself: its next entry, the row of that with its reads,
+//! and the entries that run ahead by guessed steps. `docs/timetable.md` has the rules.
 #![tactic(auto, using(st_bits::specs::Storage::words_of_storage_is))]
 
 mod entries;

@@ -1,13 +1,13 @@
 //! The entries that run ahead of a state by guessed steps.
 ghost use Rattle.std.specs.Prelude.{◌≡◌, suc, ◌+◌, ◌-◌, ◌*◌, ◌≤◌, ◌<◌, ◌^◌, ◌++◌, map, length, None};
 ghost use Rattle.st_prep.specs.Ranges.{IsPrepared};
-ghost use Rattle.st_exec.specs.Completion.{guessed};
-ghost use Rattle.st_rows.specs.Asked.{served};
-ghost use Rattle.st_rows.specs.Notes.{noted};
+ghost use Rattle.st_exec.specs.Completion.{guessed_state};
+ghost use Rattle.st_rows.specs.Asked.{bus_after_reads};
+ghost use Rattle.st_rows.specs.Notes.{log_after_reads};
 ghost use Rattle.st_rows.specs.Ranges.{IsTight};
 ghost use Rattle.st_rows.specs.Rows.{done_before};
 ghost use Rattle.st_segment.specs.Ahead.{ahead as ahead_of, prepared_before};
-ghost use Rattle.st_plain.specs.Looking.{seen_of, looked};
+ghost use Rattle.st_plain.specs.Looking.{seen_ahead, reads_up_to};
 
 use crate::entries::plan_entry;
 use crate::rows::{begin, finish};
@@ -16,7 +16,7 @@ use st_back::{keep, undo};
 use st_banks::Delays;
 use st_exec::complete_in;
 use st_prep::Prepared;
-use st_rows::{Front, Log, Row};
+use st_rows::{EntryTicks, Front, Log};
 use st_state::State;
 
 /// An entry that runs ahead.
@@ -25,7 +25,7 @@ pub struct Ahead {
     /// The entry as it is prepared.
     pub plan: Prepared,
     /// Its ticks.
-    pub row: Row,
+    pub row: EntryTicks,
     /// Its index-side word, a register or a word that is read from storage.
     pub side: Option<u32>,
     /// Whether it is EX.
@@ -36,11 +36,11 @@ pub struct Ahead {
 pub type Aheads = ArrayVec<Ahead, 8>;
 
 /// Makes the guessed step of an entry that is prepared: a branch on an indicator is not taken.
-#[tactic(auto, unfolding(st_exec::specs::Completion::guessed))]
+#[tactic(auto, unfolding(st_exec::specs::Completion::guessed_state))]
 pub fn guess(p: &Prepared, state: &mut State)
     requires prepared { IsPrepared p.now }
     requires few { state.old.done < 2 ^ 63 }
-    ensures { state.new ≡ guessed p.now state.old }
+    ensures { state.new ≡ guessed_state p.now state.old }
 {
     complete_in(p, state);
     if !p.serial {
@@ -48,10 +48,12 @@ pub fn guess(p: &Prepared, state: &mut State)
     }
 }
 
-/// Looks at the entries that run ahead of a state behind a front, by guessed steps: the first `more` of them that are prepared
-/// before the tick `tick` are added to `found`. Their reads are made on the front's bus and noted, and those of the one
-/// behind them up to its address. The last entry before them is done at that tick or later, and where some were found already, so is the first
-/// of those, which is the last one that may be as many before as there are levels. The state is then as it was; of the front the bus alone is of use.
+/// Looks at the entries that run ahead of a state behind a front, by guessed steps: the first
+/// `more` of them that are prepared before the tick `tick` are added to `found`. Their reads are
+/// made on the front's bus and noted, and those of the one behind them up to its address. The last
+/// entry before them is done at that tick or later, and where some were found already, so is the
+/// first of those, which is the last one that may be as many before as there are levels. The state
+/// is then as it was; of the front the bus alone is of use.
 pub fn look(
     state: &mut State,
     front: &mut Front,
@@ -70,13 +72,14 @@ pub fn look(
     requires late { tick ≤ front.old.c }
     requires first { more < levels → tick ≤ done_before (levels - more) front.old.past }
     requires space { length found.old.items + more ≤ 8 }
+
     ensures state { state.new ≡ state.old }
     ensures found { found.new.items ≡ found.old.items
-        ++ map seen_of (prepared_before tick (ahead_of delays.now levels more None state.old front.old)) }
-    ensures log { log.new ≡ noted delays.now
-        (looked delays.now levels tick (ahead_of delays.now levels (suc more) None state.old front.old)) front.old.bus log.old }
-    ensures bus { front.new.bus ≡ served delays.now
-        (looked delays.now levels tick (ahead_of delays.now levels (suc more) None state.old front.old)) front.old.bus }
+        ++ map seen_ahead (prepared_before tick (ahead_of delays.now levels more None state.old front.old)) }
+    ensures log { log.new ≡ log_after_reads delays.now
+        (reads_up_to delays.now levels tick (ahead_of delays.now levels (suc more) None state.old front.old)) front.old.bus log.old }
+    ensures bus { front.new.bus ≡ bus_after_reads delays.now
+        (reads_up_to delays.now levels tick (ahead_of delays.now levels (suc more) None state.old front.old)) front.old.bus }
 {
     delays.shape();
     state.shape();

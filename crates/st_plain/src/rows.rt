@@ -1,20 +1,20 @@
 //! The row of an entry, with its reads noted in a log.
 ghost use Rattle.std.specs.Prelude.{◌≡◌, ◌+◌, ◌-◌, ◌<◌, ◌≤◌, ◌^◌, List};
-ghost use Rattle.st_rows.specs.Asked.{words_asked, fetches_asked, formed_asked, asked as asked_of};
-ghost use Rattle.st_rows.specs.Notes.{noted};
-ghost use Rattle.st_rows.specs.Rows.{fetch_words, fetched, bus_a, tick_a, tick_p, row as row_of, after as after_of};
-ghost use Rattle.st_rows.specs.Ranges.{IsEntry, IsTight, IsFetchingWithin, ArePastWithin, IsReadable};
+ghost use Rattle.st_rows.specs.Asked.{words_asked, fetches_asked, formed_asked, reads_of_entry as asked_of};
+ghost use Rattle.st_rows.specs.Notes.{log_after_reads};
+ghost use Rattle.st_rows.specs.Rows.{fetch_words, words_tick, bus_a, tick_a, tick_p, row_of_entry as row_of, front_after_entry as after_of};
+ghost use Rattle.st_rows.specs.Ranges.{IsEntryInTime, IsTight, IsFetchingWithin, ArePastWithin, IsReadable};
 ghost use Rattle.st_rows.specs.declared.log.Made.{Made};
 
 use st_banks::Delays;
-use st_rows::{Entry, Fetching, Formed, Front, LastEntries, Log, Row, Run};
+use st_rows::{Entry, EntryTicks, Fetching, Formed, Front, LastEntries, Log, WordRun};
 
 // The instruction words of a run are fetched.
 fn fetch_run(
     words: &mut Fetching,
     delays: &Delays,
     past: &LastEntries,
-    run: Run,
+    run: WordRun,
     from: u64,
     log: &mut Log,
 )
@@ -23,8 +23,11 @@ fn fetch_run(
     requires early { from ≤ 2 ^ 64 - 2 ^ 16 }
     requires words { IsReadable run }
     requires few { run.len ≤ 16 }
+
     ensures words { words.new ≡ fetch_words delays.now past.now words.old from run.first run.len }
-    ensures log { log.new ≡ noted delays.now (words_asked delays.now past.now words.old from run.first run.len)
+    ensures log { log.new
+        ≡ log_after_reads delays.now
+        (words_asked delays.now past.now words.old from run.first run.len)
         words.old.bus log.old }
 {
     delays.shape();
@@ -38,13 +41,15 @@ fn fetch_run(
 }
 
 // All instruction words of the next entry are fetched.
-#[tactic(auto, unfolding(st_rows::specs::Rows::fetched, st_rows::specs::Asked::fetches_asked))]
+#[tactic(auto, unfolding(st_rows::specs::Rows::words_tick, st_rows::specs::Asked::fetches_asked))]
 fn fetch_all(front: &Front, delays: &Delays, entry: &Entry, log: &mut Log) -> Fetching
-    requires entry { IsEntry entry.now }
+    requires entry { IsEntryInTime entry.now }
     requires tight { IsTight 255 front.now }
     requires early { front.now.c ≤ 2 ^ 63 + 2 ^ 20 }
-    ensures words { result ≡ fetched delays.now front.now entry.now }
-    ensures log { log.new ≡ noted delays.now (fetches_asked delays.now front.now entry.now) front.now.bus log.old }
+    ensures words { result ≡ words_tick delays.now front.now entry.now }
+    ensures log { log.new
+        ≡ log_after_reads delays.now
+        (fetches_asked delays.now front.now entry.now) front.now.bus log.old }
 {
     delays.shape();
     let mut words = Fetching::new(front.bus);
@@ -72,14 +77,17 @@ pub struct Begun {
 
 /// Forms the address of the next entry behind a front.
 pub fn begin(front: &Front, delays: &Delays, levels: usize, entry: &Entry, log: &mut Log) -> Begun
-    requires entry { IsEntry entry.now }
+    requires entry { IsEntryInTime entry.now }
     requires tight { IsTight 255 front.now }
     requires early { front.now.c ≤ 2 ^ 63 + 2 ^ 20 }
     requires levels { (1 ≤ levels) × (levels ≤ 8) }
+
     ensures address { result.formed.a ≡ tick_a delays.now front.now entry.now }
     ensures tick { result.formed.p ≡ tick_p delays.now levels front.now entry.now }
     ensures bus { result.words.bus ≡ bus_a delays.now front.now entry.now }
-    ensures log { log.new ≡ noted delays.now (formed_asked delays.now front.now entry.now) front.now.bus log.old }
+    ensures log { log.new
+        ≡ log_after_reads delays.now
+        (formed_asked delays.now front.now entry.now) front.now.bus log.old }
 {
     let mut words = fetch_all(front, delays, entry, log);
     let formed = front.form(delays, levels, entry, &mut words, log);
@@ -94,18 +102,21 @@ pub fn finish(
     entry: &Entry,
     begun: Begun,
     log: &mut Log,
-) -> Row
-    requires entry { IsEntry entry.now }
+) -> EntryTicks
+    requires entry { IsEntryInTime entry.now }
     requires tight { IsTight 255 front.old }
     requires early { front.old.c ≤ 2 ^ 63 + 2 ^ 20 }
     requires levels { (1 ≤ levels) × (levels ≤ 8) }
     requires address { begun.formed.a ≡ tick_a delays.now front.old entry.now }
     requires tick { begun.formed.p ≡ tick_p delays.now levels front.old entry.now }
     requires bus { begun.words.bus ≡ bus_a delays.now front.old entry.now }
+
     ensures value { result ≡ row_of delays.now levels front.old entry.now }
     ensures after { front.new ≡ after_of delays.now levels front.old entry.now }
-    ensures log { (before : List Made) → log.old ≡ noted delays.now (formed_asked delays.now front.old entry.now) front.old.bus before →
-        log.new ≡ noted delays.now (asked_of delays.now levels front.old entry.now) front.old.bus before }
+    ensures log { (before : List Made) → log.old ≡ log_after_reads delays.now
+        (formed_asked delays.now front.old entry.now) front.old.bus before →
+        log.new ≡ log_after_reads delays.now
+        (asked_of delays.now levels front.old entry.now) front.old.bus before }
     ensures tight { IsTight 255 front.new }
     ensures bound { front.new.c ≤ front.old.c + 16576 }
 {
@@ -116,21 +127,25 @@ pub fn finish(
     filled.row
 }
 
-/// Goes on behind the next entry, and gives its row. The log has its reads, which are made on the front's bus.
+/// Goes on behind the next entry, and gives its row. The log has its reads, which are made on the
+/// front's bus.
 pub fn next_row(
     front: &mut Front,
     delays: &Delays,
     levels: usize,
     entry: &Entry,
     log: &mut Log,
-) -> Row
-    requires entry { IsEntry entry.now }
+) -> EntryTicks
+    requires entry { IsEntryInTime entry.now }
     requires tight { IsTight 255 front.old }
     requires early { front.old.c ≤ 2 ^ 63 + 2 ^ 20 }
     requires levels { (1 ≤ levels) × (levels ≤ 8) }
+
     ensures value { result ≡ row_of delays.now levels front.old entry.now }
     ensures after { front.new ≡ after_of delays.now levels front.old entry.now }
-    ensures log { log.new ≡ noted delays.now (asked_of delays.now levels front.old entry.now) front.old.bus log.old }
+    ensures log { log.new
+        ≡ log_after_reads delays.now
+        (asked_of delays.now levels front.old entry.now) front.old.bus log.old }
     ensures tight { IsTight 255 front.new }
     ensures bound { front.new.c ≤ front.old.c + 16576 }
 {

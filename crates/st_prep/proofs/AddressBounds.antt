@@ -1,30 +1,30 @@
 -- Effective addresses are bit addresses.
 use Rattle.std.proofs.Common.{ℕ, ◌*◌, ◌^◌, ◌<◌, ℤ, pos, negsuc, ◌+ℤ◌, List, arith}
 use Rattle.std.specs.Prelude.{nat_lt, slice_index}
-use Rattle.st_bits.specs.IndexWord.{value_of}
+use Rattle.st_bits.specs.IndexWord.{index_value}
 use Rattle.st_format.specs.declared.instruction.Instr.{Instr}
 use Rattle.st_format.specs.declared.instruction.Instr.TheVariants.{Half, Branch, Floating, Vfl, Connect, Move, BitBranch, IndBranch, StoreCounter, Transfer, Invalid}
 use Rattle.st_index.specs.IndexChange.{modulo, effective_address}
-use Rattle.st_prep.specs.EarlyChange.{index_part, half_address, bit_address, field_address, effective}
+use Rattle.st_prep.specs.EarlyChange.{index_operand, half_word_address, full_word_address, field_address, effective}
 use Rattle.st_prep.proofs.Choices.{of_choice}
 
 modulo-below : (z : ℤ) → modulo z (2 ^ 24) < 2 ^ 24
 modulo-below (pos r) = omega arith
 modulo-below (negsuc r) = omega arith
 
-half_address-below : (x : List ℕ) (a i : ℕ) → half_address x a i < 2 ^ 24
-unfolding half_address
-half_address-below x a i = modulo-below (pos (32 * a) +ℤ value_of (index_part x i))
+half_address-below : (x : List ℕ) (a i : ℕ) → half_word_address x a i < 2 ^ 24
+unfolding half_word_address
+half_address-below x a i = modulo-below (pos (32 * a) +ℤ index_value (index_operand x i))
 
-bit_address-below : (x : List ℕ) (a i : ℕ) → bit_address x a i < 2 ^ 24
-unfolding bit_address
-bit_address-below x a i = modulo-below (pos a +ℤ value_of (index_part x i))
+bit_address-below : (x : List ℕ) (a i : ℕ) → full_word_address x a i < 2 ^ 24
+unfolding full_word_address
+bit_address-below x a i = modulo-below (pos a +ℤ index_value (index_operand x i))
 
 field_address-below : (x : List ℕ) (p a i : ℕ) → field_address x p a i < 2 ^ 24
 unfolding field_address
 field_address-below x p a i =
-    of_choice (λ n. n < 2 ^ 24) (nat_lt p 2) (bit_address x a i) (effective_address 0 (slice_index x i))
-    (bit_address-below x a i) (modulo-below (pos 0 +ℤ value_of (slice_index x i)))
+    of_choice (λ n. n < 2 ^ 24) (nat_lt p 2) (full_word_address x a i) (effective_address 0 (slice_index x i))
+    (bit_address-below x a i) (modulo-below (pos 0 +ℤ index_value (slice_index x i)))
 
 pub effective-below : (x : List ℕ) (instr : Instr) → effective x instr < 2 ^ 24
 unfolding effective

@@ -8,12 +8,12 @@ use Rattle.std.proofs.lemmas.List.{ext_get_or, get_or-take, get_or-drop, length-
 use Rattle.st_bits.specs.Bits.{part}
 use Rattle.st_bits.specs.Storage.{words_of_storage_is}
 use Rattle.st_bits.specs.Indicators.{indicator}
-use Rattle.st_state.specs.Interrupts.{turned}
+use Rattle.st_state.specs.Interrupts.{indicator_word}
 use Rattle.st_state.specs.Machine.{Machine, IsMachine, word}
 use Rattle.st_prep.specs.declared.entries.Place.{Place}
-use Rattle.st_prep.specs.Fetch.{index_words, address_by, place_of, reading_of, fetched}
-use Rattle.st_prep.specs.Plan.{needs, prepared, sight, opened, side_word, plan}
-use Rattle.st_prep.specs.Reading.{outcome, words_read, reading}
+use Rattle.st_prep.specs.Fetch.{index_words, address_by, place_of, reading_of, words_fetched}
+use Rattle.st_prep.specs.Plan.{needs, prepared_entry, sight, state_at_entry, side_word, plan}
+use Rattle.st_prep.specs.Reading.{outcome, words_read, reading_at_place}
 use Rattle.st_prep.specs.Alike.{AreAlike, ReadTheSame}
 use Rattle.st_prep.proofs.PlanLemmas.{same_seen}
 use Rattle.st_prep.proofs.PreparedLemmas.{is_needs, same_serial}
@@ -45,12 +45,12 @@ unfolding place_of
 same_place s t i e h = same_place_by _ _ _ _ i e (same_address s t i e h)
 
 same_fetched : (s t : Machine) (p : Place) → index_words t ≡ index_words s → word t 3 ≡ word s 3 → t.enabled ≡ s.enabled
-    → All (λ w. word t w ≡ word s w) (words_read (reading_of s p) (word s)) → fetched t p ≡ fetched s p
+    → All (λ w. word t w ≡ word s w) (words_read (reading_of s p) (word s)) → words_fetched t p ≡ words_fetched s p
 same_fetched s t p index bounds enabled words =
     fetched-outcome t p
-    ∙ ap (λ x. outcome (reading x (word t 3) t.enabled p) (word t)) index
-    ∙ ap (λ b. outcome (reading (index_words s) b t.enabled p) (word t)) bounds
-    ∙ ap (λ en. outcome (reading (index_words s) (word s 3) en p) (word t)) enabled
+    ∙ ap (λ x. outcome (reading_at_place x (word t 3) t.enabled p) (word t)) index
+    ∙ ap (λ b. outcome (reading_at_place (index_words s) b t.enabled p) (word t)) bounds
+    ∙ ap (λ en. outcome (reading_at_place (index_words s) (word s 3) en p) (word t)) enabled
     ∙ outcome-same (reading_of s p) (word s) (word t) words
     ∙ sym (fetched-outcome s p)
 
@@ -67,7 +67,7 @@ same_plan : (s t : Machine) (i : Option ℕ) → place_of t i ≡ place_of s i �
 unfolding plan
 same_plan s t i place seen side =
     let v = sight s (place_of s i) in
-    ap (λ u. prepared u (side_word i t (needs u).index_read)) (ap (sight t) place ∙ seen) ∙ ap (prepared v) side
+    ap (λ u. prepared_entry u (side_word i t (needs u).index_read)) (ap (sight t) place ∙ seen) ∙ ap (prepared_entry v) side
 
 -- ---- the same contents of what is read
 
@@ -82,12 +82,12 @@ set_same false xs ys w x y e few many h same =
     get_or-set_other ys 11 w y 0 other ∙ h ∙ sym (get_or-set_other xs 11 w x 0 other)
 
 opened_same : (s t : Machine) (i : Option ℕ) (w : ℕ) → IsMachine s → IsMachine t → word t w ≡ word s w
-    → word (opened i t) w ≡ word (opened i s) w
+    → word (state_at_entry i t) w ≡ word (state_at_entry i s) w
 opened_same s t None w m n h = h
 opened_same s t (Some i) w m n h =
     set_same (w == 11) s.words t.words w _ _ refl (omega (arith, m.size, words_of_storage_is))
     (omega (arith, n.size, words_of_storage_is)) h
-    (λ e. ap (turned 64 0 (indicator i)) (subst (λ k. word t k ≡ word s k) e h))
+    (λ e. ap (indicator_word 64 0 (indicator i)) (subst (λ k. word t k ≡ word s k) e h))
 
 side_same : (s t : Machine) (i w : Option ℕ) → IsMachine s → IsMachine t → IfSome w (λ n. word t n ≡ word s n)
     → side_word i t w ≡ side_word i s w
@@ -109,7 +109,7 @@ other_words s t p h k d few =
     let above : 32 ≤ get_or ws k d = (reading-few (index_words s) (word s 3) s.enabled p (word s)).above k d few in
     h.words (get_or ws k d) (omega arith)
 
-same_opened : (s t : Machine) (i : Option ℕ) (w : ℕ) → AreAlike s t → w ≢ 11 → word (opened i t) w ≡ word (opened i s) w
+same_opened : (s t : Machine) (i : Option ℕ) (w : ℕ) → AreAlike s t → w ≢ 11 → word (state_at_entry i t) w ≡ word (state_at_entry i s) w
 same_opened s t None w h other = h.words w other
 same_opened s t (Some i) w h other =
     get_or-set_other t.words 11 w _ 0 other ∙ h.words w other ∙ sym (get_or-set_other s.words 11 w _ 0 other)

@@ -3,8 +3,8 @@ use Rattle.std.proofs.Common.{◌≡◌, ◌≢◌, ℕ, false, Option, None, So
 use Rattle.st_state.specs.Machine.{Machine}
 use Rattle.st_state.specs.declared.devices.Order.{Order}
 use Rattle.st_prep.specs.declared.entries.Place.{Place}
-use Rattle.st_prep.specs.Fetch.{index_words, place_of, fetched}
-use Rattle.st_prep.specs.Plan.{seen, needs, prepared, sight, side_word, plan}
+use Rattle.st_prep.specs.Fetch.{index_words, place_of, words_fetched}
+use Rattle.st_prep.specs.Plan.{sight_of, needs, prepared_entry, sight, side_word, plan}
 use Rattle.st_prep.specs.Alike.{AreAlike}
 use Rattle.st_prep.specs.BesideOrders.{AreAlikeBesideOrders}
 use Rattle.st_prep.proofs.AlikeLemmas.{plan-alike, plan-alike_ahead}
@@ -16,13 +16,13 @@ use Rattle.st_prep.proofs.ReadingLemmas.{fetched-outcome}
 abbrev pub with_orders : Option Order → Option Order → Machine → Machine
 with_orders r q s = record s { reader = r; printer = q }
 
-fetched-orders : (r q : Option Order) (s : Machine) (p : Place) → fetched (with_orders r q s) p ≡ fetched s p
+fetched-orders : (r q : Option Order) (s : Machine) (p : Place) → words_fetched (with_orders r q s) p ≡ words_fetched s p
 unfolding index_words
 fetched-orders r q s p = fetched-outcome (with_orders r q s) p ∙ sym (fetched-outcome s p)
 
 sight-orders : (r q : Option Order) (s : Machine) (p : Place) → sight (with_orders r q s) p ≡ sight s p
 unfolding sight index_words
-sight-orders r q s p = ap (λ f. seen p f (index_words s) s) (fetched-orders r q s p)
+sight-orders r q s p = ap (λ f. sight_of p f (index_words s) s) (fetched-orders r q s p)
 
 place-orders : (r q : Option Order) (s : Machine) (t : Option ℕ) → place_of (with_orders r q s) t ≡ place_of s t
 unfolding place_of
@@ -39,8 +39,8 @@ plan-orders r q s t =
     let u = with_orders r q s in
     let v = sight s (place_of s t) in
     let same : sight u (place_of u t) ≡ v = ap (sight u) (place-orders r q s t) ∙ sight-orders r q s (place_of s t) in
-    ap (λ y. prepared y (side_word t u (needs y).index_read)) same
-    ∙ ap (prepared v) (side-orders r q s t (needs v).index_read)
+    ap (λ y. prepared_entry y (side_word t u (needs y).index_read)) same
+    ∙ ap (prepared_entry v) (side-orders r q s t (needs v).index_read)
 
 -- ---- states that differ in orders and indicators
 

@@ -2,14 +2,14 @@
 use Rattle.std.proofs.Common.{ℕ, zero, suc, ◌/◌, ◌%◌, ◌^◌, ◌<◌, ℤ, pos, negsuc, ◌+ℤ◌, neg_ℤ, List, get_or, Option, None, Some, arith}
 use Rattle.std.specs.Prelude.{IfSome, nat_lt, unwrap_or, unsigned_abs, slice_index}
 use Rattle.st_bits.specs.Bits.{bits, with_part}
-use Rattle.st_bits.specs.IndexWord.{value_of, count_of, with_value, with_count, with_refill, sign_bit}
+use Rattle.st_bits.specs.IndexWord.{index_value, count_of, index_word_with_value, with_count, with_refill, sign_bit}
 use Rattle.st_bits.specs.declared.operations.HalfOp.{HalfOp}
 use Rattle.st_bits.specs.declared.operations.HalfOp.TheVariants.{Lx, Lv, Lc, Lr, Sx, Sv, Sc, Sr, Sva, VPlus, VPlusC, Kv, Lvs, Lvi, Lci, Lri, VPlusI, VMinusI, VPlusIC, VPlusICR, Kvi, Kc, Kci, Cb, Cbr, R, Ex}
 use Rattle.st_format.specs.declared.instruction.Instr.{Instr}
 use Rattle.st_format.specs.declared.instruction.Instr.TheVariants.{Half, Branch, Floating, Vfl, Connect, Move, BitBranch, IndBranch, StoreCounter, Transfer, Invalid}
-use Rattle.st_index.specs.IndexChange.{with_added, one_less, with_lower_count, selected_sum, is_counting, increment_of, progressed}
+use Rattle.st_index.specs.IndexChange.{with_added, one_less, with_lower_count, selected_sum, is_counting, increment_of, progressive_word}
 use Rattle.st_prep.specs.declared.early.Early.{Early}
-use Rattle.st_prep.specs.EarlyChange.{unchanged, compared, changed, word_of, half_change, progressive_change, change}
+use Rattle.st_prep.specs.EarlyChange.{without_change, change_of_comparison, change_of_index, index_side_word, half_change, progressive_change, change}
 use Rattle.st_prep.specs.Ranges.{HasFields, IsChange}
 use Rattle.st_prep.proofs.Choices.{of_choice}
 
@@ -34,7 +34,7 @@ sign_bit-below : (r : ℤ) → sign_bit r < 2
 sign_bit-below (pos n) = omega arith
 sign_bit-below (negsuc n) = omega arith
 
-value-below : (x : ℕ) (r : ℤ) → x < 2 ^ 64 → with_value x r < 2 ^ 64
+value-below : (x : ℕ) (r : ℤ) → x < 2 ^ 64 → index_word_with_value x r < 2 ^ 64
 value-below x r word =
     let m : ℕ = unsigned_abs r % 2 ^ 24 in
     sign-below (with_part x 0 24 m) (sign_bit r) (magnitude-below x m word (omega arith)) (sign_bit-below r)
@@ -47,10 +47,10 @@ lower_count-below : (x : ℕ) → x < 2 ^ 64 → with_lower_count x < 2 ^ 64
 lower_count-below x word =
     count-below x (one_less (count_of x)) word (one_less-below (count_of x) (omega arith))
 
-progressed-below : (p x a : ℕ) → x < 2 ^ 64 → progressed p x a < 2 ^ 64
+progressed-below : (p x a : ℕ) → x < 2 ^ 64 → progressive_word p x a < 2 ^ 64
 progressed-below p x a word =
     let y : ℕ = with_added x (increment_of p a) in
-    let fits : y < 2 ^ 64 = value-below x (value_of x +ℤ increment_of p a) word in
+    let fits : y < 2 ^ 64 = value-below x (index_value x +ℤ increment_of p a) word in
     of_choice (λ n. n < 2 ^ 64) (is_counting p) (with_lower_count y) y (lower_count-below y fits) fits
 
 -- ---- changes
@@ -64,31 +64,31 @@ refilled-below None y some word = word
 refilled-below (Some w) y some word = some
 
 changed-fits : (j x y : ℕ) (r : Option ℕ) → j < 16 → x < 2 ^ 64 → y < 2 ^ 64 → IfSome r (λ w. w < 2 ^ 64)
-    → Fits (changed j x y r)
-unfolding changed
+    → Fits (change_of_index j x y r)
+unfolding change_of_index
 changed-fits j x y r number kept word some =
     record { number = number; kept = kept; word = refilled-below r y some word }
 
 half_change-fits : (op : HalfOp) (xs : List ℕ) (a j x e : ℕ) (r : Option ℕ) → j < 16 → x < 2 ^ 64 → e < 2 ^ 24
     → IfSome r (λ w. w < 2 ^ 64) → Fits (half_change op xs a j x e r)
-unfolding half_change compared
+unfolding half_change change_of_comparison
 half_change-fits Lx xs a j x e r n w h s = changed-fits j x _ None n w (refilled-below r 0 s (omega arith)) tt
 half_change-fits Lv xs a j x e r n w h s = changed-fits j x _ None n w (front-below x _ w (omega arith)) tt
 half_change-fits Lc xs a j x e r n w h s = changed-fits j x _ None n w (count-below x _ w (omega arith)) tt
 half_change-fits Lr xs a j x e r n w h s = changed-fits j x _ None n w (refill-below x _ w (omega arith)) tt
-half_change-fits VPlus xs a j x e r n w h s = changed-fits j x _ None n w (value-below x (value_of x +ℤ value_of (word_of r)) w) tt
+half_change-fits VPlus xs a j x e r n w h s = changed-fits j x _ None n w (value-below x (index_value x +ℤ index_value (index_side_word r)) w) tt
 half_change-fits VPlusC xs a j x e r n w h s =
-    changed-fits j x _ None n w (lower_count-below _ (value-below x (value_of x +ℤ value_of (word_of r)) w)) tt
+    changed-fits j x _ None n w (lower_count-below _ (value-below x (index_value x +ℤ index_value (index_side_word r)) w)) tt
 half_change-fits Lvs xs a j x e r n w h s = changed-fits j x _ None n w (value-below x (selected_sum (bits 16 (a / 8)) xs) w) tt
 half_change-fits Lvi xs a j x e r n w h s = changed-fits j x _ None n w (value-below x (pos e) w) tt
 half_change-fits Lci xs a j x e r n w h s = changed-fits j x _ None n w (count-below x _ w (omega arith)) tt
 half_change-fits Lri xs a j x e r n w h s = changed-fits j x _ None n w (refill-below x _ w (omega arith)) tt
-half_change-fits VPlusI xs a j x e r n w h s = changed-fits j x _ None n w (value-below x (value_of x +ℤ pos e) w) tt
-half_change-fits VMinusI xs a j x e r n w h s = changed-fits j x _ None n w (value-below x (value_of x +ℤ neg_ℤ (pos e)) w) tt
+half_change-fits VPlusI xs a j x e r n w h s = changed-fits j x _ None n w (value-below x (index_value x +ℤ pos e) w) tt
+half_change-fits VMinusI xs a j x e r n w h s = changed-fits j x _ None n w (value-below x (index_value x +ℤ neg_ℤ (pos e)) w) tt
 half_change-fits VPlusIC xs a j x e r n w h s =
-    changed-fits j x _ None n w (lower_count-below _ (value-below x (value_of x +ℤ pos e) w)) tt
+    changed-fits j x _ None n w (lower_count-below _ (value-below x (index_value x +ℤ pos e) w)) tt
 half_change-fits VPlusICR xs a j x e r n w h s =
-    changed-fits j x _ r n w (lower_count-below _ (value-below x (value_of x +ℤ pos e) w)) s
+    changed-fits j x _ r n w (lower_count-below _ (value-below x (index_value x +ℤ pos e) w)) s
 half_change-fits Cb xs a j x e r n w h s = changed-fits j x _ None n w (lower_count-below x w) tt
 half_change-fits Cbr xs a j x e r n w h s = changed-fits j x _ r n w (lower_count-below x w) s
 half_change-fits R xs a j x e r n w h s = changed-fits j x _ None n w (refilled-below r 0 s (omega arith)) tt
@@ -107,8 +107,8 @@ progressive_change-fits : (p i x a : ℕ) (r : Option ℕ) → i < 16 → x < 2 
     → Fits (progressive_change p i x a r)
 unfolding progressive_change
 progressive_change-fits p i x a r number word some =
-    of_choice Fits (nat_lt p 2) unchanged (changed i x (progressed p x a) r) tt
-    (changed-fits i x (progressed p x a) r number word (progressed-below p x a word) some)
+    of_choice Fits (nat_lt p 2) without_change (change_of_index i x (progressive_word p x a) r) tt
+    (changed-fits i x (progressive_word p x a) r number word (progressed-below p x a word) some)
 
 pub change-fits : (xs : List ℕ) (instr : Instr) (e : ℕ) (r : Option ℕ) → ((j : ℕ) → get_or xs j 0 < 2 ^ 64)
     → HasFields instr → e < 2 ^ 24 → IfSome r (λ w. w < 2 ^ 64) → Fits (change xs instr e r)

@@ -9,9 +9,9 @@ use Rattle.st_prep.specs.EarlyChange.{effective, side}
 use Rattle.st_prep.specs.Entry.{no_words, field_words, operand_words, words_moved_from, reads_field, reads}
 use Rattle.st_prep.specs.Checks.{effective_instr}
 use Rattle.st_prep.specs.Fetch.{index_words, place_of}
-use Rattle.st_prep.specs.Plan.{Sight, aimed, aim, fault_of, needs_by, needs, suppressed, entry, prepared_by, prepared, sight, side_word, plan}
+use Rattle.st_prep.specs.Plan.{Sight, aim_at, aim, fault_of_checks, needs_by, needs, suppressed_entry, entry_at, prepared_by, prepared_entry, sight, side_word, plan}
 use Rattle.st_prep.specs.Ranges.{HasFields}
-use Rattle.st_prep.specs.Reading.{words_read as instruction_words, reading, index_side_words}
+use Rattle.st_prep.specs.Reading.{words_read as instruction_words, reading_at_place, index_side_words}
 use Rattle.st_prep.proofs.Choices.{of_choice}
 use Rattle.st_prep.proofs.PlanLemmas.{sight-fits}
 use Rattle.st_prep.proofs.PreparedLemmas.{IsSight, executed-shape}
@@ -64,19 +64,19 @@ few-by_fault : (f : Option ℕ) (s : Sight) (r : Option ℕ) → IsSight s
     → (prepared_by f s.place (aim s) s.x r).reads.len + (prepared_by f s.place (aim s) s.x r).reads.len2
     + index_side_words (needs_by f (aim s)).index_read
     ≤ 32
-unfolding entry suppressed aim aimed
+unfolding entry_at suppressed_entry aim aim_at
 few-by_fault None s r k =
     few-read s.x (effective_instr s.fetched) (effective s.x (effective_instr s.fetched)) (executed-shape s.fetched k.fetched)
 few-by_fault (Some i) s r k = omega arith
 
 few-prepared : (s : Sight) (r : Option ℕ) → IsSight s
-    → (prepared s r).reads.len + (prepared s r).reads.len2 + index_side_words (needs s).index_read ≤ 32
-unfolding prepared needs aim
-few-prepared s r k = few-by_fault (fault_of s) s r k
+    → (prepared_entry s r).reads.len + (prepared_entry s r).reads.len2 + index_side_words (needs s).index_read ≤ 32
+unfolding prepared_entry needs aim
+few-prepared s r k = few-by_fault (fault_of_checks s) s r k
 
 -- an entry of a state reads 36 words at most
 pub few-plan : (s : Machine) (t : Option ℕ) → IsMachine s → IfSome t (λ i. i < 64)
-    → length (instruction_words (reading (index_words s) (word s 3) s.enabled (place_of s t)) (word s))
+    → length (instruction_words (reading_at_place (index_words s) (word s 3) s.enabled (place_of s t)) (word s))
     + index_side_words (needs (sight s (place_of s t))).index_read + ((plan s t).reads.len + (plan s t).reads.len2) ≤ 36
 unfolding plan
 few-plan s t m some =

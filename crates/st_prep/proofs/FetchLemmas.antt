@@ -4,17 +4,17 @@ use Rattle.std.specs.Prelude.{IfSome}
 use Rattle.st_format.specs.declared.instruction.Instr.{Instr}
 use Rattle.st_format.specs.declared.instruction.Instr.TheVariants.{Half, Branch, Floating, Vfl, Connect, Move, BitBranch, IndBranch, StoreCounter, Transfer, Invalid}
 use Rattle.st_format.specs.declared.instruction.Decoded.{Decoded}
-use Rattle.st_format.specs.Formats.{IsShape, decoded}
+use Rattle.st_format.specs.Formats.{IsShape, decoded_entry}
 use Rattle.st_format.proofs.Shapes.{shape-instruction_of}
 use Rattle.st_state.specs.Machine.{Machine, word}
-use Rattle.st_state.specs.Boundary.{forbidden_by, is_invalid, is_protected}
+use Rattle.st_state.specs.Boundary.{forbidden_by, is_invalid_word, is_protected}
 use Rattle.st_state.specs.declared.protection.Access.TheVariants.{Fetch}
 use Rattle.st_prep.specs.declared.entries.Place.{Place}
 use Rattle.st_prep.specs.declared.fetching.Found.{Found}
 use Rattle.st_prep.specs.EarlyChange.{effective}
-use Rattle.st_prep.specs.Reading.{Reading, Finds, Reads, outcome, half_of, Use, with_second, with_first, read_after, instruction_at, is_execute, with_target, alone, own_use, reading}
-use Rattle.st_prep.specs.Fetch.{fetched}
-use Rattle.st_prep.specs.Ranges.{HasFields, IsFound, IsFetched}
+use Rattle.st_prep.specs.Reading.{Reading, Finds, Reads, outcome, half_of, Use, with_second, with_first, read_after, instruction_at, is_execute, with_target, fetched_alone, own_use, reading_at_place}
+use Rattle.st_prep.specs.Fetch.{words_fetched}
+use Rattle.st_prep.specs.Ranges.{HasFields, IsFoundInRange, IsFetched}
 use Rattle.st_prep.proofs.Choices.{of_choice}
 
 -- what bits spell has its fields
@@ -31,7 +31,7 @@ fields-shape (StoreCounter a i second) s = s
 fields-shape (Transfer w a i n) s = s
 fields-shape (Invalid first second full) s = tt
 
-fields-decoded : (f s : ℕ) → f < 2 ^ 32 → s < 2 ^ 32 → HasFields (decoded f s).instr
+fields-decoded : (f s : ℕ) → f < 2 ^ 32 → s < 2 ^ 32 → HasFields (decoded_entry f s).instr
 fields-decoded f s first second = fields-shape _ (shape-instruction_of f s first second)
 
 half-below : (content h : ℕ) → half_of content h < 2 ^ 32
@@ -41,7 +41,7 @@ fetch_fault : (b : ℕ) (en : Bool) (w : ℕ) → IfSome (forbidden_by b en Fetc
 unfolding forbidden_by
 fetch_fault b en w =
     let P : Option ℕ → Type 0 = λ o. IfSome o (λ i. i < 64) in
-    of_choice P (is_invalid Fetch w) (Some 16) (if is_protected b en w then Some 21 else None) (omega arith)
+    of_choice P (is_invalid_word Fetch w) (Some 16) (if is_protected b en w then Some 21 else None) (omega arith)
     (of_choice P (is_protected b en w) (Some 21) None (omega arith) tt)
 
 -- whatever it finds is in its ranges
@@ -50,7 +50,7 @@ Fits r = (c : ℕ → ℕ) → IsFetched (outcome r c)
 
 -- a use to which all that is found is of use
 abbrev pub UseFits : Use → Type 0
-UseFits k = (f : Found) → IsFound f → Fits (k f)
+UseFits k = (f : Found) → IsFoundInRange f → Fits (k f)
 
 fits-read : (t : Bool) (w : ℕ) (r : ℕ → Reading) → ((c : ℕ) → Fits (r c)) → Fits (Reads t w r)
 unfolding outcome
@@ -71,7 +71,7 @@ with_first-fits : (t : Bool) (b : ℕ) (en : Bool) (h content : ℕ) (k : Use) �
 unfolding with_first
 with_first-fits t b en h content k fits =
     let first : ℕ = half_of content h in
-    of_choice Fits ((decoded first 0).halves == 2) _ _
+    of_choice Fits ((decoded_entry first 0).halves == 2) _ _
     (with_second-fits _ t first (h + 1) (h / 2) content k (half-below content h) (fetch_fault b en ((h + 1) / 2)) fits)
     (fits _ (record { shape = fields-decoded first 0 (half-below content h) (omega arith); fault = tt }))
 
@@ -93,7 +93,7 @@ with_target-fits ex own target some c = record {
   fault = some.fault;
 }
 
-alone-fits : (own : Found) → IsFound own → Fits (Finds (alone own))
+alone-fits : (own : Found) → IsFoundInRange own → Fits (Finds (fetched_alone own))
 unfolding outcome
 alone-fits own some c = record { own = some.shape; target = tt; fault = some.fault }
 
@@ -104,11 +104,11 @@ own_use-fits x b en own some =
     (instruction-fits true b en (effective x own.decoded.instr / 32) _ (with_target-fits own.decoded some.shape))
     (alone-fits own some)
 
-pub reading-fits : (x : List ℕ) (b : ℕ) (en : Bool) (place : Place) → Fits (reading x b en place)
-unfolding reading
+pub reading-fits : (x : List ℕ) (b : ℕ) (en : Bool) (place : Place) → Fits (reading_at_place x b en place)
+unfolding reading_at_place
 reading-fits x b en place = instruction-fits false b en place.address _ (own_use-fits x b en)
 
 -- whatever is fetched at a place
-pub fetched-fits : (s : Machine) (place : Place) → IsFetched (fetched s place)
-unfolding fetched
+pub fetched-fits : (s : Machine) (place : Place) → IsFetched (words_fetched s place)
+unfolding words_fetched
 fetched-fits s place = reading-fits _ _ _ place (word s)

@@ -6,7 +6,7 @@ use Rattle.st_format.specs.declared.instruction.Instr.{Instr}
 use Rattle.st_format.specs.declared.instruction.Instr.TheVariants.{Half, Branch, Floating, Vfl, Connect, Move, BitBranch, IndBranch, StoreCounter, Transfer, Invalid}
 use Rattle.st_format.specs.Operations.{writes_field}
 use Rattle.st_prep.specs.declared.entries.Prepared.{Prepared}
-use Rattle.st_prep.specs.Entry.{no_words, one_run, field_words, operand_words, is_index_store, reads_field, reads, writes}
+use Rattle.st_prep.specs.Entry.{no_words, one_run, field_words, operand_words, is_index_store, reads_field, reads, words_written}
 use Rattle.st_prep.specs.FewWords.{is_transmission, AreFew}
 use Rattle.st_prep.specs.Ranges.{IsPrepared}
 use Rattle.st_prep.proofs.Choices.{of_choice}
@@ -44,8 +44,8 @@ reads-few (StoreCounter a i second) e h = none-few
 reads-few (Transfer w a i n) e h = none-few
 reads-few (Invalid first second full) e h = none-few
 
-writes-few : (instr : Instr) (e : ℕ) → is_transmission instr ≡ false → AreFew (writes instr e)
-unfolding writes
+writes-few : (instr : Instr) (e : ℕ) → is_transmission instr ≡ false → AreFew (words_written instr e)
+unfolding words_written
 writes-few (Half op a j i) e h =
     of_choice AreFew (is_index_store op) (one_run (e / 64) 1) no_words (word-few (e / 64)) none-few
 writes-few (Vfl op d u n p l b o a i) e h =

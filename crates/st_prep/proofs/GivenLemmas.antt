@@ -3,17 +3,17 @@ use Rattle.std.proofs.Common.{◌≡◌, ◌≢◌, ℕ, zero, suc, ◌/◌, ◌
 use Rattle.std.proofs.lemmas.Bool.{eqb-true}
 use Rattle.std.proofs.lemmas.Bool.Decides.{nat_tests}
 use Rattle.st_format.specs.declared.instruction.Decoded.{Decoded}
-use Rattle.st_format.specs.Formats.{decoded, instruction_of}
+use Rattle.st_format.specs.Formats.{decoded_entry, instruction_of}
 use Rattle.st_prep.specs.declared.entries.Place.{Place}
 use Rattle.st_prep.specs.declared.entries.Fetched.{Fetched}
 use Rattle.st_prep.specs.declared.entries.Fetching.{Fetching}
 use Rattle.st_prep.specs.declared.entries.Fetching.TheVariants.{Next, Found as FoundAll}
 use Rattle.st_prep.specs.declared.fetching.Found.{Found}
 use Rattle.st_prep.specs.declared.fetching.Part.TheVariants.{Has}
-use Rattle.st_prep.specs.Reading.{Reading, Finds, Reads, left_after, given, given_by, half_of, no_instr, Use, with_second, with_first, read_after, with_target, instruction_at, is_execute, own_use, reading, plain, allowed_found}
+use Rattle.st_prep.specs.Reading.{Reading, Finds, Reads, left_after, fetching_of, given_by, half_of, no_instr, Use, with_second, with_first, read_after, with_target, instruction_at, is_execute, own_use, reading_at_place, fetched_plain, allowed_found}
 
 abbrev pub of : Reading → List ℕ → Fetching
-of r contents = given (left_after r contents)
+of r contents = fetching_of (left_after r contents)
 
 -- contents that there are begin with one
 one_more : (cs : List ℕ) → 1 ≤ length cs → cs ≡ get_or cs 0 0 ∷ drop 1 cs
@@ -28,7 +28,7 @@ reads_next t w r [] some = absurd (omega arith)
 reads_next t w r (c ∷ cs) some = refl
 
 reads_none : (t : Bool) (w : ℕ) (r : ℕ → Reading) (cs : List ℕ) → length cs ≡ 0 → of (Reads t w r) cs ≡ Next w t
-unfolding left_after given
+unfolding left_after fetching_of
 reads_none t w r [] none = refl
 reads_none t w r (c ∷ cs) none = absurd (omega arith)
 
@@ -51,10 +51,10 @@ at-first (Some j) t b en h k cs e some = cc
 
 pub second-forbidden : (f : Option ℕ) (i : ℕ) (t : Bool) (first h v content : ℕ) (k : Use) (cs : List ℕ) → f ≡ Some i
     → of (with_second f t first h v content k) (drop 1 cs)
-    ≡ given_by t (Has (record { decoded = decoded first 0; fault = Some i }) 1) cs k
+    ≡ given_by t (Has (record { decoded = decoded_entry first 0; fault = Some i }) 1) cs k
 second-forbidden None i t first h v content k cs e = cc
 second-forbidden (Some j) i t first h v content k cs e =
-    ap (λ f. of (k (record { decoded = decoded first 0; fault = f })) (drop 1 cs)) e
+    ap (λ f. of (k (record { decoded = decoded_entry first 0; fault = f })) (drop 1 cs)) e
 
 -- by the test whether it stands in the word of the first one
 second-here : (same : Bool) (t : Bool) (w : ℕ) (here : Reading) (r : ℕ → Reading) (cs : List ℕ) → same ≡ true
@@ -70,7 +70,7 @@ second-there false t w here r cs e = refl
 pub second-same : (f : Option ℕ) (t : Bool) (first h v content : ℕ) (k : Use) (cs : List ℕ) → f ≡ None
     → (h / 2 == v) ≡ true
     → of (with_second f t first h v content k) (drop 1 cs)
-    ≡ given_by t (Has (record { decoded = decoded first (half_of content h); fault = None }) 1) cs k
+    ≡ given_by t (Has (record { decoded = decoded_entry first (half_of content h); fault = None }) 1) cs k
 second-same None t first h v content k cs e same = second-here (h / 2 == v) t (h / 2) _ _ (drop 1 cs) same
 second-same (Some j) t first h v content k cs e same = cc
 
@@ -94,27 +94,27 @@ rest-rest (c ∷ d ∷ cs) = refl
 pub second-has : (f : Option ℕ) (t : Bool) (first h v content : ℕ) (k : Use) (cs : List ℕ) → f ≡ None
     → (h / 2 == v) ≡ false → 1 ≤ length (drop 1 cs)
     → of (with_second f t first h v content k) (drop 1 cs)
-    ≡ given_by t (Has (record { decoded = decoded first (half_of (get_or cs 1 0) h); fault = None }) 2) cs k
+    ≡ given_by t (Has (record { decoded = decoded_entry first (half_of (get_or cs 1 0) h); fault = None }) 2) cs k
 second-has None t first h v content k cs e other some =
     second-there (h / 2 == v) t (h / 2) _ _ (drop 1 cs) other
     ∙ reads_next t (h / 2) _ (drop 1 cs) some
-    ∙ ap (λ c. of (k (record { decoded = decoded first (half_of c h); fault = None })) (drop 1 (drop 1 cs))) (second_content cs)
-    ∙ ap (of (k (record { decoded = decoded first (half_of (get_or cs 1 0) h); fault = None }))) (rest-rest cs)
+    ∙ ap (λ c. of (k (record { decoded = decoded_entry first (half_of c h); fault = None })) (drop 1 (drop 1 cs))) (second_content cs)
+    ∙ ap (of (k (record { decoded = decoded_entry first (half_of (get_or cs 1 0) h); fault = None }))) (rest-rest cs)
 second-has (Some j) t first h v content k cs e other some = cc
 
 -- what is found by the contents does not look at the rest of them
 pub found-of : (r : Reading) (f : Fetched) (cs : List ℕ) → r ≡ Finds f → of r cs ≡ FoundAll f
-unfolding left_after given
-found-of r f cs e = ap (λ r. given (left_after r cs)) e
+unfolding left_after fetching_of
+found-of r f cs e = ap (λ r. fetching_of (left_after r cs)) e
 
 -- the same, where the second half-word is the one that is used
 pub found-second : (r : Fetching) (first made second : ℕ) (k : Use) (f : Fetched) (cs : List ℕ)
-    → r ≡ of (k (record { decoded = decoded first made; fault = None })) cs → second ≡ made
-    → k (record { decoded = decoded first second; fault = None }) ≡ Finds f → r ≡ FoundAll f
+    → r ≡ of (k (record { decoded = decoded_entry first made; fault = None })) cs → second ≡ made
+    → k (record { decoded = decoded_entry first second; fault = None }) ≡ Finds f → r ≡ FoundAll f
 found-second r first made second k f cs is same found =
     is
-    ∙ ap (λ x. of (k (record { decoded = decoded first x; fault = None })) cs) (sym same)
-    ∙ found-of (k (record { decoded = decoded first second; fault = None })) f cs found
+    ∙ ap (λ x. of (k (record { decoded = decoded_entry first x; fault = None })) cs) (sym same)
+    ∙ found-of (k (record { decoded = decoded_entry first second; fault = None })) f cs found
 
 found-first : (two : Bool) (r q : Reading) (f : Fetched) (cs : List ℕ) → two ≡ false → q ≡ Finds f → of (if two then r else q) cs ≡ FoundAll f
 found-first true r q f cs h found = cc
@@ -122,19 +122,19 @@ found-first false r q f cs h found = found-of q f cs found
 
 -- an instruction of one half-word
 pub found-short : (b : ℕ) (en : Bool) (h content first : ℕ) (k : Use) (f : Fetched) (cs : List ℕ) → first ≡ half_of content h
-    → ((decoded first 0).halves == 2) ≡ false → k (record { decoded = decoded first 0; fault = None }) ≡ Finds f
+    → ((decoded_entry first 0).halves == 2) ≡ false → k (record { decoded = decoded_entry first 0; fault = None }) ≡ Finds f
     → of (with_first false b en h content k) cs ≡ FoundAll f
 unfolding with_first
 found-short b en h content first k f cs same short found =
-    found-first ((decoded (half_of content h) 0).halves == 2) _ _ f cs
-    (ap (λ x. (decoded x 0).halves == 2) (sym same) ∙ short)
-    (ap (λ x. k (record { decoded = decoded x 0; fault = None })) (sym same) ∙ found)
+    found-first ((decoded_entry (half_of content h) 0).halves == 2) _ _ f cs
+    (ap (λ x. (decoded_entry x 0).halves == 2) (sym same) ∙ short)
+    (ap (λ x. k (record { decoded = decoded_entry x 0; fault = None })) (sym same) ∙ found)
 
 -- ---- the target of EX
 
 pub other-found : (e : Bool) (r : Reading) (f : Fetched) (cs : List ℕ) → e ≡ false
     → of (if e then r else Finds f) cs ≡ FoundAll f
-unfolding left_after given
+unfolding left_after fetching_of
 other-found true r f cs h = cc
 other-found false r f cs h = refl
 
@@ -146,10 +146,10 @@ chosen-found false r f h = refl
 pub known-found : (x : List ℕ) (b : ℕ) (en : Bool) (place : Place) (cs : List ℕ) (first second : ℕ)
     → ((k : Use) (f : Fetched) → k (allowed_found first second) ≡ Finds f → of (instruction_at false b en place.address k) cs ≡ FoundAll f)
     → is_execute (instruction_of first second) ≡ false
-    → of (reading x b en place) cs ≡ FoundAll (plain (decoded first second))
-unfolding reading own_use
+    → of (reading_at_place x b en place) cs ≡ FoundAll (fetched_plain (decoded_entry first second))
+unfolding reading_at_place own_use
 known-found x b en place cs first second found h =
-    found (own_use x b en) (plain (decoded first second)) (chosen-found (is_execute (instruction_of first second)) _ _ h)
+    found (own_use x b en) (fetched_plain (decoded_entry first second)) (chosen-found (is_execute (instruction_of first second)) _ _ h)
 
 pub target-given : (e : Bool) (r : Reading) (f : Fetched) (cs : List ℕ) → e ≡ true
     → of (if e then r else Finds f) cs ≡ of r cs
@@ -158,7 +158,7 @@ target-given false r f cs h = cc
 
 pub target-found : (ex : Decoded) (found : Found) (n : ℕ) (cs : List ℕ)
     → given_by true (Has found n) cs (λ target. Finds (with_target ex target)) ≡ FoundAll (with_target ex found)
-unfolding left_after given
+unfolding left_after fetching_of
 target-found ex found n cs = refl
 
 pub is_none : (n : ℕ) → (n == 0) ≡ true → n ≡ 0

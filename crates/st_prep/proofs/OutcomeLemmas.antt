@@ -12,7 +12,7 @@ use Rattle.st_format.specs.declared.instruction.Instr.{Instr}
 use Rattle.st_format.specs.declared.instruction.Instr.TheVariants.{Half, Branch, Floating, Vfl, Connect, Move, BitBranch, IndBranch, StoreCounter, Transfer, Invalid}
 use Rattle.st_index.specs.IndexChange.{one_less}
 use Rattle.st_prep.specs.declared.entries.Place.{Place}
-use Rattle.st_prep.specs.Entry.{next_by, next, after_half, after_branch, after, stored_part, value, binary_cost, decimal_cost, cost}
+use Rattle.st_prep.specs.Entry.{next_by, counter_behind, after_half, after_branch, counter_after, stored_part, value_stored, binary_cost, decimal_cost, cost}
 use Rattle.st_prep.specs.Ranges.{HasFields, FitsPart, IsStored}
 use Rattle.st_prep.proofs.Choices.{of_choice}
 
@@ -22,8 +22,8 @@ next_by-below : (t : Option ℕ) (c n : ℕ) → c < 2 ^ 19 → next_by t c n < 
 next_by-below None c n h = omega arith
 next_by-below (Some i) c n h = h
 
-pub next-below : (place : Place) (n : ℕ) → place.counter < 2 ^ 19 → next place n < 2 ^ 19
-unfolding next
+pub next-below : (place : Place) (n : ℕ) → place.counter < 2 ^ 19 → counter_behind place n < 2 ^ 19
+unfolding counter_behind
 next-below place n h = next_by-below place.table place.counter n h
 
 after_count-below : (x e f : ℕ) → e < 2 ^ 24 → f < 2 ^ 19 → (if one_less (count_of x) == 0 then f else e / 32) < 2 ^ 19
@@ -44,8 +44,8 @@ after_branch-below Bew c e f address h = h
 after_branch-below Nop c e f address h = h
 
 pub after-below : (instr : Instr) (x : List ℕ) (e c f : ℕ) → HasFields instr → e < 2 ^ 24 → f < 2 ^ 19
-    → after instr x e c f < 2 ^ 19
-unfolding after
+    → counter_after instr x e c f < 2 ^ 19
+unfolding counter_after
 after-below (Half op a j i) x e c f s address h = after_half-below op (slice_index x j) e f address h
 after-below (Branch op a i) x e c f s address h = after_branch-below op c e f address h
 after-below (StoreCounter a i second) x e c f s address h = s.1
@@ -69,8 +69,8 @@ stored_part-fits Sva x h = omega arith
 stored_part-fits _ x h = refl
 
 pub value-fits : (instr : Instr) (x : List ℕ) (f : ℕ) → ((j : ℕ) → get_or x j 0 < 2 ^ 64) → f < 2 ^ 19
-    → IsStored instr (value instr x f)
-unfolding value
+    → IsStored instr (value_stored instr x f)
+unfolding value_stored
 value-fits (Half op a j i) x f words h = stored_part-fits op (slice_index x j) (words j)
 value-fits (StoreCounter a i second) x f words h = h
 value-fits (Branch op a i) x f words h = refl

@@ -3,13 +3,13 @@ use Rattle.std.proofs.Common.{◌≡◌, ℕ, ◌/◌, Bool, true, false, ◌==�
 use Rattle.st_state.specs.Machine.{Machine, word}
 use Rattle.st_format.specs.declared.operations.FullOp.{FullOp}
 use Rattle.st_format.specs.declared.operations.FullOp.TheVariants.{Variable, Connective, Transmission, BitTest, IndicatorTest, Order, CounterStore}
-use Rattle.st_format.specs.Formats.{decoded, instruction_of, word_of}
+use Rattle.st_format.specs.Formats.{decoded_entry, instruction_of, full_word_instruction}
 use Rattle.st_prep.specs.declared.entries.Place.{Place}
 use Rattle.st_prep.specs.declared.entries.Fetched.{Fetched}
 use Rattle.st_prep.specs.declared.entries.Prepared.{Prepared}
-use Rattle.st_prep.specs.Fetch.{index_words, place_of, fetched}
+use Rattle.st_prep.specs.Fetch.{index_words, place_of, words_fetched}
 use Rattle.st_prep.specs.Plan.{sight, plan, entry_by}
-use Rattle.st_prep.specs.Reading.{Reading, Reads, Use, Finds, outcome, half_of, plain, with_second, with_first, read_after, instruction_at, is_execute, own_use, reading, allowed_found}
+use Rattle.st_prep.specs.Reading.{Reading, Reads, Use, Finds, outcome, half_of, fetched_plain, with_second, with_first, read_after, instruction_at, is_execute, own_use, reading_at_place, allowed_found}
 
 -- ---- one instruction
 
@@ -53,8 +53,8 @@ own-found true r f c h = cc
 own-found false r f c h = refl
 
 -- no full word is EX
-pub whole-plain : (op : FullOp) (first second : ℕ) → is_execute (word_of op first second) ≡ false
-unfolding word_of is_execute
+pub whole-plain : (op : FullOp) (first second : ℕ) → is_execute (full_word_instruction op first second) ≡ false
+unfolding full_word_instruction is_execute
 whole-plain (Variable op) first second = refl
 whole-plain (Connective kind) first second = refl
 whole-plain (Transmission swap) first second = refl
@@ -67,16 +67,16 @@ whole-plain CounterStore first second = refl
 pub plain-found : (x : List ℕ) (b : ℕ) (en : Bool) (place : Place) (c : ℕ → ℕ) (first second : ℕ)
     → ((k : Use) → outcome (instruction_at false b en place.address k) c ≡ outcome (k (allowed_found first second)) c)
     → is_execute (instruction_of first second) ≡ false
-    → outcome (reading x b en place) c ≡ plain (decoded first second)
-unfolding reading own_use
+    → outcome (reading_at_place x b en place) c ≡ fetched_plain (decoded_entry first second)
+unfolding reading_at_place own_use
 plain-found x b en place c first second found h =
     found (own_use x b en) ∙ own-found (is_execute (instruction_of first second)) _ _ c h
 
 -- what is filled in at the place of the next entry is the plan of it
 pub filled-plan : (s : Machine) (t : Option ℕ) (q : Prepared) (place : Place) (x : List ℕ) → place ≡ place_of s t
-    → x ≡ index_words s → q ≡ entry_by s place (outcome (reading x (word s 3) s.enabled place) (word s)) x → q ≡ plan s t
-unfolding plan sight fetched place_of
+    → x ≡ index_words s → q ≡ entry_by s place (outcome (reading_at_place x (word s 3) s.enabled place) (word s)) x → q ≡ plan s t
+unfolding plan sight words_fetched place_of
 filled-plan s t q place x hp hx h =
     h
-    ∙ ap (λ y. entry_by s place (outcome (reading y (word s 3) s.enabled place) (word s)) y) hx
-    ∙ ap (λ (p : Place). entry_by s p (outcome (reading (index_words s) (word s 3) s.enabled p) (word s)) (index_words s)) hp
+    ∙ ap (λ y. entry_by s place (outcome (reading_at_place y (word s 3) s.enabled place) (word s)) y) hx
+    ∙ ap (λ (p : Place). entry_by s p (outcome (reading_at_place (index_words s) (word s 3) s.enabled p) (word s)) (index_words s)) hp

@@ -5,21 +5,21 @@ use Rattle.std.proofs.lemmas.List.{get_or-take, get_or-drop, get_or_past, length
 use Rattle.std.proofs.lemmas.Bool.Decides.{leb_tells}
 use Rattle.std.specs.Int.Bits.{or_zero_r}
 use Rattle.st_bits.specs.Storage.{words_of_storage_is}
-use Rattle.st_bits.specs.Registers.{fixed}
+use Rattle.st_bits.specs.Registers.{register_word}
 use Rattle.st_state.specs.Machine.{Machine, IsMachine, word}
 use Rattle.st_bits.specs.Indicators.{indicator}
-use Rattle.st_state.specs.Interrupts.{turned}
+use Rattle.st_state.specs.Interrupts.{indicator_word}
 use Rattle.st_state.proofs.Kept.{is_machine-with_word}
 use Rattle.st_state.proofs.Turned.{turned_below, turned-masks}
 use Rattle.st_prep.specs.declared.entries.Place.{Place}
 use Rattle.st_format.specs.declared.instruction.Decoded.{Decoded}
-use Rattle.st_format.specs.Formats.{decoded}
+use Rattle.st_format.specs.Formats.{decoded_entry}
 use Rattle.st_prep.specs.declared.entries.Fetched.{Fetched}
 use Rattle.st_prep.specs.declared.fetching.Found.{Found}
 use Rattle.st_prep.specs.EarlyChange.{effective}
-use Rattle.st_prep.specs.Reading.{Reading, Finds, outcome, half_of, Use, with_second, with_first, read_after, instruction_at, is_execute, with_target, alone, own_use, reading}
-use Rattle.st_prep.specs.Fetch.{index_words, address_by, place_of, fetched}
-use Rattle.st_prep.specs.Plan.{Sight, needs, prepared, sight, opened, side_word, side_of, plan, IsSeen}
+use Rattle.st_prep.specs.Reading.{Reading, Finds, outcome, half_of, Use, with_second, with_first, read_after, instruction_at, is_execute, with_target, fetched_alone, own_use, reading_at_place}
+use Rattle.st_prep.specs.Fetch.{index_words, address_by, place_of, words_fetched}
+use Rattle.st_prep.specs.Plan.{Sight, needs, prepared_entry, sight, state_at_entry, side_word, side_of, plan, IsSeen}
 use Rattle.st_prep.specs.Ranges.{IsPlace, IsPrepared}
 use Rattle.st_prep.proofs.Choices.{of_choice}
 use Rattle.st_prep.proofs.FetchLemmas.{fetched-fits}
@@ -28,21 +28,21 @@ use Rattle.st_prep.proofs.PreparedLemmas.{IsSight, is_prepared, alone-serial}
 -- ---- indicators
 
 -- an indicator that is taken goes off
-pub without-turned : (x off : ℕ) → x < 2 ^ 64 → off < 2 ^ 64 → bit_and x (2 ^ 64 - 1 - off) ≡ turned 64 0 off x
+pub without-turned : (x off : ℕ) → x < 2 ^ 64 → off < 2 ^ 64 → bit_and x (2 ^ 64 - 1 - off) ≡ indicator_word 64 0 off x
 without-turned x off word fits =
     sym (or_zero_r (bit_and x (2 ^ 64 - 1 - off))) ∙ turned-masks 0 off x (omega arith) fits word
 
 -- ---- states
 
-pub fixed-indicators : (x : ℕ) → fixed 11 x ≡ x
-unfolding fixed
+pub fixed-indicators : (x : ℕ) → register_word 11 x ≡ x
+unfolding register_word
 fixed-indicators x = refl
 
 -- an interrupt that is taken leaves a state
-pub is_machine-opened : (t : Option ℕ) (s : Machine) → IsMachine s → IsMachine (opened t s)
+pub is_machine-opened : (t : Option ℕ) (s : Machine) → IsMachine s → IsMachine (state_at_entry t s)
 is_machine-opened None s m = m
 is_machine-opened (Some i) s m =
-    let x : ℕ = turned 64 0 (indicator i) (word s 11) in
+    let x : ℕ = indicator_word 64 0 (indicator i) (word s 11) in
     let n = is_machine-with_word s 11 x m (omega (arith, words_of_storage_is)) (turned_below 64 0 (indicator i) (word s 11)) (fixed-indicators x) in
     record {
       size = n.size;
@@ -105,15 +105,15 @@ pub sight-seen : (s : Machine) (v : Sight) → IsSeen s v → sight s (place_of 
 unfolding sight
 sight-seen s v h =
     same_seen _ v.place _ v.fetched _ v.x _ v.bounds _ v.enabled h.place
-    (ap (fetched s) h.place ∙ h.fetched) h.words h.bounds h.enabled
+    (ap (words_fetched s) h.place ∙ h.fetched) h.words h.bounds h.enabled
 
 -- an entry that is prepared by what a state looks like is the state's next one
 pub prepared-plan : (s : Machine) (v : Sight) (r : Option ℕ) → IsSeen s v → r ≡ side_of s v
-    → prepared v r ≡ plan s v.place.table
+    → prepared_entry v r ≡ plan s v.place.table
 unfolding plan
 prepared-plan s v r h e =
-    ap (prepared v) e
-    ∙ ap (λ u. prepared u (side_word v.place.table s (needs u).index_read)) (sym (sight-seen s v h))
+    ap (prepared_entry v) e
+    ∙ ap (λ u. prepared_entry u (side_word v.place.table s (needs u).index_read)) (sym (sight-seen s v h))
 
 -- ---- EX
 
@@ -133,7 +133,7 @@ read_after-executes : (f : Option ℕ) (t : Bool) (b : ℕ) (en : Bool) (h : ℕ
 unfolding outcome with_first
 read_after-executes (Some i) t b en h k c each = each _
 read_after-executes None t b en h k c each =
-    of_choice (λ r. TargetsExecute r c) ((decoded (half_of (c (h / 2)) h) 0).halves == 2) _ _
+    of_choice (λ r. TargetsExecute r c) ((decoded_entry (half_of (c (h / 2)) h) 0).halves == 2) _ _
     (with_second-executes _ t _ (h + 1) (h / 2) _ k c each) (each _)
 
 at-executes : (t : Bool) (b : ℕ) (en : Bool) (h : ℕ) (k : Use) (c : ℕ → ℕ) → ((f : Found) → TargetsExecute (k f) c)
@@ -147,14 +147,14 @@ with_target-executes : (ex : Decoded) (c : ℕ → ℕ) (target : Found) → is_
 unfolding outcome
 with_target-executes ex c target e h = e
 
-alone-executes : (own : Found) (c : ℕ → ℕ) → TargetsExecute (Finds (alone own)) c
+alone-executes : (own : Found) (c : ℕ → ℕ) → TargetsExecute (Finds (fetched_alone own)) c
 unfolding outcome
 alone-executes own c h = cc
 
 own-executes : (e : Bool) (own : Found) (x : List ℕ) (b : ℕ) (en : Bool) (c : ℕ → ℕ) → is_execute own.decoded.instr ≡ e
     → TargetsExecute
     (if e then instruction_at true b en (effective x own.decoded.instr / 32) (λ target. Finds (with_target own.decoded target))
-    else Finds (alone own)) c
+    else Finds (fetched_alone own)) c
 own-executes true own x b en c e =
     at-executes true b en (effective x own.decoded.instr / 32) _ c (λ target. with_target-executes own.decoded c target e)
 own-executes false own x b en c e = alone-executes own c
@@ -164,8 +164,8 @@ unfolding own_use
 own_use-executes x b en c own = own-executes (is_execute own.decoded.instr) own x b en c refl
 
 -- what has a target is EX
-fetched-target : (s : Machine) (p : Place) → is_some (fetched s p).target ≡ true → is_execute (fetched s p).instr.instr ≡ true
-unfolding fetched reading
+fetched-target : (s : Machine) (p : Place) → is_some (words_fetched s p).target ≡ true → is_execute (words_fetched s p).instr.instr ≡ true
+unfolding words_fetched reading_at_place
 fetched-target s p h =
     at-executes false (word s 3) s.enabled p.address _ (word s) (own_use-executes (index_words s) (word s 3) s.enabled (word s)) h
 
@@ -174,8 +174,8 @@ or-second true b h = refl
 or-second false b h = h
 
 -- and is done alone
-pub target-serial : (s : Machine) (i : Option ℕ) → is_some (fetched s (place_of s i)).target ≡ true → (plan s i).serial ≡ true
+pub target-serial : (s : Machine) (i : Option ℕ) → is_some (words_fetched s (place_of s i)).target ≡ true → (plan s i).serial ≡ true
 unfolding plan sight
 target-serial s i h =
     let p = place_of s i in
-    alone-serial _ _ (or-second (is_some p.table) (is_execute (fetched s p).instr.instr) (fetched-target s p h))
+    alone-serial _ _ (or-second (is_some p.table) (is_execute (words_fetched s p).instr.instr) (fetched-target s p h))

@@ -13,10 +13,10 @@ use Rattle.st_prep.specs.declared.entries.Aim.{Aim}
 use Rattle.st_prep.specs.declared.entries.Needs.{Needs}
 use Rattle.st_prep.specs.declared.entries.Prepared.{Prepared}
 use Rattle.st_prep.specs.EarlyChange.{effective}
-use Rattle.st_prep.specs.Entry.{reads, writes, next, acts_alone, has_register, is_register}
+use Rattle.st_prep.specs.Entry.{reads, words_written, counter_behind, acts_alone, has_register, is_register}
 use Rattle.st_prep.specs.Reading.{is_execute}
 use Rattle.st_prep.specs.Checks.{effective_instr, forbidden_side, forbidden_words, forbidden_area, operation_fault, operation_invalid, fault}
-use Rattle.st_prep.specs.Plan.{Sight, is_alone, aimed, aim, is_serial, fault_of, needs_by, needs, suppressed, entry, prepared_by, prepared}
+use Rattle.st_prep.specs.Plan.{Sight, is_alone, aim_at, aim, is_serial, fault_of_checks, needs_by, needs, suppressed_entry, entry_at, prepared_by, prepared_entry}
 use Rattle.st_prep.specs.Ranges.{HasFields, IsPlace, IsFetched, IsPrepared, IsNeeds}
 use Rattle.st_format.proofs.Spelled.{or-left, or-right}
 use Rattle.st_prep.proofs.Choices.{none-left, none-right, test-none}
@@ -104,12 +104,12 @@ not_table place f h = no_table place.table (or-left (is_some place.table) (is_ex
 -- ---- all entries
 
 entry-prepared : (s : Sight) (r : Option ℕ) → IsSight s → IfSome r (λ w. w < 2 ^ 64)
-    → Passes (aimed s.place s.fetched s.x) s.bounds s.enabled → IsPrepared (entry s.place (aim s) s.x r)
-unfolding entry aim aimed
+    → Passes (aim_at s.place s.fetched s.x) s.bounds s.enabled → IsPrepared (entry_at s.place (aim s) s.x r)
+unfolding entry_at aim aim_at
 entry-prepared s r k some p =
     let instr = effective_instr s.fetched in
     let e = effective s.x instr in
-    let f : ℕ = next s.place s.fetched.instr.halves in
+    let f : ℕ = counter_behind s.place s.fetched.instr.halves in
     let shape : HasFields instr = executed-shape s.fetched k.fetched in
     let address : e < 2 ^ 24 = effective-below s.x instr in
     let after_it : f < 2 ^ 19 = next-below s.place s.fetched.instr.halves k.place.counter in
@@ -123,7 +123,7 @@ entry-prepared s r k some p =
       reads = is_runs-reads instr e shape address;
       reads_inside = words-inside s.bounds s.enabled Read (reads instr e) p.reads;
       writes = is_runs-writes instr e shape address;
-      writes_inside = words-inside s.bounds s.enabled Write (writes instr e) p.writes;
+      writes_inside = words-inside s.bounds s.enabled Write (words_written instr e) p.writes;
       stored = value-fits instr s.x f k.words after_it;
       some_cost = cost.0;
       cost = cost.1;
@@ -138,12 +138,12 @@ entry-prepared s r k some p =
         table = not_table s.place s.fetched q.alone;
         operation = λ _. q.operation;
         reads = words-above (reads instr e) q.reads;
-        writes = words-above (writes instr e) q.writes;
+        writes = words-above (words_written instr e) q.writes;
       };
     }
 
-suppressed-prepared : (s : Sight) (i : ℕ) → IsSight s → IsPrepared (suppressed s.place (aim s) i)
-unfolding suppressed aim aimed
+suppressed-prepared : (s : Sight) (i : ℕ) → IsSight s → IsPrepared (suppressed_entry s.place (aim s) i)
+unfolding suppressed_entry aim aim_at
 suppressed-prepared s i k = record {
   place = k.place;
   shape = executed-shape s.fetched k.fetched;
@@ -167,19 +167,19 @@ suppressed-prepared s i k = record {
   };
 }
 
-passes_by : (s : Sight) → fault_of s ≡ None → Passes (aimed s.place s.fetched s.x) s.bounds s.enabled
-unfolding fault_of
-passes_by s h = passes (aimed s.place s.fetched s.x) s.bounds s.enabled h
+passes_by : (s : Sight) → fault_of_checks s ≡ None → Passes (aim_at s.place s.fetched s.x) s.bounds s.enabled
+unfolding fault_of_checks
+passes_by s h = passes (aim_at s.place s.fetched s.x) s.bounds s.enabled h
 
-by_fault : (f : Option ℕ) (s : Sight) (r : Option ℕ) → fault_of s ≡ f → IsSight s → IfSome r (λ w. w < 2 ^ 64)
+by_fault : (f : Option ℕ) (s : Sight) (r : Option ℕ) → fault_of_checks s ≡ f → IsSight s → IfSome r (λ w. w < 2 ^ 64)
     → IsPrepared (prepared_by f s.place (aim s) s.x r)
 by_fault None s r e k some = entry-prepared s r k some (passes_by s e)
 by_fault (Some i) s r e k some = suppressed-prepared s i k
 
 -- whatever is prepared is in its ranges
-pub is_prepared : (s : Sight) (r : Option ℕ) → IsSight s → IfSome r (λ w. w < 2 ^ 64) → IsPrepared (prepared s r)
-unfolding prepared aim
-is_prepared s r k some = by_fault (fault_of s) s r refl k some
+pub is_prepared : (s : Sight) (r : Option ℕ) → IsSight s → IfSome r (λ w. w < 2 ^ 64) → IsPrepared (prepared_entry s r)
+unfolding prepared_entry aim
+is_prepared s r k some = by_fault (fault_of_checks s) s r refl k some
 
 -- ---- needs
 
@@ -188,8 +188,8 @@ unfolding forbidden_side
 allowed_side b en None h = tt
 allowed_side b en (Some n) h = allowed-inside b en Read n h
 
-needs_by_fault : (f : Option ℕ) (s : Sight) → fault_of s ≡ f → IsNeeds (needs_by f (aim s))
-unfolding aim aimed
+needs_by_fault : (f : Option ℕ) (s : Sight) → fault_of_checks s ≡ f → IsNeeds (needs_by f (aim s))
+unfolding aim aim_at
 needs_by_fault None s e = record {
   inside = allowed_side s.bounds s.enabled _ (passes_by s e).side;
   above = λ h. above_side _ (runs (aim s) h).side;
@@ -199,17 +199,17 @@ needs_by_fault (Some i) s e = record { inside = tt; above = λ _. tt }
 -- whatever is needed is a word of storage
 pub is_needs : (s : Sight) → IsNeeds (needs s)
 unfolding needs aim
-is_needs s = needs_by_fault (fault_of s) s refl
+is_needs s = needs_by_fault (fault_of_checks s) s refl
 
 same_by_fault : (f : Option ℕ) (p : Place) (a : Aim) (x : List ℕ) (r : Option ℕ)
     → (prepared_by f p a x r).serial ≡ (needs_by f a).serial
-unfolding entry suppressed
+unfolding entry_at suppressed_entry
 same_by_fault None p a x r = refl
 same_by_fault (Some i) p a x r = refl
 
 -- what is looked up and what is prepared agree on what is done alone
-pub same_serial : (s : Sight) (r : Option ℕ) → (prepared s r).serial ≡ (needs s).serial
-unfolding prepared needs
+pub same_serial : (s : Sight) (r : Option ℕ) → (prepared_entry s r).serial ≡ (needs s).serial
+unfolding prepared_entry needs
 same_serial s r = same_by_fault _ s.place (aim s) s.x r
 
 -- ---- the index-side word
@@ -217,14 +217,14 @@ same_serial s r = same_by_fault _ s.place (aim s) s.x r
 read-by_fault : (f : Option ℕ) (p : Place) (a : Aim) (x : List ℕ) (r q : Option ℕ)
     → prepared_by f p a x r
     ≡ record (prepared_by f p a x q) { index = (prepared_by f p a x r).index; ind = (prepared_by f p a x r).ind }
-unfolding entry
+unfolding entry_at
 read-by_fault None p a x r q = refl
 read-by_fault (Some i) p a x r q = refl
 
 -- what is read there shows in the index change and its indicators alone
 pub prepared-read : (s : Sight) (r q : Option ℕ)
-    → prepared s r ≡ record (prepared s q) { index = (prepared s r).index; ind = (prepared s r).ind }
-unfolding prepared
+    → prepared_entry s r ≡ record (prepared_entry s q) { index = (prepared_entry s r).index; ind = (prepared_entry s r).ind }
+unfolding prepared_entry
 prepared-read s r q = read-by_fault _ s.place (aim s) s.x r q
 
 -- ---- EX
@@ -239,8 +239,8 @@ alone-by_fault None a h = alone-left a.alone _ _ _ _ h
 alone-by_fault (Some i) a h = h
 
 -- what is alone even where it is suppressed is done alone
-pub alone-serial : (s : Sight) (r : Option ℕ) → is_alone s.place s.fetched ≡ true → (prepared s r).serial ≡ true
-unfolding needs aim aimed
+pub alone-serial : (s : Sight) (r : Option ℕ) → is_alone s.place s.fetched ≡ true → (prepared_entry s r).serial ≡ true
+unfolding needs aim aim_at
 alone-serial s r h = same_serial s r ∙ alone-by_fault _ (aim s) h
 
 -- ---- by what an entry is aimed at
@@ -254,17 +254,17 @@ pub side-inside : (a : Aim) (v : Sight) (n : Needs) → n ≡ needs_by a.fault a
 side-inside a v n e h = (subst IsNeeds (sym (look-needs a v n e h)) (is_needs v)).inside
 
 pub fill-prepared : (a : Aim) (v : Sight) (p : Prepared) (r : Option ℕ) → p ≡ prepared_by a.fault v.place a v.x r → a ≡ aim v
-    → p ≡ prepared v r
-unfolding prepared
+    → p ≡ prepared_entry v r
+unfolding prepared_entry
 fill-prepared a v p r e h = e ∙ ap (λ b. prepared_by b.fault v.place b v.x r) h
 
-pub filled-fits : (v : Sight) (p : Prepared) (r : Option ℕ) → p ≡ prepared v r → IsSight v → IfSome r (λ w. w < 2 ^ 64)
+pub filled-fits : (v : Sight) (p : Prepared) (r : Option ℕ) → p ≡ prepared_entry v r → IsSight v → IfSome r (λ w. w < 2 ^ 64)
     → IsPrepared p
 filled-fits v p r e k some = subst IsPrepared (sym e) (is_prepared v r k some)
 
 -- an entry stands where it stood before it was filled in
 pub filled-place : (f : Option ℕ) (place : Place) (a : Aim) (x : List ℕ) (r : Option ℕ)
     → (prepared_by f place a x r).place ≡ place
-unfolding entry suppressed
+unfolding entry_at suppressed_entry
 filled-place None place a x r = refl
 filled-place (Some i) place a x r = refl

@@ -4,17 +4,17 @@ use Rattle.std.specs.Prelude.{All, nat_le}
 use Rattle.std.proofs.lemmas.Bool.{ltb-false}
 use Rattle.st_bits.specs.Storage.{words_of_storage}
 use Rattle.st_format.specs.declared.instruction.Decoded.{Decoded}
-use Rattle.st_format.specs.Formats.{decoded}
+use Rattle.st_format.specs.Formats.{decoded_entry}
 use Rattle.st_state.specs.Machine.{Machine, word}
-use Rattle.st_state.specs.Boundary.{is_invalid, address_invalid, forbidden_by}
+use Rattle.st_state.specs.Boundary.{is_invalid_word, address_invalid, forbidden_by}
 use Rattle.st_state.specs.declared.protection.Access.TheVariants.{Fetch}
 use Rattle.st_prep.specs.declared.entries.Place.{Place}
 use Rattle.st_prep.specs.declared.entries.Fetched.{Fetched}
 use Rattle.st_prep.specs.declared.entries.Fetching.TheVariants.{Next, Found as FoundAll}
 use Rattle.st_prep.specs.declared.fetching.Found.{Found}
 use Rattle.st_prep.specs.EarlyChange.{effective}
-use Rattle.st_prep.specs.Fetch.{index_words, fetched}
-use Rattle.st_prep.specs.Reading.{Reading, Finds, Reads, outcome, words_read, own_words, left_after, given, half_of, Use, with_second, with_first, read_after, instruction_at, is_execute, with_target, own_use, reading}
+use Rattle.st_prep.specs.Fetch.{index_words, words_fetched}
+use Rattle.st_prep.specs.Reading.{Reading, Finds, Reads, outcome, words_read, own_words, left_after, fetching_of, half_of, Use, with_second, with_first, read_after, instruction_at, is_execute, with_target, own_use, reading_at_place}
 use Rattle.st_format.proofs.Spelled.{or-right}
 use Rattle.st_prep.proofs.Choices.{of_choice, test-none}
 use Rattle.st_prep.proofs.RunLemmas.{allowed-inside}
@@ -22,8 +22,8 @@ use Rattle.st_prep.proofs.RunLemmas.{allowed-inside}
 -- ---- what is found
 
 -- what is fetched is what the reading finds
-pub fetched-outcome : (s : Machine) (p : Place) → fetched s p ≡ outcome (reading (index_words s) (word s 3) s.enabled p) (word s)
-unfolding fetched
+pub fetched-outcome : (s : Machine) (p : Place) → words_fetched s p ≡ outcome (reading_at_place (index_words s) (word s 3) s.enabled p) (word s)
+unfolding words_fetched
 fetched-outcome s p = refl
 
 -- ---- the words that are read
@@ -58,7 +58,7 @@ ReadsFew n c k = (f : Found) → AreFew n (words_read (k f) c)
 
 fetch-above : (b : ℕ) (en : Bool) (w : ℕ) → forbidden_by b en Fetch w ≡ None → 32 ≤ w
 unfolding forbidden_by
-fetch-above b en w h = ltb-false w 32 (or-right (nat_le words_of_storage w) _ (test-none (is_invalid Fetch w) address_invalid _ h))
+fetch-above b en w h = ltb-false w 32 (or-right (nat_le words_of_storage w) _ (test-none (is_invalid_word Fetch w) address_invalid _ h))
 
 few-second : (f : Option ℕ) (t : Bool) (b : ℕ) (en : Bool) (first h v content n : ℕ) (c : ℕ → ℕ) (k : Use)
     → forbidden_by b en Fetch (h / 2) ≡ f → ReadsFew n c k → AreFew (n + 1) (words_read (with_second f t first h v content k) c)
@@ -72,7 +72,7 @@ few-first : (t : Bool) (b : ℕ) (en : Bool) (h content n : ℕ) (c : ℕ → �
     → AreFew (n + 1) (words_read (with_first t b en h content k) c)
 unfolding with_first
 few-first t b en h content n c k few =
-    of_choice (λ r. AreFew (n + 1) (words_read r c)) ((decoded (half_of content h) 0).halves == 2) _ _
+    of_choice (λ r. AreFew (n + 1) (words_read r c)) ((decoded_entry (half_of content h) 0).halves == 2) _ _
     (few-second (forbidden_by b en Fetch ((h + 1) / 2)) t b en (half_of content h) (h + 1) (h / 2) content n c k refl few)
     (not_fewer n _ (few _))
 
@@ -99,8 +99,8 @@ few-own x b en c own =
     of_choice (λ r. AreFew 2 (words_read r c)) (is_execute own.decoded.instr) _ _
     (few-at true b en (effective x own.decoded.instr / 32) 0 c _ (few-target own.decoded c)) (none_few 2)
 
-pub reading-few : (x : List ℕ) (b : ℕ) (en : Bool) (p : Place) (c : ℕ → ℕ) → AreFew 4 (words_read (reading x b en p) c)
-unfolding reading
+pub reading-few : (x : List ℕ) (b : ℕ) (en : Bool) (p : Place) (c : ℕ → ℕ) → AreFew 4 (words_read (reading_at_place x b en p) c)
+unfolding reading_at_place
 reading-few x b en p c = few-at false b en p.address 2 c (own_use x b en) (few-own x b en c)
 
 -- ---- the entry's own words
@@ -135,7 +135,7 @@ own-first : (t : Bool) (b : ℕ) (en : Bool) (h content n : ℕ) (c : ℕ → �
     → own_words (with_first t b en h content k) c ≤ own_one t + n
 unfolding with_first
 own-first t b en h content n c k few =
-    of_choice (λ r. own_words r c ≤ own_one t + n) ((decoded (half_of content h) 0).halves == 2) _ _
+    of_choice (λ r. own_words r c ≤ own_one t + n) ((decoded_entry (half_of content h) 0).halves == 2) _ _
     (own-second _ t _ (h + 1) (h / 2) content n c k few) (own-same t _ n (few _))
 
 own-after : (f : Option ℕ) (t : Bool) (b : ℕ) (en : Bool) (h n : ℕ) (c : ℕ → ℕ) (k : Use) → OwnFew n c k
@@ -161,8 +161,8 @@ own-use x b en c own =
     (own-at true b en (effective x own.decoded.instr / 32) 0 c _ (λ target. own-found _ c)) (own-found _ c)
 
 -- at most two words are the entry's own
-pub reading-own : (x : List ℕ) (b : ℕ) (en : Bool) (p : Place) (c : ℕ → ℕ) → own_words (reading x b en p) c ≤ 2
-unfolding reading
+pub reading-own : (x : List ℕ) (b : ℕ) (en : Bool) (p : Place) (c : ℕ → ℕ) → own_words (reading_at_place x b en p) c ≤ 2
+unfolding reading_at_place
 reading-own x b en p c = own-at false b en p.address 0 c (own_use x b en) (own-use x b en c)
 
 -- ---- the contents so far decide
@@ -217,9 +217,9 @@ same_word v w t u e = cc
 same_found : (f g : Fetched) → FoundAll f ≡ FoundAll g → f ≡ g
 same_found f g e = cc
 
-pub next-left : (r s : Reading) (c : ℕ → ℕ) (n w : ℕ) (t : Bool) → given r ≡ Next w t → IsLeft r s c n
+pub next-left : (r s : Reading) (c : ℕ → ℕ) (n w : ℕ) (t : Bool) → fetching_of r ≡ Next w t → IsLeft r s c n
     → (1 ≤ n) × IsLeft (left_after r (c w ∷ [])) s c (n - 1)
-unfolding given left_after outcome words_read
+unfolding fetching_of left_after outcome words_read
 next-left (Finds f) s c n w t e h = cc
 next-left (Reads u v r) s c n w t e h =
     let word : v ≡ w = same_word v w u t e in
@@ -232,16 +232,16 @@ next-left (Reads u v r) s c n w t e h =
       },
     )
 
-pub found-left : (r s : Reading) (c : ℕ → ℕ) (n : ℕ) (f : Fetched) → given r ≡ FoundAll f → IsLeft r s c n → f ≡ outcome s c
-unfolding given outcome
+pub found-left : (r s : Reading) (c : ℕ → ℕ) (n : ℕ) (f : Fetched) → fetching_of r ≡ FoundAll f → IsLeft r s c n → f ≡ outcome s c
+unfolding fetching_of outcome
 found-left (Finds g) s c n f e h = sym (same_found g f e) ∙ h.same
 found-left (Reads u v r) s c n f e h = cc
 
 -- of the whole reading all is left
 pub whole-left : (x : List ℕ) (b : ℕ) (en : Bool) (p : Place) (c : ℕ → ℕ)
-    → IsLeft (left_after (reading x b en p) []) (reading x b en p) c 4
+    → IsLeft (left_after (reading_at_place x b en p) []) (reading_at_place x b en p) c 4
 whole-left x b en p c =
-    let r = reading x b en p in
+    let r = reading_at_place x b en p in
     rw (left_after-none r) (record { same = refl; few = (reading-few x b en p c).few })
 
 -- one more content

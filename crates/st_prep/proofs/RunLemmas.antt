@@ -8,13 +8,13 @@ use Rattle.st_format.specs.declared.operations.FullOp.TheVariants.{Variable, Con
 use Rattle.st_format.specs.declared.instruction.Instr.{Instr}
 use Rattle.st_format.specs.declared.instruction.Instr.TheVariants.{Half, Branch, Floating, Vfl, Connect, Move, BitBranch, IndBranch, StoreCounter, Transfer, Invalid}
 use Rattle.st_format.specs.Operations.{writes_field}
-use Rattle.st_state.specs.Boundary.{is_invalid, address_invalid, forbidden_by}
+use Rattle.st_state.specs.Boundary.{is_invalid_word, address_invalid, forbidden_by}
 use Rattle.st_state.specs.declared.protection.Access.{Access}
 use Rattle.st_state.specs.declared.protection.Access.TheVariants.{Read, Write, Fetch}
 use Rattle.st_prep.specs.declared.entries.Words.{Words}
-use Rattle.st_prep.specs.Entry.{no_words, one_run, two_runs, field_words, operand_words, words_moved_from, words_moved_to, is_index_store, reads_field, reads, writes, has_register}
+use Rattle.st_prep.specs.Entry.{no_words, one_run, two_runs, field_words, operand_words, words_moved_from, words_moved_to, is_index_store, reads_field, reads, words_written, has_register}
 use Rattle.st_prep.specs.Checks.{forbidden_run, forbidden_words, area_access, forbidden_area}
-use Rattle.st_prep.specs.Ranges.{HasFields, IsRuns, AreInside, AreAbove, HasRoom}
+use Rattle.st_prep.specs.Ranges.{HasFields, IsRuns, AreInside, AreAbove, HasRoomInStorage}
 use Rattle.st_format.proofs.Spelled.{or-left, or-right}
 use Rattle.st_prep.proofs.Choices.{of_choice, none-left, none-right, test-none, none-else}
 
@@ -71,8 +71,8 @@ is_runs-reads (StoreCounter a i second) e s h = is_runs-none
 is_runs-reads (Transfer w a i n) e s h = is_runs-none
 is_runs-reads (Invalid first second full) e s h = is_runs-none
 
-pub is_runs-writes : (instr : Instr) (e : ℕ) → HasFields instr → e < 2 ^ 24 → IsRuns (writes instr e)
-unfolding writes
+pub is_runs-writes : (instr : Instr) (e : ℕ) → HasFields instr → e < 2 ^ 24 → IsRuns (words_written instr e)
+unfolding words_written
 is_runs-writes (Half op a j i) e s h =
     of_choice IsRuns (is_index_store op) (one_run (e / 64) 1) no_words (one_word e h) is_runs-none
 is_runs-writes (Vfl op d u n p l b o a i) e s h =
@@ -92,7 +92,7 @@ is_runs-writes (Invalid first second full) e s h = is_runs-none
 
 -- ---- words that may be accessed
 
-is_invalid-below : (a : Access) (w : ℕ) → is_invalid a w ≡ false → w < words_of_storage
+is_invalid-below : (a : Access) (w : ℕ) → is_invalid_word a w ≡ false → w < words_of_storage
 is_invalid-below Read w h = leb-false words_of_storage w h
 is_invalid-below Write w h = leb-false words_of_storage w h
 is_invalid-below Fetch w h = leb-false words_of_storage w (or-left _ _ h)
@@ -100,7 +100,7 @@ is_invalid-below Fetch w h = leb-false words_of_storage w (or-left _ _ h)
 -- a word whose access is not forbidden is in storage
 pub allowed-inside : (b : ℕ) (en : Bool) (a : Access) (w : ℕ) → forbidden_by b en a w ≡ None → w < words_of_storage
 unfolding forbidden_by
-allowed-inside b en a w h = is_invalid-below a w (test-none (is_invalid a w) address_invalid _ h)
+allowed-inside b en a w h = is_invalid-below a w (test-none (is_invalid_word a w) address_invalid _ h)
 
 run-inside : (b : ℕ) (en : Bool) (a : Access) (w n : ℕ) → forbidden_run b en a w n ≡ None → 1 ≤ n
     → w + n ≤ words_of_storage
@@ -124,7 +124,7 @@ pub none-inside : AreInside no_words
 none-inside = record { inside = λ h. absurd (omega arith); inside2 = λ h. absurd (omega arith) }
 
 -- an order whose area may be accessed has room
-pub area-inside : (b : ℕ) (en : Bool) (instr : Instr) (e : ℕ) → forbidden_area b en instr e ≡ None → HasRoom instr e
+pub area-inside : (b : ℕ) (en : Bool) (instr : Instr) (e : ℕ) → forbidden_area b en instr e ≡ None → HasRoomInStorage instr e
 unfolding forbidden_area
 area-inside b en (Transfer write a i n) e h = (
   ltb-false (e / 64) 32 (test-none (nat_lt (e / 64) 32) address_invalid _ h),

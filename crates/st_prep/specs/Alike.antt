@@ -5,15 +5,17 @@ use Rattle.st_prep.specs.Fetch.{index_words, place_of, reading_of}
 use Rattle.st_prep.specs.Plan.{needs, sight}
 use Rattle.st_prep.specs.Reading.{words_read}
 
--- two states in which the next entry, or the table instruction of an interrupt, reads the same: the counter, the index
--- words, words 2 and 3 and the mark, its instruction words, and its index-side word
+-- two states in which the next entry, or the table instruction of an interrupt, reads the same: the
+-- counter, the index words, words 2 and 3 and the mark, its instruction words, and its index-side
+-- word
 pub record ReadTheSame (table : Option ℕ) (s t : Machine) : Type 0 where
   pub ic : t.ic ≡ s.ic
   pub index : index_words t ≡ index_words s
   pub origin : word t 2 ≡ word s 2
   pub bounds : word t 3 ≡ word s 3
   pub enabled : t.enabled ≡ s.enabled
-  pub instruction : All (λ w. word t w ≡ word s w) (words_read (reading_of s (place_of s table)) (word s))
+  pub instruction : All (λ w. word t w ≡ word s w)
+      (words_read (reading_of s (place_of s table)) (word s))
   pub side : IfSome (needs (sight s (place_of s table))).index_read (λ w. word t w ≡ word s w)
 
 -- two states that differ in their indicators alone: all but word 11 is the same

@@ -34,7 +34,8 @@ unfoldable pub forbidden_side : ℕ → Bool → Option ℕ → Option ℕ
 forbidden_side bounds enabled None = None
 forbidden_side bounds enabled (Some w) = forbidden_by bounds enabled Read w
 
--- the area of an order is eight words, none of them a register; the printer reads it and the reader writes it
+-- the area of an order is eight words, none of them a register; the printer reads it and the reader
+-- writes it
 abbrev pub area_access : Bool → Access
 area_access false = Write
 area_access true = Read
@@ -61,9 +62,9 @@ operation_fault instr =
     else if is_execute instr then Some execute_exception
     else None
 
--- the indicator of the first check that fails: the instruction's words and those of the target of EX, the operation,
--- EX of EX, the index-side word, each word read, each word written, the area of an order (which reads and writes no
--- other words)
+-- the indicator of the first check that fails: the instruction's words and those of the target of
+-- EX, the operation, EX of EX, the index-side word, each word read, each word written, the area of
+-- an order (which reads and writes no other words)
 unfoldable pub fault : Aim → ℕ → Bool → Option ℕ
 fault a bounds enabled =
     option_or a.fault

@@ -1,5 +1,5 @@
--- What an instruction is as an entry of the machine's order: the words that it reads and writes, the counter after it,
--- what it stores of an index word, its cost, and whether it is done alone.
+-- What an instruction is as an entry of the machine's order: the words that it reads and writes,
+-- the counter after it, what it stores of an index word, its cost, and whether it is done alone.
 use Rattle.std.specs.Prelude.{ℕ, ◌+◌, ◌/◌, ◌%◌, ◌^◌, Bool, true, false, not, ◌==◌, ◌&&◌, ◌||◌, nat_lt, nat_le, if◌then◌else◌, List, slice_index, Option, None, Some}
 use Rattle.st_bits.specs.Bits.{part}
 use Rattle.st_bits.specs.IndexWord.{count_of, refill_of}
@@ -62,23 +62,25 @@ reads_field _ = true
 
 -- the words that an instruction with the effective address e reads, in order
 unfoldable pub reads : Instr → ℕ → Words
-reads (Vfl op d u n p length byte offset address i) e = if reads_field op then operand_words p e length else no_words
+reads (Vfl op d u n p length byte offset address i) e = if reads_field op
+    then operand_words p e length else no_words
 reads (Connect kind table p length byte offset address i) e = operand_words p e length
 reads (Move swap address i second count) e = words_moved_from swap (e / 64) (second / 2) count
 reads (BitBranch sense change address i second) e = one_run (e / 64) 1
 reads _ e = no_words
 
 -- the words that it writes, in order
-unfoldable pub writes : Instr → ℕ → Words
-writes (Half op address j i) e = if is_index_store op then one_run (e / 64) 1 else no_words
-writes (Vfl op d u n p length byte offset address i) e =
+unfoldable pub words_written : Instr → ℕ → Words
+words_written (Half op address j i) e = if is_index_store op then one_run (e / 64) 1 else no_words
+words_written (Vfl op d u n p length byte offset address i) e =
     if writes_field (Variable op) then field_words e length else no_words
-writes (Connect kind table p length byte offset address i) e =
+words_written (Connect kind table p length byte offset address i) e =
     if writes_field (Connective kind) then field_words e length else no_words
-writes (Move swap address i second count) e = words_moved_to swap (e / 64) (second / 2) count
-writes (BitBranch sense change address i second) e = if change == 0 then no_words else one_run (e / 64) 1
-writes (StoreCounter address i second) e = one_run (e / 64) 1
-writes _ e = no_words
+words_written (Move swap address i second count) e = words_moved_to swap (e / 64) (second / 2) count
+words_written (BitBranch sense change address i second) e = if change == 0 then no_words
+    else one_run (e / 64) 1
+words_written (StoreCounter address i second) e = one_run (e / 64) 1
+words_written _ e = no_words
 
 -- ---- the counter
 
@@ -87,8 +89,8 @@ abbrev pub next_by : Option ℕ → ℕ → ℕ → ℕ
 next_by None counter n = (counter + n) % 2 ^ 19
 next_by (Some _) counter n = counter
 
-unfoldable pub next : Place → ℕ → ℕ
-next place n = next_by place.table place.counter n
+unfoldable pub counter_behind : Place → ℕ → ℕ
+counter_behind place n = next_by place.table place.counter n
 
 -- a count branches until it falls to zero; x is index word J before
 abbrev pub after_count : ℕ → ℕ → ℕ → ℕ
@@ -108,13 +110,14 @@ after_branch Bd counter e following = e / 32
 after_branch Bew counter e following = following
 after_branch Nop counter e following = following
 
--- the counter after an instruction, given the counter before it and the following instruction; the branches on a
--- bit and on an indicator are decided only when the instruction is completed
-unfoldable pub after : Instr → List ℕ → ℕ → ℕ → ℕ → ℕ
-after (Half op address j i) x e counter following = after_half op (slice_index x j) e following
-after (Branch op address i) x e counter following = after_branch op counter e following
-after (StoreCounter address i second) x e counter following = second
-after _ x e counter following = following
+-- the counter after an instruction, given the counter before it and the following instruction; the
+-- branches on a bit and on an indicator are decided only when the instruction is completed
+unfoldable pub counter_after : Instr → List ℕ → ℕ → ℕ → ℕ → ℕ
+counter_after (Half op address j i) x e counter following =
+    after_half op (slice_index x j) e following
+counter_after (Branch op address i) x e counter following = after_branch op counter e following
+counter_after (StoreCounter address i second) x e counter following = second
+counter_after _ x e counter following = following
 
 -- ---- what is stored
 
@@ -128,10 +131,10 @@ stored_part Sva x = part x 0 19
 stored_part _ x = 0
 
 -- the same of any instruction; SIC stores the address of the following one
-unfoldable pub value : Instr → List ℕ → ℕ → ℕ
-value (Half op address j i) x following = stored_part op (slice_index x j)
-value (StoreCounter address i second) x following = following
-value _ x following = 0
+unfoldable pub value_stored : Instr → List ℕ → ℕ → ℕ
+value_stored (Half op address j i) x following = stored_part op (slice_index x j)
+value_stored (StoreCounter address i second) x following = following
+value_stored _ x following = 0
 
 -- ---- the cost, in ticks
 
@@ -171,7 +174,8 @@ acts_alone _ = false
 
 -- a register is among the words
 unfoldable pub has_register : Words → Bool
-has_register w = (not (w.len == 0) && nat_lt w.first 32) || (not (w.len2 == 0) && nat_lt w.first2 32)
+has_register w = (not (w.len == 0) && nat_lt w.first 32)
+    || (not (w.len2 == 0) && nat_lt w.first2 32)
 
 abbrev pub is_register : Option ℕ → Bool
 is_register None = false

@@ -5,7 +5,7 @@ use Rattle.st_bits.specs.declared.register.TheConstants.{INTERRUPT_ADDRESS, FIRS
 use Rattle.st_state.specs.Machine.{Machine, word}
 use Rattle.st_prep.specs.declared.entries.Place.{Place}
 use Rattle.st_prep.specs.declared.entries.Fetched.{Fetched}
-use Rattle.st_prep.specs.Reading.{Reading, outcome, reading}
+use Rattle.st_prep.specs.Reading.{Reading, outcome, reading_at_place}
 
 -- the sixteen index words of a state
 unfoldable pub index_words : Machine → List ℕ
@@ -29,8 +29,8 @@ place_of s table = record { counter = s.ic; address = address_by table s; table 
 
 -- how the entry at a place is read in a state
 abbrev pub reading_of : Machine → Place → Reading
-reading_of s place = reading (index_words s) (word s BOUNDS) s.enabled place
+reading_of s place = reading_at_place (index_words s) (word s BOUNDS) s.enabled place
 
 -- what is fetched there
-unfoldable pub fetched : Machine → Place → Fetched
-fetched s place = outcome (reading_of s place) (word s)
+unfoldable pub words_fetched : Machine → Place → Fetched
+words_fetched s place = outcome (reading_of s place) (word s)

@@ -2,11 +2,11 @@
 use Rattle.std.specs.Prelude.{◌≡◌, ◌≢◌, ℕ, suc, ◌+◌, ◌<◌, ◌≤◌, Bool, true, false, List, length, take, All, Option, Some, is_some, IfSome}
 use Rattle.st_bits.specs.Storage.{words_of_storage}
 use Rattle.st_state.specs.Machine.{Machine, IsMachine, word}
-use Rattle.st_prep.specs.Plan.{Sight, needs, prepared, sight, plan as plan_of}
+use Rattle.st_prep.specs.Plan.{Sight, needs, prepared_entry, sight, plan as plan_of}
 use Rattle.st_prep.specs.declared.entries.Place.{Place}
 use Rattle.st_prep.specs.Ranges.{IsPrepared}
-use Rattle.st_prep.specs.Fetch.{index_words, place_of, fetched}
-use Rattle.st_prep.specs.Reading.{Reading, outcome, words_read, own_words, index_side_words, reading}
+use Rattle.st_prep.specs.Fetch.{index_words, place_of, words_fetched}
+use Rattle.st_prep.specs.Reading.{Reading, outcome, words_read, own_words, index_side_words, reading_at_place}
 use Rattle.st_prep.specs.Alike.{AreAlike, ReadTheSame}
 use Rattle.st_prep.specs.declared.entries.Prepared.{Prepared}
 use Rattle.st_prep.specs.BesideOrders.{AreAlikeBesideOrders}
@@ -19,48 +19,54 @@ PlansAreInRange = (s : Machine) (t : Option ℕ) → IsMachine s → IfSome t (�
 
 -- An entry is prepared as one that is done alone exactly where it was looked at as one.
 abbrev pub LooksAgree : Type 0
-LooksAgree = (v : Sight) (read : Option ℕ) → (prepared v read).serial ≡ (needs v).serial
+LooksAgree = (v : Sight) (read : Option ℕ) → (prepared_entry v read).serial ≡ (needs v).serial
 
--- The index-side word shows in the change of an index word and its indicators alone: all else of an entry is the same
--- whatever stands there.
+-- The index-side word shows in the change of an index word and its indicators alone: all else of an
+-- entry is the same whatever stands there.
 abbrev pub IndexSideWordsChangeIndexWordsAlone : Type 0
 IndexSideWordsChangeIndexWordsAlone = (v : Sight) (r q : Option ℕ)
-    → prepared v r
-    ≡ record (prepared v q) { index = (prepared v r).index; ind = (prepared v r).ind }
+    → prepared_entry v r
+    ≡ record (prepared_entry v q) {
+      index = (prepared_entry v r).index;
+      ind = (prepared_entry v r).ind;
+    }
 
 -- EX with a target that could be fetched is done alone.
 abbrev pub EntriesWithATargetAreAlone : Type 0
 EntriesWithATargetAreAlone = (s : Machine) (t : Option ℕ)
-    → is_some (fetched s (place_of s t)).target ≡ true → (plan_of s t).serial ≡ true
+    → is_some (words_fetched s (place_of s t)).target ≡ true → (plan_of s t).serial ≡ true
 
--- What is fetched is found by a reading of words one after another, in which the contents so far decide which word
--- comes next; at most four are read, all of them in storage above the registers, and at most two of them are the entry's
--- own.
+-- What is fetched is found by a reading of words one after another, in which the contents so far
+-- decide which word comes next; at most four are read, all of them in storage above the registers,
+-- and at most two of them are the entry's own.
 pub record InstructionWordsComeOneByOne : Type 0 where
   pub found : (s : Machine) (p : Place)
-      → fetched s p ≡ outcome (reading (index_words s) (word s 3) s.enabled p) (word s)
+      → words_fetched s p ≡ outcome (reading_at_place (index_words s) (word s 3) s.enabled p)
+      (word s)
   pub few : (x : List ℕ) (b : ℕ) (on : Bool) (p : Place) (c : ℕ → ℕ)
-      → length (words_read (reading x b on p) c) ≤ 4
+      → length (words_read (reading_at_place x b on p) c) ≤ 4
   pub own : (x : List ℕ) (b : ℕ) (on : Bool) (p : Place) (c : ℕ → ℕ)
-      → own_words (reading x b on p) c ≤ 2
+      → own_words (reading_at_place x b on p) c ≤ 2
   pub above : (x : List ℕ) (b : ℕ) (on : Bool) (p : Place) (c : ℕ → ℕ)
-      → All (λ w. 32 ≤ w) (words_read (reading x b on p) c)
+      → All (λ w. 32 ≤ w) (words_read (reading_at_place x b on p) c)
   pub inside : (x : List ℕ) (b : ℕ) (on : Bool) (p : Place) (c : ℕ → ℕ)
-      → All (λ w. w < words_of_storage) (words_read (reading x b on p) c)
+      → All (λ w. w < words_of_storage) (words_read (reading_at_place x b on p) c)
   pub next : (r : Reading) (n : ℕ) (c d : ℕ → ℕ) → All (λ w. d w ≡ c w)
       (take n (words_read r c))
       → take (suc n) (words_read r d) ≡ take (suc n) (words_read r c)
   pub same : (r : Reading) (c d : ℕ → ℕ) → All (λ w. d w ≡ c w) (words_read r c)
       → outcome r d ≡ outcome r c
 
--- What is read for it alone decides the next entry of a state: two states with the same counter, index words, words 2 and 3
--- and mark, and the same contents of its instruction words and of its index-side word, have the same plan.
+-- What is read for it alone decides the next entry of a state: two states with the same counter,
+-- index words, words 2 and 3 and mark, and the same contents of its instruction words and of its
+-- index-side word, have the same plan.
 abbrev pub PlansDependOnWhatIsRead : Type 0
-PlansDependOnWhatIsRead = (s u : Machine) (t : Option ℕ) → IsMachine s → IsMachine u → ReadTheSame t s u
+PlansDependOnWhatIsRead = (s u : Machine) (t : Option ℕ) → IsMachine s → IsMachine u →
+    ReadTheSame t s u
     → plan_of u t ≡ plan_of s t
 
--- Two states that differ in word 11 alone have the same next entry, unless word 11 is its index-side word; such an entry
--- is done alone.
+-- Two states that differ in word 11 alone have the same next entry, unless word 11 is its
+-- index-side word; such an entry is done alone.
 pub record IndicatorsAreNotSeen : Type 0 where
   pub plan : (s u : Machine) (t : Option ℕ) → AreAlike s u
       → (needs (sight s (place_of s t))).index_read ≢ Some 11 → plan_of u t ≡ plan_of s t
@@ -71,12 +77,12 @@ pub record IndicatorsAreNotSeen : Type 0 where
 abbrev pub EntriesRead36WordsAtMost : Type 0
 EntriesRead36WordsAtMost = (s : Machine) (t : Option ℕ) → IsMachine s → IfSome t (λ i. i < 64)
     → let p = place_of s t in
-    length (words_read (reading (index_words s) (word s 3) s.enabled p) (word s))
+    length (words_read (reading_at_place (index_words s) (word s 3) s.enabled p) (word s))
     + index_side_words (needs (sight s p)).index_read
     + ((plan_of s t).reads.len + (plan_of s t).reads.len2) ≤ 36
 
--- An entry that is neither T nor SWAP reads two operand words at most, in one run, and writes two at most, in one run;
--- those two read 32 at most, and write 32 at most.
+-- An entry that is neither T nor SWAP reads two operand words at most, in one run, and writes two
+-- at most, in one run; those two read 32 at most, and write 32 at most.
 pub record OperandsAreFew : Type 0 where
   pub read : (p : Prepared) → IsPrepared p → is_transmission p.instr ≡ false
       → AreFew p.reads
@@ -85,8 +91,8 @@ pub record OperandsAreFew : Type 0 where
   pub most_read : (p : Prepared) → IsPrepared p → p.reads.len + p.reads.len2 ≤ 32
   pub most_written : (p : Prepared) → IsPrepared p → p.writes.len + p.writes.len2 ≤ 32
 
--- Two states that differ in word 11 and in the orders of the devices alone have the same next entry, unless word 11 is
--- its index-side word; such an entry is done alone.
+-- Two states that differ in word 11 and in the orders of the devices alone have the same next
+-- entry, unless word 11 is its index-side word; such an entry is done alone.
 pub record OrdersAreNotSeen : Type 0 where
   pub plan : (s u : Machine) (t : Option ℕ) → AreAlikeBesideOrders s u
       → (needs (sight s (place_of s t))).index_read ≢ Some 11 → plan_of u t ≡ plan_of s t

@@ -9,3 +9,13 @@ pub mod Alike
 pub mod BesideOrders
 pub mod FewWords
 pub mod Laws
+pub use Rattle.st_bits.specs.Bits
+pub use Rattle.st_bits.specs.IndexWord
+pub use Rattle.st_bits.specs.Indicators
+pub use Rattle.st_bits.specs.Storage
+pub use Rattle.st_format.specs.Formats
+pub use Rattle.st_format.specs.Operations
+pub use Rattle.st_index.specs.IndexChange
+pub use Rattle.st_state.specs.Boundary
+pub use Rattle.st_state.specs.Interrupts
+pub use Rattle.st_state.specs.Machine

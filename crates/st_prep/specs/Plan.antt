@@ -3,20 +3,20 @@ use Rattle.std.specs.Prelude.{ℕ, ◌≡◌, Bool, true, false, ◌||◌, List,
 use Rattle.st_state.specs.Machine.{Machine, word}
 use Rattle.st_bits.specs.Indicators.{indicator}
 use Rattle.st_bits.specs.declared.register.TheConstants.{BOUNDS}
-use Rattle.st_state.specs.Interrupts.{applied}
+use Rattle.st_state.specs.Interrupts.{state_with_indicators}
 use Rattle.st_prep.specs.declared.entries.Place.{Place}
 use Rattle.st_prep.specs.declared.entries.Fetched.{Fetched}
 use Rattle.st_prep.specs.declared.entries.Needs.{Needs}
 use Rattle.st_prep.specs.declared.entries.Prepared.{Prepared}
 use Rattle.st_prep.specs.declared.entries.Aim.{Aim}
 use Rattle.st_prep.specs.EarlyChange.{effective, side, change}
-use Rattle.st_prep.specs.Entry.{no_words, reads, writes, next, after, value, cost, acts_alone, has_register, is_register}
+use Rattle.st_prep.specs.Entry.{no_words, reads, words_written, counter_behind, counter_after, value_stored, cost, acts_alone, has_register, is_register}
 use Rattle.st_prep.specs.Reading.{is_execute}
-use Rattle.st_prep.specs.Fetch.{index_words, place_of, fetched}
+use Rattle.st_prep.specs.Fetch.{index_words, place_of, words_fetched}
 use Rattle.st_prep.specs.Checks.{effective_instr, fault}
 
--- what preparation sees of a state: the place of the entry, what is fetched there, the sixteen index words, the
--- register of the bounds, and whether interrupts are enabled
+-- what preparation sees of a state: the place of the entry, what is fetched there, the sixteen
+-- index words, the register of the bounds, and whether interrupts are enabled
 pub record Sight : Type 0 where
   pub place : Place
   pub fetched : Fetched
@@ -24,8 +24,8 @@ pub record Sight : Type 0 where
   pub bounds : ℕ
   pub enabled : Bool
 
-abbrev pub seen : Place → Fetched → List ℕ → Machine → Sight
-seen place fetched x s = record {
+abbrev pub sight_of : Place → Fetched → List ℕ → Machine → Sight
+sight_of place fetched x s = record {
   place = place;
   fetched = fetched;
   x = x;
@@ -39,10 +39,10 @@ seen place fetched x s = record {
 abbrev pub is_alone : Place → Fetched → Bool
 is_alone place f = is_some place.table || is_execute f.instr.instr
 
--- what an entry is aimed at, before it is checked: its fault is that of its words. EX has the length of one half-word,
--- whatever its target
-unfoldable pub aimed : Place → Fetched → List ℕ → Aim
-aimed place f x =
+-- what an entry is aimed at, before it is checked: its fault is that of its words. EX has the
+-- length of one half-word, whatever its target
+unfoldable pub aim_at : Place → Fetched → List ℕ → Aim
+aim_at place f x =
     let instr = effective_instr f in
     let e = effective x instr in
     record {
@@ -51,23 +51,24 @@ aimed place f x =
       halves = f.instr.halves;
       side = side x instr e;
       reads = reads instr e;
-      writes = writes instr e;
+      writes = words_written instr e;
       fault = f.fault;
       alone = is_alone place f;
     }
 
 -- the indicator of the first check that fails
-unfoldable pub fault_of : Sight → Option ℕ
-fault_of s = fault (aimed s.place s.fetched s.x) s.bounds s.enabled
+unfoldable pub fault_of_checks : Sight → Option ℕ
+fault_of_checks s = fault (aim_at s.place s.fetched s.x) s.bounds s.enabled
 
 -- what it is aimed at, and the first check that it fails
 unfoldable pub aim : Sight → Aim
-aim s = record (aimed s.place s.fetched s.x) { fault = fault_of s }
+aim s = record (aim_at s.place s.fetched s.x) { fault = fault_of_checks s }
 
 -- an entry is done alone where its operation says so, and where a register is among its words
 unfoldable pub is_serial : Aim → Bool
 is_serial a =
-    a.alone || acts_alone a.instr || is_register a.side || has_register a.reads || has_register a.writes
+    a.alone || acts_alone a.instr || is_register a.side || has_register a.reads
+    || has_register a.writes
 
 -- the index-side word that is to be read, and whether the entry is done alone
 abbrev pub needs_by : Option ℕ → Aim → Needs
@@ -82,12 +83,12 @@ abbrev pub asks : Sight → Bool
 asks s = is_some (needs s).index_read
 
 -- an entry with a fault: its indicator comes on, and nothing else but the counter changes
-unfoldable pub suppressed : Place → Aim → ℕ → Prepared
-suppressed place a i = record {
+unfoldable pub suppressed_entry : Place → Aim → ℕ → Prepared
+suppressed_entry place a i = record {
   place = place;
   instr = a.instr;
   e = 0;
-  following = next place a.halves;
+  following = counter_behind place a.halves;
   index = None;
   ind = record { on = indicator i; off = 0 };
   suppressed = true;
@@ -99,56 +100,57 @@ suppressed place a i = record {
 }
 
 -- an entry without one, its index-side word being read
-unfoldable pub entry : Place → Aim → List ℕ → Option ℕ → Prepared
-entry place a x read =
-    let following = next place a.halves in
+unfoldable pub entry_at : Place → Aim → List ℕ → Option ℕ → Prepared
+entry_at place a x read =
+    let following = counter_behind place a.halves in
     let early = change x a.instr a.e read in
     record {
       place = place;
       instr = a.instr;
       e = a.e;
-      following = after a.instr x a.e place.counter following;
+      following = counter_after a.instr x a.e place.counter following;
       index = early.index;
       ind = early.ind;
       suppressed = false;
       reads = a.reads;
       writes = a.writes;
-      value = value a.instr x following;
+      value = value_stored a.instr x following;
       cost = cost a.instr;
       serial = is_serial a;
     }
 
 abbrev pub prepared_by : Option ℕ → Place → Aim → List ℕ → Option ℕ → Prepared
-prepared_by (Some i) place a x read = suppressed place a i
-prepared_by None place a x read = entry place a x read
+prepared_by (Some i) place a x read = suppressed_entry place a i
+prepared_by None place a x read = entry_at place a x read
 
-unfoldable pub prepared : Sight → Option ℕ → Prepared
-prepared s read = let a = aim s in prepared_by a.fault s.place a s.x read
+unfoldable pub prepared_entry : Sight → Option ℕ → Prepared
+prepared_entry s read = let a = aim s in prepared_by a.fault s.place a s.x read
 
 -- ---- from a state
 
 -- what is seen of a state at a place
 unfoldable pub sight : Machine → Place → Sight
-sight s place = seen place (fetched s place) (index_words s) s
+sight s place = sight_of place (words_fetched s place) (index_words s) s
 
 -- an interrupt turns off the indicator that it takes, and ends a wait
-abbrev pub opened : Option ℕ → Machine → Machine
-opened None s = s
-opened (Some i) s = record (applied (record { on = 0; off = indicator i }) s) { waiting = false }
+abbrev pub state_at_entry : Option ℕ → Machine → Machine
+state_at_entry None s = s
+state_at_entry (Some i) s = record (state_with_indicators
+    (record { on = 0; off = indicator i }) s) { waiting = false }
 
 -- the index-side word, as the table instruction finds it
 abbrev pub side_word : Option ℕ → Machine → Option ℕ → Option ℕ
-side_word table s w = option_map (word (opened table s)) w
+side_word table s w = option_map (word (state_at_entry table s)) w
 
 -- the next entry of a state, or the table instruction of the interrupt that it takes
 unfoldable pub plan : Machine → Option ℕ → Prepared
 plan s table =
-    let v = sight s (place_of s table) in prepared v (side_word table s (needs v).index_read)
+    let v = sight s (place_of s table) in prepared_entry v (side_word table s (needs v).index_read)
 
 -- a state looks so, at the place of its next entry or of its table instruction
 pub record IsSeen (s : Machine) (v : Sight) : Type 0 where
   pub place : place_of s v.place.table ≡ v.place
-  pub fetched : fetched s v.place ≡ v.fetched
+  pub fetched : words_fetched s v.place ≡ v.fetched
   pub words : index_words s ≡ v.x
   pub bounds : word s BOUNDS ≡ v.bounds
   pub enabled : s.enabled ≡ v.enabled
@@ -159,4 +161,4 @@ side_of s v = side_word v.place.table s (needs v).index_read
 
 -- the entry of a state at a place, by what is fetched there and the index words
 abbrev pub entry_by : Machine → Place → Fetched → List ℕ → Prepared
-entry_by s place f x = let v = seen place f x s in prepared v (side_of s v)
+entry_by s place f x = let v = sight_of place f x s in prepared_entry v (side_of s v)

@@ -18,7 +18,7 @@ use Rattle.st_prep.specs.declared.entries.Words.{Words}
 use Rattle.st_prep.specs.declared.entries.Aim.{Aim}
 use Rattle.st_prep.specs.declared.entries.IndexChange.{IndexChange}
 use Rattle.st_prep.specs.declared.entries.Prepared.{Prepared}
-use Rattle.st_prep.specs.Entry.{no_words, reads, writes, acts_alone}
+use Rattle.st_prep.specs.Entry.{no_words, reads, words_written, acts_alone}
 
 -- the counter and the address are half-word addresses, and the indicator is one
 pub record IsPlace (p : Place) : Type 0 where
@@ -32,14 +32,14 @@ HasFields (Invalid first second full) = Unit {0}
 HasFields instr = IsShape instr
 
 -- an instruction, and an indicator
-pub record IsFound (f : Found) : Type 0 where
+pub record IsFoundInRange (f : Found) : Type 0 where
   pub shape : HasFields f.decoded.instr
   pub fault : IfSome f.fault (λ i. i < 64)
 
 -- so much is known of an instruction by n words at most
 abbrev pub IsPart : ℕ → Part → Type 0
 IsPart n (Wants w) = w < words_of_storage
-IsPart n (Has found used) = (used ≤ n) × IsFound found
+IsPart n (Has found used) = (used ≤ n) × IsFoundInRange found
 
 -- the instructions have their fields, and the indicator is one
 pub record IsFetched (f : Fetched) : Type 0 where
@@ -99,16 +99,17 @@ IsStored (StoreCounter address i second) v = v < 2 ^ 19
 IsStored _ v = v ≡ 0
 
 -- the area of an order lies in storage, above the registers
-abbrev pub HasRoom : Instr → ℕ → Type 0
-HasRoom (Transfer write address i count) e = (32 ≤ e / 64) × (e / 64 + 8 ≤ words_of_storage)
-HasRoom _ e = Unit {0}
+abbrev pub HasRoomInStorage : Instr → ℕ → Type 0
+HasRoomInStorage (Transfer write address i count) e = (32 ≤ e / 64)
+    × (e / 64 + 8 ≤ words_of_storage)
+HasRoomInStorage _ e = Unit {0}
 
 -- an entry that is not suppressed
-pub record IsEntry (p : Prepared) : Type 0 where
+pub record IsEntryInRange (p : Prepared) : Type 0 where
   pub valid : is_valid p.instr ≡ true
   pub reads : p.reads ≡ reads p.instr p.e
-  pub writes : p.writes ≡ writes p.instr p.e
-  pub area : HasRoom p.instr p.e
+  pub writes : p.writes ≡ words_written p.instr p.e
+  pub area : HasRoomInStorage p.instr p.e
 
 -- a suppressed entry
 pub record IsSuppressed (p : Prepared) : Type 0 where
@@ -118,7 +119,8 @@ pub record IsSuppressed (p : Prepared) : Type 0 where
   pub writes : p.writes ≡ no_words
   pub cost : p.cost ≡ 1
 
--- an entry that is not done alone: no table instruction, none of the operations that are, no register among its words
+-- an entry that is not done alone: no table instruction, none of the operations that are, no
+-- register among its words
 pub record IsAhead (p : Prepared) : Type 0 where
   pub table : p.place.table ≡ None
   pub operation : p.suppressed ≡ false → acts_alone p.instr ≡ false
@@ -139,7 +141,7 @@ pub record IsPrepared (p : Prepared) : Type 0 where
   pub stored : IsStored p.instr p.value
   pub some_cost : 1 ≤ p.cost
   pub cost : p.cost ≤ 24
-  pub entry : p.suppressed ≡ false → IsEntry p
+  pub entry : p.suppressed ≡ false → IsEntryInRange p
   pub suppressed : p.suppressed ≡ true → IsSuppressed p
   pub ahead : p.serial ≡ false → IsAhead p
 

@@ -1,5 +1,5 @@
--- How an entry is fetched: its instruction words are read one after another, and the contents so far decide which comes
--- next.
+-- How an entry is fetched: its instruction words are read one after another, and the contents so
+-- far decide which comes next.
 use Rattle.std.specs.Prelude.{ℕ, suc, ◌+◌, ◌*◌, ◌/◌, ◌%◌, Bool, true, false, ◌==◌, if◌then◌else◌, List, [], ◌∷◌, drop, Option, None, Some, is_none}
 use Rattle.st_bits.specs.Bits.{part}
 use Rattle.st_bits.specs.declared.operations.HalfOp.{HalfOp}
@@ -7,7 +7,7 @@ use Rattle.st_bits.specs.declared.operations.HalfOp.TheVariants.{Ex}
 use Rattle.st_format.specs.declared.instruction.Instr.{Instr}
 use Rattle.st_format.specs.declared.instruction.Instr.TheVariants.{Half, Invalid}
 use Rattle.st_format.specs.declared.instruction.Decoded.{Decoded}
-use Rattle.st_format.specs.Formats.{decoded}
+use Rattle.st_format.specs.Formats.{decoded_entry}
 use Rattle.st_state.specs.Boundary.{forbidden_by}
 use Rattle.st_state.specs.declared.protection.Access.TheVariants.{Fetch}
 use Rattle.st_prep.specs.declared.entries.Place.{Place}
@@ -21,8 +21,8 @@ use Rattle.st_prep.specs.EarlyChange.{effective}
 
 -- ---- readings
 
--- something is found, or a word is read and its content decides how it goes on; it is marked where it is read for the
--- target of EX
+-- something is found, or a word is read and its content decides how it goes on; it is marked where
+-- it is read for the target of EX
 pub data Reading : Type 0 where
   Finds : Fetched → Reading
   Reads : Bool → ℕ → (ℕ → Reading) → Reading
@@ -50,9 +50,9 @@ left_after (Reads target w r) [] = Reads target w r
 left_after (Reads target w r) (c ∷ contents) = left_after (r c) contents
 
 -- what it gives: the next word, or what is found
-unfoldable pub given : Reading → Fetching
-given (Finds f) = FoundAll f
-given (Reads target w r) = Next w target
+unfoldable pub fetching_of : Reading → Fetching
+fetching_of (Finds f) = FoundAll f
+fetching_of (Reads target w r) = Next w target
 
 -- how many words an index-side word is
 abbrev pub index_side_words : Option ℕ → ℕ
@@ -71,31 +71,40 @@ no_instr = record { instr = Invalid 0 0 false; halves = 1 }
 
 -- the instruction that two half-words spell which may be fetched
 abbrev pub allowed_found : ℕ → ℕ → Found
-allowed_found first second = record { decoded = decoded first second; fault = None }
+allowed_found first second = record { decoded = decoded_entry first second; fault = None }
 
 -- what an instruction is read for
 abbrev pub Use : Type 0
 Use = Found → Reading
 
--- the second half-word of an instruction, at h; it may stand in the word v of the first one, which was read
+-- the second half-word of an instruction, at h; it may stand in the word v of the first one, which
+-- was read
 abbrev pub with_second : Option ℕ → Bool → ℕ → ℕ → ℕ → ℕ → Use → Reading
 with_second (Some i) target first h v content use_it =
-    use_it (record { decoded = decoded first 0; fault = Some i })
+    use_it (record { decoded = decoded_entry first 0; fault = Some i })
 with_second None target first h v content use_it =
-    if h / 2 == v then use_it (record { decoded = decoded first (half_of content h); fault = None })
-    else Reads target (h / 2) (λ c. use_it (record { decoded = decoded first (half_of c h); fault = None }))
+    if h / 2 == v then use_it (record {
+      decoded = decoded_entry first (half_of content h);
+      fault = None;
+    })
+    else Reads target (h / 2) (λ c. use_it (record {
+      decoded = decoded_entry first (half_of c h);
+      fault = None;
+    }))
 
 -- the instruction at h, the content of its first word being read
 unfoldable pub with_first : Bool → ℕ → Bool → ℕ → ℕ → Use → Reading
 with_first target bounds enabled h content use_it =
     let first = half_of content h in
-    let own = decoded first 0 in
+    let own = decoded_entry first 0 in
     if own.halves == 2
-    then with_second (forbidden_by bounds enabled Fetch ((h + 1) / 2)) target first (h + 1) (h / 2) content use_it
+    then with_second (forbidden_by bounds enabled Fetch ((h + 1) / 2)) target first (h + 1)
+    (h / 2) content use_it
     else use_it (record { decoded = own; fault = None })
 
 abbrev pub read_after : Option ℕ → Bool → ℕ → Bool → ℕ → Use → Reading
-read_after (Some i) target bounds enabled h use_it = use_it (record { decoded = no_instr; fault = Some i })
+read_after (Some i) target bounds enabled h use_it = use_it
+    (record { decoded = no_instr; fault = Some i })
 read_after None target bounds enabled h use_it =
     Reads target (h / 2) (λ c. with_first target bounds enabled h c use_it)
 
@@ -124,12 +133,12 @@ with_target ex target = record {
 }
 
 -- another instruction
-abbrev pub alone : Found → Fetched
-alone own = record { instr = own.decoded; target = None; fault = own.fault }
+abbrev pub fetched_alone : Found → Fetched
+fetched_alone own = record { instr = own.decoded; target = None; fault = own.fault }
 
 -- another instruction whose words may be fetched
-abbrev pub plain : Decoded → Fetched
-plain own = record { instr = own; target = None; fault = None }
+abbrev pub fetched_plain : Decoded → Fetched
+fetched_plain own = record { instr = own; target = None; fault = None }
 
 -- what the own instruction is read for: of EX its target is read then
 unfoldable pub own_use : List ℕ → ℕ → Bool → Use
@@ -137,13 +146,15 @@ own_use x bounds enabled own =
     if is_execute own.decoded.instr
     then instruction_at true bounds enabled (effective x own.decoded.instr / 32)
     (λ target. Finds (with_target own.decoded target))
-    else Finds (alone own)
+    else Finds (fetched_alone own)
 
 -- the reading of an entry at a place, by the index words, word 3 and the mark for interrupts
-unfoldable pub reading : List ℕ → ℕ → Bool → Place → Reading
-reading x bounds enabled place = instruction_at false bounds enabled place.address (own_use x bounds enabled)
+unfoldable pub reading_at_place : List ℕ → ℕ → Bool → Place → Reading
+reading_at_place x bounds enabled place = instruction_at false bounds enabled place.address
+    (own_use x bounds enabled)
 
 -- what is given once so much of an instruction is known, by the contents
 abbrev pub given_by : Bool → Part → List ℕ → Use → Fetching
 given_by target (Wants w) contents use_it = Next w target
-given_by target (Has found n) contents use_it = given (left_after (use_it found) (drop n contents))
+given_by target (Has found n) contents use_it = fetching_of
+    (left_after (use_it found) (drop n contents))

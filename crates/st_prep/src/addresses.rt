@@ -1,6 +1,6 @@
 //! Effective addresses.
 ghost use Rattle.std.specs.Prelude.{◌≡◌, ◌<◌, ◌^◌};
-ghost use Rattle.st_prep.specs.EarlyChange.{index_part as index_part_of, half_address as half_address_of, bit_address as bit_address_of, field_address as field_address_of, effective as effective_of};
+ghost use Rattle.st_prep.specs.EarlyChange.{index_operand as index_part_of, half_word_address as half_address_of, full_word_address as bit_address_of, field_address as field_address_of, effective as effective_of};
 ghost use Rattle.st_prep.specs.Ranges.{HasFields};
 
 use st_format::Instr;
@@ -8,7 +8,7 @@ use st_index::effective;
 
 // Index word `i`, and zero where `i` is 0.
 #[inline(always)]
-#[tactic(auto, unfolding(crate::specs::EarlyChange::index_part))]
+#[tactic(auto, unfolding(crate::specs::EarlyChange::index_operand))]
 fn index_part(x: &[u64; 16], i: u8) -> u64
     requires { i < 16 }
     ensures { result ≡ index_part_of x.now i }
@@ -18,7 +18,7 @@ fn index_part(x: &[u64; 16], i: u8) -> u64
 
 // Where a half-word instruction points.
 #[inline(always)]
-#[tactic(auto, unfolding(crate::specs::EarlyChange::half_address))]
+#[tactic(auto, unfolding(crate::specs::EarlyChange::half_word_address))]
 fn half_address(x: &[u64; 16], address: u32, i: u8) -> u32
     requires address { address < 2 ^ 19 }
     requires index { i < 16 }
@@ -30,7 +30,7 @@ fn half_address(x: &[u64; 16], address: u32, i: u8) -> u32
 
 // Where a full-word instruction points.
 #[inline(always)]
-#[tactic(auto, unfolding(crate::specs::EarlyChange::bit_address))]
+#[tactic(auto, unfolding(crate::specs::EarlyChange::full_word_address))]
 fn bit_address(x: &[u64; 16], address: u32, i: u8) -> u32
     requires address { address < 2 ^ 24 }
     requires index { i < 16 }

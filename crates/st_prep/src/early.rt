@@ -1,7 +1,7 @@
 //! What an instruction changes before its operands are read.
 ghost use Rattle.std.specs.Prelude.{◌≡◌, ◌<◌, ◌^◌, slice_index};
 ghost use Rattle.st_prep.specs.EarlyChange.{refill_word as refill_word_of, half_side as half_side_of, progressive_side as progressive_side_of, side as side_of};
-ghost use Rattle.st_prep.specs.EarlyChange.{unchanged, compared as compared_of, changed as changed_of, half_change as half_change_of, progressive_change as progressive_change_of, change as change_of};
+ghost use Rattle.st_prep.specs.EarlyChange.{without_change, change_of_comparison as compared_of, change_of_index as changed_of, half_change as half_change_of, progressive_change as progressive_change_of, change as change_of};
 ghost use Rattle.st_prep.specs.Ranges.{HasFields};
 
 use crate::entries::IndexChange;
@@ -42,7 +42,8 @@ fn refill_word(y: u64) -> Option<u32>
     }
 }
 
-// The index-side word of a half-word instruction with the effective address `e`, `x` being index word J.
+// The index-side word of a half-word instruction with the effective address `e`, `x` being index
+// word J.
 #[inline(always)]
 #[tactic(auto, unfolding(crate::specs::EarlyChange::half_side))]
 fn half_side(op: HalfOp, x: u64, e: u32) -> Option<u32>
@@ -103,7 +104,7 @@ pub fn side(instr: &Instr, x: &[u64; 16], e: u32) -> Option<u32>
 
 #[inline(always)]
 fn no_change() -> Early
-    ensures { result ≡ unchanged }
+    ensures { result ≡ without_change }
 {
     Early {
         index: None,
@@ -113,7 +114,7 @@ fn no_change() -> Early
 
 // Two numbers are compared.
 #[inline(always)]
-#[tactic(auto, unfolding(crate::specs::EarlyChange::compared))]
+#[tactic(auto, unfolding(crate::specs::EarlyChange::change_of_comparison))]
 fn compared(a: i32, b: i32) -> Early
     ensures { result ≡ compared_of a b }
 {
@@ -123,9 +124,10 @@ fn compared(a: i32, b: i32) -> Early
     }
 }
 
-// Index word `number`, which was `kept`, becomes `y`, and then the word of a refill where there is one.
+// Index word `number`, which was `kept`, becomes `y`, and then the word of a refill where there is
+// one.
 #[inline(always)]
-#[tactic(auto, unfolding(crate::specs::EarlyChange::changed))]
+#[tactic(auto, unfolding(crate::specs::EarlyChange::change_of_index))]
 fn changed(number: u8, kept: u64, y: u64, refill: Option<u64>) -> Early
     ensures { result ≡ changed_of number kept y refill }
 {
@@ -139,7 +141,8 @@ fn changed(number: u8, kept: u64, y: u64, refill: Option<u64>) -> Early
     }
 }
 
-// What a half-word instruction makes of index word J; `e` is its effective address and `read` its index-side word.
+// What a half-word instruction makes of index word J; `e` is its effective address and `read` its
+// index-side word.
 #[inline(always)]
 #[tactic(auto, unfolding(crate::specs::EarlyChange::half_change))]
 fn half_change(half: Half, words: &[u64; 16], e: u32, read: Option<u64>) -> Early
@@ -147,7 +150,8 @@ fn half_change(half: Half, words: &[u64; 16], e: u32, read: Option<u64>) -> Earl
     requires number { half.j < 16 }
     requires effective { e < 2 ^ 24 }
     ensures { result
-        ≡ half_change_of half.op words.now half.address half.j (slice_index words.now half.j) e read }
+        ≡ half_change_of half.op words.now half.address half.j
+        (slice_index words.now half.j) e read }
 {
     let j = half.j;
     let x = words[j as usize];
@@ -196,7 +200,8 @@ fn progressive_change(p: u8, i: u8, x: u64, address: u32, read: Option<u64>) -> 
     }
 }
 
-/// The early change by an instruction with the effective address `e`; `read` is its index-side word.
+/// The early change by an instruction with the effective address `e`; `read` is its index-side
+/// word.
 #[inline(always)]
 #[tactic(auto, unfolding(crate::specs::EarlyChange::change))]
 pub fn change(instr: &Instr, x: &[u64; 16], e: u32, read: Option<u64>) -> Early

@@ -16,19 +16,21 @@ pub struct Place {
 /// What is fetched at a place.
 #[derive(Clone, Copy, Debug, Default, PartialEq, Eq)]
 pub struct Fetched {
-    /// The instruction. Where its first word may not be fetched, it is one half-word that spells none; where its
-    /// second word may not be fetched, it is decoded with zeros in its place.
+    /// The instruction. Where its first word may not be fetched, it is one half-word that spells
+    /// none; where its second word may not be fetched, it is decoded with zeros in its place.
     pub instr: Decoded,
     /// The instruction that EX executes, where its words may be fetched.
     pub target: Option<Decoded>,
-    /// The indicator that forbids the first word, of the instruction or of the target of EX, that may not be fetched.
+    /// The indicator that forbids the first word, of the instruction or of the target of EX, that
+    /// may not be fetched.
     pub fault: Option<u8>,
 }
 
 /// How far the fetching of an entry has come.
 #[derive(Clone, Copy, Debug, PartialEq, Eq)]
 pub enum Fetching {
-    /// The word at this word address is read next. It is the entry's own, or one of the target of EX.
+    /// The word at this word address is read next. It is the entry's own, or one of the target of
+    /// EX.
     Next { word: u32, target: bool },
     /// This is what is fetched.
     Found(Fetched),
@@ -37,7 +39,8 @@ pub enum Fetching {
 /// What an entry needs before it can be prepared.
 #[derive(Clone, Copy, Debug, Default, PartialEq, Eq)]
 pub struct Needs {
-    /// The word address of its index-side word: the one that changes, or is compared with, an index word.
+    /// The word address of its index-side word: the one that changes, or is compared with, an index
+    /// word.
     pub index_read: Option<u32>,
     /// Whether it is done alone, after all entries before it and before all behind it.
     pub serial: bool,
@@ -95,11 +98,11 @@ pub struct Prepared {
     pub place: Place,
     /// The instruction that is executed: of EX the target, where it could be fetched.
     pub instr: Instr,
-    /// The effective address, a bit address below 2^24. Of a progressive form it is where the field begins, and of
-    /// a suppressed entry it is 0.
+    /// The effective address, a bit address below 2^24. Of a progressive form it is where the field
+    /// begins, and of a suppressed entry it is 0.
     pub e: u32,
-    /// The counter after it, a half-word address. For a branch on a bit or on an indicator it is that of the
-    /// following instruction, as if no branch were taken.
+    /// The counter after it, a half-word address. For a branch on a bit or on an indicator it is
+    /// that of the following instruction, as if no branch were taken.
     pub following: u32,
     /// The operand words that it reads, in order.
     pub reads: Words,
@@ -109,8 +112,8 @@ pub struct Prepared {
     pub index: Option<IndexChange>,
     /// The indicators that are turned on and off with the index word, or the one of a fault.
     pub ind: Ind,
-    /// What an index store writes: the whole index word, or the number of the part that is stored. What SIC stores:
-    /// the half-word address of the following instruction. Else 0.
+    /// What an index store writes: the whole index word, or the number of the part that is stored.
+    /// What SIC stores: the half-word address of the following instruction. Else 0.
     pub value: u64,
     /// Whether a check failed, so that nothing but the indicator in `ind` and the counter changes.
     pub suppressed: bool,

@@ -4,11 +4,11 @@ ghost use Rattle.st_bits.specs.Storage.{words_of_storage};
 ghost use Rattle.st_state.specs.Machine.{word};
 ghost use Rattle.st_state.specs.Boundary.{forbidden_by};
 ghost use Rattle.st_state.specs.declared.protection.Access.{Access};
-ghost use Rattle.st_prep.specs.Fetch.{index_words as index_words_of, place_of as place_by, address_by, fetched as fetched_at};
+ghost use Rattle.st_prep.specs.Fetch.{index_words as index_words_of, place_of as place_by, address_by, words_fetched as fetched_at};
 ghost use Rattle.st_prep.specs.declared.entries.Fetched.{Fetched as FetchedOf};
 ghost use Rattle.st_prep.specs.declared.entries.Fetching.TheVariants.{Found as FoundAll};
-ghost use Rattle.st_prep.specs.Reading.{Use, Finds, outcome, left_after, given, half_of as half_by, no_instr as no_instr_of, with_second as with_second_of, with_first as with_first_of, instruction_at, is_execute as is_execute_of, with_target as with_target_of, own_use, reading, given_by, allowed_found};
-ghost use Rattle.st_prep.specs.Ranges.{HasFields, IsPlace, IsPart, IsFound, IsFetched, IsFetching};
+ghost use Rattle.st_prep.specs.Reading.{Use, Finds, outcome, left_after, fetching_of, half_of as half_by, no_instr as no_instr_of, with_second as with_second_of, with_first as with_first_of, instruction_at, is_execute as is_execute_of, with_target as with_target_of, own_use, reading_at_place, given_by, allowed_found};
+ghost use Rattle.st_prep.specs.Ranges.{HasFields, IsPlace, IsPart, IsFoundInRange, IsFetched, IsFetching};
 
 use crate::addresses::effective_address;
 use crate::entries::{Fetched, Fetching, Place};
@@ -47,7 +47,8 @@ pub fn index_words(state: &State) -> [u64; 16]
     x
 }
 
-/// The place of the next entry, or of the table instruction of an interrupt by the indicator in `table`.
+/// The place of the next entry, or of the table instruction of an interrupt by the indicator in
+/// `table`.
 #[tactic(auto, unfolding(crate::specs::Fetch::place_of), using(st_bits::specs::Storage::words_of_storage_is))]
 pub fn place_of(state: &State, table: Option<u8>) -> Place
     requires { IfSome table (λ i. i < 64) }
@@ -101,7 +102,7 @@ fn no_instr() -> Decoded
 fn with_second(first: u32, h: u32, contents: &[u64], state: &State) -> Part
     requires address { h < 2 ^ 19 }
     requires some { 1 ≤ length contents.now }
-    ensures value { (t : Bool) (k : Use) → given (left_after (with_second_of
+    ensures value { (t : Bool) (k : Use) → fetching_of (left_after (with_second_of
         (forbidden_by (word state.now 3) state.now.enabled Access.Fetch ((h + 1) / 2)) t first
         (h + 1) (h / 2) (slice_index contents.now 0) k) (drop 1 contents.now))
         ≡ given_by t result contents.now k }
@@ -136,7 +137,8 @@ fn has(decoded: Decoded, fault: Option<u8>, used: usize) -> Part
 fn with_first(h: u32, contents: &[u64], state: &State) -> Part
     requires address { h < 2 ^ 19 }
     requires some { 1 ≤ length contents.now }
-    ensures value { (t : Bool) (k : Use) → given (left_after (with_first_of t (word state.now 3)
+    ensures value { (t : Bool) (k : Use) →
+        fetching_of (left_after (with_first_of t (word state.now 3)
         state.now.enabled h (slice_index contents.now 0) k) (drop 1 contents.now))
         ≡ given_by t result contents.now k }
     ensures shape { IsPart (length contents.now) result }
@@ -154,7 +156,8 @@ fn with_first(h: u32, contents: &[u64], state: &State) -> Part
 #[tactic(auto, unfolding(crate::specs::Reading::instruction_at))]
 fn part_at(h: u32, contents: &[u64], state: &State) -> Part
     requires { h < 2 ^ 19 }
-    ensures value { (t : Bool) (k : Use) → given (left_after (instruction_at t (word state.now 3)
+    ensures value { (t : Bool) (k : Use) →
+        fetching_of (left_after (instruction_at t (word state.now 3)
         state.now.enabled h k) contents.now) ≡ given_by t result contents.now k }
     ensures shape { IsPart (length contents.now) result }
 {
@@ -179,7 +182,7 @@ pub fn is_execute(instr: &Instr) -> bool
 // EX with the target that it points to.
 fn with_target(ex: Decoded, target: Found) -> Fetched
     requires ex { HasFields ex.instr }
-    requires target { IsFound target }
+    requires target { IsFoundInRange target }
     ensures value { result ≡ with_target_of ex target }
     ensures shape { IsFetched result }
 {
@@ -197,9 +200,10 @@ fn with_target(ex: Decoded, target: Found) -> Fetched
 // EX, whose target is read, as far as the contents behind its own tell.
 #[inline(never)]
 fn fetch_target(own: Found, x: &[u64; 16], contents: &[u64], state: &State) -> Fetching
-    requires own { IsFound own }
+    requires own { IsFoundInRange own }
     requires execute { is_execute_of own.decoded.instr ≡ true }
-    ensures value { result ≡ given (left_after (own_use x.now (word state.now 3) state.now.enabled
+    ensures value { result ≡ fetching_of (left_after (own_use x.now
+        (word state.now 3) state.now.enabled
         own) contents.now) }
     ensures shape { IsFetching result }
 {
@@ -214,8 +218,9 @@ fn fetch_target(own: Found, x: &[u64; 16], contents: &[u64], state: &State) -> F
 #[inline(always)]
 #[tactic(auto, unfolding(crate::specs::Reading::own_use))]
 fn own_or_target(own: Found, x: &[u64; 16], contents: &[u64], state: &State) -> Fetching
-    requires { IsFound own }
-    ensures value { result ≡ given (left_after (own_use x.now (word state.now 3) state.now.enabled
+    requires { IsFoundInRange own }
+    ensures value { result ≡ fetching_of (left_after (own_use x.now
+        (word state.now 3) state.now.enabled
         own) contents.now) }
     ensures shape { IsFetching result }
 {
@@ -242,8 +247,8 @@ fn fetched_word(w: u32, state: &State) -> Option<u64>
     }
 }
 
-// The second half-word of the instruction at the half-word address `h`, whose first word has this content, unless it may
-// not be fetched.
+// The second half-word of the instruction at the half-word address `h`, whose first word has this
+// content, unless it may not be fetched.
 #[inline(always)]
 fn second_half(h: u32, content: u64, state: &State) -> Option<u32>
     requires address { h < 2 ^ 19 }
@@ -263,8 +268,9 @@ fn second_half(h: u32, content: u64, state: &State) -> Option<u32>
     }
 }
 
-// The half-words of the instruction at the half-word address `h`, the content of its first word being known, unless one
-// of them may not be fetched. Where there is only one, 0 stands for the second.
+// The half-words of the instruction at the half-word address `h`, the content of its first word
+// being known, unless one of them may not be fetched. Where there is only one, 0 stands for the
+// second.
 #[inline(always)]
 #[tactic(auto, unfolding(crate::specs::Reading::with_first))]
 fn halves_in(h: u32, content: u64, state: &State) -> Option<(u32, u32)>
@@ -304,7 +310,8 @@ pub fn halves_at(h: u32, state: &State) -> Option<(u32, u32)>
     }
 }
 
-// The second half-word of the instruction at the half-word address `h`, where the contents have it and it may be fetched.
+// The second half-word of the instruction at the half-word address `h`, where the contents have it
+// and it may be fetched.
 #[inline(always)]
 fn second_known(h: u32, contents: &[u64], state: &State) -> Option<u32>
     requires address { h < 2 ^ 19 }
@@ -312,7 +319,7 @@ fn second_known(h: u32, contents: &[u64], state: &State) -> Option<u32>
     requires allowed { forbidden_by (word state.now 3) state.now.enabled Access.Fetch (h / 2)
         ≡ None }
     ensures { IfSome result (λ second. (first : ℕ) (k : Use) (f : FetchedOf) →
-        k (allowed_found first second) ≡ Finds f → given (left_after (with_second_of
+        k (allowed_found first second) ≡ Finds f → fetching_of (left_after (with_second_of
         (forbidden_by (word state.now 3) state.now.enabled Access.Fetch ((h + 1) / 2)) false first
         (h + 1) (h / 2) (slice_index contents.now 0) k) (drop 1 contents.now)) ≡ FoundAll f) }
 {
@@ -328,7 +335,8 @@ fn second_known(h: u32, contents: &[u64], state: &State) -> Option<u32>
     }
 }
 
-// The half-words of the instruction at the half-word address `h`, whose first word may be fetched, as `halves_known` gives them.
+// The half-words of the instruction at the half-word address `h`, whose first word may be fetched,
+// as `halves_known` gives them.
 #[inline(always)]
 #[tactic(auto, unfolding(crate::specs::Reading::with_first))]
 fn halves_of(h: u32, contents: &[u64], state: &State) -> Option<(u32, u32)>
@@ -337,7 +345,8 @@ fn halves_of(h: u32, contents: &[u64], state: &State) -> Option<(u32, u32)>
     requires allowed { forbidden_by (word state.now 3) state.now.enabled Access.Fetch (h / 2)
         ≡ None }
     ensures { IfSome result (λ r. (k : Use) (f : FetchedOf) →
-        k (allowed_found r.0 r.1) ≡ Finds f → given (left_after (with_first_of false (word state.now 3)
+        k (allowed_found r.0 r.1) ≡ Finds f → fetching_of
+        (left_after (with_first_of false (word state.now 3)
         state.now.enabled h (slice_index contents.now 0) k) (drop 1 contents.now)) ≡ FoundAll f) }
 {
     let first = half_of(contents[0], h);
@@ -351,15 +360,17 @@ fn halves_of(h: u32, contents: &[u64], state: &State) -> Option<(u32, u32)>
     }
 }
 
-/// The half-words of the instruction at the half-word address `h`, below 2^19, where the contents of its words, of which there is
-/// one at least, tell all of it, and the words may be fetched. Where there is only one, 0 stands for the second.
+/// The half-words of the instruction at the half-word address `h`, below 2^19, where the contents
+/// of its words, of which there is one at least, tell all of it, and the words may be fetched.
+/// Where there is only one, 0 stands for the second.
 #[inline(always)]
 #[tactic(auto, unfolding(crate::specs::Reading::instruction_at))]
 pub fn halves_known(h: u32, contents: &[u64], state: &State) -> Option<(u32, u32)>
     requires address { h < 2 ^ 19 }
     requires some { 1 ≤ length contents.now }
     ensures { IfSome result (λ r. (k : Use) (f : FetchedOf) →
-        k (allowed_found r.0 r.1) ≡ Finds f → given (left_after (instruction_at false (word state.now 3)
+        k (allowed_found r.0 r.1) ≡ Finds f → fetching_of
+        (left_after (instruction_at false (word state.now 3)
         state.now.enabled h k) contents.now) ≡ FoundAll f) }
 {
     match state.may(Access::Fetch, h / 2) {
@@ -371,14 +382,15 @@ pub fn halves_known(h: u32, contents: &[u64], state: &State) -> Option<(u32, u32
     }
 }
 
-/// How far an entry at a place is fetched once words with these contents were read for it, one after another: the word that
-/// is read next, or what is fetched. `x` are the index words, and of `state` only the boundary register and the mark for
-/// interrupts count.
+/// How far an entry at a place is fetched once words with these contents were read for it, one
+/// after another: the word that is read next, or what is fetched. `x` are the index words, and of
+/// `state` only the boundary register and the mark for interrupts count.
 #[inline(always)]
-#[tactic(auto, unfolding(crate::specs::Reading::reading))]
+#[tactic(auto, unfolding(crate::specs::Reading::reading_at_place))]
 pub fn fetch_on(place: &Place, x: &[u64; 16], contents: &[u64], state: &State) -> Fetching
     requires { IsPlace place.now }
-    ensures value { result ≡ given (left_after (reading x.now (word state.now 3) state.now.enabled
+    ensures value { result ≡ fetching_of (left_after (reading_at_place x.now
+        (word state.now 3) state.now.enabled
         place.now) contents.now) }
     ensures shape { IsFetching result }
 {
@@ -396,7 +408,8 @@ pub fn fetch_on(place: &Place, x: &[u64; 16], contents: &[u64], state: &State) -
 pub fn fetch_all(place: &Place, x: &[u64; 16], state: &State) -> Fetched
     requires { IsPlace place.now }
     ensures value { result
-        ≡ outcome (reading x.now (word state.now 3) state.now.enabled place.now) (word state.now) }
+        ≡ outcome (reading_at_place x.now (word state.now 3) state.now.enabled place.now)
+        (word state.now) }
     ensures shape { IsFetched result }
 {
     let mut contents = [0; 4];
@@ -412,9 +425,9 @@ pub fn fetch_all(place: &Place, x: &[u64; 16], state: &State) -> Fetched
     }
 }
 
-/// What is fetched at a place: its instruction and, of EX, the target; and the indicator that forbids one of their
-/// words. The target is found by the index words of the state.
-#[tactic(auto, unfolding(crate::specs::Fetch::fetched))]
+/// What is fetched at a place: its instruction and, of EX, the target; and the indicator that
+/// forbids one of their words. The target is found by the index words of the state.
+#[tactic(auto, unfolding(crate::specs::Fetch::words_fetched))]
 pub fn fetch(state: &State, place: &Place) -> Fetched
     requires { IsPlace place.now }
     ensures value { result ≡ fetched_at state.now place.now }

@@ -1,7 +1,7 @@
 //! The counter behind an entry, what it stores, its cost, and whether it is done alone.
 ghost use Rattle.std.specs.Prelude.{◌≡◌, ◌<◌, ◌^◌};
-ghost use Rattle.st_prep.specs.Entry.{next as next_of, after_count as after_count_of, after_half as after_half_of, after_branch as after_branch_of, after as after_of};
-ghost use Rattle.st_prep.specs.Entry.{stored_part as stored_part_of, value as value_of, binary_cost as binary_cost_of, decimal_cost as decimal_cost_of, cost as cost_of, acts_alone as acts_alone_of};
+ghost use Rattle.st_prep.specs.Entry.{counter_behind as next_of, after_count as after_count_of, after_half as after_half_of, after_branch as after_branch_of, counter_after as after_of};
+ghost use Rattle.st_prep.specs.Entry.{stored_part as stored_part_of, value_stored as value_of, binary_cost as binary_cost_of, decimal_cost as decimal_cost_of, cost as cost_of, acts_alone as acts_alone_of};
 ghost use Rattle.st_prep.specs.Ranges.{HasFields};
 
 use crate::entries::Place;
@@ -9,9 +9,10 @@ use st_bits::{BranchOp, HalfOp, VflOp, count_of, part, refill_of};
 use st_format::Instr;
 use st_index::count_down;
 
-/// The following instruction: `halves` half-words on, or the counter as it stands after a table instruction.
+/// The following instruction: `halves` half-words on, or the counter as it stands after a table
+/// instruction.
 #[inline(always)]
-#[tactic(auto, unfolding(crate::specs::Entry::next))]
+#[tactic(auto, unfolding(crate::specs::Entry::counter_behind))]
 pub fn next(place: &Place, halves: u8) -> u32
     requires { place.now.counter < 2 ^ 19 }
     ensures value { result ≡ next_of place.now halves }
@@ -59,7 +60,7 @@ fn after_branch(op: BranchOp, counter: u32, e: u32, following: u32) -> u32
 
 /// The counter after an instruction, given the counter before it and the following instruction.
 #[inline(always)]
-#[tactic(auto, unfolding(crate::specs::Entry::after))]
+#[tactic(auto, unfolding(crate::specs::Entry::counter_after))]
 pub fn after(instr: &Instr, x: &[u64; 16], e: u32, counter: u32, following: u32) -> u32
     requires shape { HasFields instr.now }
     requires counter { counter < 2 ^ 19 }
@@ -91,7 +92,7 @@ fn stored_part(op: HalfOp, x: u64) -> u64
 
 /// What an instruction stores of an index word or of the counter.
 #[inline(always)]
-#[tactic(auto, unfolding(crate::specs::Entry::value))]
+#[tactic(auto, unfolding(crate::specs::Entry::value_stored))]
 pub fn value(instr: &Instr, x: &[u64; 16], following: u32) -> u64
     requires { HasFields instr.now }
     ensures { result ≡ value_of instr.now x.now following }

@@ -3,13 +3,13 @@ ghost use Rattle.std.specs.Prelude.{◌≡◌, ℕ, ◌<◌, ◌^◌, false, IfS
 ghost use Rattle.st_bits.specs.Indicators.{indicator as indicator_of};
 ghost use Rattle.st_bits.specs.Storage.{words_of_storage};
 ghost use Rattle.st_state.specs.Machine.{Machine, word};
-ghost use Rattle.st_state.specs.Interrupts.{turned};
+ghost use Rattle.st_state.specs.Interrupts.{indicator_word};
 ghost use Rattle.st_prep.specs.EarlyChange.{words_after};
-ghost use Rattle.st_prep.specs.Plan.{seen, is_alone as is_alone_of, aimed as aimed_of, aim as aim_of, is_serial as is_serial_of, needs_by, needs as needs_of, asks, suppressed as suppressed_of, entry as entry_of, prepared_by, prepared as prepared_of, plan as plan_of, opened, side_word as side_word_of, side_of, IsSeen, entry_by, sight};
+ghost use Rattle.st_prep.specs.Plan.{sight_of, is_alone as is_alone_of, aim_at as aimed_of, aim as aim_of, is_serial as is_serial_of, needs_by, needs as needs_of, asks, suppressed_entry as suppressed_of, entry_at as entry_of, prepared_by, prepared_entry as prepared_of, plan as plan_of, state_at_entry, side_word as side_word_of, side_of, IsSeen, entry_by, sight};
 ghost use Rattle.st_prep.specs.Fetch.{place_of as place_by};
 ghost use Rattle.st_format.specs.declared.instruction.Format.{Format};
-ghost use Rattle.st_format.specs.Formats.{decoded, instruction_of, spelled_as};
-ghost use Rattle.st_prep.specs.Reading.{Use, plain, outcome, instruction_at, is_execute as is_execute_of, reading, allowed_found};
+ghost use Rattle.st_format.specs.Formats.{decoded_entry, instruction_of, spelled_as};
+ghost use Rattle.st_prep.specs.Reading.{Use, fetched_plain, outcome, instruction_at, is_execute as is_execute_of, reading_at_place, allowed_found};
 ghost use Rattle.st_prep.specs.Ranges.{HasFields, IsPlace, IsFetched, IsAim, IsNeeds, IsChange, IsPrepared};
 
 use crate::addresses::effective_address;
@@ -34,7 +34,7 @@ fn is_alone(place: &Place, fetched: &Fetched) -> bool
 
 // What an entry is aimed at, before it is checked.
 #[inline(always)]
-#[tactic(auto, unfolding(crate::specs::Plan::aimed))]
+#[tactic(auto, unfolding(crate::specs::Plan::aim_at))]
 fn aimed(place: &Place, fetched: &Fetched, x: &[u64; 16]) -> Aim
     requires { IsFetched fetched.now }
     ensures value { result ≡ aimed_of place.now fetched.now x.now }
@@ -56,10 +56,10 @@ fn aimed(place: &Place, fetched: &Fetched, x: &[u64; 16]) -> Aim
 
 // What an entry is aimed at, and the first check that it fails.
 #[inline(always)]
-#[tactic(auto, unfolding(crate::specs::Plan::aim, crate::specs::Plan::fault_of))]
+#[tactic(auto, unfolding(crate::specs::Plan::aim, crate::specs::Plan::fault_of_checks))]
 fn aim(place: &Place, fetched: &Fetched, x: &[u64; 16], state: &State) -> Aim
     requires { IsFetched fetched.now }
-    ensures value { result ≡ aim_of (seen place.now fetched.now x.now state.now) }
+    ensures value { result ≡ aim_of (sight_of place.now fetched.now x.now state.now) }
     ensures ranges { IsAim result }
 {
     let mut aim = aimed(place, fetched, x);
@@ -97,16 +97,16 @@ fn needs(aim: &Aim) -> Needs
     }
 }
 
-/// What an entry needs before it can be prepared. `fetched` is what stands at `place`, `x` are the index words, and of
-/// `state` only the boundary register and the mark for interrupts count.
+/// What an entry needs before it can be prepared. `fetched` is what stands at `place`, `x` are the
+/// index words, and of `state` only the boundary register and the mark for interrupts count.
 #[tactic(auto, unfolding(crate::specs::Plan::needs))]
 pub fn look(place: &Place, fetched: &Fetched, x: &[u64; 16], state: &State) -> Needs
     requires { IsFetched fetched.now }
-    ensures value { result ≡ needs_of (seen place.now fetched.now x.now state.now) }
+    ensures value { result ≡ needs_of (sight_of place.now fetched.now x.now state.now) }
     ensures ranges { IsNeeds result }
 
     // It is what the next entry of each state needs that looks so.
-    ensures states { let v = seen place.now fetched.now x.now state.now in
+    ensures states { let v = sight_of place.now fetched.now x.now state.now in
         (s : Machine) → IsSeen s v → result ≡ needs_of (sight s (place_by s place.now.table)) }
 {
     needs(&aim(place, fetched, x, state))
@@ -114,7 +114,7 @@ pub fn look(place: &Place, fetched: &Fetched, x: &[u64; 16], state: &State) -> N
 
 // Fills in an entry that is suppressed by the indicator `i`.
 #[inline(never)]
-#[tactic(auto, unfolding(crate::specs::Plan::suppressed))]
+#[tactic(auto, unfolding(crate::specs::Plan::suppressed_entry))]
 fn suppress(aim: &Aim, i: u8, p: &mut Prepared)
     requires place { p.old.place.counter < 2 ^ 19 }
     requires indicator { i < 64 }
@@ -138,7 +138,7 @@ fn suppress(aim: &Aim, i: u8, p: &mut Prepared)
 
 // Fills in an entry that is not suppressed; `read` is its index-side word.
 #[inline(always)]
-#[tactic(auto, unfolding(crate::specs::Plan::entry))]
+#[tactic(auto, unfolding(crate::specs::Plan::entry_at))]
 fn enter(aim: &Aim, x: &[u64; 16], read: Option<u64>, p: &mut Prepared)
     requires place { p.old.place.counter < 2 ^ 19 }
     requires aim { IsAim aim.now }
@@ -186,7 +186,7 @@ fn read_shape(read: Option<u64>)
 }
 
 /// Prepares the entry that stands at `p.place`, in place, as `prepare` does.
-#[tactic(auto, unfolding(crate::specs::Plan::prepared))]
+#[tactic(auto, unfolding(crate::specs::Plan::prepared_entry))]
 pub fn prepare_in(
     p: &mut Prepared,
     fetched: &Fetched,
@@ -196,14 +196,14 @@ pub fn prepare_in(
 )
     requires place { IsPlace p.old.place }
     requires fetched { IsFetched fetched.now }
-    requires asked { is_some read ≡ asks (seen p.old.place fetched.now x.old state.now) }
+    requires asked { is_some read ≡ asks (sight_of p.old.place fetched.now x.old state.now) }
 
-    ensures value { p.new ≡ prepared_of (seen p.old.place fetched.now x.old state.now) read }
+    ensures value { p.new ≡ prepared_of (sight_of p.old.place fetched.now x.old state.now) read }
     ensures ranges { IsPrepared p.new }
     ensures words { x.new ≡ words_after x.old p.new.index }
 
     // It is the next entry of each state that looks so.
-    ensures states { let v = seen p.old.place fetched.now x.old state.now in
+    ensures states { let v = sight_of p.old.place fetched.now x.old state.now in
         (s : Machine) → IsSeen s v → read ≡ side_of s v → p.new ≡ plan_of s p.old.place.table }
 {
     read_shape(read);
@@ -211,10 +211,11 @@ pub fn prepare_in(
     change_index(p.index, x);
 }
 
-/// Prepares an entry as far as it goes without its index-side word, in whose place 0 stands: all but `index` and `ind` is
-/// final, and these too where no such word is asked for. The result says what is needed. `x` stays.
+/// Prepares an entry as far as it goes without its index-side word, in whose place 0 stands: all
+/// but `index` and `ind` is final, and these too where no such word is asked for. The result says
+/// what is needed. `x` stays.
 #[inline(always)]
-#[tactic(auto, unfolding(crate::specs::Plan::prepared, crate::specs::Plan::needs))]
+#[tactic(auto, unfolding(crate::specs::Plan::prepared_entry, crate::specs::Plan::needs))]
 pub fn prepare_without_side(
     p: &mut Prepared,
     fetched: &Fetched,
@@ -224,9 +225,9 @@ pub fn prepare_without_side(
     requires place { IsPlace p.old.place }
     requires fetched { IsFetched fetched.now }
 
-    ensures value { let v = seen p.old.place fetched.now x.now state.now in
+    ensures value { let v = sight_of p.old.place fetched.now x.now state.now in
         p.new ≡ prepared_of v (option_map (λ w. 0) (needs_of v).index_read) }
-    ensures needs { result ≡ needs_of (seen p.old.place fetched.now x.now state.now) }
+    ensures needs { result ≡ needs_of (sight_of p.old.place fetched.now x.now state.now) }
     ensures place { p.new.place ≡ p.old.place }
     ensures ranges { IsPrepared p.new }
     ensures shape { IsNeeds result }
@@ -258,9 +259,9 @@ fn change_index(index: Option<IndexChange>, x: &mut [u64; 16])
     }
 }
 
-/// Prepares an entry: `fetched` is what stands at `place`, `x` are the index words, `read` is the word that `look`
-/// asks for, and of `state` only the boundary register and the mark for interrupts count. The index word that the
-/// entry changes is changed in `x`.
+/// Prepares an entry: `fetched` is what stands at `place`, `x` are the index words, `read` is the
+/// word that `look` asks for, and of `state` only the boundary register and the mark for interrupts
+/// count. The index word that the entry changes is changed in `x`.
 pub fn prepare(
     place: &Place,
     fetched: &Fetched,
@@ -270,14 +271,14 @@ pub fn prepare(
 ) -> Prepared
     requires place { IsPlace place.now }
     requires fetched { IsFetched fetched.now }
-    requires asked { is_some read ≡ asks (seen place.now fetched.now x.old state.now) }
+    requires asked { is_some read ≡ asks (sight_of place.now fetched.now x.old state.now) }
 
-    ensures value { result ≡ prepared_of (seen place.now fetched.now x.old state.now) read }
+    ensures value { result ≡ prepared_of (sight_of place.now fetched.now x.old state.now) read }
     ensures ranges { IsPrepared result }
     ensures words { x.new ≡ words_after x.old result.index }
 
     // It is the next entry of each state that looks so.
-    ensures states { let v = seen place.now fetched.now x.old state.now in
+    ensures states { let v = sight_of place.now fetched.now x.old state.now in
         (s : Machine) → IsSeen s v → read ≡ side_of s v → result ≡ plan_of s place.now.table }
 {
     let mut p = Prepared::default();
@@ -290,7 +291,7 @@ pub fn prepare(
 fn found_word(state: &State, table: Option<u8>, w: u32) -> u64
     requires inside { w < words_of_storage }
     requires indicator { IfSome table (λ i. i < 64) }
-    ensures value { result ≡ word (opened table state.now) w }
+    ensures value { result ≡ word (state_at_entry table state.now) w }
 {
     state.shape();
     let word = state.word(w);
@@ -303,13 +304,13 @@ fn found_word(state: &State, table: Option<u8>, w: u32) -> u64
 // A word of indicators with indicator `i` off.
 fn without(indicators: u64, i: u8) -> u64
     requires { i < 64 }
-    ensures { result ≡ turned 64 0 (indicator_of i) indicators }
+    ensures { result ≡ indicator_word 64 0 (indicator_of i) indicators }
 {
     indicators & !indicator(i)
 }
 
-/// The index-side word, as the next entry of a state or its table instruction finds it: an interrupt has turned off
-/// the indicator that it takes.
+/// The index-side word, as the next entry of a state or its table instruction finds it: an
+/// interrupt has turned off the indicator that it takes.
 pub fn side_word(state: &State, table: Option<u8>, w: Option<u32>) -> Option<u64>
     requires inside { IfSome w (λ w. w < words_of_storage) }
     requires indicator { IfSome table (λ i. i < 64) }
@@ -323,7 +324,7 @@ pub fn side_word(state: &State, table: Option<u8>, w: Option<u32>) -> Option<u64
 
 // Fills in the entry of a state that stands at `p.place`, by what is fetched there.
 #[inline(always)]
-#[tactic(auto, unfolding(crate::specs::Plan::prepared, crate::specs::Plan::needs))]
+#[tactic(auto, unfolding(crate::specs::Plan::prepared_entry, crate::specs::Plan::needs))]
 fn fill_fetched(fetched: &Fetched, x: &[u64; 16], state: &State, p: &mut Prepared)
     requires place { IsPlace p.old.place }
     requires fetched { IsFetched fetched.now }
@@ -339,7 +340,7 @@ fn fill_fetched(fetched: &Fetched, x: &[u64; 16], state: &State, p: &mut Prepare
 fn fill_plain(own: Decoded, x: &[u64; 16], state: &State, p: &mut Prepared)
     requires place { IsPlace p.old.place }
     requires fields { HasFields own.instr }
-    ensures { p.new ≡ entry_by state.now p.old.place (plain own) x.now }
+    ensures { p.new ≡ entry_by state.now p.old.place (fetched_plain own) x.now }
 {
     let fetched = Fetched {
         instr: own,
@@ -354,17 +355,19 @@ fn fill_plain(own: Decoded, x: &[u64; 16], state: &State, p: &mut Prepared)
 fn fill_as(format: Format, halves: (u32, u32), x: &[u64; 16], state: &State, p: &mut Prepared)
     requires place { IsPlace p.old.place }
     requires format { spelled_as format halves.0 halves.1 ≡ instruction_of halves.0 halves.1 }
-    ensures { p.new ≡ entry_by state.now p.old.place (plain (decoded halves.0 halves.1)) x.now }
+    ensures { p.new ≡ entry_by state.now p.old.place (fetched_plain
+        (decoded_entry halves.0 halves.1)) x.now }
 {
     fill_plain(decode_as(format, halves.0, halves.1), x, state, p);
 }
 
 // The same, of a format that is not frequent.
 #[inline(never)]
-fn fill_seldom(format: Format, halves: (u32, u32), x: &[u64; 16], state: &State, p: &mut Prepared)
+fn fill_cold(format: Format, halves: (u32, u32), x: &[u64; 16], state: &State, p: &mut Prepared)
     requires place { IsPlace p.old.place }
     requires format { spelled_as format halves.0 halves.1 ≡ instruction_of halves.0 halves.1 }
-    ensures { p.new ≡ entry_by state.now p.old.place (plain (decoded halves.0 halves.1)) x.now }
+    ensures { p.new ≡ entry_by state.now p.old.place (fetched_plain
+        (decoded_entry halves.0 halves.1)) x.now }
 {
     fill_as(format, halves, x, state, p);
 }
@@ -375,7 +378,8 @@ fn fill_whole(op: FullOp, halves: (u32, u32), x: &[u64; 16], state: &State, p: &
     requires place { IsPlace p.old.place }
     requires format { spelled_as (Format.Whole op) halves.0 halves.1
         ≡ instruction_of halves.0 halves.1 }
-    ensures { p.new ≡ entry_by state.now p.old.place (plain (decoded halves.0 halves.1)) x.now }
+    ensures { p.new ≡ entry_by state.now p.old.place (fetched_plain
+        (decoded_entry halves.0 halves.1)) x.now }
 {
     match op {
         FullOp::Variable(op) => {
@@ -387,7 +391,7 @@ fn fill_whole(op: FullOp, halves: (u32, u32), x: &[u64; 16], state: &State, p: &
         FullOp::IndicatorTest => {
             fill_as(Format::Whole(FullOp::IndicatorTest), halves, x, state, p)
         }
-        _ => fill_seldom(Format::Whole(op), halves, x, state, p),
+        _ => fill_cold(Format::Whole(op), halves, x, state, p),
     }
 }
 
@@ -396,21 +400,24 @@ fn fill_whole(op: FullOp, halves: (u32, u32), x: &[u64; 16], state: &State, p: &
 fn fill_own(format: Format, halves: (u32, u32), x: &[u64; 16], state: &State, p: &mut Prepared)
     requires place { IsPlace p.old.place }
     requires format { spelled_as format halves.0 halves.1 ≡ instruction_of halves.0 halves.1 }
-    ensures { p.new ≡ entry_by state.now p.old.place (plain (decoded halves.0 halves.1)) x.now }
+    ensures { p.new ≡ entry_by state.now p.old.place (fetched_plain
+        (decoded_entry halves.0 halves.1)) x.now }
 {
     match format {
         Format::Index(op) => fill_as(Format::Index(op), halves, x, state, p),
         Format::Branch(op) => fill_as(Format::Branch(op), halves, x, state, p),
         Format::Whole(op) => fill_whole(op, halves, x, state, p),
-        _ => fill_seldom(format, halves, x, state, p),
+        _ => fill_cold(format, halves, x, state, p),
     }
 }
 
-// Fills in the entry of a state that stands at `p.place`, which may be EX, or of which a word may not be fetched.
+// Fills in the entry of a state that stands at `p.place`, which may be EX, or of which a word may
+// not be fetched.
 #[inline(never)]
 fn fill_other(x: &[u64; 16], state: &State, p: &mut Prepared)
     requires { IsPlace p.old.place }
-    ensures { p.new ≡ entry_by state.now p.old.place (outcome (reading x.now (word state.now 3)
+    ensures { p.new ≡ entry_by state.now p.old.place (outcome
+        (reading_at_place x.now (word state.now 3)
         state.now.enabled p.old.place) (word state.now)) x.now }
 {
     fill_fetched(&fetch_all(&p.place, x, state), x, state, p);
@@ -436,7 +443,8 @@ fn fill_spelled(first: u32, second: u32, x: &[u64; 16], state: &State, p: &mut P
     requires found { (k : Use) → outcome (instruction_at false (word state.now 3)
         state.now.enabled p.old.place.address k) (word state.now)
         ≡ outcome (k (allowed_found first second)) (word state.now) }
-    ensures { p.new ≡ entry_by state.now p.old.place (outcome (reading x.now (word state.now 3)
+    ensures { p.new ≡ entry_by state.now p.old.place (outcome
+        (reading_at_place x.now (word state.now 3)
         state.now.enabled p.old.place) (word state.now)) x.now }
 {
     let format = format_of(first, second);
@@ -461,7 +469,8 @@ fn fill_next(table: Option<u8>, state: &State, p: &mut Prepared)
     }
 }
 
-/// Prepares the next entry of a state, or the table instruction of an interrupt by the indicator in `table`, in place.
+/// Prepares the next entry of a state, or the table instruction of an interrupt by the indicator in
+/// `table`, in place.
 pub fn plan_in(table: Option<u8>, state: &State, p: &mut Prepared)
     requires { IfSome table (λ i. i < 64) }
     ensures value { p.new ≡ plan_of state.now table }
@@ -471,7 +480,8 @@ pub fn plan_in(table: Option<u8>, state: &State, p: &mut Prepared)
     fill_next(table, state, p);
 }
 
-/// The next entry of a state, or the table instruction of an interrupt by the indicator in `table`, prepared.
+/// The next entry of a state, or the table instruction of an interrupt by the indicator in `table`,
+/// prepared.
 pub fn plan(state: &State, table: Option<u8>) -> Prepared
     requires { IfSome table (λ i. i < 64) }
     ensures value { result ≡ plan_of state.now table }

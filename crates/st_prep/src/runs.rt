@@ -1,7 +1,7 @@
 //! The words that an entry reads and writes.
 ghost use Rattle.std.specs.Prelude.{◌≡◌, ◌<◌, ◌^◌};
 ghost use Rattle.st_prep.specs.Entry.{no_words, one_run as one_run_of, two_runs as two_runs_of, field_words as field_words_of, operand_words as operand_words_of, words_moved_from as words_moved_from_of, words_moved_to as words_moved_to_of};
-ghost use Rattle.st_prep.specs.Entry.{is_index_store as is_index_store_of, reads_field as reads_field_of, reads as reads_of, writes as writes_of, has_register as has_register_of, is_register as is_register_of};
+ghost use Rattle.st_prep.specs.Entry.{is_index_store as is_index_store_of, reads_field as reads_field_of, reads as reads_of, words_written as writes_of, has_register as has_register_of, is_register as is_register_of};
 ghost use Rattle.st_prep.specs.Ranges.{HasFields, IsRuns};
 
 use crate::entries::Words;
@@ -138,7 +138,7 @@ pub fn reads(instr: &Instr, e: u32) -> Words
 
 /// The words that an instruction with the effective address `e` writes, in order.
 #[inline(always)]
-#[tactic(auto, unfolding(crate::specs::Entry::writes))]
+#[tactic(auto, unfolding(crate::specs::Entry::words_written))]
 pub fn writes(instr: &Instr, e: u32) -> Words
     requires shape { HasFields instr.now }
     requires address { e < 2 ^ 24 }

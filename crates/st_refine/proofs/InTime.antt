@@ -4,18 +4,18 @@ use Rattle.std.proofs.Math.Nat.{mul-add}
 use Rattle.std.proofs.Common.{◌≡◌, ℕ, ◌+◌, ◌*◌, ◌≤◌, Bool, true, false, List, [], ◌∷◌, length, inl, inr, Option, None, Some, refl, sym, subst, ◌∙◌, ap, arith}
 use Rattle.std.proofs.lemmas.Bool.{eqb-true}
 use Rattle.std.proofs.lemmas.List.Elements.{All-replicate, All-weaker}
-use Rattle.st_fetch.specs.declared.fetched.Fetched.{Fetched}
-use Rattle.st_state.specs.Machine.{Machine, stored}
-use Rattle.st_state.specs.Interrupts.{signalled}
+use Rattle.st_fetch.specs.declared.fetched.AskedWord.{AskedWord}
+use Rattle.st_state.specs.Machine.{Machine, state_with_store}
+use Rattle.st_state.specs.Interrupts.{state_with_signal}
 use Rattle.st_prep.specs.Plan.{plan}
 use Rattle.st_exec.proofs.Unchanged.{completed-done}
-use Rattle.st_exec.specs.Completion.{executed}
+use Rattle.st_exec.specs.Completion.{state_after_execution}
 use Rattle.st_exec.specs.Step.{rests}
 use Rattle.st_exec.specs.Transfer.{all_stored, read_in, printed_out}
 use Rattle.st_banks.specs.declared.answers.LastAnswers.{LastAnswers}
 use Rattle.st_banks.specs.declared.answers.TheConstants.{BANKS}
-use Rattle.st_rows.specs.Ranges.{AreDelays, IsEntry, IsTight, IsNear}
-use Rattle.st_rows.specs.Rows.{row, opening, addressed, prepared, tick_a, tick_p, tick_c}
+use Rattle.st_rows.specs.Ranges.{AreDelaysUpTo, IsEntryInTime, IsTight, IsNear}
+use Rattle.st_rows.specs.Rows.{row_of_entry, opening_front, address_tick, preparation_tick, tick_a, tick_p, tick_c}
 use Rattle.st_rows.specs.Asked.{Read, made_before}
 use Rattle.st_rows.specs.declared.bus.Bus.{Bus}
 use Rattle.st_rows.specs.declared.entry.Entry.{Entry}
@@ -27,36 +27,36 @@ use Rattle.st_rows.proofs.Stages.{c-within}
 use Rattle.st_rows.proofs.Tight.{tight-after}
 use Rattle.st_segment.specs.Entries.{entry}
 use Rattle.st_segment.proofs.EntryRanges.{entry-ranges}
-use Rattle.st_ahead.specs.Overlap.{Overlap, seen, oldest, oldest_row, levels_of, banks_at_its_end, interrupt_due}
-use Rattle.st_ahead.specs.Calls.{is_done, completed, ticked, banks_left, ended, run_ended, passed, settled, settled_by, read_in_by}
+use Rattle.st_ahead.specs.Overlap.{Overlap, state_ahead, oldest_entry, oldest_row, levels_of, banks_at_its_end, interrupt_due}
+use Rattle.st_ahead.specs.Calls.{is_done, machine_after_completion, machine_after_tick, banks_left, machine_after_segment, run_ended, machine_after_pass, machine_after_settling, settled_by, read_in_by}
 use Rattle.st_refine.specs.Reached.{IsReached, Starts, Ticks, Settles, Signals, Reads, Prints, Stops}
 use Rattle.st_refine.proofs.LevelLists.{few-before}
 use Rattle.st_refine.proofs.Kept.{choice_by, ticks_made, IsIdle, IsPhase, IsKept, idle-of, fresh-of, kept, seen-idle, after-oldest, made-settled, made-owed, ended-rest, settled-idle_is, closing-cases}
 
 -- ---- fronts
 
-opening-tight : (most start : ℕ) (banks : LastAnswers) → All (λ t. t ≤ start + most) banks.ticks → IsTight most (opening banks start)
+opening-tight : (most start : ℕ) (banks : LastAnswers) → All (λ t. t ≤ start + most) banks.ticks → IsTight most (opening_front banks start)
 opening-tight most start banks soon = record {
   prepared = omega arith;
   done = record { each = All-replicate (λ (entry : Past). entry.c ≤ start) 8 _ (omega arith) };
   free = omega arith;
   near = record {
     banks = soon;
-    held = All-replicate (λ (h : Fetched). h.tick ≤ start + most) 4 _ (omega arith);
+    held = All-replicate (λ (h : AskedWord). h.tick ≤ start + most) 4 _ (omega arith);
   };
 }
 
-free-before_done : (ds : List ℕ) (n : ℕ) (f : Front) (e : Entry) → IsEntry e → f.bus.free ≤ (row ds n f e).c
-unfolding row tick_a tick_p tick_c addressed prepared
+free-before_done : (ds : List ℕ) (n : ℕ) (f : Front) (e : Entry) → IsEntryInTime e → f.bus.free ≤ (row_of_entry ds n f e).c
+unfolding row_of_entry tick_a tick_p tick_c address_tick preparation_tick
 free-before_done ds n f e is = omega (arith, is.costs.0, ready-after ds n f e)
 
-row-within : (most : ℕ) (ds : List ℕ) (n : ℕ) (f : Front) (e : Entry) → AreDelays most ds → IsEntry e → IsTight most f
-    → (row ds n f e).c ≤ f.c + 40 * most + 65
-unfolding row
+row-within : (most : ℕ) (ds : List ℕ) (n : ℕ) (f : Front) (e : Entry) → AreDelaysUpTo most ds → IsEntryInTime e → IsTight most f
+    → (row_of_entry ds n f e).c ≤ f.c + 40 * most + 65
+unfolding row_of_entry
 row-within most ds n f e are is tight = c-within most ds are f e is tight n
 
 -- the banks after the reads that are made before a tick
-made-soon : (most : ℕ) (ds : List ℕ) (t : ℕ) (reads : List Read) (b : Bus) → AreDelays most ds → IsNear most b → b.free ≤ t
+made-soon : (most : ℕ) (ds : List ℕ) (t : ℕ) (reads : List Read) (b : Bus) → AreDelaysUpTo most ds → IsNear most b → b.free ≤ t
     → All (λ x. x ≤ t + most) (made_before ds t reads b).banks.ticks
 made-soon most ds t reads b are near free =
     let bounds = made-bounds most ds are t reads b near free in
@@ -74,7 +74,7 @@ pub record IsWithin (most : ℕ) (m : Overlap) (made since : ℕ) : Type 0 where
 
 pub levels-few : (m : Overlap) → length (levels_of m) ≤ m.levels
 unfolding levels_of
-levels-few m = few-before m.delays m.levels m.now m.levels m.taken (seen m) m.front
+levels-few m = few-before m.delays m.levels m.now m.levels m.taken (state_ahead m) m.front
 
 left-soon : (most : ℕ) (m : Overlap) (c : Option LastAnswers) → IsSome c → IfSome c (λ b. All (λ t. t ≤ m.now + most) b.ticks)
     → All (λ t. t ≤ m.now + most) (banks_left c).ticks
@@ -82,12 +82,12 @@ left-soon most m None some soon = absurd (cc some)
 left-soon most m (Some banks) some soon = soon
 
 opened : Overlap → Overlap
-opened m = record m { front = opening (banks_left m.closing) (m.now + 1 + length (levels_of m)); ended = true }
+opened m = record m { front = opening_front (banks_left m.closing) (m.now + 1 + length (levels_of m)); ended = true }
 
 -- ---- each call
 
-within-ended : (most made since : ℕ) (m : Overlap) → IsKept m → IsSome m.closing → IsWithin most m made since → IsWithin most (ended m) made since
-unfolding ended
+within-ended : (most made since : ℕ) (m : Overlap) → IsKept m → IsSome m.closing → IsWithin most m made since → IsWithin most (machine_after_segment m) made since
+unfolding machine_after_segment
 within-ended most made since m is some w =
     let fresh = fresh-of m is some in
     let start = m.now + 1 + length (levels_of m) in
@@ -106,7 +106,7 @@ within-ended most made since m is some w =
       fresh = w.fresh;
     })
 
-within-passed : (most made since : ℕ) (m : Overlap) → m.owed ≡ true → IsWithin most m made since → IsWithin most (passed m) made since
+within-passed : (most made since : ℕ) (m : Overlap) → m.owed ≡ true → IsWithin most m made since → IsWithin most (machine_after_pass m) made since
 within-passed most made since m owed w = record {
   tight = w.tight;
   banks = tt;
@@ -128,38 +128,38 @@ within-settled_fresh : (due behind : Option ℕ) (resting : Bool) (most made sin
     → IsWithin most m made since → IsWithin most (settled_by due resting behind m) made since
 within-settled_fresh (Some i) behind resting most made since m is some w =
     let fresh = fresh-of m is some in
-    within-passed most made since (record (ended m) { taken = Some i }) ((ended-rest m).owed ∙ fresh.owed)
-    (within-table most made since (ended m) (Some i) (within-ended most made since m is some w))
+    within-passed most made since (record (machine_after_segment m) { taken = Some i }) ((ended-rest m).owed ∙ fresh.owed)
+    (within-table most made since (machine_after_segment m) (Some i) (within-ended most made since m is some w))
 within-settled_fresh None behind true most made since m is some w = within-ended most made since m is some w
 within-settled_fresh None (Some h) false most made since m is some w =
-    within-passed most made since (ended m) ((ended-rest m).owed ∙ (fresh-of m is some).owed) (within-ended most made since m is some w)
+    within-passed most made since (machine_after_segment m) ((ended-rest m).owed ∙ (fresh-of m is some).owed) (within-ended most made since m is some w)
 within-settled_fresh None None false most made since m is some w = within-passed most made since m (fresh-of m is some).owed w
 
-within-settled : (most made since : ℕ) (m : Overlap) → IsKept m → m.owed ≡ true → IsWithin most m made since → IsWithin most (settled m) made since
-unfolding settled
+within-settled : (most made since : ℕ) (m : Overlap) → IsKept m → m.owed ≡ true → IsWithin most m made since → IsWithin most (machine_after_settling m) made since
+unfolding machine_after_settling
 within-settled most made since m is owed w = elim (closing-cases m.closing) [
   | inl none ↦ let idle : IsIdle m = subst (λ c. IsPhase c m) none is.phase in
       subst (λ (x : Overlap). IsWithin most x made since) (sym (settled-idle_is m idle)) (within-passed most made since m owed w)
   | inr some ↦ within-settled_fresh (interrupt_due m) m.behind (rests m.state) most made since m is some w
 ]
 
-within-ticked : (most made since : ℕ) (m : Overlap) → AreDelays most m.delays → IsKept m → m.owed ≡ false → IsWithin most m made since
-    → IsWithin most (ticked m) (made + 1) (if is_done m then 0 else since + 1)
-unfolding ticked completed banks_at_its_end oldest_row
+within-ticked : (most made since : ℕ) (m : Overlap) → AreDelaysUpTo most m.delays → IsKept m → m.owed ≡ false → IsWithin most m made since
+    → IsWithin most (machine_after_tick m) (made + 1) (if is_done m then 0 else since + 1)
+unfolding machine_after_tick machine_after_completion banks_at_its_end oldest_row
 within-ticked most made since m are is over w =
     let both = idle-of m is over in
     let idle : IsIdle m = both.1 in
     let same = seen-idle m idle.going idle.right in
-    let e = oldest m in
-    let fits : IsEntry e = subst (λ s. IsEntry (entry m.taken s)) (sym same) (entry-ranges m.taken m.state is.machine is.indicator) in
+    let e = oldest_entry m in
+    let fits : IsEntryInTime e = subst (λ s. IsEntryInTime (entry m.taken s)) (sym same) (entry-ranges m.taken m.state is.machine is.indicator) in
     let now : made ≡ m.now = w.ticks ∙ made-settled m.owed m.now over in
     by-done (is_done m) fits now refl
   where
-    by-done : (b : Bool) → IsEntry (oldest m) → made ≡ m.now → is_done m ≡ b
-        → IsWithin most (if b then completed m else record m { owed = true; closing = None }) (made + 1) (if b then 0 else since + 1)
+    by-done : (b : Bool) → IsEntryInTime (oldest_entry m) → made ≡ m.now → is_done m ≡ b
+        → IsWithin most (if b then machine_after_completion m else record m { owed = true; closing = None }) (made + 1) (if b then 0 else since + 1)
     by-done true fits now done =
-        let e = oldest m in
-        let due : (row m.delays m.levels m.front e).c ≡ m.now = eqb-true (row m.delays m.levels m.front e).c m.now done in
+        let e = oldest_entry m in
+        let due : (row_of_entry m.delays m.levels m.front e).c ≡ m.now = eqb-true (row_of_entry m.delays m.levels m.front e).c m.now done in
         let free : m.front.bus.free ≤ m.now = omega (arith, due, free-before_done m.delays m.levels m.front e fits) in
         record {
           tight = tight-after most m.delays are m.levels m.front e fits w.tight;
@@ -178,10 +178,10 @@ within-ticked most made since m are is over w =
 
 -- ---- the whole
 
-ticked-delays : (m : Overlap) → (ticked m).delays ≡ m.delays
-unfolding ticked completed
+ticked-delays : (m : Overlap) → (machine_after_tick m).delays ≡ m.delays
+unfolding machine_after_tick machine_after_completion
 ticked-delays m =
-    choice_by (λ (x : Overlap). x.delays ≡ m.delays) (is_done m) (completed m) (record m { owed = true; closing = None }) (λ done. refl) (λ not_done. refl)
+    choice_by (λ (x : Overlap). x.delays ≡ m.delays) (is_done m) (machine_after_completion m) (record m { owed = true; closing = None }) (λ done. refl) (λ not_done. refl)
 
 settled_by-delays : (due behind : Option ℕ) (resting : Bool) (m : Overlap) → (settled_by due resting behind m).delays ≡ m.delays
 settled_by-delays (Some i) behind resting m = (ended-rest m).delays
@@ -189,20 +189,20 @@ settled_by-delays None behind true m = (ended-rest m).delays
 settled_by-delays None (Some h) false m = (ended-rest m).delays
 settled_by-delays None None false m = refl
 
-settled-delays : (m : Overlap) → (settled m).delays ≡ m.delays
-unfolding settled
+settled-delays : (m : Overlap) → (machine_after_settling m).delays ≡ m.delays
+unfolding machine_after_settling
 settled-delays m = settled_by-delays (interrupt_due m) m.behind (rests m.state) m
 
 read-within : (most made since w : ℕ) (m : Overlap) (card : Option (List ℕ)) → IsKept m → IsSome m.closing → IsWithin most m made since
     → IsWithin most (read_in_by w card m) made since
 read-within most made since w m None is some h = within-state most made since m _ h
-read-within most made since w m (Some card) is some h = within-state most made since (ended m) _ (within-ended most made since m is some h)
+read-within most made since w m (Some card) is some h = within-state most made since (machine_after_segment m) _ (within-ended most made since m is some h)
 
 read-delays : (w : ℕ) (m : Overlap) (card : Option (List ℕ)) → (read_in_by w card m).delays ≡ m.delays
 read-delays w m None = refl
 read-delays w m (Some card) = (ended-rest m).delays
 
-pub within : (most : ℕ) {m : Overlap} {made since : ℕ} → IsReached m made since → AreDelays most m.delays → IsWithin most m made since
+pub within : (most : ℕ) {m : Overlap} {made since : ℕ} → IsReached m made since → AreDelaysUpTo most m.delays → IsWithin most m made since
 within most (Starts ds n s can) are = record {
   tight = opening-tight most 0 _ (All-replicate (λ t. t ≤ 0 + most) BANKS 0 (omega arith));
   banks = tt;
@@ -211,22 +211,22 @@ within most (Starts ds n s can) are = record {
   fresh = λ some. absurd (cc some);
 }
 within most (Ticks m made since from may) are =
-    let same = subst (AreDelays most) (ticked-delays m) are in
+    let same = subst (AreDelaysUpTo most) (ticked-delays m) are in
     within-ticked most made since m same (kept from) may.settled (within most from same)
 within most (Settles m made since from owed stands) are =
-    within-settled most made since m (kept from) owed (within most from (subst (AreDelays most) (settled-delays m) are))
+    within-settled most made since m (kept from) owed (within most from (subst (AreDelaysUpTo most) (settled-delays m) are))
 within most (Signals m made since i from known may) are = within-state most made since m _ (within most from are)
 within most (Reads m made since order card from given fits may) are =
-    read-within most made since order.word m card (kept from) may.1 (within most from (subst (AreDelays most) (read-delays order.word m card) are))
+    read-within most made since order.word m card (kept from) may.1 (within most from (subst (AreDelaysUpTo most) (read-delays order.word m card) are))
 within most (Prints m made since from given may) are = within-state most made since m _ (within most from are)
 within most (Stops m made since from may) are =
-    within-stopped most made since (ended m)
-    (within-ended most made since m (kept from) may.1 (within most from (subst (AreDelays most) (ended-rest m).delays are)))
+    within-stopped most made since (machine_after_segment m)
+    (within-ended most made since m (kept from) may.1 (within most from (subst (AreDelaysUpTo most) (ended-rest m).delays are)))
 
 pub made-ticks : {m : Overlap} {made since : ℕ} → IsReached m made since → made ≡ ticks_made m
 made-ticks {m} from = (within 255 from (kept from).delays).ticks
 
-pub in-time : (m : Overlap) (made since most : ℕ) → IsReached m made since → AreDelays most m.delays → since ≤ 64 * (most + 4)
+pub in-time : (m : Overlap) (made since most : ℕ) → IsReached m made since → AreDelaysUpTo most m.delays → since ≤ 64 * (most + 4)
 in-time m made since most from are =
     let w = within most from are in
     let is = kept from in
@@ -240,7 +240,7 @@ in-time m made since most from are =
 -- ---- all ticks
 
 -- what a tick at which an entry is done needs
-done-early : (m : Overlap) (made since most : ℕ) → IsReached m made since → AreDelays most m.delays → m.owed ≡ false → since + 1 ≤ 64 * (most + 4)
+done-early : (m : Overlap) (made since most : ℕ) → IsReached m made since → AreDelaysUpTo most m.delays → m.owed ≡ false → since + 1 ≤ 64 * (most + 4)
 done-early m made since most from are over =
     let w = within most from are in
     let is = kept from in
@@ -253,13 +253,13 @@ abbrev IsCounted : ℕ → ℕ → ℕ → Overlap → Type 0
 IsCounted b made since m = made ≤ b * m.state.done + since
 
 counted-ticked : (b made since : ℕ) (m : Overlap) → since + 1 ≤ b → IsCounted b made since m
-    → IsCounted b (made + 1) (if is_done m then 0 else since + 1) (ticked m)
-unfolding ticked completed
+    → IsCounted b (made + 1) (if is_done m then 0 else since + 1) (machine_after_tick m)
+unfolding machine_after_tick machine_after_completion
 counted-ticked b made since m early counted = by-done (is_done m)
   where
-    by-done : (c : Bool) → IsCounted b (made + 1) (if c then 0 else since + 1) (if c then completed m else record m { owed = true; closing = None })
+    by-done : (c : Bool) → IsCounted b (made + 1) (if c then 0 else since + 1) (if c then machine_after_completion m else record m { owed = true; closing = None })
     by-done true =
-        let more : (executed m.taken m.state).done ≡ m.state.done + 1 = completed-done (plan m.state m.taken) m.state in
+        let more : (state_after_execution m.taken m.state).done ≡ m.state.done + 1 = completed-done (plan m.state m.taken) m.state in
         omega (arith, counted, early, mul-add b m.state.done 1, ap (λ d. b * d) more)
     by-done false = omega (arith, counted)
 
@@ -273,7 +273,7 @@ same-counted b made since m x same counted = subst (λ (s : Machine). made ≤ b
 all_stored-done : (m : Machine) (w : ℕ) (xs : List ℕ) → (all_stored m w xs).done ≡ m.done
 unfolding all_stored
 all_stored-done m w [] = refl
-all_stored-done m w (x ∷ xs) = all_stored-done (stored m w x) (w + 1) xs
+all_stored-done m w (x ∷ xs) = all_stored-done (state_with_store m w x) (w + 1) xs
 
 pub read-done : (s : Machine) (w : ℕ) (card : Option (List ℕ)) → (read_in s w card).done ≡ s.done
 read-done s w None = refl
@@ -289,26 +289,26 @@ settled_by-state None behind true m = (ended-rest m).state
 settled_by-state None (Some h) false m = (ended-rest m).state
 settled_by-state None None false m = refl
 
-pub settled-state : (m : Overlap) → (settled m).state ≡ m.state
-unfolding settled
+pub settled-state : (m : Overlap) → (machine_after_settling m).state ≡ m.state
+unfolding machine_after_settling
 settled-state m = settled_by-state (interrupt_due m) m.behind (rests m.state) m
 
-counted : (most : ℕ) {m : Overlap} {made since : ℕ} → IsReached m made since → AreDelays most m.delays → IsCounted (64 * (most + 4)) made since m
+counted : (most : ℕ) {m : Overlap} {made since : ℕ} → IsReached m made since → AreDelaysUpTo most m.delays → IsCounted (64 * (most + 4)) made since m
 counted most (Starts ds n s can) are = omega arith
 counted most (Ticks m made since from may) are =
-    let same = subst (AreDelays most) (ticked-delays m) are in
+    let same = subst (AreDelaysUpTo most) (ticked-delays m) are in
     counted-ticked (64 * (most + 4)) made since m (done-early m made since most from same may.settled) (counted most from same)
 counted most (Settles m made since from owed stands) are =
-    same-counted (64 * (most + 4)) made since m (settled m) (settled-state m) (counted most from (subst (AreDelays most) (settled-delays m) are))
-counted most (Signals m made since i from known may) are = changed-counted (64 * (most + 4)) made since m (signalled m.state i) refl (counted most from are)
+    same-counted (64 * (most + 4)) made since m (machine_after_settling m) (settled-state m) (counted most from (subst (AreDelaysUpTo most) (settled-delays m) are))
+counted most (Signals m made since i from known may) are = changed-counted (64 * (most + 4)) made since m (state_with_signal m.state i) refl (counted most from are)
 counted most (Reads m made since order card from given fits may) are =
-    let before = counted most from (subst (AreDelays most) (read-delays order.word m card) are) in
+    let before = counted most from (subst (AreDelaysUpTo most) (read-delays order.word m card) are) in
     subst (λ d. made ≤ 64 * (most + 4) * d + since) (sym (ap (λ (s : Machine). s.done) (read-state order.word m card) ∙ read-done m.state order.word card)) before
 counted most (Prints m made since from given may) are = changed-counted (64 * (most + 4)) made since m (printed_out m.state) refl (counted most from are)
 counted most (Stops m made since from may) are =
-    same-counted (64 * (most + 4)) made since m (run_ended m) (ended-rest m).state (counted most from (subst (AreDelays most) (ended-rest m).delays are))
+    same-counted (64 * (most + 4)) made since m (run_ended m) (ended-rest m).state (counted most from (subst (AreDelaysUpTo most) (ended-rest m).delays are))
 
-pub all-in_time : (m : Overlap) (made since most : ℕ) → IsReached m made since → AreDelays most m.delays
+pub all-in_time : (m : Overlap) (made since most : ℕ) → IsReached m made since → AreDelaysUpTo most m.delays
     → made ≤ 64 * (most + 4) * (m.state.done + 1)
 all-in_time m made since most from are =
     let b = 64 * (most + 4) in

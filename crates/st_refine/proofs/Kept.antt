@@ -3,7 +3,7 @@ use Rattle.std.specs.Prelude.{IfSome, IsSome, is_none, ◌&&◌, if◌then◌els
 use Rattle.std.proofs.Common.{◌≡◌, ℕ, zero, suc, ◌⊎◌, ◌+◌, ◌<◌, ◌≤◌, ◌^◌, Bool, true, false, List, length, inl, inr, Option, None, Some, refl, sym, subst, ◌∙◌, ap, arith}
 use Rattle.std.proofs.lemmas.Bool.{eqb-true, eqb-false}
 use Rattle.st_state.specs.Machine.{Machine, IsMachine, word}
-use Rattle.st_state.specs.Interrupts.{signalled, pending, is_pending, first_from}
+use Rattle.st_state.specs.Interrupts.{state_with_signal, pending, is_pending, first_from}
 use Rattle.st_state.specs.declared.devices.Order.{Order}
 use Rattle.st_prep.specs.Plan.{plan}
 use Rattle.st_prep.proofs.Choices.{of_choice}
@@ -12,11 +12,11 @@ use Rattle.st_exec.specs.Step.{interrupt, rests}
 use Rattle.st_exec.specs.Transfer.{read_in, printed_out}
 use Rattle.st_exec.proofs.MachineKept.{kept-completed}
 use Rattle.st_banks.specs.declared.answers.LastAnswers.{LastAnswers}
-use Rattle.st_rows.specs.Ranges.{AreDelays}
-use Rattle.st_rows.specs.Rows.{row, opening, after}
+use Rattle.st_rows.specs.Ranges.{AreDelaysUpTo}
+use Rattle.st_rows.specs.Rows.{row_of_entry, opening_front, front_after_entry}
 use Rattle.st_segment.specs.Entries.{entry}
-use Rattle.st_ahead.specs.Overlap.{Overlap, started, seen, with_counter, oldest, oldest_row, levels_of, interrupt_due}
-use Rattle.st_ahead.specs.Calls.{is_done, completed, ticked, banks_left, ended, passed, settled, settled_by, signalled_by, read_in_by, MaySignal, MayServe}
+use Rattle.st_ahead.specs.Overlap.{Overlap, machine_at_start, state_ahead, with_counter, oldest_entry, oldest_row, levels_of, interrupt_due}
+use Rattle.st_ahead.specs.Calls.{is_done, machine_after_completion, machine_after_tick, banks_left, machine_after_segment, machine_after_pass, machine_after_settling, settled_by, signalled_by, read_in_by, MaySignal, MayServe}
 use Rattle.st_ahead.proofs.Settling.{due-taken}
 use Rattle.st_refine.specs.Reached.{CanStart, IsCard, IsReached, Starts, Ticks, Settles, Signals, Reads, Prints, Stops}
 use Rattle.st_refine.proofs.StateLemmas.{signalled-machine, order-machine, printed-machine}
@@ -36,7 +36,7 @@ ticks_made m = if m.owed then m.now + 1 else m.now
 
 -- the row of the next entry of the state
 abbrev pub next_row : Overlap → ℕ
-next_row m = (row m.delays m.levels m.front (entry m.taken m.state)).c
+next_row m = (row_of_entry m.delays m.levels m.front (entry m.taken m.state)).c
 
 -- no entry was done at this tick, or it is settled
 pub record IsIdle (m : Overlap) : Type 0 where
@@ -61,7 +61,7 @@ IsPhase (Some banks) m = IsFresh m
 pub record IsKept (m : Overlap) : Type 0 where
   pub some : 1 ≤ m.levels
   pub few : m.levels ≤ 8
-  pub delays : AreDelays 255 m.delays
+  pub delays : AreDelaysUpTo 255 m.delays
   pub machine : IsMachine m.state
   pub indicator : IfSome m.taken (λ i. i < 64)
   pub counter : IfSome m.behind (λ h. h < 2 ^ 19)
@@ -70,7 +70,7 @@ pub record IsKept (m : Overlap) : Type 0 where
 -- which of the two it is
 idle-by : (c : Option LastAnswers) (m : Overlap) → IsPhase c m → m.owed ≡ false → (c ≡ None) × IsIdle m
 idle-by None m is settled = (refl, is)
-idle-by (Some banks) m is settled = absurd (cc (sym settled ∙ is.owed))
+idle-by (Some banks) m is machine_after_settling = absurd (cc (sym machine_after_settling ∙ is.owed))
 
 pub idle-of : (m : Overlap) → IsKept m → m.owed ≡ false → (m.closing ≡ None) × IsIdle m
 idle-of m is settled = idle-by m.closing m is.phase settled
@@ -130,7 +130,7 @@ due-none (Some i) p due none = absurd (cc none)
 
 -- ---- a start
 
-pub kept-started : (ds : List ℕ) (n : ℕ) (s : Machine) → CanStart ds n s → IsKept (started ds n s)
+pub kept-started : (ds : List ℕ) (n : ℕ) (s : Machine) → CanStart ds n s → IsKept (machine_at_start ds n s)
 kept-started ds n s can = record {
   some = can.some;
   few = can.few;
@@ -154,14 +154,14 @@ seen-by : (over : Bool) (behind : Option ℕ) (s : Machine) → over ≡ false �
 seen-by over None s going right = of_choice (λ u. u ≡ s) over s s refl refl
 seen-by over (Some h) s going right = absurd (cc right)
 
-pub seen-idle : (m : Overlap) → m.ended ≡ false → m.behind ≡ None → seen m ≡ m.state
-unfolding seen
+pub seen-idle : (m : Overlap) → m.ended ≡ false → m.behind ≡ None → state_ahead m ≡ m.state
+unfolding state_ahead
 seen-idle m going right = seen-by m.ended m.behind m.state going right
 
 -- the row of the oldest entry is that of the next one of the state
 pub row-idle : (m : Overlap) → IsIdle m → (oldest_row m).c ≡ next_row m
 unfolding oldest_row
-row-idle m is = ap (λ s. (row m.delays m.levels m.front (entry m.taken s)).c) (seen-idle m is.going is.right)
+row-idle m is = ap (λ s. (row_of_entry m.delays m.levels m.front (entry m.taken s)).c) (seen-idle m is.going is.right)
 
 missed-by : (b : Bool) (h : ℕ) → h < 2 ^ 19 → IfSome (if b then Some h else None) (λ i. i < 2 ^ 19)
 missed-by true h below = below
@@ -175,18 +175,18 @@ pub made-owed : (owed : Bool) (now : ℕ) → owed ≡ true → (if owed then no
 made-owed true now is = refl
 made-owed false now is = absurd (cc is)
 
-pub after-oldest : (m : Overlap) → (after m.delays m.levels m.front (oldest m)).c ≡ (oldest_row m).c
+pub after-oldest : (m : Overlap) → (front_after_entry m.delays m.levels m.front (oldest_entry m)).c ≡ (oldest_row m).c
 unfolding oldest_row
-after-oldest m = after-c m.delays m.levels m.front (oldest m)
+after-oldest m = after-c m.delays m.levels m.front (oldest_entry m)
 
-pub kept-ticked : (m : Overlap) → IsKept m → m.owed ≡ false → IsKept (ticked m)
-unfolding ticked completed
+pub kept-ticked : (m : Overlap) → IsKept m → m.owed ≡ false → IsKept (machine_after_tick m)
+unfolding machine_after_tick machine_after_completion
 kept-ticked m is settled =
     let idle : IsIdle m = (idle-of m is settled).1 in
     let c = row-idle m idle in
     let now : ticks_made m ≡ m.now = made-settled m.owed m.now settled in
     let p = plan-prepared m.state m.taken is.machine is.indicator in
-    choice_by IsKept (is_done m) (completed m) (record m { owed = true; closing = None })
+    choice_by IsKept (is_done m) (machine_after_completion m) (record m { owed = true; closing = None })
     (λ done.
     let due : (oldest_row m).c ≡ m.now = eqb-true (oldest_row m).c m.now done in
     record {
@@ -224,11 +224,11 @@ kept-ticked m is settled =
 
 -- ---- the end of a segment
 
-pub kept-ended : (m : Overlap) → IsKept m → IsSome m.closing → IsKept (ended m)
-unfolding ended
+pub kept-ended : (m : Overlap) → IsKept m → IsSome m.closing → IsKept (machine_after_segment m)
+unfolding machine_after_segment
 kept-ended m is some =
     let fresh = fresh-of m is some in
-    choice_by IsKept m.ended m (record m { front = opening (banks_left m.closing) (m.now + 1 + length (levels_of m)); ended = true })
+    choice_by IsKept m.ended m (record m { front = opening_front (banks_left m.closing) (m.now + 1 + length (levels_of m)); ended = true })
     (λ over. is)
     (λ going. record {
       some = is.some;
@@ -258,10 +258,10 @@ pub record IsEnded (m e : Overlap) : Type 0 where
   pub stopped : e.stopped ≡ m.stopped
   pub closing : e.closing ≡ m.closing
 
-pub ended-rest : (m : Overlap) → IsEnded m (ended m)
-unfolding ended
+pub ended-rest : (m : Overlap) → IsEnded m (machine_after_segment m)
+unfolding machine_after_segment
 ended-rest m =
-    choice_by (IsEnded m) m.ended m (record m { front = opening (banks_left m.closing) (m.now + 1 + length (levels_of m)); ended = true })
+    choice_by (IsEnded m) m.ended m (record m { front = opening_front (banks_left m.closing) (m.now + 1 + length (levels_of m)); ended = true })
     (λ over. record {
       delays = refl;
       levels = refl;
@@ -313,8 +313,8 @@ kept-stopped m is = record {
 -- ---- a settle
 
 -- the tick is over
-kept-passed : (m : Overlap) → 1 ≤ m.levels → m.levels ≤ 8 → AreDelays 255 m.delays → IsMachine m.state → m.taken ≡ interrupt m.state
-    → rests m.state ≡ false → m.now ≤ m.front.c → IsKept (passed m)
+kept-passed : (m : Overlap) → 1 ≤ m.levels → m.levels ≤ 8 → AreDelaysUpTo 255 m.delays → IsMachine m.state → m.taken ≡ interrupt m.state
+    → rests m.state ≡ false → m.now ≤ m.front.c → IsKept (machine_after_pass m)
 kept-passed m some few delays machine table awake late =
     let below : IfSome m.taken (λ i. i < 64) = subst (λ t. IfSome t (λ i. i < 64)) (sym table) (interrupt-below m.state) in
     record {
@@ -341,24 +341,24 @@ late-fresh m fresh false going = omega (arith, fresh.last going)
 
 -- the tick is over behind an entry that was done
 kept-passed_fresh : (m : Overlap) (t : Option ℕ) → IsKept m → IsSome m.closing → t ≡ interrupt m.state → rests m.state ≡ false
-    → IsKept (passed (record m { taken = t }))
+    → IsKept (machine_after_pass (record m { taken = t }))
 kept-passed_fresh m t is some table awake =
     kept-passed (record m { taken = t }) is.some is.few is.delays is.machine table awake (late-fresh m (fresh-of m is some) m.ended refl)
 
 -- the same in the state before the end of a segment
 kept-passed_ended : (m : Overlap) (t : Option ℕ) → IsKept m → IsSome m.closing → t ≡ interrupt m.state → rests m.state ≡ false
-    → IsKept (passed (record (ended m) { taken = t }))
+    → IsKept (machine_after_pass (record (machine_after_segment m) { taken = t }))
 kept-passed_ended m t is some table awake =
     let rest = ended-rest m in
-    kept-passed_fresh (ended m) t (kept-ended m is some) (subst IsSome (sym rest.closing) some) (table ∙ ap interrupt (sym rest.state))
+    kept-passed_fresh (machine_after_segment m) t (kept-ended m is some) (subst IsSome (sym rest.closing) some) (table ∙ ap interrupt (sym rest.state))
     (ap rests rest.state ∙ awake)
 
 none-due : (t p : Option ℕ) → (if is_none t then p else None) ≡ None → t ≡ None → p ≡ None
 none-due None p due none = due
 none-due (Some i) p due none = absurd (cc none)
 
-same-taken : (m : Overlap) (t : Option ℕ) → m.taken ≡ t → IsKept (passed (record m { taken = t })) → IsKept (passed m)
-same-taken m t same is = subst (λ i. IsKept (passed (record m { taken = i }))) (sym same) is
+same-taken : (m : Overlap) (t : Option ℕ) → m.taken ≡ t → IsKept (machine_after_pass (record m { taken = t })) → IsKept (machine_after_pass m)
+same-taken m t same is = subst (λ i. IsKept (machine_after_pass (record m { taken = i }))) (sym same) is
 
 settled-fresh : (due behind : Option ℕ) (resting : Bool) (m : Overlap) → IsKept m → IsSome m.closing → interrupt_due m ≡ due → rests m.state ≡ resting
     → IsKept (settled_by due resting behind m)
@@ -369,7 +369,7 @@ settled-fresh None behind true m is some due goes = kept-ended m is some
 settled-fresh None (Some h) false m is some due goes =
     let fresh = fresh-of m is some in
     let none : None ≡ interrupt m.state = sym (none-due m.taken (interrupt m.state) due fresh.none) in
-    same-taken (ended m) None ((ended-rest m).taken ∙ fresh.none) (kept-passed_ended m None is some none goes)
+    same-taken (machine_after_segment m) None ((ended-rest m).taken ∙ fresh.none) (kept-passed_ended m None is some none goes)
 settled-fresh None None false m is some due goes =
     let fresh = fresh-of m is some in
     let none : None ≡ interrupt m.state = sym (none-due m.taken (interrupt m.state) due fresh.none) in
@@ -383,11 +383,11 @@ quiet-by (Some i) p same = refl
 pub quiet : (m : Overlap) → IsIdle m → interrupt_due m ≡ None
 quiet m idle = quiet-by m.taken (interrupt m.state) idle.table
 
-pub settled-idle_is : (m : Overlap) → IsIdle m → settled m ≡ passed m
-unfolding settled
+pub settled-idle_is : (m : Overlap) → IsIdle m → machine_after_settling m ≡ machine_after_pass m
+unfolding machine_after_settling
 settled-idle_is m idle = rw (quiet m idle, idle.awake, idle.right) refl
 
-settled-idle : (m : Overlap) → IsKept m → IsIdle m → m.owed ≡ true → IsKept (passed m)
+settled-idle : (m : Overlap) → IsKept m → IsIdle m → m.owed ≡ true → IsKept (machine_after_pass m)
 settled-idle m is idle owed =
     let made : ticks_made m ≡ m.now + 1 = made-owed m.owed m.now owed in
     record {
@@ -411,8 +411,8 @@ pub closing-cases : (c : Option LastAnswers) → (c ≡ None) ⊎ IsSome c
 closing-cases None = inl refl
 closing-cases (Some banks) = inr refl
 
-pub kept-settled : (m : Overlap) → IsKept m → m.owed ≡ true → IsKept (settled m)
-unfolding settled
+pub kept-settled : (m : Overlap) → IsKept m → m.owed ≡ true → IsKept (machine_after_settling m)
+unfolding machine_after_settling
 kept-settled m is owed = elim (closing-cases m.closing) [
   | inl none ↦ let idle : IsIdle m = subst (λ c. IsPhase c m) none is.phase in subst IsKept (sym (settled-idle_is m idle)) (settled-idle m is idle owed)
   | inr some ↦ settled-fresh (interrupt_due m) m.behind (rests m.state) m is some refl refl
@@ -445,7 +445,7 @@ kept-unstarted m i is settled first =
     let idle = both.1 in
     let off = idle.unstarted settled first in
     let s = m.state in
-    let u = signalled s i in
+    let u = state_with_signal s i in
     let table : m.taken ≡ interrupt u =
     idle.table ∙ off-interrupt s.enabled (pending s) off.0 ∙ sym (off-interrupt s.enabled (pending u) off.0) in
     let made : ticks_made m ≡ 0 = made-settled m.owed m.now settled ∙ first in
@@ -469,7 +469,7 @@ kept-unstarted m i is settled first =
 pub kept-signalled : (m : Overlap) (i : ℕ) → IsKept m → MaySignal m → IsKept (signalled_by i m)
 kept-signalled m i is may = elim may.0 [
   | inl first ↦ kept-unstarted m i is first.0 first.1
-  | inr done ↦ kept-changed m (signalled m.state i) is done.1 (signalled-machine m.state i is.machine)
+  | inr done ↦ kept-changed m (state_with_signal m.state i) is done.1 (signalled-machine m.state i is.machine)
 ]
 
 pub kept-read : (m : Overlap) (order : Order) (card : Option (List ℕ)) → IsKept m → m.state.reader ≡ Some order → IfSome card IsCard → MayServe m
@@ -478,7 +478,7 @@ kept-read m order None is given fits may =
     kept-changed m (read_in m.state order.word None) is may.1 (order-machine m.state order None is.machine given fits)
 kept-read m order (Some card) is given fits may =
     let rest = ended-rest m in
-    kept-changed (ended m) (read_in m.state order.word (Some card)) (kept-ended m is may.1) (subst IsSome (sym rest.closing) may.1)
+    kept-changed (machine_after_segment m) (read_in m.state order.word (Some card)) (kept-ended m is may.1) (subst IsSome (sym rest.closing) may.1)
     (order-machine m.state order (Some card) is.machine given fits)
 
 -- ---- the whole
@@ -490,7 +490,7 @@ kept (Settles m made since from owed stands) = kept-settled m (kept from) owed
 kept (Signals m made since i from known may) = kept-signalled m i (kept from) may
 kept (Reads m made since order card from given fits may) = kept-read m order card (kept from) given fits may
 kept (Prints m made since from given may) = kept-changed m (printed_out m.state) (kept from) may.1 (printed-machine m.state (kept from).machine)
-kept (Stops m made since from may) = kept-stopped (ended m) (kept-ended m (kept from) may.1)
+kept (Stops m made since from may) = kept-stopped (machine_after_segment m) (kept-ended m (kept from) may.1)
 
 -- a run in which no settle is owed has not ended
 settled_by-stopped : (due behind : Option ℕ) (resting : Bool) (m : Overlap) → (settled_by due resting behind m).stopped ≡ m.stopped
@@ -499,17 +499,17 @@ settled_by-stopped None behind true m = (ended-rest m).stopped
 settled_by-stopped None (Some h) false m = (ended-rest m).stopped
 settled_by-stopped None None false m = refl
 
-pub settled-stopped : (m : Overlap) → (settled m).stopped ≡ m.stopped
-unfolding settled
+pub settled-stopped : (m : Overlap) → (machine_after_settling m).stopped ≡ m.stopped
+unfolding machine_after_settling
 settled-stopped m = settled_by-stopped (interrupt_due m) m.behind (rests m.state) m
 
-pub ticked-stopped : (m : Overlap) → (ticked m).stopped ≡ m.stopped
-unfolding ticked completed
-ticked-stopped m = choice_by (λ (x : Overlap). x.stopped ≡ m.stopped) (is_done m) (completed m) (record m { owed = true; closing = None }) (λ done. refl) (λ later. refl)
+pub ticked-stopped : (m : Overlap) → (machine_after_tick m).stopped ≡ m.stopped
+unfolding machine_after_tick machine_after_completion
+ticked-stopped m = choice_by (λ (x : Overlap). x.stopped ≡ m.stopped) (is_done m) (machine_after_completion m) (record m { owed = true; closing = None }) (λ done. refl) (λ later. refl)
 
-ticked-owes : (m : Overlap) → (ticked m).owed ≡ true
-unfolding ticked completed
-ticked-owes m = choice_by (λ (x : Overlap). x.owed ≡ true) (is_done m) (completed m) (record m { owed = true; closing = None }) (λ done. refl) (λ later. refl)
+ticked-owes : (m : Overlap) → (machine_after_tick m).owed ≡ true
+unfolding machine_after_tick machine_after_completion
+ticked-owes m = choice_by (λ (x : Overlap). x.owed ≡ true) (is_done m) (machine_after_completion m) (record m { owed = true; closing = None }) (λ done. refl) (λ later. refl)
 
 read-stopped : (w : ℕ) (card : Option (List ℕ)) (m : Overlap) → (read_in_by w card m).stopped ≡ m.stopped
 read-stopped w None m = refl

@@ -2,7 +2,7 @@
 use Rattle.std.specs.Prelude.{if◌then◌else◌}
 use Rattle.std.proofs.Common.{◌≡◌, ℕ, zero, suc, ◌+◌, ◌-◌, ◌<◌, ◌≤◌, ◌^◌, false, None, Some, refl, sym, subst, ◌∙◌, ap, arith}
 use Rattle.st_ahead.specs.Overlap.{Overlap}
-use Rattle.st_ahead.specs.Calls.{is_done, ticked, ended, settled}
+use Rattle.st_ahead.specs.Calls.{is_done, machine_after_tick, machine_after_segment, machine_after_settling}
 use Rattle.st_ahead.specs.RunTo.{after_ticks, ArePassed, RunsTo}
 use Rattle.st_ahead.specs.declared.events.Row.{Row}
 use Rattle.st_ahead.proofs.Passing.{ticked-owed, passed-keeps, passed-now}
@@ -42,9 +42,9 @@ led-by zero count made since m new from owes few soon most are =
 led-by (suc k) count made since m new from owes few soon most are =
     let keeps = passed-keeps count m (are.each 0 (omega arith)) most few in
     let tick = Ticks m made since from (record { settled = owes; tick = omega arith; done = few }) in
-    let next = Settles (ticked m) (made + 1) (if is_done m then 0 else since + 1) tick (ticked-owed m)
+    let next = Settles (machine_after_tick m) (made + 1) (if is_done m then 0 else since + 1) tick (ticked-owed m)
     (ticked-stopped m ∙ stands-settled from owes) in
-    let rest = led-by k count (made + 1) (if is_done m then 0 else since + 1) (settled (ticked m)) new next keeps.0 keeps.2
+    let rest = led-by k count (made + 1) (if is_done m then 0 else since + 1) (machine_after_settling (machine_after_tick m)) new next keeps.0 keeps.2
     (omega (arith, keeps.1, soon)) most (record { each = λ i before. are.each (suc i) (omega (arith, before)); after = are.after }) in
     let same : made + 1 + k ≡ made + suc k = omega arith in
     record {
@@ -69,8 +69,8 @@ done-reached m new made since count last row from may most soon ran =
     let same : made + ran.ticks + 1 ≡ row.c + 1 = omega (arith, all, at, row_c) in
     let none : (if is_done ran.before then 0 else led.led.since + 1) ≡ 0 = rw ran.done refl in
     subst {A = Overlap} (λ x. IsReached x (row.c + 1) 0) (sym ran.after)
-    (subst {A = ℕ} (λ k. IsReached (ticked ran.before) k 0) same
-    (subst {A = ℕ} (λ k. IsReached (ticked ran.before) (made + ran.ticks + 1) k) none ticks))
+    (subst {A = ℕ} (λ k. IsReached (machine_after_tick ran.before) k 0) same
+    (subst {A = ℕ} (λ k. IsReached (machine_after_tick ran.before) (made + ran.ticks + 1) k) none ticks))
 
 passed-led : (m new : Overlap) (made since count last : ℕ) → IsReached m made since → MayTick m →
     count ≤ 2 ^ 63 → last < 2 ^ 63 → RunsTo count last None m new → IsLedTo (made + (last + 1 - m.now)) new
@@ -118,7 +118,7 @@ pub openings_follow : OpeningsFollow
 openings_follow = record {
   end = stands-ended;
   again = ended-again;
-  stop = λ m j o changes is. stands-stopped (ended m) j o changes is;
+  stop = λ m j o changes is. stands-stopped (machine_after_segment m) j o changes is;
   last = λ m made since from over may. cc (sym over ∙ stands-settled from may.settled);
   interrupt = λ m made since i d ic k o xs from owed is stands. stands-interrupt m i d ic k o xs is stands;
   missed = λ m made since k o xs from owed is stands. stands-missed m k o xs owed is stands;

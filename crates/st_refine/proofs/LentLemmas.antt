@@ -11,9 +11,9 @@ use Rattle.st_prep.specs.FewWords.{is_transmission}
 use Rattle.st_prep.specs.Plan.{plan}
 use Rattle.st_prep.specs.declared.entries.Prepared.{Prepared}
 use Rattle.st_exec.specs.Completion.{guess}
-use Rattle.st_rows.specs.Rows.{row, after, fills}
+use Rattle.st_rows.specs.Rows.{row_of_entry, front_after_entry, fills}
 use Rattle.st_rows.specs.declared.front.Front.{Front}
-use Rattle.st_ring.specs.Unwinding.{made, Kept, unwound}
+use Rattle.st_ring.specs.Unwinding.{index_words_after, Kept, unwound}
 use Rattle.st_ring.specs.declared.level.Level.{Level}
 use Rattle.st_ring.proofs.Unwindings.{made-undone}
 use Rattle.st_segment.specs.Entries.{entry}
@@ -21,12 +21,12 @@ use Rattle.st_segment.specs.Alone.{RunAhead}
 use Rattle.st_segment.specs.Guesses.{guesses, table_behind, split_words}
 use Rattle.st_segment.specs.Ahead.{Ahead, next_ahead, ahead, front_behind}
 use Rattle.st_segment.proofs.GuessLemmas.{behind-none}
-use Rattle.st_levels.specs.Slots.{fill_tick, is_there, slot_of, slots_of, IsKept as IsSlotKept}
+use Rattle.st_levels.specs.Slots.{fill_tick, is_there, slot_of, slots_of, IsKeptSlot as IsSlotKept}
 use Rattle.st_levels.specs.Levels.{AreLevels}
 use Rattle.st_levels.specs.declared.plans.Plan.{Plan}
 use Rattle.st_levels.proofs.UndoLemmas.{levels-keep}
-use Rattle.st_ahead.specs.Overlap.{Overlap, seen, oldest_row, levels_of, last_tick}
-use Rattle.st_ahead.specs.Shown.{IsLevelOf, AreLevelsOf, index_of, shown}
+use Rattle.st_ahead.specs.Overlap.{Overlap, state_ahead, oldest_row, levels_of, last_tick_made}
+use Rattle.st_ahead.specs.Shown.{IsLevelOf, AreLevelsOf, lent_index_words, view_at_tick}
 use Rattle.st_refine.specs.Reached.{IsReached}
 use Rattle.st_refine.specs.Refined.{state_before, table_before, front_before, fills_at}
 use Rattle.st_refine.proofs.LevelLists.{done-behind, most-ahead}
@@ -39,10 +39,10 @@ pub ring-count : (m : Overlap) (ring : List Level) → AreLevelsOf m ring → le
 ring-count m ring are = sym (AllZip-long _ ring (levels_of m) are)
 
 ring-are : (m : Overlap) (ring : List Level) → AreLevelsOf m ring
-    → AllZip (IsLevelOf m.delays m.levels (last_tick m)) ring (ahead m.delays m.levels (length ring) m.taken (seen m) m.front)
+    → AllZip (IsLevelOf m.delays m.levels (last_tick_made m)) ring (ahead m.delays m.levels (length ring) m.taken (state_ahead m) m.front)
 ring-are m ring are =
-    subst (λ (xs : List Ahead). AllZip (IsLevelOf m.delays m.levels (last_tick m)) ring xs)
-    (levels-are m ∙ ap (λ k. ahead m.delays m.levels k m.taken (seen m) m.front) (sym (ring-count m ring are))) are
+    subst (λ (xs : List Ahead). AllZip (IsLevelOf m.delays m.levels (last_tick_made m)) ring xs)
+    (levels-are m ∙ ap (λ k. ahead m.delays m.levels k m.taken (state_ahead m) m.front) (sym (ring-count m ring are))) are
 
 level-at : (ds : List ℕ) (n tick k j : ℕ) (t : Option ℕ) (s : Machine) (f : Front) (ring : List Level) (level : Level)
     → AllZip (IsLevelOf ds n tick) ring (ahead ds n j t s f) → slice_get ring k ≡ Some level
@@ -54,15 +54,15 @@ level-at ds n tick k (suc j) t s f [] level are there = absurd are
 level-at ds n tick zero (suc j) t s f (x ∷ xs) level are there = let same : x ≡ level = cc there in subst (λ l. IsLevelOf ds n tick l (next_ahead ds n t s f)) same are.0
 level-at ds n tick (suc k) (suc j) t s f (x ∷ xs) level are there =
     let u = guess t s in
-    let g = after ds n f (entry t s) in
+    let g = front_after_entry ds n f (entry t s) in
     subst (λ i. IsLevelOf ds n tick level (next_ahead ds n i (guesses k None u) (front_behind ds n k None u g))) (behind-none k)
     (level-at ds n tick k j None u g xs level are.1 there)
 
 pub ring-level : (m : Overlap) (ring : List Level) (level : Level) (k : ℕ) → AreLevelsOf m ring → slice_get ring k ≡ Some level
-    → IsLevelOf m.delays m.levels (last_tick m) level
+    → IsLevelOf m.delays m.levels (last_tick_made m) level
     (next_ahead m.delays m.levels (table_before k m) (state_before k m) (front_before k m))
 ring-level m ring level k are there =
-    level-at m.delays m.levels (last_tick m) k (length ring) m.taken (seen m) m.front ring level (ring-are m ring are) there
+    level-at m.delays m.levels (last_tick_made m) k (length ring) m.taken (state_ahead m) m.front ring level (ring-are m ring are) there
 
 -- ---- the slots
 
@@ -92,7 +92,7 @@ ring-word m ring level k slot w are there has =
     let is = ring-level m ring level k are there in
     let s = state_before k m in
     subst (λ (p : Prepared). (slot < p.reads.len) × (w ≡ word s (p.reads.first + slot))) (sym is.prepared)
-    (slots-word (fills_at k m) (plan s (table_before k m)) s (last_tick m) slot w
+    (slots-word (fills_at k m) (plan s (table_before k m)) s (last_tick_made m) slot w
     (ap (λ (xs : List (Option ℕ)). slice_index_or xs slot None) (sym is.have) ∙ has))
 
 some-if : (a b c : Bool) (x : ℕ) → a ≡ false → b ≡ true → is_some (if not a && b && c then Some x else None) ≡ c
@@ -122,16 +122,16 @@ IsSlot slot ticks tick have p =
     ≡ (nat_lt (p.reads.first + slot) FIRST_STORAGE_WORD || nat_le (fill_tick ticks p (p.reads.first + slot)) tick)
 
 pub ring-slot : (m : Overlap) (ring : List Level) (level : Level) (k slot : ℕ) → AreLevelsOf m ring → slice_get ring k ≡ Some level
-    → slot < 2 → IsSlot slot (fills_at k m) (shown m).tick level.have level.prepared
+    → slot < 2 → IsSlot slot (fills_at k m) (view_at_tick m).tick level.have level.prepared
 ring-slot m ring level k slot are there two =
     let is = ring-level m ring level k are there in
     let s = state_before k m in
     let p = plan s (table_before k m) in
     let ticks = fills_at k m in
     subst (λ (tick : ℕ). IsSlot slot ticks tick level.have level.prepared) (sym (shown-last m))
-    (subst (λ (q : Prepared). IsSlot slot ticks (last_tick m) level.have q) (sym is.prepared)
-    (subst (λ (xs : List (Option ℕ)). IsSlot slot ticks (last_tick m) xs p) (sym is.have)
-    (λ free few. slots-there ticks p s (last_tick m) slot free few two)))
+    (subst (λ (q : Prepared). IsSlot slot ticks (last_tick_made m) level.have q) (sym is.prepared)
+    (subst (λ (xs : List (Option ℕ)). IsSlot slot ticks (last_tick_made m) xs p) (sym is.have)
+    (λ free few. slots-there ticks p s (last_tick_made m) slot free few two)))
 
 -- ---- undoing
 
@@ -139,9 +139,9 @@ ring-slot m ring level k slot are there two =
 rows_of : List ℕ → ℕ → ℕ → Option ℕ → Machine → Front → List Plan
 rows_of ds n zero t s f = []
 rows_of ds n (suc k) t s f =
-    let r = row ds n f (entry t s) in
+    let r = row_of_entry ds n f (entry t s) in
     record { front = record { marker = record {}; value = f }; r = r.r; c = r.c; fills = fills ds n f (entry t s) }
-    ∷ rows_of ds n k None (guess t s) (after ds n f (entry t s))
+    ∷ rows_of ds n k None (guess t s) (front_after_entry ds n f (entry t s))
 
 -- a slot that has its word keeps it
 kept-full : (there : Option ℕ) → IsSlotKept there there
@@ -163,7 +163,7 @@ levels-from ds n tick t s f (x ∷ xs) are = (
     c = refl;
     fills = refl;
   },
-  levels-from ds n tick None (guess t s) (after ds n f (entry t s)) xs are.1,
+  levels-from ds n tick None (guess t s) (front_after_entry ds n f (entry t s)) xs are.1,
 )
 
 -- the oldest entry is not done before the tick
@@ -175,34 +175,34 @@ pub oldest-late : (m : Overlap) → IsKept m → m.now ≤ (oldest_row m).c
 unfolding oldest_row
 oldest-late m is = elim (closing-cases m.closing) [
   | inl none ↦ let idle : IsIdle m = subst (λ c. IsPhase c m) none is.phase in omega (arith, row-idle m idle, idle.early, made-late m.owed m.now)
-  | inr some ↦ omega (arith, late-fresh m (fresh-of m is some) m.ended refl, done-behind m.delays m.levels m.taken (seen m) m.front (seen-machine m is) is.indicator)
+  | inr some ↦ omega (arith, late-fresh m (fresh-of m is some) m.ended refl, done-behind m.delays m.levels m.taken (state_ahead m) m.front (seen-machine m is) is.indicator)
 ]
   where
     made-late : (owed : Bool) (now : ℕ) → now ≤ (if owed then now + 1 else now)
     made-late true now = omega arith
     made-late false now = omega arith
 
-pub run-levels : (m : Overlap) → IsKept m → RunAhead (length (levels_of m) - 1) m.taken (seen m)
+pub run-levels : (m : Overlap) → IsKept m → RunAhead (length (levels_of m) - 1) m.taken (state_ahead m)
 unfolding levels_of oldest_row
 run-levels m is =
-    most-ahead m.delays m.levels _ m.now m.levels m.taken (seen m) m.front (seen-machine m is) is.indicator (oldest-late m is) refl
+    most-ahead m.delays m.levels _ m.now m.levels m.taken (state_ahead m) m.front (seen-machine m is) is.indicator (oldest-late m is) refl
 
-index-is : (m : Overlap) (k : ℕ) → k ≡ length (levels_of m) → split_words k m.taken (seen m) ≡ index_of m
-unfolding index_of
-index-is m k same = ap (λ j. split_words j m.taken (seen m)) same
+index-is : (m : Overlap) (k : ℕ) → k ≡ length (levels_of m) → split_words k m.taken (state_ahead m) ≡ lent_index_words m
+unfolding lent_index_words
+index-is m k same = ap (λ j. split_words j m.taken (state_ahead m)) same
 
 pub ring-undone : (m : Overlap) (ticks since : ℕ) (ring : List Level) → IsReached m ticks since → AreLevelsOf m ring
-    → Kept (index_words m.state) ring × (made (index_words m.state) ring ≡ index_of m) × (unwound (index_of m) ring ≡ index_words m.state)
+    → Kept (index_words m.state) ring × (index_words_after (index_words m.state) ring ≡ lent_index_words m) × (unwound (lent_index_words m) ring ≡ index_words m.state)
 ring-undone m ticks since ring from are =
     let is = kept from in
     let many = ring-count m ring are in
-    let run = subst (λ k. RunAhead (k - 1) m.taken (seen m)) (sym many) (run-levels m is) in
-    let levels = levels-from m.delays m.levels (last_tick m) m.taken (seen m) m.front ring (ring-are m ring are) in
-    let keep = levels-keep m.delays m.levels (last_tick m) m.taken (seen m) m.front _ ring _ (index_words m.state)
+    let run = subst (λ k. RunAhead (k - 1) m.taken (state_ahead m)) (sym many) (run-levels m is) in
+    let levels = levels-from m.delays m.levels (last_tick_made m) m.taken (state_ahead m) m.front ring (ring-are m ring are) in
+    let keep = levels-keep m.delays m.levels (last_tick_made m) m.taken (state_ahead m) m.front _ ring _ (index_words m.state)
     (seen-machine m is) is.indicator levels run (sym (seen-index m)) in
-    let whole : made (index_words m.state) ring ≡ index_of m = keep.1 ∙ index-is m (length ring) many in
+    let whole : index_words_after (index_words m.state) ring ≡ lent_index_words m = keep.1 ∙ index-is m (length ring) many in
     (keep.0, whole, ap (λ (x : List ℕ). unwound x ring) (sym whole) ∙ made-undone (index_words m.state) ring keep.0)
 
-pub index-shown : (m : Overlap) → index_of m ≡ (shown m).x
-unfolding shown
+pub index-shown : (m : Overlap) → lent_index_words m ≡ (view_at_tick m).x
+unfolding view_at_tick
 index-shown m = refl

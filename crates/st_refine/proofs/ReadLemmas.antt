@@ -6,10 +6,10 @@ use Rattle.std.proofs.lemmas.Bool.{ltb-false}
 use Rattle.st_state.specs.Machine.{Machine}
 use Rattle.st_exec.specs.Completion.{guess}
 use Rattle.st_banks.specs.declared.answers.LastAnswers.{LastAnswers}
-use Rattle.st_rows.specs.Asked.{Read, asked, fetches_asked, data_of, served, after_one, made_before}
+use Rattle.st_rows.specs.Asked.{Read, reads_of_entry, fetches_asked, data_of, bus_after_reads, after_one, made_before}
 use Rattle.st_rows.specs.BusTimes.{accept_at}
-use Rattle.st_rows.specs.Notes.{logged, note}
-use Rattle.st_rows.specs.Rows.{row, after, wanted_from, addressed, prepared, operands, tick_a, tick_p}
+use Rattle.st_rows.specs.Notes.{notes_of_reads, note}
+use Rattle.st_rows.specs.Rows.{row_of_entry, front_after_entry, wanted_from, address_tick, preparation_tick, operands, tick_a, tick_p}
 use Rattle.st_rows.specs.declared.bus.Bus.{Bus}
 use Rattle.st_rows.specs.declared.entry.Entry.{Entry}
 use Rattle.st_rows.specs.declared.front.Front.{Front}
@@ -22,8 +22,8 @@ use Rattle.st_segment.specs.Guesses.{table_behind}
 use Rattle.st_segment.specs.Ahead.{ahead, reads_before}
 use Rattle.st_ahead.specs.Look.{asked_ahead}
 use Rattle.st_ahead.specs.Overlap.{Overlap}
-use Rattle.st_refine.specs.Laws.{AreFirst}
-use Rattle.st_refine.specs.Openings.{Opening, Outside, StandsAt, state_after, front_after, reads_after, banks_behind, reads_of_segment}
+use Rattle.st_refine.specs.Laws.{AreFirstReads}
+use Rattle.st_refine.specs.Openings.{Opening, Outside, StandsAt, state_after, front_at, reads_after, banks_behind, reads_of_segment}
 use Rattle.st_refine.specs.Reached.{IsReached}
 use Rattle.st_refine.proofs.Kept.{fresh-of, kept}
 
@@ -31,23 +31,23 @@ use Rattle.st_refine.proofs.Kept.{fresh-of, kept}
 
 module _ (ds : List ℕ) (t : ℕ) where
   -- on a bus that is free at a tick or later nothing is accepted before
-  late-logged : (reads : List Read) (b : Bus) → t ≤ b.free → All (λ (m : Made). t ≤ m.tick) (logged ds reads b)
-  unfolding logged
+  late-logged : (reads : List Read) (b : Bus) → t ≤ b.free → All (λ (m : Made). t ≤ m.tick) (notes_of_reads ds reads b)
+  unfolding notes_of_reads
   late-logged [] b free = All-nil (λ (m : Made). t ≤ m.tick)
   late-logged (r ∷ reads) b free =
       let here : t ≤ accept_at b r.w r.want = omega (arith, free) in
-      All-append (λ (m : Made). t ≤ m.tick) (logged ds reads (after_one ds b r)) (note b r ∷ [])
+      All-append (λ (m : Made). t ≤ m.tick) (notes_of_reads ds reads (after_one ds b r)) (note b r ∷ [])
       (late-logged reads (after_one ds b r) (omega (arith, here, free-one ds b r)))
       (All-cons (λ (m : Made). t ≤ m.tick) (note b r) [] here (All-nil (λ (m : Made). t ≤ m.tick)))
 
   -- the first reads, and the bus behind them
   pub record Splits (reads : List Read) (b : Bus) : Type 0 where
     pub first : List Read
-    pub are : AreFirst ds t reads b first
-    pub made : made_before ds t reads b ≡ served ds first b
+    pub are : AreFirstReads ds t reads b first
+    pub made : made_before ds t reads b ≡ bus_after_reads ds first b
 
   pub split : (reads : List Read) (b : Bus) → Splits reads b
-  unfolding made_before served logged
+  unfolding made_before bus_after_reads notes_of_reads
   split [] b = record {
     first = [];
     are = record { others = []; order = refl; early = All-nil (λ (m : Made). m.tick < t); late = All-nil (λ (m : Made). t ≤ m.tick) };
@@ -62,7 +62,7 @@ module _ (ds : List ℕ) (t : ℕ) where
             others = rest.are.others;
             order = ap (λ xs. r ∷ xs) rest.are.order;
             early =
-                All-append (λ (m : Made). m.tick < t) (logged ds rest.first (after_one ds b r)) (note b r ∷ []) rest.are.early
+                All-append (λ (m : Made). m.tick < t) (notes_of_reads ds rest.first (after_one ds b r)) (note b r ∷ []) rest.are.early
                 (All-cons (λ (m : Made). m.tick < t) (note b r) [] early.1 (All-nil (λ (m : Made). m.tick < t)));
             late = rest.are.late;
           };
@@ -75,7 +75,7 @@ module _ (ds : List ℕ) (t : ℕ) where
             order = refl;
             early = All-nil (λ (m : Made). m.tick < t);
             late =
-                All-append (λ (m : Made). t ≤ m.tick) (logged ds reads (after_one ds b r)) (note b r ∷ [])
+                All-append (λ (m : Made). t ≤ m.tick) (notes_of_reads ds reads (after_one ds b r)) (note b r ∷ [])
                 (late-logged reads (after_one ds b r) (omega (arith, late.1, free-one ds b r)))
                 (All-cons (λ (m : Made). t ≤ m.tick) (note b r) [] late.1 (All-nil (λ (m : Made). t ≤ m.tick)));
           };
@@ -97,14 +97,14 @@ wanted-late t f late = by f.serial
     by false = late
 
 address-behind : (ds : List ℕ) (n : ℕ) (f : Front) (e : Entry) → f.p < tick_a ds f e
-unfolding tick_a addressed
+unfolding tick_a address_tick
 address-behind ds n f e = omega arith
 
-prepared-behind : (ds : List ℕ) (n : ℕ) (f : Front) (e : Entry) → f.p < (row ds n f e).p
-unfolding row
+prepared-behind : (ds : List ℕ) (n : ℕ) (f : Front) (e : Entry) → f.p < (row_of_entry ds n f e).p
+unfolding row_of_entry
 prepared-behind ds n f e = omega (arith, address-behind ds n f e, a-p ds n f e)
 
-asked-late : (ds : List ℕ) (n t : ℕ) (f : Front) (e : Entry) → t ≤ f.p → All (λ (r : Read). t ≤ r.want) (asked ds n f e)
+asked-late : (ds : List ℕ) (n t : ℕ) (f : Front) (e : Entry) → t ≤ f.p → All (λ (r : Read). t ≤ r.want) (reads_of_entry ds n f e)
 asked-late ds n t f e late =
     let P : Read → Type 0 = λ (r : Read). t ≤ r.want in
     let want : t ≤ wanted_from f = wanted-late t f late in
@@ -119,71 +119,71 @@ asked-late ds n t f e late =
     (All-append P (fetches_asked ds f e) (data_of ds n f e) fetches others)
 
 ahead-late : (ds : List ℕ) (n t k : ℕ) (i : Option ℕ) (s : Machine) (f : Front) → t ≤ f.p → All (λ (r : Read). t ≤ r.want) (asked_ahead ds n k i s f)
-unfolding asked_ahead after row
+unfolding asked_ahead front_after_entry row_of_entry
 ahead-late ds n t zero i s f late = All-nil (λ (r : Read). t ≤ r.want)
 ahead-late ds n t (suc k) i s f late =
     let e = entry i s in
-    All-append (λ (r : Read). t ≤ r.want) (asked ds n f e) (asked_ahead ds n k None (guess i s) (after ds n f e)) (asked-late ds n t f e late)
-    (ahead-late ds n t k None (guess i s) (after ds n f e) (omega (arith, late, prepared-behind ds n f e)))
+    All-append (λ (r : Read). t ≤ r.want) (reads_of_entry ds n f e) (asked_ahead ds n k None (guess i s) (front_after_entry ds n f e)) (asked-late ds n t f e late)
+    (ahead-late ds n t k None (guess i s) (front_after_entry ds n f e) (omega (arith, late, prepared-behind ds n f e)))
 
-behind-late : (ds : List ℕ) (n t k : ℕ) (i : Option ℕ) (s : Machine) (f : Front) → t ≤ (row ds n f (entry i s)).p
-    → All (λ (r : Read). t ≤ r.want) (asked_ahead ds n k None (guess i s) (after ds n f (entry i s)))
-unfolding after row
-behind-late ds n t k i s f late = ahead-late ds n t k None (guess i s) (after ds n f (entry i s)) late
+behind-late : (ds : List ℕ) (n t k : ℕ) (i : Option ℕ) (s : Machine) (f : Front) → t ≤ (row_of_entry ds n f (entry i s)).p
+    → All (λ (r : Read). t ≤ r.want) (asked_ahead ds n k None (guess i s) (front_after_entry ds n f (entry i s)))
+unfolding front_after_entry row_of_entry
+behind-late ds n t k i s f late = ahead-late ds n t k None (guess i s) (front_after_entry ds n f (entry i s)) late
 
 -- those of entries behind the first one that is not prepared before the tick change nothing of what is made before it
 ahead-made : (ds : List ℕ) (n t k : ℕ) (i : Option ℕ) (s : Machine) (f : Front) (front : List Read) (b : Bus)
     → made_before ds t (front ++ reads_before ds n t (ahead ds n k i s f)) b ≡ made_before ds t (front ++ asked_ahead ds n k i s f) b
 unfolding ahead reads_before asked_ahead
 ahead-made ds n t zero i s f front b = refl
-ahead-made ds n t (suc k) i s f front b = by (nat_lt (row ds n f (entry i s)).p t) refl (ahead-made ds n t k None (guess i s) (after ds n f (entry i s)) (front ++ asked ds n f (entry i s)) b)
+ahead-made ds n t (suc k) i s f front b = by (nat_lt (row_of_entry ds n f (entry i s)).p t) refl (ahead-made ds n t k None (guess i s) (front_after_entry ds n f (entry i s)) (front ++ reads_of_entry ds n f (entry i s)) b)
   where
-    by : (early : Bool) → nat_lt (row ds n f (entry i s)).p t ≡ early
-        → made_before ds t ((front ++ asked ds n f (entry i s)) ++ reads_before ds n t (ahead ds n k None (guess i s) (after ds n f (entry i s)))) b
-        ≡ made_before ds t ((front ++ asked ds n f (entry i s)) ++ asked_ahead ds n k None (guess i s) (after ds n f (entry i s))) b
-        → made_before ds t (front ++ (asked ds n f (entry i s)
-        ++ (if early then reads_before ds n t (ahead ds n k None (guess i s) (after ds n f (entry i s))) else []))) b
-        ≡ made_before ds t (front ++ (asked ds n f (entry i s) ++ asked_ahead ds n k None (guess i s) (after ds n f (entry i s)))) b
+    by : (early : Bool) → nat_lt (row_of_entry ds n f (entry i s)).p t ≡ early
+        → made_before ds t ((front ++ reads_of_entry ds n f (entry i s)) ++ reads_before ds n t (ahead ds n k None (guess i s) (front_after_entry ds n f (entry i s)))) b
+        ≡ made_before ds t ((front ++ reads_of_entry ds n f (entry i s)) ++ asked_ahead ds n k None (guess i s) (front_after_entry ds n f (entry i s))) b
+        → made_before ds t (front ++ (reads_of_entry ds n f (entry i s)
+        ++ (if early then reads_before ds n t (ahead ds n k None (guess i s) (front_after_entry ds n f (entry i s))) else []))) b
+        ≡ made_before ds t (front ++ (reads_of_entry ds n f (entry i s) ++ asked_ahead ds n k None (guess i s) (front_after_entry ds n f (entry i s)))) b
     by true is rest =
-        ap (λ xs. made_before ds t xs b) (sym (append_assoc front (asked ds n f (entry i s)) (reads_before ds n t (ahead ds n k None (guess i s) (after ds n f (entry i s))))))
+        ap (λ xs. made_before ds t xs b) (sym (append_assoc front (reads_of_entry ds n f (entry i s)) (reads_before ds n t (ahead ds n k None (guess i s) (front_after_entry ds n f (entry i s))))))
         ∙ rest
-        ∙ ap (λ xs. made_before ds t xs b) (append_assoc front (asked ds n f (entry i s)) (asked_ahead ds n k None (guess i s) (after ds n f (entry i s))))
+        ∙ ap (λ xs. made_before ds t xs b) (append_assoc front (reads_of_entry ds n f (entry i s)) (asked_ahead ds n k None (guess i s) (front_after_entry ds n f (entry i s))))
     by false is rest =
-        let more = asked_ahead ds n k None (guess i s) (after ds n f (entry i s)) in
-        let late : t ≤ (row ds n f (entry i s)).p = ltb-false (row ds n f (entry i s)).p t is in
-        ap (λ xs. made_before ds t (front ++ xs) b) (append-nil (asked ds n f (entry i s)))
-        ∙ sym (made-more ds t (front ++ asked ds n f (entry i s)) more b (behind-late ds n t k i s f late))
-        ∙ ap (λ xs. made_before ds t xs b) (append_assoc front (asked ds n f (entry i s)) more)
+        let more = asked_ahead ds n k None (guess i s) (front_after_entry ds n f (entry i s)) in
+        let late : t ≤ (row_of_entry ds n f (entry i s)).p = ltb-false (row_of_entry ds n f (entry i s)).p t is in
+        ap (λ xs. made_before ds t (front ++ xs) b) (append-nil (reads_of_entry ds n f (entry i s)))
+        ∙ sym (made-more ds t (front ++ reads_of_entry ds n f (entry i s)) more b (behind-late ds n t k i s f late))
+        ∙ ap (λ xs. made_before ds t xs b) (append_assoc front (reads_of_entry ds n f (entry i s)) more)
 
 -- ---- the banks where an entry is done
 
 banks-first : (ds : List ℕ) (n : ℕ) (o : Opening) (xs : List Outside) (j : ℕ)
-    → banks_behind ds n o xs (suc j) ≡ (made_before ds (front_after ds n o xs (suc j)).c (reads_of_segment ds n o xs j) o.front.bus).banks
-unfolding banks_behind reads_of_segment reads_after front_after after row
+    → banks_behind ds n o xs (suc j) ≡ (made_before ds (front_at ds n o xs (suc j)).c (reads_of_segment ds n o xs j) o.front.bus).banks
+unfolding banks_behind reads_of_segment reads_after front_at front_after_entry row_of_entry
 banks-first ds n o xs j =
     let s = state_after o xs j in
     let t = table_behind j o.table in
-    let f = front_after ds n o xs j in
+    let f = front_at ds n o xs j in
     let e = entry t s in
-    let c = (row ds n f e).c in
+    let c = (row_of_entry ds n f e).c in
     let first = reads_after ds n o xs j in
-    let more = asked_ahead ds n (suc n) None (guess t s) (after ds n f e) in
+    let more = asked_ahead ds n (suc n) None (guess t s) (front_after_entry ds n f e) in
     ap (λ (ys : List Read). (made_before ds c ys o.front.bus).banks)
-    (sym (append_assoc first (asked ds n f e) (reads_before ds n c (ahead ds n (suc n) None (guess t s) (after ds n f e)))))
-    ∙ ap (λ (b : Bus). b.banks) (ahead-made ds n c (suc n) None (guess t s) (after ds n f e) (first ++ asked ds n f e) o.front.bus)
+    (sym (append_assoc first (reads_of_entry ds n f e) (reads_before ds n c (ahead ds n (suc n) None (guess t s) (front_after_entry ds n f e)))))
+    ∙ ap (λ (b : Bus). b.banks) (ahead-made ds n c (suc n) None (guess t s) (front_after_entry ds n f e) (first ++ reads_of_entry ds n f e) o.front.bus)
 
 pub have-first : (m : Overlap) (made since j : ℕ) (o : Opening) (xs : List Outside) → IsReached m made since → StandsAt o xs (suc j) m → m.ended ≡ false
-    → IfSome m.closing (λ banks. (first : List Read) × AreFirst m.delays m.now (reads_of_segment m.delays m.levels o xs j) o.front.bus first
-    × (banks ≡ (served m.delays first o.front.bus).banks))
+    → IfSome m.closing (λ banks. (first : List Read) × AreFirstReads m.delays m.now (reads_of_segment m.delays m.levels o xs j) o.front.bus first
+    × (banks ≡ (bus_after_reads m.delays first o.front.bus).banks))
 have-first m made since j o xs from is going = by m.closing refl (is.banks going)
   where
     by : (c : Option LastAnswers) → m.closing ≡ c → IfSome c (λ b. b ≡ banks_behind m.delays m.levels o xs (suc j))
-        → IfSome c (λ banks. (first : List Read) × AreFirst m.delays m.now (reads_of_segment m.delays m.levels o xs j) o.front.bus first
-        × (banks ≡ (served m.delays first o.front.bus).banks))
+        → IfSome c (λ banks. (first : List Read) × AreFirstReads m.delays m.now (reads_of_segment m.delays m.levels o xs j) o.front.bus first
+        × (banks ≡ (bus_after_reads m.delays first o.front.bus).banks))
     by None none same = tt
     by (Some banks) some same =
         let fresh = fresh-of m (kept from) (rw some refl) in
-        let at : (front_after m.delays m.levels o xs (suc j)).c ≡ m.now = ap (λ (f : Front). f.c) (sym is.front) ∙ fresh.last going in
+        let at : (front_at m.delays m.levels o xs (suc j)).c ≡ m.now = ap (λ (f : Front). f.c) (sym is.front) ∙ fresh.last going in
         let parts = split m.delays m.now (reads_of_segment m.delays m.levels o xs j) o.front.bus in (
           parts.first,
           parts.are,

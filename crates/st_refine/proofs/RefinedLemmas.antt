@@ -5,18 +5,18 @@ use Rattle.std.proofs.lemmas.Bool.{eqb-true}
 use Rattle.st_state.specs.Machine.{Machine}
 use Rattle.st_prep.specs.Fetch.{address_by}
 use Rattle.st_prep.specs.Plan.{plan}
-use Rattle.st_exec.specs.Completion.{executed, guess, is_missed}
+use Rattle.st_exec.specs.Completion.{state_after_execution, guess, is_missed}
 use Rattle.st_exec.specs.Step.{interrupt, rests, step, address}
 use Rattle.st_exec.specs.Transfer.{read_in}
 use Rattle.st_exec.proofs.StepLemmas.{step-done}
-use Rattle.st_rows.specs.Rows.{row, opening, after}
+use Rattle.st_rows.specs.Rows.{row_of_entry, opening_front, front_after_entry}
 use Rattle.st_segment.specs.Entries.{entry}
 use Rattle.st_segment.specs.Guesses.{guesses}
 use Rattle.st_segment.specs.Ahead.{next_ahead, ahead, prepared_before, front_behind}
 use Rattle.st_segment.proofs.StepLemmas.{guess-right, guess-missed}
-use Rattle.st_ahead.specs.Overlap.{Overlap, started, seen, with_counter, oldest_row, levels_of, interrupt_due}
-use Rattle.st_ahead.specs.Calls.{is_done, row_done, missed_counter, completed, ticked, dropped, banks_left, ended, run_ended, passed, settled, settled_by, answer, answer_by, read_in_by, dropped_by, MayServe}
-use Rattle.st_ahead.specs.Shown.{shown}
+use Rattle.st_ahead.specs.Overlap.{Overlap, machine_at_start, state_ahead, with_counter, oldest_row, levels_of, interrupt_due}
+use Rattle.st_ahead.specs.Calls.{is_done, row_done, missed_counter, machine_after_completion, machine_after_tick, drop_count, banks_left, machine_after_segment, run_ended, machine_after_pass, machine_after_settling, settled_by, answer, answer_by, read_in_by, dropped_by, MayServe}
+use Rattle.st_ahead.specs.Shown.{view_at_tick}
 use Rattle.st_ahead.specs.declared.events.Settled.TheVariants.{Goes, Interrupt, Missed, Waits}
 use Rattle.st_ahead.proofs.Settling.{due-taken}
 use Rattle.st_ahead.proofs.Standing.{guess-seen}
@@ -28,60 +28,60 @@ use Rattle.st_refine.proofs.SplitLemmas.{plan-address, shown-none}
 
 -- ---- a tick
 
-ticked-done : (m : Overlap) → is_done m ≡ true → ticked m ≡ completed m
-unfolding ticked
-ticked-done m done = ap (λ b. if b then completed m else record m { owed = true; closing = None }) done
+ticked-done : (m : Overlap) → is_done m ≡ true → machine_after_tick m ≡ machine_after_completion m
+unfolding machine_after_tick
+ticked-done m done = ap (λ b. if b then machine_after_completion m else record m { owed = true; closing = None }) done
 
-ticked-passed : (m : Overlap) → is_done m ≡ false → ticked m ≡ record m { owed = true; closing = None }
-unfolding ticked
-ticked-passed m passed_by = ap (λ b. if b then completed m else record m { owed = true; closing = None }) passed_by
+ticked-passed : (m : Overlap) → is_done m ≡ false → machine_after_tick m ≡ record m { owed = true; closing = None }
+unfolding machine_after_tick
+ticked-passed m passed_by = ap (λ b. if b then machine_after_completion m else record m { owed = true; closing = None }) passed_by
 
-completed-state : (m : Overlap) → (completed m).state ≡ executed m.taken m.state
-unfolding completed
+completed-state : (m : Overlap) → (machine_after_completion m).state ≡ state_after_execution m.taken m.state
+unfolding machine_after_completion
 completed-state m = refl
 
-completed-tick : (m : Overlap) → (shown (completed m)).tick ≡ m.now
-unfolding completed shown
+completed-tick : (m : Overlap) → (view_at_tick (machine_after_completion m)).tick ≡ m.now
+unfolding machine_after_completion view_at_tick
 completed-tick m = refl
 
-completed-behind : (m : Overlap) → (completed m).behind ≡ missed_counter m
-unfolding completed
+completed-behind : (m : Overlap) → (machine_after_completion m).behind ≡ missed_counter m
+unfolding machine_after_completion
 completed-behind m = refl
 
 pub table-is : (m : Overlap) (made since : ℕ) → IsReached m made since → m.owed ≡ false → m.taken ≡ interrupt m.state
 table-is m made since from settled = (idle-of m (kept from) settled).1.table
 
-pub tick-state : (m : Overlap) (made since : ℕ) → IsReached m made since → MayTick m → is_done m ≡ true → (ticked m).state ≡ step m.state
+pub tick-state : (m : Overlap) (made since : ℕ) → IsReached m made since → MayTick m → is_done m ≡ true → (machine_after_tick m).state ≡ step m.state
 unfolding step
 tick-state m made since from may done =
     ap (λ (x : Overlap). x.state) (ticked-done m done) ∙ completed-state m
-    ∙ ap (λ t. executed t m.state) (table-is m made since from may.settled)
+    ∙ ap (λ t. state_after_execution t m.state) (table-is m made since from may.settled)
 
 -- the levels behind the oldest one
 completed-levels : (m : Overlap) → IsKept m → IsIdle m → is_done m ≡ true
-    → levels_of m ≡ next_ahead m.delays m.levels m.taken m.state m.front ∷ levels_of (completed m)
-unfolding levels_of completed seen oldest_row
+    → levels_of m ≡ next_ahead m.delays m.levels m.taken m.state m.front ∷ levels_of (machine_after_completion m)
+unfolding levels_of machine_after_completion state_ahead oldest_row
 completed-levels m is idle done =
     let ds = m.delays in
     let n = m.levels in
     let t = m.taken in
     let s = m.state in
-    let same : seen m ≡ s = seen-idle m idle.going idle.right in
-    let g = after ds n m.front (entry t s) in
-    let due : (row ds n m.front (entry t s)).c ≡ m.now =
-    ap (λ u. (row ds n m.front (entry t u)).c) (sym same) ∙ eqb-true (row ds n m.front (entry t (seen m))).c m.now done in
-    let next : with_counter (missed_counter m) (executed t s) ≡ guess t s =
-    guess-seen t s (executed t s) (is_missed (plan s t) s) (missed_counter m) refl refl refl
+    let same : state_ahead m ≡ s = seen-idle m idle.going idle.right in
+    let g = front_after_entry ds n m.front (entry t s) in
+    let due : (row_of_entry ds n m.front (entry t s)).c ≡ m.now =
+    ap (λ u. (row_of_entry ds n m.front (entry t u)).c) (sym same) ∙ eqb-true (row_of_entry ds n m.front (entry t (state_ahead m))).c m.now done in
+    let next : with_counter (missed_counter m) (state_after_execution t s) ≡ guess t s =
+    guess-seen t s (state_after_execution t s) (is_missed (plan s t) s) (missed_counter m) refl refl refl
     (guess-right t s is.machine is.indicator) (guess-missed t s is.machine is.indicator) in
     ap (λ u. prepared_before m.now (ahead ds n n t u m.front)) same
     ∙ done-levels ds n m.now t s m.front is.machine is.indicator is.some is.few due
     ∙ ap (λ u. next_ahead ds n t s m.front ∷ prepared_before m.now (ahead ds n n None u g)) (sym next)
-    ∙ ap (λ u. next_ahead ds n t s m.front ∷ prepared_before m.now (ahead ds n n None (with_counter (missed_counter m) (executed t s)) (after ds n m.front (entry t u)))) (sym same)
+    ∙ ap (λ u. next_ahead ds n t s m.front ∷ prepared_before m.now (ahead ds n n None (with_counter (missed_counter m) (state_after_execution t s)) (front_after_entry ds n m.front (entry t u)))) (sym same)
     ∙ ap (λ b. next_ahead ds n t s m.front ∷ prepared_before m.now (ahead ds n n None
-    (if b then executed t s else with_counter (missed_counter m) (executed t s)) (after ds n m.front (entry t (seen m))))) (sym idle.going)
+    (if b then state_after_execution t s else with_counter (missed_counter m) (state_after_execution t s)) (front_after_entry ds n m.front (entry t (state_ahead m))))) (sym idle.going)
 
 pub tick-oldest : (m : Overlap) (made since : ℕ) → IsReached m made since → MayTick m → is_done m ≡ true
-    → levels_of m ≡ next_ahead m.delays m.levels m.taken m.state m.front ∷ levels_of (ticked m)
+    → levels_of m ≡ next_ahead m.delays m.levels m.taken m.state m.front ∷ levels_of (machine_after_tick m)
 tick-oldest m made since from may done =
     let is = kept from in
     completed-levels m is (idle-of m is may.settled).1 done
@@ -92,11 +92,11 @@ unfolding address
 address-is t s table = plan-address s t ∙ ap (λ i. address_by i s) table
 
 pub tick-row : (m : Overlap) (made since : ℕ) → IsReached m made since → MayTick m → is_done m ≡ true
-    → ((row_done m).number ≡ (step m.state).done) × ((row_done m).address ≡ address m.state) × ((row_done m).c ≡ (shown (ticked m)).tick)
+    → ((row_done m).number ≡ (step m.state).done) × ((row_done m).address ≡ address m.state) × ((row_done m).c ≡ (view_at_tick (machine_after_tick m)).tick)
 tick-row m made since from may done = (
   sym (step-done m.state),
   address-is m.taken m.state (table-is m made since from may.settled),
-  sym (completed-tick m) ∙ ap (λ (x : Overlap). (shown x).tick) (sym (ticked-done m done)),
+  sym (completed-tick m) ∙ ap (λ (x : Overlap). (view_at_tick x).tick) (sym (ticked-done m done)),
 )
 
 pub tick-times : (m : Overlap) → is_done m ≡ true
@@ -104,14 +104,14 @@ pub tick-times : (m : Overlap) → is_done m ≡ true
 unfolding oldest_row front_behind guesses
 tick-times m done = (refl, refl, sym (eqb-true (oldest_row m).c m.now done))
 
-pub tick-missed : (m : Overlap) → is_done m ≡ true → (ticked m).behind ≡ missed_counter m
+pub tick-missed : (m : Overlap) → is_done m ≡ true → (machine_after_tick m).behind ≡ missed_counter m
 tick-missed m done = ap (λ (x : Overlap). x.behind) (ticked-done m done) ∙ completed-behind m
 
 passed-levels : (m : Overlap) → levels_of (record m { owed = true; closing = None }) ≡ levels_of m
-unfolding levels_of seen
+unfolding levels_of state_ahead
 passed-levels m = refl
 
-pub tick-passed : (m : Overlap) → is_done m ≡ false → ((ticked m).state ≡ m.state) × (levels_of (ticked m) ≡ levels_of m)
+pub tick-passed : (m : Overlap) → is_done m ≡ false → ((machine_after_tick m).state ≡ m.state) × (levels_of (machine_after_tick m) ≡ levels_of m)
 tick-passed m later = (
   ap (λ (x : Overlap). x.state) (ticked-passed m later),
   ap levels_of (ticked-passed m later) ∙ passed-levels m,
@@ -128,22 +128,22 @@ goes-by None None false m is = (refl, refl, refl)
 
 -- an interrupt, with what it tells
 pub taken-by : (due behind : Option ℕ) (resting : Bool) (m : Overlap) (i d ic k : ℕ) → answer_by due resting behind m ≡ Interrupt i d ic k
-    → (due ≡ Some i) × (d ≡ m.state.done) × (ic ≡ m.state.ic) × (k ≡ dropped m)
+    → (due ≡ Some i) × (d ≡ m.state.done) × (ic ≡ m.state.ic) × (k ≡ drop_count m)
 taken-by (Some j) behind resting m i d ic k is =
     let a : j ≡ i = cc is in
     let b : m.state.done ≡ d = cc is in
     let e : m.state.ic ≡ ic = cc is in
-    let f : dropped m ≡ k = cc is in
+    let f : drop_count m ≡ k = cc is in
     (ap (λ x. Some x) a, sym b, sym e, sym f)
 taken-by None behind true m i d ic k is = absurd (cc is)
 taken-by None (Some h) false m i d ic k is = absurd (cc is)
 taken-by None None false m i d ic k is = absurd (cc is)
 
 pub missed-by : (due behind : Option ℕ) (resting : Bool) (m : Overlap) (k : ℕ) → answer_by due resting behind m ≡ Missed k
-    → (due ≡ None) × (resting ≡ false) × IsSome behind × (k ≡ dropped m)
+    → (due ≡ None) × (resting ≡ false) × IsSome behind × (k ≡ drop_count m)
 missed-by (Some j) behind resting m k is = absurd (cc is)
 missed-by None behind true m k is = absurd (cc is)
-missed-by None (Some h) false m k is = let f : dropped m ≡ k = cc is in (refl, refl, refl, sym f)
+missed-by None (Some h) false m k is = let f : drop_count m ≡ k = cc is in (refl, refl, refl, sym f)
 missed-by None None false m k is = absurd (cc is)
 
 pub waits-by : (due behind : Option ℕ) (resting : Bool) (m : Overlap) → answer_by due resting behind m ≡ Waits → (due ≡ None) × (resting ≡ true)
@@ -154,12 +154,12 @@ waits-by None None false m is = absurd (cc is)
 
 -- ---- it goes on
 
-pub settled-goes : (m : Overlap) → (interrupt_due m ≡ None) × (rests m.state ≡ false) × (m.behind ≡ None) → settled m ≡ passed m
-unfolding settled
+pub settled-goes : (m : Overlap) → (interrupt_due m ≡ None) × (rests m.state ≡ false) × (m.behind ≡ None) → machine_after_settling m ≡ machine_after_pass m
+unfolding machine_after_settling
 settled-goes m why = rw (why.0, why.1, why.2) refl
 
-passed-more : (m : Overlap) → m.behind ≡ None → AddsOneAtMost (levels_of m) (levels_of (passed m))
-unfolding levels_of seen
+passed-more : (m : Overlap) → m.behind ≡ None → AddsOneAtMost (levels_of m) (levels_of (machine_after_pass m))
+unfolding levels_of state_ahead
 passed-more m right =
     let new = prepared_before (m.now + 1) (ahead m.delays m.levels m.levels m.taken m.state m.front) in
     subst (λ s. AddsOneAtMost (prepared_before m.now (ahead m.delays m.levels m.levels m.taken s m.front)) new) (same m.ended m.behind right)
@@ -170,7 +170,7 @@ passed-more m right =
     same false None none = refl
     same false (Some h) none = absurd (cc none)
 
-pub goes-more : (m : Overlap) → answer m ≡ Goes → AddsOneAtMost (levels_of m) (levels_of (settled m))
+pub goes-more : (m : Overlap) → answer m ≡ Goes → AddsOneAtMost (levels_of m) (levels_of (machine_after_settling m))
 unfolding answer
 goes-more m is =
     let why = goes-by (interrupt_due m) m.behind (rests m.state) m is in
@@ -181,30 +181,30 @@ goes-more m is =
 -- no level is left where the front lies behind the tick
 pub empty-levels : (m : Overlap) → m.now ≤ m.front.p + 2 → levels_of m ≡ []
 unfolding levels_of
-empty-levels m early = none-before m.delays m.levels m.now m.levels m.taken (seen m) m.front early
+empty-levels m early = none-before m.delays m.levels m.now m.levels m.taken (state_ahead m) m.front early
 
 unwound-by : (m : Overlap) → m.now ≤ m.front.p + 2 → IsUnwound m
 unwound-by m early =
     let none = empty-levels m early in
     record { levels = none; index = shown-none m (ap length none) }
 
-ended-late : (m : Overlap) → IsKept m → IsSome m.closing → m.now + 1 ≤ (ended m).front.p
+ended-late : (m : Overlap) → IsKept m → IsSome m.closing → m.now + 1 ≤ (machine_after_segment m).front.p
 ended-late m is some =
     let rest = ended-rest m in
-    let fresh = fresh-of (ended m) (kept-ended m is some) (subst IsSome (sym rest.closing) some) in
+    let fresh = fresh-of (machine_after_segment m) (kept-ended m is some) (subst IsSome (sym rest.closing) some) in
     omega (arith, rest.now, (fresh.start rest.ended).0)
 
-unwound-ended : (m : Overlap) → IsKept m → IsSome m.closing → IsUnwound (ended m)
-unwound-ended m is some = unwound-by (ended m) (omega (arith, (ended-rest m).now, ended-late m is some))
+unwound-ended : (m : Overlap) → IsKept m → IsSome m.closing → IsUnwound (machine_after_segment m)
+unwound-ended m is some = unwound-by (machine_after_segment m) (omega (arith, (ended-rest m).now, ended-late m is some))
 
 unwound-stopped : (m : Overlap) → IsKept m → IsSome m.closing → IsUnwound (run_ended m)
 unwound-stopped m is some = unwound-by (run_ended m) (omega (arith, (ended-rest m).now, ended-late m is some))
 
-unwound-passed : (m : Overlap) (t : Option ℕ) → IsKept m → IsSome m.closing → IsUnwound (passed (record (ended m) { taken = t }))
-unwound-passed m t is some = unwound-by (passed (record (ended m) { taken = t })) (omega (arith, (ended-rest m).now, ended-late m is some))
+unwound-passed : (m : Overlap) (t : Option ℕ) → IsKept m → IsSome m.closing → IsUnwound (machine_after_pass (record (machine_after_segment m) { taken = t }))
+unwound-passed m t is some = unwound-by (machine_after_pass (record (machine_after_segment m) { taken = t })) (omega (arith, (ended-rest m).now, ended-late m is some))
 
-dropped-is : (m : Overlap) → IsKept m → IsSome m.closing → dropped m ≡ length (levels_of m)
-unfolding dropped
+dropped-is : (m : Overlap) → IsKept m → IsSome m.closing → drop_count m ≡ length (levels_of m)
+unfolding drop_count
 dropped-is m is some =
     let fresh = fresh-of m is some in
     by-end m.ended (λ over. let none = empty-levels m (omega (arith, (fresh.start over).0)) in ap length none)
@@ -237,13 +237,13 @@ closing-rests m is resting = elim (closing-cases m.closing) [
   | inr some ↦ some
 ]
 
-pub settled-taken : (m : Overlap) (i : ℕ) → interrupt_due m ≡ Some i → settled m ≡ passed (record (ended m) { taken = Some i })
-unfolding settled
+pub settled-taken : (m : Overlap) (i : ℕ) → interrupt_due m ≡ Some i → machine_after_settling m ≡ machine_after_pass (record (machine_after_segment m) { taken = Some i })
+unfolding machine_after_settling
 settled-taken m i due = ap (λ t. settled_by t (rests m.state) m.behind m) due
 
 pub interrupt-unwinds : (m : Overlap) (made since i d ic k : ℕ) → IsReached m made since → m.owed ≡ true → answer m ≡ Interrupt i d ic k
-    → (interrupt m.state ≡ Some i) × (d ≡ m.state.done) × (ic ≡ m.state.ic) × (k ≡ length (levels_of m)) × ((settled m).taken ≡ Some i)
-    × IsUnwound (settled m)
+    → (interrupt m.state ≡ Some i) × (d ≡ m.state.done) × (ic ≡ m.state.ic) × (k ≡ length (levels_of m)) × ((machine_after_settling m).taken ≡ Some i)
+    × IsUnwound (machine_after_settling m)
 unfolding answer
 interrupt-unwinds m made since i d ic k from owed is =
     let kept_is = kept from in
@@ -259,46 +259,46 @@ interrupt-unwinds m made since i d ic k from owed is =
     )
 
 pub settled-missed : (m : Overlap) (behind : Option ℕ) → interrupt_due m ≡ None → rests m.state ≡ false → IsSome behind
-    → settled_by (interrupt_due m) (rests m.state) behind m ≡ passed (ended m)
+    → settled_by (interrupt_due m) (rests m.state) behind m ≡ machine_after_pass (machine_after_segment m)
 settled-missed m None due goes missed = absurd (cc missed)
 settled-missed m (Some h) due goes missed = rw (due, goes) refl
 
 pub missed-unwinds : (m : Overlap) (made since k : ℕ) → IsReached m made since → m.owed ≡ true → answer m ≡ Missed k
-    → (k ≡ length (levels_of m)) × IsUnwound (settled m)
-unfolding answer settled
+    → (k ≡ length (levels_of m)) × IsUnwound (machine_after_settling m)
+unfolding answer machine_after_settling
 missed-unwinds m made since k from owed is =
     let kept_is = kept from in
     let told = missed-by (interrupt_due m) m.behind (rests m.state) m k is in
     let some = closing-missed m kept_is told.2 in
     let after_it = settled-missed m m.behind told.0 told.1 told.2 in (
       told.3 ∙ dropped-is m kept_is some,
-      subst IsUnwound (sym after_it) (unwound-passed m (ended m).taken kept_is some),
+      subst IsUnwound (sym after_it) (unwound-passed m (machine_after_segment m).taken kept_is some),
     )
 
 pub waits-unwinds : (m : Overlap) (made since : ℕ) → IsReached m made since → m.owed ≡ true → answer m ≡ Waits
-    → (rests m.state ≡ true) × IsUnwound (settled m)
-unfolding answer settled
+    → (rests m.state ≡ true) × IsUnwound (machine_after_settling m)
+unfolding answer machine_after_settling
 waits-unwinds m made since from owed is =
     let kept_is = kept from in
     let told = waits-by (interrupt_due m) m.behind (rests m.state) m is in
     let some = closing-rests m kept_is told.1 in
-    let after_it : settled_by (interrupt_due m) (rests m.state) m.behind m ≡ ended m = rw (told.0, told.1) refl in
+    let after_it : settled_by (interrupt_due m) (rests m.state) m.behind m ≡ machine_after_segment m = rw (told.0, told.1) refl in
     (told.1, subst IsUnwound (sym after_it) (unwound-ended m kept_is some))
 
 -- where no entry was done at the tick, the segment has not ended before
-dropped-going : (m : Overlap) → m.ended ≡ false → dropped m ≡ length (levels_of m)
-unfolding dropped
+dropped-going : (m : Overlap) → m.ended ≡ false → drop_count m ≡ length (levels_of m)
+unfolding drop_count
 dropped-going m going =
     choice_by (λ k. k ≡ length (levels_of m)) m.ended 0 (length (levels_of m)) (λ over. absurd (cc (sym over ∙ going))) (λ on. refl)
 
 unwound-going : (m : Overlap) → m.ended ≡ false → IsUnwound (run_ended m)
-unfolding ended
+unfolding machine_after_segment
 unwound-going m going =
-    let m' = record m { front = opening (banks_left m.closing) (m.now + 1 + length (levels_of m)); ended = true } in
+    let m' = record m { front = opening_front (banks_left m.closing) (m.now + 1 + length (levels_of m)); ended = true } in
     choice_by (λ (x : Overlap). IsUnwound (record x { stopped = true })) m.ended m m' (λ over. absurd (cc (sym over ∙ going))) (λ on. unwound-by (record m' { stopped = true }) (omega arith))
 
 pub stop-unwinds : (m : Overlap) (made since : ℕ) → IsReached m made since → m.owed ≡ true
-    → ((run_ended m).state ≡ m.state) × (dropped m ≡ length (levels_of m)) × IsUnwound (run_ended m)
+    → ((run_ended m).state ≡ m.state) × (drop_count m ≡ length (levels_of m)) × IsUnwound (run_ended m)
 stop-unwinds m made since from owed =
     let is = kept from in
     elim (closing-cases m.closing) [
@@ -312,8 +312,8 @@ pub card-unwinds : (m : Overlap) (made since w : ℕ) (card : List ℕ) → IsRe
 card-unwinds m made since w card from may =
     let is = kept from in (
       dropped-is m is may.1,
-      unwound-by (record (ended m) { state = read_in m.state w (Some card) }) (omega (arith, (ended-rest m).now, ended-late m is may.1)),
+      unwound-by (record (machine_after_segment m) { state = read_in m.state w (Some card) }) (omega (arith, (ended-rest m).now, ended-late m is may.1)),
     )
 
-pub start-unwound : (ds : List ℕ) (n : ℕ) (s : Machine) → IsUnwound (started ds n s)
-start-unwound ds n s = unwound-by (started ds n s) (omega arith)
+pub start-unwound : (ds : List ℕ) (n : ℕ) (s : Machine) → IsUnwound (machine_at_start ds n s)
+start-unwound ds n s = unwound-by (machine_at_start ds n s) (omega arith)

@@ -2,17 +2,17 @@
 use Rattle.std.specs.Prelude.{if◌then◌else◌, ◌-◌}
 use Rattle.std.proofs.Common.{◌≡◌, ℕ, zero, suc, ◌+◌, ◌<◌, ◌≤◌, Bool, true, false, List, length, inl, inr, Option, refl, sym, subst, ◌∙◌, ap, ap₂, arith}
 use Rattle.st_state.specs.Machine.{Machine}
-use Rattle.st_rows.specs.Rows.{after, tick_c}
+use Rattle.st_rows.specs.Rows.{front_after_entry, tick_c}
 use Rattle.st_rows.specs.declared.entry.Entry.{Entry}
 use Rattle.st_rows.specs.declared.front.Front.{Front}
 use Rattle.st_segment.specs.Entries.{entry}
 use Rattle.st_segment.specs.Ahead.{ahead, prepared_before}
 use Rattle.st_segment.specs.Guesses.{table_behind}
 use Rattle.st_rows.proofs.MadeLemmas.{before-cases}
-use Rattle.st_ahead.specs.Overlap.{Overlap, seen, oldest_row, levels_of, last_tick}
+use Rattle.st_ahead.specs.Overlap.{Overlap, state_ahead, oldest_row, levels_of, last_tick_made}
 use Rattle.st_refine.specs.Reached.{IsReached}
 use Rattle.st_refine.specs.Refined.{row_of}
-use Rattle.st_refine.specs.Openings.{Opening, Outside, state_after, front_after, StandsAt}
+use Rattle.st_refine.specs.Openings.{Opening, Outside, state_after, front_at, StandsAt}
 use Rattle.st_refine.proofs.LevelLists.{done-behind, level-early, behind-late, level-later}
 use Rattle.st_refine.proofs.Kept.{IsIdle, IsPhase, IsKept, fresh-of, kept, row-idle, closing-cases}
 use Rattle.st_refine.proofs.SplitLemmas.{seen-machine}
@@ -20,27 +20,27 @@ use Rattle.st_refine.proofs.LentLemmas.{oldest-late, late-fresh}
 
 -- ---- entries that are done
 
-front-later : (ds : List ℕ) (n : ℕ) (f : Front) (e : Entry) → f.c ≤ (after ds n f e).c
-unfolding after tick_c
+front-later : (ds : List ℕ) (n : ℕ) (f : Front) (e : Entry) → f.c ≤ (front_after_entry ds n f e).c
+unfolding front_after_entry tick_c
 front-later ds n f e = omega arith
 
 fronts-rise : (ds : List ℕ) (n : ℕ) (o : Opening) (xs : List Outside) (i j : ℕ) → i ≤ j
-    → (front_after ds n o xs i).c ≤ (front_after ds n o xs j).c
-unfolding front_after
-fronts-rise ds n o xs i zero few = let same : i ≡ 0 = omega (arith, few) in subst (λ k. (front_after ds n o xs k).c ≤ o.front.c) (sym same) (omega arith)
+    → (front_at ds n o xs i).c ≤ (front_at ds n o xs j).c
+unfolding front_at
+fronts-rise ds n o xs i zero few = let same : i ≡ 0 = omega (arith, few) in subst (λ k. (front_at ds n o xs k).c ≤ o.front.c) (sym same) (omega arith)
 fronts-rise ds n o xs i (suc j) few =
-    let f = front_after ds n o xs j in
+    let f = front_at ds n o xs j in
     let later = front-later ds n f (entry (table_behind j o.table) (state_after o xs j)) in
     elim (before-cases i (suc j)) [
       | inl below ↦ let before = fronts-rise ds n o xs i j (omega (arith, below.1)) in omega (arith, before, later)
       | inr over ↦ let same : i ≡ suc j = omega (arith, over.1, few) in at-place i same
     ]
   where
-    at-place : (k : ℕ) → k ≡ suc j → (front_after ds n o xs k).c ≤ (front_after ds n o xs (suc j)).c
-    at-place k same = subst (λ l. (front_after ds n o xs k).c ≤ (front_after ds n o xs l).c) same (omega arith)
+    at-place : (k : ℕ) → k ≡ suc j → (front_at ds n o xs k).c ≤ (front_at ds n o xs (suc j)).c
+    at-place k same = subst (λ l. (front_at ds n o xs k).c ≤ (front_at ds n o xs l).c) same (omega arith)
 
 pub rows-done : (m : Overlap) (i j : ℕ) (o : Opening) (xs : List Outside) → StandsAt o xs j m → i < j
-    → (front_after m.delays m.levels o xs (suc i)).c ≤ last_tick m
+    → (front_at m.delays m.levels o xs (suc i)).c ≤ last_tick_made m
 rows-done m i j o xs is early =
     let some : 1 ≤ j = omega (arith, early) in
     omega (
@@ -61,10 +61,10 @@ last-now : (owed : Bool) (now : ℕ) → (if owed then now else now - 1) ≤ now
 last-now true now = omega arith
 last-now false now = omega arith
 
-oldest-behind : (m : Overlap) → IsKept m → last_tick m < (oldest_row m).c
+oldest-behind : (m : Overlap) → IsKept m → last_tick_made m < (oldest_row m).c
 unfolding oldest_row
 oldest-behind m is =
-    let behind = done-behind m.delays m.levels m.taken (seen m) m.front (seen-machine m is) is.indicator in
+    let behind = done-behind m.delays m.levels m.taken (state_ahead m) m.front (seen-machine m is) is.indicator in
     elim (closing-cases m.closing) [
       | inl none ↦ let idle : IsIdle m = subst (λ c. IsPhase c m) none is.phase in
           last-idle m.owed m.now _ m.front.c (omega (arith, row-idle m idle, idle.early)) behind
@@ -72,28 +72,28 @@ oldest-behind m is =
     ]
 
 pub levels-told : (m : Overlap) (made since k : ℕ) → IsReached m made since → k < length (levels_of m)
-    → ((row_of k m).p < m.now) × (last_tick m < (row_of k m).c)
+    → ((row_of k m).p < m.now) × (last_tick_made m < (row_of k m).c)
 unfolding levels_of oldest_row
 levels-told m made since k from few =
     let is = kept from in (
-      level-early m.delays m.levels k m.now m.levels m.taken (seen m) m.front few,
-      level-later m.delays m.levels k (last_tick m) m.taken (seen m) m.front (seen-machine m is) is.indicator (oldest-behind m is),
+      level-early m.delays m.levels k m.now m.levels m.taken (state_ahead m) m.front few,
+      level-later m.delays m.levels k (last_tick_made m) m.taken (state_ahead m) m.front (seen-machine m is) is.indicator (oldest-behind m is),
     )
 
 pub next-told : (m : Overlap) (made since : ℕ) → IsReached m made since
-    → (m.now ≤ (row_of (length (levels_of m)) m).p) × (last_tick m < (row_of (length (levels_of m)) m).c)
+    → (m.now ≤ (row_of (length (levels_of m)) m).p) × (last_tick_made m < (row_of (length (levels_of m)) m).c)
 unfolding levels_of oldest_row
 next-told m made since from =
     let is = kept from in (
-      behind-late m.delays m.levels _ m.now m.taken (seen m) m.front is.some is.few (oldest-late m is) refl,
-      level-later m.delays m.levels _ (last_tick m) m.taken (seen m) m.front (seen-machine m is) is.indicator (oldest-behind m is),
+      behind-late m.delays m.levels _ m.now m.taken (state_ahead m) m.front is.some is.few (oldest-late m is) refl,
+      level-later m.delays m.levels _ (last_tick_made m) m.taken (state_ahead m) m.front (seen-machine m is) is.indicator (oldest-behind m is),
     )
 
-pub levels-ahead : (m : Overlap) (j : ℕ) (o : Opening) (xs : List Outside) → StandsAt o xs j m → seen m ≡ m.state
+pub levels-ahead : (m : Overlap) (j : ℕ) (o : Opening) (xs : List Outside) → StandsAt o xs j m → state_ahead m ≡ m.state
     → levels_of m
-    ≡ prepared_before m.now (ahead m.delays m.levels m.levels (table_behind j o.table) (state_after o xs j) (front_after m.delays m.levels o xs j))
+    ≡ prepared_before m.now (ahead m.delays m.levels m.levels (table_behind j o.table) (state_after o xs j) (front_at m.delays m.levels o xs j))
 unfolding levels_of
 levels-ahead m j o xs is same =
     let at = λ (t : Option ℕ) (s : Machine) (f : Front). prepared_before m.now (ahead m.delays m.levels m.levels t s f) in
-    ap (λ t. at t (seen m) m.front) is.table
+    ap (λ t. at t (state_ahead m) m.front) is.table
     ∙ ap₂ (λ s f. at (table_behind j o.table) s f) (same ∙ is.state) is.front

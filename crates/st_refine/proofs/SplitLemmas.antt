@@ -4,7 +4,7 @@ use Rattle.std.proofs.Common.{◌≡◌, ℕ, zero, suc, ◌+◌, ◌<◌, ◌�
 use Rattle.std.proofs.lemmas.List.{length-append, length-map, length-replicate}
 use Rattle.st_state.specs.Machine.{Machine, IsMachine, word}
 use Rattle.st_prep.specs.Fetch.{address_by, index_words, place_of}
-use Rattle.st_prep.specs.Plan.{plan, aim, sight, side_word, needs, prepared, prepared_by, suppressed, entry as entry_of}
+use Rattle.st_prep.specs.Plan.{plan, aim, sight, side_word, needs, prepared_entry, prepared_by, suppressed_entry, entry_at as entry_of}
 use Rattle.st_prep.specs.Ranges.{IsChange}
 use Rattle.st_prep.specs.declared.entries.Aim.{Aim}
 use Rattle.st_prep.specs.declared.entries.Place.{Place}
@@ -12,16 +12,16 @@ use Rattle.st_prep.specs.declared.entries.IndexChange.{IndexChange}
 use Rattle.st_prep.proofs.PlanLemmas.{plan-prepared}
 use Rattle.st_exec.specs.Completion.{guess}
 use Rattle.st_exec.proofs.AheadLemmas.{index-at}
-use Rattle.st_rows.specs.Rows.{after}
+use Rattle.st_rows.specs.Rows.{front_after_entry}
 use Rattle.st_rows.specs.declared.front.Front.{Front}
-use Rattle.st_ring.specs.Unwinding.{Keeps}
+use Rattle.st_ring.specs.Unwinding.{ChangeKeeps}
 use Rattle.st_segment.specs.Entries.{entry}
 use Rattle.st_segment.specs.Guesses.{guesses, table_behind, split_words}
 use Rattle.st_segment.specs.Ahead.{Ahead, next_ahead, ahead, front_behind}
 use Rattle.st_segment.proofs.GuessLemmas.{guesses-machine, behind-none, behind-indicator}
 use Rattle.st_levels.proofs.UndoLemmas.{plan-keeps}
-use Rattle.st_ahead.specs.Overlap.{Overlap, seen, with_counter, levels_of, last_tick}
-use Rattle.st_ahead.specs.Shown.{kept_by, level_shown, shown, index_of}
+use Rattle.st_ahead.specs.Overlap.{Overlap, state_ahead, with_counter, levels_of, last_tick_made}
+use Rattle.st_ahead.specs.Shown.{word_before_change, level_shown, view_at_tick, lent_index_words}
 use Rattle.st_ahead.specs.declared.events.LevelView.{LevelView}
 use Rattle.st_ahead.proofs.Settling.{counted-index}
 use Rattle.st_refine.specs.Reached.{IsReached}
@@ -43,16 +43,16 @@ counted-machine (Some h) s is below = record {
   printer_area = is.printer_area;
 }
 
-pub seen-machine : (m : Overlap) → IsKept m → IsMachine (seen m)
-unfolding seen
+pub seen-machine : (m : Overlap) → IsKept m → IsMachine (state_ahead m)
+unfolding state_ahead
 seen-machine m is = by-end m.ended
   where
     by-end : (b : Bool) → IsMachine (if b then m.state else with_counter m.behind m.state)
     by-end true = is.machine
     by-end false = counted-machine m.behind m.state is.machine is.counter
 
-pub seen-index : (m : Overlap) → index_words (seen m) ≡ index_words m.state
-unfolding seen
+pub seen-index : (m : Overlap) → index_words (state_ahead m) ≡ index_words m.state
+unfolding state_ahead
 seen-index m = by-end m.ended
   where
     by-end : (b : Bool) → index_words (if b then m.state else with_counter m.behind m.state) ≡ index_words m.state
@@ -64,39 +64,39 @@ seen-by : (over : Bool) (behind : Option ℕ) (h : ℕ) (s : Machine) → over �
 seen-by true behind h s going missed = absurd (cc going)
 seen-by false behind h s going missed = ap (λ c. with_counter c s) missed
 
-pub seen-missed : (m : Overlap) (h : ℕ) → m.ended ≡ false → m.behind ≡ Some h → seen m ≡ record m.state { ic = h }
-unfolding seen
+pub seen-missed : (m : Overlap) (h : ℕ) → m.ended ≡ false → m.behind ≡ Some h → state_ahead m ≡ record m.state { ic = h }
+unfolding state_ahead
 seen-missed m h going missed = seen-by m.ended m.behind h m.state going missed
 
-pub seen-ended : (m : Overlap) → m.ended ≡ true → seen m ≡ m.state
-unfolding seen
+pub seen-ended : (m : Overlap) → m.ended ≡ true → state_ahead m ≡ m.state
+unfolding state_ahead
 seen-ended m over = ap (λ b. if b then m.state else with_counter m.behind m.state) over
 
-pub seen-settled : (m : Overlap) (made since : ℕ) → IsReached m made since → m.owed ≡ false → seen m ≡ m.state
+pub seen-settled : (m : Overlap) (made since : ℕ) → IsReached m made since → m.owed ≡ false → state_ahead m ≡ m.state
 seen-settled m made since from settled =
     let idle = (idle-of m (kept from) settled).1 in
     seen-idle m idle.going idle.right
 
 -- ---- the whole of what is shown
 
-pub shown-done : (m : Overlap) → (shown m).done ≡ m.state.done
-unfolding shown
+pub shown-done : (m : Overlap) → (view_at_tick m).done ≡ m.state.done
+unfolding view_at_tick
 shown-done m = refl
 
 last-by : (owed : Bool) (now : ℕ) → (if owed then now else now - 1) ≡ (if owed then now + 1 else now) - 1
 last-by true now = omega arith
 last-by false now = refl
 
-pub shown-tick : (m : Overlap) (made since : ℕ) → IsReached m made since → (shown m).tick ≡ made - 1
-unfolding shown
+pub shown-tick : (m : Overlap) (made since : ℕ) → IsReached m made since → (view_at_tick m).tick ≡ made - 1
+unfolding view_at_tick
 shown-tick m made since from = last-by m.owed m.now ∙ ap (λ k. k - 1) (sym (made-ticks from))
 
-pub shown-last : (m : Overlap) → (shown m).tick ≡ last_tick m
-unfolding shown
+pub shown-last : (m : Overlap) → (view_at_tick m).tick ≡ last_tick_made m
+unfolding view_at_tick
 shown-last m = refl
 
-pub shown-index : (m : Overlap) → (shown m).x ≡ split_words (length (levels_of m)) m.taken (seen m)
-unfolding shown index_of
+pub shown-index : (m : Overlap) → (view_at_tick m).x ≡ split_words (length (levels_of m)) m.taken (state_ahead m)
+unfolding view_at_tick lent_index_words
 shown-index m = refl
 
 no-split : (k : ℕ) (t : Option ℕ) (s : Machine) → k ≡ 0 → split_words k t s ≡ index_words s
@@ -104,8 +104,8 @@ unfolding split_words
 no-split zero t s none = refl
 no-split (suc k) t s none = absurd (omega (arith, none))
 
-pub shown-none : (m : Overlap) → length (levels_of m) ≡ 0 → (shown m).x ≡ index_words m.state
-shown-none m none = shown-index m ∙ no-split (length (levels_of m)) m.taken (seen m) none ∙ seen-index m
+pub shown-none : (m : Overlap) → length (levels_of m) ≡ 0 → (view_at_tick m).x ≡ index_words m.state
+shown-none m none = shown-index m ∙ no-split (length (levels_of m)) m.taken (state_ahead m) none ∙ seen-index m
 
 -- ---- levels
 
@@ -120,7 +120,7 @@ at-place ds n tick k zero t s f rest few = absurd (omega (arith, few))
 at-place ds n tick zero (suc j) t s f rest few = refl
 at-place ds n tick (suc k) (suc j) t s f rest few =
     let u = guess t s in
-    let g = after ds n f (entry t s) in
+    let g = front_after_entry ds n f (entry t s) in
     at-place ds n tick k j None u g rest (omega (arith, few))
     ∙ ap (λ i. Some (level_shown tick (next_ahead ds n i (guesses k None u) (front_behind ds n k None u g)))) (behind-none k)
 
@@ -131,41 +131,41 @@ past-place tick (suc m) (suc k) [] few = past-place tick m k [] (omega arith)
 past-place tick m zero (x ∷ xs) few = absurd (omega (arith, few))
 past-place tick m (suc k) (x ∷ xs) few = past-place tick m k xs (omega (arith, few))
 
-pub shown-behind : (m : Overlap) (k : ℕ) → length (levels_of m) ≤ k → get_or (shown m).levels k None ≡ None
-unfolding shown
-shown-behind m k few = past-place (last_tick m) (8 - length (levels_of m)) k (levels_of m) few
+pub shown-behind : (m : Overlap) (k : ℕ) → length (levels_of m) ≤ k → get_or (view_at_tick m).levels k None ≡ None
+unfolding view_at_tick
+shown-behind m k few = past-place (last_tick_made m) (8 - length (levels_of m)) k (levels_of m) few
 
-pub shown-eight : (m : Overlap) (made since : ℕ) → IsReached m made since → length (shown m).levels ≡ 8
-unfolding shown
+pub shown-eight : (m : Overlap) (made since : ℕ) → IsReached m made since → length (view_at_tick m).levels ≡ 8
+unfolding view_at_tick
 shown-eight m made since from =
     let left = 8 - length (levels_of m) in
     let none : Option LevelView = None in
     omega (
       arith,
-      length-append (shows (last_tick m) (levels_of m)) (replicate left none),
-      length-map (levels_of m) (λ a. Some (level_shown (last_tick m) a)),
+      length-append (shows (last_tick_made m) (levels_of m)) (replicate left none),
+      length-map (levels_of m) (λ a. Some (level_shown (last_tick_made m) a)),
       length-replicate left none,
       levels-few m,
       (kept from).few,
     )
 
-pub levels-are : (m : Overlap) → levels_of m ≡ ahead m.delays m.levels (length (levels_of m)) m.taken (seen m) m.front
+pub levels-are : (m : Overlap) → levels_of m ≡ ahead m.delays m.levels (length (levels_of m)) m.taken (state_ahead m) m.front
 unfolding levels_of
-levels-are m = first-ones m.delays m.levels (length (levels_of m)) m.now m.levels m.taken (seen m) m.front refl
+levels-are m = first-ones m.delays m.levels (length (levels_of m)) m.now m.levels m.taken (state_ahead m) m.front refl
 
 -- an entry has its place, and keeps the index word that it replaces
 place-by : (fault : Option ℕ) (place : Place) (a : Aim) (x : List ℕ) (read : Option ℕ) → (prepared_by fault place a x read).place ≡ place
-unfolding suppressed entry_of
+unfolding suppressed_entry entry_of
 place-by None place a x read = refl
 place-by (Some i) place a x read = refl
 
 pub plan-address : (s : Machine) (t : Option ℕ) → (plan s t).place.address ≡ address_by t s
-unfolding plan prepared sight place_of
+unfolding plan prepared_entry sight place_of
 plan-address s t =
     let v = sight s (place_of s t) in
     ap (λ (p : Place). p.address) (place-by (aim v).fault v.place (aim v) v.x (side_word t s (needs v).index_read))
 
-kept-by : (c : Option IndexChange) (s : Machine) → Keeps (index_words s) c → IfSome c IsChange → kept_by c ≡ word_before c s
+kept-by : (c : Option IndexChange) (s : Machine) → ChangeKeeps (index_words s) c → IfSome c IsChange → word_before_change c ≡ word_before c s
 kept-by None s keeps is = refl
 kept-by (Some c) s keeps is = sym keeps ∙ index-at s c.number is.number
 
@@ -177,15 +177,15 @@ same-level : (address place p : ℕ) (ready : Bool) (index : Option ℕ) (kept w
 same-level address place p ready index kept word a b = rw (a, b) refl
 
 pub shown-level : (m : Overlap) (made since k : ℕ) → IsReached m made since → k < length (levels_of m)
-    → get_or (shown m).levels k None ≡ Some (level_seen (shown m).tick k m)
-unfolding shown
+    → get_or (view_at_tick m).levels k None ≡ Some (level_seen (view_at_tick m).tick k m)
+unfolding view_at_tick
 shown-level m made since k from few =
     let is = kept from in
     let s = state_before k m in
     let t = table_before k m in
-    let machine : IsMachine s = guesses-machine k m.taken (seen m) (seen-machine m is) is.indicator in
+    let machine : IsMachine s = guesses-machine k m.taken (state_ahead m) (seen-machine m is) is.indicator in
     let p = plan-prepared s t machine (behind-indicator k m.taken is.indicator) in
     let left = replicate (8 - length (levels_of m)) None in
-    ap (λ (xs : List Ahead). get_or (shows (last_tick m) xs ++ left) k None) (levels-are m)
-    ∙ at-place m.delays m.levels (last_tick m) k (length (levels_of m)) m.taken (seen m) m.front left few
+    ap (λ (xs : List Ahead). get_or (shows (last_tick_made m) xs ++ left) k None) (levels-are m)
+    ∙ at-place m.delays m.levels (last_tick_made m) k (length (levels_of m)) m.taken (state_ahead m) m.front left few
     ∙ same-level (address_by t s) (plan s t).place.address _ _ _ _ _ (plan-address s t) (kept-by (plan s t).index s (plan-keeps s t) p.change)

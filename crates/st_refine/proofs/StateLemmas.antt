@@ -5,8 +5,8 @@ use Rattle.std.proofs.lemmas.List.Elements.{All-head, All-tail}
 use Rattle.st_bits.specs.Storage.{words_of_storage, words_of_storage_is}
 use Rattle.st_bits.proofs.RegisterLaws.{fixed_below}
 use Rattle.st_bits.specs.Indicators.{indicator}
-use Rattle.st_state.specs.Machine.{Machine, IsMachine, HasArea, stored, word}
-use Rattle.st_state.specs.Interrupts.{signalled, turned}
+use Rattle.st_state.specs.Machine.{Machine, IsMachine, HasArea, state_with_store, word}
+use Rattle.st_state.specs.Interrupts.{state_with_signal, indicator_word}
 use Rattle.st_state.specs.declared.devices.Order.{Order}
 use Rattle.st_state.proofs.Kept.{is_machine-with_word}
 use Rattle.st_state.proofs.Turned.{turned_below}
@@ -15,9 +15,9 @@ use Rattle.st_exec.specs.Transfer.{all_stored, read_in, printed_out}
 use Rattle.st_exec.proofs.MachineKept.{kept-stored}
 use Rattle.st_refine.specs.Reached.{IsCard}
 
-pub signalled-machine : (s : Machine) (i : ℕ) → IsMachine s → IsMachine (signalled s i)
+pub signalled-machine : (s : Machine) (i : ℕ) → IsMachine s → IsMachine (state_with_signal s i)
 signalled-machine s i m =
-    let x = turned 64 (indicator i) 0 (word s 11) in
+    let x = indicator_word 64 (indicator i) 0 (word s 11) in
     is_machine-with_word s 11 x m (omega (arith, words_of_storage_is)) (turned_below 64 (indicator i) 0 (word s 11)) (fixed-indicators x)
 
 stored-machine : (s : Machine) (w : ℕ) (xs : List ℕ) → IsMachine s → w + length xs ≤ words_of_storage
@@ -25,7 +25,7 @@ stored-machine : (s : Machine) (w : ℕ) (xs : List ℕ) → IsMachine s → w +
 unfolding all_stored
 stored-machine s w [] m inside below = m
 stored-machine s w (x ∷ xs) m inside below =
-    stored-machine (stored s w x) (w + 1) xs
+    stored-machine (state_with_store s w x) (w + 1) xs
     (kept-stored s w x m (omega arith) (fixed_below w x (All-head (λ y. y < 2 ^ 64) x xs below)))
     (omega arith) (All-tail (λ y. y < 2 ^ 64) x xs below)
 

@@ -4,7 +4,7 @@ use Rattle.std.proofs.Common.{◌≡◌, ℕ, zero, suc, ◌<◌, ◌≤◌, Boo
 use Rattle.std.proofs.lemmas.Bool.{ltb-true}
 use Rattle.std.proofs.lemmas.List.{length-map}
 use Rattle.st_state.specs.Machine.{Machine, IsMachine}
-use Rattle.st_state.specs.Interrupts.{signalled}
+use Rattle.st_state.specs.Interrupts.{state_with_signal}
 use Rattle.st_prep.specs.Fetch.{index_words}
 use Rattle.st_prep.specs.Plan.{plan}
 use Rattle.st_prep.specs.BesideOrders.{AreAlikeBesideOrders}
@@ -12,10 +12,10 @@ use Rattle.st_prep.specs.declared.entries.Prepared.{Prepared}
 use Rattle.st_prep.proofs.BesideLemmas.{plan-beside_ahead}
 use Rattle.st_exec.specs.Completion.{guess}
 use Rattle.st_exec.proofs.BesideEntries.{beside-signalled}
-use Rattle.st_rows.specs.Rows.{row, after, tick_c}
+use Rattle.st_rows.specs.Rows.{row_of_entry, front_after_entry, tick_c}
 use Rattle.st_rows.specs.declared.entry.Entry.{Entry}
 use Rattle.st_rows.specs.declared.front.Front.{Front}
-use Rattle.st_rows.specs.declared.front.Row.{Row}
+use Rattle.st_rows.specs.declared.front.EntryTicks.{EntryTicks}
 use Rattle.st_segment.specs.Entries.{entry}
 use Rattle.st_segment.specs.Alone.{RunAhead}
 use Rattle.st_segment.specs.Guesses.{guesses, split_words}
@@ -23,9 +23,9 @@ use Rattle.st_segment.specs.Ahead.{Ahead, next_ahead, ahead, prepared_before}
 use Rattle.st_segment.proofs.GuessLemmas.{guess-machine}
 use Rattle.st_segment.proofs.SameReading.{same-index}
 use Rattle.st_segment.proofs.PassedOver.{entry-same, passed-over}
-use Rattle.st_ahead.specs.Overlap.{Overlap, seen, with_counter, levels_of, last_tick}
+use Rattle.st_ahead.specs.Overlap.{Overlap, state_ahead, with_counter, levels_of, last_tick_made}
 use Rattle.st_ahead.specs.Calls.{signalled_by, MaySignal}
-use Rattle.st_ahead.specs.Shown.{kept_by, level_shown, shown}
+use Rattle.st_ahead.specs.Shown.{word_before_change, level_shown, view_at_tick}
 use Rattle.st_ahead.specs.declared.events.LevelView.{LevelView}
 use Rattle.st_refine.specs.Reached.{IsReached}
 use Rattle.st_refine.specs.Refined.{IsStill}
@@ -44,17 +44,17 @@ guess-alike : (s u : Machine) → IsMachine s → AreAlikeBesideOrders s u → (
 unfolding guesses RunAhead
 guess-alike s u m alike free = (passed-over 1 s u m alike (free, tt)).1
 
-behind-later : (ds : List ℕ) (n now : ℕ) (f : Front) (e : Entry) → now ≤ f.c → now ≤ (after ds n f e).c
-unfolding after tick_c
+behind-later : (ds : List ℕ) (n now : ℕ) (f : Front) (e : Entry) → now ≤ f.c → now ≤ (front_after_entry ds n f e).c
+unfolding front_after_entry tick_c
 behind-later ds n now f e late = omega arith
 
 -- a level by its plan and its row
-abbrev level-by : ℕ → Prepared → Row → LevelView
+abbrev level-by : ℕ → Prepared → EntryTicks → LevelView
 level-by tick p r = record {
   address = p.place.address;
   p = r.p;
   index = option_map (λ c. c.number) p.index;
-  kept = kept_by p.index;
+  kept = word_before_change p.index;
   ready = nat_le r.r tick;
 }
 
@@ -72,20 +72,20 @@ run-if true x xs s run = run refl
 run-if false x xs s run = tt
 
 module _ (ds : List ℕ) (n now : ℕ) where
-  free-early : (s : Machine) (f : Front) → now ≤ f.c → nat_lt (row ds n f (entry None s)).p now ≡ true → (plan s None).serial ≡ false
+  free-early : (s : Machine) (f : Front) → now ≤ f.c → nat_lt (row_of_entry ds n f (entry None s)).p now ≡ true → (plan s None).serial ≡ false
   free-early s f late early =
       let e = entry None s in
-      let p : (row ds n f e).p < now = ltb-true (row ds n f e).p now early in
+      let p : (row_of_entry ds n f e).p < now = ltb-true (row_of_entry ds n f e).p now early in
       entry-free None s (not-alone e.serial (λ alone.
-      let behind : f.c < (row ds n f e).p = alone-before ds n f e alone in
+      let behind : f.c < (row_of_entry ds n f e).p = alone-before ds n f e alone in
       omega (arith, behind, p, late)))
 
   run-all : (k : ℕ) (s : Machine) (f : Front) → IsMachine s → now ≤ f.c → RunAhead (length (prepared_before now (ahead ds n k None s f))) None s
   unfolding ahead prepared_before RunAhead
   run-all zero s f m late = tt
   run-all (suc k) s f m late =
-      let g = after ds n f (entry None s) in
-      run-if (nat_lt (row ds n f (entry None s)).p now) (next_ahead ds n None s f) (prepared_before now (ahead ds n k None (guess None s) g)) s
+      let g = front_after_entry ds n f (entry None s) in
+      run-if (nat_lt (row_of_entry ds n f (entry None s)).p now) (next_ahead ds n None s f) (prepared_before now (ahead ds n k None (guess None s) g)) s
       (λ early. (free-early s f late early, run-all k (guess None s) g (guess-machine None s m tt) (behind-later ds n now f (entry None s) late)))
 
   shows-same : (tick k : ℕ) (s u : Machine) (f : Front) → IsMachine s → AreAlikeBesideOrders s u → now ≤ f.c
@@ -94,30 +94,30 @@ module _ (ds : List ℕ) (n now : ℕ) where
   shows-same tick zero s u f m alike late = refl
   shows-same tick (suc k) s u f m alike late =
       let e = entry None s in
-      let g = after ds n f e in
+      let g = front_after_entry ds n f e in
       let before = λ (xs : List Ahead). prepared_before now xs in
-      both-if tick (nat_lt (row ds n f e).p now) (next_ahead ds n None s f)
-      (record { state = u; table = None; front = f; entry = e; row = row ds n f e })
+      both-if tick (nat_lt (row_of_entry ds n f e).p now) (next_ahead ds n None s f)
+      (record { state = u; table = None; front = f; entry = e; row = row_of_entry ds n f e })
       (before (ahead ds n k None (guess None s) g)) (before (ahead ds n k None (guess None u) g))
       (λ early.
       let free = free-early s f late early in (
-        ap (λ p. level-by tick p (row ds n f e)) (sym (plan-beside_ahead s u None alike free)),
+        ap (λ p. level-by tick p (row_of_entry ds n f e)) (sym (plan-beside_ahead s u None alike free)),
         shows-same tick k (guess None s) (guess None u) g (guess-machine None s m tt) (guess-alike s u m alike free) (behind-later ds n now f e late),
       ))
-      ∙ ap (λ (x : Entry). shows tick (if nat_lt (row ds n f x).p now
-      then record { state = u; table = None; front = f; entry = x; row = row ds n f x } ∷ before (ahead ds n k None (guess None u) (after ds n f x))
+      ∙ ap (λ (x : Entry). shows tick (if nat_lt (row_of_entry ds n f x).p now
+      then record { state = u; table = None; front = f; entry = x; row = row_of_entry ds n f x } ∷ before (ahead ds n k None (guess None u) (front_after_entry ds n f x))
       else [])) (sym (entry-same None s u alike))
 
 -- ---- what is shown
 
 -- levels that are shown in the same way
-still-by : (m x : Overlap) → last_tick x ≡ last_tick m → shows (last_tick m) (levels_of m) ≡ shows (last_tick m) (levels_of x) → (shown x).x ≡ (shown m).x
+still-by : (m x : Overlap) → last_tick_made x ≡ last_tick_made m → shows (last_tick_made m) (levels_of m) ≡ shows (last_tick_made m) (levels_of x) → (view_at_tick x).x ≡ (view_at_tick m).x
     → IsStill m x
-unfolding shown
+unfolding view_at_tick
 still-by m x tick levels index =
     let many : length (levels_of x) ≡ length (levels_of m) =
-    sym (length-map (levels_of x) (λ a. Some (level_shown (last_tick m) a)))
-    ∙ ap length (sym levels) ∙ length-map (levels_of m) (λ a. Some (level_shown (last_tick m) a)) in
+    sym (length-map (levels_of x) (λ a. Some (level_shown (last_tick_made m) a)))
+    ∙ ap length (sym levels) ∙ length-map (levels_of m) (λ a. Some (level_shown (last_tick_made m) a)) in
     record {
       levels =
           ap (λ t. shows t (levels_of x) ++ replicate (8 - length (levels_of x)) None) tick
@@ -126,9 +126,9 @@ still-by m x tick levels index =
     }
 
 -- without levels
-still-empty : (m x : Overlap) → last_tick x ≡ last_tick m → levels_of m ≡ [] → levels_of x ≡ [] → index_words x.state ≡ index_words m.state → IsStill m x
+still-empty : (m x : Overlap) → last_tick_made x ≡ last_tick_made m → levels_of m ≡ [] → levels_of x ≡ [] → index_words x.state ≡ index_words m.state → IsStill m x
 still-empty m x tick old new same =
-    still-by m x tick (ap (shows (last_tick m)) (old ∙ sym new))
+    still-by m x tick (ap (shows (last_tick_made m)) (old ∙ sym new))
     (shown-none x (ap length new) ∙ same ∙ sym (shown-none m (ap length old)))
 
 -- ---- behind a tick at which an entry was done
@@ -144,8 +144,8 @@ counted-alike (Some h) s u is = record {
   done = is.done;
 }
 
-seen-alike : (m : Overlap) (u : Machine) → AreAlikeBesideOrders m.state u → AreAlikeBesideOrders (seen m) (seen (record m { state = u }))
-unfolding seen
+seen-alike : (m : Overlap) (u : Machine) → AreAlikeBesideOrders m.state u → AreAlikeBesideOrders (state_ahead m) (state_ahead (record m { state = u }))
+unfolding state_ahead
 seen-alike m u is = by-end m.ended
   where
     by-end : (b : Bool) → AreAlikeBesideOrders (if b then m.state else with_counter m.behind m.state) (if b then u else with_counter m.behind u)
@@ -157,9 +157,9 @@ still-going : (m : Overlap) (u : Machine) → IsKept m → m.taken ≡ None → 
 unfolding levels_of
 still-going m u is none late alike =
     let x = record m { state = u } in
-    let tick = last_tick m in
-    let s = seen m in
-    let v = seen x in
+    let tick = last_tick_made m in
+    let s = state_ahead m in
+    let v = state_ahead x in
     let machine : IsMachine s = seen-machine m is in
     let both = seen-alike m u alike in
     let ds = m.delays in
@@ -198,6 +198,6 @@ still-first m u first alike =
 
 pub still-signalled : (m : Overlap) (made since i : ℕ) → IsReached m made since → MaySignal m → IsStill m (signalled_by i m)
 still-signalled m made since i from may = elim may.0 [
-  | inl first ↦ still-first m (signalled m.state i) first.1 (beside-signalled m.state i)
-  | inr done ↦ still-done m (signalled m.state i) (kept from) done.1 (beside-signalled m.state i)
+  | inl first ↦ still-first m (state_with_signal m.state i) first.1 (beside-signalled m.state i)
+  | inr done ↦ still-done m (state_with_signal m.state i) (kept from) done.1 (beside-signalled m.state i)
 ]

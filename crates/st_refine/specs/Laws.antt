@@ -1,28 +1,28 @@
 -- What holds of machines that calls within the protocol lead to.
 use Rattle.std.specs.Prelude.{ℕ, suc, ◌≡◌, ◌+◌, ◌-◌, ◌<◌, ◌≤◌, ◌^◌, false, List, ◌++◌, All, None, Some, IfSome, ◌*◌, ◌||◌, nat_lt, nat_le, is_some, length, slice_get, slice_index_or, true, if◌then◌else◌, [], ◌∷◌, get_or}
-use Rattle.st_rows.specs.Asked.{Read, served}
-use Rattle.st_rows.specs.Notes.{AreEarly, logged}
+use Rattle.st_rows.specs.Asked.{Read, bus_after_reads}
+use Rattle.st_rows.specs.Notes.{AreEarly, notes_of_reads}
 use Rattle.st_rows.specs.declared.bus.Bus.{Bus}
 use Rattle.st_rows.specs.declared.log.Made.{Made}
-use Rattle.st_ahead.specs.Overlap.{Overlap, levels_of, started, seen, last_tick}
+use Rattle.st_ahead.specs.Overlap.{Overlap, levels_of, machine_at_start, state_ahead, last_tick_made}
 use Rattle.st_ahead.specs.RunTo.{RunsTo}
 use Rattle.st_ahead.specs.declared.events.Row.{Row}
-use Rattle.st_refine.specs.Openings.{Opening, Outside, StandsAt, reads_of_segment, Signalled, ReadIn, PrintedOut, first_opening, state_after, front_after, opening_behind}
+use Rattle.st_refine.specs.Openings.{Opening, Outside, StandsAt, reads_of_segment, Signalled, ReadIn, PrintedOut, first_opening, state_after, front_at, opening_behind}
 use Rattle.st_refine.specs.Reached.{IsReached, MayTick}
-use Rattle.st_rows.specs.Ranges.{AreDelays}
+use Rattle.st_rows.specs.Ranges.{AreDelaysUpTo}
 use Rattle.st_bits.specs.declared.register.TheConstants.{FIRST_STORAGE_WORD}
 use Rattle.st_state.specs.Machine.{word, Machine}
 use Rattle.st_prep.specs.Fetch.{index_words}
 use Rattle.st_prep.specs.FewWords.{is_transmission}
 use Rattle.st_prep.specs.Plan.{plan}
-use Rattle.st_ring.specs.Unwinding.{made, Kept, unwound}
+use Rattle.st_ring.specs.Unwinding.{index_words_after, Kept, unwound}
 use Rattle.st_ring.specs.declared.level.Level.{Level}
 use Rattle.st_levels.specs.Slots.{fill_tick}
-use Rattle.st_ahead.specs.Shown.{AreLevelsOf, index_of, shown}
+use Rattle.st_ahead.specs.Shown.{AreLevelsOf, lent_index_words, view_at_tick}
 use Rattle.st_refine.specs.Refined.{state_before, table_before, row_of, fills_at, IsUnwound, AddsOneAtMost, level_seen, IsStill}
 use Rattle.st_segment.specs.Ahead.{ahead, prepared_before, next_ahead}
 use Rattle.st_segment.specs.Guesses.{table_behind, split_words}
-use Rattle.st_ahead.specs.Calls.{is_done, ticked, ended, run_ended, settled, answer, signalled_by, read_in_by, printed_by, MayServe, IsEvent, dropped, dropped_by, MaySignal}
+use Rattle.st_ahead.specs.Calls.{is_done, machine_after_tick, machine_after_segment, run_ended, machine_after_settling, answer, signalled_by, read_in_by, printed_by, MayServe, IsEvent, drop_count, dropped_by, MaySignal}
 use Rattle.st_ahead.specs.declared.events.Settled.TheVariants.{Goes, Interrupt, Missed, Waits}
 use Rattle.st_exec.specs.Step.{interrupt, rests, step, address}
 use Rattle.st_exec.specs.Completion.{is_missed}
@@ -33,191 +33,259 @@ pub record IsLedTo (made : ℕ) (m : Overlap) : Type 0 where
   pub since : ℕ
   pub reached : IsReached m made since
 
--- A call that makes ticks up to an entry that is done, or up to the tick `last`, is so many calls within the protocol. The first tick may be made, and
--- `count` and `last` are in their ranges.
+-- A call that makes ticks up to an entry that is done, or up to the tick `last`, is so many calls
+-- within the protocol. The first tick may be made, and `count` and `last` are in their ranges.
 pub record RunsAreReached : Type 0 where
-  pub done : (m new : Overlap) (made since count last : ℕ) (row : Row) → IsReached m made since → MayTick m →
-      count ≤ 2 ^ 63 → last < 2 ^ 63 → RunsTo count last (Some row) m new → IsReached new (row.c + 1) 0
+  pub done : (m new : Overlap) (made since count last : ℕ) (row : Row) → IsReached m made since →
+      MayTick m →
+      count ≤ 2 ^ 63 → last < 2 ^ 63 → RunsTo count last (Some row) m new →
+      IsReached new (row.c + 1) 0
   pub passed : (m new : Overlap) (made since count last : ℕ) → IsReached m made since → MayTick m →
-      count ≤ 2 ^ 63 → last < 2 ^ 63 → RunsTo count last None m new → IsLedTo (made + (last + 1 - m.now)) new
+      count ≤ 2 ^ 63 → last < 2 ^ 63 → RunsTo count last None m new →
+      IsLedTo (made + (last + 1 - m.now)) new
 
--- Of these reads, which are made one after another from the bus b on, the first ones are accepted before the tick t, and each of the others, in their
--- order behind those, at that tick or later
-pub record AreFirst (ds : List ℕ) (t : ℕ) (reads : List Read) (b : Bus) (first : List Read) : Type 0 where
+-- Of these reads, which are made one after another from the bus b on, the first ones are accepted
+-- before the tick t, and each of the others, in their order behind those, at that tick or later
+pub record AreFirstReads (ds : List ℕ) (t : ℕ) (reads : List Read) (b : Bus)
+    (first : List Read) : Type 0 where
   pub others : List Read
   pub order : reads ≡ first ++ others
-  pub early : AreEarly t (logged ds first b)
-  pub late : All (λ (m : Made). t ≤ m.tick) (logged ds others (served ds first b))
+  pub early : AreEarly t (notes_of_reads ds first b)
+  pub late : All (λ (m : Made). t ≤ m.tick) (notes_of_reads ds others (bus_after_reads ds first b))
 
--- Where an entry is done the last answers of the banks are those of the first reads of its segment, in the order of the timetable: of all that are
--- accepted before this tick, and of none that is accepted at it or later.
+-- Where an entry is done the last answers of the banks are those of the first reads of its segment,
+-- in the order of the timetable: of all that are accepted before this tick, and of none that is
+-- accepted at it or later.
 abbrev pub BanksHaveTheFirstReads : Type 0
-BanksHaveTheFirstReads = (m : Overlap) (made since j : ℕ) (o : Opening) (changes : List Outside) → IsReached m made since →
+BanksHaveTheFirstReads = (m : Overlap) (made since j : ℕ) (o : Opening) (changes : List Outside) →
+    IsReached m made since →
     StandsAt o changes (suc j) m → m.ended ≡ false →
     IfSome m.closing (λ banks. (first : List Read)
-    × AreFirst m.delays m.now (reads_of_segment m.delays m.levels o changes j) o.front.bus first
-    × (banks ≡ (served m.delays first o.front.bus).banks))
+    × AreFirstReads m.delays m.now
+    (reads_of_segment m.delays m.levels o changes j) o.front.bus first
+    × (banks ≡ (bus_after_reads m.delays first o.front.bus).banks))
 
--- The number of ticks since the last completion, or since the machine was made, never exceeds 64 times (L and four), for any number L
--- that no delay exceeds (`since`); so this number is enough for each instruction done and for one more (`all`), the state counting the instructions that are
--- done.
--- Since the last instruction was done, or since the start, at most 64 times (the longest delay and four) ticks were made; and in all, at most so many for each
--- instruction done and for one more.
+-- The number of ticks since the last completion, or since the machine was made, never exceeds 64
+-- times (L and four), for any number L that no delay exceeds (`since`); so this number is enough
+-- for each instruction done and for one more (`all`), the state counting the instructions that are
+-- done. Since the last instruction was done, or since the start, at most 64 times (the longest
+-- delay and four) ticks were made; and in all, at most so many for each instruction done and for
+-- one more.
 pub record CompletionsComeInTime : Type 0 where
-  pub since : (m : Overlap) (made since most : ℕ) → IsReached m made since → AreDelays most m.delays →
+  pub since : (m : Overlap) (made since most : ℕ) → IsReached m made since →
+      AreDelaysUpTo most m.delays →
       since ≤ 64 * (most + 4)
-  pub all : (m : Overlap) (made since most : ℕ) → IsReached m made since → AreDelays most m.delays →
+  pub all : (m : Overlap) (made since most : ℕ) → IsReached m made since →
+      AreDelaysUpTo most m.delays →
       made ≤ 64 * (most + 4) * (m.state.done + 1)
 
--- The ring that is lent has k levels, oldest first (`count`). Each is its entry as it is prepared in the run of guessed steps, and with its P
--- (`prepared`). A word in one of its slots is that operand word in the state before the entry's step (`words`). A slot of an operand word of an entry other
--- than T and SWAP is filled exactly where the word is a register, or where by the tick shown its read is answered or, without a read, its latest
--- writer is done (`slots`). The words that are lent are those shown (`index`), and undoing the levels from them gives the committed ones, since
--- each level keeps the word that it replaced (`undone`).
--- What is lent of a machine: its levels with their operands, and index words from which undoing the levels gives those of the state.
+-- The ring that is lent has k levels, oldest first (`count`). Each is its entry as it is prepared
+-- in the run of guessed steps, and with its P (`prepared`). A word in one of its slots is that
+-- operand word in the state before the entry's step (`words`). A slot of an operand word of an
+-- entry other than T and SWAP is filled exactly where the word is a register, or where by the tick
+-- shown its read is answered or, without a read, its latest writer is done (`slots`). The words
+-- that are lent are those shown (`index`), and undoing the levels from them gives the committed
+-- ones, since each level keeps the word that it replaced (`undone`). What is lent of a machine: its
+-- levels with their operands, and index words from which undoing the levels gives those of the
+-- state.
 pub record LevelsAreLent : Type 0 where
-  pub count : (m : Overlap) (ring : List Level) → AreLevelsOf m ring → length ring ≡ length (levels_of m)
+  pub count : (m : Overlap) (ring : List Level) → AreLevelsOf m ring → length ring
+      ≡ length (levels_of m)
   pub prepared : (m : Overlap) (ring : List Level) (level : Level) (k : ℕ) → AreLevelsOf m ring →
       slice_get ring k ≡ Some level →
       (level.prepared ≡ plan (state_before k m) (table_before k m)) × (level.p ≡ (row_of k m).p)
-  pub words : (m : Overlap) (ring : List Level) (level : Level) (k slot w : ℕ) → AreLevelsOf m ring →
+  pub words : (m : Overlap) (ring : List Level) (level : Level) (k slot w : ℕ) →
+      AreLevelsOf m ring →
       slice_get ring k ≡ Some level → slice_index_or level.have slot None ≡ Some w →
-      (slot < level.prepared.reads.len) × (w ≡ word (state_before k m) (level.prepared.reads.first + slot))
+      (slot < level.prepared.reads.len) × (w ≡ word (state_before k m)
+      (level.prepared.reads.first + slot))
   pub slots : (m : Overlap) (ring : List Level) (level : Level) (k slot : ℕ) → AreLevelsOf m ring →
       slice_get ring k ≡ Some level → is_transmission level.prepared.instr ≡ false →
       slot < level.prepared.reads.len → slot < 2 →
       let w = level.prepared.reads.first + slot in
       is_some (slice_index_or level.have slot None)
-      ≡ (nat_lt w FIRST_STORAGE_WORD || nat_le (fill_tick (fills_at k m) level.prepared w) (shown m).tick)
-  pub index : (m : Overlap) → index_of m ≡ (shown m).x
-  pub undone : (m : Overlap) (made_ticks since : ℕ) (ring : List Level) → IsReached m made_ticks since → AreLevelsOf m ring →
-      Kept (index_words m.state) ring × (made (index_words m.state) ring ≡ index_of m)
-      × (unwound (index_of m) ring ≡ index_words m.state)
+      ≡ (nat_lt w FIRST_STORAGE_WORD || nat_le (fill_tick (fills_at k m) level.prepared w)
+      (view_at_tick m).tick)
+  pub index : (m : Overlap) → lent_index_words m ≡ (view_at_tick m).x
+  pub undone : (m : Overlap) (made_ticks since : ℕ) (ring : List Level) →
+      IsReached m made_ticks since → AreLevelsOf m ring →
+      Kept (index_words m.state) ring × (index_words_after (index_words m.state) ring
+      ≡ lent_index_words m)
+      × (unwound (lent_index_words m) ring ≡ index_words m.state)
 
--- A new machine stands at the opening of the first segment (`start`). At each opening at which a machine stands, the next tick and a settle with which it
--- goes on leave it standing there, with one entry more done where the tick completes one (`tick`, `goes`). What changes the state from outside is added to
--- the changes, with the number done at it (`signal`, `unread`, `print`).
--- A call that ends the segment ends it as `end` does, and leaves the machine at the opening of the next one, one tick behind the completion and one more for
--- each level that is dropped (`end`). Where it has ended already at this tick that opening stays (`again`), and so it does at the end of a run (`stop`), behind
--- which no tick may be made (`last`). Behind the end of a segment an interrupt makes the first entry a table instruction (`interrupt`), a missed branch and a
--- wait leave it (`missed`, `waits`), and a card is a change of its first state (`card`).
--- The levels of a machine that stands at an opening are entries behind those that are done, by guessed steps from the state, unless a branch was missed at this
--- tick (`ahead`).
--- Of a segment at whose opening a machine stands, the entries with C up to the tick are done (`done`), and the levels are those with P up to the tick and C
--- behind it (`levels`, `next`); between a tick and its settle those with P at it are not there yet.
--- A machine goes on standing at an opening.
+-- A new machine stands at the opening of the first segment (`start`). At each opening at which a
+-- machine stands, the next tick and a settle with which it goes on leave it standing there, with
+-- one entry more done where the tick completes one (`tick`, `goes`). What changes the state from
+-- outside is added to the changes, with the number done at it (`signal`, `unread`, `print`). A call
+-- that ends the segment ends it as `end` does, and leaves the machine at the opening of the next
+-- one, one tick behind the completion and one more for each level that is dropped (`end`). Where it
+-- has ended already at this tick that opening stays (`again`), and so it does at the end of a run
+-- (`stop`), behind which no tick may be made (`last`). Behind the end of a segment an interrupt
+-- makes the first entry a table instruction (`interrupt`), a missed branch and a wait leave it
+-- (`missed`, `waits`), and a card is a change of its first state (`card`). The levels of a machine
+-- that stands at an opening are entries behind those that are done, by guessed steps from the
+-- state, unless a branch was missed at this tick (`ahead`). Of a segment at whose opening a machine
+-- stands, the entries with C up to the tick are done (`done`), and the levels are those with P up
+-- to the tick and C behind it (`levels`, `next`); between a tick and its settle those with P at it
+-- are not there yet. A machine goes on standing at an opening.
 pub record OpeningsAreKept : Type 0 where
-  pub start : (ds : List ℕ) (n : ℕ) (s : Machine) → StandsAt (first_opening s) [] 0 (started ds n s)
-  pub tick : (m : Overlap) (made since j : ℕ) (o : Opening) (changes : List Outside) → IsReached m made since → MayTick m →
-      StandsAt o changes j m → StandsAt o changes (if is_done m then suc j else j) (ticked m)
-  pub goes : (m : Overlap) (j : ℕ) (o : Opening) (changes : List Outside) → m.owed ≡ true → answer m ≡ Goes →
-      StandsAt o changes j m → StandsAt o changes j (settled m)
-  pub signal : (m : Overlap) (i j : ℕ) (o : Opening) (changes : List Outside) → StandsAt o changes j m →
-      StandsAt o (changes ++ record { done = m.state.done; change = Signalled i } ∷ []) j (signalled_by i m)
-  pub unread : (m : Overlap) (w j : ℕ) (o : Opening) (changes : List Outside) → StandsAt o changes j m →
-      StandsAt o (changes ++ record { done = m.state.done; change = ReadIn w None } ∷ []) j (read_in_by w None m)
-  pub print : (m : Overlap) (j : ℕ) (o : Opening) (changes : List Outside) → StandsAt o changes j m →
-      StandsAt o (changes ++ record { done = m.state.done; change = PrintedOut } ∷ []) j (printed_by m)
+  pub start : (ds : List ℕ) (n : ℕ) (s : Machine) → StandsAt (first_opening s) [] 0
+      (machine_at_start ds n s)
+  pub tick : (m : Overlap) (made since j : ℕ) (o : Opening) (changes : List Outside) →
+      IsReached m made since → MayTick m →
+      StandsAt o changes j m → StandsAt o changes (if is_done m then suc j else j)
+      (machine_after_tick m)
+  pub goes : (m : Overlap) (j : ℕ) (o : Opening) (changes : List Outside) → m.owed ≡ true → answer m
+      ≡ Goes →
+      StandsAt o changes j m → StandsAt o changes j (machine_after_settling m)
+  pub signal : (m : Overlap) (i j : ℕ) (o : Opening) (changes : List Outside) →
+      StandsAt o changes j m →
+      StandsAt o (changes ++ record { done = m.state.done; change = Signalled i } ∷ []) j
+      (signalled_by i m)
+  pub unread : (m : Overlap) (w j : ℕ) (o : Opening) (changes : List Outside) →
+      StandsAt o changes j m →
+      StandsAt o (changes ++ record { done = m.state.done; change = ReadIn w None } ∷ []) j
+      (read_in_by w None m)
+  pub print : (m : Overlap) (j : ℕ) (o : Opening) (changes : List Outside) →
+      StandsAt o changes j m →
+      StandsAt o (changes ++ record { done = m.state.done; change = PrintedOut } ∷ []) j
+      (printed_by m)
 
 -- Where a segment ends, the machine stands at the opening of the next one.
 pub record OpeningsFollow : Type 0 where
-  pub end : (m : Overlap) (made since j : ℕ) (o : Opening) (changes : List Outside) → IsReached m made since → MayServe m →
+  pub end : (m : Overlap) (made since j : ℕ) (o : Opening) (changes : List Outside) →
+      IsReached m made since → MayServe m →
       m.ended ≡ false → StandsAt o changes j m →
-      StandsAt (opening_behind m.delays m.levels (length (levels_of m)) o changes j) [] 0 (ended m)
-  pub again : (m : Overlap) → m.ended ≡ true → ended m ≡ m
-  pub stop : (m : Overlap) (j : ℕ) (o : Opening) (changes : List Outside) → StandsAt o changes j (ended m) →
+      StandsAt (opening_behind m.delays m.levels (length (levels_of m)) o changes j) [] 0
+      (machine_after_segment m)
+  pub again : (m : Overlap) → m.ended ≡ true → machine_after_segment m ≡ m
+  pub stop : (m : Overlap) (j : ℕ) (o : Opening) (changes : List Outside) →
+      StandsAt o changes j (machine_after_segment m) →
       StandsAt o changes j (run_ended m)
-  pub last : (m : Overlap) (made since : ℕ) → IsReached m made since → m.stopped ≡ true → MayTick m → ⊥
-  pub interrupt : (m : Overlap) (made since i d ic k : ℕ) (o : Opening) (changes : List Outside) → IsReached m made since →
-      m.owed ≡ true → answer m ≡ Interrupt i d ic k → StandsAt o changes 0 (ended m) →
-      StandsAt (record o { table = Some i }) changes 0 (settled m)
-  pub missed : (m : Overlap) (made since k : ℕ) (o : Opening) (changes : List Outside) → IsReached m made since →
-      m.owed ≡ true → answer m ≡ Missed k → StandsAt o changes 0 (ended m) → StandsAt o changes 0 (settled m)
-  pub waits : (m : Overlap) → answer m ≡ Waits → settled m ≡ ended m
-  pub card : (m : Overlap) (w : ℕ) (card : List ℕ) (o : Opening) (changes : List Outside) → StandsAt o changes 0 (ended m) →
-      StandsAt o (changes ++ record { done = m.state.done; change = ReadIn w (Some card) } ∷ []) 0 (read_in_by w (Some card) m)
+  pub last : (m : Overlap) (made since : ℕ) → IsReached m made since → m.stopped ≡ true →
+      MayTick m → ⊥
+  pub interrupt : (m : Overlap) (made since i d ic k : ℕ) (o : Opening) (changes : List Outside) →
+      IsReached m made since →
+      m.owed ≡ true → answer m ≡ Interrupt i d ic k → StandsAt o changes 0
+      (machine_after_segment m) →
+      StandsAt (record o { table = Some i }) changes 0 (machine_after_settling m)
+  pub missed : (m : Overlap) (made since k : ℕ) (o : Opening) (changes : List Outside) →
+      IsReached m made since →
+      m.owed ≡ true → answer m ≡ Missed k → StandsAt o changes 0 (machine_after_segment m) →
+      StandsAt o changes 0 (machine_after_settling m)
+  pub waits : (m : Overlap) → answer m ≡ Waits → machine_after_settling m ≡ machine_after_segment m
+  pub card : (m : Overlap) (w : ℕ) (card : List ℕ) (o : Opening) (changes : List Outside) →
+      StandsAt o changes 0 (machine_after_segment m) →
+      StandsAt o (changes ++ record { done = m.state.done; change = ReadIn w (Some card) } ∷ []) 0
+      (read_in_by w (Some card) m)
 
 -- Which entries of a segment are done, and which are levels, is told by their rows.
 pub record RowsTellTheLevels : Type 0 where
-  pub done : (m : Overlap) (i j : ℕ) (o : Opening) (changes : List Outside) → StandsAt o changes j m → i < j →
-      (front_after m.delays m.levels o changes (suc i)).c ≤ last_tick m
-  pub ahead : (m : Overlap) (j : ℕ) (o : Opening) (changes : List Outside) → StandsAt o changes j m → seen m ≡ m.state →
+  pub done : (m : Overlap) (i j : ℕ) (o : Opening) (changes : List Outside) →
+      StandsAt o changes j m → i < j →
+      (front_at m.delays m.levels o changes (suc i)).c ≤ last_tick_made m
+  pub ahead : (m : Overlap) (j : ℕ) (o : Opening) (changes : List Outside) →
+      StandsAt o changes j m → state_ahead m ≡ m.state →
       levels_of m ≡ prepared_before m.now (ahead m.delays m.levels m.levels (table_behind j o.table)
-      (state_after o changes j) (front_after m.delays m.levels o changes j))
-  pub levels : (m : Overlap) (made since k : ℕ) → IsReached m made since → k < length (levels_of m) →
-      ((row_of k m).p < m.now) × (last_tick m < (row_of k m).c)
+      (state_after o changes j) (front_at m.delays m.levels o changes j))
+  pub levels : (m : Overlap) (made since k : ℕ) → IsReached m made since → k
+      < length (levels_of m) →
+      ((row_of k m).p < m.now) × (last_tick_made m < (row_of k m).c)
   pub next : (m : Overlap) (made since : ℕ) → IsReached m made since →
-      (m.now ≤ (row_of (length (levels_of m)) m).p) × (last_tick m < (row_of (length (levels_of m)) m).c)
+      (m.now ≤ (row_of (length (levels_of m)) m).p)
+      × (last_tick_made m < (row_of (length (levels_of m)) m).c)
 
--- A tick that answers with a row makes the state the step of the old one (`state`), which takes the interrupt that was taken (`table`); it removes the
--- oldest level, and there is one (`oldest`); its row has the new number done, the address of the entry and the tick (`row`), and the P, R and C of the oldest
--- entry (`times`). The mark of a missed branch is then set, and only then (`missed`). Another tick leaves the state and the levels (`passed`).
--- A settle and the end of a run leave the state (`settle`, `stop`). Where the machine goes on there is one level more at most (`goes`). An
--- interrupt, a missed branch, a card and the end of a run drop as many levels as there were, and leave none, with the index words of the state
--- (`interrupt`, `missed`, `card`, `stop`); none are left before the first tick and in a wait (`start`, `waits`). What comes from outside changes
--- the state as the clauses of these calls say.
--- A tick at which an entry is done is one step.
+-- A tick that answers with a row makes the state the step of the old one (`state`), which takes the
+-- interrupt that was taken (`table`); it removes the oldest level, and there is one (`oldest`); its
+-- row has the new number done, the address of the entry and the tick (`row`), and the P, R and C of
+-- the oldest entry (`times`). The mark of a missed branch is then set, and only then (`missed`).
+-- Another tick leaves the state and the levels (`passed`). A settle and the end of a run leave the
+-- state (`settle`, `stop`). Where the machine goes on there is one level more at most (`goes`). An
+-- interrupt, a missed branch, a card and the end of a run drop as many levels as there were, and
+-- leave none, with the index words of the state (`interrupt`, `missed`, `card`, `stop`); none are
+-- left before the first tick and in a wait (`start`, `waits`). What comes from outside changes the
+-- state as the clauses of these calls say. A tick at which an entry is done is one step.
 pub record CompletionsAreSteps : Type 0 where
   pub table : (m : Overlap) (made since : ℕ) → IsReached m made since → m.owed ≡ false →
       m.taken ≡ interrupt m.state
-  pub state : (m : Overlap) (made since : ℕ) (row : Row) → IsReached m made since → MayTick m → IsEvent m (Done row) →
-      (ticked m).state ≡ step m.state
-  pub oldest : (m : Overlap) (made since : ℕ) (row : Row) → IsReached m made since → MayTick m → IsEvent m (Done row) →
-      levels_of m ≡ next_ahead m.delays m.levels m.taken m.state m.front ∷ levels_of (ticked m)
-  pub row : (m : Overlap) (made since : ℕ) (row : Row) → IsReached m made since → MayTick m → IsEvent m (Done row) →
-      (row.number ≡ (step m.state).done) × (row.address ≡ address m.state) × (row.c ≡ (shown (ticked m)).tick)
+  pub state : (m : Overlap) (made since : ℕ) (row : Row) → IsReached m made since → MayTick m →
+      IsEvent m (Done row) →
+      (machine_after_tick m).state ≡ step m.state
+  pub oldest : (m : Overlap) (made since : ℕ) (row : Row) → IsReached m made since → MayTick m →
+      IsEvent m (Done row) →
+      levels_of m ≡ next_ahead m.delays m.levels m.taken m.state m.front
+      ∷ levels_of (machine_after_tick m)
+  pub row : (m : Overlap) (made since : ℕ) (row : Row) → IsReached m made since → MayTick m →
+      IsEvent m (Done row) →
+      (row.number ≡ (step m.state).done) × (row.address ≡ address m.state)
+      × (row.c ≡ (view_at_tick (machine_after_tick m)).tick)
   pub times : (m : Overlap) (row : Row) → IsEvent m (Done row) →
       (row.p ≡ (row_of 0 m).p) × (row.r ≡ (row_of 0 m).r) × (row.c ≡ (row_of 0 m).c)
-  pub missed : (m : Overlap) (row : Row) → IsEvent m (Done row) → (ticked m).behind
-      ≡ (if is_missed (plan m.state m.taken) m.state then Some (plan m.state m.taken).following else None)
+  pub missed : (m : Overlap) (row : Row) → IsEvent m (Done row) → (machine_after_tick m).behind
+      ≡ (if is_missed (plan m.state m.taken) m.state then Some (plan m.state m.taken).following
+      else None)
   pub passed : (m : Overlap) → IsEvent m Passed →
-      ((ticked m).state ≡ m.state) × (levels_of (ticked m) ≡ levels_of m)
+      ((machine_after_tick m).state ≡ m.state) × (levels_of (machine_after_tick m) ≡ levels_of m)
 
 -- What runs ahead is given up where a segment ends, and is never seen in the state.
 pub record LevelsAreUnwound : Type 0 where
-  pub settle : (m : Overlap) → (settled m).state ≡ m.state
-  pub goes : (m : Overlap) → answer m ≡ Goes → AddsOneAtMost (levels_of m) (levels_of (settled m))
+  pub settle : (m : Overlap) → (machine_after_settling m).state ≡ m.state
+  pub goes : (m : Overlap) → answer m ≡ Goes → AddsOneAtMost (levels_of m)
+      (levels_of (machine_after_settling m))
   pub interrupt : (m : Overlap) (made since i d ic k : ℕ) → IsReached m made since → m.owed ≡ true →
-      answer m ≡ Interrupt i d ic k → (interrupt m.state ≡ Some i) × (d ≡ m.state.done) × (ic ≡ m.state.ic)
-      × (k ≡ length (levels_of m)) × ((settled m).taken ≡ Some i) × IsUnwound (settled m)
+      answer m ≡ Interrupt i d ic k → (interrupt m.state ≡ Some i) × (d ≡ m.state.done)
+      × (ic ≡ m.state.ic)
+      × (k ≡ length (levels_of m)) × ((machine_after_settling m).taken ≡ Some i)
+      × IsUnwound (machine_after_settling m)
   pub missed : (m : Overlap) (made since k : ℕ) → IsReached m made since → m.owed ≡ true →
-      answer m ≡ Missed k → (k ≡ length (levels_of m)) × IsUnwound (settled m)
+      answer m ≡ Missed k → (k ≡ length (levels_of m)) × IsUnwound (machine_after_settling m)
   pub waits : (m : Overlap) (made since : ℕ) → IsReached m made since → m.owed ≡ true →
-      answer m ≡ Waits → (rests m.state ≡ true) × IsUnwound (settled m)
+      answer m ≡ Waits → (rests m.state ≡ true) × IsUnwound (machine_after_settling m)
   pub stop : (m : Overlap) (made since : ℕ) → IsReached m made since → m.owed ≡ true →
-      ((run_ended m).state ≡ m.state) × (dropped m ≡ length (levels_of m)) × IsUnwound (run_ended m)
-  pub card : (m : Overlap) (made since w : ℕ) (card : List ℕ) → IsReached m made since → MayServe m →
+      ((run_ended m).state ≡ m.state) × (drop_count m ≡ length (levels_of m))
+      × IsUnwound (run_ended m)
+  pub card : (m : Overlap) (made since w : ℕ) (card : List ℕ) → IsReached m made since →
+      MayServe m →
       (dropped_by (Some card) m ≡ length (levels_of m)) × IsUnwound (read_in_by w (Some card) m)
-  pub start : (ds : List ℕ) (n : ℕ) (s : Machine) → IsUnwound (started ds n s)
+  pub start : (ds : List ℕ) (n : ℕ) (s : Machine) → IsUnwound (machine_at_start ds n s)
 
--- The shown levels are the first k places, oldest first (`level`, `behind`), at most as many as the machine has (`few`, `eight`); the number
--- done is the state's (`done`); the index words are those of the state with k entries ahead, the first of them the table instruction where an
--- interrupt was taken (`index`), and with none ahead the committed ones (`none`); each level shows the address of its entry, the number of
--- the index word that it changes and that word before its own step, in the run of guessed steps (`level`); the tick is that of the last tick
--- made, of which the first is number 0 (`tick`). The run goes from the state, or, at a tick at which a branch was missed, from the state with
--- the counter that follows it (`state`, `missed`).
--- What is shown of a machine is its state with the first entries ahead of it, oldest first.
+-- The shown levels are the first k places, oldest first (`level`, `behind`), at most as many as the
+-- machine has (`few`, `eight`); the number done is the state's (`done`); the index words are those
+-- of the state with k entries ahead, the first of them the table instruction where an interrupt was
+-- taken (`index`), and with none ahead the committed ones (`none`); each level shows the address of
+-- its entry, the number of the index word that it changes and that word before its own step, in the
+-- run of guessed steps (`level`); the tick is that of the last tick made, of which the first is
+-- number 0 (`tick`). The run goes from the state, or, at a tick at which a branch was missed, from
+-- the state with the counter that follows it (`state`, `missed`). What is shown of a machine is its
+-- state with the first entries ahead of it, oldest first.
 pub record TheStateIsSplit : Type 0 where
-  pub done : (m : Overlap) → (shown m).done ≡ m.state.done
-  pub tick : (m : Overlap) (made since : ℕ) → IsReached m made since → (shown m).tick ≡ made - 1
-  pub index : (m : Overlap) → (shown m).x ≡ split_words (length (levels_of m)) m.taken (seen m)
-  pub none : (m : Overlap) → length (levels_of m) ≡ 0 → (shown m).x ≡ index_words m.state
+  pub done : (m : Overlap) → (view_at_tick m).done ≡ m.state.done
+  pub tick : (m : Overlap) (made since : ℕ) → IsReached m made since → (view_at_tick m).tick ≡ made
+      - 1
+  pub index : (m : Overlap) → (view_at_tick m).x ≡ split_words (length (levels_of m)) m.taken
+      (state_ahead m)
+  pub none : (m : Overlap) → length (levels_of m) ≡ 0 → (view_at_tick m).x ≡ index_words m.state
   pub few : (m : Overlap) (made since : ℕ) → IsReached m made since →
       (length (levels_of m) ≤ m.levels) × (m.levels ≤ 8)
-  pub eight : (m : Overlap) (made since : ℕ) → IsReached m made since → length (shown m).levels ≡ 8
+  pub eight : (m : Overlap) (made since : ℕ) → IsReached m made since →
+      length (view_at_tick m).levels ≡ 8
   pub level : (m : Overlap) (made since k : ℕ) → IsReached m made since → k < length (levels_of m) →
-      get_or (shown m).levels k None ≡ Some (level_seen (shown m).tick k m)
-  pub behind : (m : Overlap) (k : ℕ) → length (levels_of m) ≤ k → get_or (shown m).levels k None ≡ None
-  pub state : (m : Overlap) (made since : ℕ) → IsReached m made since → m.owed ≡ false → seen m ≡ m.state
+      get_or (view_at_tick m).levels k None ≡ Some (level_seen (view_at_tick m).tick k m)
+  pub behind : (m : Overlap) (k : ℕ) → length (levels_of m) ≤ k →
+      get_or (view_at_tick m).levels k None ≡ None
+  pub state : (m : Overlap) (made since : ℕ) → IsReached m made since → m.owed ≡ false →
+      state_ahead m ≡ m.state
   pub missed : (m : Overlap) (h : ℕ) → m.ended ≡ false → m.behind ≡ Some h →
-      seen m ≡ record m.state { ic = h }
-  pub ended : (m : Overlap) → m.ended ≡ true → seen m ≡ m.state
+      state_ahead m ≡ record m.state { ic = h }
+  pub ended : (m : Overlap) → m.ended ≡ true → state_ahead m ≡ m.state
 
--- A signal, the order of the reader without a card, and that of the printer change the state, each as its own clause says, and leave what is shown of the
--- levels ahead and of the index words; without a card none is dropped.
--- Signals, and orders that bring no card, leave the levels.
+-- A signal, the order of the reader without a card, and that of the printer change the state, each
+-- as its own clause says, and leave what is shown of the levels ahead and of the index words;
+-- without a card none is dropped. Signals, and orders that bring no card, leave the levels.
 pub record SignalsLeaveLevels : Type 0 where
-  pub signal : (m : Overlap) (made since i : ℕ) → IsReached m made since → MaySignal m → IsStill m (signalled_by i m)
+  pub signal : (m : Overlap) (made since i : ℕ) → IsReached m made since → MaySignal m →
+      IsStill m (signalled_by i m)
   pub unread : (m : Overlap) (made since w : ℕ) → IsReached m made since → MayServe m →
       (dropped_by None m ≡ 0) × IsStill m (read_in_by w None m)
-  pub print : (m : Overlap) (made since : ℕ) → IsReached m made since → MayServe m → IsStill m (printed_by m)
+  pub print : (m : Overlap) (made since : ℕ) → IsReached m made since → MayServe m →
+      IsStill m (printed_by m)

@@ -1,34 +1,35 @@
 -- The opening of a segment, and a machine that stands at it.
 use Rattle.std.specs.Prelude.{ℕ, zero, suc, ◌≡◌, ◌+◌, ◌≤◌, ◌==◌, false, if◌then◌else◌, List, [], ◌∷◌, ◌++◌, All, replicate, Option, None, IfSome}
 use Rattle.st_state.specs.Machine.{Machine}
-use Rattle.st_state.specs.Interrupts.{signalled}
+use Rattle.st_state.specs.Interrupts.{state_with_signal}
 use Rattle.st_exec.specs.Completion.{guess}
 use Rattle.st_exec.specs.Step.{step}
 use Rattle.st_exec.specs.Transfer.{read_in, printed_out}
 use Rattle.st_banks.specs.declared.answers.LastAnswers.{LastAnswers}
 use Rattle.st_banks.specs.declared.answers.TheConstants.{BANKS}
-use Rattle.st_rows.specs.Rows.{opening, row, after}
-use Rattle.st_rows.specs.Asked.{Read, asked}
+use Rattle.st_rows.specs.Rows.{opening_front, row_of_entry, front_after_entry}
+use Rattle.st_rows.specs.Asked.{Read, reads_of_entry}
 use Rattle.st_rows.specs.declared.front.Front.{Front}
 use Rattle.st_segment.specs.Entries.{entry}
 use Rattle.st_segment.specs.Guesses.{table_behind}
 use Rattle.st_segment.specs.Ahead.{reads_to_end, banks_at_end, front_behind_end}
 use Rattle.st_ahead.specs.Look.{asked_ahead}
-use Rattle.st_ahead.specs.Overlap.{Overlap, last_tick}
+use Rattle.st_ahead.specs.Overlap.{Overlap, last_tick_made}
 
 -- ---- changes from outside
 
--- a signal; the order of the reader, for the area at a word, with a card or without one; that of the printer
+-- a signal; the order of the reader, for the area at a word, with a card or without one; that of
+-- the printer
 pub data Change : Type 0 where
   Signalled : ℕ → Change
   ReadIn : ℕ → Option (List ℕ) → Change
   PrintedOut : Change
 
 -- what it makes of a state
-abbrev pub changed : Change → Machine → Machine
-changed (Signalled i) s = signalled s i
-changed (ReadIn w card) s = read_in s w card
-changed PrintedOut s = printed_out s
+abbrev pub state_after_change : Change → Machine → Machine
+state_after_change (Signalled i) s = state_with_signal s i
+state_after_change (ReadIn w card) s = read_in s w card
+state_after_change PrintedOut s = printed_out s
 
 -- a change, with the number of instructions that were done when it came
 pub record Outside : Type 0 where
@@ -38,11 +39,13 @@ pub record Outside : Type 0 where
 -- those that came when as many were done as in this state, one after another
 unfoldable pub with_changes : List Outside → Machine → Machine
 with_changes [] s = s
-with_changes (x ∷ xs) s = with_changes xs (if x.done == s.done then changed x.change s else s)
+with_changes (x ∷ xs) s = with_changes xs (if x.done == s.done then state_after_change x.change s
+    else s)
 
 -- ---- an opening
 
--- the first state of a segment, the interrupt whose table instruction comes first, if it is one, and the front that the segment starts with
+-- the first state of a segment, the interrupt whose table instruction comes first, if it is one,
+-- and the front that the segment starts with
 pub record Opening : Type 0 where
   pub state : Machine
   pub table : Option ℕ
@@ -50,7 +53,12 @@ pub record Opening : Type 0 where
 
 -- that of the first segment
 abbrev pub first_opening : Machine → Opening
-first_opening s = record { state = s; table = None; front = opening (record { ticks = replicate BANKS 0 }) 0 }
+first_opening s = record {
+  state = s;
+  table = None;
+  front = opening_front
+      (record { ticks = replicate BANKS 0 }) 0;
+}
 
 -- the state after j steps from it, with changes from outside
 unfoldable pub state_after : Opening → List Outside → ℕ → Machine
@@ -58,37 +66,42 @@ state_after o changes zero = with_changes changes o.state
 state_after o changes (suc j) = with_changes changes (step (state_after o changes j))
 
 -- the front behind its first j entries, with the delays ds and n levels
-unfoldable pub front_after : List ℕ → ℕ → Opening → List Outside → ℕ → Front
-front_after ds n o changes zero = o.front
-front_after ds n o changes (suc j) =
-    after ds n (front_after ds n o changes j) (entry (table_behind j o.table) (state_after o changes j))
+unfoldable pub front_at : List ℕ → ℕ → Opening → List Outside → ℕ → Front
+front_at ds n o changes zero = o.front
+front_at ds n o changes (suc j) =
+    front_after_entry ds n (front_at ds n o changes j)
+    (entry (table_behind j o.table) (state_after o changes j))
 
 -- the reads of those entries
 unfoldable pub reads_after : List ℕ → ℕ → Opening → List Outside → ℕ → List Read
 reads_after ds n o changes zero = []
 reads_after ds n o changes (suc j) =
     reads_after ds n o changes j
-    ++ asked ds n (front_after ds n o changes j) (entry (table_behind j o.table) (state_after o changes j))
+    ++ reads_of_entry ds n (front_at ds n o changes j)
+    (entry (table_behind j o.table) (state_after o changes j))
 
--- the reads of a segment, in the order of the timetable: those of its first j entries, of entry j, and of the n + 1 entries behind the guess of that,
--- no more than n of which are prepared before it is done
+-- the reads of a segment, in the order of the timetable: those of its first j entries, of entry j,
+-- and of the n + 1 entries behind the guess of that, no more than n of which are prepared before it
+-- is done
 unfoldable pub reads_of_segment : List ℕ → ℕ → Opening → List Outside → ℕ → List Read
 reads_of_segment ds n o changes j =
     let s = state_after o changes j in
     let t = table_behind j o.table in
     reads_after ds n o changes (suc j)
-    ++ asked_ahead ds n (suc n) None (guess t s) (after ds n (front_after ds n o changes j) (entry t s))
+    ++ asked_ahead ds n (suc n) None (guess t s)
+    (front_after_entry ds n (front_at ds n o changes j) (entry t s))
 
--- the last answers of the banks where the segment ends at the completion of entry j, after j others: of all its reads, with those of the entries behind
--- that one by the guess, those are made that are accepted before that tick
+-- the last answers of the banks where the segment ends at the completion of entry j, after j
+-- others: of all its reads, with those of the entries behind that one by the guess, those are made
+-- that are accepted before that tick
 unfoldable pub banks_behind : List ℕ → ℕ → Opening → List Outside → ℕ → LastAnswers
 banks_behind ds n o changes zero = o.front.bus.banks
 banks_behind ds n o changes (suc j) =
     let s = state_after o changes j in
     let t = table_behind j o.table in
-    let f = front_after ds n o changes j in
+    let f = front_at ds n o changes j in
     let e = entry t s in
-    let c = (row ds n f e).c in
+    let c = (row_of_entry ds n f e).c in
     banks_at_end ds c (reads_after ds n o changes j ++ reads_to_end ds n c t s f e) o.front.bus
 
 -- the opening of the next segment, where that one ends there and so many entries are dropped
@@ -96,18 +109,20 @@ unfoldable pub opening_behind : List ℕ → ℕ → ℕ → Opening → List Ou
 opening_behind ds n dropped o changes j = record {
   state = state_after o changes j;
   table = None;
-  front = front_behind_end (banks_behind ds n o changes j) (front_after ds n o changes j).c dropped;
+  front = front_behind_end (banks_behind ds n o changes j) (front_at ds n o changes j).c dropped;
 }
 
 -- ---- standing at it
 
--- j entries of the segment are done: the state is the one after j steps, with the changes so far, and the front is the one behind j entries; the
--- first entry is the table instruction until it is done; all these entries are done by the tick that was made last; where the segment may end
--- at this tick, the banks are as the reads that are accepted before it leave them
+-- j entries of the segment are done: the state is the one after j steps, with the changes so far,
+-- and the front is the one behind j entries; the first entry is the table instruction until it is
+-- done; all these entries are done by the tick that was made last; where the segment may end at
+-- this tick, the banks are as the reads that are accepted before it leave them
 pub record StandsAt (o : Opening) (changes : List Outside) (j : ℕ) (m : Overlap) : Type 0 where
   pub state : m.state ≡ state_after o changes j
-  pub front : m.front ≡ front_after m.delays m.levels o changes j
+  pub front : m.front ≡ front_at m.delays m.levels o changes j
   pub table : m.taken ≡ table_behind j o.table
-  pub done : 1 ≤ j → m.front.c ≤ last_tick m
+  pub done : 1 ≤ j → m.front.c ≤ last_tick_made m
   pub before : All (λ x. x.done ≤ m.state.done) changes
-  pub banks : m.ended ≡ false → IfSome m.closing (λ b. b ≡ banks_behind m.delays m.levels o changes j)
+  pub banks : m.ended ≡ false → IfSome m.closing (λ b. b
+      ≡ banks_behind m.delays m.levels o changes j)

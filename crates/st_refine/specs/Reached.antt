@@ -2,20 +2,22 @@
 use Rattle.std.specs.Prelude.{ℕ, ◌≡◌, ◌+◌, ◌≤◌, ◌<◌, ◌^◌, true, false, if◌then◌else◌, List, length, All, Option, Some, IsSome, IfSome}
 use Rattle.st_state.specs.Machine.{Machine, IsMachine}
 use Rattle.st_state.specs.declared.devices.Order.{Order}
-use Rattle.st_rows.specs.Ranges.{AreDelays}
-use Rattle.st_ahead.specs.Overlap.{Overlap, started}
-use Rattle.st_ahead.specs.Calls.{is_done, ticked, settled, run_ended, signalled_by, read_in_by, printed_by, MaySignal, MayServe}
+use Rattle.st_rows.specs.Ranges.{AreDelaysUpTo}
+use Rattle.st_ahead.specs.Overlap.{Overlap, machine_at_start}
+use Rattle.st_ahead.specs.Calls.{is_done, machine_after_tick, machine_after_settling, run_ended, signalled_by, read_in_by, printed_by, MaySignal, MayServe}
 
--- a machine may be made: n levels, 1 to 8, delays of 1 to 255 ticks, and a state that is neither enabled nor waiting
+-- a machine may be made: n levels, 1 to 8, delays of 1 to 255 ticks, and a state that is neither
+-- enabled nor waiting
 pub record CanStart (ds : List ℕ) (n : ℕ) (s : Machine) : Type 0 where
   pub some : 1 ≤ n
   pub few : n ≤ 8
-  pub delays : AreDelays 255 ds
+  pub delays : AreDelaysUpTo 255 ds
   pub machine : IsMachine s
   pub enabled : s.enabled ≡ false
   pub waiting : s.waiting ≡ false
 
--- a tick may be made: no settle is owed, and its number and that of the instructions done are below 2^63
+-- a tick may be made: no settle is owed, and its number and that of the instructions done are below
+-- 2^63
 pub record MayTick (m : Overlap) : Type 0 where
   pub settled : m.owed ≡ false
   pub tick : m.now < 2 ^ 63
@@ -26,22 +28,29 @@ pub record IsCard (card : List ℕ) : Type 0 where
   pub size : length card ≡ 8
   pub below : All (λ x. x < 2 ^ 64) card
 
--- the machine before its first call, and after each further one: a tick, a settle, a signal, the order of the reader with a card or without one,
--- that of the printer, or, as the last one, the end of the run behind a tick at which an entry was done. Beside it, how many ticks were made, and how
+-- the machine before its first call, and after each further one: a tick, a settle, a signal, the
+-- order of the reader with a card or without one, that of the printer, or, as the last one, the end
+-- of the run behind a tick at which an entry was done. Beside it, how many ticks were made, and how
 -- many of them since the last instruction was done, or since the start
 pub data IsReached : Overlap → ℕ → ℕ → Type 0 where
-  Starts : (ds : List ℕ) (n : ℕ) (s : Machine) → CanStart ds n s → IsReached (started ds n s) 0 0
+  Starts : (ds : List ℕ) (n : ℕ) (s : Machine) → CanStart ds n s →
+      IsReached (machine_at_start ds n s) 0 0
   Ticks : (m : Overlap) (made since : ℕ) → IsReached m made since → MayTick m
-      → IsReached (ticked m) (made + 1) (if is_done m then 0 else since + 1)
-  Settles : (m : Overlap) (made since : ℕ) → IsReached m made since → m.owed ≡ true → m.stopped ≡ false
-      → IsReached (settled m) made since
+      → IsReached (machine_after_tick m) (made + 1) (if is_done m then 0 else since + 1)
+  Settles : (m : Overlap) (made since : ℕ) → IsReached m made since → m.owed ≡ true → m.stopped
+      ≡ false
+      → IsReached (machine_after_settling m) made since
   Signals : (m : Overlap) (made since i : ℕ) → IsReached m made since → i ≤ 13 → MaySignal m
       → IsReached (signalled_by i m) made since
-  Reads : (m : Overlap) (made since : ℕ) (order : Order) (card : Option (List ℕ)) → IsReached m made since
-      → m.state.reader ≡ Some order → IfSome card IsCard → MayServe m → IsReached (read_in_by order.word card m) made since
-  Prints : (m : Overlap) (made since : ℕ) → IsReached m made since → IsSome m.state.printer → MayServe m
+  Reads : (m : Overlap) (made since : ℕ) (order : Order) (card : Option (List ℕ)) →
+      IsReached m made since
+      → m.state.reader ≡ Some order → IfSome card IsCard → MayServe m →
+      IsReached (read_in_by order.word card m) made since
+  Prints : (m : Overlap) (made since : ℕ) → IsReached m made since → IsSome m.state.printer →
+      MayServe m
       → IsReached (printed_by m) made since
-  Stops : (m : Overlap) (made since : ℕ) → IsReached m made since → MayServe m → IsReached (run_ended m) made since
+  Stops : (m : Overlap) (made since : ℕ) → IsReached m made since → MayServe m →
+      IsReached (run_ended m) made since
 
 -- such calls lead to the machine
 pub record IsLed (m : Overlap) : Type 0 where

@@ -5,21 +5,21 @@ use Rattle.st_state.specs.Machine.{Machine, word}
 use Rattle.st_prep.specs.Fetch.{address_by, index_words}
 use Rattle.st_prep.specs.Plan.{plan}
 use Rattle.st_prep.specs.declared.entries.IndexChange.{IndexChange}
-use Rattle.st_rows.specs.Rows.{row, fills}
+use Rattle.st_rows.specs.Rows.{row_of_entry, fills}
 use Rattle.st_rows.specs.declared.front.Front.{Front}
-use Rattle.st_rows.specs.declared.front.Row.{Row}
+use Rattle.st_rows.specs.declared.front.EntryTicks.{EntryTicks}
 use Rattle.st_segment.specs.Entries.{entry}
 use Rattle.st_segment.specs.Guesses.{guesses, table_behind}
 use Rattle.st_segment.specs.Ahead.{Ahead, front_behind}
-use Rattle.st_ahead.specs.Overlap.{Overlap, seen, levels_of}
-use Rattle.st_ahead.specs.Shown.{shown}
+use Rattle.st_ahead.specs.Overlap.{Overlap, state_ahead, levels_of}
+use Rattle.st_ahead.specs.Shown.{view_at_tick}
 use Rattle.st_ahead.specs.declared.events.LevelView.{LevelView}
 
 -- ---- what is shown of a level
 
 -- the state before the step of entry k ahead
 abbrev pub state_before : ℕ → Overlap → Machine
-state_before k m = guesses k m.taken (seen m)
+state_before k m = guesses k m.taken (state_ahead m)
 
 -- the interrupt whose table instruction that entry is, if it is one
 abbrev pub table_before : ℕ → Overlap → Option ℕ
@@ -27,24 +27,26 @@ table_before k m = table_behind k m.taken
 
 -- the front that its row is computed from
 abbrev pub front_before : ℕ → Overlap → Front
-front_before k m = front_behind m.delays m.levels k m.taken (seen m) m.front
+front_before k m = front_behind m.delays m.levels k m.taken (state_ahead m) m.front
 
 -- its row
-abbrev pub row_of : ℕ → Overlap → Row
+abbrev pub row_of : ℕ → Overlap → EntryTicks
 row_of k m =
-    row m.delays m.levels (front_before k m) (entry (table_before k m) (state_before k m))
+    row_of_entry m.delays m.levels (front_before k m) (entry (table_before k m) (state_before k m))
 
--- when its first two operand words above the registers are there: each when its read is answered or, where it has none, when its latest writer is done
+-- when its first two operand words above the registers are there: each when its read is answered
+-- or, where it has none, when its latest writer is done
 abbrev pub fills_at : ℕ → Overlap → List ℕ
-fills_at k m = fills m.delays m.levels (front_before k m) (entry (table_before k m) (state_before k m))
+fills_at k m = fills m.delays m.levels (front_before k m)
+    (entry (table_before k m) (state_before k m))
 
 -- the index word that a change replaces, as it stands in the state before; 0 without a change
 abbrev pub word_before : Option IndexChange → Machine → ℕ
 word_before None s = 0
 word_before (Some c) s = word s (FIRST_INDEX_WORD + c.number)
 
--- entry k ahead as a level, shown at a tick: its address, its P, the number of the index word that it changes and that word before its own
--- step, and whether its R has come
+-- entry k ahead as a level, shown at a tick: its address, its P, the number of the index word that
+-- it changes and that word before its own step, and whether its R has come
 abbrev pub level_seen : ℕ → ℕ → Overlap → LevelView
 level_seen tick k m =
     let s = state_before k m in
@@ -62,7 +64,7 @@ level_seen tick k m =
 -- no level is left, and the index words that are shown are those of the state
 pub record IsUnwound (m : Overlap) : Type 0 where
   pub levels : levels_of m ≡ []
-  pub index : (shown m).x ≡ index_words m.state
+  pub index : (view_at_tick m).x ≡ index_words m.state
 
 -- the same levels, or one more behind the youngest
 abbrev pub AddsOneAtMost : List Ahead → List Ahead → Type 0
@@ -70,5 +72,5 @@ AddsOneAtMost old new = (new ≡ old) ⊎ ((a : Ahead) × (new ≡ old ++ a ∷ 
 
 -- the same is shown of the levels, and of the index words
 pub record IsStill (old new : Overlap) : Type 0 where
-  pub levels : (shown new).levels ≡ (shown old).levels
-  pub index : (shown new).x ≡ (shown old).x
+  pub levels : (view_at_tick new).levels ≡ (view_at_tick old).levels
+  pub index : (view_at_tick new).x ≡ (view_at_tick old).x

@@ -36,15 +36,17 @@ pub record IsCardText (text : List ℕ) : Type 0 where
   pub ascii : IsAscii text
 
 -- a card in columns: its number, its location, the n bits that it lays and its text
-abbrev pub columns : ℕ → Option ℕ → ℕ → ℕ → List ℕ → List ℕ
-columns card location bits n text =
+abbrev pub listing_columns : ℕ → Option ℕ → ℕ → ℕ → List ℕ → List ℕ
+listing_columns card location bits n text =
     right_in 5 (decimal card) ++ codes " " ++ right_in 9 (location_text location)
     ++ codes " " ++ left_in 16 (laid_text bits n) ++ codes " " ++ text
 
 -- the line of a card
 abbrev pub listed_line : ℕ → Option ℕ → ℕ → ℕ → List ℕ → List ℕ
-listed_line card location bits n text = without_end_blanks (columns card location bits n text) ++ lf
+listed_line card location bits n text = without_end_blanks
+    (listing_columns card location bits n text) ++ lf
 
 -- a name, without the blanks that fill it, and its value
 abbrev pub symbol_line : List ℕ → ℕ → List ℕ
-symbol_line name value = codes "SYM " ++ without_end_blanks name ++ codes " " ++ bit_address value ++ lf
+symbol_line name value = codes "SYM " ++ without_end_blanks name ++ codes " " ++ bit_address value
+    ++ lf

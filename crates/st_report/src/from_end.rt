@@ -9,8 +9,8 @@ use std::marker::Model;
 // Room for a line.
 const ROOM: usize = 128;
 
-/// A line of at most 128 bytes that is put together from its end: each piece comes before those that stand there. So a
-/// number's digits are written where they stay, and the line is never moved.
+/// A line of at most 128 bytes that is put together from its end: each piece comes before those
+/// that stand there. So a number's digits are written where they stay, and the line is never moved.
 #[derive(Debug, Drop)]
 pub struct LineFromEnd {
     bytes: [u8; ROOM],

@@ -4,7 +4,7 @@ use Rattle.st_ring.specs.declared.level.Level.{Level}
 use Rattle.st_ring.specs.Levels.{HasNumber}
 
 -- a ring of at most `most` levels
-pub record IsRing (most head n : ℕ) (slots : List Level) : Type 0 where
+pub record IsLevelRing (most head n : ℕ) (slots : List Level) : Type 0 where
   pub inside : head < 8
   pub few : n ≤ most
   pub eight : most ≤ 8

@@ -5,19 +5,20 @@ use Rattle.st_prep.specs.declared.entries.IndexChange.{IndexChange}
 use Rattle.st_ring.specs.declared.level.Level.{Level}
 
 -- what levels, one after another, make of index words
-unfoldable pub made : List ℕ → List Level → List ℕ
-made x [] = x
-made x (level ∷ levels) = made (words_after x level.prepared.index) levels
+unfoldable pub index_words_after : List ℕ → List Level → List ℕ
+index_words_after x [] = x
+index_words_after x (level ∷ levels) = index_words_after (words_after x level.prepared.index) levels
 
 -- a change keeps the word that it replaces
-abbrev pub Keeps : List ℕ → Option IndexChange → Type 0
-Keeps x None = Unit {0}
-Keeps x (Some c) = slice_index x c.number ≡ c.kept
+abbrev pub ChangeKeeps : List ℕ → Option IndexChange → Type 0
+ChangeKeeps x None = Unit {0}
+ChangeKeeps x (Some c) = slice_index x c.number ≡ c.kept
 
 -- each level keeps the word that it replaces of what the levels before it made
 unfoldable pub Kept : List ℕ → List Level → Type 0
 Kept x [] = Unit {0}
-Kept x (level ∷ levels) = Keeps x level.prepared.index × Kept (words_after x level.prepared.index) levels
+Kept x (level ∷ levels) = ChangeKeeps x level.prepared.index
+    × Kept (words_after x level.prepared.index) levels
 
 -- the word that a change replaced, put back
 abbrev pub put_back : List ℕ → Option IndexChange → List ℕ

@@ -1,8 +1,8 @@
 //! The levels of the look-ahead, oldest first.
 ghost use Rattle.std.specs.Prelude.{◌≡◌, ℕ, ◌+◌, ◌<◌, ◌≤◌, List, [], ◌∷◌, ◌++◌, length, drop, slice_get, slice_set, MatchOption, IfSome, Some};
 ghost use Rattle.st_ring.specs.declared.level.Level.{Level as Row};
-ghost use Rattle.st_ring.specs.Levels.{HasNumber, filled as filled_of, prepared_at};
-ghost use Rattle.st_ring.specs.Unwinding.{made, Kept, put_back as put_back_of, unwound};
+ghost use Rattle.st_ring.specs.Levels.{HasNumber, level_with_word as filled_of, prepared_at};
+ghost use Rattle.st_ring.specs.Unwinding.{index_words_after, Kept, put_back as put_back_of, unwound};
 
 use crate::level::{Level, begin, put_word};
 use st_prep::{IndexChange, Prepared};
@@ -24,13 +24,13 @@ impl<const N: usize> Model for SpecRing<N> {
     ghost use Rattle.std.specs.Prelude.{List};
     ghost use Rattle.st_fetch.specs.Queue.{window};
     ghost use Rattle.st_ring.specs.declared.level.Level.{Level as Row};
-    ghost use Rattle.st_ring.specs.Slots.{IsRing};
+    ghost use Rattle.st_ring.specs.Slots.{IsLevelRing};
 
     ghost Value = { List Row };
 
     ghost view = { λ ring. window ring.head ring.len ring.slots };
 
-    ghost invariant = { λ ring. IsRing N ring.head ring.len ring.slots };
+    ghost invariant = { λ ring. IsLevelRing N ring.head ring.len ring.slots };
 }
 
 impl<const N: usize> SpecRing<N> {
@@ -55,8 +55,8 @@ impl<const N: usize> SpecRing<N> {
         self.len
     }
 
-    /// Appends a level, which is the youngest then. There is room, and the number of an index word that it
-    /// changes is below 16.
+    /// Appends a level, which is the youngest then. There is room, and the number of an index word
+    /// that it changes is below 16.
     pub fn push(&mut self, level: Level)
         requires room { length self.old < N }
         requires number { HasNumber level }
@@ -67,8 +67,8 @@ impl<const N: usize> SpecRing<N> {
         self.len += 1;
     }
 
-    /// Appends the level of an entry that is prepared at the tick `p`, with the operand words that are there by then, as
-    /// `push` does: it is written where it stands.
+    /// Appends the level of an entry that is prepared at the tick `p`, with the operand words that
+    /// are there by then, as `push` does: it is written where it stands.
     pub fn push_prepared(&mut self, prepared: &Prepared, p: u64, have: [Option<u64>; 2])
         requires room { length self.old < N }
         requires number { IfSome prepared.now.index (λ c. c.number < 16) }
@@ -129,8 +129,8 @@ impl<const N: usize> SpecRing<N> {
         &self.slots[(self.head + k) % SLOTS]
     }
 
-    /// Puts an operand word that came at a tick into a slot, 0 or 1, of level k, counted from the oldest. Its
-    /// tick r becomes this tick, unless it is later already.
+    /// Puts an operand word that came at a tick into a slot, 0 or 1, of level k, counted from the
+    /// oldest. Its tick r becomes this tick, unless it is later already.
     pub fn fill(&mut self, k: usize, slot: u8, word: u64, tick: u64)
         requires level { k < length self.old }
         requires slot { slot < 2 }
@@ -142,15 +142,17 @@ impl<const N: usize> SpecRing<N> {
         put_word(&mut self.slots[at], slot, word, tick);
     }
 
-    /// Puts the index words that the levels replaced back into `x`, that of the youngest level first; leaves no
-    /// level; and gives the number of levels that there were.
+    /// Puts the index words that the levels replaced back into `x`, that of the youngest level
+    /// first; leaves no level; and gives the number of levels that there were.
     pub fn undo_into(&mut self, x: &mut [u64; 16]) -> u8
         ensures words { x.new ≡ unwound x.old self.old }
         ensures empty { self.new ≡ [] }
         ensures count { result ≡ length self.old }
 
-        // Where each level kept the word that it replaced, the words from before all of them stand there again.
-        ensures first_words { (first : List ℕ) → Kept first self.old → x.old ≡ made first self.old
+        // Where each level kept the word that it replaced, the words from before all of them stand
+        // there again.
+        ensures first_words { (first : List ℕ) → Kept first self.old → x.old
+            ≡ index_words_after first self.old
             → x.new ≡ first }
     {
         let undone = self.len as u8;

@@ -1,9 +1,9 @@
 -- The writers of all instruction words of an entry are awaited.
 use Rattle.std.proofs.Common.{◌≡◌, ℕ, zero, suc, true, false, ◌+◌, ◌<◌, ◌≤◌, max, List, refl, arith}
 use Rattle.std.specs.Prelude.{Bool, if◌then◌else◌}
-use Rattle.st_rows.specs.BusTimes.{Reading, after_read, answer_at}
+use Rattle.st_rows.specs.BusTimes.{Reading, bus_after_read, answer_at}
 use Rattle.st_rows.specs.Entries.{latest_done}
-use Rattle.st_rows.specs.Rows.{fetch_word, fetch_words, wanted_from, fetched, is_forwarded, read_word, read_words, operands_read, tick_p, bus_a, operands}
+use Rattle.st_rows.specs.Rows.{fetch_word, fetch_words, wanted_from, words_tick, is_forwarded, read_word, read_words, operands_read, tick_p, bus_a, operands}
 use Rattle.st_rows.specs.declared.past.Past.{Past}
 use Rattle.st_rows.specs.declared.entry.Entry.{Entry}
 use Rattle.st_rows.specs.declared.fetching.Fetching.{Fetching}
@@ -24,23 +24,23 @@ module _ (ds : List ℕ) (past : List Past) (from : ℕ) where
   awaited-each s w (suc n) (suc i) v inside is = awaited-each (fetch_word ds past s w from) (w + 1) n i v (omega arith) (omega arith)
 
 module _ (ds : List ℕ) (f : Front) (e : Entry) (i : ℕ) where
-  pub awaited-own : i < e.own.len → latest_done f.past (e.own.first + i) ≤ (fetched ds f e).awaited
-  unfolding fetched
+  pub awaited-own : i < e.own.len → latest_done f.past (e.own.first + i) ≤ (words_tick ds f e).awaited
+  unfolding words_tick
   awaited-own inside =
       let start : Fetching = record { bus = f.bus; answered = 0; awaited = 0 } in
       let own = awaited-each ds f.past (wanted_from f) start e.own.first e.own.len i (e.own.first + i) inside refl in
       let later = awaited-later ds f.past (max (wanted_from f) f.c) (fetch_words ds f.past start (wanted_from f) e.own.first e.own.len) e.target.first e.target.len in
       omega (arith, own, later)
 
-  pub awaited-target : i < e.target.len → latest_done f.past (e.target.first + i) ≤ (fetched ds f e).awaited
-  unfolding fetched
+  pub awaited-target : i < e.target.len → latest_done f.past (e.target.first + i) ≤ (words_tick ds f e).awaited
+  unfolding words_tick
   awaited-target inside =
       awaited-each ds f.past (max (wanted_from f) f.c) _ e.target.first e.target.len i (e.target.first + i) inside refl
 
 -- answers only come later
 module _ (ds : List ℕ) (past : List Past) (p : ℕ) where
   ready-later_if : (late : Bool) (s : Reading) (w : ℕ)
-      → s.answered ≤ (if late then s else record { bus = after_read ds s.bus w p; answered = max s.answered (answer_at ds s.bus w p) }).answered
+      → s.answered ≤ (if late then s else record { bus = bus_after_read ds s.bus w p; answered = max s.answered (answer_at ds s.bus w p) }).answered
   ready-later_if true s w = omega arith
   ready-later_if false s w = omega arith
 

@@ -8,7 +8,7 @@ use Rattle.st_fetch.specs.Planned.{tick_of}
 use Rattle.st_rows.specs.Asked.{Read, word_asked, words_asked, data_asked, side_asked, operands_asked, inside_asked, runs_asked, following_asked, fetches_asked, data_of}
 use Rattle.st_rows.specs.Rows.{fetch_word, fetch_words, wanted_from, is_forwarded, request_inside, tick_a, tick_p, operands}
 use Rattle.st_rows.specs.declared.bus.Bus.{Bus}
-use Rattle.st_rows.specs.declared.entry.Runs.{Runs}
+use Rattle.st_rows.specs.declared.entry.WordRuns.{WordRuns}
 use Rattle.st_rows.specs.declared.entry.Entry.{Entry}
 use Rattle.st_rows.specs.declared.past.Past.{Past}
 use Rattle.st_rows.specs.declared.fetching.Fetching.{Fetching}
@@ -63,7 +63,7 @@ module _ (P : Read → Type 0) where
       (each-data_if (is_forwarded past w p) w p (is w (omega arith) (omega arith)))
       (each-run past p (w + 1) n (λ v least most. is v (omega arith) (omega arith)))
 
-  pub each-operand : (past : List Past) (reads : Runs) (p : ℕ)
+  pub each-operand : (past : List Past) (reads : WordRuns) (p : ℕ)
       → ((v : ℕ) → reads.one.first ≤ v → v < reads.one.first + reads.one.len → P (record { w = v; want = p; fetch = false }))
       → ((v : ℕ) → reads.two.first ≤ v → v < reads.two.first + reads.two.len → P (record { w = v; want = p; fetch = false }))
       → All P (runs_asked past reads p)

@@ -2,12 +2,12 @@
 use Rattle.std.specs.Prelude.{if◌then◌else◌, nat_lt, Bool}
 use Rattle.std.proofs.Common.{◌≡◌, ℕ, zero, suc, ◌+◌, ◌<◌, ◌≤◌, max, true, false, List, get_or, refl, ap, ◌∙◌, arith}
 use Rattle.std.proofs.lemmas.Bool.{ltb-true, lt-ltb}
-use Rattle.st_rows.specs.BusTimes.{Reading, accept_at, after_read, answer_at}
+use Rattle.st_rows.specs.BusTimes.{Reading, accept_at, bus_after_read, answer_at}
 use Rattle.st_rows.specs.Entries.{latest_done}
-use Rattle.st_rows.specs.Ranges.{AreDelays, ArePastWithin, IsTight}
+use Rattle.st_rows.specs.Ranges.{AreDelaysUpTo, ArePastWithin, IsTight}
 use Rattle.st_rows.specs.Rows.{is_forwarded, read_word, read_words, operands_read, fill_at, fill_if, fills_of, fills, tick_p, bus_a, operands}
 use Rattle.st_rows.specs.declared.bus.Bus.{Bus}
-use Rattle.st_rows.specs.declared.entry.Run.{Run}
+use Rattle.st_rows.specs.declared.entry.WordRun.{WordRun}
 use Rattle.st_rows.specs.declared.entry.Entry.{Entry}
 use Rattle.st_rows.specs.declared.past.Past.{Past}
 use Rattle.st_rows.specs.declared.front.Front.{Front}
@@ -16,7 +16,7 @@ use Rattle.st_rows.proofs.Within.{delay-bounds, latest-within}
 
 -- ---- later than preparation
 
-module _ (most : ℕ) (ds : List ℕ) (are : AreDelays most ds) (past : List Past) where
+module _ (most : ℕ) (ds : List ℕ) (are : AreDelaysUpTo most ds) (past : List Past) where
   fill-late_if : (late : Bool) (b : Bus) (w p : ℕ) → (late ≡ true → p < latest_done past w)
       → p < (if late then latest_done past w else answer_at ds b w p)
   fill-late_if true b w p is = is refl
@@ -26,11 +26,11 @@ module _ (most : ℕ) (ds : List ℕ) (are : AreDelays most ds) (past : List Pas
   unfolding fill_at
   fill-late b w p = fill-late_if (is_forwarded past w p) b w p (λ late. ltb-true p (latest_done past w) late)
 
-  pub first-late : (b : Bus) (run : Run) (p : ℕ) → 1 ≤ run.len → p < get_or (fills_of ds past b run p) 0 0
+  pub first-late : (b : Bus) (run : WordRun) (p : ℕ) → 1 ≤ run.len → p < get_or (fills_of ds past b run p) 0 0
   unfolding fills_of
   first-late b run p some = rw (lt-ltb 0 run.len some) (fill-late b run.first p)
 
-  pub second-late : (b : Bus) (run : Run) (p : ℕ) → 2 ≤ run.len → p < get_or (fills_of ds past b run p) 1 0
+  pub second-late : (b : Bus) (run : WordRun) (p : ℕ) → 2 ≤ run.len → p < get_or (fills_of ds past b run p) 1 0
   unfolding fills_of
   second-late b run p some = rw (lt-ltb 1 run.len some) (fill-late _ (run.first + 1) p)
 
@@ -39,7 +39,7 @@ module _ (most : ℕ) (ds : List ℕ) (are : AreDelays most ds) (past : List Pas
 module _ (ds : List ℕ) (past : List Past) (p c : ℕ) (before : ArePastWithin c past) where
   fill-early_if : (late : Bool) (s : Reading) (w : ℕ)
       → (if late then latest_done past w else answer_at ds s.bus w p)
-      ≤ max (if late then s else record { bus = after_read ds s.bus w p; answered = max s.answered (answer_at ds s.bus w p) }).answered c
+      ≤ max (if late then s else record { bus = bus_after_read ds s.bus w p; answered = max s.answered (answer_at ds s.bus w p) }).answered c
   fill-early_if true s w = omega (arith, latest-within c past w before)
   fill-early_if false s w = omega arith
 
@@ -61,7 +61,7 @@ module _ (ds : List ℕ) (past : List Past) (p c : ℕ) (before : ArePastWithin 
       let t = read_word ds past s w p in
       rw (lt-ltb 1 (suc (suc n)) (omega arith)) (omega (arith, fill-early t (w + 1), ready-later ds past p (read_word ds past t (w + 1) p) (w + 1 + 1) n))
 
-  pub fills-early : (b : Bus) (run : Run) (i : ℕ)
+  pub fills-early : (b : Bus) (run : WordRun) (i : ℕ)
       → get_or (fills_of ds past b run p) i 0 ≤ max (read_words ds past (record { bus = b; answered = p }) p run.first run.len).answered c
   unfolding fills_of
   fills-early b run zero = first-early (record { bus = b; answered = p }) run.first run.len
@@ -72,7 +72,7 @@ module _ (ds : List ℕ) (past : List Past) (p c : ℕ) (before : ArePastWithin 
 
 module _ (ds : List ℕ) (past : List Past) (p c : ℕ) (before : ArePastWithin c past) where
   fill-step_if : (late : Bool) (s : Reading) (w : ℕ)
-      → max (if late then s else record { bus = after_read ds s.bus w p; answered = max s.answered (answer_at ds s.bus w p) }).answered c
+      → max (if late then s else record { bus = bus_after_read ds s.bus w p; answered = max s.answered (answer_at ds s.bus w p) }).answered c
       ≡ max (max s.answered c) (if late then latest_done past w else answer_at ds s.bus w p)
   fill-step_if true s w = omega (arith, latest-within c past w before)
   fill-step_if false s w = omega arith
@@ -90,7 +90,7 @@ module _ (ds : List ℕ) (past : List Past) (p c : ℕ) (before : ArePastWithin 
   few-decide s w (suc (suc zero)) few = omega (arith, fill-step s w, fill-step (read_word ds past s w p) (w + 1))
   few-decide s w (suc (suc (suc n))) few = let none : ⊥ = omega arith in absurd none
 
-  pub two-decide : (b : Bus) (run : Run) → run.len ≤ 2
+  pub two-decide : (b : Bus) (run : WordRun) → run.len ≤ 2
       → max (read_words ds past (record { bus = b; answered = p }) p run.first run.len).answered c
       ≡ max (max p c) (max (get_or (fills_of ds past b run p) 0 0) (get_or (fills_of ds past b run p) 1 0))
   unfolding fills_of

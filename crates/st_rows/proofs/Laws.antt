@@ -1,11 +1,11 @@
 -- What holds of the ticks of all entries, proved.
 use Rattle.std.proofs.Common.{arith, [], ◌≡◌, ◌≤◌, ℕ, Option, None, Some, refl}
-use Rattle.st_rows.specs.Rows.{row, addressed, prepared, tick_a, tick_p, tick_c, after, bus_a, opening, wanted_from, operands}
+use Rattle.st_rows.specs.Rows.{row_of_entry, address_tick, preparation_tick, tick_a, tick_p, tick_c, front_after_entry, bus_a, opening_front, wanted_from, operands}
 use Rattle.st_rows.proofs.Awaited.{awaited-own, awaited-target, ready-after}
 use Rattle.st_rows.proofs.Stages.{c-within}
 use Rattle.st_rows.proofs.Tight.{tight-after}
 use Rattle.st_rows.proofs.Fills.{first-late, second-late, fills-ready, fills-decide}
-use Rattle.st_rows.proofs.Sooner.{read-sooner, answer-sooner, requested-sooner, row-sooner, after-sooner, order-after, covered-after, calm-behind, rows-sooner, opening-sooner, opening-order, opening-covered, none-falls}
+use Rattle.st_rows.proofs.Sooner.{read-sooner, answer-sooner, requested-sooner, row-sooner, after-sooner, order-after, covered-after, hazard_free-behind, rows-sooner, opening-sooner, opening-order, opening-covered, none-falls}
 use Rattle.st_rows.proofs.Older.{older-after, row-kept, after-kept}
 use Rattle.st_rows.proofs.Served.{served-asked, few-asked, most-asked, free-one_if, made-bounds, served-fetches}
 use Rattle.st_rows.specs.BusTimes.{accept_at}
@@ -18,7 +18,7 @@ use Rattle.st_rows.proofs.MadeLemmas.{all-made, made-more}
 use Rattle.st_rows.specs.Laws.{RowsAreInOrder, CompletionsAreBounded, OperandsAreThereBeforeCompletion, ReadsAreNoLater, EntriesAreNoLater, MoreLevelsAreNoLater, OlderEntriesAreDoneBefore, OlderEntriesDecideNothing, RowsMakeTheirReads, ReadsComeInOrder, MadeReadsAreAnsweredSoon, EntriesAskInParts, ReadsAreWantedInTime, BusesAreFreeInTime, LateReadsChangeNothing}
 
 pub rows_are_in_order : RowsAreInOrder
-unfolding row tick_a addressed tick_p prepared tick_c
+unfolding row_of_entry tick_a address_tick tick_p preparation_tick tick_c
 rows_are_in_order = record {
   address = λ ds n f e. (omega arith, omega arith);
   answers = λ ds n f e. omega arith;
@@ -32,14 +32,14 @@ rows_are_in_order = record {
 }
 
 pub completions_are_bounded : CompletionsAreBounded
-unfolding after
+unfolding front_after_entry
 completions_are_bounded = record {
   tight = λ most n ds f e are entry tight. tight-after most ds are n f e entry tight;
   bound = λ most n ds f e are entry tight. omega (arith, c-within most ds are f e entry tight n);
 }
 
 pub operands_are_there_before_completion : OperandsAreThereBeforeCompletion
-unfolding row tick_c
+unfolding row_of_entry tick_c
 operands_are_there_before_completion = record {
   first = λ most n ds f e are some. first-late most ds are f.past (bus_a ds f e) e.reads.one (tick_p ds n f e) some;
   second = λ most n ds f e are some. second-late most ds are f.past (bus_a ds f e) e.reads.one (tick_p ds n f e) some;
@@ -56,16 +56,16 @@ reads_are_no_later = record {
 
 pub entries_are_no_later : EntriesAreNoLater
 entries_are_no_later = record {
-  row = λ d m n ds f g e earlier are more is order covered calm.
-      row-sooner d ds are m n more f g e is order (calm-behind f.past earlier e covered calm);
-  after = λ d m n ds f g e earlier are more is order covered calm.
-      (after-sooner d ds are m n more f g e is order (calm-behind f.past earlier e covered calm), order-after ds n g e order, covered-after ds m f e earlier covered);
+  row = λ d m n ds f g e earlier are more is order covered hazard_free.
+      row-sooner d ds are m n more f g e is order (hazard_free-behind f.past earlier e covered hazard_free);
+  after = λ d m n ds f g e earlier are more is order covered hazard_free.
+      (after-sooner d ds are m n more f g e is order (hazard_free-behind f.past earlier e covered hazard_free), order-after ds n g e order, covered-after ds m f e earlier covered);
 }
 
 pub more_levels_are_no_later : MoreLevelsAreNoLater
-more_levels_are_no_later = λ d m n start ds banks es are more calm.
-    rows-sooner d ds are m n more es (opening banks start) (opening banks start) [] (opening-sooner banks start) (opening-order banks start)
-    (opening-covered banks start) calm
+more_levels_are_no_later = λ d m n start ds banks es are more hazard_free.
+    rows-sooner d ds are m n more es (opening_front banks start) (opening_front banks start) [] (opening-sooner banks start) (opening-order banks start)
+    (opening-covered banks start) hazard_free
 
 pub older_entries_are_done_before : OlderEntriesAreDoneBefore
 older_entries_are_done_before = record {

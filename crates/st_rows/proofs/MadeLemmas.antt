@@ -3,7 +3,7 @@ use Rattle.std.specs.Prelude.{nat_lt}
 use Rattle.std.proofs.Common.{◌≡◌, ℕ, ◌+◌, ◌<◌, ◌≤◌, true, false, List, [], ◌∷◌, ◌++◌, All, refl, inl, inr, ◌⊎◌, arith}
 use Rattle.std.proofs.lemmas.Bool.{cases_Bool, ltb-true, lt-ltb, ltb-false}
 use Rattle.std.proofs.lemmas.List.Elements.{All-head}
-use Rattle.st_rows.specs.Asked.{Read, after_one, served, made_before}
+use Rattle.st_rows.specs.Asked.{Read, after_one, bus_after_reads, made_before}
 use Rattle.st_rows.specs.BusTimes.{accept_at}
 use Rattle.st_rows.specs.declared.bus.Bus.{Bus}
 use Rattle.st_rows.proofs.Served.{free-one_if}
@@ -22,8 +22,8 @@ module _ (ds : List ℕ) where
 
   -- ---- free only rises
 
-  pub free-served : (xs : List Read) (b : Bus) → b.free ≤ (served ds xs b).free
-  unfolding served
+  pub free-served : (xs : List Read) (b : Bus) → b.free ≤ (bus_after_reads ds xs b).free
+  unfolding bus_after_reads
   free-served [] b = omega arith
   free-served (r ∷ xs) b = omega (arith, free-one b r, free-served xs (after_one ds b r))
 
@@ -45,16 +45,16 @@ module _ (ds : List ℕ) where
 
   -- ---- all of them
 
-  pub all-made : (t : ℕ) (xs : List Read) (b : Bus) → (served ds xs b).free ≤ t → made_before ds t xs b ≡ served ds xs b
-  unfolding made_before served
+  pub all-made : (t : ℕ) (xs : List Read) (b : Bus) → (bus_after_reads ds xs b).free ≤ t → made_before ds t xs b ≡ bus_after_reads ds xs b
+  unfolding made_before bus_after_reads
   all-made t [] b low = refl
   all-made t (r ∷ xs) b low =
       let early : accept_at b r.w r.want < t = omega (arith, free-one b r, free-served xs (after_one ds b r)) in
       rw (lt-ltb (accept_at b r.w r.want) t early) (all-made t xs (after_one ds b r) low)
 
   -- then others are made on the bus behind them
-  pub made-behind : (t : ℕ) (xs ys : List Read) (b : Bus) → (served ds xs b).free ≤ t → made_before ds t (xs ++ ys) b ≡ made_before ds t ys (served ds xs b)
-  unfolding made_before served
+  pub made-behind : (t : ℕ) (xs ys : List Read) (b : Bus) → (bus_after_reads ds xs b).free ≤ t → made_before ds t (xs ++ ys) b ≡ made_before ds t ys (bus_after_reads ds xs b)
+  unfolding made_before bus_after_reads
   made-behind t [] ys b low = refl
   made-behind t (r ∷ xs) ys b low =
       let early : accept_at b r.w r.want < t = omega (arith, free-one b r, free-served xs (after_one ds b r)) in

@@ -7,9 +7,9 @@ use Rattle.std.proofs.lemmas.List.Elements.{All-nil, All-cons, All-head, All-tai
 use Rattle.st_banks.specs.Bank.{bank_of, last_of, answered_at}
 use Rattle.st_fetch.specs.Queue.{window}
 use Rattle.st_fetch.proofs.Windows.{length-window, get_or-window}
-use Rattle.st_rows.specs.Asked.{Read, after_one, served, made_before}
-use Rattle.st_rows.specs.BusTimes.{accept_at, answer_at, after_read}
-use Rattle.st_rows.specs.Notes.{note, logged, undone, AreEarly, AreSettled, AreFalling, IsLogged}
+use Rattle.st_rows.specs.Asked.{Read, after_one, bus_after_reads, made_before}
+use Rattle.st_rows.specs.BusTimes.{accept_at, answer_at, bus_after_read}
+use Rattle.st_rows.specs.Notes.{note, notes_of_reads, answers_left, AreEarly, AreSettled, AreFalling, IsLogged}
 use Rattle.st_rows.specs.declared.bus.Bus.{Bus}
 use Rattle.st_rows.specs.declared.log.Made.{Made}
 use Rattle.st_rows.proofs.Served.{free-one_if}
@@ -27,13 +27,13 @@ put-back answers w x = set-back answers (bank_of w) x
 
 -- a read that is late is taken back
 pub undone-late : (t : ℕ) (m : Made) (notes : List Made) (answers : List ℕ) → t ≤ m.tick
-    → undone t (m ∷ notes) answers ≡ undone t notes (answered_at answers m.w m.before)
-unfolding undone
+    → answers_left t (m ∷ notes) answers ≡ answers_left t notes (answered_at answers m.w m.before)
+unfolding answers_left
 undone-late t m notes answers late = rw (le-ltb m.tick t late) refl
 
 -- nothing is, where the youngest one is early
-pub undone-settled : (t : ℕ) (notes : List Made) (answers : List ℕ) → AreSettled t notes → undone t notes answers ≡ answers
-unfolding undone
+pub undone-settled : (t : ℕ) (notes : List Made) (answers : List ℕ) → AreSettled t notes → answers_left t notes answers ≡ answers
+unfolding answers_left
 undone-settled t [] answers early = refl
 undone-settled t (m ∷ notes) answers early = rw (lt-ltb m.tick t early) refl
 
@@ -43,8 +43,8 @@ early-settled t (m ∷ notes) early = All-head (λ (x : Made). x.tick < t) m not
 
 -- notes that are not kept do not count, where they are early
 pub undone-take : (n t : ℕ) (notes : List Made) (answers : List ℕ) → AreEarly t (drop n notes)
-    → undone t (take n notes) answers ≡ undone t notes answers
-unfolding undone
+    → answers_left t (take n notes) answers ≡ answers_left t notes answers
+unfolding answers_left
 undone-take zero t notes answers early = sym (undone-settled t notes answers (early-settled t notes early))
 undone-take (suc n) t [] answers early = refl
 undone-take (suc n) t (m ∷ notes) answers early =
@@ -125,7 +125,7 @@ take-few n notes few = take_all n notes few
 module _ (ds : List ℕ) where
   ticks-one_if : (fetch : Bool) (b : Bus) (w want : ℕ)
       → (after_one ds b (record { w = w; want = want; fetch = fetch })).banks.ticks ≡ answered_at b.banks.ticks w (answer_at ds b w want)
-  unfolding after_read
+  unfolding bus_after_read
   ticks-one_if true b w want = refl
   ticks-one_if false b w want = refl
 
@@ -138,74 +138,74 @@ module _ (ds : List ℕ) where
   free-one : (b : Bus) (r : Read) → (after_one ds b r).free ≡ accept_at b r.w r.want + 1
   free-one b r = free-one_if ds r.fetch b r.w r.want
 
-  free-rises : (reads : List Read) (b : Bus) → b.free ≤ (served ds reads b).free
-  unfolding served
+  free-rises : (reads : List Read) (b : Bus) → b.free ≤ (bus_after_reads ds reads b).free
+  unfolding bus_after_reads
   free-rises [] b = omega arith
   free-rises (r ∷ reads) b = omega (arith, free-one b r, free-rises reads (after_one ds b r))
 
-  pub logged-append : (first rest : List Read) (b : Bus) → logged ds (first ++ rest) b ≡ logged ds rest (served ds first b) ++ logged ds first b
-  unfolding logged served
-  logged-append [] rest b = sym (append-nil (logged ds rest b))
+  pub logged-append : (first rest : List Read) (b : Bus) → notes_of_reads ds (first ++ rest) b ≡ notes_of_reads ds rest (bus_after_reads ds first b) ++ notes_of_reads ds first b
+  unfolding notes_of_reads bus_after_reads
+  logged-append [] rest b = sym (append-nil (notes_of_reads ds rest b))
   logged-append (r ∷ first) rest b =
       ap (λ (l : List Made). l ++ note b r ∷ []) (logged-append first rest (after_one ds b r))
-      ∙ append_assoc (logged ds rest (served ds first (after_one ds b r))) (logged ds first (after_one ds b r)) (note b r ∷ [])
+      ∙ append_assoc (notes_of_reads ds rest (bus_after_reads ds first (after_one ds b r))) (notes_of_reads ds first (after_one ds b r)) (note b r ∷ [])
 
-  pub logged-more : (reads : List Read) (r : Read) (b : Bus) → logged ds (reads ++ r ∷ []) b ≡ note (served ds reads b) r ∷ logged ds reads b
-  unfolding logged
+  pub logged-more : (reads : List Read) (r : Read) (b : Bus) → notes_of_reads ds (reads ++ r ∷ []) b ≡ note (bus_after_reads ds reads b) r ∷ notes_of_reads ds reads b
+  unfolding notes_of_reads
   logged-more reads r b = logged-append reads (r ∷ []) b
 
-  pub length-logged : (reads : List Read) (b : Bus) → length (logged ds reads b) ≡ length reads
-  unfolding logged
+  pub length-logged : (reads : List Read) (b : Bus) → length (notes_of_reads ds reads b) ≡ length reads
+  unfolding notes_of_reads
   length-logged [] b = refl
-  length-logged (r ∷ reads) b = length-append (logged ds reads (after_one ds b r)) (note b r ∷ []) ∙ omega (arith, length-logged reads (after_one ds b r))
+  length-logged (r ∷ reads) b = length-append (notes_of_reads ds reads (after_one ds b r)) (note b r ∷ []) ∙ omega (arith, length-logged reads (after_one ds b r))
 
   -- reads are accepted before the bus behind them is free
-  pub logged-early : (reads : List Read) (b : Bus) → AreEarly (served ds reads b).free (logged ds reads b)
-  unfolding logged served
+  pub logged-early : (reads : List Read) (b : Bus) → AreEarly (bus_after_reads ds reads b).free (notes_of_reads ds reads b)
+  unfolding notes_of_reads bus_after_reads
   logged-early [] b = All-nil (λ (m : Made). m.tick < b.free)
   logged-early (r ∷ reads) b =
-      let free = (served ds reads (after_one ds b r)).free in
-      All-append (λ (m : Made). m.tick < free) (logged ds reads (after_one ds b r)) (note b r ∷ []) (logged-early reads (after_one ds b r))
+      let free = (bus_after_reads ds reads (after_one ds b r)).free in
+      All-append (λ (m : Made). m.tick < free) (notes_of_reads ds reads (after_one ds b r)) (note b r ∷ []) (logged-early reads (after_one ds b r))
       (All-cons (λ (m : Made). m.tick < free) (note b r) [] (omega (arith, free-one b r, free-rises reads (after_one ds b r))) (All-nil (λ (m : Made). m.tick < free)))
 
   -- and not before the bus before them is
-  logged-late : (reads : List Read) (b : Bus) → All (λ m. b.free ≤ m.tick) (logged ds reads b)
-  unfolding logged
+  logged-late : (reads : List Read) (b : Bus) → All (λ m. b.free ≤ m.tick) (notes_of_reads ds reads b)
+  unfolding notes_of_reads
   logged-late [] b = All-nil (λ (m : Made). b.free ≤ m.tick)
   logged-late (r ∷ reads) b =
-      All-append (λ (m : Made). b.free ≤ m.tick) (logged ds reads (after_one ds b r)) (note b r ∷ [])
-      (All-weaker (λ (m : Made). (after_one ds b r).free ≤ m.tick) (λ m. b.free ≤ m.tick) (λ m late. omega (arith, late, free-one b r)) (logged ds reads (after_one ds b r))
+      All-append (λ (m : Made). b.free ≤ m.tick) (notes_of_reads ds reads (after_one ds b r)) (note b r ∷ [])
+      (All-weaker (λ (m : Made). (after_one ds b r).free ≤ m.tick) (λ m. b.free ≤ m.tick) (λ m late. omega (arith, late, free-one b r)) (notes_of_reads ds reads (after_one ds b r))
       (logged-late reads (after_one ds b r)))
       (All-cons (λ (m : Made). b.free ≤ m.tick) (note b r) [] (omega arith) (All-nil (λ (m : Made). b.free ≤ m.tick)))
 
-  pub logged-falls : (reads : List Read) (b : Bus) → AreFalling (logged ds reads b)
-  unfolding logged
+  pub logged-falls : (reads : List Read) (b : Bus) → AreFalling (notes_of_reads ds reads b)
+  unfolding notes_of_reads
   logged-falls [] b = tt
   logged-falls (r ∷ reads) b =
-      falling-more (note b r) (logged ds reads (after_one ds b r)) (logged-falls reads (after_one ds b r))
-      (All-weaker (λ (m : Made). (after_one ds b r).free ≤ m.tick) (λ m. (note b r).tick < m.tick) (λ m late. omega (arith, late, free-one b r)) (logged ds reads (after_one ds b r))
+      falling-more (note b r) (notes_of_reads ds reads (after_one ds b r)) (logged-falls reads (after_one ds b r))
+      (All-weaker (λ (m : Made). (after_one ds b r).free ≤ m.tick) (λ m. (note b r).tick < m.tick) (λ m late. omega (arith, late, free-one b r)) (notes_of_reads ds reads (after_one ds b r))
       (logged-late reads (after_one ds b r)))
 
   -- ---- taken back
 
   -- where the bus before them is not free before the tick, all of them are
   all-undone : (t : ℕ) (reads : List Read) (b : Bus) (older : List Made) → t ≤ b.free
-      → undone t (logged ds reads b ++ older) (served ds reads b).banks.ticks ≡ undone t older b.banks.ticks
-  unfolding logged served
+      → answers_left t (notes_of_reads ds reads b ++ older) (bus_after_reads ds reads b).banks.ticks ≡ answers_left t older b.banks.ticks
+  unfolding notes_of_reads bus_after_reads
   all-undone t [] b older late = refl
   all-undone t (r ∷ reads) b older late =
       let behind = after_one ds b r in
-      let last = (served ds reads behind).banks.ticks in
-      ap (λ (l : List Made). undone t l last) (append_assoc (logged ds reads behind) (note b r ∷ []) older)
+      let last = (bus_after_reads ds reads behind).banks.ticks in
+      ap (λ (l : List Made). answers_left t l last) (append_assoc (notes_of_reads ds reads behind) (note b r ∷ []) older)
       ∙ all-undone t reads behind (note b r ∷ older) (omega (arith, late, free-one b r))
       ∙ undone-late t (note b r) older behind.banks.ticks (omega (arith, late))
-      ∙ ap (undone t older) (back-one b r)
+      ∙ ap (answers_left t older) (back-one b r)
 
   undone-step : (t : ℕ) (r : Read) (reads : List Read) (b : Bus) (older : List Made) (early_one : Bool) → nat_lt (accept_at b r.w r.want) t ≡ early_one
       → AreEarly t older
-      → (AreEarly t (note b r ∷ older) → undone t (logged ds reads (after_one ds b r) ++ note b r ∷ older) (served ds reads (after_one ds b r)).banks.ticks
+      → (AreEarly t (note b r ∷ older) → answers_left t (notes_of_reads ds reads (after_one ds b r) ++ note b r ∷ older) (bus_after_reads ds reads (after_one ds b r)).banks.ticks
       ≡ (made_before ds t reads (after_one ds b r)).banks.ticks)
-      → undone t (logged ds reads (after_one ds b r) ++ note b r ∷ older) (served ds reads (after_one ds b r)).banks.ticks
+      → answers_left t (notes_of_reads ds reads (after_one ds b r) ++ note b r ∷ older) (bus_after_reads ds reads (after_one ds b r)).banks.ticks
       ≡ (if early_one then made_before ds t reads (after_one ds b r) else b).banks.ticks
   undone-step t r reads b older true e early rest =
       rest (All-cons (λ (m : Made). m.tick < t) (note b r) older (ltb-true (accept_at b r.w r.want) t e) early)
@@ -213,18 +213,18 @@ module _ (ds : List ℕ) where
       let late : t ≤ accept_at b r.w r.want = ltb-false (accept_at b r.w r.want) t e in
       all-undone t reads (after_one ds b r) (note b r ∷ older) (omega (arith, late, free-one b r))
       ∙ undone-late t (note b r) older (after_one ds b r).banks.ticks late
-      ∙ ap (undone t older) (back-one b r)
+      ∙ ap (answers_left t older) (back-one b r)
       ∙ undone-settled t older b.banks.ticks (early-settled t older early)
 
   -- those that are made before the tick alone are left
   pub undone-made : (t : ℕ) (reads : List Read) (b : Bus) (older : List Made) → AreEarly t older
-      → undone t (logged ds reads b ++ older) (served ds reads b).banks.ticks ≡ (made_before ds t reads b).banks.ticks
-  unfolding logged served made_before
+      → answers_left t (notes_of_reads ds reads b ++ older) (bus_after_reads ds reads b).banks.ticks ≡ (made_before ds t reads b).banks.ticks
+  unfolding notes_of_reads bus_after_reads made_before
   undone-made t [] b older early = undone-settled t older b.banks.ticks (early-settled t older early)
   undone-made t (r ∷ reads) b older early =
-      ap (λ (l : List Made). undone t l (served ds reads (after_one ds b r)).banks.ticks) (append_assoc (logged ds reads (after_one ds b r)) (note b r ∷ []) older)
+      ap (λ (l : List Made). answers_left t l (bus_after_reads ds reads (after_one ds b r)).banks.ticks) (append_assoc (notes_of_reads ds reads (after_one ds b r)) (note b r ∷ []) older)
       ∙ undone-step t r reads b older (nat_lt (accept_at b r.w r.want) t) refl early (undone-made t reads (after_one ds b r) (note b r ∷ older))
 
 pub opened-log : (ds : List ℕ) (now : ℕ) (b : Bus) → IsLogged ds now [] b []
-unfolding logged
+unfolding notes_of_reads
 opened-log ds now b = record { older = []; early = All-nil (λ (m : Made). m.tick < now); notes = refl }

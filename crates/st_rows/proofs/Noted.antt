@@ -1,42 +1,42 @@
 -- The log after the reads of an entry, one part behind the other.
 use Rattle.std.proofs.Common.{◌≡◌, ℕ, zero, suc, true, ◌+◌, ◌-◌, ◌≤◌, List, [], ◌∷◌, ◌++◌, refl, sym, ap, ◌∙◌, arith}
-use Rattle.st_rows.specs.Asked.{Read, data_asked, operands_asked, runs_asked, inside_asked, following_asked, after_one, served}
+use Rattle.st_rows.specs.Asked.{Read, data_asked, operands_asked, runs_asked, inside_asked, following_asked, after_one, bus_after_reads}
 use Rattle.st_rows.specs.BusTimes.{Reading}
-use Rattle.st_rows.specs.Notes.{noted}
+use Rattle.st_rows.specs.Notes.{log_after_reads}
 use Rattle.st_rows.specs.Rows.{read_word, read_words, request_inside}
 use Rattle.st_rows.specs.declared.bus.Bus.{Bus}
 use Rattle.st_rows.specs.declared.entry.Entry.{Entry}
-use Rattle.st_rows.specs.declared.entry.Runs.{Runs}
+use Rattle.st_rows.specs.declared.entry.WordRuns.{WordRuns}
 use Rattle.st_rows.specs.declared.log.Made.{Made}
 use Rattle.st_rows.specs.declared.past.Past.{Past}
 use Rattle.st_rows.proofs.Served.{served-data, served-inside, served-operands}
 
 module _ (ds : List ℕ) where
-  pub noted-append : (xs ys : List Read) (b : Bus) (log : List Made) → noted ds (xs ++ ys) b log ≡ noted ds ys (served ds xs b) (noted ds xs b log)
-  unfolding noted served
+  pub noted-append : (xs ys : List Read) (b : Bus) (log : List Made) → log_after_reads ds (xs ++ ys) b log ≡ log_after_reads ds ys (bus_after_reads ds xs b) (log_after_reads ds xs b log)
+  unfolding log_after_reads bus_after_reads
   noted-append [] ys b log = refl
   noted-append (x ∷ xs) ys b log = noted-append xs ys (after_one ds b x) _
 
   -- one part, and what comes behind the bus that it leaves
-  pub noted-two : (xs ys : List Read) (b d : Bus) (log new : List Made) → d ≡ served ds xs b → new ≡ noted ds xs b log
-      → noted ds ys d new ≡ noted ds (xs ++ ys) b log
+  pub noted-two : (xs ys : List Read) (b d : Bus) (log new : List Made) → d ≡ bus_after_reads ds xs b → new ≡ log_after_reads ds xs b log
+      → log_after_reads ds ys d new ≡ log_after_reads ds (xs ++ ys) b log
   noted-two xs ys b d log new is made = rw (is, made) (sym (noted-append xs ys b log))
 
   module _ (past : List Past) (p : ℕ) where
     -- one operand word of a run
-    pub operand-turn : (w : ℕ) (s t : Reading) (n : ℕ) (log new : List Made) → t ≡ read_word ds past s w p → new ≡ noted ds (data_asked past w p) s.bus log → 1 ≤ n
-        → noted ds (operands_asked past p (w + 1) (n - 1)) t.bus new ≡ noted ds (operands_asked past p w n) s.bus log
+    pub operand-turn : (w : ℕ) (s t : Reading) (n : ℕ) (log new : List Made) → t ≡ read_word ds past s w p → new ≡ log_after_reads ds (data_asked past w p) s.bus log → 1 ≤ n
+        → log_after_reads ds (operands_asked past p (w + 1) (n - 1)) t.bus new ≡ log_after_reads ds (operands_asked past p w n) s.bus log
     unfolding operands_asked
     operand-turn w s t zero log new is made some = let no : ⊥ = omega arith in absurd no
     operand-turn w s t (suc n) log new is made some =
         let e : suc n - 1 ≡ n = omega arith in
-        let bus : t.bus ≡ served ds (data_asked past w p) s.bus = ap (λ (x : Reading). x.bus) is ∙ sym (served-data ds past w p s) in
+        let bus : t.bus ≡ bus_after_reads ds (data_asked past w p) s.bus = ap (λ (x : Reading). x.bus) is ∙ sym (served-data ds past w p s) in
         rw e (noted-two (data_asked past w p) (operands_asked past p (w + 1) n) s.bus t.bus log new bus made)
 
     -- two of them
     pub operands-two : (w : ℕ) (s t u : Reading) (n : ℕ) (log one two : List Made) → t ≡ read_word ds past s w p → u ≡ read_word ds past t (w + 1) p
-        → one ≡ noted ds (data_asked past w p) s.bus log → two ≡ noted ds (data_asked past (w + 1) p) t.bus one → 2 ≤ n
-        → noted ds (operands_asked past p (w + 2) (n - 2)) u.bus two ≡ noted ds (operands_asked past p w n) s.bus log
+        → one ≡ log_after_reads ds (data_asked past w p) s.bus log → two ≡ log_after_reads ds (data_asked past (w + 1) p) t.bus one → 2 ≤ n
+        → log_after_reads ds (operands_asked past p (w + 2) (n - 2)) u.bus two ≡ log_after_reads ds (operands_asked past p w n) s.bus log
     operands-two w s t u n log one two is then_is made then_made some =
         let further : w + 2 ≡ w + 1 + 1 = omega arith in
         let less : n - 2 ≡ n - 1 - 1 = omega arith in
@@ -44,20 +44,20 @@ module _ (ds : List ℕ) where
         (operand-turn (w + 1) t u (n - 1) one two then_is then_made (omega arith) ∙ operand-turn w s t n log one is made (omega arith))
 
     -- one word alone
-    pub operand-one : (w : ℕ) (s t : Reading) (n : ℕ) (log new : List Made) → t ≡ read_word ds past s w p → new ≡ noted ds (data_asked past w p) s.bus log → n ≡ 1
-        → new ≡ noted ds (operands_asked past p w n) s.bus log
-    unfolding operands_asked noted
+    pub operand-one : (w : ℕ) (s t : Reading) (n : ℕ) (log new : List Made) → t ≡ read_word ds past s w p → new ≡ log_after_reads ds (data_asked past w p) s.bus log → n ≡ 1
+        → new ≡ log_after_reads ds (operands_asked past p w n) s.bus log
+    unfolding operands_asked log_after_reads
     operand-one w s t n log new is made one =
         let last = operand-turn w s t n log new is made (omega arith) in
         let none : n - 1 ≡ 0 = omega arith in
         rw none at last
 
   -- the second run behind the first
-  pub runs-noted : (past : List Past) (p : ℕ) (reads : Runs) (s t : Reading) (log one two : List Made)
+  pub runs-noted : (past : List Past) (p : ℕ) (reads : WordRuns) (s t : Reading) (log one two : List Made)
       → t ≡ read_words ds past s p reads.one.first reads.one.len
-      → one ≡ noted ds (operands_asked past p reads.one.first reads.one.len) s.bus log
-      → two ≡ noted ds (operands_asked past p reads.two.first reads.two.len) t.bus one
-      → two ≡ noted ds (runs_asked past reads p) s.bus log
+      → one ≡ log_after_reads ds (operands_asked past p reads.one.first reads.one.len) s.bus log
+      → two ≡ log_after_reads ds (operands_asked past p reads.two.first reads.two.len) t.bus one
+      → two ≡ log_after_reads ds (runs_asked past reads p) s.bus log
   runs-noted past p reads s t log one two is one_is two_is =
       two_is
       ∙ noted-two (operands_asked past p reads.one.first reads.one.len) (operands_asked past p reads.two.first reads.two.len) s.bus t.bus log one
@@ -65,8 +65,8 @@ module _ (ds : List ℕ) where
 
   -- both following words
   pub both-noted : (b d : Bus) (e : Entry) (p w : ℕ) (log one two : List Made) → e.follows ≡ true → w ≡ e.own.first + e.own.len
-      → d ≡ request_inside ds b w p → one ≡ noted ds (inside_asked b w p) b log → two ≡ noted ds (inside_asked d (w + 1) p) d one
-      → two ≡ noted ds (following_asked ds b e p) b log
+      → d ≡ request_inside ds b w p → one ≡ log_after_reads ds (inside_asked b w p) b log → two ≡ log_after_reads ds (inside_asked d (w + 1) p) d one
+      → two ≡ log_after_reads ds (following_asked ds b e p) b log
   unfolding following_asked
   both-noted b d e p w log one two follows here is one_is two_is =
       rw (follows, ← here)

@@ -4,12 +4,12 @@ use Rattle.std.proofs.Common.{◌≡◌, ℕ, zero, suc, ◌+◌, ◌-◌, ◌<�
 use Rattle.std.proofs.lemmas.Bool.{cases_Bool, cases_lt, ltb-true}
 use Rattle.std.proofs.lemmas.List.{get_or-take}
 use Rattle.std.proofs.lemmas.List.Elements.{All-from_get_or}
-use Rattle.st_rows.specs.BusTimes.{Reading, after_read, answer_at, requested, answer_of}
-use Rattle.st_rows.specs.Entries.{is_among, latest_done, no_words}
-use Rattle.st_rows.specs.Levels.{AreInOrder, AreOlderDone, kept}
-use Rattle.st_rows.specs.Rows.{fetch_word, fetch_words, wanted_from, fetched, addressed, bus_sided, side_there, done_before, prepared, read_word, read_words, operands_read, tick_a, bus_a, tick_y, tick_p, operands, tick_c, row, after}
+use Rattle.st_rows.specs.BusTimes.{Reading, bus_after_read, answer_at, bus_after_request, answer_tick_on}
+use Rattle.st_rows.specs.Entries.{is_among, latest_done, no_runs}
+use Rattle.st_rows.specs.Levels.{AreInOrder, AreOlderDone, front_of_last}
+use Rattle.st_rows.specs.Rows.{fetch_word, fetch_words, wanted_from, words_tick, address_tick, bus_sided, side_there, done_before, preparation_tick, read_word, read_words, operands_read, tick_a, bus_a, tick_y, tick_p, operands, tick_c, row_of_entry, front_after_entry}
 use Rattle.st_rows.specs.declared.bus.Bus.{Bus}
-use Rattle.st_rows.specs.declared.entry.Runs.{Runs}
+use Rattle.st_rows.specs.declared.entry.WordRuns.{WordRuns}
 use Rattle.st_rows.specs.declared.entry.Entry.{Entry}
 use Rattle.st_rows.specs.declared.past.Past.{Past}
 use Rattle.st_rows.specs.declared.fetching.Fetching.{Fetching}
@@ -19,20 +19,20 @@ use Rattle.st_rows.proofs.Sooner.{take-beyond}
 
 -- ---- they are done before the last entry is prepared
 
-older-taken : (n p : ℕ) (past : List Past) → ((j : ℕ) → n ≤ j → (get_or past j (record { c = 0; writes = no_words })).c ≤ p)
-    → (j : ℕ) → n ≤ j → (get_or (take 7 past) j (record { c = 0; writes = no_words })).c ≤ p
+older-taken : (n p : ℕ) (past : List Past) → ((j : ℕ) → n ≤ j → (get_or past j (record { c = 0; writes = no_runs })).c ≤ p)
+    → (j : ℕ) → n ≤ j → (get_or (take 7 past) j (record { c = 0; writes = no_runs })).c ≤ p
 older-taken n p past old j back = elim (cases_lt j 7) [
-  | inl inside ↦ rw (get_or-take 7 past j (record { c = 0; writes = no_words }) inside) (old j back)
+  | inl inside ↦ rw (get_or-take 7 past j (record { c = 0; writes = no_runs }) inside) (old j back)
   | inr beyond ↦ omega (arith, take-beyond past 7 j beyond)
 ]
 
-older-next : (n p : ℕ) (x : Past) (past : List Past) → 1 ≤ n → ((j : ℕ) → n - 1 ≤ j → (get_or past j (record { c = 0; writes = no_words })).c ≤ p)
-    → (j : ℕ) → n ≤ j → (get_or (x ∷ past) j (record { c = 0; writes = no_words })).c ≤ p
+older-next : (n p : ℕ) (x : Past) (past : List Past) → 1 ≤ n → ((j : ℕ) → n - 1 ≤ j → (get_or past j (record { c = 0; writes = no_runs })).c ≤ p)
+    → (j : ℕ) → n ≤ j → (get_or (x ∷ past) j (record { c = 0; writes = no_runs })).c ≤ p
 older-next n p x past some old zero back = let no_place : ⊥ = omega arith in absurd no_place
 older-next n p x past some old (suc j) back = old j (omega arith)
 
-pub older-after : (ds : List ℕ) (n : ℕ) (f : Front) (e : Entry) → 1 ≤ n → AreInOrder f → AreOlderDone n (after ds n f e)
-unfolding after tick_p prepared
+pub older-after : (ds : List ℕ) (n : ℕ) (f : Front) (e : Entry) → 1 ≤ n → AreInOrder f → AreOlderDone n (front_after_entry ds n f e)
+unfolding front_after_entry tick_p preparation_tick
 older-after ds n f e some order =
     older-next n (tick_p ds n f e) (record { c = tick_c ds n f e; writes = e.writes }) (take 7 f.past) some
     (older-taken (n - 1) (tick_p ds n f e) f.past (λ j back. omega (arith, order.falls (n - 1) j back)))
@@ -42,13 +42,13 @@ older-after ds n f e some order =
 abbrev AreAlike : ℕ → ℕ → ℕ → Type 0
 AreAlike p x y = (x ≡ y) ⊎ ((x ≡ 0) × (y ≤ p))
 
-latest-kept : (p : ℕ) (past : List Past) (n w : ℕ) → ((j : ℕ) → n ≤ j → (get_or past j (record { c = 0; writes = no_words })).c ≤ p)
+latest-kept : (p : ℕ) (past : List Past) (n w : ℕ) → ((j : ℕ) → n ≤ j → (get_or past j (record { c = 0; writes = no_runs })).c ≤ p)
     → AreAlike p (latest_done (take n past) w) (latest_done past w)
 unfolding latest_done
 latest-kept p [] zero w old = inl refl
 latest-kept p [] (suc n) w old = inl refl
 latest-kept p (x ∷ past) zero w old =
-    inr (refl, latest-within p (x ∷ past) w (record { each = All-from_get_or (λ (entry : Past). entry.c ≤ p) (x ∷ past) (record { c = 0; writes = no_words }) (λ i inside. old i (omega arith)) }))
+    inr (refl, latest-within p (x ∷ past) w (record { each = All-from_get_or (λ (entry : Past). entry.c ≤ p) (x ∷ past) (record { c = 0; writes = no_runs }) (λ i inside. old i (omega arith)) }))
 latest-kept p (x ∷ past) (suc n) w old = elim (cases_Bool (is_among w x.writes)) [
   | inl t ↦ inl (rw t refl)
   | inr f ↦ rw f (latest-kept p past n w (λ j back. old (suc j) (omega arith)))
@@ -77,15 +77,15 @@ module _ (ds : List ℕ) (p : ℕ) (few past : List Past) (alike : (w : ℕ) →
   same-words from s t w zero late is = is
   same-words from s t w (suc n) late is =
       let want : max (max from s.answered) s.awaited ≡ max (max from t.answered) t.awaited = omega (arith, is.answered, is.awaited) in
-      let known = both (λ b u. answer_of ds b w u) s.bus t.bus _ _ is.bus want in
+      let known = both (λ b u. answer_tick_on ds b w u) s.bus t.bus _ _ is.bus want in
       let writer = alike-max p p (latest_done few w) (latest_done past w) (omega arith) (alike w) in
       same-words from (fetch_word ds few s w from) (fetch_word ds past t w from) (w + 1) n late (record {
-        bus = both (λ b u. requested ds b w u) s.bus t.bus _ _ is.bus want;
+        bus = both (λ b u. bus_after_request ds b w u) s.bus t.bus _ _ is.bus want;
         answered = omega (arith, is.answered, known);
         awaited = omega (arith, is.awaited, writer);
       })
 
-  same-bus_if : (w a x y : ℕ) (b : Bus) → p < a → AreAlike p x y → (if nat_lt a x then b else after_read ds b w a) ≡ (if nat_lt a y then b else after_read ds b w a)
+  same-bus_if : (w a x y : ℕ) (b : Bus) → p < a → AreAlike p x y → (if nat_lt a x then b else bus_after_read ds b w a) ≡ (if nat_lt a y then b else bus_after_read ds b w a)
   same-bus_if w a x y b late (inl same) = rw same refl
   same-bus_if w a x y b late (inr old) = rw (not-later a x (omega (arith, old.0)), not-later a y (omega (arith, old.1))) refl
 
@@ -104,8 +104,8 @@ module _ (ds : List ℕ) (p : ℕ) (few past : List Past) (alike : (w : ℕ) →
   same-there b (Some w) a late = same-there_if w a (latest_done few w) (latest_done past w) b late (alike w)
 
   same-read_if : (s : Reading) (w q x y : ℕ) → p < q → AreAlike p x y
-      → (if nat_lt q x then s else record { bus = after_read ds s.bus w q; answered = max s.answered (answer_at ds s.bus w q) })
-      ≡ (if nat_lt q y then s else record { bus = after_read ds s.bus w q; answered = max s.answered (answer_at ds s.bus w q) })
+      → (if nat_lt q x then s else record { bus = bus_after_read ds s.bus w q; answered = max s.answered (answer_at ds s.bus w q) })
+      ≡ (if nat_lt q y then s else record { bus = bus_after_read ds s.bus w q; answered = max s.answered (answer_at ds s.bus w q) })
   same-read_if s w q x y late (inl same) = rw same refl
   same-read_if s w q x y late (inr old) = rw (not-later q x (omega (arith, old.0)), not-later q y (omega (arith, old.1))) refl
 
@@ -116,7 +116,7 @@ module _ (ds : List ℕ) (p : ℕ) (few past : List Past) (alike : (w : ℕ) →
       ap (λ (t : Reading). read_words ds few t q (w + 1) n) (same-read_if s w q (latest_done few w) (latest_done past w) late (alike w))
       ∙ same-reads q (read_word ds past s w q) (w + 1) n late
 
-  same-operands : (b : Bus) (reads : Runs) (q : ℕ) → p < q → operands_read ds few b reads q ≡ operands_read ds past b reads q
+  same-operands : (b : Bus) (reads : WordRuns) (q : ℕ) → p < q → operands_read ds few b reads q ≡ operands_read ds past b reads q
   unfolding operands_read
   same-operands b reads q late =
       let start : Reading = record { bus = b; answered = q } in
@@ -147,65 +147,65 @@ module _ (ds : List ℕ) (n : ℕ) (f : Front) (e : Entry) (some : 1 ≤ n) (old
       late_if true = omega arith
       late_if false = omega arith
 
-  same-fetched : AreSame f.p (fetched ds (kept n f) e) (fetched ds f e)
-  unfolding fetched
+  same-fetched : AreSame f.p (words_tick ds (front_of_last n f) e) (words_tick ds f e)
+  unfolding words_tick
   same-fetched =
       let start : AreSame f.p (record { bus = f.bus; answered = 0; awaited = 0 }) (record { bus = f.bus; answered = 0; awaited = 0 }) =
       record { bus = refl; answered = refl; awaited = refl } in
       same-words ds f.p (take n f.past) f.past alike (max (wanted_from f) f.c) _ _ e.target.first e.target.len (omega (arith, wanted-late))
       (same-words ds f.p (take n f.past) f.past alike (wanted_from f) _ _ e.own.first e.own.len wanted-late start)
 
-  same-a : tick_a ds (kept n f) e ≡ tick_a ds f e
-  unfolding tick_a addressed
+  same-a : tick_a ds (front_of_last n f) e ≡ tick_a ds f e
+  unfolding tick_a address_tick
   same-a = omega (arith, same-fetched.answered, same-fetched.awaited)
 
   a-late : f.p < tick_a ds f e
-  unfolding tick_a addressed
+  unfolding tick_a address_tick
   a-late = omega arith
 
-  same-bus_a : bus_a ds (kept n f) e ≡ bus_a ds f e
+  same-bus_a : bus_a ds (front_of_last n f) e ≡ bus_a ds f e
   unfolding bus_a
   same-bus_a =
       both (λ b a. bus_sided ds (take n f.past) b e.side a) _ _ _ _ same-fetched.bus same-a
-      ∙ same-sided ds f.p (take n f.past) f.past alike (fetched ds f e).bus e.side (tick_a ds f e) a-late
+      ∙ same-sided ds f.p (take n f.past) f.past alike (words_tick ds f e).bus e.side (tick_a ds f e) a-late
 
-  same-y : tick_y ds (kept n f) e ≡ tick_y ds f e
+  same-y : tick_y ds (front_of_last n f) e ≡ tick_y ds f e
   unfolding tick_y
   same-y =
       both (λ b a. side_there ds (take n f.past) b e.side a) _ _ _ _ same-fetched.bus same-a
-      ∙ same-there ds f.p (take n f.past) f.past alike (fetched ds f e).bus e.side (tick_a ds f e) a-late
+      ∙ same-there ds f.p (take n f.past) f.past alike (words_tick ds f e).bus e.side (tick_a ds f e) a-late
 
   same-nth : done_before n (take n f.past) ≡ done_before n f.past
-  same-nth = ap (λ (d : Past). d.c) (get_or-take n f.past (n - 1) (record { c = 0; writes = no_words }) (omega arith))
+  same-nth = ap (λ (d : Past). d.c) (get_or-take n f.past (n - 1) (record { c = 0; writes = no_runs }) (omega arith))
 
-  same-p : tick_p ds n (kept n f) e ≡ tick_p ds n f e
-  unfolding tick_p prepared
+  same-p : tick_p ds n (front_of_last n f) e ≡ tick_p ds n f e
+  unfolding tick_p preparation_tick
   same-p = omega (arith, same-a, same-y, same-nth)
 
   p-late : f.p < tick_p ds n f e
-  unfolding tick_p prepared
+  unfolding tick_p preparation_tick
   p-late = omega (arith, a-late)
 
-  same-operands_of : operands ds n (kept n f) e ≡ operands ds n f e
+  same-operands_of : operands ds n (front_of_last n f) e ≡ operands ds n f e
   unfolding operands
   same-operands_of =
       both (λ b q. operands_read ds (take n f.past) b e.reads q) _ _ _ _ same-bus_a same-p
       ∙ same-operands ds f.p (take n f.past) f.past alike (bus_a ds f e) e.reads (tick_p ds n f e) p-late
 
-  same-c : tick_c ds n (kept n f) e ≡ tick_c ds n f e
+  same-c : tick_c ds n (front_of_last n f) e ≡ tick_c ds n f e
   unfolding tick_c
   same-c = rw same-operands_of refl
 
-  pub row-kept : row ds n (kept n f) e ≡ row ds n f e
-  unfolding row
+  pub row-kept : row_of_entry ds n (front_of_last n f) e ≡ row_of_entry ds n f e
+  unfolding row_of_entry
   row-kept = rw (same-a, same-p, same-operands_of, same-c) refl
 
-  same-follow : (after ds n (kept n f) e).bus ≡ (after ds n f e).bus
-  unfolding after
+  same-follow : (front_after_entry ds n (front_of_last n f) e).bus ≡ (front_after_entry ds n f e).bus
+  unfolding front_after_entry
   same-follow = rw (same-operands_of, same-p) refl
 
-  pub after-kept : kept n (after ds n (kept n f) e) ≡ kept n (after ds n f e)
-  unfolding after
+  pub after-kept : front_of_last n (front_after_entry ds n (front_of_last n f) e) ≡ front_of_last n (front_after_entry ds n f e)
+  unfolding front_after_entry
   after-kept =
       let taken = take-newest n (record { c = tick_c ds n f e; writes = e.writes }) f.past in
       rw (same-operands_of, same-p, same-c, taken) refl

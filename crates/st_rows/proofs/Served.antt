@@ -4,10 +4,10 @@ use Rattle.std.proofs.Common.{◌≡◌, ℕ, zero, suc, ◌+◌, ◌<◌, ◌�
 use Rattle.std.proofs.lemmas.Bool.{cases_Bool, ltb-true}
 use Rattle.st_bits.specs.Storage.{words_of_storage}
 use Rattle.st_fetch.specs.Planned.{tick_of}
-use Rattle.st_rows.specs.Asked.{Read, word_asked, words_asked, data_asked, side_asked, operands_asked, inside_asked, runs_asked, following_asked, fetches_asked, asked, after_one, served, made_before, side_count, own_reads}
-use Rattle.st_rows.specs.BusTimes.{Reading, accept_at, answer_at, after_read, requested_if, requested}
-use Rattle.st_rows.specs.Ranges.{AreDelays, IsNear}
-use Rattle.st_rows.specs.Rows.{fetch_word, fetch_words, wanted_from, fetched, is_forwarded, bus_sided, read_word, read_words, operands_read, request_inside, bus_followed, tick_a, bus_a, tick_p, operands, after}
+use Rattle.st_rows.specs.Asked.{Read, word_asked, words_asked, data_asked, side_asked, operands_asked, inside_asked, runs_asked, following_asked, fetches_asked, reads_of_entry, after_one, bus_after_reads, made_before, side_count, own_reads}
+use Rattle.st_rows.specs.BusTimes.{Reading, accept_at, answer_at, bus_after_read, requested_if, bus_after_request}
+use Rattle.st_rows.specs.Ranges.{AreDelaysUpTo, IsNear}
+use Rattle.st_rows.specs.Rows.{fetch_word, fetch_words, wanted_from, words_tick, is_forwarded, bus_sided, read_word, read_words, operands_read, request_inside, bus_followed, tick_a, bus_a, tick_p, operands, front_after_entry}
 use Rattle.st_rows.specs.declared.bus.Bus.{Bus}
 use Rattle.st_rows.specs.declared.entry.Entry.{Entry}
 use Rattle.st_rows.specs.declared.past.Past.{Past}
@@ -16,91 +16,91 @@ use Rattle.st_rows.specs.declared.front.Front.{Front}
 use Rattle.st_rows.proofs.Tight.{near-read, near-requested_if}
 
 module _ (ds : List ℕ) where
-  served-none : (b : Bus) → served ds [] b ≡ b
-  unfolding served
+  served-none : (b : Bus) → bus_after_reads ds [] b ≡ b
+  unfolding bus_after_reads
   served-none b = refl
 
-  pub served-append : (xs ys : List Read) (b : Bus) → served ds (xs ++ ys) b ≡ served ds ys (served ds xs b)
-  unfolding served
+  pub served-append : (xs ys : List Read) (b : Bus) → bus_after_reads ds (xs ++ ys) b ≡ bus_after_reads ds ys (bus_after_reads ds xs b)
+  unfolding bus_after_reads
   served-append [] ys b = refl
   served-append (x ∷ xs) ys b = served-append xs ys (after_one ds b x)
 
-  pub served-word : (o : Option ℕ) (w want : ℕ) (b : Bus) → served ds (word_asked o w want) b ≡ requested_if o ds b w want
-  unfolding served
+  pub served-word : (o : Option ℕ) (w want : ℕ) (b : Bus) → bus_after_reads ds (word_asked o w want) b ≡ requested_if o ds b w want
+  unfolding bus_after_reads
   served-word (Some t) w want b = refl
   served-word None w want b = refl
 
   pub served-words : (past : List Past) (from : ℕ) (s : Fetching) (w n : ℕ)
-      → served ds (words_asked ds past s from w n) s.bus ≡ (fetch_words ds past s from w n).bus
-  unfolding words_asked fetch_words fetch_word requested
+      → bus_after_reads ds (words_asked ds past s from w n) s.bus ≡ (fetch_words ds past s from w n).bus
+  unfolding words_asked fetch_words fetch_word bus_after_request
   served-words past from s w zero = served-none s.bus
   served-words past from s w (suc n) =
       served-append (word_asked (tick_of s.bus.held.words w) w (max (max from s.answered) s.awaited)) (words_asked ds past (fetch_word ds past s w from) from (w + 1) n) s.bus
-      ∙ ap (served ds (words_asked ds past (fetch_word ds past s w from) from (w + 1) n)) (served-word (tick_of s.bus.held.words w) w (max (max from s.answered) s.awaited) s.bus)
+      ∙ ap (bus_after_reads ds (words_asked ds past (fetch_word ds past s w from) from (w + 1) n)) (served-word (tick_of s.bus.held.words w) w (max (max from s.answered) s.awaited) s.bus)
       ∙ served-words past from (fetch_word ds past s w from) (w + 1) n
 
   data_if : (late : Bool) (w tick : ℕ) (b : Bus)
-      → served ds (if late then [] else record { w = w; want = tick; fetch = false } ∷ []) b ≡ (if late then b else after_read ds b w tick)
-  unfolding served
+      → bus_after_reads ds (if late then [] else record { w = w; want = tick; fetch = false } ∷ []) b ≡ (if late then b else bus_after_read ds b w tick)
+  unfolding bus_after_reads
   data_if true w tick b = refl
   data_if false w tick b = refl
 
   bus_if : (late : Bool) (s : Reading) (w p : ℕ)
-      → (if late then s.bus else after_read ds s.bus w p)
-      ≡ (if late then s else record { bus = after_read ds s.bus w p; answered = max s.answered (answer_at ds s.bus w p) }).bus
+      → (if late then s.bus else bus_after_read ds s.bus w p)
+      ≡ (if late then s else record { bus = bus_after_read ds s.bus w p; answered = max s.answered (answer_at ds s.bus w p) }).bus
   bus_if true s w p = refl
   bus_if false s w p = refl
 
   -- an operand word
-  pub served-data : (past : List Past) (w p : ℕ) (s : Reading) → served ds (data_asked past w p) s.bus ≡ (read_word ds past s w p).bus
+  pub served-data : (past : List Past) (w p : ℕ) (s : Reading) → bus_after_reads ds (data_asked past w p) s.bus ≡ (read_word ds past s w p).bus
   unfolding read_word
   served-data past w p s = data_if (is_forwarded past w p) w p s.bus ∙ bus_if (is_forwarded past w p) s w p
 
-  pub served-side : (past : List Past) (side : Option ℕ) (a : ℕ) (b : Bus) → served ds (side_asked past side a) b ≡ bus_sided ds past b side a
+  pub served-side : (past : List Past) (side : Option ℕ) (a : ℕ) (b : Bus) → bus_after_reads ds (side_asked past side a) b ≡ bus_sided ds past b side a
   unfolding side_asked bus_sided
   served-side past None a b = served-none b
   served-side past (Some w) a b = data_if (is_forwarded past w a) w a b
 
   pub served-operands : (past : List Past) (p : ℕ) (s : Reading) (w n : ℕ)
-      → served ds (operands_asked past p w n) s.bus ≡ (read_words ds past s p w n).bus
+      → bus_after_reads ds (operands_asked past p w n) s.bus ≡ (read_words ds past s p w n).bus
   unfolding operands_asked read_words read_word
   served-operands past p s w zero = served-none s.bus
   served-operands past p s w (suc n) =
       served-append (data_asked past w p) (operands_asked past p (w + 1) n) s.bus
-      ∙ ap (served ds (operands_asked past p (w + 1) n)) (served-data past w p s)
+      ∙ ap (bus_after_reads ds (operands_asked past p (w + 1) n)) (served-data past w p s)
       ∙ served-operands past p (read_word ds past s w p) (w + 1) n
 
   inside_if : (inside : Bool) (b : Bus) (w p : ℕ)
-      → served ds (if inside then word_asked (tick_of b.held.words w) w p else []) b ≡ (if inside then requested ds b w p else b)
-  unfolding requested
+      → bus_after_reads ds (if inside then word_asked (tick_of b.held.words w) w p else []) b ≡ (if inside then bus_after_request ds b w p else b)
+  unfolding bus_after_request
   inside_if true b w p = served-word (tick_of b.held.words w) w p b
   inside_if false b w p = served-none b
 
   -- a following word
-  pub served-inside : (b : Bus) (w p : ℕ) → served ds (inside_asked b w p) b ≡ request_inside ds b w p
+  pub served-inside : (b : Bus) (w p : ℕ) → bus_after_reads ds (inside_asked b w p) b ≡ request_inside ds b w p
   served-inside b w p = inside_if (nat_lt w words_of_storage) b w p
 
   pub follow_if : (follows : Bool) (b : Bus) (w p : ℕ)
-      → served ds (if follows then inside_asked b w p ++ inside_asked (request_inside ds b w p) (w + 1) p else []) b
+      → bus_after_reads ds (if follows then inside_asked b w p ++ inside_asked (request_inside ds b w p) (w + 1) p else []) b
       ≡ (if follows then request_inside ds (request_inside ds b w p) (w + 1) p else b)
   follow_if false b w p = served-none b
   follow_if true b w p =
       served-append (inside_asked b w p) (inside_asked (request_inside ds b w p) (w + 1) p) b
-      ∙ ap (served ds (inside_asked (request_inside ds b w p) (w + 1) p)) (inside_if (nat_lt w words_of_storage) b w p)
+      ∙ ap (bus_after_reads ds (inside_asked (request_inside ds b w p) (w + 1) p)) (inside_if (nat_lt w words_of_storage) b w p)
       ∙ inside_if (nat_lt (w + 1) words_of_storage) (request_inside ds b w p) (w + 1) p
 
-  pub served-fetches : (f : Front) (e : Entry) → served ds (fetches_asked ds f e) f.bus ≡ (fetched ds f e).bus
-  unfolding fetches_asked fetched
+  pub served-fetches : (f : Front) (e : Entry) → bus_after_reads ds (fetches_asked ds f e) f.bus ≡ (words_tick ds f e).bus
+  unfolding fetches_asked words_tick
   served-fetches f e =
       let start : Fetching = record { bus = f.bus; answered = 0; awaited = 0 } in
       let own = fetch_words ds f.past start (wanted_from f) e.own.first e.own.len in
       let target = words_asked ds f.past own (max (wanted_from f) f.c) e.target.first e.target.len in
       served-append (words_asked ds f.past start (wanted_from f) e.own.first e.own.len) target f.bus
-      ∙ ap (served ds target) (served-words f.past (wanted_from f) start e.own.first e.own.len)
+      ∙ ap (bus_after_reads ds target) (served-words f.past (wanted_from f) start e.own.first e.own.len)
       ∙ served-words f.past (max (wanted_from f) f.c) own e.target.first e.target.len
 
   -- the operands, and the following words behind them
-  pub served-runs : (n : ℕ) (f : Front) (e : Entry) → served ds (runs_asked f.past e.reads (tick_p ds n f e)) (bus_a ds f e) ≡ (operands ds n f e).bus
+  pub served-runs : (n : ℕ) (f : Front) (e : Entry) → bus_after_reads ds (runs_asked f.past e.reads (tick_p ds n f e)) (bus_a ds f e) ≡ (operands ds n f e).bus
   unfolding operands operands_read
   served-runs n f e =
       let p = tick_p ds n f e in
@@ -108,16 +108,16 @@ module _ (ds : List ℕ) where
       let one = operands_asked f.past p e.reads.one.first e.reads.one.len in
       let two = operands_asked f.past p e.reads.two.first e.reads.two.len in
       served-append one two (bus_a ds f e)
-      ∙ ap (served ds two) (served-operands f.past p start e.reads.one.first e.reads.one.len)
+      ∙ ap (bus_after_reads ds two) (served-operands f.past p start e.reads.one.first e.reads.one.len)
       ∙ served-operands f.past p (read_words ds f.past start p e.reads.one.first e.reads.one.len) e.reads.two.first e.reads.two.len
 
   pub served-following : (n : ℕ) (f : Front) (e : Entry)
-      → served ds (following_asked ds (operands ds n f e).bus e (tick_p ds n f e)) (operands ds n f e).bus ≡ (after ds n f e).bus
-  unfolding after following_asked bus_followed
+      → bus_after_reads ds (following_asked ds (operands ds n f e).bus e (tick_p ds n f e)) (operands ds n f e).bus ≡ (front_after_entry ds n f e).bus
+  unfolding front_after_entry following_asked bus_followed
   served-following n f e = follow_if e.follows (operands ds n f e).bus (e.own.first + e.own.len) (tick_p ds n f e)
 
-  pub served-asked : (n : ℕ) (f : Front) (e : Entry) → served ds (asked ds n f e) f.bus ≡ (after ds n f e).bus
-  unfolding asked after bus_a operands operands_read following_asked bus_followed
+  pub served-asked : (n : ℕ) (f : Front) (e : Entry) → bus_after_reads ds (reads_of_entry ds n f e) f.bus ≡ (front_after_entry ds n f e).bus
+  unfolding reads_of_entry front_after_entry bus_a operands operands_read following_asked bus_followed
   served-asked n f e =
       let p = tick_p ds n f e in
       let one = operands_asked f.past p e.reads.one.first e.reads.one.len in
@@ -128,12 +128,12 @@ module _ (ds : List ℕ) where
       let first = read_words ds f.past start p e.reads.one.first e.reads.one.len in
       let all = fetches_asked ds f e in
       served-append (all ++ side ++ one ++ two) next f.bus
-      ∙ ap (served ds next)
+      ∙ ap (bus_after_reads ds next)
       (served-append (all ++ side ++ one) two f.bus
-      ∙ ap (served ds two)
+      ∙ ap (bus_after_reads ds two)
       (served-append (all ++ side) one f.bus
-      ∙ ap (served ds one)
-      (served-append all side f.bus ∙ ap (served ds side) (served-fetches f e) ∙ served-side f.past e.side (tick_a ds f e) (fetched ds f e).bus)
+      ∙ ap (bus_after_reads ds one)
+      (served-append all side f.bus ∙ ap (bus_after_reads ds side) (served-fetches f e) ∙ served-side f.past e.side (tick_a ds f e) (words_tick ds f e).bus)
       ∙ served-operands f.past p start e.reads.one.first e.reads.one.len)
       ∙ served-operands f.past p first e.reads.two.first e.reads.two.len)
       ∙ follow_if e.follows (operands ds n f e).bus (e.own.first + e.own.len) p
@@ -181,8 +181,8 @@ few-following true ds b w p =
     ))
 
 pub few-asked : (ds : List ℕ) (n : ℕ) (f : Front) (e : Entry)
-    → length (asked ds n f e) ≤ own_reads e + 2
-unfolding asked fetches_asked following_asked
+    → length (reads_of_entry ds n f e) ≤ own_reads e + 2
+unfolding reads_of_entry fetches_asked following_asked
 few-asked ds n f e =
     let start : Fetching = record { bus = f.bus; answered = 0; awaited = 0 } in
     let own = fetch_words ds f.past start (wanted_from f) e.own.first e.own.len in
@@ -197,7 +197,7 @@ few-asked ds n f e =
       few-following e.follows ds (operands ds n f e).bus (e.own.first + e.own.len) p,
     ))
 
-pub most-asked : (ds : List ℕ) (n : ℕ) (f : Front) (e : Entry) → own_reads e ≤ 36 → length (asked ds n f e) ≤ 36 + 2
+pub most-asked : (ds : List ℕ) (n : ℕ) (f : Front) (e : Entry) → own_reads e ≤ 36 → length (reads_of_entry ds n f e) ≤ 36 + 2
 most-asked ds n f e few = omega (arith, few, few-asked ds n f e)
 
 -- ---- the reads that are made before a tick
@@ -205,13 +205,13 @@ most-asked ds n f e few = omega (arith, few, few-asked ds n f e)
 ltb_cases : (a b : ℕ) → ((nat_lt a b ≡ true) × (a < b)) ⊎ (nat_lt a b ≡ false)
 ltb_cases a b = elim (cases_Bool (nat_lt a b)) [ inl t ↦ inl (t, ltb-true a b t) | inr n ↦ inr n ]
 
-pub free-one_if : (ds : List ℕ) (fetch : Bool) (b : Bus) (w want : ℕ) → (if fetch then requested_if None ds b w want else after_read ds b w want).free ≡ accept_at b w want + 1
-unfolding after_read
+pub free-one_if : (ds : List ℕ) (fetch : Bool) (b : Bus) (w want : ℕ) → (if fetch then requested_if None ds b w want else bus_after_read ds b w want).free ≡ accept_at b w want + 1
+unfolding bus_after_read
 free-one_if ds true b w want = refl
 free-one_if ds false b w want = refl
 
-module _ (most : ℕ) (ds : List ℕ) (are : AreDelays most ds) (t : ℕ) where
-  near-one_if : (fetch : Bool) (b : Bus) (w want : ℕ) → IsNear most b → IsNear most (if fetch then requested_if None ds b w want else after_read ds b w want)
+module _ (most : ℕ) (ds : List ℕ) (are : AreDelaysUpTo most ds) (t : ℕ) where
+  near-one_if : (fetch : Bool) (b : Bus) (w want : ℕ) → IsNear most b → IsNear most (if fetch then requested_if None ds b w want else bus_after_read ds b w want)
   near-one_if true b w want is = near-requested_if most ds are None b w want is
   near-one_if false b w want is = near-read most ds are b w want is
 

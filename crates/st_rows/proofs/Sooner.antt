@@ -12,13 +12,13 @@ use Rattle.st_banks.specs.declared.answers.LastAnswers.{LastAnswers}
 use Rattle.st_banks.specs.Bank.{bank_of, last_of}
 use Rattle.st_banks.specs.Delay.{delay}
 use Rattle.st_fetch.specs.Planned.{tick_of}
-use Rattle.st_fetch.specs.declared.fetched.Fetched.{Fetched}
-use Rattle.st_rows.specs.BusTimes.{Reading, accept_at, answer_at, after_read, requested_if, answer_if, requested, answer_of}
-use Rattle.st_rows.specs.Entries.{is_in, is_among, latest_done, no_words}
-use Rattle.st_rows.specs.Levels.{AreEqual, IsHeldSooner, IsBusSooner, IsPastSooner, IsFrontSooner, IsRowSooner, AreInOrder, IsUnwritten, IsCalm, AreCalm, AreCovered, rows}
-use Rattle.st_rows.specs.Rows.{fetch_word, fetch_words, wanted_from, fetched, addressed, is_forwarded, bus_sided, side_there, prepared, read_word, read_words, operands_read, request_inside, bus_followed, tick_a, bus_a, tick_y, tick_p, operands, tick_c, opening, row, after}
+use Rattle.st_fetch.specs.declared.fetched.AskedWord.{AskedWord}
+use Rattle.st_rows.specs.BusTimes.{Reading, accept_at, answer_at, bus_after_read, requested_if, answer_if, bus_after_request, answer_tick_on}
+use Rattle.st_rows.specs.Entries.{is_in, is_among, latest_done, no_runs}
+use Rattle.st_rows.specs.Levels.{AreEqual, IsHeldSooner, IsBusSooner, IsPastSooner, IsFrontSooner, IsRowSooner, AreInOrder, IsUnwritten, IsHazardFree, AreHazardFree, AreCovered, rows_of_entries}
+use Rattle.st_rows.specs.Rows.{fetch_word, fetch_words, wanted_from, words_tick, address_tick, is_forwarded, bus_sided, side_there, preparation_tick, read_word, read_words, operands_read, request_inside, bus_followed, tick_a, bus_a, tick_y, tick_p, operands, tick_c, opening_front, row_of_entry, front_after_entry}
 use Rattle.st_rows.specs.declared.bus.Bus.{Bus}
-use Rattle.st_rows.specs.declared.entry.Runs.{Runs}
+use Rattle.st_rows.specs.declared.entry.WordRuns.{WordRuns}
 use Rattle.st_rows.specs.declared.entry.Entry.{Entry}
 use Rattle.st_rows.specs.declared.past.Past.{Past}
 use Rattle.st_rows.specs.declared.fetching.Fetching.{Fetching}
@@ -57,7 +57,7 @@ BothSooner None (Some t) = ⊥
 BothSooner (Some s) None = ⊥
 BothSooner (Some s) (Some t) = s ≤ t
 
-found-sooner : (xs ys : List Fetched) (w : ℕ) → AllZip IsHeldSooner xs ys → BothSooner (tick_of xs w) (tick_of ys w)
+found-sooner : (xs ys : List AskedWord) (w : ℕ) → AllZip IsHeldSooner xs ys → BothSooner (tick_of xs w) (tick_of ys w)
 found-sooner [] [] w is = tt
 found-sooner [] (y ∷ ys) w is = absurd is
 found-sooner (x ∷ xs) [] w is = absurd is
@@ -77,7 +77,7 @@ latest-sooner (x ∷ xs) (y ∷ ys) w is = elim (cases_Bool (is_among w x.writes
 ]
 
 nth-sooner : (past late : List Past) (i : ℕ) → AllZip IsPastSooner past late
-    → (get_or past i (record { c = 0; writes = no_words })).c ≤ (get_or late i (record { c = 0; writes = no_words })).c
+    → (get_or past i (record { c = 0; writes = no_runs })).c ≤ (get_or late i (record { c = 0; writes = no_runs })).c
 nth-sooner [] [] i is = omega arith
 nth-sooner [] (y ∷ ys) i is = absurd is
 nth-sooner (x ∷ xs) [] i is = absurd is
@@ -124,8 +124,8 @@ module _ (d : ℕ) (ds : List ℕ) (are : AreEqual d ds) where
   answer-sooner b c w want later is low =
       omega (arith, delay-equal (accept_at b w want), delay-equal (accept_at c w later), accept-sooner b c w want later is low)
 
-  pub read-sooner : (b c : Bus) (w want later : ℕ) → IsBusSooner b c → want ≤ later → IsBusSooner (after_read ds b w want) (after_read ds c w later)
-  unfolding after_read
+  pub read-sooner : (b c : Bus) (w want later : ℕ) → IsBusSooner b c → want ≤ later → IsBusSooner (bus_after_read ds b w want) (bus_after_read ds c w later)
+  unfolding bus_after_read
   read-sooner b c w want later is low = record {
     free = omega (arith, accept-sooner b c w want later is low);
     banks = paired-set b.banks.ticks c.banks.ticks (bank_of w) _ _ (answer-sooner b c w want later is low) is.banks;
@@ -149,8 +149,8 @@ module _ (d : ℕ) (ds : List ℕ) (are : AreEqual d ds) where
       )
 
   pub requested-sooner : (b c : Bus) (w want later : ℕ) → IsBusSooner b c → want ≤ later
-      → IsBusSooner (requested ds b w want) (requested ds c w later) × (answer_of ds b w want ≤ answer_of ds c w later)
-  unfolding requested answer_of
+      → IsBusSooner (bus_after_request ds b w want) (bus_after_request ds c w later) × (answer_tick_on ds b w want ≤ answer_tick_on ds c w later)
+  unfolding bus_after_request answer_tick_on
   requested-sooner b c w want later is low =
       requested_if-sooner (tick_of b.held.words w) (tick_of c.held.words w) b c w want later (found-sooner b.held.words c.held.words w is.held) is low
 
@@ -212,7 +212,7 @@ module _ (d : ℕ) (ds : List ℕ) (are : AreEqual d ds) where
   -- ---- following words
 
   inside_if-sooner : (inside : Bool) (b c : Bus) (w p q : ℕ) → IsBusSooner b c → p ≤ q
-      → IsBusSooner (if inside then requested ds b w p else b) (if inside then requested ds c w q else c)
+      → IsBusSooner (if inside then bus_after_request ds b w p else b) (if inside then bus_after_request ds c w q else c)
   inside_if-sooner true b c w p q is low = (requested-sooner b c w p q is low).0
   inside_if-sooner false b c w p q is low = is
 
@@ -227,7 +227,7 @@ module _ (d : ℕ) (ds : List ℕ) (are : AreEqual d ds) where
 -- ---- one entry, on m levels and on n, which are no more
 
 -- none of the entries before writes a word that it reads besides its instruction words
-pub record IsCalmBehind (past : List Past) (e : Entry) : Type 0 where
+pub record IsHazardFreeBehind (past : List Past) (e : Entry) : Type 0 where
   pub side : IfSome e.side (λ w. All (λ entry. is_among w entry.writes ≡ false) past)
   pub one : (v : ℕ) → e.reads.one.first ≤ v → v < e.reads.one.first + e.reads.one.len → All (λ entry. is_among v entry.writes ≡ false) past
   pub two : (v : ℕ) → e.reads.two.first ≤ v → v < e.reads.two.first + e.reads.two.len → All (λ entry. is_among v entry.writes ≡ false) past
@@ -241,12 +241,12 @@ wanted_if-sooner true p q c x low less = omega arith
 wanted_if-sooner false p q c x low less = low
 
 module _ (d : ℕ) (ds : List ℕ) (are : AreEqual d ds) (m n : ℕ) (more : n ≤ m) (f g : Front) (e : Entry)
-    (is : IsFrontSooner f g) (order : AreInOrder g) (calm : IsCalmBehind f.past e) where
+    (is : IsFrontSooner f g) (order : AreInOrder g) (hazard_free : IsHazardFreeBehind f.past e) where
   wanted-sooner : wanted_from f ≤ wanted_from g
   wanted-sooner = rw is.serial (wanted_if-sooner g.serial f.p g.p f.c g.c is.prepared is.done)
 
-  fetched-sooner : IsFetchingSooner d ds are (fetched ds f e) (fetched ds g e)
-  unfolding fetched
+  fetched-sooner : IsFetchingSooner d ds are (words_tick ds f e) (words_tick ds g e)
+  unfolding words_tick
   fetched-sooner =
       let start : IsFetchingSooner d ds are (record { bus = f.bus; answered = 0; awaited = 0 }) (record { bus = g.bus; answered = 0; awaited = 0 }) =
       record { bus = is.bus; answered = omega arith; awaited = omega arith } in
@@ -255,7 +255,7 @@ module _ (d : ℕ) (ds : List ℕ) (are : AreEqual d ds) (m n : ℕ) (more : n �
       (fetch_words-sooner d ds are f.past g.past is.past (wanted_from f) (wanted_from g) _ _ e.own.first e.own.len want start)
 
   a-sooner : tick_a ds f e ≤ tick_a ds g e
-  unfolding tick_a addressed
+  unfolding tick_a address_tick
   a-sooner =
       let words = fetched-sooner in
       let alone : (if e.serial || f.serial then f.c else 0) ≤ (if e.serial || g.serial then g.c else 0) =
@@ -266,10 +266,10 @@ module _ (d : ℕ) (ds : List ℕ) (are : AreEqual d ds) (m n : ℕ) (more : n �
   unfolding bus_a tick_y
   sides-sooner =
       let words = fetched-sooner in
-      sided-sooner d ds are f.past g.past is.past (fetched ds f e).bus (fetched ds g e).bus e.side (tick_a ds f e) (tick_a ds g e) calm.side words.bus a-sooner
+      sided-sooner d ds are f.past g.past is.past (words_tick ds f e).bus (words_tick ds g e).bus e.side (tick_a ds f e) (tick_a ds g e) hazard_free.side words.bus a-sooner
 
   p-sooner : tick_p ds m f e ≤ tick_p ds n g e
-  unfolding tick_p prepared
+  unfolding tick_p preparation_tick
   p-sooner =
       let early = nth-sooner f.past g.past (m - 1) is.past in
       let falls = order.falls (n - 1) (m - 1) (omega arith) in
@@ -281,19 +281,19 @@ module _ (d : ℕ) (ds : List ℕ) (are : AreEqual d ds) (m n : ℕ) (more : n �
       let p = p-sooner in
       let start : IsReadingSooner d ds are f.past g.past is.past (record { bus = bus_a ds f e; answered = tick_p ds m f e }) (record { bus = bus_a ds g e; answered = tick_p ds n g e }) =
       record { bus = sides-sooner.0; answered = p } in
-      read_words-sooner d ds are f.past g.past is.past (tick_p ds m f e) (tick_p ds n g e) _ _ e.reads.two.first e.reads.two.len p calm.two
-      (read_words-sooner d ds are f.past g.past is.past (tick_p ds m f e) (tick_p ds n g e) _ _ e.reads.one.first e.reads.one.len p calm.one start)
+      read_words-sooner d ds are f.past g.past is.past (tick_p ds m f e) (tick_p ds n g e) _ _ e.reads.two.first e.reads.two.len p hazard_free.two
+      (read_words-sooner d ds are f.past g.past is.past (tick_p ds m f e) (tick_p ds n g e) _ _ e.reads.one.first e.reads.one.len p hazard_free.one start)
 
   c-sooner : tick_c ds m f e ≤ tick_c ds n g e
   unfolding tick_c
   c-sooner = omega (arith, is.done, operands-sooner.answered)
 
-  pub row-sooner : IsRowSooner (row ds m f e) (row ds n g e)
-  unfolding row
+  pub row-sooner : IsRowSooner (row_of_entry ds m f e) (row_of_entry ds n g e)
+  unfolding row_of_entry
   row-sooner = record { address = a-sooner; prepared = p-sooner; ready = operands-sooner.answered; done = c-sooner }
 
-  pub after-sooner : IsFrontSooner (after ds m f e) (after ds n g e)
-  unfolding after bus_followed
+  pub after-sooner : IsFrontSooner (front_after_entry ds m f e) (front_after_entry ds n g e)
+  unfolding front_after_entry bus_followed
   after-sooner = record {
     bus = follow_if-sooner d ds are e.follows (operands ds m f e).bus (operands ds n g e).bus (e.own.first + e.own.len) (tick_p ds m f e) (tick_p ds n g e) operands-sooner.bus p-sooner;
     prepared = p-sooner;
@@ -305,31 +305,31 @@ module _ (d : ℕ) (ds : List ℕ) (are : AreEqual d ds) (m n : ℕ) (more : n �
 -- ---- the order of completions, and the words that are written
 
 -- behind the entries that are taken there are none
-pub take-beyond : (past : List Past) (k j : ℕ) → k ≤ j → (get_or (take k past) j (record { c = 0; writes = no_words })).c ≤ 0
+pub take-beyond : (past : List Past) (k j : ℕ) → k ≤ j → (get_or (take k past) j (record { c = 0; writes = no_runs })).c ≤ 0
 take-beyond past zero j low = omega arith
 take-beyond [] (suc k) j low = omega arith
 take-beyond (x ∷ past) (suc k) zero low = let no : ⊥ = omega arith in absurd no
 take-beyond (x ∷ past) (suc k) (suc j) low = take-beyond past k j (omega arith)
 
 take-falls : (past : List Past) (i j : ℕ) → i ≤ j
-    → ((i j : ℕ) → i ≤ j → (get_or past j (record { c = 0; writes = no_words })).c ≤ (get_or past i (record { c = 0; writes = no_words })).c)
-    → (get_or (take 7 past) j (record { c = 0; writes = no_words })).c ≤ (get_or (take 7 past) i (record { c = 0; writes = no_words })).c
+    → ((i j : ℕ) → i ≤ j → (get_or past j (record { c = 0; writes = no_runs })).c ≤ (get_or past i (record { c = 0; writes = no_runs })).c)
+    → (get_or (take 7 past) j (record { c = 0; writes = no_runs })).c ≤ (get_or (take 7 past) i (record { c = 0; writes = no_runs })).c
 take-falls past i j low falls = elim (cases_lt j 7) [
   | inl inside ↦
-      rw (get_or-take 7 past j (record { c = 0; writes = no_words }) inside, get_or-take 7 past i (record { c = 0; writes = no_words }) (omega arith)) (falls i j low)
+      rw (get_or-take 7 past j (record { c = 0; writes = no_runs }) inside, get_or-take 7 past i (record { c = 0; writes = no_runs }) (omega arith)) (falls i j low)
   | inr beyond ↦ omega (arith, take-beyond past 7 j beyond)
 ]
 
 cons-falls : (x : Past) (past : List Past) → ArePastWithin x.c past
-    → ((i j : ℕ) → i ≤ j → (get_or past j (record { c = 0; writes = no_words })).c ≤ (get_or past i (record { c = 0; writes = no_words })).c)
-    → (i j : ℕ) → i ≤ j → (get_or (x ∷ past) j (record { c = 0; writes = no_words })).c ≤ (get_or (x ∷ past) i (record { c = 0; writes = no_words })).c
+    → ((i j : ℕ) → i ≤ j → (get_or past j (record { c = 0; writes = no_runs })).c ≤ (get_or past i (record { c = 0; writes = no_runs })).c)
+    → (i j : ℕ) → i ≤ j → (get_or (x ∷ past) j (record { c = 0; writes = no_runs })).c ≤ (get_or (x ∷ past) i (record { c = 0; writes = no_runs })).c
 cons-falls x past within falls zero zero low = omega arith
 cons-falls x past within falls zero (suc j) low = nth-within x.c past j within
 cons-falls x past within falls (suc i) zero low = let no : ⊥ = omega arith in absurd no
 cons-falls x past within falls (suc i) (suc j) low = falls i j (omega arith)
 
-pub order-after : (ds : List ℕ) (n : ℕ) (g : Front) (e : Entry) → AreInOrder g → AreInOrder (after ds n g e)
-unfolding after tick_c
+pub order-after : (ds : List ℕ) (n : ℕ) (g : Front) (e : Entry) → AreInOrder g → AreInOrder (front_after_entry ds n g e)
+unfolding front_after_entry tick_c
 order-after ds n g e order =
     let done = tick_c ds n g e in
     let late : g.c ≤ done = omega arith in
@@ -340,37 +340,37 @@ order-after ds n g e order =
       falls = cons-falls (record { c = done; writes = e.writes }) (take 7 g.past) taken (λ i j low. take-falls g.past i j low order.falls);
     }
 
-pub covered-after : (ds : List ℕ) (n : ℕ) (f : Front) (e : Entry) (earlier : List Runs) → AreCovered f.past earlier → AreCovered (after ds n f e).past (e.writes ∷ earlier)
-unfolding after
+pub covered-after : (ds : List ℕ) (n : ℕ) (f : Front) (e : Entry) (earlier : List WordRuns) → AreCovered f.past earlier → AreCovered (front_after_entry ds n f e).past (e.writes ∷ earlier)
+unfolding front_after_entry
 covered-after ds n f e earlier covered w none =
     All-cons (λ (entry : Past). is_among w entry.writes ≡ false) _ (take 7 f.past)
-    (All-head (λ (writes : Runs). is_among w writes ≡ false) e.writes earlier none)
+    (All-head (λ (writes : WordRuns). is_among w writes ≡ false) e.writes earlier none)
     (All-take (λ (entry : Past). is_among w entry.writes ≡ false) 7 f.past
-    (covered w (All-tail (λ (writes : Runs). is_among w writes ≡ false) e.writes earlier none)))
+    (covered w (All-tail (λ (writes : WordRuns). is_among w writes ≡ false) e.writes earlier none)))
 
-side-calm : (past : List Past) (earlier : List Runs) (side : Option ℕ) → AreCovered past earlier → IfSome side (IsUnwritten earlier)
+side-hazard_free : (past : List Past) (earlier : List WordRuns) (side : Option ℕ) → AreCovered past earlier → IfSome side (IsUnwritten earlier)
     → IfSome side (λ w. All (λ entry. is_among w entry.writes ≡ false) past)
-side-calm past earlier None covered calm = tt
-side-calm past earlier (Some w) covered calm = covered w calm
+side-hazard_free past earlier None covered hazard_free = tt
+side-hazard_free past earlier (Some w) covered hazard_free = covered w hazard_free
 
-pub calm-behind : (past : List Past) (earlier : List Runs) (e : Entry) → AreCovered past earlier → IsCalm earlier e → IsCalmBehind past e
-calm-behind past earlier e covered calm = record {
-  side = side-calm past earlier e.side covered calm.side;
-  one = λ v least most. covered v (calm.one v least most);
-  two = λ v least most. covered v (calm.two v least most);
+pub hazard_free-behind : (past : List Past) (earlier : List WordRuns) (e : Entry) → AreCovered past earlier → IsHazardFree earlier e → IsHazardFreeBehind past e
+hazard_free-behind past earlier e covered hazard_free = record {
+  side = side-hazard_free past earlier e.side covered hazard_free.side;
+  one = λ v least most. covered v (hazard_free.one v least most);
+  two = λ v least most. covered v (hazard_free.two v least most);
 }
 
 -- ---- the entries of a list
 
-pub rows-sooner : (d : ℕ) (ds : List ℕ) → AreEqual d ds → (m n : ℕ) → n ≤ m → (es : List Entry) (f g : Front) (earlier : List Runs)
-    → IsFrontSooner f g → AreInOrder g → AreCovered f.past earlier → AreCalm earlier es → AllZip IsRowSooner (rows ds m f es) (rows ds n g es)
-unfolding rows
-rows-sooner d ds are m n more [] f g earlier is order covered calm = tt
-rows-sooner d ds are m n more (e ∷ es) f g earlier is order covered calm =
-    let behind = calm-behind f.past earlier e covered calm.0 in (
+pub rows-sooner : (d : ℕ) (ds : List ℕ) → AreEqual d ds → (m n : ℕ) → n ≤ m → (es : List Entry) (f g : Front) (earlier : List WordRuns)
+    → IsFrontSooner f g → AreInOrder g → AreCovered f.past earlier → AreHazardFree earlier es → AllZip IsRowSooner (rows_of_entries ds m f es) (rows_of_entries ds n g es)
+unfolding rows_of_entries
+rows-sooner d ds are m n more [] f g earlier is order covered hazard_free = tt
+rows-sooner d ds are m n more (e ∷ es) f g earlier is order covered hazard_free =
+    let behind = hazard_free-behind f.past earlier e covered hazard_free.0 in (
       row-sooner d ds are m n more f g e is order behind,
-      rows-sooner d ds are m n more es (after ds m f e) (after ds n g e) (e.writes ∷ earlier)
-          (after-sooner d ds are m n more f g e is order behind) (order-after ds n g e order) (covered-after ds m f e earlier covered) calm.1,
+      rows-sooner d ds are m n more es (front_after_entry ds m f e) (front_after_entry ds n g e) (e.writes ∷ earlier)
+          (after-sooner d ds are m n more f g e is order behind) (order-after ds n g e order) (covered-after ds m f e earlier covered) hazard_free.1,
     )
 
 -- from the start of a segment
@@ -379,7 +379,7 @@ same-ticks : (xs : List ℕ) → AllZip (λ s t. s ≤ t) xs xs
 same-ticks [] = tt
 same-ticks (x ∷ xs) = (omega arith, same-ticks xs)
 
-held-same : (xs : List Fetched) → AllZip IsHeldSooner xs xs
+held-same : (xs : List AskedWord) → AllZip IsHeldSooner xs xs
 held-same [] = tt
 held-same (x ∷ xs) = ((refl, omega arith), held-same xs)
 
@@ -388,36 +388,36 @@ past-same [] = tt
 past-same (x ∷ xs) = ((omega arith, refl), past-same xs)
 
 abbrev pub nobody : Past
-nobody = record { c = 0; writes = no_words }
+nobody = record { c = 0; writes = no_runs }
 
 pub none-falls : (k i : ℕ) → (get_or (replicate k nobody) i nobody).c ≤ 0
 none-falls zero i = omega arith
 none-falls (suc k) zero = omega arith
 none-falls (suc k) (suc i) = none-falls k i
 
-no-words : (w : ℕ) → is_among w no_words ≡ false
+no-words : (w : ℕ) → is_among w no_runs ≡ false
 unfolding is_among is_in
 no-words w = grind (arith, nat_tests)
 
-pub opening-sooner : (banks : LastAnswers) (start : ℕ) → IsFrontSooner (opening banks start) (opening banks start)
+pub opening-sooner : (banks : LastAnswers) (start : ℕ) → IsFrontSooner (opening_front banks start) (opening_front banks start)
 opening-sooner banks start = record {
   bus = record {
     free = omega arith;
     banks = same-ticks banks.ticks;
-    held = held-same (opening banks start).bus.held.words;
+    held = held-same (opening_front banks start).bus.held.words;
   };
   prepared = omega arith;
   done = omega arith;
   serial = refl;
-  past = past-same (opening banks start).past;
+  past = past-same (opening_front banks start).past;
 }
 
-pub opening-order : (banks : LastAnswers) (start : ℕ) → AreInOrder (opening banks start)
+pub opening-order : (banks : LastAnswers) (start : ℕ) → AreInOrder (opening_front banks start)
 opening-order banks start = record {
-  done = record { each = All-replicate (λ (entry : Past). entry.c ≤ start) 8 (record { c = 0; writes = no_words }) (omega arith) };
+  done = record { each = All-replicate (λ (entry : Past). entry.c ≤ start) 8 (record { c = 0; writes = no_runs }) (omega arith) };
   falls = λ i j low. omega (arith, none-falls 8 j);
 }
 
-pub opening-covered : (banks : LastAnswers) (start : ℕ) → AreCovered (opening banks start).past []
+pub opening-covered : (banks : LastAnswers) (start : ℕ) → AreCovered (opening_front banks start).past []
 opening-covered banks start w none =
-    All-replicate (λ (entry : Past). is_among w entry.writes ≡ false) 8 (record { c = 0; writes = no_words }) (no-words w)
+    All-replicate (λ (entry : Past). is_among w entry.writes ≡ false) 8 (record { c = 0; writes = no_runs }) (no-words w)

@@ -3,13 +3,13 @@ use Rattle.std.proofs.Common.{ℕ, zero, suc, ◌+◌, ◌-◌, ◌*◌, ◌<◌
 use Rattle.std.specs.Prelude.{IfSome, ◌||◌, if◌then◌else◌}
 use Rattle.std.proofs.Math.Nat.{max-le, mul-le-mul_right}
 use Rattle.std.proofs.lemmas.List.Elements.{All-head, All-tail, All-weaker}
-use Rattle.st_fetch.specs.declared.fetched.Fetched.{Fetched}
-use Rattle.st_rows.specs.BusTimes.{Reading, answer_at, after_read}
-use Rattle.st_rows.specs.Entries.{latest_done, no_words}
-use Rattle.st_rows.specs.Ranges.{AreDelays, IsBusWithin, IsFetchingWithin, IsReadingWithin, ArePastWithin, IsTight, IsEntry}
-use Rattle.st_rows.specs.Rows.{fetch_words, wanted_from, fetched, addressed, is_forwarded, bus_sided, side_there, prepared, read_words, operands_read, tick_a, bus_a, tick_y, tick_p, operands, tick_c}
+use Rattle.st_fetch.specs.declared.fetched.AskedWord.{AskedWord}
+use Rattle.st_rows.specs.BusTimes.{Reading, answer_at, bus_after_read}
+use Rattle.st_rows.specs.Entries.{latest_done, no_runs}
+use Rattle.st_rows.specs.Ranges.{AreDelaysUpTo, IsBusWithin, IsFetchingWithin, IsReadingWithin, ArePastWithin, IsTight, IsEntryInTime}
+use Rattle.st_rows.specs.Rows.{fetch_words, wanted_from, words_tick, address_tick, is_forwarded, bus_sided, side_there, preparation_tick, read_words, operands_read, tick_a, bus_a, tick_y, tick_p, operands, tick_c}
 use Rattle.st_rows.specs.declared.bus.Bus.{Bus}
-use Rattle.st_rows.specs.declared.entry.Runs.{Runs}
+use Rattle.st_rows.specs.declared.entry.WordRuns.{WordRuns}
 use Rattle.st_rows.specs.declared.entry.Entry.{Entry}
 use Rattle.st_rows.specs.declared.past.Past.{Past}
 use Rattle.st_rows.specs.declared.fetching.Fetching.{Fetching}
@@ -26,7 +26,7 @@ pub tight-bus : (most : ℕ) (f : Front) → IsTight most f → IsBusWithin (f.c
 tight-bus most f is = record {
   free = omega (arith, is.free);
   banks = All-weaker (λ t. t ≤ f.bus.free + most) (λ t. t ≤ f.c + 3 * most + 2) (λ t low. omega (arith, is.free)) f.bus.banks.ticks is.near.banks;
-  held = All-weaker (λ (h : Fetched). h.tick ≤ f.bus.free + most) (λ (h : Fetched). h.tick ≤ f.c + 3 * most + 2) (λ h low. omega (arith, is.free)) f.bus.held.words is.near.held;
+  held = All-weaker (λ (h : AskedWord). h.tick ≤ f.bus.free + most) (λ (h : AskedWord). h.tick ≤ f.c + 3 * most + 2) (λ h low. omega (arith, is.free)) f.bus.held.words is.near.held;
 }
 
 -- the first want is no later than the last completion
@@ -37,7 +37,7 @@ wanted-early most f is = wanted-if f.serial
     wanted-if true = max-le is.prepared (omega arith)
     wanted-if false = is.prepared
 
-module _ (most : ℕ) (ds : List ℕ) (are : AreDelays most ds) where
+module _ (most : ℕ) (ds : List ℕ) (are : AreDelaysUpTo most ds) where
   -- two runs of at most two words
   pub fetch_two-within : (past : List Past) (from w n m : ℕ) (s : Fetching) → n ≤ 2 → ArePastWithin m past → IsFetchingWithin m s → from ≤ m
       → IsFetchingWithin (m + 2 * (most + 1)) (fetch_words ds past s from w n)
@@ -47,7 +47,7 @@ module _ (most : ℕ) (ds : List ℕ) (are : AreDelays most ds) where
 
   -- the index-side word
   bus_side_if-within : (late : Bool) (past : List Past) (b : Bus) (w a m : ℕ) → IsBusWithin m b → a ≤ m
-      → IsBusWithin (m + most + 1) (if late then b else after_read ds b w a)
+      → IsBusWithin (m + most + 1) (if late then b else bus_after_read ds b w a)
   bus_side_if-within true past b w a m is early = bus-weaker m (m + most + 1) b (omega arith) is
   bus_side_if-within false past b w a m is early = read-within most ds are m (m + most + 1) (omega arith) b w a is early
 
@@ -75,7 +75,7 @@ module _ (most : ℕ) (ds : List ℕ) (are : AreDelays most ds) where
       let less : n * (most + 1) ≤ 16 * (most + 1) = mul-le-mul_right (most + 1) few in
       reading-weaker (m + n * (most + 1)) (m + 16 * (most + 1)) _ (omega arith) (read_words-within most ds are past p s w n m is early)
 
-  pub operands-within : (past : List Past) (b : Bus) (reads : Runs) (p m : ℕ) → reads.one.len ≤ 16 → reads.two.len ≤ 16 → IsBusWithin m b → p ≤ m
+  pub operands-within : (past : List Past) (b : Bus) (reads : WordRuns) (p m : ℕ) → reads.one.len ≤ 16 → reads.two.len ≤ 16 → IsBusWithin m b → p ≤ m
       → IsReadingWithin (m + 32 * (most + 1)) (operands_read ds past b reads p)
   unfolding operands_read
   operands-within past b reads p m few few2 is early =
@@ -90,27 +90,27 @@ alone-early true c = omega arith
 alone-early false c = omega arith
 
 pub addressed-within : (f : Front) (e : Entry) (answered awaited m : ℕ) → f.p ≤ m → f.c ≤ m → f.bus.free ≤ m + 1 → answered ≤ m → awaited ≤ m
-    → addressed f e answered awaited ≤ m + 1
-unfolding addressed
+    → address_tick f e answered awaited ≤ m + 1
+unfolding address_tick
 addressed-within f e answered awaited m prepared done free there waits =
     let late : max (max (max answered awaited) f.p) (if e.serial || f.serial then f.c else 0) ≤ m =
     max-le (max-le (max-le there waits) prepared) (omega (arith, alone-early (e.serial || f.serial) f.c)) in
     max-le (omega arith) free
 
 -- preparation
-pub nth-within : (m : ℕ) (past : List Past) (i : ℕ) → ArePastWithin m past → (get_or past i (record { c = 0; writes = no_words })).c ≤ m
+pub nth-within : (m : ℕ) (past : List Past) (i : ℕ) → ArePastWithin m past → (get_or past i (record { c = 0; writes = no_runs })).c ≤ m
 nth-within m [] i are = omega arith
 nth-within m (d ∷ past) zero are = All-head (λ (entry : Past). entry.c ≤ m) d past are.each
 nth-within m (d ∷ past) (suc i) are = nth-within m past i (record { each = All-tail (λ (entry : Past). entry.c ≤ m) d past are.each })
 
-pub prepared-within : (n : ℕ) (past : List Past) (a y m : ℕ) → a ≤ m → y ≤ m → ArePastWithin m past → prepared n past a y ≤ m + 1
-unfolding prepared
+pub prepared-within : (n : ℕ) (past : List Past) (a y m : ℕ) → a ≤ m → y ≤ m → ArePastWithin m past → preparation_tick n past a y ≤ m + 1
+unfolding preparation_tick
 prepared-within n past a y m early there are =
     let late = max-le (max-le early there) (nth-within m past (n - 1) are) in omega arith
 
-module _ (most : ℕ) (ds : List ℕ) (are : AreDelays most ds) (f : Front) (e : Entry) (entry : IsEntry e) (tight : IsTight most f) where
-  pub fetched-within : IsFetchingWithin (f.c + 7 * most + 6) (fetched ds f e)
-  unfolding fetched
+module _ (most : ℕ) (ds : List ℕ) (are : AreDelaysUpTo most ds) (f : Front) (e : Entry) (entry : IsEntryInTime e) (tight : IsTight most f) where
+  pub fetched-within : IsFetchingWithin (f.c + 7 * most + 6) (words_tick ds f e)
+  unfolding words_tick
   fetched-within =
       let m = f.c + 3 * most + 2 in
       let k = m + 2 * (most + 1) in
@@ -126,8 +126,8 @@ module _ (most : ℕ) (ds : List ℕ) (are : AreDelays most ds) (f : Front) (e :
   unfolding tick_a
   a-within =
       let words = fetched-within in
-      let late : addressed f e (fetched ds f e).answered (fetched ds f e).awaited ≤ f.c + 7 * most + 6 + 1 =
-      addressed-within f e (fetched ds f e).answered (fetched ds f e).awaited (f.c + 7 * most + 6) (omega (arith, tight.prepared)) (omega arith)
+      let late : address_tick f e (words_tick ds f e).answered (words_tick ds f e).awaited ≤ f.c + 7 * most + 6 + 1 =
+      addressed-within f e (words_tick ds f e).answered (words_tick ds f e).awaited (f.c + 7 * most + 6) (omega (arith, tight.prepared)) (omega arith)
       (omega (arith, tight.free)) words.answered words.awaited in
       omega arith
 
@@ -136,13 +136,13 @@ module _ (most : ℕ) (ds : List ℕ) (are : AreDelays most ds) (f : Front) (e :
   bus_a-within =
       let m = f.c + 7 * most + 7 in
       bus-weaker (m + most + 1) (f.c + 8 * most + 8) _ (omega arith)
-      (bus_sided-within most ds are f.past (fetched ds f e).bus e.side (tick_a ds f e) m (bus-weaker (f.c + 7 * most + 6) m _ (omega arith) fetched-within.bus) a-within)
+      (bus_sided-within most ds are f.past (words_tick ds f e).bus e.side (tick_a ds f e) m (bus-weaker (f.c + 7 * most + 6) m _ (omega arith) fetched-within.bus) a-within)
 
   pub y-within : tick_y ds f e ≤ f.c + 8 * most + 8
   unfolding tick_y
   y-within =
       let m = f.c + 7 * most + 7 in
-      let late = side-within most ds are f.past (fetched ds f e).bus e.side (tick_a ds f e) m (past-weaker f.c m f.past (omega arith) tight.done)
+      let late = side-within most ds are f.past (words_tick ds f e).bus e.side (tick_a ds f e) m (past-weaker f.c m f.past (omega arith) tight.done)
       (bus-weaker (f.c + 7 * most + 6) m _ (omega arith) fetched-within.bus) a-within in
       omega arith
 

@@ -6,11 +6,11 @@ use Rattle.std.proofs.lemmas.List.Elements.{All-cons, All-set, All-take, All-wea
 use Rattle.st_bits.specs.Storage.{words_of_storage}
 use Rattle.st_banks.specs.Bank.{bank_of}
 use Rattle.st_fetch.specs.Planned.{tick_of}
-use Rattle.st_fetch.specs.declared.fetched.Fetched.{Fetched}
-use Rattle.st_rows.specs.BusTimes.{Reading, accept_at, answer_at, after_read, requested_if, answer_if, requested, answer_of}
+use Rattle.st_fetch.specs.declared.fetched.AskedWord.{AskedWord}
+use Rattle.st_rows.specs.BusTimes.{Reading, accept_at, answer_at, bus_after_read, requested_if, answer_if, bus_after_request, answer_tick_on}
 use Rattle.st_rows.specs.Entries.{latest_done}
-use Rattle.st_rows.specs.Ranges.{AreDelays, IsNear, IsTight, IsEntry}
-use Rattle.st_rows.specs.Rows.{fetch_word, fetch_words, wanted_from, fetched, addressed, is_forwarded, bus_sided, side_there, prepared, read_word, read_words, operands_read, request_inside, bus_followed, tick_a, bus_a, tick_y, tick_p, operands, tick_c, after}
+use Rattle.st_rows.specs.Ranges.{AreDelaysUpTo, IsNear, IsTight, IsEntryInTime}
+use Rattle.st_rows.specs.Rows.{fetch_word, fetch_words, wanted_from, words_tick, address_tick, is_forwarded, bus_sided, side_there, preparation_tick, read_word, read_words, operands_read, request_inside, bus_followed, tick_a, bus_a, tick_y, tick_p, operands, tick_c, front_after_entry}
 use Rattle.st_rows.specs.declared.bus.Bus.{Bus}
 use Rattle.st_rows.specs.declared.entry.Entry.{Entry}
 use Rattle.st_rows.specs.declared.past.Past.{Past}
@@ -18,7 +18,7 @@ use Rattle.st_rows.specs.declared.fetching.Fetching.{Fetching}
 use Rattle.st_rows.specs.declared.front.Front.{Front}
 use Rattle.st_rows.proofs.Within.{at-within, delay-bounds, past-weaker}
 
-module _ (most : ℕ) (ds : List ℕ) (are : AreDelays most ds) where
+module _ (most : ℕ) (ds : List ℕ) (are : AreDelaysUpTo most ds) where
   -- ---- one read
 
   -- it is accepted when the bus is free and when it is wanted, and soon after both
@@ -29,37 +29,37 @@ module _ (most : ℕ) (ds : List ℕ) (are : AreDelays most ds) where
       (omega arith, omega arith, max-le (max-le (omega arith) (omega arith)) (omega arith))
 
   -- the bus is free before the answer
-  pub free-answer : (b : Bus) (w want : ℕ) → (after_read ds b w want).free ≤ answer_at ds b w want
-  unfolding after_read
+  pub free-answer : (b : Bus) (w want : ℕ) → (bus_after_read ds b w want).free ≤ answer_at ds b w want
+  unfolding bus_after_read
   free-answer b w want = omega (arith, delay-bounds most ds (accept_at b w want) are)
 
-  pub free-later : (b : Bus) (w want : ℕ) → b.free < (after_read ds b w want).free
-  unfolding after_read
+  pub free-later : (b : Bus) (w want : ℕ) → b.free < (bus_after_read ds b w want).free
+  unfolding bus_after_read
   free-later b w want = omega arith
 
-  pub near-read : (b : Bus) (w want : ℕ) → IsNear most b → IsNear most (after_read ds b w want)
-  unfolding after_read
+  pub near-read : (b : Bus) (w want : ℕ) → IsNear most b → IsNear most (bus_after_read ds b w want)
+  unfolding bus_after_read
   near-read b w want is =
       let later : b.free ≤ accept_at b w want = omega arith in
       let known = delay-bounds most ds (accept_at b w want) are in
       record {
         banks = All-set (λ t. t ≤ accept_at b w want + 1 + most) b.banks.ticks (bank_of w) _ (omega arith)
             (All-weaker (λ t. t ≤ b.free + most) (λ t. t ≤ accept_at b w want + 1 + most) (λ t low. omega arith) b.banks.ticks is.banks);
-        held = All-weaker (λ (h : Fetched). h.tick ≤ b.free + most) (λ (h : Fetched). h.tick ≤ accept_at b w want + 1 + most) (λ h low. omega arith) b.held.words is.held;
+        held = All-weaker (λ (h : AskedWord). h.tick ≤ b.free + most) (λ (h : AskedWord). h.tick ≤ accept_at b w want + 1 + most) (λ h low. omega arith) b.held.words is.held;
       }
 
   -- ---- an instruction word
 
   pub near-requested_if : (o : Option ℕ) (b : Bus) (w want : ℕ) → IsNear most b → IsNear most (requested_if o ds b w want)
-  unfolding after_read
+  unfolding bus_after_read
   near-requested_if (Some t) b w want is = is
   near-requested_if None b w want is =
       let made = near-read b w want is in
       let known = delay-bounds most ds (accept_at b w want) are in
       record {
         banks = made.banks;
-        held = All-cons (λ (h : Fetched). h.tick ≤ accept_at b w want + 1 + most) _ (take 3 b.held.words) (omega arith)
-            (All-take (λ (h : Fetched). h.tick ≤ accept_at b w want + 1 + most) 3 b.held.words made.held);
+        held = All-cons (λ (h : AskedWord). h.tick ≤ accept_at b w want + 1 + most) _ (take 3 b.held.words) (omega arith)
+            (All-take (λ (h : AskedWord). h.tick ≤ accept_at b w want + 1 + most) 3 b.held.words made.held);
       }
 
   free-requested_if : (o : Option ℕ) (b : Bus) (w want : ℕ) → (requested_if o ds b w want).free ≤ max b.free (answer_if o ds b w want)
@@ -67,20 +67,20 @@ module _ (most : ℕ) (ds : List ℕ) (are : AreDelays most ds) where
   free-requested_if None b w want = omega (arith, free-answer b w want)
 
   soon-requested_if : (o : Option ℕ) (b : Bus) (w want : ℕ) → IsNear most b → (requested_if o ds b w want).free ≤ max (b.free + most) want + 1
-  unfolding after_read
+  unfolding bus_after_read
   soon-requested_if (Some t) b w want is = omega arith
   soon-requested_if None b w want is = omega (arith, (accept-bounds b w want is).2)
 
-  pub near-requested : (b : Bus) (w want : ℕ) → IsNear most b → IsNear most (requested ds b w want)
-  unfolding requested
+  pub near-requested : (b : Bus) (w want : ℕ) → IsNear most b → IsNear most (bus_after_request ds b w want)
+  unfolding bus_after_request
   near-requested b w want is = near-requested_if (tick_of b.held.words w) b w want is
 
-  pub free-requested : (b : Bus) (w want : ℕ) → (requested ds b w want).free ≤ max b.free (answer_of ds b w want)
-  unfolding requested answer_of
+  pub free-requested : (b : Bus) (w want : ℕ) → (bus_after_request ds b w want).free ≤ max b.free (answer_tick_on ds b w want)
+  unfolding bus_after_request answer_tick_on
   free-requested b w want = free-requested_if (tick_of b.held.words w) b w want
 
-  pub soon-requested : (b : Bus) (w want : ℕ) → IsNear most b → (requested ds b w want).free ≤ max (b.free + most) want + 1
-  unfolding requested
+  pub soon-requested : (b : Bus) (w want : ℕ) → IsNear most b → (bus_after_request ds b w want).free ≤ max (b.free + most) want + 1
+  unfolding bus_after_request
   soon-requested b w want is = soon-requested_if (tick_of b.held.words w) b w want is
 
   -- ---- the instruction words of an entry, behind a bus that is free at the tick `free`
@@ -103,18 +103,18 @@ module _ (most : ℕ) (ds : List ℕ) (are : AreDelays most ds) where
   -- ---- operands
 
   near-read_if : (late : Bool) (past : List Past) (s : Reading) (w p : ℕ) → IsNear most s.bus
-      → IsNear most (if late then s else record { bus = after_read ds s.bus w p; answered = max s.answered (answer_at ds s.bus w p) }).bus
+      → IsNear most (if late then s else record { bus = bus_after_read ds s.bus w p; answered = max s.answered (answer_at ds s.bus w p) }).bus
   near-read_if true past s w p is = is
   near-read_if false past s w p is = near-read s.bus w p is
 
   free-read_if : (late : Bool) (past : List Past) (s : Reading) (w p : ℕ) → s.bus.free ≤ s.answered
-      → (if late then s else record { bus = after_read ds s.bus w p; answered = max s.answered (answer_at ds s.bus w p) }).bus.free
-      ≤ (if late then s else record { bus = after_read ds s.bus w p; answered = max s.answered (answer_at ds s.bus w p) }).answered
+      → (if late then s else record { bus = bus_after_read ds s.bus w p; answered = max s.answered (answer_at ds s.bus w p) }).bus.free
+      ≤ (if late then s else record { bus = bus_after_read ds s.bus w p; answered = max s.answered (answer_at ds s.bus w p) }).answered
   free-read_if true past s w p is = is
   free-read_if false past s w p is = omega (arith, free-answer s.bus w p)
 
   later-read_if : (late : Bool) (past : List Past) (s : Reading) (w p : ℕ)
-      → s.answered ≤ (if late then s else record { bus = after_read ds s.bus w p; answered = max s.answered (answer_at ds s.bus w p) }).answered
+      → s.answered ≤ (if late then s else record { bus = bus_after_read ds s.bus w p; answered = max s.answered (answer_at ds s.bus w p) }).answered
   later-read_if true past s w p = omega arith
   later-read_if false past s w p = omega arith
 
@@ -139,7 +139,7 @@ module _ (most : ℕ) (ds : List ℕ) (are : AreDelays most ds) where
 
   -- ---- the index-side word
 
-  near-side_if : (late : Bool) (b : Bus) (w a : ℕ) → IsNear most b → IsNear most (if late then b else after_read ds b w a)
+  near-side_if : (late : Bool) (b : Bus) (w a : ℕ) → IsNear most b → IsNear most (if late then b else bus_after_read ds b w a)
   near-side_if true b w a is = is
   near-side_if false b w a is = near-read b w a is
 
@@ -149,7 +149,7 @@ module _ (most : ℕ) (ds : List ℕ) (are : AreDelays most ds) where
   near-sided past b (Some w) a is = near-side_if (is_forwarded past w a) b w a is
 
   free-side_if : (late : Bool) (b : Bus) (w a done : ℕ) → b.free ≤ a
-      → (if late then b else after_read ds b w a).free ≤ max a (if late then done else answer_at ds b w a)
+      → (if late then b else bus_after_read ds b w a).free ≤ max a (if late then done else answer_at ds b w a)
   free-side_if true b w a done is = omega arith
   free-side_if false b w a done is = omega (arith, free-answer b w a)
 
@@ -161,12 +161,12 @@ module _ (most : ℕ) (ds : List ℕ) (are : AreDelays most ds) where
 
   -- ---- following words, of which each is wanted by the tick c at the latest
 
-  near-inside_if : (inside : Bool) (b : Bus) (w p : ℕ) → IsNear most b → IsNear most (if inside then requested ds b w p else b)
+  near-inside_if : (inside : Bool) (b : Bus) (w p : ℕ) → IsNear most b → IsNear most (if inside then bus_after_request ds b w p else b)
   near-inside_if true b w p is = near-requested b w p is
   near-inside_if false b w p is = is
 
   soon-inside_if : (inside : Bool) (b : Bus) (w p c : ℕ) → IsNear most b → p ≤ c → b.free ≤ c
-      → (if inside then requested ds b w p else b).free ≤ c + most + 1
+      → (if inside then bus_after_request ds b w p else b).free ≤ c + most + 1
   soon-inside_if true b w p c is early free = omega (arith, soon-requested b w p is)
   soon-inside_if false b w p c is early free = omega arith
 
@@ -187,31 +187,31 @@ module _ (most : ℕ) (ds : List ℕ) (are : AreDelays most ds) where
 
   -- ---- the whole
 
-  module _ (n : ℕ) (f : Front) (e : Entry) (entry : IsEntry e) (tight : IsTight most f) where
-    near-fetched : IsNear most (fetched ds f e).bus
-    unfolding fetched
+  module _ (n : ℕ) (f : Front) (e : Entry) (entry : IsEntryInTime e) (tight : IsTight most f) where
+    near-fetched : IsNear most (words_tick ds f e).bus
+    unfolding words_tick
     near-fetched = near-fetch f.past (max (wanted_from f) f.c) _ e.target.first e.target.len (near-fetch f.past (wanted_from f) _ e.own.first e.own.len tight.near)
 
-    free-fetched : (fetched ds f e).bus.free ≤ max f.bus.free (fetched ds f e).answered
-    unfolding fetched
+    free-fetched : (words_tick ds f e).bus.free ≤ max f.bus.free (words_tick ds f e).answered
+    unfolding words_tick
     free-fetched =
         free-fetch f.past (max (wanted_from f) f.c) f.bus.free _ e.target.first e.target.len
         (free-fetch f.past (wanted_from f) f.bus.free _ e.own.first e.own.len (omega arith))
 
-    pub free-a : (fetched ds f e).bus.free ≤ tick_a ds f e
-    unfolding tick_a addressed
+    pub free-a : (words_tick ds f e).bus.free ≤ tick_a ds f e
+    unfolding tick_a address_tick
     free-a = omega (arith, free-fetched)
 
     pub free-bus_a : (bus_a ds f e).free ≤ max (tick_a ds f e) (tick_y ds f e)
     unfolding bus_a tick_y
-    free-bus_a = free-sided f.past (fetched ds f e).bus e.side (tick_a ds f e) free-a
+    free-bus_a = free-sided f.past (words_tick ds f e).bus e.side (tick_a ds f e) free-a
 
     pub near-bus_a : IsNear most (bus_a ds f e)
     unfolding bus_a
-    near-bus_a = near-sided f.past (fetched ds f e).bus e.side (tick_a ds f e) near-fetched
+    near-bus_a = near-sided f.past (words_tick ds f e).bus e.side (tick_a ds f e) near-fetched
 
     pub free-p : (bus_a ds f e).free ≤ tick_p ds n f e
-    unfolding tick_p prepared
+    unfolding tick_p preparation_tick
     free-p = omega (arith, free-bus_a)
 
     pub near-operands : IsNear most (operands ds n f e).bus
@@ -238,8 +238,8 @@ module _ (most : ℕ) (ds : List ℕ) (are : AreDelays most ds) where
     unfolding tick_c
     later-c = (omega (arith, entry.costs.0), omega (arith, entry.costs.0))
 
-    pub tight-after : IsTight most (after ds n f e)
-    unfolding after bus_followed
+    pub tight-after : IsTight most (front_after_entry ds n f e)
+    unfolding front_after_entry bus_followed
     tight-after =
         let late = later-c in
         let done = later-r in

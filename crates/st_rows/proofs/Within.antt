@@ -8,17 +8,17 @@ use Rattle.st_bits.specs.Storage.{words_of_storage}
 use Rattle.st_banks.specs.Bank.{bank_of}
 use Rattle.st_banks.specs.Delay.{IsDelayList, delay}
 use Rattle.st_fetch.specs.Planned.{tick_of}
-use Rattle.st_fetch.specs.declared.fetched.Fetched.{Fetched}
-use Rattle.st_rows.specs.BusTimes.{Reading, accept_at, answer_at, after_read, requested_if, answer_if, requested, answer_of}
+use Rattle.st_fetch.specs.declared.fetched.AskedWord.{AskedWord}
+use Rattle.st_rows.specs.BusTimes.{Reading, accept_at, answer_at, bus_after_read, requested_if, answer_if, bus_after_request, answer_tick_on}
 use Rattle.st_rows.specs.Entries.{is_among, latest_done}
-use Rattle.st_rows.specs.Ranges.{AreDelays, IsBusWithin, IsFetchingWithin, IsReadingWithin, ArePastWithin}
+use Rattle.st_rows.specs.Ranges.{AreDelaysUpTo, IsBusWithin, IsFetchingWithin, IsReadingWithin, ArePastWithin}
 use Rattle.st_rows.specs.Rows.{fetch_word, fetch_words, request_inside, is_forwarded, read_word, read_words}
 use Rattle.st_rows.specs.declared.bus.Bus.{Bus}
 use Rattle.st_rows.specs.declared.past.Past.{Past}
 use Rattle.st_rows.specs.declared.fetching.Fetching.{Fetching}
 
 -- the delays of the banks are at most 255
-pub AreDelays-list : (ds : List ℕ) → IsDelayList ds → AreDelays 255 ds
+pub AreDelays-list : (ds : List ℕ) → IsDelayList ds → AreDelaysUpTo 255 ds
 AreDelays-list ds is = record { some = is.some; each = is.each }
 
 -- an item of a list, or the 0 past its end
@@ -28,7 +28,7 @@ at-within m (x ∷ xs) zero all = All-head (λ t. t ≤ m) x xs all
 at-within m (x ∷ xs) (suc i) all = at-within m xs i (All-tail (λ t. t ≤ m) x xs all)
 
 -- the delay of a tick
-pub delay-bounds : (most : ℕ) (ds : List ℕ) (t : ℕ) → AreDelays most ds → (1 ≤ delay ds t) × (delay ds t ≤ most)
+pub delay-bounds : (most : ℕ) (ds : List ℕ) (t : ℕ) → AreDelaysUpTo most ds → (1 ≤ delay ds t) × (delay ds t ≤ most)
 delay-bounds most ds t are =
     All-get_or (λ d. (1 ≤ d) × (d ≤ most)) ds (t % length ds) 0 (mod-lt t (omega (arith, are.some))) are.each
 
@@ -46,11 +46,11 @@ latest-within m (d ∷ past) w are = elim (cases_Bool (is_among w d.writes)) [
 ]
 
 -- the tick of a held word
-pub found-within : (m : ℕ) (held : List Fetched) (w : ℕ) → All (λ h. h.tick ≤ m) held → IfSome (tick_of held w) (λ t. t ≤ m)
+pub found-within : (m : ℕ) (held : List AskedWord) (w : ℕ) → All (λ h. h.tick ≤ m) held → IfSome (tick_of held w) (λ t. t ≤ m)
 found-within m [] w all = tt
 found-within m (h ∷ held) w all = elim (cases_Bool (h.w == w)) [
-  | inl t ↦ rw t (All-head (λ (f : Fetched). f.tick ≤ m) h held all)
-  | inr n ↦ rw n (found-within m held w (All-tail (λ (f : Fetched). f.tick ≤ m) h held all))
+  | inl t ↦ rw t (All-head (λ (f : AskedWord). f.tick ≤ m) h held all)
+  | inr n ↦ rw n (found-within m held w (All-tail (λ (f : AskedWord). f.tick ≤ m) h held all))
 ]
 
 -- a greater bound serves as well
@@ -58,7 +58,7 @@ pub bus-weaker : (m n : ℕ) (b : Bus) → m ≤ n → IsBusWithin m b → IsBus
 bus-weaker m n b more is = record {
   free = omega (arith, is.free);
   banks = All-weaker (λ t. t ≤ m) (λ t. t ≤ n) (λ t low. omega arith) b.banks.ticks is.banks;
-  held = All-weaker (λ (h : Fetched). h.tick ≤ m) (λ (h : Fetched). h.tick ≤ n) (λ h low. omega arith) b.held.words is.held;
+  held = All-weaker (λ (h : AskedWord). h.tick ≤ m) (λ (h : AskedWord). h.tick ≤ n) (λ h low. omega arith) b.held.words is.held;
 }
 
 pub past-weaker : (m n : ℕ) (past : List Past) → m ≤ n → ArePastWithin m past → ArePastWithin n past
@@ -80,13 +80,13 @@ reading-weaker m n s more is = record {
 }
 
 -- reads are wanted and accepted at m at the latest, and answered at n
-module _ (most : ℕ) (ds : List ℕ) (are : AreDelays most ds) (m n : ℕ) (more : m + most + 1 ≤ n) where
+module _ (most : ℕ) (ds : List ℕ) (are : AreDelaysUpTo most ds) (m n : ℕ) (more : m + most + 1 ≤ n) where
   pub answer-within : (b : Bus) (w want : ℕ) → IsBusWithin m b → want ≤ m → answer_at ds b w want ≤ n
   answer-within b w want is early =
       omega (arith, accept-within m b w want is early, delay-bounds most ds (accept_at b w want) are)
 
-  pub read-within : (b : Bus) (w want : ℕ) → IsBusWithin m b → want ≤ m → IsBusWithin n (after_read ds b w want)
-  unfolding after_read
+  pub read-within : (b : Bus) (w want : ℕ) → IsBusWithin m b → want ≤ m → IsBusWithin n (bus_after_read ds b w want)
+  unfolding bus_after_read
   read-within b w want is early =
       let wider = bus-weaker m n b (omega arith) is in
       record {
@@ -105,20 +105,20 @@ module _ (most : ℕ) (ds : List ℕ) (are : AreDelays most ds) (m n : ℕ) (mor
         record {
           free = made.free;
           banks = made.banks;
-          held = All-cons (λ (h : Fetched). h.tick ≤ n) _ (take 3 b.held.words) answered
-              (All-take (λ (h : Fetched). h.tick ≤ n) 3 b.held.words wider.held);
+          held = All-cons (λ (h : AskedWord). h.tick ≤ n) _ (take 3 b.held.words) answered
+              (All-take (λ (h : AskedWord). h.tick ≤ n) 3 b.held.words wider.held);
         },
         answered,
       )
 
   pub requested-within : (b : Bus) (w want : ℕ) → IsBusWithin m b → want ≤ m
-      → IsBusWithin n (requested ds b w want) × (answer_of ds b w want ≤ n)
-  unfolding requested answer_of
+      → IsBusWithin n (bus_after_request ds b w want) × (answer_tick_on ds b w want ≤ n)
+  unfolding bus_after_request answer_tick_on
   requested-within b w want is early =
       requested_if-within (tick_of b.held.words w) b w want (found-within m b.held.words w is.held) is early
 
   request_inside_if-within : (inside : Bool) (b : Bus) (w p : ℕ) → IsBusWithin m b → p ≤ m
-      → IsBusWithin n (if inside then requested ds b w p else b)
+      → IsBusWithin n (if inside then bus_after_request ds b w p else b)
   request_inside_if-within true b w p is early = (requested-within b w p is early).0
   request_inside_if-within false b w p is early = bus-weaker m n b (omega arith) is
 
@@ -141,7 +141,7 @@ one-more : (m n k : ℕ) → m + k + n * k ≤ m + suc n * k
 one-more m n k = rw (suc-mul n k) (omega arith)
 
 -- so do runs of words, each of which may take as long as the longest delay, and one tick more
-module _ (most : ℕ) (ds : List ℕ) (are : AreDelays most ds) (past : List Past) where
+module _ (most : ℕ) (ds : List ℕ) (are : AreDelaysUpTo most ds) (past : List Past) where
   pub fetch_words-within : (from : ℕ) (s : Fetching) (w n m : ℕ) → ArePastWithin m past → IsFetchingWithin m s → from ≤ m
       → IsFetchingWithin (m + n * (most + 1)) (fetch_words ds past s from w n)
   unfolding fetch_words
@@ -153,7 +153,7 @@ module _ (most : ℕ) (ds : List ℕ) (are : AreDelays most ds) (past : List Pas
       fetching-weaker (k + n * (most + 1)) (m + suc n * (most + 1)) _ (one-more m n (most + 1)) rest
 
   read_word_if-within : (late : Bool) (s : Reading) (w p m : ℕ) → IsReadingWithin m s → p ≤ m
-      → IsReadingWithin (m + (most + 1)) (if late then s else record { bus = after_read ds s.bus w p; answered = max s.answered (answer_at ds s.bus w p) })
+      → IsReadingWithin (m + (most + 1)) (if late then s else record { bus = bus_after_read ds s.bus w p; answered = max s.answered (answer_at ds s.bus w p) })
   read_word_if-within true s w p m is early = reading-weaker m (m + (most + 1)) s (omega arith) is
   read_word_if-within false s w p m is early = record {
     bus = read-within most ds are m (m + (most + 1)) (omega arith) s.bus w p is.bus early;

@@ -7,12 +7,12 @@ use Rattle.std.proofs.lemmas.Bool.Decides.{nat_tests}
 use Rattle.std.proofs.lemmas.Nat.Bits.{bit_at_lowest, bit_at-suc, bit_at-zero, bit_at-trailing_zeros, bit_at_clear_same, bit_at_clear_other, bit_at_and}
 use Rattle.std.proofs.lemmas.Nat.{and_le_l}
 use Rattle.std.proofs.lemmas.List.Elements.{All-head, All-tail, All-cons, All-take}
-use Rattle.st_rows.specs.Entries.{is_in, is_among, no_words, has_words, writer_bits, latest_done}
+use Rattle.st_rows.specs.Entries.{is_in, is_among, no_runs, has_words, writer_bits, latest_done}
 use Rattle.st_rows.specs.declared.past.Past.{Past}
 
 -- the entry at a place, one without words behind the last one
 abbrev pub nth : List Past → ℕ → Past
-nth past i = get_or past i (record { c = 0; writes = no_words })
+nth past i = get_or past i (record { c = 0; writes = no_runs })
 
 -- a number that a bit is put behind
 lowest-bit : (m : ℕ) (b : Bool) → (2 * m + (if b then 1 else 0)) % 2 ≡ (if b then 1 else 0)

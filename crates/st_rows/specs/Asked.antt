@@ -2,16 +2,17 @@
 use Rattle.std.specs.Prelude.{ℕ, zero, suc, ◌+◌, max, Bool, true, false, nat_lt, if◌then◌else◌, List, [], ◌∷◌, ◌++◌, Option, None, Some}
 use Rattle.st_bits.specs.Storage.{words_of_storage}
 use Rattle.st_fetch.specs.Planned.{tick_of}
-use Rattle.st_rows.specs.BusTimes.{accept_at, after_read, requested_if}
+use Rattle.st_rows.specs.BusTimes.{accept_at, bus_after_read, requested_if}
 use Rattle.st_rows.specs.Rows.{fetch_word, fetch_words, wanted_from, is_forwarded, request_inside, tick_a, tick_p, operands}
 use Rattle.st_rows.specs.declared.bus.Bus.{Bus}
 use Rattle.st_rows.specs.declared.entry.Entry.{Entry}
-use Rattle.st_rows.specs.declared.entry.Runs.{Runs}
+use Rattle.st_rows.specs.declared.entry.WordRuns.{WordRuns}
 use Rattle.st_rows.specs.declared.past.Past.{Past}
 use Rattle.st_rows.specs.declared.fetching.Fetching.{Fetching}
 use Rattle.st_rows.specs.declared.front.Front.{Front}
 
--- a read: its word, the tick from which on it is wanted, and whether the word is held from then on, as instruction words are
+-- a read: its word, the tick from which on it is wanted, and whether the word is held from then on,
+-- as instruction words are
 pub record Read : Type 0 where
   pub w : ℕ
   pub want : ℕ
@@ -31,7 +32,8 @@ words_asked ds past s from w (suc n) =
 
 -- the index-side word or an operand word, unless it comes from its writer
 abbrev pub data_asked : List Past → ℕ → ℕ → List Read
-data_asked past w tick = if is_forwarded past w tick then [] else record { w = w; want = tick; fetch = false } ∷ []
+data_asked past w tick = if is_forwarded past w tick then []
+    else record { w = w; want = tick; fetch = false } ∷ []
 
 -- the index-side word, if there is one
 unfoldable pub side_asked : List Past → Option ℕ → ℕ → List Read
@@ -44,28 +46,33 @@ operands_asked past p w zero = []
 operands_asked past p w (suc n) = data_asked past w p ++ operands_asked past p (w + 1) n
 
 -- the operand words of both runs, the first run before the second
-abbrev pub runs_asked : List Past → Runs → ℕ → List Read
+abbrev pub runs_asked : List Past → WordRuns → ℕ → List Read
 runs_asked past reads p =
-    operands_asked past p reads.one.first reads.one.len ++ operands_asked past p reads.two.first reads.two.len
+    operands_asked past p reads.one.first reads.one.len
+    ++ operands_asked past p reads.two.first reads.two.len
 
 -- the following words
 abbrev pub inside_asked : Bus → ℕ → ℕ → List Read
-inside_asked b w p = if nat_lt w words_of_storage then word_asked (tick_of b.held.words w) w p else []
+inside_asked b w p = if nat_lt w words_of_storage then word_asked (tick_of b.held.words w) w p
+    else []
 
 -- both of them, where the entry has following words
 unfoldable pub following_asked : List ℕ → Bus → Entry → ℕ → List Read
 following_asked ds b e p =
     if e.follows
     then inside_asked b (e.own.first + e.own.len) p
-    ++ inside_asked (request_inside ds b (e.own.first + e.own.len) p) (e.own.first + e.own.len + 1) p
+    ++ inside_asked (request_inside ds b (e.own.first + e.own.len) p)
+    (e.own.first + e.own.len + 1) p
     else []
 
 -- the instruction words of the entry e behind the front f
 unfoldable pub fetches_asked : List ℕ → Front → Entry → List Read
 fetches_asked ds f e =
-    words_asked ds f.past (record { bus = f.bus; answered = 0; awaited = 0 }) (wanted_from f) e.own.first e.own.len
+    words_asked ds f.past (record { bus = f.bus; answered = 0; awaited = 0 })
+    (wanted_from f) e.own.first e.own.len
     ++ words_asked ds f.past
-    (fetch_words ds f.past (record { bus = f.bus; answered = 0; awaited = 0 }) (wanted_from f) e.own.first e.own.len)
+    (fetch_words ds f.past (record { bus = f.bus; answered = 0; awaited = 0 })
+    (wanted_from f) e.own.first e.own.len)
     (max (wanted_from f) f.c) e.target.first e.target.len
 
 -- in two parts: its reads until its address is formed
@@ -75,15 +82,16 @@ formed_asked ds f e = fetches_asked ds f e ++ side_asked f.past e.side (tick_a d
 -- and those from its preparation on
 abbrev pub prepared_asked : List ℕ → ℕ → Front → Entry → List Read
 prepared_asked ds n f e =
-    runs_asked f.past e.reads (tick_p ds n f e) ++ following_asked ds (operands ds n f e).bus e (tick_p ds n f e)
+    runs_asked f.past e.reads (tick_p ds n f e) ++ following_asked ds (operands ds n f e).bus e
+    (tick_p ds n f e)
 
 -- those behind its instruction words
 abbrev pub data_of : List ℕ → ℕ → Front → Entry → List Read
 data_of ds n f e = side_asked f.past e.side (tick_a ds f e) ++ prepared_asked ds n f e
 
 -- all reads of that entry
-unfoldable pub asked : List ℕ → ℕ → Front → Entry → List Read
-asked ds n f e =
+unfoldable pub reads_of_entry : List ℕ → ℕ → Front → Entry → List Read
+reads_of_entry ds n f e =
     fetches_asked ds f e
     ++ side_asked f.past e.side (tick_a ds f e)
     ++ operands_asked f.past (tick_p ds n f e) e.reads.one.first e.reads.one.len
@@ -101,12 +109,13 @@ own_reads e = e.own.len + e.target.len + side_count e.side + e.reads.one.len + e
 
 -- the bus after a read
 abbrev pub after_one : List ℕ → Bus → Read → Bus
-after_one ds b r = if r.fetch then requested_if None ds b r.w r.want else after_read ds b r.w r.want
+after_one ds b r = if r.fetch then requested_if None ds b r.w r.want
+    else bus_after_read ds b r.w r.want
 
 -- after the reads of a list
-unfoldable pub served : List ℕ → List Read → Bus → Bus
-served ds [] b = b
-served ds (r ∷ reads) b = served ds reads (after_one ds b r)
+unfoldable pub bus_after_reads : List ℕ → List Read → Bus → Bus
+bus_after_reads ds [] b = b
+bus_after_reads ds (r ∷ reads) b = bus_after_reads ds reads (after_one ds b r)
 
 -- after those of them that are accepted before the tick t
 unfoldable pub made_before : List ℕ → ℕ → List Read → Bus → Bus

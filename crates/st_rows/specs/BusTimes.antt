@@ -3,18 +3,22 @@ use Rattle.std.specs.Prelude.{ℕ, ◌+◌, List, replicate, Option, None, Some}
 use Rattle.st_banks.specs.Bank.{accept_tick, answered_at}
 use Rattle.st_banks.specs.Delay.{answer_tick}
 use Rattle.st_banks.specs.declared.answers.LastAnswers.{LastAnswers}
-use Rattle.st_fetch.specs.Planned.{unasked, tick_of, asked_for}
+use Rattle.st_fetch.specs.Planned.{no_word, tick_of, asked_for}
 use Rattle.st_rows.specs.declared.bus.Bus.{Bus}
 
--- how far the operand words of an entry are read: the bus after the words so far, and the latest of their answers and of the tick at which the entry
--- was prepared
+-- how far the operand words of an entry are read: the bus after the words so far, and the latest of
+-- their answers and of the tick at which the entry was prepared
 pub record Reading : Type 0 where
   pub bus : Bus
   pub answered : ℕ
 
 -- the bus of a segment that starts at the tick: no word is held
 abbrev pub no_reads : LastAnswers → ℕ → Bus
-no_reads banks start = record { banks = banks; free = start; held = record { words = replicate 4 unasked } }
+no_reads banks start = record {
+  banks = banks;
+  free = start;
+  held = record { words = replicate 4 no_word };
+}
 
 -- the tick at which a read of the word w is accepted that is wanted from the want on
 abbrev pub accept_at : Bus → ℕ → ℕ → ℕ
@@ -25,18 +29,23 @@ abbrev pub answer_at : List ℕ → Bus → ℕ → ℕ → ℕ
 answer_at ds b w want = answer_tick ds (accept_at b w want)
 
 -- the bus after that read
-unfoldable pub after_read : List ℕ → Bus → ℕ → ℕ → Bus
-after_read ds b w want = record b {
+unfoldable pub bus_after_read : List ℕ → Bus → ℕ → ℕ → Bus
+bus_after_read ds b w want = record b {
   banks = record { ticks = answered_at b.banks.ticks w (answer_at ds b w want) };
   free = accept_at b w want + 1;
 }
 
--- the bus after the instruction word w was asked for, given the tick of its answer if it is held: then no read is
--- made, and else it is held from now on
+-- the bus after the instruction word w was asked for, given the tick of its answer if it is held:
+-- then no read is made, and else it is held from now on
 abbrev pub requested_if : Option ℕ → List ℕ → Bus → ℕ → ℕ → Bus
 requested_if (Some tick) ds b w want = b
 requested_if None ds b w want =
-    record (after_read ds b w want) { held = record { words = asked_for b.held.words w (answer_at ds b w want) } }
+    record (bus_after_read ds b w want) {
+      held = record {
+        words = asked_for b.held.words w
+            (answer_at ds b w want);
+      };
+    }
 
 -- the tick of the word's answer, given that tick if it is held
 abbrev pub answer_if : Option ℕ → List ℕ → Bus → ℕ → ℕ → ℕ
@@ -44,9 +53,9 @@ answer_if (Some tick) ds b w want = tick
 answer_if None ds b w want = answer_at ds b w want
 
 -- the bus after the instruction word w was asked for
-unfoldable pub requested : List ℕ → Bus → ℕ → ℕ → Bus
-requested ds b w want = requested_if (tick_of b.held.words w) ds b w want
+unfoldable pub bus_after_request : List ℕ → Bus → ℕ → ℕ → Bus
+bus_after_request ds b w want = requested_if (tick_of b.held.words w) ds b w want
 
 -- the tick of its answer
-unfoldable pub answer_of : List ℕ → Bus → ℕ → ℕ → ℕ
-answer_of ds b w want = answer_if (tick_of b.held.words w) ds b w want
+unfoldable pub answer_tick_on : List ℕ → Bus → ℕ → ℕ → ℕ
+answer_tick_on ds b w want = answer_if (tick_of b.held.words w) ds b w want

@@ -1,148 +1,161 @@
 -- What holds of the ticks of all entries.
 use Rattle.std.specs.Prelude.{◌≡◌, ℕ, List, [], ◌∷◌, ◌++◌, ◌+◌, ◌*◌, ◌<◌, ◌≤◌, ◌||◌, true, length, get_or, max, All}
-use Rattle.st_rows.specs.Ranges.{AreDelays, IsEntry, IsNear, IsTight}
+use Rattle.st_rows.specs.Ranges.{AreDelaysUpTo, IsEntryInTime, IsNear, IsTight}
 use Rattle.st_rows.specs.Entries.{latest_done}
-use Rattle.st_rows.specs.Rows.{opening, wanted_from, fetched, done_before, tick_a, bus_a, tick_p, operands, tick_c, row, after, fills}
+use Rattle.st_rows.specs.Rows.{opening_front, wanted_from, words_tick, done_before, tick_a, bus_a, tick_p, operands, tick_c, row_of_entry, front_after_entry, fills}
 use Rattle.std.specs.List.{AllZip}
 use Rattle.st_banks.specs.declared.answers.LastAnswers.{LastAnswers}
-use Rattle.st_rows.specs.Asked.{Read, fetches_asked, side_asked, formed_asked, prepared_asked, data_of, asked, served, after_one, made_before, own_reads}
-use Rattle.st_rows.specs.BusTimes.{accept_at, after_read, answer_at, requested, answer_of}
-use Rattle.st_rows.specs.Levels.{AreEqual, IsBusSooner, IsFrontSooner, IsRowSooner, AreInOrder, AreOlderDone, kept, IsCalm, AreCalm, AreCovered, rows}
+use Rattle.st_rows.specs.Asked.{Read, fetches_asked, side_asked, formed_asked, prepared_asked, data_of, reads_of_entry, bus_after_reads, after_one, made_before, own_reads}
+use Rattle.st_rows.specs.BusTimes.{accept_at, bus_after_read, answer_at, bus_after_request, answer_tick_on}
+use Rattle.st_rows.specs.Levels.{AreEqual, IsBusSooner, IsFrontSooner, IsRowSooner, AreInOrder, AreOlderDone, front_of_last, IsHazardFree, AreHazardFree, AreCovered, rows_of_entries}
 use Rattle.st_rows.specs.declared.bus.Bus.{Bus}
 use Rattle.st_rows.specs.declared.entry.Entry.{Entry}
-use Rattle.st_rows.specs.declared.entry.Runs.{Runs}
+use Rattle.st_rows.specs.declared.entry.WordRuns.{WordRuns}
 use Rattle.st_rows.specs.declared.front.Front.{Front}
 
 -- The ticks of a row stand in their order, and behind those of the row before.
 pub record RowsAreInOrder : Type 0 where
   pub address : (ds : List ℕ) (n : ℕ) (f : Front) (e : Entry) →
-      (f.p < (row ds n f e).a) × (f.bus.free ≤ (row ds n f e).a)
+      (f.p < (row_of_entry ds n f e).a) × (f.bus.free ≤ (row_of_entry ds n f e).a)
   pub answers : (ds : List ℕ) (n : ℕ) (f : Front) (e : Entry) →
-      (fetched ds f e).answered < (row ds n f e).a
+      (words_tick ds f e).answered < (row_of_entry ds n f e).a
   pub awaited : (ds : List ℕ) (n : ℕ) (f : Front) (e : Entry) →
-      (fetched ds f e).awaited < (row ds n f e).a
+      (words_tick ds f e).awaited < (row_of_entry ds n f e).a
   pub writers : (ds : List ℕ) (f : Front) (e : Entry) (i : ℕ) →
-      (i < e.own.len → latest_done f.past (e.own.first + i) ≤ (fetched ds f e).awaited)
+      (i < e.own.len → latest_done f.past (e.own.first + i) ≤ (words_tick ds f e).awaited)
       × (i < e.target.len →
-      latest_done f.past (e.target.first + i) ≤ (fetched ds f e).awaited)
+      latest_done f.past (e.target.first + i) ≤ (words_tick ds f e).awaited)
   pub alone : (ds : List ℕ) (n : ℕ) (f : Front) (e : Entry) →
-      (e.serial || f.serial) ≡ true → f.c < (row ds n f e).a
+      (e.serial || f.serial) ≡ true → f.c < (row_of_entry ds n f e).a
   pub prepared : (ds : List ℕ) (n : ℕ) (f : Front) (e : Entry) →
-      (row ds n f e).a < (row ds n f e).p
+      (row_of_entry ds n f e).a < (row_of_entry ds n f e).p
   pub levels : (ds : List ℕ) (n : ℕ) (f : Front) (e : Entry) →
-      done_before n f.past < (row ds n f e).p
+      done_before n f.past < (row_of_entry ds n f e).p
   pub ready : (ds : List ℕ) (n : ℕ) (f : Front) (e : Entry) →
-      (row ds n f e).p ≤ (row ds n f e).r
-  pub done : (ds : List ℕ) (n : ℕ) (f : Front) (e : Entry) → IsEntry e →
-      ((row ds n f e).r < (row ds n f e).c) × (f.c < (row ds n f e).c)
+      (row_of_entry ds n f e).p ≤ (row_of_entry ds n f e).r
+  pub done : (ds : List ℕ) (n : ℕ) (f : Front) (e : Entry) → IsEntryInTime e →
+      ((row_of_entry ds n f e).r < (row_of_entry ds n f e).c) × (f.c < (row_of_entry ds n f e).c)
 
--- The ticks of a front stay close together, and no entry takes longer than 64 reads with four ticks more each; sixteen ticks are to spare,
--- in which the next segment starts.
+-- The ticks of a front stay close together, and no entry takes longer than 64 reads with four ticks
+-- more each; sixteen ticks are to spare, in which the next segment starts.
 pub record CompletionsAreBounded : Type 0 where
-  pub tight : (most n : ℕ) (ds : List ℕ) (f : Front) (e : Entry) → AreDelays most ds →
-      IsEntry e → IsTight most f → IsTight most (after ds n f e)
-  pub bound : (most n : ℕ) (ds : List ℕ) (f : Front) (e : Entry) → AreDelays most ds →
-      IsEntry e → IsTight most f → (after ds n f e).c + 16 ≤ f.c + 64 * (most + 4)
+  pub tight : (most n : ℕ) (ds : List ℕ) (f : Front) (e : Entry) → AreDelaysUpTo most ds →
+      IsEntryInTime e → IsTight most f → IsTight most (front_after_entry ds n f e)
+  pub bound : (most n : ℕ) (ds : List ℕ) (f : Front) (e : Entry) → AreDelaysUpTo most ds →
+      IsEntryInTime e → IsTight most f → (front_after_entry ds n f e).c + 16 ≤ f.c + 64 * (most + 4)
 
--- The first two operand words are there after preparation, and before the entry is done: when all are read or the last entry is
--- done. Where there are no others, the latest of them, preparation and that completion decide when its turn comes.
+-- The first two operand words are there after preparation, and before the entry is done: when all
+-- are read or the last entry is done. Where there are no others, the latest of them, preparation
+-- and that completion decide when its turn comes.
 pub record OperandsAreThereBeforeCompletion : Type 0 where
-  pub first : (most n : ℕ) (ds : List ℕ) (f : Front) (e : Entry) → AreDelays most ds →
-      1 ≤ e.reads.one.len → (row ds n f e).p < get_or (fills ds n f e) 0 0
-  pub second : (most n : ℕ) (ds : List ℕ) (f : Front) (e : Entry) → AreDelays most ds →
-      2 ≤ e.reads.one.len → (row ds n f e).p < get_or (fills ds n f e) 1 0
+  pub first : (most n : ℕ) (ds : List ℕ) (f : Front) (e : Entry) → AreDelaysUpTo most ds →
+      1 ≤ e.reads.one.len → (row_of_entry ds n f e).p < get_or (fills ds n f e) 0 0
+  pub second : (most n : ℕ) (ds : List ℕ) (f : Front) (e : Entry) → AreDelaysUpTo most ds →
+      2 ≤ e.reads.one.len → (row_of_entry ds n f e).p < get_or (fills ds n f e) 1 0
   pub ready : (most n i : ℕ) (ds : List ℕ) (f : Front) (e : Entry) → IsTight most f →
-      get_or (fills ds n f e) i 0 ≤ max (row ds n f e).r f.c
+      get_or (fills ds n f e) i 0 ≤ max (row_of_entry ds n f e).r f.c
   pub done : (most n i : ℕ) (ds : List ℕ) (f : Front) (e : Entry) → IsTight most f →
-      IsEntry e → get_or (fills ds n f e) i 0 < (row ds n f e).c
+      IsEntryInTime e → get_or (fills ds n f e) i 0 < (row_of_entry ds n f e).c
   pub last : (most n : ℕ) (ds : List ℕ) (f : Front) (e : Entry) → IsTight most f →
       e.reads.one.len ≤ 2 → e.reads.two.len ≡ 0 →
-      max (row ds n f e).r f.c ≡ max (max (row ds n f e).p f.c)
+      max (row_of_entry ds n f e).r f.c ≡ max (max (row_of_entry ds n f e).p f.c)
       (max (get_or (fills ds n f e) 0 0) (get_or (fills ds n f e) 1 0))
 
--- Where all reads take the same time, a read that is wanted no later on a bus that is nowhere later is answered no later.
+-- Where all reads take the same time, a read that is wanted no later on a bus that is nowhere later
+-- is answered no later.
 pub record ReadsAreNoLater : Type 0 where
   pub read : (d : ℕ) (ds : List ℕ) (b c : Bus) (w want late : ℕ) → AreEqual d ds →
       IsBusSooner b c → want ≤ late →
-      IsBusSooner (after_read ds b w want) (after_read ds c w late)
+      IsBusSooner (bus_after_read ds b w want) (bus_after_read ds c w late)
       × (answer_at ds b w want ≤ answer_at ds c w late)
   pub word : (d : ℕ) (ds : List ℕ) (b c : Bus) (w want late : ℕ) → AreEqual d ds →
       IsBusSooner b c → want ≤ late →
-      IsBusSooner (requested ds b w want) (requested ds c w late)
-      × (answer_of ds b w want ≤ answer_of ds c w late)
+      IsBusSooner (bus_after_request ds b w want) (bus_after_request ds c w late)
+      × (answer_tick_on ds b w want ≤ answer_tick_on ds c w late)
 
--- The same of an entry of which no word is written by an entry before, instruction words aside, and of as many levels or more.
+-- The same of an entry of which no word is written by an entry before, instruction words aside, and
+-- of as many levels or more.
 pub record EntriesAreNoLater : Type 0 where
-  pub row : (d m n : ℕ) (ds : List ℕ) (f g : Front) (e : Entry) (earlier : List Runs) →
+  pub row : (d m n : ℕ) (ds : List ℕ) (f g : Front) (e : Entry) (earlier : List WordRuns) →
       AreEqual d ds → n ≤ m → IsFrontSooner f g → AreInOrder g → AreCovered f.past earlier →
-      IsCalm earlier e → IsRowSooner (row ds m f e) (row ds n g e)
-  pub after : (d m n : ℕ) (ds : List ℕ) (f g : Front) (e : Entry) (earlier : List Runs) →
+      IsHazardFree earlier e → IsRowSooner (row_of_entry ds m f e) (row_of_entry ds n g e)
+  pub after : (d m n : ℕ) (ds : List ℕ) (f g : Front) (e : Entry) (earlier : List WordRuns) →
       AreEqual d ds → n ≤ m → IsFrontSooner f g → AreInOrder g → AreCovered f.past earlier →
-      IsCalm earlier e → IsFrontSooner (after ds m f e) (after ds n g e)
-      × AreInOrder (after ds n g e) × AreCovered (after ds m f e).past (e.writes ∷ earlier)
+      IsHazardFree earlier e → IsFrontSooner (front_after_entry ds m f e)
+      (front_after_entry ds n g e)
+      × AreInOrder (front_after_entry ds n g e) × AreCovered (front_after_entry ds m f e).past
+      (e.writes ∷ earlier)
 
--- With more levels no entry of a segment is later, where all reads take the same time and no entry reads a word that an earlier
--- one writes, instruction words aside.
+-- With more levels no entry of a segment is later, where all reads take the same time and no entry
+-- reads a word that an earlier one writes, instruction words aside.
 abbrev pub MoreLevelsAreNoLater : Type 0
 MoreLevelsAreNoLater = (d m n start : ℕ) (ds : List ℕ) (banks : LastAnswers) (es : List Entry) →
-    AreEqual d ds → n ≤ m → AreCalm [] es →
+    AreEqual d ds → n ≤ m → AreHazardFree [] es →
     AllZip IsRowSooner
-    (rows ds m (opening banks start) es) (rows ds n (opening banks start) es)
+    (rows_of_entries ds m (opening_front banks start) es)
+    (rows_of_entries ds n (opening_front banks start) es)
 
 -- An entry that lies as many back as there are levels is done when the last one is prepared.
 pub record OlderEntriesAreDoneBefore : Type 0 where
-  pub opening : (n start : ℕ) (banks : LastAnswers) → AreInOrder (opening banks start)
-      × AreOlderDone n (opening banks start)
+  pub opening : (n start : ℕ) (banks : LastAnswers) → AreInOrder (opening_front banks start)
+      × AreOlderDone n (opening_front banks start)
   pub after : (ds : List ℕ) (n : ℕ) (f : Front) (e : Entry) → 1 ≤ n → AreInOrder f →
-      AreInOrder (after ds n f e) × AreOlderDone n (after ds n f e)
+      AreInOrder (front_after_entry ds n f e) × AreOlderDone n (front_after_entry ds n f e)
 
 -- So it decides no tick: the last n entries alone give the same row, and the same front behind it.
 pub record OlderEntriesDecideNothing : Type 0 where
   pub row : (ds : List ℕ) (n : ℕ) (f : Front) (e : Entry) → 1 ≤ n → AreOlderDone n f →
-      row ds n (kept n f) e ≡ row ds n f e
+      row_of_entry ds n (front_of_last n f) e ≡ row_of_entry ds n f e
   pub after : (ds : List ℕ) (n : ℕ) (f : Front) (e : Entry) → 1 ≤ n → AreOlderDone n f →
-      kept n (after ds n (kept n f) e) ≡ kept n (after ds n f e)
+      front_of_last n (front_after_entry ds n (front_of_last n f) e)
+      ≡ front_of_last n (front_after_entry ds n f e)
 
--- The reads that are asked for an entry, made one after the other, give the bus behind it. They are at most as many as the words
--- that it reads for itself and two following ones: 36 and two, as each entry of a machine has 36 such words at most.
+-- The reads that are asked for an entry, made one after the other, give the bus behind it. They are
+-- at most as many as the words that it reads for itself and two following ones: 36 and two, as each
+-- entry of a machine has 36 such words at most.
 pub record RowsMakeTheirReads : Type 0 where
   pub bus : (ds : List ℕ) (n : ℕ) (f : Front) (e : Entry) →
-      served ds (asked ds n f e) f.bus ≡ (after ds n f e).bus
+      bus_after_reads ds (reads_of_entry ds n f e) f.bus ≡ (front_after_entry ds n f e).bus
   pub few : (ds : List ℕ) (n : ℕ) (f : Front) (e : Entry) →
-      length (asked ds n f e) ≤ own_reads e + 2
+      length (reads_of_entry ds n f e) ≤ own_reads e + 2
   pub most : (ds : List ℕ) (n : ℕ) (f : Front) (e : Entry) → own_reads e ≤ 36 →
-      length (asked ds n f e) ≤ 36 + 2
+      length (reads_of_entry ds n f e) ≤ 36 + 2
 
--- Each read is accepted when it is wanted and the bus is free, which is one tick after the read before it, and is answered later.
+-- Each read is accepted when it is wanted and the bus is free, which is one tick after the read
+-- before it, and is answered later.
 abbrev pub ReadsComeInOrder : Type 0
-ReadsComeInOrder = (most : ℕ) (ds : List ℕ) (b : Bus) (r : Read) → AreDelays most ds →
+ReadsComeInOrder = (most : ℕ) (ds : List ℕ) (b : Bus) (r : Read) → AreDelaysUpTo most ds →
     (r.want ≤ accept_at b r.w r.want) × (b.free ≤ accept_at b r.w r.want)
     × ((after_one ds b r).free ≡ accept_at b r.w r.want + 1)
     × (accept_at b r.w r.want < answer_at ds b r.w r.want)
     × (answer_at ds b r.w r.want ≤ accept_at b r.w r.want + most)
 
--- The reads that are accepted before a tick leave a bus that is free at that tick, and what they ask for is answered soon after it.
+-- The reads that are accepted before a tick leave a bus that is free at that tick, and what they
+-- ask for is answered soon after it.
 abbrev pub MadeReadsAreAnsweredSoon : Type 0
-MadeReadsAreAnsweredSoon = (most t : ℕ) (ds : List ℕ) (reads : List Read) (b : Bus) → AreDelays most ds →
+MadeReadsAreAnsweredSoon = (most t : ℕ) (ds : List ℕ) (reads : List Read) (b : Bus) →
+    AreDelaysUpTo most ds →
     IsNear most b → b.free ≤ t →
     IsNear most (made_before ds t reads b) × ((made_before ds t reads b).free ≤ t)
 
--- The reads of an entry are those of its instruction words and, behind them, of its data; or those until its address is formed and those from its
--- preparation on. Each part gives the bus of its stage.
+-- The reads of an entry are those of its instruction words and, behind them, of its data; or those
+-- until its address is formed and those from its preparation on. Each part gives the bus of its
+-- stage.
 pub record EntriesAskInParts : Type 0 where
   pub parts : (ds : List ℕ) (n : ℕ) (f : Front) (e : Entry) →
-      asked ds n f e ≡ fetches_asked ds f e ++ data_of ds n f e
+      reads_of_entry ds n f e ≡ fetches_asked ds f e ++ data_of ds n f e
   pub two : (ds : List ℕ) (n : ℕ) (f : Front) (e : Entry) →
-      asked ds n f e ≡ formed_asked ds f e ++ prepared_asked ds n f e
+      reads_of_entry ds n f e ≡ formed_asked ds f e ++ prepared_asked ds n f e
   pub fetches : (ds : List ℕ) (f : Front) (e : Entry) →
-      served ds (fetches_asked ds f e) f.bus ≡ (fetched ds f e).bus
+      bus_after_reads ds (fetches_asked ds f e) f.bus ≡ (words_tick ds f e).bus
   pub formed : (ds : List ℕ) (f : Front) (e : Entry) →
-      served ds (formed_asked ds f e) f.bus ≡ bus_a ds f e
+      bus_after_reads ds (formed_asked ds f e) f.bus ≡ bus_a ds f e
   pub prepared : (ds : List ℕ) (n : ℕ) (f : Front) (e : Entry) →
-      served ds (prepared_asked ds n f e) (bus_a ds f e) ≡ (after ds n f e).bus
+      bus_after_reads ds (prepared_asked ds n f e) (bus_a ds f e) ≡ (front_after_entry ds n f e).bus
 
--- When the reads of an entry are wanted: instruction words from the first want on, the index-side word at A, operands and
--- following words at P, and so all behind the instruction words at A or later.
+-- When the reads of an entry are wanted: instruction words from the first want on, the index-side
+-- word at A, operands and following words at P, and so all behind the instruction words at A or
+-- later.
 pub record ReadsAreWantedInTime : Type 0 where
   pub fetches : (ds : List ℕ) (f : Front) (e : Entry) →
       All (λ r. wanted_from f ≤ r.want) (fetches_asked ds f e)
@@ -153,22 +166,22 @@ pub record ReadsAreWantedInTime : Type 0 where
   pub «data» : (ds : List ℕ) (n : ℕ) (f : Front) (e : Entry) →
       All (λ r. tick_a ds f e ≤ r.want) (data_of ds n f e)
 
--- The bus is free of all reads before an entry when its address is formed, of its instruction words too, and of its index-side word when
--- it is prepared.
+-- The bus is free of all reads before an entry when its address is formed, of its instruction words
+-- too, and of its index-side word when it is prepared.
 pub record BusesAreFreeInTime : Type 0 where
   pub before : (ds : List ℕ) (f : Front) (e : Entry) → f.bus.free ≤ tick_a ds f e
-  pub fetched : (most n : ℕ) (ds : List ℕ) (f : Front) (e : Entry) → AreDelays most ds →
-      IsEntry e → IsTight most f → (fetched ds f e).bus.free ≤ tick_a ds f e
-  pub formed : (most n : ℕ) (ds : List ℕ) (f : Front) (e : Entry) → AreDelays most ds →
-      IsEntry e → IsTight most f → (bus_a ds f e).free ≤ tick_p ds n f e
-  pub done : (most n : ℕ) (ds : List ℕ) (f : Front) (e : Entry) → AreDelays most ds →
-      IsEntry e → IsTight most f → (f.bus.free ≤ tick_c ds n f e)
+  pub fetched : (most n : ℕ) (ds : List ℕ) (f : Front) (e : Entry) → AreDelaysUpTo most ds →
+      IsEntryInTime e → IsTight most f → (words_tick ds f e).bus.free ≤ tick_a ds f e
+  pub formed : (most n : ℕ) (ds : List ℕ) (f : Front) (e : Entry) → AreDelaysUpTo most ds →
+      IsEntryInTime e → IsTight most f → (bus_a ds f e).free ≤ tick_p ds n f e
+  pub done : (most n : ℕ) (ds : List ℕ) (f : Front) (e : Entry) → AreDelaysUpTo most ds →
+      IsEntryInTime e → IsTight most f → (f.bus.free ≤ tick_c ds n f e)
       × ((operands ds n f e).bus.free ≤ tick_c ds n f e)
 
--- All reads are made before a tick at which the bus is free behind them; and reads that are wanted at a tick or later, behind others, change nothing of
--- those that are made before.
+-- All reads are made before a tick at which the bus is free behind them; and reads that are wanted
+-- at a tick or later, behind others, change nothing of those that are made before.
 pub record LateReadsChangeNothing : Type 0 where
   pub all : (ds : List ℕ) (t : ℕ) (xs : List Read) (b : Bus) →
-      (served ds xs b).free ≤ t → made_before ds t xs b ≡ served ds xs b
+      (bus_after_reads ds xs b).free ≤ t → made_before ds t xs b ≡ bus_after_reads ds xs b
   pub late : (ds : List ℕ) (t : ℕ) (xs ys : List Read) (b : Bus) → All (λ r. t ≤ r.want) ys →
       made_before ds t (xs ++ ys) b ≡ made_before ds t xs b

@@ -1,17 +1,17 @@
 -- When the ticks of one machine are nowhere later than those of another.
 use Rattle.std.specs.Prelude.{ℕ, ◌≡◌, ◌+◌, ◌≤◌, ◌<◌, false, List, [], ◌∷◌, length, get_or, All, IfSome, take}
 use Rattle.std.specs.List.{AllZip}
-use Rattle.st_fetch.specs.declared.fetched.Fetched.{Fetched}
-use Rattle.st_rows.specs.Entries.{is_among, no_words}
+use Rattle.st_fetch.specs.declared.fetched.AskedWord.{AskedWord}
+use Rattle.st_rows.specs.Entries.{is_among, no_runs}
 use Rattle.st_rows.specs.Ranges.{ArePastWithin}
-use Rattle.st_rows.specs.Rows.{row, after}
+use Rattle.st_rows.specs.Rows.{row_of_entry, front_after_entry}
 use Rattle.st_rows.specs.declared.bus.Bus.{Bus}
-use Rattle.st_rows.specs.declared.entry.Run.{Run}
-use Rattle.st_rows.specs.declared.entry.Runs.{Runs}
+use Rattle.st_rows.specs.declared.entry.WordRun.{WordRun}
+use Rattle.st_rows.specs.declared.entry.WordRuns.{WordRuns}
 use Rattle.st_rows.specs.declared.entry.Entry.{Entry}
 use Rattle.st_rows.specs.declared.past.Past.{Past}
 use Rattle.st_rows.specs.declared.front.Front.{Front}
-use Rattle.st_rows.specs.declared.front.Row.{Row}
+use Rattle.st_rows.specs.declared.front.EntryTicks.{EntryTicks}
 
 -- each read takes d ticks
 pub record AreEqual (d : ℕ) (ds : List ℕ) : Type 0 where
@@ -19,7 +19,7 @@ pub record AreEqual (d : ℕ) (ds : List ℕ) : Type 0 where
   pub each : All (λ x. x ≡ d) ds
 
 -- a held word is answered no later than another, and is the same word
-abbrev pub IsHeldSooner : Fetched → Fetched → Type 0
+abbrev pub IsHeldSooner : AskedWord → AskedWord → Type 0
 IsHeldSooner g h = (g.w ≡ h.w) × (g.tick ≤ h.tick)
 
 -- the reads of a bus are accepted and answered no later than those of another
@@ -41,7 +41,7 @@ pub record IsFrontSooner (f g : Front) : Type 0 where
   pub past : AllZip IsPastSooner f.past g.past
 
 -- no tick of a row is later than that of another
-pub record IsRowSooner (x y : Row) : Type 0 where
+pub record IsRowSooner (x y : EntryTicks) : Type 0 where
   pub address : x.a ≤ y.a
   pub prepared : x.p ≤ y.p
   pub ready : x.r ≤ y.r
@@ -51,40 +51,44 @@ pub record IsRowSooner (x y : Row) : Type 0 where
 pub record AreInOrder (f : Front) : Type 0 where
   pub done : ArePastWithin f.c f.past
   pub falls : (i j : ℕ) → i ≤ j →
-      (get_or f.past j (record { c = 0; writes = no_words })).c ≤ (get_or f.past i (record { c = 0; writes = no_words })).c
+      (get_or f.past j (record { c = 0; writes = no_runs })).c
+      ≤ (get_or f.past i (record { c = 0; writes = no_runs })).c
 
 -- none of these entries writes the word
-abbrev pub IsUnwritten : List Runs → ℕ → Type 0
+abbrev pub IsUnwritten : List WordRuns → ℕ → Type 0
 IsUnwritten earlier w = All (λ writes. is_among w writes ≡ false) earlier
 
 -- none of them writes a word of the run
-abbrev pub IsRunUnwritten : List Runs → Run → Type 0
-IsRunUnwritten earlier run = (w : ℕ) → run.first ≤ w → w < run.first + run.len → IsUnwritten earlier w
+abbrev pub IsRunUnwritten : List WordRuns → WordRun → Type 0
+IsRunUnwritten earlier run = (w : ℕ) → run.first ≤ w → w < run.first + run.len →
+    IsUnwritten earlier w
 
 -- none of them writes a word that the entry reads besides its instruction words
-pub record IsCalm (earlier : List Runs) (e : Entry) : Type 0 where
+pub record IsHazardFree (earlier : List WordRuns) (e : Entry) : Type 0 where
   pub side : IfSome e.side (IsUnwritten earlier)
   pub one : IsRunUnwritten earlier e.reads.one
   pub two : IsRunUnwritten earlier e.reads.two
 
 -- nor does one entry of a list write such a word of a later one
-abbrev pub AreCalm : List Runs → List Entry → Type 0
-AreCalm earlier [] = Unit {0}
-AreCalm earlier (e ∷ es) = IsCalm earlier e × AreCalm (e.writes ∷ earlier) es
+abbrev pub AreHazardFree : List WordRuns → List Entry → Type 0
+AreHazardFree earlier [] = Unit {0}
+AreHazardFree earlier (e ∷ es) = IsHazardFree earlier e × AreHazardFree (e.writes ∷ earlier) es
 
 -- the words that are written by the entries that are kept are among those
-abbrev pub AreCovered : List Past → List Runs → Type 0
-AreCovered past earlier = (w : ℕ) → IsUnwritten earlier w → All (λ entry. is_among w entry.writes ≡ false) past
+abbrev pub AreCovered : List Past → List WordRuns → Type 0
+AreCovered past earlier = (w : ℕ) → IsUnwritten earlier w →
+    All (λ entry. is_among w entry.writes ≡ false) past
 
 -- the rows of the entries of a list, one behind the other
-unfoldable pub rows : List ℕ → ℕ → Front → List Entry → List Row
-rows ds n f [] = []
-rows ds n f (e ∷ es) = row ds n f e ∷ rows ds n (after ds n f e) es
+unfoldable pub rows_of_entries : List ℕ → ℕ → Front → List Entry → List EntryTicks
+rows_of_entries ds n f [] = []
+rows_of_entries ds n f (e ∷ es) = row_of_entry ds n f e
+    ∷ rows_of_entries ds n (front_after_entry ds n f e) es
 
 -- the same front with the last n entries alone
-abbrev pub kept : ℕ → Front → Front
-kept n f = record f { past = take n f.past }
+abbrev pub front_of_last : ℕ → Front → Front
+front_of_last n f = record f { past = take n f.past }
 
 -- the entries that lie n or more back were done when the last one was prepared
 abbrev pub AreOlderDone : ℕ → Front → Type 0
-AreOlderDone n f = (j : ℕ) → n ≤ j → (get_or f.past j (record { c = 0; writes = no_words })).c ≤ f.p
+AreOlderDone n f = (j : ℕ) → n ≤ j → (get_or f.past j (record { c = 0; writes = no_runs })).c ≤ f.p

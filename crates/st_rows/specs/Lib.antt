@@ -7,3 +7,8 @@ pub mod Notes
 pub mod Ranges
 pub mod Rows
 pub mod Laws
+pub use Rattle.st_banks.specs.Bank
+pub use Rattle.st_banks.specs.Delay
+pub use Rattle.st_bits.specs.Storage
+pub use Rattle.st_fetch.specs.Planned
+pub use Rattle.st_fetch.specs.Queue

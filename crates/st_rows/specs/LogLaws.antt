@@ -1,31 +1,43 @@
 -- What a log of reads is good for: a segment's end takes reads back by it.
 use Rattle.std.specs.Prelude.{ℕ, ◌≡◌, ◌≤◌, List, [], ◌∷◌, ◌++◌, length, take, drop}
-use Rattle.st_rows.specs.Asked.{Read, served, made_before}
-use Rattle.st_rows.specs.Notes.{note, logged, undone, AreEarly, AreFalling, IsLogged}
+use Rattle.st_rows.specs.Asked.{Read, bus_after_reads, made_before}
+use Rattle.st_rows.specs.Notes.{note, notes_of_reads, answers_left, AreEarly, AreFalling, IsLogged}
 use Rattle.st_rows.specs.declared.bus.Bus.{Bus}
 use Rattle.st_rows.specs.declared.log.Made.{Made}
 
 -- Reads are accepted one after another: a note has a later tick than all older ones
 abbrev pub AcceptsRise : Type 0
-AcceptsRise = (ds : List ℕ) (reads : List Read) (b : Bus) → AreFalling (logged ds reads b)
+AcceptsRise = (ds : List ℕ) (reads : List Read) (b : Bus) → AreFalling (notes_of_reads ds reads b)
 
--- Taking the late ones of these reads back leaves the banks as they are where the early ones alone are made
+-- Taking the late ones of these reads back leaves the banks as they are where the early ones alone
+-- are made
 abbrev pub UndoneIsMadeBefore : Type 0
-UndoneIsMadeBefore = (ds : List ℕ) (t : ℕ) (reads : List Read) (b : Bus) (log : List Made) → IsLogged ds t reads b log
-    → ((older : List Made) → AreEarly t older → AreEarly t (drop 64 (logged ds reads b ++ older)))
-    → undone t log (served ds reads b).banks.ticks ≡ (made_before ds t reads b).banks.ticks
+UndoneIsMadeBefore = (ds : List ℕ) (t : ℕ) (reads : List Read) (b : Bus) (log : List Made) →
+    IsLogged ds t reads b log
+    → ((older : List Made) → AreEarly t older → AreEarly t
+    (drop 64 (notes_of_reads ds reads b ++ older)))
+    → answers_left t log (bus_after_reads ds reads b).banks.ticks
+    ≡ (made_before ds t reads b).banks.ticks
 
--- The log is long enough, where at most 64 reads come behind one behind which the bus is free by then
+-- The log is long enough, where at most 64 reads come behind one behind which the bus is free by
+-- then
 abbrev pub FewAreUndone : Type 0
-FewAreUndone = (ds : List ℕ) (t : ℕ) (first rest : List Read) (b : Bus) (older : List Made) → length rest ≤ 64
-    → (served ds first b).free ≤ t → AreEarly t older → AreEarly t (drop 64 (logged ds (first ++ rest) b ++ older))
+FewAreUndone = (ds : List ℕ) (t : ℕ) (first rest : List Read) (b : Bus) (older : List Made) →
+    length rest ≤ 64
+    → (bus_after_reads ds first b).free ≤ t → AreEarly t older →
+    AreEarly t (drop 64 (notes_of_reads ds (first ++ rest) b ++ older))
 
--- A log goes on as reads are made, as ticks pass, and where the first reads are left behind, behind which the bus is free by then
+-- A log goes on as reads are made, as ticks pass, and where the first reads are left behind, behind
+-- which the bus is free by then
 pub record LogsGoOn : Type 0 where
   pub opened : (ds : List ℕ) (now : ℕ) (b : Bus) → IsLogged ds now [] b []
-  pub made : (ds : List ℕ) (now : ℕ) (reads : List Read) (r : Read) (b : Bus) (log : List Made) → IsLogged ds now reads b log
-      → IsLogged ds now (reads ++ r ∷ []) b (take 64 (note (served ds reads b) r ∷ log))
-  pub later : (ds : List ℕ) (now later : ℕ) (reads : List Read) (b : Bus) (log : List Made) → now ≤ later
+  pub made : (ds : List ℕ) (now : ℕ) (reads : List Read) (r : Read) (b : Bus) (log : List Made) →
+      IsLogged ds now reads b log
+      → IsLogged ds now (reads ++ r ∷ []) b (take 64 (note (bus_after_reads ds reads b) r ∷ log))
+  pub later : (ds : List ℕ) (now later : ℕ) (reads : List Read) (b : Bus) (log : List Made) → now
+      ≤ later
       → IsLogged ds now reads b log → IsLogged ds later reads b log
-  pub left_behind : (ds : List ℕ) (now : ℕ) (first rest : List Read) (b : Bus) (log : List Made) → (served ds first b).free ≤ now
-      → IsLogged ds now (first ++ rest) b log → IsLogged ds now rest (served ds first b) log
+  pub left_behind : (ds : List ℕ) (now : ℕ) (first rest : List Read) (b : Bus) (log : List Made) →
+      (bus_after_reads ds first b).free ≤ now
+      → IsLogged ds now (first ++ rest) b log → IsLogged ds now rest
+      (bus_after_reads ds first b) log

@@ -11,19 +11,22 @@ abbrev pub note : Bus → Read → Made
 note b r = record { tick = accept_at b r.w r.want; before = last_of b.banks.ticks r.w; w = r.w }
 
 -- the notes of reads that are made one after another, from the bus b on
-unfoldable pub logged : List ℕ → List Read → Bus → List Made
-logged ds [] b = []
-logged ds (r ∷ reads) b = logged ds reads (after_one ds b r) ++ note b r ∷ []
+unfoldable pub notes_of_reads : List ℕ → List Read → Bus → List Made
+notes_of_reads ds [] b = []
+notes_of_reads ds (r ∷ reads) b = notes_of_reads ds reads (after_one ds b r) ++ note b r ∷ []
 
 -- the log after the reads of a list, by the log before them: it keeps the last 64 notes
-unfoldable pub noted : List ℕ → List Read → Bus → List Made → List Made
-noted ds [] b log = log
-noted ds (r ∷ reads) b log = noted ds reads (after_one ds b r) (take 64 (note b r ∷ log))
+unfoldable pub log_after_reads : List ℕ → List Read → Bus → List Made → List Made
+log_after_reads ds [] b log = log
+log_after_reads ds (r ∷ reads) b log = log_after_reads ds reads (after_one ds b r)
+    (take 64 (note b r ∷ log))
 
--- the last answers of the banks, once the youngest reads up to the last one that is accepted at the tick t or later are taken back
-unfoldable pub undone : ℕ → List Made → List ℕ → List ℕ
-undone t [] answers = answers
-undone t (m ∷ notes) answers = if nat_lt m.tick t then answers else undone t notes (answered_at answers m.w m.before)
+-- the last answers of the banks, once the youngest reads up to the last one that is accepted at the
+-- tick t or later are taken back
+unfoldable pub answers_left : ℕ → List Made → List ℕ → List ℕ
+answers_left t [] answers = answers
+answers_left t (m ∷ notes) answers = if nat_lt m.tick t then answers
+    else answers_left t notes (answered_at answers m.w m.before)
 
 -- all of these reads are accepted before the tick t
 abbrev pub AreEarly : ℕ → List Made → Type 0
@@ -39,11 +42,13 @@ abbrev pub AreFalling : List Made → Type 0
 AreFalling [] = Unit {0}
 AreFalling (m ∷ notes) = AreEarly m.tick notes × AreFalling notes
 
--- a log has the last 64 notes of these reads, which are made from the bus b on, and before them of reads that are accepted before the tick
-pub record IsLogged (ds : List ℕ) (now : ℕ) (reads : List Read) (b : Bus) (log : List Made) : Type 0 where
+-- a log has the last 64 notes of these reads, which are made from the bus b on, and before them of
+-- reads that are accepted before the tick
+pub record IsLogged (ds : List ℕ) (now : ℕ) (reads : List Read) (b : Bus)
+    (log : List Made) : Type 0 where
   pub older : List Made
   pub early : AreEarly now older
-  pub notes : log ≡ take 64 (logged ds reads b ++ older)
+  pub notes : log ≡ take 64 (notes_of_reads ds reads b ++ older)
 
 -- a ring of at most 64 notes
 pub record IsNoteRing (head n : ℕ) (slots : List Made) : Type 0 where

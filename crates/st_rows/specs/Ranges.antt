@@ -3,20 +3,20 @@ use Rattle.std.specs.Prelude.{ℕ, ◌≡◌, ◌+◌, ◌*◌, ◌≤◌, ◌<�
 use Rattle.st_bits.specs.Storage.{words_of_storage}
 use Rattle.st_rows.specs.BusTimes.{Reading}
 use Rattle.st_rows.specs.declared.bus.Bus.{Bus}
-use Rattle.st_rows.specs.declared.entry.Run.{Run}
+use Rattle.st_rows.specs.declared.entry.WordRun.{WordRun}
 use Rattle.st_rows.specs.declared.entry.Entry.{Entry}
 use Rattle.st_rows.specs.declared.fetching.Fetching.{Fetching}
 use Rattle.st_rows.specs.declared.front.Front.{Front}
 use Rattle.st_rows.specs.declared.past.Past.{Past}
 
 -- the words of a run lie in storage, above the registers
-pub record IsReadable (run : Run) : Type 0 where
+pub record IsReadable (run : WordRun) : Type 0 where
   pub above : 1 ≤ run.len → 32 ≤ run.first
   pub inside : 1 ≤ run.len → run.first + run.len ≤ words_of_storage
 
--- the words of an entry that are read do; its numbers are in their ranges; it asks for following words only where it has a
--- word that they follow
-pub record IsEntry (e : Entry) : Type 0 where
+-- the words of an entry that are read do; its numbers are in their ranges; it asks for following
+-- words only where it has a word that they follow
+pub record IsEntryInTime (e : Entry) : Type 0 where
   pub own : IsReadable e.own
   pub own_few : e.own.len ≤ 2
   pub target : IsReadable e.target
@@ -30,7 +30,7 @@ pub record IsEntry (e : Entry) : Type 0 where
   pub follows : e.follows ≡ true → 1 ≤ e.own.len
 
 -- a list of delays of which none is longer than so many ticks
-pub record AreDelays (most : ℕ) (ds : List ℕ) : Type 0 where
+pub record AreDelaysUpTo (most : ℕ) (ds : List ℕ) : Type 0 where
   pub some : 1 ≤ length ds
   pub each : All (λ d. (1 ≤ d) × (d ≤ most)) ds
 

@@ -1,27 +1,27 @@
--- The row of an entry, and what is computed of it for the next one, for a machine with the delays ds and with n levels.
--- A stage takes the bus where the stage before it left it.
+-- The row of an entry, and what is computed of it for the next one, for a machine with the delays
+-- ds and with n levels. A stage takes the bus where the stage before it left it.
 use Rattle.std.specs.Prelude.{ℕ, zero, suc, ◌+◌, ◌-◌, max, Bool, false, ◌||◌, nat_lt, if◌then◌else◌, List, [], ◌∷◌, get_or, take, replicate, Option, None, Some}
 use Rattle.st_bits.specs.Storage.{words_of_storage}
 use Rattle.st_banks.specs.declared.answers.LastAnswers.{LastAnswers}
-use Rattle.st_rows.specs.BusTimes.{Reading, no_reads, after_read, answer_at, requested, answer_of}
-use Rattle.st_rows.specs.Entries.{no_words, latest_done}
+use Rattle.st_rows.specs.BusTimes.{Reading, no_reads, bus_after_read, answer_at, bus_after_request, answer_tick_on}
+use Rattle.st_rows.specs.Entries.{no_runs, latest_done}
 use Rattle.st_rows.specs.declared.bus.Bus.{Bus}
-use Rattle.st_rows.specs.declared.entry.Run.{Run}
-use Rattle.st_rows.specs.declared.entry.Runs.{Runs}
+use Rattle.st_rows.specs.declared.entry.WordRun.{WordRun}
+use Rattle.st_rows.specs.declared.entry.WordRuns.{WordRuns}
 use Rattle.st_rows.specs.declared.entry.Entry.{Entry}
 use Rattle.st_rows.specs.declared.past.Past.{Past}
 use Rattle.st_rows.specs.declared.fetching.Fetching.{Fetching}
 use Rattle.st_rows.specs.declared.front.Front.{Front}
-use Rattle.st_rows.specs.declared.front.Row.{Row}
+use Rattle.st_rows.specs.declared.front.EntryTicks.{EntryTicks}
 
 -- the front of a segment that starts at the tick
-abbrev pub opening : LastAnswers → ℕ → Front
-opening banks start = record {
+abbrev pub opening_front : LastAnswers → ℕ → Front
+opening_front banks start = record {
   bus = no_reads banks start;
   p = start;
   c = start;
   serial = false;
-  past = replicate 8 (record { c = 0; writes = no_words });
+  past = replicate 8 (record { c = 0; writes = no_runs });
 }
 
 -- ---- instruction words: each is wanted once the words before it are answered and the entries are done that write them
@@ -29,34 +29,37 @@ opening banks start = record {
 -- the word w, wanted from the tick `from` on
 unfoldable pub fetch_word : List ℕ → List Past → Fetching → ℕ → ℕ → Fetching
 fetch_word ds past s w from = record {
-  bus = requested ds s.bus w (max (max from s.answered) s.awaited);
-  answered = max s.answered (answer_of ds s.bus w (max (max from s.answered) s.awaited));
+  bus = bus_after_request ds s.bus w (max (max from s.answered) s.awaited);
+  answered = max s.answered (answer_tick_on ds s.bus w (max (max from s.answered) s.awaited));
   awaited = max s.awaited (latest_done past w);
 }
 
 -- n words from the word w on
 unfoldable pub fetch_words : List ℕ → List Past → Fetching → ℕ → ℕ → ℕ → Fetching
 fetch_words ds past s from w zero = s
-fetch_words ds past s from w (suc n) = fetch_words ds past (fetch_word ds past s w from) from (w + 1) n
+fetch_words ds past s from w (suc n) = fetch_words ds past (fetch_word ds past s w from) from
+    (w + 1) n
 
 -- behind an entry that is done alone, words are wanted once that is done, else once it is prepared
 abbrev pub wanted_from : Front → ℕ
 wanted_from f = if f.serial then max f.p f.c else f.p
 
 -- the entry's own words and then those of the target of EX, which wait for the last entry
-unfoldable pub fetched : List ℕ → Front → Entry → Fetching
-fetched ds f e =
+unfoldable pub words_tick : List ℕ → Front → Entry → Fetching
+words_tick ds f e =
     fetch_words ds f.past
-    (fetch_words ds f.past (record { bus = f.bus; answered = 0; awaited = 0 }) (wanted_from f) e.own.first e.own.len)
+    (fetch_words ds f.past (record { bus = f.bus; answered = 0; awaited = 0 })
+    (wanted_from f) e.own.first e.own.len)
     (max (wanted_from f) f.c) e.target.first e.target.len
 
 -- ---- the address: one tick after the words are there and all that is awaited is done, and after the reads of the
 -- entries before; an entry that is done alone, and the one behind it, await the last entry
 
 -- the tick at which the address is formed
-unfoldable pub addressed : Front → Entry → ℕ → ℕ → ℕ
-addressed f e answered awaited =
-    max (max (max (max answered awaited) f.p) (if e.serial || f.serial then f.c else 0) + 1) f.bus.free
+unfoldable pub address_tick : Front → Entry → ℕ → ℕ → ℕ
+address_tick f e answered awaited =
+    max (max (max (max answered awaited) f.p) (if e.serial || f.serial then f.c else 0)
+    + 1) f.bus.free
 
 -- ---- the index-side word: it is read, or comes from its latest writer where that is not done at the address's tick
 
@@ -67,34 +70,40 @@ is_forwarded past w tick = nat_lt tick (latest_done past w)
 -- the bus behind the read of the index-side word, wanted at the address's tick
 unfoldable pub bus_sided : List ℕ → List Past → Bus → Option ℕ → ℕ → Bus
 bus_sided ds past b None a = b
-bus_sided ds past b (Some w) a = if is_forwarded past w a then b else after_read ds b w a
+bus_sided ds past b (Some w) a = if is_forwarded past w a then b else bus_after_read ds b w a
 
 -- the tick at which that word is there
 unfoldable pub side_there : List ℕ → List Past → Bus → Option ℕ → ℕ → ℕ
 side_there ds past b None a = 0
-side_there ds past b (Some w) a = if is_forwarded past w a then latest_done past w else answer_at ds b w a
+side_there ds past b (Some w) a = if is_forwarded past w a then latest_done past w
+    else answer_at ds b w a
 
 -- ---- preparation: one tick later, and later than the completion of the entry n before
 
 -- the completion of the entry n before, whose level this entry takes over
 abbrev pub done_before : ℕ → List Past → ℕ
-done_before n past = (get_or past (n - 1) (record { c = 0; writes = no_words })).c
+done_before n past = (get_or past (n - 1) (record { c = 0; writes = no_runs })).c
 
--- the tick of preparation, by the ticks at which the address is formed and the index-side word is there
-unfoldable pub prepared : ℕ → List Past → ℕ → ℕ → ℕ
-prepared n past a y = max (max a y) (done_before n past) + 1
+-- the tick of preparation, by the ticks at which the address is formed and the index-side word is
+-- there
+unfoldable pub preparation_tick : ℕ → List Past → ℕ → ℕ → ℕ
+preparation_tick n past a y = max (max a y) (done_before n past) + 1
 
 -- ---- operands: each is read, or comes from its latest writer at that one's completion
 
 -- what is read behind the instruction words goes on with their bus
-abbrev pub reading_of : Fetching → Reading
-reading_of s = record { bus = s.bus; answered = s.answered }
+abbrev pub reading_of_fetch : Fetching → Reading
+reading_of_fetch s = record { bus = s.bus; answered = s.answered }
 
 -- the word w, wanted at preparation
 unfoldable pub read_word : List ℕ → List Past → Reading → ℕ → ℕ → Reading
 read_word ds past s w p =
     if is_forwarded past w p then s
-    else record { bus = after_read ds s.bus w p; answered = max s.answered (answer_at ds s.bus w p) }
+    else record {
+      bus = bus_after_read ds s.bus w p;
+      answered = max s.answered
+          (answer_at ds s.bus w p);
+    }
 
 -- n words from the word w on
 unfoldable pub read_words : List ℕ → List Past → Reading → ℕ → ℕ → ℕ → Reading
@@ -102,13 +111,14 @@ read_words ds past s p w zero = s
 read_words ds past s p w (suc n) = read_words ds past (read_word ds past s w p) p (w + 1) n
 
 -- the words of both runs
-unfoldable pub operands_read : List ℕ → List Past → Bus → Runs → ℕ → Reading
+unfoldable pub operands_read : List ℕ → List Past → Bus → WordRuns → ℕ → Reading
 operands_read ds past b reads p =
     read_words ds past
     (read_words ds past (record { bus = b; answered = p }) p reads.one.first reads.one.len)
     p reads.two.first reads.two.len
 
--- the tick at which an operand word is there: its answer, or the completion of its latest writer where it is forwarded
+-- the tick at which an operand word is there: its answer, or the completion of its latest writer
+-- where it is forwarded
 unfoldable pub fill_at : List ℕ → List Past → Bus → ℕ → ℕ → ℕ
 fill_at ds past b w p = if is_forwarded past w p then latest_done past w else answer_at ds b w p
 
@@ -119,39 +129,40 @@ fill_if there ds past b w p = if there then fill_at ds past b w p else 0
 -- ---- completion
 
 -- the tick of completion: its cost after all operands are there and the entry before is done
-abbrev pub completed : Front → Entry → ℕ → ℕ
-completed f e r = max f.c r + e.cost
+abbrev pub completion_tick : Front → Entry → ℕ → ℕ
+completion_tick f e r = max f.c r + e.cost
 
 -- ---- the two following words, where they are words of storage
 
 -- one of the two, if it lies in storage
 abbrev pub request_inside : List ℕ → Bus → ℕ → ℕ → Bus
-request_inside ds b w p = if nat_lt w words_of_storage then requested ds b w p else b
+request_inside ds b w p = if nat_lt w words_of_storage then bus_after_request ds b w p else b
 
 -- both of them, where the entry has following words
 unfoldable pub bus_followed : List ℕ → Bus → Entry → ℕ → Bus
 bus_followed ds b e p =
     if e.follows
-    then request_inside ds (request_inside ds b (e.own.first + e.own.len) p) (e.own.first + e.own.len + 1) p
+    then request_inside ds (request_inside ds b (e.own.first + e.own.len) p)
+    (e.own.first + e.own.len + 1) p
     else b
 
 -- ---- the row of the entry e behind the front f
 
 -- when its address is formed
 unfoldable pub tick_a : List ℕ → Front → Entry → ℕ
-tick_a ds f e = addressed f e (fetched ds f e).answered (fetched ds f e).awaited
+tick_a ds f e = address_tick f e (words_tick ds f e).answered (words_tick ds f e).awaited
 
 -- the bus behind its instruction words and its index-side word
 unfoldable pub bus_a : List ℕ → Front → Entry → Bus
-bus_a ds f e = bus_sided ds f.past (fetched ds f e).bus e.side (tick_a ds f e)
+bus_a ds f e = bus_sided ds f.past (words_tick ds f e).bus e.side (tick_a ds f e)
 
 -- when its index-side word is there
 unfoldable pub tick_y : List ℕ → Front → Entry → ℕ
-tick_y ds f e = side_there ds f.past (fetched ds f e).bus e.side (tick_a ds f e)
+tick_y ds f e = side_there ds f.past (words_tick ds f e).bus e.side (tick_a ds f e)
 
 -- when it is prepared
 unfoldable pub tick_p : List ℕ → ℕ → Front → Entry → ℕ
-tick_p ds n f e = prepared n f.past (tick_a ds f e) (tick_y ds f e)
+tick_p ds n f e = preparation_tick n f.past (tick_a ds f e) (tick_y ds f e)
 
 -- its operands
 unfoldable pub operands : List ℕ → ℕ → Front → Entry → Reading
@@ -159,11 +170,11 @@ operands ds n f e = operands_read ds f.past (bus_a ds f e) e.reads (tick_p ds n 
 
 -- when it is done
 unfoldable pub tick_c : List ℕ → ℕ → Front → Entry → ℕ
-tick_c ds n f e = completed f e (operands ds n f e).answered
+tick_c ds n f e = completion_tick f e (operands ds n f e).answered
 
 -- all of these ticks
-unfoldable pub row : List ℕ → ℕ → Front → Entry → Row
-row ds n f e = record {
+unfoldable pub row_of_entry : List ℕ → ℕ → Front → Entry → EntryTicks
+row_of_entry ds n f e = record {
   a = tick_a ds f e;
   p = tick_p ds n f e;
   r = (operands ds n f e).answered;
@@ -171,7 +182,7 @@ row ds n f e = record {
 }
 
 -- when the first two words of its first run of operands are there, 0 where the run has no such word
-unfoldable pub fills_of : List ℕ → List Past → Bus → Run → ℕ → List ℕ
+unfoldable pub fills_of : List ℕ → List Past → Bus → WordRun → ℕ → List ℕ
 fills_of ds past b run p =
     fill_if (nat_lt 0 run.len) ds past b run.first p
     ∷ fill_if (nat_lt 1 run.len) ds past
@@ -183,8 +194,8 @@ abbrev pub fills : List ℕ → ℕ → Front → Entry → List ℕ
 fills ds n f e = fills_of ds f.past (bus_a ds f e) e.reads.one (tick_p ds n f e)
 
 -- the front behind it
-unfoldable pub after : List ℕ → ℕ → Front → Entry → Front
-after ds n f e = record {
+unfoldable pub front_after_entry : List ℕ → ℕ → Front → Entry → Front
+front_after_entry ds n f e = record {
   bus = bus_followed ds (operands ds n f e).bus e (tick_p ds n f e);
   p = tick_p ds n f e;
   c = tick_c ds n f e;

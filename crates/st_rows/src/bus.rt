@@ -1,16 +1,17 @@
 //! The bus: when reads are accepted and answered, and which instruction words are held.
 ghost use Rattle.std.specs.Prelude.{◌≡◌, ◌+◌, ◌-◌, ◌<◌, ◌≤◌, ◌^◌, ◌∷◌, take, false};
-ghost use Rattle.st_rows.specs.BusTimes.{no_reads, after_read, answer_at, requested, answer_of};
+ghost use Rattle.st_rows.specs.BusTimes.{no_reads, bus_after_read, answer_at, bus_after_request, answer_tick_on};
 ghost use Rattle.st_fetch.specs.Planned.{tick_of};
 ghost use Rattle.st_rows.specs.Asked.{word_asked};
-ghost use Rattle.st_rows.specs.Notes.{note, noted};
+ghost use Rattle.st_rows.specs.Notes.{note, log_after_reads};
 ghost use Rattle.st_rows.specs.Ranges.{IsBusWithin};
 
 use crate::log::{Log, Made};
 use st_banks::{Delays, LastAnswers};
 use st_fetch::HeldWords;
 
-/// The way to storage: at most one read is accepted a tick, in the order in which reads are asked for.
+/// The way to storage: at most one read is accepted a tick, in the order in which reads are asked
+/// for.
 #[derive(Clone, Copy, Debug, Default, PartialEq, Eq)]
 pub struct Bus {
     /// The last answer of each bank.
@@ -22,7 +23,8 @@ pub struct Bus {
 }
 
 impl Bus {
-    /// The bus of a segment that starts at the tick `start`, where the banks have these last answers.
+    /// The bus of a segment that starts at the tick `start`, where the banks have these last
+    /// answers.
     pub fn new(banks: LastAnswers, start: u64) -> Bus
         ensures { result ≡ no_reads banks start }
     {
@@ -33,14 +35,19 @@ impl Bus {
         }
     }
 
-    /// Reads the word `w`, which is wanted from the tick `want` on, and notes that in the log. The result is the tick of the answer.
-    #[tactic(auto, unfolding(crate::specs::BusTimes::after_read))]
+    /// Reads the word `w`, which is wanted from the tick `want` on, and notes that in the log. The
+    /// result is the tick of the answer.
+    #[tactic(auto, unfolding(crate::specs::BusTimes::bus_after_read))]
     pub fn read(&mut self, log: &mut Log, delays: &Delays, w: u32, want: u64) -> u64
         requires room { IsBusWithin (2 ^ 64 - 512) self.old }
         requires early { want ≤ 2 ^ 64 - 512 }
         ensures value { result ≡ answer_at delays.now self.old w want }
-        ensures after { self.new ≡ after_read delays.now self.old w want }
-        ensures log { log.new ≡ take 64 (note self.old (record { w = w; want = want; fetch = false }) ∷ log.old) }
+        ensures after { self.new ≡ bus_after_read delays.now self.old w want }
+        ensures log { log.new ≡ take 64 (note self.old (record {
+          w = w;
+          want = want;
+          fetch = false;
+        }) ∷ log.old) }
     {
         let tick = self.banks.accept_tick(w, self.free, want);
         let answer = delays.answer(tick);
@@ -54,15 +61,16 @@ impl Bus {
         answer
     }
 
-    /// Asks for the instruction word `w`, which is wanted from the tick `want` on: if it is held, no read is made, and else it is
-    /// held from now on. The result is the tick of its answer.
-    #[tactic(auto, unfolding(crate::specs::BusTimes::after_read, crate::specs::BusTimes::requested, crate::specs::BusTimes::answer_of, crate::specs::Notes::noted))]
+    /// Asks for the instruction word `w`, which is wanted from the tick `want` on: if it is held,
+    /// no read is made, and else it is held from now on. The result is the tick of its answer.
+    #[tactic(auto, unfolding(crate::specs::BusTimes::bus_after_read, crate::specs::BusTimes::bus_after_request, crate::specs::BusTimes::answer_tick_on, crate::specs::Notes::log_after_reads))]
     pub fn request(&mut self, log: &mut Log, delays: &Delays, w: u32, want: u64) -> u64
         requires room { IsBusWithin (2 ^ 64 - 512) self.old }
         requires early { want ≤ 2 ^ 64 - 512 }
-        ensures value { result ≡ answer_of delays.now self.old w want }
-        ensures after { self.new ≡ requested delays.now self.old w want }
-        ensures log { log.new ≡ noted delays.now (word_asked (tick_of self.old.held.words w) w want) self.old log.old }
+        ensures value { result ≡ answer_tick_on delays.now self.old w want }
+        ensures after { self.new ≡ bus_after_request delays.now self.old w want }
+        ensures log { log.new ≡ log_after_reads delays.now
+            (word_asked (tick_of self.old.held.words w) w want) self.old log.old }
     {
         if let Some(tick) = self.held.tick_of(w) {
             return tick;

@@ -4,7 +4,7 @@ ghost use Rattle.st_rows.specs.Entries.{is_in, is_among, has_words};
 
 /// A run of words.
 #[derive(Clone, Copy, Debug, Default, PartialEq, Eq)]
-pub struct Run {
+pub struct WordRun {
     /// The address of its first word.
     pub first: u32,
     /// The number of its words, 0 to 16.
@@ -13,27 +13,27 @@ pub struct Run {
 
 /// The words of two runs, the first run before the second.
 #[derive(Clone, Copy, Debug, Default, PartialEq, Eq)]
-pub struct Runs {
+pub struct WordRuns {
     /// The first run.
-    pub one: Run,
+    pub one: WordRun,
     /// The second run.
-    pub two: Run,
+    pub two: WordRun,
 }
 
-/// An entry as the timetable sees it: which words are read for it and written by it, and how long it takes. Registers
-/// make no read, so each word that is read is one from 32 up.
+/// An entry as the timetable sees it: which words are read for it and written by it, and how long
+/// it takes. Registers make no read, so each word that is read is one from 32 up.
 #[derive(Clone, Copy, Debug, Default, PartialEq, Eq)]
 pub struct Entry {
     /// Its own instruction words, up to the first one that is forbidden.
-    pub own: Run,
+    pub own: WordRun,
     /// The instruction words of the target of EX, likewise.
-    pub target: Run,
+    pub target: WordRun,
     /// Its index-side word.
     pub side: Option<u32>,
     /// Its operand words, in order.
-    pub reads: Runs,
+    pub reads: WordRuns,
     /// The words that it writes.
-    pub writes: Runs,
+    pub writes: WordRuns,
     /// The ticks from the arrival of its operands to its completion, 1 to 24.
     pub cost: u8,
     /// Whether it is done alone.
@@ -42,7 +42,7 @@ pub struct Entry {
     pub follows: bool,
 }
 
-impl Run {
+impl WordRun {
     /// Whether the word `w` is in the run.
     #[tactic(auto, unfolding(crate::specs::Entries::is_in))]
     pub fn has(self, w: u32) -> bool
@@ -52,7 +52,7 @@ impl Run {
     }
 }
 
-impl Runs {
+impl WordRuns {
     /// Whether the word `w` is in one of the runs.
     #[tactic(auto, unfolding(crate::specs::Entries::is_among))]
     pub fn has(self, w: u32) -> bool

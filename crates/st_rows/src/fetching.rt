@@ -2,7 +2,7 @@
 ghost use Rattle.std.specs.Prelude.{◌≡◌, ◌+◌, ◌-◌, ◌<◌, ◌≤◌, ◌^◌, max};
 ghost use Rattle.st_fetch.specs.Planned.{tick_of};
 ghost use Rattle.st_rows.specs.Asked.{word_asked};
-ghost use Rattle.st_rows.specs.Notes.{noted};
+ghost use Rattle.st_rows.specs.Notes.{log_after_reads};
 ghost use Rattle.st_rows.specs.Rows.{fetch_word};
 ghost use Rattle.st_rows.specs.Ranges.{IsFetchingWithin, ArePastWithin};
 
@@ -16,8 +16,8 @@ use st_banks::Delays;
 pub struct Fetching {
     /// The bus after the words so far.
     pub bus: Bus,
-    /// The latest of the answers of instruction words, 0 before the first one. Once operands are read it is the latest of theirs and of the tick at
-    /// which the entry was prepared.
+    /// The latest of the answers of instruction words, 0 before the first one. Once operands are
+    /// read it is the latest of theirs and of the tick at which the entry was prepared.
     pub answered: u64,
     /// The latest completion of an entry that writes one of them, 0 where none does.
     pub awaited: u64,
@@ -43,7 +43,8 @@ impl Fetching {
         self.awaited = 0;
     }
 
-    /// Fetches the next instruction word, which is wanted from `from` on; the read that is made for it, where it was not held, is noted in the log.
+    /// Fetches the next instruction word, which is wanted from `from` on; the read that is made for
+    /// it, where it was not held, is noted in the log.
     #[tactic(auto, unfolding(crate::specs::Rows::fetch_word))]
     #[inline(always)]
     pub fn word(&mut self, log: &mut Log, delays: &Delays, past: &LastEntries, w: u32, from: u64)
@@ -51,8 +52,10 @@ impl Fetching {
         requires before { ArePastWithin (2 ^ 64 - 512) past.now }
         requires early { from ≤ 2 ^ 64 - 512 }
         requires storage { 32 ≤ w }
+
         ensures after { self.new ≡ fetch_word delays.now past.now self.old w from }
-        ensures log { log.new ≡ noted delays.now (word_asked (tick_of self.old.bus.held.words w) w
+        ensures log { log.new ≡ log_after_reads delays.now
+            (word_asked (tick_of self.old.bus.held.words w) w
             (max (max from self.old.answered) self.old.awaited)) self.old.bus log.old }
     {
         let want = from.max(self.answered).max(self.awaited);

@@ -1,13 +1,13 @@
 //! Fronts: what the row of the next entry is computed from.
 ghost use Rattle.std.specs.Prelude.{◌≡◌, ◌+◌, ◌*◌, ◌-◌, ◌<◌, ◌≤◌, ◌^◌, ℕ, max, All, IfSome, List};
 ghost use Rattle.st_rows.specs.Asked.{side_asked, operands_asked, runs_asked, inside_asked, following_asked, prepared_asked};
-ghost use Rattle.st_rows.specs.Notes.{noted};
-ghost use Rattle.st_rows.specs.Rows.{opening, wanted_from, fetched, addressed, bus_sided, side_there, prepared as prepared_of};
-ghost use Rattle.st_rows.specs.Rows.{reading_of, operands_read, read_words, request_inside as request_inside_of, bus_followed, tick_a, bus_a, tick_p, row as row_of, after, fills_of, fills as fills_of_entry};
-ghost use Rattle.st_rows.specs.Ranges.{IsEntry, IsTight, IsBusWithin, IsFetchingWithin, IsReadingWithin, ArePastWithin, IsReadable};
+ghost use Rattle.st_rows.specs.Notes.{log_after_reads};
+ghost use Rattle.st_rows.specs.Rows.{opening_front, wanted_from, words_tick, address_tick, bus_sided, side_there, preparation_tick as prepared_of};
+ghost use Rattle.st_rows.specs.Rows.{reading_of_fetch, operands_read, read_words, request_inside as request_inside_of, bus_followed, tick_a, bus_a, tick_p, row_of_entry as row_of, front_after_entry, fills_of, fills as fills_of_entry};
+ghost use Rattle.st_rows.specs.Ranges.{IsEntryInTime, IsTight, IsBusWithin, IsFetchingWithin, IsReadingWithin, ArePastWithin, IsReadable};
 
 use crate::bus::Bus;
-use crate::entry::{Entry, Run};
+use crate::entry::{Entry, WordRun};
 use crate::fetching::Fetching;
 use crate::log::Log;
 use crate::past::{LastEntries, Past};
@@ -18,7 +18,7 @@ const WORDS: u32 = 98_304;
 
 /// The ticks of an entry.
 #[derive(Clone, Copy, Debug, Default, PartialEq, Eq)]
-pub struct Row {
+pub struct EntryTicks {
     /// When its address is formed, one tick after its instruction words are there.
     pub a: u64,
     /// When it is prepared.
@@ -57,16 +57,18 @@ pub struct Formed {
 #[derive(Clone, Copy, Debug, Default, PartialEq, Eq)]
 pub struct Filled {
     /// Its ticks.
-    pub row: Row,
-    /// When the first two words of its first run of operands are there, 0 where the run has no such word.
+    pub row: EntryTicks,
+    /// When the first two words of its first run of operands are there, 0 where the run has no such
+    /// word.
     pub fills: [u64; 2],
 }
 
 impl Front {
-    /// The front of a segment that starts at the tick `start`, where the banks have these last answers.
+    /// The front of a segment that starts at the tick `start`, where the banks have these last
+    /// answers.
     pub fn new(banks: LastAnswers, start: u64) -> Front
         requires { All (λ t. t ≤ start + 255) banks.ticks }
-        ensures value { result ≡ opening banks start }
+        ensures value { result ≡ opening_front banks start }
         ensures tight { IsTight 255 result }
     {
         Front {
@@ -90,12 +92,13 @@ impl Front {
     }
 
     // The tick at which the address of the next entry is formed.
-    #[tactic(auto, unfolding(crate::specs::Rows::addressed))]
+    #[tactic(auto, unfolding(crate::specs::Rows::address_tick))]
     fn address(&self, entry: &Entry, words: &Fetching) -> u64
         requires tight { IsTight 255 self.now }
         requires early { self.now.c ≤ 2 ^ 63 + 2 ^ 20 }
         requires room { IsFetchingWithin (self.now.c + 1791) words.now }
-        ensures value { result ≡ addressed self.now entry.now words.now.answered words.now.awaited }
+        ensures value { result
+            ≡ address_tick self.now entry.now words.now.answered words.now.awaited }
         ensures bound { result ≤ self.now.c + 1792 }
     {
         let alone = if entry.serial || self.serial {
@@ -107,8 +110,8 @@ impl Front {
         (there + 1).max(self.bus.free)
     }
 
-    /// The address of the next entry is formed, whose instruction words are fetched, and its index-side word is asked for behind them; `levels`
-    /// are those of the machine, 1 to 8.
+    /// The address of the next entry is formed, whose instruction words are fetched, and its
+    /// index-side word is asked for behind them; `levels` are those of the machine, 1 to 8.
     #[inline(always)]
     pub fn form(
         &self,
@@ -118,16 +121,18 @@ impl Front {
         words: &mut Fetching,
         log: &mut Log,
     ) -> Formed
-        requires entry { IsEntry entry.now }
+        requires entry { IsEntryInTime entry.now }
         requires tight { IsTight 255 self.now }
         requires early { self.now.c ≤ 2 ^ 63 + 2 ^ 20 }
         requires levels { (1 ≤ levels) × (levels ≤ 8) }
-        requires words { words.old ≡ fetched delays.now self.now entry.now }
+        requires words { words.old ≡ words_tick delays.now self.now entry.now }
+
         ensures address { result.a ≡ tick_a delays.now self.now entry.now }
         ensures bus { words.new.bus ≡ bus_a delays.now self.now entry.now }
         ensures awaited { words.new.awaited ≡ words.old.awaited }
         ensures tick { result.p ≡ tick_p delays.now levels self.now entry.now }
-        ensures log { log.new ≡ noted delays.now (side_asked self.now.past entry.now.side result.a) words.old.bus log.old }
+        ensures log { log.new ≡ log_after_reads delays.now
+            (side_asked self.now.past entry.now.side result.a) words.old.bus log.old }
     {
         delays.shape();
         let a = self.address(entry, words);
@@ -136,8 +141,8 @@ impl Front {
         Formed { a, p }
     }
 
-    /// The operand words of the next entry are read, whose address is formed as `form` says, and its following words are asked for; the front
-    /// stays before it.
+    /// The operand words of the next entry are read, whose address is formed as `form` says, and
+    /// its following words are asked for; the front stays before it.
     #[inline(always)]
     pub fn fill(
         &self,
@@ -148,17 +153,19 @@ impl Front {
         words: &mut Fetching,
         log: &mut Log,
     ) -> Filled
-        requires entry { IsEntry entry.now }
+        requires entry { IsEntryInTime entry.now }
         requires tight { IsTight 255 self.now }
         requires early { self.now.c ≤ 2 ^ 63 + 2 ^ 20 }
         requires levels { (1 ≤ levels) × (levels ≤ 8) }
         requires address { formed.a ≡ tick_a delays.now self.now entry.now }
         requires bus { words.old.bus ≡ bus_a delays.now self.now entry.now }
         requires tick { formed.p ≡ tick_p delays.now levels self.now entry.now }
+
         ensures value { result.row ≡ row_of delays.now levels self.now entry.now }
         ensures fills { result.fills ≡ fills_of_entry delays.now levels self.now entry.now }
-        ensures bus { words.new.bus ≡ (after delays.now levels self.now entry.now).bus }
-        ensures log { log.new ≡ noted delays.now (prepared_asked delays.now levels self.now entry.now) words.old.bus log.old }
+        ensures bus { words.new.bus ≡ (front_after_entry delays.now levels self.now entry.now).bus }
+        ensures log { log.new ≡ log_after_reads delays.now
+            (prepared_asked delays.now levels self.now entry.now) words.old.bus log.old }
     {
         delays.shape();
         let Formed { a, p } = formed;
@@ -168,16 +175,16 @@ impl Front {
         let c = self.c.max(r) + u64::from(entry.cost);
         follow(&mut words.bus, log, delays, entry, p);
         Filled {
-            row: Row { a, p, r, c },
+            row: EntryTicks { a, p, r, c },
             fills,
         }
     }
 
     /// Goes on behind the next entry, with its row, and the bus after all its reads.
-    pub fn pass(&mut self, entry: &Entry, row: &Row, bus: &Bus)
+    pub fn pass(&mut self, entry: &Entry, row: &EntryTicks, bus: &Bus)
         ensures { (ds : List ℕ) (n : ℕ) → row.now ≡ row_of ds n self.old entry.now →
-            bus.now ≡ (after ds n self.old entry.now).bus →
-            self.new ≡ after ds n self.old entry.now }
+            bus.now ≡ (front_after_entry ds n self.old entry.now).bus →
+            self.new ≡ front_after_entry ds n self.old entry.now }
     {
         self.bus = *bus;
         self.p = row.p;
@@ -190,9 +197,10 @@ impl Front {
     }
 }
 
-// Reads the index-side word, if there is one, of an entry whose address is formed at `a`, unless an earlier entry writes it that
-// is done later. The result is the tick at which it is there, 0 where there is none.
-#[tactic(auto, unfolding(crate::specs::Rows::bus_sided, crate::specs::Rows::side_there, crate::specs::Asked::side_asked, crate::specs::Notes::noted))]
+// Reads the index-side word, if there is one, of an entry whose address is formed at `a`, unless an
+// earlier entry writes it that is done later. The result is the tick at which it is there, 0 where
+// there is none.
+#[tactic(auto, unfolding(crate::specs::Rows::bus_sided, crate::specs::Rows::side_there, crate::specs::Asked::side_asked, crate::specs::Notes::log_after_reads))]
 fn side(
     bus: &mut Bus,
     log: &mut Log,
@@ -204,9 +212,11 @@ fn side(
     requires room { IsBusWithin (2 ^ 64 - 512) bus.old }
     requires early { a ≤ 2 ^ 64 - 512 }
     requires storage { IfSome word (λ w. 32 ≤ w) }
+
     ensures value { result ≡ side_there delays.now past.now bus.old word a }
     ensures after { bus.new ≡ bus_sided delays.now past.now bus.old word a }
-    ensures log { log.new ≡ noted delays.now (side_asked past.now word a) bus.old log.old }
+    ensures log { log.new
+        ≡ log_after_reads delays.now (side_asked past.now word a) bus.old log.old }
 {
     let Some(w) = word else {
         return 0;
@@ -219,20 +229,21 @@ fn side(
 }
 
 // The tick at which an entry is prepared.
-#[tactic(auto, unfolding(crate::specs::Rows::prepared))]
+#[tactic(auto, unfolding(crate::specs::Rows::preparation_tick))]
 fn prepared_at(levels: usize, past: &LastEntries, a: u64, y: u64) -> u64
     requires some { 1 ≤ levels }
     requires most { levels ≤ 8 }
     requires before { ArePastWithin (2 ^ 64 - 512) past.now }
     requires address { a ≤ 2 ^ 64 - 512 }
     requires side { y ≤ 2 ^ 64 - 512 }
+
     ensures { result ≡ prepared_of levels past.now a y }
 {
     a.max(y).max(past.done_before(levels)) + 1
 }
 
-// The operand words are read of an entry that is prepared at `p`. The result says when the first two of its first run are there, 0 where
-// that has no such word.
+// The operand words are read of an entry that is prepared at `p`. The result says when the first
+// two of its first run are there, 0 where that has no such word.
 #[tactic(auto, unfolding(crate::specs::Rows::operands_read))]
 #[inline(always)]
 fn read_operands(
@@ -243,14 +254,18 @@ fn read_operands(
     entry: &Entry,
     p: u64,
 ) -> [u64; 2]
-    requires entry { IsEntry entry.now }
+    requires entry { IsEntryInTime entry.now }
     requires before { ArePastWithin (2 ^ 64 - 2 ^ 17) past.now }
     requires room { IsBusWithin (2 ^ 64 - 2 ^ 17) operands.old.bus }
     requires early { p ≤ 2 ^ 64 - 2 ^ 17 }
     requires start { operands.old.answered ≡ p }
-    ensures value { reading_of operands.new ≡ operands_read delays.now past.now operands.old.bus entry.now.reads p }
+
+    ensures value { reading_of_fetch operands.new
+        ≡ operands_read delays.now past.now operands.old.bus entry.now.reads p }
     ensures fills { result ≡ fills_of delays.now past.now operands.old.bus entry.now.reads.one p }
-    ensures log { log.new ≡ noted delays.now (runs_asked past.now entry.now.reads p) operands.old.bus log.old }
+    ensures log { log.new
+        ≡ log_after_reads delays.now
+        (runs_asked past.now entry.now.reads p) operands.old.bus log.old }
 {
     delays.shape();
     let fills = read_run(operands, log, delays, past, entry.reads.one, p);
@@ -258,7 +273,8 @@ fn read_operands(
     fills
 }
 
-// The words of a run of operands are read. The result says when the first two are there, 0 where there is no such word.
+// The words of a run of operands are read. The result says when the first two are there, 0 where
+// there is no such word.
 #[tactic(auto, unfolding(crate::specs::Rows::fills_of))]
 #[inline(always)]
 fn read_run(
@@ -266,19 +282,22 @@ fn read_run(
     log: &mut Log,
     delays: &Delays,
     past: &LastEntries,
-    run: Run,
+    run: WordRun,
     p: u64,
 ) -> [u64; 2]
     requires words { IsReadable run }
     requires few { run.len ≤ 16 }
     requires before { ArePastWithin (2 ^ 64 - 2 ^ 17) past.now }
-    requires room { IsReadingWithin (2 ^ 64 - 2 ^ 17) (reading_of operands.old) }
+    requires room { IsReadingWithin (2 ^ 64 - 2 ^ 17) (reading_of_fetch operands.old) }
     requires early { p ≤ 2 ^ 64 - 2 ^ 17 }
     requires start { operands.old.answered ≡ p }
-    ensures value { reading_of operands.new ≡
-        read_words delays.now past.now (reading_of operands.old) p run.first run.len }
+
+    ensures value { reading_of_fetch operands.new ≡
+        read_words delays.now past.now (reading_of_fetch operands.old) p run.first run.len }
     ensures fills { result ≡ fills_of delays.now past.now operands.old.bus run p }
-    ensures log { log.new ≡ noted delays.now (operands_asked past.now p run.first run.len) operands.old.bus log.old }
+    ensures log { log.new
+        ≡ log_after_reads delays.now
+        (operands_asked past.now p run.first run.len) operands.old.bus log.old }
 {
     delays.shape();
     if run.len == 0 {
@@ -289,7 +308,7 @@ fn read_run(
         return [first, 0];
     }
     let second = operands.read(log, delays, past, run.first + 1, p);
-    let behind = Run {
+    let behind = WordRun {
         first: run.first + 2,
         len: run.len - 2,
     };
@@ -298,14 +317,16 @@ fn read_run(
 }
 
 // The following words of an entry that is prepared at `p` are asked for.
-#[tactic(auto, unfolding(crate::specs::Rows::bus_followed, crate::specs::Asked::following_asked, crate::specs::Notes::noted))]
+#[tactic(auto, unfolding(crate::specs::Rows::bus_followed, crate::specs::Asked::following_asked, crate::specs::Notes::log_after_reads))]
 #[inline(always)]
 fn follow(bus: &mut Bus, log: &mut Log, delays: &Delays, entry: &Entry, p: u64)
-    requires entry { IsEntry entry.now }
+    requires entry { IsEntryInTime entry.now }
     requires room { IsBusWithin (2 ^ 64 - 1024) bus.old }
     requires early { p ≤ 2 ^ 64 - 1024 }
     ensures after { bus.new ≡ bus_followed delays.now bus.old entry.now p }
-    ensures log { log.new ≡ noted delays.now (following_asked delays.now bus.old entry.now p) bus.old log.old }
+    ensures log { log.new
+        ≡ log_after_reads delays.now
+        (following_asked delays.now bus.old entry.now p) bus.old log.old }
 {
     delays.shape();
     if !entry.follows {
@@ -317,12 +338,12 @@ fn follow(bus: &mut Bus, log: &mut Log, delays: &Delays, entry: &Entry, p: u64)
 }
 
 // Asks for the word `w`, if it is a word of storage.
-#[tactic(auto, using(st_bits::specs::Storage::words_of_storage_is), unfolding(crate::specs::Notes::noted))]
+#[tactic(auto, using(st_bits::specs::Storage::words_of_storage_is), unfolding(crate::specs::Notes::log_after_reads))]
 fn request_inside(bus: &mut Bus, log: &mut Log, delays: &Delays, w: u32, p: u64)
     requires room { IsBusWithin (2 ^ 64 - 512) bus.old }
     requires early { p ≤ 2 ^ 64 - 512 }
     ensures after { bus.new ≡ request_inside_of delays.now bus.old w p }
-    ensures log { log.new ≡ noted delays.now (inside_asked bus.old w p) bus.old log.old }
+    ensures log { log.new ≡ log_after_reads delays.now (inside_asked bus.old w p) bus.old log.old }
 {
     if w >= WORDS {
         return;

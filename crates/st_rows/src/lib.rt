@@ -1,5 +1,5 @@
-//! The numbers of the timetable: when the entries of a segment are fetched, addressed, prepared, ready and done.
-//! `docs/timetable.md` has the rules.
+//! The numbers of the timetable: when the entries of a segment are fetched, addressed, prepared,
+//! ready and done. `docs/timetable.md` has the rules.
 #![tactic(auto, using(st_bits::specs::Storage::words_of_storage_is))]
 
 mod bus;
@@ -11,8 +11,8 @@ mod past;
 mod reading;
 
 pub use bus::Bus;
-pub use entry::{Entry, Run, Runs};
+pub use entry::{Entry, WordRun, WordRuns};
 pub use fetching::Fetching;
-pub use front::{Filled, Formed, Front, Row};
+pub use front::{EntryTicks, Filled, Formed, Front};
 pub use log::{Log, Made};
 pub use past::{LastEntries, Past};

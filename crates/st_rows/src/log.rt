@@ -1,11 +1,12 @@
 //! The reads of a segment that may still be taken back.
 ghost use Rattle.std.specs.Prelude.{◌≡◌, ◌∷◌, ◌<◌, ◌≤◌, [], take, MatchOption};
-ghost use Rattle.st_rows.specs.Notes.{AreSettled, undone};
+ghost use Rattle.st_rows.specs.Notes.{AreSettled, answers_left};
 
 use st_banks::LastAnswers;
 use std::marker::Model;
 
-// How many notes are kept. At most 39 reads are accepted at the tick at which an entry is done or later; this is a power of two above.
+// How many notes are kept. At most 39 reads are accepted at the tick at which an entry is done or
+// later; this is a power of two above.
 const KEPT: usize = 64;
 
 /// A read that is made.
@@ -80,9 +81,10 @@ impl Log {
         }
     }
 
-    /// Takes the reads back that are accepted at the tick `now` or later, the youngest one first: the banks have the last answers from before them.
+    /// Takes the reads back that are accepted at the tick `now` or later, the youngest one first:
+    /// the banks have the last answers from before them.
     pub fn undo(&mut self, banks: &mut LastAnswers, now: u64)
-        ensures { banks.new.ticks ≡ undone now self.old banks.old.ticks }
+        ensures { banks.new.ticks ≡ answers_left now self.old banks.old.ticks }
     {
         'reads: while let Some(read) = self.take_late(now) {
             banks.answer(read.w, read.before);
@@ -91,7 +93,8 @@ impl Log {
 
     // Takes the youngest note away, if its read is accepted at the tick `now` or later.
     fn take_late(&mut self, now: u64) -> Option<Made>
-        ensures { MatchOption result (AreSettled now self.old) (λ read. (self.old ≡ read ∷ self.new) × (now ≤ read.tick)) }
+        ensures { MatchOption result (AreSettled now self.old)
+            (λ read. (self.old ≡ read ∷ self.new) × (now ≤ read.tick)) }
     {
         if self.len == 0 {
             return None;

@@ -1,9 +1,9 @@
 //! What is kept of the entries before.
 ghost use Rattle.std.specs.Prelude.{◌≡◌, ◌∷◌, ℕ, ◌-◌, ◌<◌, ◌≤◌, take, replicate, true, false};
-ghost use Rattle.st_rows.specs.Entries.{no_words, is_in, is_outside, latest_done as latest_done_of};
+ghost use Rattle.st_rows.specs.Entries.{no_runs, is_in, is_outside, latest_done as latest_done_of};
 ghost use Rattle.st_rows.specs.Rows.{done_before as done_before_of};
 
-use crate::entry::{Run, Runs};
+use crate::entry::{WordRun, WordRuns};
 use st_bits::register::FIRST_STORAGE_WORD;
 use std::marker::Model;
 
@@ -13,7 +13,7 @@ pub struct Past {
     /// The tick at which it is done; 0 where there was no such entry.
     pub c: u64,
     /// The words that it writes.
-    pub writes: Runs,
+    pub writes: WordRuns,
 }
 
 // How many entries are kept.
@@ -42,18 +42,18 @@ struct Bounds {
 impl Model for LastEntries {
     ghost use Rattle.std.specs.Prelude.{List};
     ghost use Rattle.st_fetch.specs.Queue.{window};
-    ghost use Rattle.st_rows.specs.Entries.{IsRing};
+    ghost use Rattle.st_rows.specs.Entries.{IsEntryRing};
     ghost use Rattle.st_rows.specs.declared.past.Past.{Past as Entry};
 
     ghost Value = { List Entry };
 
     ghost view = { λ last. window last.head 8 last.entries };
 
-    ghost invariant = { λ last. IsRing last.head last.entries last.writers last.bounds.low last.bounds.high };
+    ghost invariant = { λ last. IsEntryRing last.head last.entries last.writers last.bounds.low last.bounds.high };
 }
 
 impl Default for LastEntries {
-    ghost is_default = { λ last. last ≡ replicate 8 (record { c = 0; writes = no_words }) };
+    ghost is_default = { λ last. last ≡ replicate 8 (record { c = 0; writes = no_runs }) };
 
     fn default() -> LastEntries {
         LastEntries::new()
@@ -64,7 +64,7 @@ impl LastEntries {
     /// None yet.
     #[tactic(auto, unfolding(crate::specs::Entries::writer_bits))]
     pub fn new() -> LastEntries
-        ensures { result ≡ replicate 8 (record { c = 0; writes = no_words }) }
+        ensures { result ≡ replicate 8 (record { c = 0; writes = no_runs }) }
     {
         LastEntries {
             entries: [Past::default(); KEPT],
@@ -96,7 +96,8 @@ impl LastEntries {
         self.entries[(self.head + n - 1) % KEPT].c
     }
 
-    /// The tick at which the latest of these entries is done that writes the word `w`, from 32 up; 0 where none does.
+    /// The tick at which the latest of these entries is done that writes the word `w`, from 32 up;
+    /// 0 where none does.
     #[inline(always)]
     pub fn latest_done(&self, w: u32) -> u64
         requires storage { 32 ≤ w }
@@ -135,12 +136,14 @@ fn lies_outside(bounds: Bounds, w: u32) -> bool
     word < bounds.low || word >= bounds.high
 }
 
-// The bounds with the words of two runs, but for registers, for which no read is made. Most entries write no word, so that this is tested first.
+// The bounds with the words of two runs, but for registers, for which no read is made. Most entries
+// write no word, so that this is tested first.
 #[tactic(auto, unfolding(crate::specs::Entries::is_in))]
 #[inline(always)]
-fn widened(bounds: Bounds, runs: Runs) -> Bounds
+fn widened(bounds: Bounds, runs: WordRuns) -> Bounds
     ensures { (w : ℕ) → 32 ≤ w → is_outside result.low result.high w ≡ true →
-        (is_in w runs.one ≡ false) × (is_in w runs.two ≡ false) × (is_outside bounds.low bounds.high w ≡ true) }
+        (is_in w runs.one ≡ false) × (is_in w runs.two ≡ false)
+        × (is_outside bounds.low bounds.high w ≡ true) }
 {
     if runs.one.len == 0 && runs.two.len == 0 {
         return bounds;
@@ -152,7 +155,7 @@ fn widened(bounds: Bounds, runs: Runs) -> Bounds
 // The bounds with the words of a run.
 #[tactic(auto, unfolding(crate::specs::Entries::is_in))]
 #[inline(always)]
-fn widened_by(bounds: Bounds, run: Run) -> Bounds
+fn widened_by(bounds: Bounds, run: WordRun) -> Bounds
     ensures { (w : ℕ) → 32 ≤ w → is_outside result.low result.high w ≡ true →
         (is_in w run ≡ false) × (is_outside bounds.low bounds.high w ≡ true) }
 {

@@ -3,7 +3,7 @@ use Rattle.std.specs.Prelude.{All, map, reverse, nat_lt}
 use Rattle.std.proofs.Common.{◌≡◌, ℕ, zero, suc, ◌+◌, ◌*◌, ◌≤◌, List, [], ◌∷◌, ◌++◌, length, Option, None, sym, ◌∙◌, ap, subst, arith}
 use Rattle.std.proofs.Math.Nat.{mul-add}
 use Rattle.std.proofs.lemmas.List.Elements.{All-nil, All-cons, All-append, All-replicate, All-weaker}
-use Rattle.st_fetch.specs.declared.fetched.Fetched.{Fetched}
+use Rattle.st_fetch.specs.declared.fetched.AskedWord.{AskedWord}
 use Rattle.st_state.specs.Machine.{Machine}
 use Rattle.st_prep.proofs.Choices.{of_choice}
 use Rattle.st_exec.specs.Completion.{guess}
@@ -12,8 +12,8 @@ use Rattle.st_run.specs.Run.{Scene, PlainEvent, Ends, interlude, interrupts_by}
 use Rattle.st_exec.proofs.StepLemmas.{step-done}
 use Rattle.st_banks.specs.declared.answers.LastAnswers.{LastAnswers}
 use Rattle.st_banks.specs.declared.answers.TheConstants.{BANKS}
-use Rattle.st_rows.specs.Ranges.{AreDelays, IsEntry, IsTight}
-use Rattle.st_rows.specs.Rows.{opening, row, addressed, prepared, tick_a, tick_p, tick_c, after}
+use Rattle.st_rows.specs.Ranges.{AreDelaysUpTo, IsEntryInTime, IsTight}
+use Rattle.st_rows.specs.Rows.{opening_front, row_of_entry, address_tick, preparation_tick, tick_a, tick_p, tick_c, front_after_entry}
 use Rattle.st_rows.specs.Asked.{made_before}
 use Rattle.st_rows.specs.declared.entry.Entry.{Entry}
 use Rattle.st_rows.specs.declared.past.Past.{Past}
@@ -27,28 +27,28 @@ use Rattle.st_segment.specs.Ahead.{Ahead, ahead, prepared_before}
 use Rattle.st_segment.proofs.EntryRanges.{entry-ranges}
 use Rattle.st_run.specs.Events.{Event, Timed, Happens, drop_of}
 use Rattle.st_run.specs.Scenes.{IsScene}
-use Rattle.st_run.specs.Moments.{Moment, Standing, start, unread, next_scene, next_state, ends_segment, next_segment, next_front, standing, taken, next_row, front_after, entries_behind, reads_until, next_moment}
-use Rattle.st_run.specs.TimedRun.{at, ticks_before, ticks_from, snapshot_at, last_snapshot_at, drops, drops_if_ends, happening_at, between, completion, until_done, last_events, timed_from}
+use Rattle.st_run.specs.Moments.{Moment, Standing, moment_at_start, answers_at_start, next_scene, next_state, ends_segment, next_segment, next_front, standing_at, interrupt_of_moment, next_row, front_after, entries_behind, reads_until, next_moment}
+use Rattle.st_run.specs.TimedRun.{event_at, ticks_before, snapshots_from, snapshot_at, last_snapshot_at, drops, drops_if_ends, happening_at, events_between, completion, until_done, last_events, timed_from}
 use Rattle.st_run.proofs.DoneLemmas.{settled-done}
 use Rattle.st_run.proofs.SceneLemmas.{interrupt-below, settled-scene, stepped-scene}
 
 -- ---- fronts
 
 -- the front of a segment is tight where the banks answer soon after its start
-opening-tight : (most start : ℕ) (banks : LastAnswers) → All (λ t. t ≤ start + most) banks.ticks → IsTight most (opening banks start)
+opening-tight : (most start : ℕ) (banks : LastAnswers) → All (λ t. t ≤ start + most) banks.ticks → IsTight most (opening_front banks start)
 opening-tight most start banks soon = record {
   prepared = omega arith;
   done = record { each = All-replicate (λ (entry : Past). entry.c ≤ start) 8 _ (omega arith) };
   free = omega arith;
   near = record {
     banks = soon;
-    held = All-replicate (λ (h : Fetched). h.tick ≤ start + most) 4 _ (omega arith);
+    held = All-replicate (λ (h : AskedWord). h.tick ≤ start + most) 4 _ (omega arith);
   };
 }
 
 -- the bus is free when an entry is done
-free-before_done : (ds : List ℕ) (n : ℕ) (f : Front) (e : Entry) → IsEntry e → f.bus.free ≤ (row ds n f e).c
-unfolding row tick_a tick_p tick_c addressed prepared
+free-before_done : (ds : List ℕ) (n : ℕ) (f : Front) (e : Entry) → IsEntryInTime e → f.bus.free ≤ (row_of_entry ds n f e).c
+unfolding row_of_entry tick_a tick_p tick_c address_tick preparation_tick
 free-before_done ds n f e is = omega (arith, is.costs.0, ready-after ds n f e)
 
 -- ---- entries ahead
@@ -57,7 +57,7 @@ ahead-few : (ds : List ℕ) (n k : ℕ) (t : Option ℕ) (s : Machine) (f : Fron
 unfolding ahead
 ahead-few ds n zero t s f = omega arith
 ahead-few ds n (suc k) t s f =
-    let rest = ahead-few ds n k None (guess t s) (after ds n f (entry t s)) in
+    let rest = ahead-few ds n k None (guess t s) (front_after_entry ds n f (entry t s)) in
     omega arith
 
 prepared-few : (t : ℕ) (xs : List Ahead) → length (prepared_before t xs) ≤ length xs
@@ -77,7 +77,7 @@ pub record IsMoment (most n : ℕ) (m : Moment) : Type 0 where
   pub few : length m.dropped ≤ n
   pub banks : All (λ t. t ≤ m.tick + most) m.banks.ticks
 
-module _ (most n : ℕ) (ds : List ℕ) (are : AreDelays most ds) (levels : n ≤ 8) where
+module _ (most n : ℕ) (ds : List ℕ) (are : AreDelaysUpTo most ds) (levels : n ≤ 8) where
   next_segment-tight : (m : Moment) → IsMoment most n m → IsTight most (next_segment m)
   next_segment-tight m is =
       opening-tight most (m.tick + 1 + length m.dropped) m.banks
@@ -91,13 +91,13 @@ module _ (most n : ℕ) (ds : List ℕ) (are : AreDelays most ds) (levels : n �
       (is.tight, omega (arith, is.last))
 
   completed-is : (p : Standing) → IsScene p.scene → IsTight most p.front → IsMoment most n (next_moment ds n p)
-  unfolding next_moment next_row row after
+  unfolding next_moment next_row row_of_entry front_after_entry
   completed-is p is tight =
       let s = p.scene.machine in
-      let t = taken p in
+      let t = interrupt_of_moment p in
       let e = entry t s in
       let tick = tick_c ds n p.front e in
-      let fits : IsEntry e = entry-ranges t s is.machine (interrupt-below s) in
+      let fits : IsEntryInTime e = entry-ranges t s is.machine (interrupt-below s) in
       let free : p.front.bus.free ≤ tick = free-before_done ds n p.front e fits in
       let made = made-bounds most ds are tick (reads_until ds n tick p) p.front.bus tight.near free in
       record {
@@ -110,20 +110,20 @@ module _ (most n : ℕ) (ds : List ℕ) (are : AreDelays most ds) (levels : n �
             (λ x low. omega (arith, made.1)) _ made.0.banks;
       }
 
-  pub next-is : (m : Moment) → IsMoment most n m → IsMoment most n (next_moment ds n (standing m))
-  next-is m is = completed-is (standing m) (settled-scene m.scene is.scene) (next_front-is m is).0
+  pub next-is : (m : Moment) → IsMoment most n m → IsMoment most n (next_moment ds n (standing_at m))
+  next-is m is = completed-is (standing_at m) (settled-scene m.scene is.scene) (next_front-is m is).0
 
-  pub next-tick : (m : Moment) → IsMoment most n m → (next_moment ds n (standing m)).tick ≤ m.tick + 64 * (most + 4)
-  unfolding next_moment next_row row
+  pub next-tick : (m : Moment) → IsMoment most n m → (next_moment ds n (standing_at m)).tick ≤ m.tick + 64 * (most + 4)
+  unfolding next_moment next_row row_of_entry
   next-tick m is =
       let s = next_state m in
-      let t = taken (standing m) in
+      let t = interrupt_of_moment (standing_at m) in
       let scene : IsScene (next_scene m) = settled-scene m.scene is.scene in
-      let fits : IsEntry (entry t s) = entry-ranges t s scene.machine (interrupt-below s) in
+      let fits : IsEntryInTime (entry t s) = entry-ranges t s scene.machine (interrupt-below s) in
       let f = next_front-is m is in
       omega (arith, f.1, c-within most ds are (next_front m) (entry t s) fits f.0 n)
 
-  next-done : (m : Moment) → (next_moment ds n (standing m)).scene.machine.done ≡ m.scene.machine.done + 1
+  next-done : (m : Moment) → (next_moment ds n (standing_at m)).scene.machine.done ≡ m.scene.machine.done + 1
   unfolding next_moment
   next-done m =
       let same : (next_state m).done ≡ m.scene.machine.done = settled-done m.scene in
@@ -138,7 +138,7 @@ IsInTime b x = x.tick ≤ b * (x.done + 1)
 abbrev pub HasTime : ℕ → ℕ → Machine → Type 0
 HasTime b tick s = tick ≤ b * s.done
 
-at-time : (b tick : ℕ) (s : Machine) (e : Event) → HasTime b tick s → IsInTime b (at tick s e)
+at-time : (b tick : ℕ) (s : Machine) (e : Event) → HasTime b tick s → IsInTime b (event_at tick s e)
 at-time b tick s e has = omega (arith, mul-add b s.done 1)
 
 each-time : {A : Type 0} (b : ℕ) (f : A → Timed) (xs : List A) → ((x : A) → IsInTime b (f x)) → All (IsInTime b) (map f xs)
@@ -149,14 +149,14 @@ module _ (b : ℕ) (m : Moment) (has : HasTime b m.tick m.scene.machine) where
   drops-time : All (IsInTime b) (drops m)
   unfolding drops
   drops-time =
-      each-time b (λ a. at m.tick m.scene.machine (drop_of a)) (reverse m.dropped)
+      each-time b (λ a. event_at m.tick m.scene.machine (drop_of a)) (reverse m.dropped)
       (λ a. at-time b m.tick m.scene.machine (drop_of a) has)
 
   happenings-time : (hs : List PlainEvent) → All (IsInTime b) (map (happening_at m) hs)
   happenings-time hs = each-time b (happening_at m) hs (λ h. at-time b m.tick m.scene.machine (Happens h) has)
 
-  between-time : All (IsInTime b) (between m)
-  unfolding between
+  between-time : All (IsInTime b) (events_between m)
+  unfolding events_between
   between-time =
       let hs = (interlude m.scene).happened ++ interrupts_by (interrupt (next_state m)) (next_state m) in
       All-append (IsInTime b) (drops_if_ends m) (map (happening_at m) hs)
@@ -189,7 +189,7 @@ until_done-time b ds n p snaps has next_has =
 
 -- ---- the run
 
-module _ (most n : ℕ) (ds : List ℕ) (are : AreDelays most ds) (levels : n ≤ 8) where
+module _ (most n : ℕ) (ds : List ℕ) (are : AreDelaysUpTo most ds) (levels : n ≤ 8) where
   -- what a moment has is enough for what stands behind it, and for the next moment
   standing-time : (b : ℕ) (m : Moment) → HasTime b m.tick m.scene.machine → HasTime b m.tick (next_state m)
   standing-time b m has =
@@ -197,11 +197,11 @@ module _ (most n : ℕ) (ds : List ℕ) (are : AreDelays most ds) (levels : n �
       subst (λ d. m.tick ≤ b * d) (sym same) has
 
   pub next-time : (m : Moment) → IsMoment most n m → HasTime (64 * (most + 4)) m.tick m.scene.machine
-      → HasTime (64 * (most + 4)) (next_moment ds n (standing m)).tick (next_moment ds n (standing m)).scene.machine
+      → HasTime (64 * (most + 4)) (next_moment ds n (standing_at m)).tick (next_moment ds n (standing_at m)).scene.machine
   next-time m is has =
       let b = 64 * (most + 4) in
       let d = m.scene.machine.done in
-      let next = next_moment ds n (standing m) in
+      let next = next_moment ds n (standing_at m) in
       let more : next.scene.machine.done ≡ d + 1 = next-done most n ds are levels m in
       let tick : next.tick ≤ m.tick + b = next-tick most n ds are levels m is in
       let sum : b * (d + 1) ≡ b * d + b * 1 = mul-add b d 1 in
@@ -215,27 +215,27 @@ module _ (most n : ℕ) (ds : List ℕ) (are : AreDelays most ds) (levels : n �
   timed-time zero m snaps is has = last_events-time (64 * (most + 4)) m has snaps
   timed-time (suc left) m snaps is has =
       let b = 64 * (most + 4) in
-      let p = standing m in
+      let p = standing_at m in
       let next = next_moment ds n p in
       let next_has : HasTime b next.tick next.scene.machine = next-time m is has in
-      let rest = timed_from ds n left next (ticks_from next.tick snaps) in
-      let turn = between m ++ until_done ds n p snaps in
+      let rest = timed_from ds n left next (snapshots_from next.tick snaps) in
+      let turn = events_between m ++ until_done ds n p snaps in
       of_choice (λ xs. All (IsInTime b) xs) (rests (next_state m)) (last_events m snaps) (turn ++ rest)
       (last_events-time b m has snaps)
       (All-append (IsInTime b) turn rest
-      (All-append (IsInTime b) (between m) (until_done ds n p snaps) (between-time b m has)
+      (All-append (IsInTime b) (events_between m) (until_done ds n p snaps) (between-time b m has)
       (until_done-time b ds n p snaps (standing-time b m has) next_has))
-      (timed-time left next (ticks_from next.tick snaps) (next-is most n ds are levels m is) next_has))
+      (timed-time left next (snapshots_from next.tick snaps) (next-is most n ds are levels m is) next_has))
 
-  pub start-is : (c : Scene) → IsScene c → IsMoment most n (start c)
+  pub start-is : (c : Scene) → IsScene c → IsMoment most n (moment_at_start c)
   start-is c is = record {
     scene = is;
-    tight = opening-tight most 0 unread (All-replicate (λ t. t ≤ 0 + most) BANKS 0 (omega arith));
+    tight = opening-tight most 0 answers_at_start (All-replicate (λ t. t ≤ 0 + most) BANKS 0 (omega arith));
     last = omega arith;
     few = omega arith;
     banks = All-replicate (λ t. t ≤ 0 + most) BANKS 0 (omega arith);
   }
 
   pub run-time : (left : ℕ) (c : Scene) (snaps : List ℕ) → IsScene c
-      → All (λ (x : Timed). x.tick ≤ 64 * (most + 4) * (x.done + 1)) (timed_from ds n left (start c) snaps)
-  run-time left c snaps is = timed-time left (start c) snaps (start-is c is) (omega arith)
+      → All (λ (x : Timed). x.tick ≤ 64 * (most + 4) * (x.done + 1)) (timed_from ds n left (moment_at_start c) snaps)
+  run-time left c snaps is = timed-time left (moment_at_start c) snaps (start-is c is) (omega arith)

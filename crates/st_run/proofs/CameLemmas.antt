@@ -3,7 +3,7 @@ use Rattle.std.specs.Prelude.{IfSome, is_none, is_some, nat_lt, nat_le, if◌the
 use Rattle.std.proofs.lemmas.Bool.Decides.{nat_tests}
 use Rattle.std.proofs.Common.{◌≡◌, ℕ, ◌≤◌, Bool, true, false, ◌||◌, ◌&&◌, List, [], ◌∷◌, ◌++◌, length, length-append, Option, None, Some, refl, sym, subst, ◌∙◌, ap, arith}
 use Rattle.st_state.specs.Machine.{Machine}
-use Rattle.st_state.specs.Interrupts.{signalled, pending}
+use Rattle.st_state.specs.Interrupts.{state_with_signal, pending}
 use Rattle.st_state.specs.Orders.{is_due, next_device}
 use Rattle.st_state.specs.declared.devices.Order.{Order}
 use Rattle.st_state.specs.declared.devices.Device.{Device}
@@ -16,19 +16,19 @@ use Rattle.st_card.specs.declared.control_cards.Signal.{Signal}
 use Rattle.st_run.specs.Run.{Scene, Transition, PlainEvent, with_due_signals, with_signals_at_rest, first_card, cards_after, with_reader, with_printer, uneventful, and_then, if_due, with_due_orders, with_device, with_order_at_rest, with_wait, interlude}
 use Rattle.st_exec.proofs.BesideEntries.{beside-printed, beside-no_card, beside-signalled, beside-same, beside-then}
 use Rattle.st_ahead.specs.Overlap.{Overlap, interrupt_due}
-use Rattle.st_ahead.specs.Calls.{ended, settled as settled_of, read_in_by, printed_by, MayServe}
+use Rattle.st_ahead.specs.Calls.{machine_after_segment, machine_after_settling as settled_of, read_in_by, printed_by, MayServe}
 use Rattle.st_ahead.proofs.Settling.{settled-waits}
 use Rattle.st_run.specs.Moments.{has_card, has_waited}
-use Rattle.st_run.specs.Together.{Together, scene_of, moment_of, with_scene, text_told, AreTexts, IsBehind, IsSince, closed_if}
+use Rattle.st_run.specs.Together.{Together, scene_of, moment_of, with_scene, text_told, AreTexts, IsBehindEntry, IsSince, closed_if}
 use Rattle.st_run.specs.Serving.{IsServed, is_card, printed_text, read_answer}
 use Rattle.st_run.specs.declared.serving.Served.{Served}
-use Rattle.st_run.specs.Between.{Came, first_text}
+use Rattle.st_run.specs.Between.{Came, first_of_texts}
 use Rattle.st_run.proofs.EndedLemmas.{opened, ended-behind, ended-since, ended-state, ended-serves}
 
 -- ---- texts
 
 texts-joined : (t u : Option (List ℕ)) (xs ys : List PlainEvent) → (length xs ≤ 1 → AreTexts t xs) → (length ys ≤ 1 → AreTexts u ys)
-    → length (xs ++ ys) ≤ 1 → AreTexts (first_text t u) (xs ++ ys)
+    → length (xs ++ ys) ≤ 1 → AreTexts (first_of_texts t u) (xs ++ ys)
 texts-joined None u [] ys first second few = second few
 texts-joined None u (x ∷ xs) ys first second few =
     let one : length (x ∷ xs) ≤ 1 = omega (arith, length-append (x ∷ xs) ys) in
@@ -38,14 +38,14 @@ texts-joined (Some text) u (x ∷ []) [] first second few = first (omega arith)
 texts-joined (Some text) u (x ∷ []) (y ∷ ys) first second few = absurd (omega arith)
 texts-joined (Some text) u (x ∷ z ∷ xs) ys first second few = absurd (omega arith)
 
-text-none : (t : Option (List ℕ)) → first_text t None ≡ t
+text-none : (t : Option (List ℕ)) → first_of_texts t None ≡ t
 text-none None = refl
 text-none (Some text) = refl
 
 -- ---- two things
 
 pub came-then : (r : Transition) (f : Scene → Transition) (t u : Option (List ℕ)) (x y z : Bool) (a b c : Together)
-    → Came r t x y a b → Came (f (scene_of b)) u y z b c → Came (and_then r f) (first_text t u) x z a c
+    → Came r t x y a b → Came (f (scene_of b)) u y z b c → Came (and_then r f) (first_of_texts t u) x z a c
 came-then r f t u x y z a b c first next =
     let second : Came (f r.scene) u y z b c = subst (λ d. Came (f d) u y z b c) first.scene next in
     record {
@@ -99,16 +99,16 @@ came-state r t over a b scene told machine alike = record {
 due-alike : (s : Machine) (xs : List Signal) (cards : List (List ℕ)) → AreAlikeBesideOrders s (with_due_signals s xs cards).machine
 due-alike s [] cards = beside-same s
 due-alike s (x ∷ xs) cards =
-    of_choice (λ c. AreAlikeBesideOrders s c.machine) (nat_le x.count s.done) (with_due_signals (signalled s x.indicator) xs cards)
+    of_choice (λ c. AreAlikeBesideOrders s c.machine) (nat_le x.count s.done) (with_due_signals (state_with_signal s x.indicator) xs cards)
     (record { machine = s; signals = x ∷ xs; cards = cards })
-    (beside-then _ _ _ (beside-signalled s x.indicator) (due-alike (signalled s x.indicator) xs cards)) (beside-same s)
+    (beside-then _ _ _ (beside-signalled s x.indicator) (due-alike (state_with_signal s x.indicator) xs cards)) (beside-same s)
 
 rest-alike : (s : Machine) (xs : List Signal) (cards : List (List ℕ)) → AreAlikeBesideOrders s (with_signals_at_rest s xs cards).machine
 rest-alike s [] cards = beside-same s
 rest-alike s (x ∷ xs) cards =
-    of_choice (λ c. AreAlikeBesideOrders s c.machine) (rests s) (with_signals_at_rest (signalled s x.indicator) xs cards)
+    of_choice (λ c. AreAlikeBesideOrders s c.machine) (rests s) (with_signals_at_rest (state_with_signal s x.indicator) xs cards)
     (record { machine = s; signals = x ∷ xs; cards = cards })
-    (beside-then _ _ _ (beside-signalled s x.indicator) (rest-alike (signalled s x.indicator) xs cards)) (beside-same s)
+    (beside-then _ _ _ (beside-signalled s x.indicator) (rest-alike (state_with_signal s x.indicator) xs cards)) (beside-same s)
 
 came-scene : (over : Bool) (c : Scene) (a b : Together) → b ≡ with_scene a c → AreAlikeBesideOrders a.machine.state c.machine
     → Came (uneventful c) None over over a b
@@ -169,7 +169,7 @@ read-serves w None m may = may
 read-serves w (Some card) m may = ended-serves m may
 
 read-since : (w : ℕ) (card : Option (List ℕ)) (over : Bool) (m : Overlap) (xs : List Signal) (cards left : List (List ℕ)) (b : Together)
-    → IsBehind b → IsSince b.machine over (drive m xs cards) → IsSince b.machine (over || is_some card) (drive (read_in_by w card m) xs left)
+    → IsBehindEntry b → IsSince b.machine over (drive m xs cards) → IsSince b.machine (over || is_some card) (drive (read_in_by w card m) xs left)
 read-since w None over m xs cards left b is since =
     subst (λ x. IsSince b.machine x (drive (read_in_by w None m) xs left)) (or-none over)
     (record {
@@ -285,12 +285,12 @@ rests-quiet m waits = quiet-by (is_none m.taken) m.state.enabled m.state.waiting
 
 -- its segment ends
 pub rested : (old : Together) (m k : Overlap) (xs : List Signal) (cards : List (List ℕ)) → drive m xs cards ≡ old
-    → rests old.machine.state ≡ true → k ≡ settled_of m → drive k xs cards ≡ record old { machine = ended old.machine }
+    → rests old.machine.state ≡ true → k ≡ settled_of m → drive k xs cards ≡ record old { machine = machine_after_segment old.machine }
 rested old m k xs cards view waits after =
-    subst (λ (t : Together). rests t.machine.state ≡ true → drive k xs cards ≡ record t { machine = ended t.machine }) view
+    subst (λ (t : Together). rests t.machine.state ≡ true → drive k xs cards ≡ record t { machine = machine_after_segment t.machine }) view
     (λ wait. ap (λ (x : Overlap). drive x xs cards) (after ∙ sym (settled-waits m (rests-quiet m wait) wait))) waits
 
-pub came-ended : (over : Bool) (t u : Together) → u ≡ record t { machine = ended t.machine } → Came (uneventful (scene_of t)) None over true t u
+pub came-ended : (over : Bool) (t u : Together) → u ≡ record t { machine = machine_after_segment t.machine } → Came (uneventful (scene_of t)) None over true t u
 came-ended over t u same =
     let m = t.machine in
     subst (λ (x : Together). Came (uneventful (scene_of t)) None over true t x) (sym same)
@@ -299,10 +299,10 @@ came-ended over t u same =
       told = λ few. refl;
       since = λ b is since. record {
         machine =
-            let ends : ended m ≡ opened b.machine m.state = ended-since b t over is since in
+            let ends : machine_after_segment m ≡ opened b.machine m.state = ended-since b t over is since in
             ends
             ∙ ap (λ s. opened b.machine s) (sym (ended-state m))
-            ∙ sym (ap (λ (x : Overlap). record x { state = (ended m).state }) (ended-behind b is));
+            ∙ sym (ap (λ (x : Overlap). record x { state = (machine_after_segment m).state }) (ended-behind b is));
         alike = λ open_still. absurd (cc open_still);
       };
       serves = λ may. ended-serves m may;
@@ -321,11 +321,11 @@ at_rest c d h e =
 pub wait-came : (a b c d : Together) (t u : Option (List ℕ)) → Came (with_order_at_rest (scene_of a)) t true true a b
     → Came (with_order_at_rest (scene_of b)) u true true b c
     → d ≡ with_scene c (with_signals_at_rest c.machine.state c.signals c.cards)
-    → Came (with_wait (scene_of a)) (first_text t u) true true a d
+    → Came (with_wait (scene_of a)) (first_of_texts t u) true true a d
 unfolding with_wait
 wait-came a b c d t u first second signals =
     came-before (and_then (with_order_at_rest (scene_of a)) with_order_at_rest)
-    (λ e. uneventful (with_signals_at_rest e.machine e.signals e.cards)) (first_text t u) true true true a c d
+    (λ e. uneventful (with_signals_at_rest e.machine e.signals e.cards)) (first_of_texts t u) true true true a c d
     (came-then (with_order_at_rest (scene_of a)) with_order_at_rest t u true true true a b c first second) (came-rest true c d signals)
 
 -- where it does not rest nothing comes of it
@@ -333,7 +333,7 @@ signals-none : (s : Machine) (xs : List Signal) (cards : List (List ℕ)) → re
     → with_signals_at_rest s xs cards ≡ record { machine = s; signals = xs; cards = cards }
 signals-none s [] cards h = refl
 signals-none s (x ∷ xs) cards h =
-    ap (λ b. if b then with_signals_at_rest (signalled s x.indicator) xs cards else record { machine = s; signals = x ∷ xs; cards = cards }) h
+    ap (λ b. if b then with_signals_at_rest (state_with_signal s x.indicator) xs cards else record { machine = s; signals = x ∷ xs; cards = cards }) h
 
 wait-none : (c : Scene) → rests c.machine ≡ false → uneventful c ≡ with_wait c
 unfolding with_wait
@@ -360,9 +360,9 @@ settled-going a b c t card signals orders goes =
     (due-came a b c t card signals orders) (came-is _ _ None card card c c (wait-none (scene_of c) goes) (came-none card c))
 
 pub settled-waiting : (a b c d e : Together) (t u : Option (List ℕ)) (card : Bool) → b ≡ with_scene a (with_due_signals a.machine.state a.signals a.cards)
-    → Came (with_due_orders (scene_of b)) t false card b c → d ≡ record c { machine = ended c.machine }
+    → Came (with_due_orders (scene_of b)) t false card b c → d ≡ record c { machine = machine_after_segment c.machine }
     → Came (with_wait (scene_of d)) u true true d e
-    → Came (interlude (scene_of a)) (first_text t u) false true a e
+    → Came (interlude (scene_of a)) (first_of_texts t u) false true a e
 unfolding interlude
 settled-waiting a b c d e t u card signals orders ends wait =
     came-then (with_due_orders (with_due_signals a.machine.state a.signals a.cards)) with_wait t u false card true a c e
@@ -370,7 +370,7 @@ settled-waiting a b c d e t u card signals orders ends wait =
     (came-then (uneventful (scene_of c)) with_wait None u card true true c d e (came-ended card c d ends) wait)
 
 pub ended-may : (a b c d : Together) (t : Option (List ℕ)) (card : Bool) → b ≡ with_scene a (with_due_signals a.machine.state a.signals a.cards)
-    → Came (with_due_orders (scene_of b)) t false card b c → d ≡ record c { machine = ended c.machine }
+    → Came (with_due_orders (scene_of b)) t false card b c → d ≡ record c { machine = machine_after_segment c.machine }
     → MayServe a.machine → MayServe d.machine
 ended-may a b c d t card signals orders ends may =
     (came-ended card c d ends).serves (orders.serves ((came-due false a b signals).serves may))
@@ -380,8 +380,8 @@ ended-may a b c d t card signals orders ends may =
 due-cards : (s : Machine) (xs : List Signal) (cards : List (List ℕ)) → (with_due_signals s xs cards).cards ≡ cards
 due-cards s [] cards = refl
 due-cards s (x ∷ xs) cards =
-    of_choice (λ c. c.cards ≡ cards) (nat_le x.count s.done) (with_due_signals (signalled s x.indicator) xs cards)
-    (record { machine = s; signals = x ∷ xs; cards = cards }) (due-cards (signalled s x.indicator) xs cards) refl
+    of_choice (λ c. c.cards ≡ cards) (nat_le x.count s.done) (with_due_signals (state_with_signal s x.indicator) xs cards)
+    (record { machine = s; signals = x ∷ xs; cards = cards }) (due-cards (state_with_signal s x.indicator) xs cards) refl
 
 one-alone : (b x y : Bool) → b ≡ x → y ≡ false → b ≡ (x || y)
 one-alone b true y e f = e

@@ -7,18 +7,18 @@ use Rattle.st_exec.proofs.BesideEntries.{beside-same}
 use Rattle.st_exec.specs.Step.{rests, interrupt}
 use Rattle.st_card.specs.declared.control_cards.Signal.{Signal}
 use Rattle.st_run.specs.Run.{Scene, interlude}
-use Rattle.st_rows.specs.Rows.{row, tick_c}
-use Rattle.st_rows.specs.Ranges.{IsEntry, AreDelays}
+use Rattle.st_rows.specs.Rows.{row_of_entry, tick_c}
+use Rattle.st_rows.specs.Ranges.{IsEntryInTime, AreDelaysUpTo}
 use Rattle.st_rows.specs.declared.entry.Entry.{Entry}
 use Rattle.st_rows.specs.declared.front.Front.{Front}
 use Rattle.st_segment.specs.Entries.{entry}
 use Rattle.st_segment.proofs.EntryRanges.{entry-ranges}
-use Rattle.st_ahead.specs.Overlap.{Overlap, seen, levels_of, interrupt_due, oldest_row}
-use Rattle.st_ahead.specs.Calls.{ended, run_ended, settled as settled_of, settled_by, passed, answer, answer_by}
+use Rattle.st_ahead.specs.Overlap.{Overlap, state_ahead, levels_of, interrupt_due, oldest_row}
+use Rattle.st_ahead.specs.Calls.{machine_after_segment, run_ended, machine_after_settling as settled_of, settled_by, machine_after_pass, answer, answer_by}
 use Rattle.st_ahead.specs.declared.events.Settled.{Settled}
 use Rattle.st_run.specs.Moments.{Moment, next_scene, next_state, ends_segment, next_front, next_segment, has_card, has_waited}
 use Rattle.st_run.specs.Scenes.{IsScene}
-use Rattle.st_run.specs.Together.{Together, scene_of, moment_of, AreTexts, IsBehind, IsBefore, IsSince, GoesOn, Stops}
+use Rattle.st_run.specs.Together.{Together, scene_of, moment_of, AreTexts, IsBehindEntry, IsBeforeEntry, IsSince, RunGoesOn, RunStops}
 use Rattle.st_run.specs.Between.{Came, IsChoice, choice_of}
 use Rattle.st_run.specs.Leaving.{IsDecided, IsWay}
 use Rattle.st_run.specs.declared.turn.Turn.{Turn}
@@ -60,24 +60,24 @@ chosen left over old m k xs cards a r view some goes is after picks =
 
 -- ---- before the next entry
 
-row-later : (ds : List ℕ) (n now : ℕ) (f : Front) (e : Entry) → IsEntry e → now ≤ f.c → now + 1 ≤ (row ds n f e).c
-unfolding row tick_c
+row-later : (ds : List ℕ) (n now : ℕ) (f : Front) (e : Entry) → IsEntryInTime e → now ≤ f.c → now + 1 ≤ (row_of_entry ds n f e).c
+unfolding row_of_entry tick_c
 row-later ds n now f e is late = omega (arith, is.costs.0)
 
 -- the machine before the next entry, of which the front is f
 abbrev going : Overlap → Machine → Option ℕ → Front → Overlap
 going o s t f = record o { state = s; taken = t; front = f; owed = false; ended = false; behind = None; closing = None; now = o.now + 1 }
 
-going-before : (b n : Together) (s : Machine) (t : Option ℕ) (f : Front) → IsBehind b → n.machine ≡ going b.machine s t f
-    → IsScene (scene_of n) → t ≡ interrupt s → rests s ≡ false → b.machine.now ≤ f.c → IsBefore n
-unfolding oldest_row seen
+going-before : (b n : Together) (s : Machine) (t : Option ℕ) (f : Front) → IsBehindEntry b → n.machine ≡ going b.machine s t f
+    → IsScene (scene_of n) → t ≡ interrupt s → rests s ≡ false → b.machine.now ≤ f.c → IsBeforeEntry n
+unfolding oldest_row state_ahead
 going-before b n s t f is same scene table awake late =
     let o = b.machine in
     let state : n.machine.state ≡ s = ap (λ (m : Overlap). m.state) same in
     record {
       some = subst (λ (m : Overlap). 1 ≤ m.levels) (sym same) is.some;
       few = subst (λ (m : Overlap). m.levels ≤ 8) (sym same) is.few;
-      delays = subst (λ (m : Overlap). AreDelays 255 m.delays) (sym same) is.delays;
+      delays = subst (λ (m : Overlap). AreDelaysUpTo 255 m.delays) (sym same) is.delays;
       scene = scene;
       settled = ap (λ (m : Overlap). m.owed) same;
       going = ap (λ (m : Overlap). m.ended) same;
@@ -100,16 +100,16 @@ now-behind : (over : Bool) (o : Overlap) (s : Machine) → (by_now over o s).beh
 now-behind true o s = refl
 now-behind false o s = refl
 
-going-by : (due behind : Option ℕ) (over : Bool) (o : Overlap) (s : Machine) (x : Overlap) → x ≡ by_now over o s → ended x ≡ opened o s
+going-by : (due behind : Option ℕ) (over : Bool) (o : Overlap) (s : Machine) (x : Overlap) → x ≡ by_now over o s → machine_after_segment x ≡ opened o s
     → o.taken ≡ None
     → settled_by due false behind x
     ≡ going o s due (if is_some behind || over || is_some due then (opened o s).front else o.front)
-going-by (Some i) (Some h) over o s x now ends none = ap (λ (y : Overlap). passed (record y { taken = Some i })) ends
-going-by (Some i) None true o s x now ends none = ap (λ (y : Overlap). passed (record y { taken = Some i })) ends
-going-by (Some i) None false o s x now ends none = ap (λ (y : Overlap). passed (record y { taken = Some i })) ends
-going-by None (Some h) over o s x now ends none = ap passed ends ∙ ap (λ t. going o s t (opened o s).front) none
-going-by None None true o s x now ends none = ap passed now ∙ ap (λ t. going o s t (opened o s).front) none
-going-by None None false o s x now ends none = ap passed now ∙ ap (λ t. going o s t o.front) none
+going-by (Some i) (Some h) over o s x now ends none = ap (λ (y : Overlap). machine_after_pass (record y { taken = Some i })) ends
+going-by (Some i) None true o s x now ends none = ap (λ (y : Overlap). machine_after_pass (record y { taken = Some i })) ends
+going-by (Some i) None false o s x now ends none = ap (λ (y : Overlap). machine_after_pass (record y { taken = Some i })) ends
+going-by None (Some h) over o s x now ends none = ap machine_after_pass ends ∙ ap (λ t. going o s t (opened o s).front) none
+going-by None None true o s x now ends none = ap machine_after_pass now ∙ ap (λ t. going o s t (opened o s).front) none
+going-by None None false o s x now ends none = ap machine_after_pass now ∙ ap (λ t. going o s t o.front) none
 
 -- ---- whether the segment ends
 
@@ -119,7 +119,7 @@ ends-by false true waited due = refl
 ends-by false false waited due = refl
 
 -- the moment, and the machine in the state behind all that comes
-module _ (b t : Together) (text : Option (List ℕ)) (over : Bool) (is : IsBehind b) (came : Came (interlude (scene_of b)) text false over b t)
+module _ (b t : Together) (text : Option (List ℕ)) (over : Bool) (is : IsBehindEntry b) (came : Came (interlude (scene_of b)) text false over b t)
     (over-is : over ≡ (has_card (moment_of b) || has_waited (moment_of b))) where
   abbrev m : Moment
   m = moment_of b
@@ -179,7 +179,7 @@ module _ (b t : Together) (text : Option (List ℕ)) (over : Bool) (is : IsBehin
 
   goes-on : (d : Decided) (n : Together) → n ≡ record t { machine = n.machine } → rests s ≡ false → n.machine ≡ settled_of t.machine
       → d.taken ≡ interrupt_due t.machine → d.ends ≡ (is_some t.machine.behind || over || is_some (interrupt_due t.machine))
-      → GoesOn m d.ends d.taken n
+      → RunGoesOn m d.ends d.taken n
   goes-on d n rest goes after table end =
       let same : n.machine ≡ going b.machine s (interrupt s) front = after ∙ settled-is goes in
       let scene : scene_of n ≡ next_scene m = scene-is n rest (ap (λ (x : Overlap). x.state) same) in
@@ -197,7 +197,7 @@ module _ (b t : Together) (text : Option (List ℕ)) (over : Bool) (is : IsBehin
         now = ap (λ (x : Overlap). x.now) same;
       }
 
-  stops : (n : Together) → n ≡ record t { machine = n.machine } → n.machine ≡ run_ended t.machine → Stops m n
+  stops : (n : Together) → n ≡ record t { machine = n.machine } → n.machine ≡ run_ended t.machine → RunStops m n
   stops n rest after =
       let same : n.machine ≡ record (opened b.machine s) { stopped = true } =
       after ∙ ap (λ (x : Overlap). record x { stopped = true }) (ended-since b t over is since) in

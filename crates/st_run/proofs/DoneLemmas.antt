@@ -1,7 +1,7 @@
 -- What comes between two steps leaves the number done, and a step counts as one.
 use Rattle.std.proofs.Common.{◌≡◌, ℕ, ◌+◌, List, [], ◌∷◌, Bool, true, false, nat_le, Option, None, Some, refl, ◌∙◌, if◌then◌else◌}
-use Rattle.st_state.specs.Machine.{Machine, stored}
-use Rattle.st_state.specs.Interrupts.{signalled}
+use Rattle.st_state.specs.Machine.{Machine, state_with_store}
+use Rattle.st_state.specs.Interrupts.{state_with_signal}
 use Rattle.st_state.specs.Orders.{next_device}
 use Rattle.st_state.specs.declared.devices.Order.{Order}
 use Rattle.st_state.specs.declared.devices.Device.{Device}
@@ -17,16 +17,16 @@ either f n false x y p q = q
 
 due-done : (m : Machine) (xs : List Signal) (cards : List (List ℕ)) → (with_due_signals m xs cards).machine.done ≡ m.done
 due-done m [] cards = refl
-due-done m (x ∷ xs) cards = either (λ c. c.machine.done) m.done (nat_le x.count m.done) (with_due_signals (signalled m x.indicator) xs cards) _ (due-done (signalled m x.indicator) xs cards) refl
+due-done m (x ∷ xs) cards = either (λ c. c.machine.done) m.done (nat_le x.count m.done) (with_due_signals (state_with_signal m x.indicator) xs cards) _ (due-done (state_with_signal m x.indicator) xs cards) refl
 
 rest-done : (m : Machine) (xs : List Signal) (cards : List (List ℕ)) → (with_signals_at_rest m xs cards).machine.done ≡ m.done
 rest-done m [] cards = refl
-rest-done m (x ∷ xs) cards = either (λ c. c.machine.done) m.done (rests m) (with_signals_at_rest (signalled m x.indicator) xs cards) _ (rest-done (signalled m x.indicator) xs cards) refl
+rest-done m (x ∷ xs) cards = either (λ c. c.machine.done) m.done (rests m) (with_signals_at_rest (state_with_signal m x.indicator) xs cards) _ (rest-done (state_with_signal m x.indicator) xs cards) refl
 
 all_stored-done : (m : Machine) (w : ℕ) (xs : List ℕ) → (all_stored m w xs).done ≡ m.done
 unfolding all_stored
 all_stored-done m w [] = refl
-all_stored-done m w (x ∷ xs) = all_stored-done (stored m w x) (w + 1) xs
+all_stored-done m w (x ∷ xs) = all_stored-done (state_with_store m w x) (w + 1) xs
 
 read_in-done : (m : Machine) (w : ℕ) (card : Option (List ℕ)) → (read_in m w card).done ≡ m.done
 read_in-done m w None = refl

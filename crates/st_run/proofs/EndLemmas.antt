@@ -2,23 +2,23 @@
 use Rattle.std.proofs.Common.{◌≡◌, ℕ, zero, suc, ◌+◌, ◌*◌, ◌≤◌, Bool, true, false, if◌then◌else◌, List, ◌++◌, sym, subst, arith}
 use Rattle.std.proofs.Math.Nat.{mul-add}
 use Rattle.st_exec.specs.Step.{rests}
-use Rattle.st_run.specs.Run.{Scene, Execution, interlude, stepped, ended, goes_on, run}
-use Rattle.st_rows.specs.Ranges.{AreDelays}
+use Rattle.st_run.specs.Run.{Scene, Execution, interlude, scene_after_step, execution_at_end, goes_on, run}
+use Rattle.st_rows.specs.Ranges.{AreDelaysUpTo}
 use Rattle.st_run.specs.Events.{Timed}
-use Rattle.st_run.specs.Moments.{Moment, start, next_scene, next_state, standing, next_moment}
+use Rattle.st_run.specs.Moments.{Moment, moment_at_start, next_scene, next_state, standing_at, next_moment}
 use Rattle.st_run.specs.Scenes.{IsScene}
-use Rattle.st_run.specs.TimedRun.{ticks_from, between, until_done, last_events, timed_from}
-use Rattle.st_run.specs.Order.{last_tick}
+use Rattle.st_run.specs.TimedRun.{snapshots_from, events_between, until_done, last_events, timed_from}
+use Rattle.st_run.specs.Order.{last_completion}
 use Rattle.st_run.proofs.Bounds.{IsMoment, HasTime, next-is, next-time, start-is}
 use Rattle.st_run.proofs.DoneLemmas.{settled-done}
 use Rattle.st_run.proofs.ShownLemmas.{last-append, last_events-tick}
 
 -- the events end in time for a run, whatever tick is given for no events
 EndsInTime : ℕ → List Timed → Execution → Type 0
-EndsInTime b xs ran = (t : ℕ) → last_tick t xs ≤ b * (ran.last.done + 1)
+EndsInTime b xs ran = (t : ℕ) → last_completion t xs ≤ b * (ran.last.done + 1)
 
 last-ends : (b : ℕ) (m : Moment) (snaps : List ℕ) → HasTime b m.tick m.scene.machine
-    → EndsInTime b (last_events m snaps) (ended (interlude m.scene))
+    → EndsInTime b (last_events m snaps) (execution_at_end (interlude m.scene))
 unfolding EndsInTime
 last-ends b m snaps has t =
     let same : (next_state m).done ≡ m.scene.machine.done = settled-done m.scene in
@@ -28,15 +28,15 @@ last-ends b m snaps has t =
     omega (arith, late, last_events-tick t m snaps)
 
 ends-if : (c : Bool) (b : ℕ) (m : Moment) (xs turn rest : List Timed) (later : Execution)
-    → EndsInTime b xs (ended (interlude m.scene)) → EndsInTime b rest later
-    → EndsInTime b (if c then xs else turn ++ rest) (if c then ended (interlude m.scene) else goes_on (interlude m.scene) later)
+    → EndsInTime b xs (execution_at_end (interlude m.scene)) → EndsInTime b rest later
+    → EndsInTime b (if c then xs else turn ++ rest) (if c then execution_at_end (interlude m.scene) else goes_on (interlude m.scene) later)
 unfolding EndsInTime
 ends-if true b m xs turn rest later here there t = here t
 ends-if false b m xs turn rest later here there t =
-    let far = there (last_tick t turn) in
+    let far = there (last_completion t turn) in
     omega (arith, far, last-append t turn rest)
 
-module _ (most n : ℕ) (ds : List ℕ) (are : AreDelays most ds) (levels : n ≤ 8) where
+module _ (most n : ℕ) (ds : List ℕ) (are : AreDelaysUpTo most ds) (levels : n ≤ 8) where
   timed-ends : (left : ℕ) (m : Moment) (snaps : List ℕ) → IsMoment most n m
       → HasTime (64 * (most + 4)) m.tick m.scene.machine
       → EndsInTime (64 * (most + 4)) (timed_from ds n left m snaps) (run left m.scene)
@@ -44,14 +44,14 @@ module _ (most n : ℕ) (ds : List ℕ) (are : AreDelays most ds) (levels : n �
   timed-ends zero m snaps is has = last-ends (64 * (most + 4)) m snaps has
   timed-ends (suc left) m snaps is has =
       let b = 64 * (most + 4) in
-      let p = standing m in
+      let p = standing_at m in
       let next = next_moment ds n p in
-      ends-if (rests (next_state m)) b m (last_events m snaps) (between m ++ until_done ds n p snaps)
-      (timed_from ds n left next (ticks_from next.tick snaps)) (run left (stepped (next_scene m)))
+      ends-if (rests (next_state m)) b m (last_events m snaps) (events_between m ++ until_done ds n p snaps)
+      (timed_from ds n left next (snapshots_from next.tick snaps)) (run left (scene_after_step (next_scene m)))
       (last-ends b m snaps has)
-      (timed-ends left next (ticks_from next.tick snaps) (next-is most n ds are levels m is) (next-time most n ds are levels m is has))
+      (timed-ends left next (snapshots_from next.tick snaps) (next-is most n ds are levels m is) (next-time most n ds are levels m is has))
 
   pub run-ends : (left : ℕ) (c : Scene) (snaps : List ℕ) (t : ℕ) → IsScene c
-      → last_tick t (timed_from ds n left (start c) snaps) ≤ 64 * (most + 4) * ((run left c).last.done + 1)
+      → last_completion t (timed_from ds n left (moment_at_start c) snaps) ≤ 64 * (most + 4) * ((run left c).last.done + 1)
   unfolding EndsInTime
-  run-ends left c snaps t is = timed-ends left (start c) snaps (start-is most n ds are levels c is) (omega arith) t
+  run-ends left c snaps t is = timed-ends left (moment_at_start c) snaps (start-is most n ds are levels c is) (omega arith) t

@@ -8,7 +8,7 @@ use Rattle.st_prep.specs.Plan.{plan}
 use Rattle.st_prep.proofs.PlanLemmas.{plan-prepared}
 use Rattle.st_exec.specs.Completion.{guess}
 use Rattle.st_banks.specs.declared.answers.LastAnswers.{LastAnswers}
-use Rattle.st_rows.specs.Rows.{opening, row, after, addressed, prepared, tick_a, tick_p, tick_c}
+use Rattle.st_rows.specs.Rows.{opening_front, row_of_entry, front_after_entry, address_tick, preparation_tick, tick_a, tick_p, tick_c}
 use Rattle.st_rows.specs.declared.entry.Entry.{Entry}
 use Rattle.st_rows.specs.declared.front.Front.{Front}
 use Rattle.st_segment.specs.Entries.{entry}
@@ -17,9 +17,9 @@ use Rattle.st_segment.specs.Alone.{RunAhead}
 use Rattle.st_segment.specs.Ahead.{Ahead, ahead, prepared_before}
 use Rattle.st_segment.proofs.GuessLemmas.{guess-machine}
 use Rattle.st_segment.proofs.PassedOver.{entry-same, passed-over}
-use Rattle.st_ahead.specs.Overlap.{Overlap, seen, with_counter, levels_of}
-use Rattle.st_ahead.specs.Calls.{ended, banks_left, missed_counter, MayServe}
-use Rattle.st_run.specs.Together.{Together, IsBehind, IsSince}
+use Rattle.st_ahead.specs.Overlap.{Overlap, state_ahead, with_counter, levels_of}
+use Rattle.st_ahead.specs.Calls.{machine_after_segment, banks_left, missed_counter, MayServe}
+use Rattle.st_run.specs.Together.{Together, IsBehindEntry, IsSince}
 
 -- ---- entries that are prepared before the last one is done
 
@@ -33,11 +33,11 @@ same-count true x y xs ys same = ap suc (same refl)
 same-count false x y xs ys same = refl
 
 -- they are not done alone
-not-alone : (ds : List ℕ) (n now : ℕ) (f : Front) (e : Entry) → now ≤ f.c → (row ds n f e).p < now → e.serial ≡ false
-unfolding row tick_a tick_p addressed prepared
+not-alone : (ds : List ℕ) (n now : ℕ) (f : Front) (e : Entry) → now ≤ f.c → (row_of_entry ds n f e).p < now → e.serial ≡ false
+unfolding row_of_entry tick_a tick_p address_tick preparation_tick
 not-alone ds n now f e late early = none-true e.serial (λ alone. absurd (behind e.serial alone early))
   where
-    behind : (b : Bool) → b ≡ true → (row ds n f (record e { serial = b })).p < now → ⊥
+    behind : (b : Bool) → b ≡ true → (row_of_entry ds n f (record e { serial = b })).p < now → ⊥
     behind true is before = omega arith
     behind false is before = cc is
 
@@ -46,8 +46,8 @@ guess-alike : (s u : Machine) → IsMachine s → AreAlikeBesideOrders s u → (
 unfolding entry guesses RunAhead
 guess-alike s u m alike free = (passed-over 1 s u m alike (free, tt)).1
 
-behind-later : (ds : List ℕ) (n now : ℕ) (f : Front) (e : Entry) → now ≤ f.c → now ≤ (after ds n f e).c
-unfolding after tick_c
+behind-later : (ds : List ℕ) (n now : ℕ) (f : Front) (e : Entry) → now ≤ f.c → now ≤ (front_after_entry ds n f e).c
+unfolding front_after_entry tick_c
 behind-later ds n now f e late = omega arith
 
 count-alike : (ds : List ℕ) (n now k : ℕ) (s u : Machine) (f : Front) → IsMachine s → AreAlikeBesideOrders s u → now ≤ f.c
@@ -56,14 +56,14 @@ unfolding ahead prepared_before
 count-alike ds n now zero s u f m alike late = refl
 count-alike ds n now (suc k) s u f m alike late =
     let e = entry None s in
-    let g = after ds n f e in
+    let g = front_after_entry ds n f e in
     let before = λ (xs : List Ahead). prepared_before now xs in
-    same-count (nat_lt (row ds n f e).p now) _ _ (before (ahead ds n k None (guess None s) g)) (before (ahead ds n k None (guess None u) g))
+    same-count (nat_lt (row_of_entry ds n f e).p now) _ _ (before (ahead ds n k None (guess None s) g)) (before (ahead ds n k None (guess None u) g))
     (λ early. count-alike ds n now k (guess None s) (guess None u) g (guess-machine None s m tt)
-    (guess-alike s u m alike (not-alone ds n now f e late (ltb-true (row ds n f e).p now early)))
+    (guess-alike s u m alike (not-alone ds n now f e late (ltb-true (row_of_entry ds n f e).p now early)))
     (behind-later ds n now f e late))
-    ∙ ap (λ (x : Entry). length (if nat_lt (row ds n f x).p now
-    then record { state = u; table = None; front = f; entry = x; row = row ds n f x } ∷ before (ahead ds n k None (guess None u) (after ds n f x))
+    ∙ ap (λ (x : Entry). length (if nat_lt (row_of_entry ds n f x).p now
+    then record { state = u; table = None; front = f; entry = x; row = row_of_entry ds n f x } ∷ before (ahead ds n k None (guess None u) (front_after_entry ds n f x))
     else [])) (sym (entry-same None s u alike))
 
 -- ---- the counter of a guess
@@ -104,67 +104,67 @@ missed-below m is some = missed-by _ (plan m.state m.taken).following (plan-prep
 abbrev pub opened : Overlap → Machine → Overlap
 opened o s = record o {
   state = s;
-  front = opening (banks_left o.closing) (o.now + 1 + length (levels_of o));
+  front = opening_front (banks_left o.closing) (o.now + 1 + length (levels_of o));
   ended = true;
 }
 
-levels-alike : (t : Together) (u : Machine) → IsBehind t → AreAlikeBesideOrders t.machine.state u
+levels-alike : (t : Together) (u : Machine) → IsBehindEntry t → AreAlikeBesideOrders t.machine.state u
     → length (levels_of (record t.machine { state = u })) ≡ length (levels_of t.machine)
-unfolding levels_of seen
+unfolding levels_of state_ahead
 levels-alike t u is alike =
     let o = t.machine in
     rw (is.going, is.table)
     (sym (count-alike o.delays o.levels o.now o.levels (with_counter o.behind o.state) (with_counter o.behind u) o.front
     (counted-machine o.behind o.state is.scene.machine is.counter) (counted-alike o.behind o.state u alike) (omega (arith, is.last))))
 
-ended-first : (t : Together) (u : Machine) → IsBehind t → AreAlikeBesideOrders t.machine.state u
-    → ended (record t.machine { state = u }) ≡ opened t.machine u
-unfolding ended
+ended-first : (t : Together) (u : Machine) → IsBehindEntry t → AreAlikeBesideOrders t.machine.state u
+    → machine_after_segment (record t.machine { state = u }) ≡ opened t.machine u
+unfolding machine_after_segment
 ended-first t u is alike =
     let o = t.machine in
     let v = record o { state = u } in
     ap (λ b. if b then v else opened v u) is.going
-    ∙ ap (λ k. record o { state = u; front = opening (banks_left o.closing) (o.now + 1 + k); ended = true }) (levels-alike t u is alike)
+    ∙ ap (λ k. record o { state = u; front = opening_front (banks_left o.closing) (o.now + 1 + k); ended = true }) (levels-alike t u is alike)
 
-pub ended-behind : (t : Together) → IsBehind t → ended t.machine ≡ opened t.machine t.machine.state
-unfolding ended
+pub ended-behind : (t : Together) → IsBehindEntry t → machine_after_segment t.machine ≡ opened t.machine t.machine.state
+unfolding machine_after_segment
 ended-behind t is = ap (λ b. if b then t.machine else opened t.machine t.machine.state) is.going
 
-ended-again : (m : Overlap) → m.ended ≡ true → ended m ≡ m
-unfolding ended
+ended-again : (m : Overlap) → m.ended ≡ true → machine_after_segment m ≡ m
+unfolding machine_after_segment
 ended-again m over = ap (λ b. if b then m else opened m m.state) over
 
 -- what it is, as long as nothing but signals and orders came
-pub ended-since : (b t : Together) (over : Bool) → IsBehind b → IsSince b.machine over t
-    → ended t.machine ≡ opened b.machine t.machine.state
+pub ended-since : (b t : Together) (over : Bool) → IsBehindEntry b → IsSince b.machine over t
+    → machine_after_segment t.machine ≡ opened b.machine t.machine.state
 ended-since b t true is since =
     let s = t.machine.state in
     let same : t.machine ≡ opened b.machine s = since.machine ∙ ap (λ (m : Overlap). record m { state = s }) (ended-behind b is) in
     ended-again t.machine (ap (λ (m : Overlap). m.ended) same) ∙ same
 ended-since b t false is since =
-    ap ended since.machine ∙ ended-first b t.machine.state is (since.alike refl)
+    ap machine_after_segment since.machine ∙ ended-first b t.machine.state is (since.alike refl)
 
 -- what it is by now, by whether the segment has ended
 abbrev pub by_now : Bool → Overlap → Machine → Overlap
 by_now over o s = if over then opened o s else record o { state = s }
 
-pub since-is : (b t : Together) (over : Bool) → IsBehind b → IsSince b.machine over t
+pub since-is : (b t : Together) (over : Bool) → IsBehindEntry b → IsSince b.machine over t
     → t.machine ≡ by_now over b.machine t.machine.state
 since-is b t true is since = since.machine ∙ ap (λ (m : Overlap). record m { state = t.machine.state }) (ended-behind b is)
 since-is b t false is since = since.machine
 
 -- ---- what an end leaves
 
-pub ended-state : (m : Overlap) → (ended m).state ≡ m.state
-unfolding ended
+pub ended-state : (m : Overlap) → (machine_after_segment m).state ≡ m.state
+unfolding machine_after_segment
 ended-state m = kept m.ended
   where
     kept : (b : Bool) → (if b then m else opened m m.state).state ≡ m.state
     kept true = refl
     kept false = refl
 
-pub ended-serves : (m : Overlap) → MayServe m → MayServe (ended m)
-unfolding ended
+pub ended-serves : (m : Overlap) → MayServe m → MayServe (machine_after_segment m)
+unfolding machine_after_segment
 ended-serves m may = kept m.ended
   where
     kept : (b : Bool) → MayServe (if b then m else opened m m.state)
@@ -173,14 +173,14 @@ ended-serves m may = kept m.ended
 
 -- nothing is ahead behind it
 pub opening-none : (ds : List ℕ) (n k : ℕ) (t : Option ℕ) (s : Machine) (banks : LastAnswers) (start now : ℕ) → now ≤ start
-    → prepared_before now (ahead ds n k t s (opening banks start)) ≡ []
-unfolding ahead prepared_before row tick_a tick_p addressed prepared
+    → prepared_before now (ahead ds n k t s (opening_front banks start)) ≡ []
+unfolding ahead prepared_before row_of_entry tick_a tick_p address_tick preparation_tick
 opening-none ds n zero t s banks start now early = refl
 opening-none ds n (suc k) t s banks start now early =
-    let p = tick_p ds n (opening banks start) (entry t s) in
+    let p = tick_p ds n (opening_front banks start) (entry t s) in
     let late : now ≤ p = omega arith in
     rw (le-ltb p now late) refl
 
 pub stopped-none : (o : Overlap) (s : Machine) → levels_of (record (opened o s) { stopped = true }) ≡ []
-unfolding levels_of seen
+unfolding levels_of state_ahead
 stopped-none o s = opening-none o.delays o.levels o.levels o.taken s (banks_left o.closing) (o.now + 1 + length (levels_of o)) o.now (omega arith)

@@ -4,16 +4,16 @@ use Rattle.std.proofs.Common.{◌≡◌, ℕ, ◌+◌, ◌-◌, ◌<◌, ◌≤�
 use Rattle.std.proofs.lemmas.List.Elements.{All-tail}
 use Rattle.st_prep.specs.Plan.{plan}
 use Rattle.st_exec.specs.Step.{interrupt, address}
-use Rattle.st_rows.specs.declared.front.Row.{Row as FrontRow}
+use Rattle.st_rows.specs.declared.front.EntryTicks.{EntryTicks as FrontRow}
 use Rattle.st_ahead.specs.Overlap.{Overlap, oldest_row}
-use Rattle.st_ahead.specs.Calls.{completed, row_done}
+use Rattle.st_ahead.specs.Calls.{machine_after_completion, row_done}
 use Rattle.st_ahead.specs.declared.events.Row.{Row}
 use Rattle.st_run.specs.Moments.{Moment, Standing, next_row, next_moment}
 use Rattle.st_run.specs.TimedRun.{completion, timed_from, timed_behind}
 use Rattle.st_run.specs.Order.{AreRising}
-use Rattle.st_run.specs.Told.{Done, Told, told_of, told}
-use Rattle.st_run.specs.Together.{Together, IsBefore, standing_of, moment_of, at_tick}
-use Rattle.st_run.specs.Telling.{AreInTime, IsShown, IsLeft, first_tick}
+use Rattle.st_run.specs.Told.{Done, Told, told_of, told_of_events}
+use Rattle.st_run.specs.Together.{Together, IsBeforeEntry, standing_of, moment_of, at_tick}
+use Rattle.st_run.specs.Telling.{AreInTime, IsShown, IsLeft, snapshot_tick}
 use Rattle.st_run.specs.Ticking.{AreMade, at_completion}
 use Rattle.st_run.proofs.Turns.{behind-done, behind-none}
 use Rattle.st_run.proofs.ToldLemmas.{once}
@@ -23,24 +23,24 @@ use Rattle.st_run.proofs.LeftLemmas.{plan-address, next-done, next-tick, oldest-
 
 -- ---- snapshots
 
-pub first-late : (now : ℕ) (snaps : List ℕ) → AreRising (now - 1) snaps → IfSome (first_tick snaps) (λ x. now - 1 ≤ x)
+pub first-late : (now : ℕ) (snaps : List ℕ) → AreRising (now - 1) snaps → IfSome (snapshot_tick snaps) (λ x. now - 1 ≤ x)
 unfolding AreRising
 first-late now [] is = tt
 first-late now (x ∷ xs) is = is.0
 
-rising-first : (t c : ℕ) (snaps : List ℕ) → AreRising t snaps → IfSome (first_tick snaps) (λ x. c ≤ x) → AreRising c snaps
+rising-first : (t c : ℕ) (snaps : List ℕ) → AreRising t snaps → IfSome (snapshot_tick snaps) (λ x. c ≤ x) → AreRising c snaps
 unfolding AreRising
 rising-first t c [] is late = tt
 rising-first t c (x ∷ xs) is late = (late, is.1)
 
 -- where none comes before, the entry is done first
 behind-completes : (ds : List ℕ) (n left : ℕ) (p : Standing) (snaps : List ℕ)
-    → IfSome (first_tick snaps) (λ x. (next_moment ds n p).tick ≤ x)
+    → IfSome (snapshot_tick snaps) (λ x. (next_moment ds n p).tick ≤ x)
     → timed_behind ds n left p snaps ≡ completion ds n p ∷ timed_from ds n left (next_moment ds n p) snaps
 behind-completes ds n left p [] late = behind-none ds n left p
 behind-completes ds n left p (x ∷ xs) late = behind-done ds n left p x xs late
 
-pub tick-before : (t : Together) (now : ℕ) → IsBefore t → now ≤ (oldest_row t.machine).c → IsBefore (at_tick now t)
+pub tick-before : (t : Together) (now : ℕ) → IsBeforeEntry t → now ≤ (oldest_row t.machine).c → IsBeforeEntry (at_tick now t)
 tick-before t now h early = record {
   some = h.some;
   few = h.few;
@@ -56,8 +56,8 @@ tick-before t now h early = record {
   early = omega (arith, early, ap {A = FrontRow} (λ r. r.c) (row-same t.machine now));
 }
 
-module _ (left tick : ℕ) (snaps : List ℕ) (t new : Together) (before : IsBefore t) (rising : AreRising (t.machine.now - 1) snaps)
-    (in_time : AreInTime (told (timed_behind t.machine.delays t.machine.levels left (standing_of tick t) snaps))) where
+module _ (left tick : ℕ) (snaps : List ℕ) (t new : Together) (before : IsBeforeEntry t) (rising : AreRising (t.machine.now - 1) snaps)
+    (in_time : AreInTime (told_of_events (timed_behind t.machine.delays t.machine.levels left (standing_of tick t) snaps))) where
   abbrev o : Overlap
   o = t.machine
 
@@ -69,7 +69,7 @@ module _ (left tick : ℕ) (snaps : List ℕ) (t new : Together) (before : IsBef
 
   -- a snapshot
   shown-by : (xs : List ℕ) → AreRising (o.now - 1) xs
-      → AreInTime (told (timed_behind o.delays o.levels left p xs)) → AreMade None (first_tick xs) t new → IsShown left tick xs new
+      → AreInTime (told_of_events (timed_behind o.delays o.levels left p xs)) → AreMade None (snapshot_tick xs) t new → IsShown left tick xs new
   unfolding AreRising
   shown-by [] up all made = absurd made.ticked
   shown-by (x ∷ xs) up all made =
@@ -83,14 +83,14 @@ module _ (left tick : ℕ) (snaps : List ℕ) (t new : Together) (before : IsBef
         in_time = all;
       })
 
-  pub go-shows : (snap : Option ℕ) → snap ≡ first_tick snaps → AreMade None snap t new → IsShown left tick snaps new
+  pub go-shows : (snap : Option ℕ) → snap ≡ snapshot_tick snaps → AreMade None snap t new → IsShown left tick snaps new
   go-shows snap first made =
       shown-by snaps rising in_time (subst {A = Option ℕ} (λ k. AreMade None k t new) first made)
 
   -- the entry is done
-  module _ (row : Row) (snap : Option ℕ) (first : snap ≡ first_tick snaps) (made : AreMade (Some row) snap t new) where
+  module _ (row : Row) (snap : Option ℕ) (first : snap ≡ snapshot_tick snaps) (made : AreMade (Some row) snap t new) where
     abbrev done : Together
-    done = record t { machine = completed (at_completion o) }
+    done = record t { machine = machine_after_completion (at_completion o) }
 
     new-done : new ≡ done
     new-done = made.kept ∙ ap {A = Overlap} (λ q. record t { machine = q }) made.ticked.1
@@ -98,31 +98,31 @@ module _ (left tick : ℕ) (snaps : List ℕ) (t new : Together) (before : IsBef
     moment-is : moment_of done ≡ next
     moment-is = moment-next t tick before
 
-    late : IfSome (first_tick snaps) (λ x. (oldest_row o).c ≤ x)
+    late : IfSome (snapshot_tick snaps) (λ x. (oldest_row o).c ≤ x)
     late = subst {A = Option ℕ} (λ k. IfSome k (λ x. (oldest_row o).c ≤ x)) first made.ticked.0
 
-    late-next : IfSome (first_tick snaps) (λ x. next.tick ≤ x)
-    late-next = subst {A = ℕ} (λ k. IfSome (first_tick snaps) (λ x. k ≤ x)) (sym (next-tick left tick snaps t before in_time)) late
+    late-next : IfSome (snapshot_tick snaps) (λ x. next.tick ≤ x)
+    late-next = subst {A = ℕ} (λ k. IfSome (snapshot_tick snaps) (λ x. k ≤ x)) (sym (next-tick left tick snaps t before in_time)) late
 
-    all-told : told (timed_behind o.delays o.levels left p snaps)
-        ≡ told_of (completion o.delays o.levels p) ∷ told (timed_from o.delays o.levels left next snaps)
-    unfolding told
-    all-told = ap told (behind-completes o.delays o.levels left p snaps late-next)
+    all-told : told_of_events (timed_behind o.delays o.levels left p snaps)
+        ≡ told_of (completion o.delays o.levels p) ∷ told_of_events (timed_from o.delays o.levels left next snaps)
+    unfolding told_of_events
+    all-told = ap told_of_events (behind-completes o.delays o.levels left p snaps late-next)
 
     row-c : row.c ≡ (oldest_row o).c
     row-c = ap {A = Row} (λ r. r.c) made.ticked.2
 
     done-left : IsLeft left snaps (oldest_row o).c done
-    unfolding completed
+    unfolding machine_after_completion
     done-left = record {
       behind = behind-next t before;
       tick_is = refl;
       soon = oldest-in_time left tick snaps t before in_time;
       rising = rising-first (o.now - 1) (oldest_row o).c snaps rising late;
       in_time =
-          subst {A = Moment} (λ m. AreInTime (told (timed_from o.delays o.levels left m snaps))) (sym moment-is)
+          subst {A = Moment} (λ m. AreInTime (told_of_events (timed_from o.delays o.levels left m snaps))) (sym moment-is)
           (All-tail (λ (y : Told). (y.tick < 2 ^ 63) × (y.done < 2 ^ 63)) (told_of (completion o.delays o.levels p))
-          (told (timed_from o.delays o.levels left next snaps)) (subst {A = List Told} AreInTime all-told in_time));
+          (told_of_events (timed_from o.delays o.levels left next snaps)) (subst {A = List Told} AreInTime all-told in_time));
     }
 
     pub go-leaves : IsLeft left snaps row.c new
@@ -152,13 +152,13 @@ module _ (left tick : ℕ) (snaps : List ℕ) (t new : Together) (before : IsBef
         (ap {A = FrontRow} (λ r. r.c) (sym rows) ∙ sym (next-tick left tick snaps t before in_time))
 
     pub go-tells : (rest : List Told)
-        → told (timed_from new.machine.delays new.machine.levels left (moment_of new) snaps) ≡ rest
-        → told (timed_behind o.delays o.levels left p snaps) ≡ told_row row ∷ rest
-    unfolding completed
+        → told_of_events (timed_from new.machine.delays new.machine.levels left (moment_of new) snaps) ≡ rest
+        → told_of_events (timed_behind o.delays o.levels left p snaps) ≡ told_row row ∷ rest
+    unfolding machine_after_completion
     go-tells rest same =
-        let behind : told (timed_from o.delays o.levels left next snaps) ≡ rest =
-        ap {A = Moment} (λ m. told (timed_from o.delays o.levels left m snaps)) (sym moment-is)
-        ∙ ap {A = Together} (λ u. told (timed_from u.machine.delays u.machine.levels left (moment_of u) snaps)) (sym new-done)
+        let behind : told_of_events (timed_from o.delays o.levels left next snaps) ≡ rest =
+        ap {A = Moment} (λ m. told_of_events (timed_from o.delays o.levels left m snaps)) (sym moment-is)
+        ∙ ap {A = Together} (λ u. told_of_events (timed_from u.machine.delays u.machine.levels left (moment_of u) snaps)) (sym new-done)
         ∙ same in
         all-told
         ∙ ap {A = List Told} (λ xs. told_of (completion o.delays o.levels p) ∷ xs) behind

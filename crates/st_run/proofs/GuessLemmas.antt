@@ -4,7 +4,7 @@ use Rattle.st_prep.specs.Plan.{plan}
 use Rattle.st_exec.specs.Step.{step}
 use Rattle.st_segment.specs.Ahead.{ahead}
 use Rattle.st_segment.proofs.StepLemmas.{guess-right, guess-missed}
-use Rattle.st_run.specs.Moments.{Standing, taken, front_after, entries_behind, next_moment}
+use Rattle.st_run.specs.Moments.{Standing, interrupt_of_moment, front_after, entries_behind, next_moment}
 use Rattle.st_run.specs.Scenes.{IsScene}
 use Rattle.st_run.proofs.SceneLemmas.{interrupt-below}
 
@@ -14,14 +14,14 @@ module _ (ds : List ℕ) (n k : ℕ) (p : Standing) (is : IsScene p.scene) where
   unfolding next_moment step
   behind-right right =
       let s = p.scene.machine in
-      ap (λ u. ahead ds n k None u (front_after ds n p)) (guess-right (taken p) s is.machine (interrupt-below s) right)
+      ap (λ u. ahead ds n k None u (front_after ds n p)) (guess-right (interrupt_of_moment p) s is.machine (interrupt-below s) right)
 
   pub behind-missed : (next_moment ds n p).missed ≡ true
       → entries_behind ds n k p
       ≡ ahead ds n k None
-      (record (next_moment ds n p).scene.machine { ic = (plan p.scene.machine (taken p)).following })
+      (record (next_moment ds n p).scene.machine { ic = (plan p.scene.machine (interrupt_of_moment p)).following })
       (next_moment ds n p).front
   unfolding next_moment step
   behind-missed missed =
       let s = p.scene.machine in
-      ap (λ u. ahead ds n k None u (front_after ds n p)) (guess-missed (taken p) s is.machine (interrupt-below s) missed)
+      ap (λ u. ahead ds n k None u (front_after ds n p)) (guess-missed (interrupt_of_moment p) s is.machine (interrupt-below s) missed)

@@ -1,11 +1,11 @@
 -- The last thing that is told of a run is told at its end.
 use Rattle.std.proofs.Common.{◌≡◌, ℕ, zero, suc, Bool, true, false, if◌then◌else◌, List, [], ◌∷◌, ◌++◌, ◌+◌, refl, sym, ◌∙◌, map}
 use Rattle.st_exec.specs.Step.{rests}
-use Rattle.st_run.specs.Run.{Scene, Execution, Ends, interlude, stepped, ended, goes_on, run}
+use Rattle.st_run.specs.Run.{Scene, Execution, Ends, interlude, scene_after_step, execution_at_end, goes_on, run}
 use Rattle.st_run.specs.Events.{Timed}
-use Rattle.st_run.specs.Moments.{Moment, start, next_scene, next_state, standing, next_moment}
-use Rattle.st_run.specs.TimedRun.{ticks_before, ticks_from, drops, happening_at, last_snapshot_at, between, until_done, last_events, timed_from}
-use Rattle.st_run.specs.Order.{last_tick}
+use Rattle.st_run.specs.Moments.{Moment, moment_at_start, next_scene, next_state, standing_at, next_moment}
+use Rattle.st_run.specs.TimedRun.{ticks_before, snapshots_from, drops, happening_at, last_snapshot_at, events_between, until_done, last_events, timed_from}
+use Rattle.st_run.specs.Order.{last_completion}
 use Rattle.st_run.proofs.DoneLemmas.{settled-done}
 use Rattle.st_run.proofs.ShownLemmas.{last-append, last_events-tick}
 
@@ -22,9 +22,9 @@ done-append d (x ∷ xs) ys = done-append x.done xs ys
 -- events end like a run, whatever was before them
 record EndsLike (ran : Execution) (xs : List Timed) : Type 0 where
   done : (d : ℕ) → last_done d xs ≡ ran.last.done
-  tick : (t u : ℕ) → last_tick t xs ≡ last_tick u xs
+  tick : (t u : ℕ) → last_completion t xs ≡ last_completion u xs
 
-last-like : (m : Moment) (snaps : List ℕ) → EndsLike (ended (interlude m.scene)) (last_events m snaps)
+last-like : (m : Moment) (snaps : List ℕ) → EndsLike (execution_at_end (interlude m.scene)) (last_events m snaps)
 unfolding last_events last_done
 last-like m snaps =
     let front = drops m ++ map (happening_at m) (interlude m.scene).happened ++ map (last_snapshot_at m) (ticks_before (m.tick + 1) snaps) in
@@ -34,26 +34,26 @@ last-like m snaps =
     }
 
 like-if : (c : Bool) (m : Moment) (xs turn rest : List Timed) (later : Execution)
-    → EndsLike (ended (interlude m.scene)) xs → EndsLike later rest
-    → EndsLike (if c then ended (interlude m.scene) else goes_on (interlude m.scene) later) (if c then xs else turn ++ rest)
+    → EndsLike (execution_at_end (interlude m.scene)) xs → EndsLike later rest
+    → EndsLike (if c then execution_at_end (interlude m.scene) else goes_on (interlude m.scene) later) (if c then xs else turn ++ rest)
 like-if true m xs turn rest later here there = here
 like-if false m xs turn rest later here there = record {
   done = λ d. done-append d turn rest ∙ there.done (last_done d turn);
-  tick = λ t u. last-append t turn rest ∙ there.tick (last_tick t turn) (last_tick u turn) ∙ sym (last-append u turn rest);
+  tick = λ t u. last-append t turn rest ∙ there.tick (last_completion t turn) (last_completion u turn) ∙ sym (last-append u turn rest);
 }
 
 timed-like : (ds : List ℕ) (n left : ℕ) (m : Moment) (snaps : List ℕ) → EndsLike (run left m.scene) (timed_from ds n left m snaps)
 unfolding timed_from run next_moment
 timed-like ds n zero m snaps = last-like m snaps
 timed-like ds n (suc left) m snaps =
-    let p = standing m in
+    let p = standing_at m in
     let next = next_moment ds n p in
-    like-if (rests (next_state m)) m (last_events m snaps) (between m ++ until_done ds n p snaps)
-    (timed_from ds n left next (ticks_from next.tick snaps)) (run left (stepped (next_scene m)))
-    (last-like m snaps) (timed-like ds n left next (ticks_from next.tick snaps))
+    like-if (rests (next_state m)) m (last_events m snaps) (events_between m ++ until_done ds n p snaps)
+    (timed_from ds n left next (snapshots_from next.tick snaps)) (run left (scene_after_step (next_scene m)))
+    (last-like m snaps) (timed-like ds n left next (snapshots_from next.tick snaps))
 
-pub run-done : (ds : List ℕ) (n left : ℕ) (c : Scene) (snaps : List ℕ) (d : ℕ) → last_done d (timed_from ds n left (start c) snaps) ≡ (run left c).last.done
-run-done ds n left c snaps d = (timed-like ds n left (start c) snaps).done d
+pub run-done : (ds : List ℕ) (n left : ℕ) (c : Scene) (snaps : List ℕ) (d : ℕ) → last_done d (timed_from ds n left (moment_at_start c) snaps) ≡ (run left c).last.done
+run-done ds n left c snaps d = (timed-like ds n left (moment_at_start c) snaps).done d
 
-pub run-tick : (ds : List ℕ) (n left : ℕ) (c : Scene) (snaps : List ℕ) (t u : ℕ) → last_tick t (timed_from ds n left (start c) snaps) ≡ last_tick u (timed_from ds n left (start c) snaps)
-run-tick ds n left c snaps t u = (timed-like ds n left (start c) snaps).tick t u
+pub run-tick : (ds : List ℕ) (n left : ℕ) (c : Scene) (snaps : List ℕ) (t u : ℕ) → last_completion t (timed_from ds n left (moment_at_start c) snaps) ≡ last_completion u (timed_from ds n left (moment_at_start c) snaps)
+run-tick ds n left c snaps t u = (timed-like ds n left (moment_at_start c) snaps).tick t u

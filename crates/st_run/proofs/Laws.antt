@@ -1,6 +1,6 @@
 -- What holds of each run with its timetable, proved.
 use Rattle.st_run.proofs.Untimed.{timed-plain}
-use Rattle.st_run.specs.Moments.{start, next_moment}
+use Rattle.st_run.specs.Moments.{moment_at_start, next_moment}
 use Rattle.std.proofs.Common.{sym, ◌∙◌, refl}
 use Rattle.st_run.proofs.Bounds.{run-time}
 use Rattle.st_run.proofs.EndLemmas.{run-ends}
@@ -14,13 +14,13 @@ use Rattle.st_run.specs.Laws.{TheTimedRunIsTheRun, DelaysChangeNothingButTicks, 
 
 pub the_timed_run_is_the_run : TheTimedRunIsTheRun
 the_timed_run_is_the_run = record {
-  whole = λ ds snaps n left scene. timed-plain ds n left (start scene) snaps;
+  whole = λ ds snaps n left scene. timed-plain ds n left (moment_at_start scene) snaps;
   from = λ ds snaps n left m. timed-plain ds n left m snaps;
 }
 
 pub delays_change_nothing_but_ticks : DelaysChangeNothingButTicks
 delays_change_nothing_but_ticks = λ ds es snaps shots n k left scene.
-    timed-plain ds n left (start scene) snaps ∙ sym (timed-plain es k left (start scene) shots)
+    timed-plain ds n left (moment_at_start scene) snaps ∙ sym (timed-plain es k left (moment_at_start scene) shots)
 
 pub runs_are_in_time : RunsAreInTime
 runs_are_in_time = record {
@@ -29,10 +29,10 @@ runs_are_in_time = record {
 }
 
 pub events_come_in_order : EventsComeInOrder
-events_come_in_order = λ ds snaps n left scene rising. timed-order ds n left (start scene) snaps refl rising
+events_come_in_order = λ ds snaps n left scene rising. timed-order ds n left (moment_at_start scene) snaps refl rising
 
 pub snapshots_are_shown_up_to_the_end : SnapshotsAreShownUpToTheEnd
-snapshots_are_shown_up_to_the_end = λ ds snaps n left scene. timed-shown ds n left (start scene) snaps 0 refl
+snapshots_are_shown_up_to_the_end = λ ds snaps n left scene. timed-shown ds n left (moment_at_start scene) snaps 0 refl
 
 pub nothing_is_ahead_behind_an_end : NothingIsAheadBehindAnEnd
 nothing_is_ahead_behind_an_end = record {

@@ -7,14 +7,14 @@ use Rattle.std.proofs.lemmas.List.Elements.{All-head, All-tail}
 use Rattle.st_card.specs.Limits.{is_signal}
 use Rattle.st_card.specs.declared.control_cards.Signal.{Signal}
 use Rattle.st_state.specs.Machine.{Machine}
-use Rattle.st_state.specs.Interrupts.{signalled}
+use Rattle.st_state.specs.Interrupts.{state_with_signal}
 use Rattle.st_state.specs.declared.devices.Order.{Order}
 use Rattle.st_state.specs.declared.devices.Device.{Device}
 use Rattle.st_state.specs.declared.devices.Device.TheVariants.{Reader, Printer}
 use Rattle.st_prep.proofs.Choices.{of_choice}
 use Rattle.st_exec.specs.Step.{rests}
-use Rattle.st_ahead.specs.Overlap.{Overlap, started}
-use Rattle.st_ahead.specs.Calls.{run_ended, settled, passed, signalled_by, read_in_by, printed_by, MaySignal, MayServe}
+use Rattle.st_ahead.specs.Overlap.{Overlap, machine_at_start}
+use Rattle.st_ahead.specs.Calls.{run_ended, machine_after_settling, machine_after_pass, signalled_by, read_in_by, printed_by, MaySignal, MayServe}
 use Rattle.st_ahead.specs.RunTo.{after_ticks, ArePassed, RunsTo}
 use Rattle.st_ahead.specs.declared.events.Row.{Row}
 use Rattle.st_ahead.proofs.Passing.{passed-now}
@@ -38,7 +38,7 @@ signal-led m i known may led = record {
   reached = Signals m led.made led.since i led.reached known may;
 }
 
-settle-led : (m : Overlap) → m.owed ≡ true → m.stopped ≡ false → IsLed m → IsLed (settled m)
+settle-led : (m : Overlap) → m.owed ≡ true → m.stopped ≡ false → IsLed m → IsLed (machine_after_settling m)
 settle-led m owed stands led = record { made = led.made; since = led.since; reached = Settles m led.made led.since led.reached owed stands }
 
 stop-led : (m : Overlap) → MayServe m → IsLed m → IsLed (run_ended m)
@@ -89,7 +89,7 @@ due-led : (xs : List Signal) (m : Overlap) (cards : List (List ℕ)) → AllPass
 due-led [] m cards known may led = led
 due-led (x ∷ xs) m cards known may led =
     of_choice (λ (c : Scene). IsLed (record m { state = c.machine })) (nat_le x.count m.state.done)
-    (with_due_signals (signalled m.state x.indicator) xs cards) (record { machine = m.state; signals = x ∷ xs; cards = cards })
+    (with_due_signals (state_with_signal m.state x.indicator) xs cards) (record { machine = m.state; signals = x ∷ xs; cards = cards })
     (due-led xs (signalled_by x.indicator m) cards (All-tail (λ s. is_signal s ≡ true) x xs known) may
     (signal-led m x.indicator (known-indicator x (All-head (λ s. is_signal s ≡ true) x xs known)) may led)) led
 
@@ -98,7 +98,7 @@ rest-led : (xs : List Signal) (m : Overlap) (cards : List (List ℕ)) → AllPas
 rest-led [] m cards known may led = led
 rest-led (x ∷ xs) m cards known may led =
     of_choice (λ (c : Scene). IsLed (record m { state = c.machine })) (rests m.state)
-    (with_signals_at_rest (signalled m.state x.indicator) xs cards) (record { machine = m.state; signals = x ∷ xs; cards = cards })
+    (with_signals_at_rest (state_with_signal m.state x.indicator) xs cards) (record { machine = m.state; signals = x ∷ xs; cards = cards })
     (rest-led xs (signalled_by x.indicator m) cards (All-tail (λ s. is_signal s ≡ true) x xs known) may
     (signal-led m x.indicator (known-indicator x (All-head (λ s. is_signal s ≡ true) x xs known)) may led)) led
 
@@ -137,13 +137,13 @@ module _ (m : Overlap) (xs : List Signal) (cards : List (List ℕ)) (is : IsDriv
   rest-driven k ys may came same known =
       signals-driven (with_signals_at_rest m.state xs cards) k ys (rest-led xs m cards is.known may is.led) (came cards) same known
 
-  pub settled-driven : (k : Overlap) → m.owed ≡ true → m.stopped ≡ false → k ≡ settled m → IsDriven k xs cards
+  pub settled-driven : (k : Overlap) → m.owed ≡ true → m.stopped ≡ false → k ≡ machine_after_settling m → IsDriven k xs cards
   settled-driven k owed stands same = also k (subst {A = Overlap} IsLed (sym same) (settle-led m owed stands is.led))
 
   pub stopped-driven : (k : Overlap) → MayServe m → k ≡ run_ended m → IsDriven k xs cards
   stopped-driven k may same = also k (subst {A = Overlap} IsLed (sym same) (stop-led m may is.led))
 
-  pub passed-driven : (k : Overlap) → m.owed ≡ true → m.stopped ≡ false → IsQuiet m → k ≡ passed m → IsDriven k xs cards
+  pub passed-driven : (k : Overlap) → m.owed ≡ true → m.stopped ≡ false → IsQuiet m → k ≡ machine_after_pass m → IsDriven k xs cards
   passed-driven k owed stands quiet same = settled-driven k owed stands (same ∙ quiet-settled m quiet)
 
   pub ran-driven : (count last : ℕ) (row : Option Row) (new : Overlap) → m.owed ≡ false → m.state.done < 2 ^ 63 → count ≤ 2 ^ 63 → last < 2 ^ 63
@@ -176,7 +176,7 @@ module _ (m : Overlap) (xs : List Signal) (cards : List (List ℕ)) (is : IsDriv
 -- ---- its start
 
 pub start-driven : (ds : List ℕ) (n : ℕ) (s : Machine) (m : Overlap) (xs : List Signal) (cards : List (List ℕ)) → CanStart ds n s
-    → m ≡ started ds n s → AllPass is_signal xs → All IsCard cards → IsDriven m xs cards
+    → m ≡ machine_at_start ds n s → AllPass is_signal xs → All IsCard cards → IsDriven m xs cards
 start-driven ds n s m xs cards can same known words = record {
   known = known;
   words = words;

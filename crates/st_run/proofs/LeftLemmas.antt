@@ -3,7 +3,7 @@ use Rattle.std.specs.Prelude.{map, is_some, if◌then◌else◌, ◌||◌, IsSom
 use Rattle.std.proofs.Common.{◌≡◌, ℕ, ◌+◌, ◌-◌, ◌<◌, ◌^◌, Bool, true, false, List, [], ◌∷◌, ◌++◌, Option, None, Some, refl, sym, ◌∙◌, ap, subst, arith}
 use Rattle.st_state.specs.Machine.{Machine}
 use Rattle.st_prep.specs.Fetch.{address_by, place_of}
-use Rattle.st_prep.specs.Plan.{plan, prepared, prepared_by, suppressed, entry as entry_of, sight}
+use Rattle.st_prep.specs.Plan.{plan, prepared_entry, prepared_by, suppressed_entry, entry_at as entry_of, sight}
 use Rattle.st_prep.specs.declared.entries.Place.{Place}
 use Rattle.st_prep.specs.declared.entries.Aim.{Aim}
 use Rattle.st_exec.specs.Step.{interrupt, rests, address}
@@ -11,12 +11,12 @@ use Rattle.st_run.specs.Run.{Scene, interlude}
 use Rattle.st_exec.proofs.StepLemmas.{step-done}
 use Rattle.st_rows.specs.declared.front.Front.{Front}
 use Rattle.st_segment.specs.Ahead.{prepared_before}
-use Rattle.st_ahead.specs.Overlap.{seen, oldest_row, levels_of}
-use Rattle.st_run.specs.Moments.{Moment, Standing, next_state, next_row, ends_segment, has_card, has_waited, next_front, standing, entries_ahead, next_moment}
-use Rattle.st_run.specs.TimedRun.{between, completion, last_events, timed_from, timed_behind}
+use Rattle.st_ahead.specs.Overlap.{state_ahead, oldest_row, levels_of}
+use Rattle.st_run.specs.Moments.{Moment, Standing, next_state, next_row, ends_segment, has_card, has_waited, next_front, standing_at, entries_at_moment, next_moment}
+use Rattle.st_run.specs.TimedRun.{events_between, completion, last_events, timed_from, timed_behind}
 use Rattle.st_run.specs.Order.{AreRising}
-use Rattle.st_run.specs.Told.{Done, Told, told_of, told}
-use Rattle.st_run.specs.Together.{Together, scene_of, IsBefore, standing_of, moment_of, GoesOn, Stops, AreTexts}
+use Rattle.st_run.specs.Told.{Done, Told, told_of, told_of_events}
+use Rattle.st_run.specs.Together.{Together, scene_of, IsBeforeEntry, standing_of, moment_of, RunGoesOn, RunStops, AreTexts}
 use Rattle.st_run.specs.Telling.{Waiting, whats, at_once, told_at_end, rest_of, IsTurn, IsRun, AreInTime, IsLeft}
 use Rattle.st_run.specs.Leaving.{IsWay, IsDecided}
 use Rattle.st_run.specs.declared.leaving.Decided.{Decided}
@@ -52,14 +52,14 @@ module _ (ds : List ℕ) (n left tick : ℕ) (m : Moment) (snaps : List ℕ) (d 
   abbrev printed : Option (List ℕ)
   printed = option_map (λ x. x.bytes) d.text
 
-  goes-told : left ≢ 0 → rests (next_state m) ≡ false → GoesOn m d.ends d.taken t
-      → told (timed_from ds n left m snaps) ≡ rest_of turns.Before (left - 1) tick snaps (waits drops printed d.taken) t
+  goes-told : left ≢ 0 → rests (next_state m) ≡ false → RunGoesOn m d.ends d.taken t
+      → told_of_events (timed_from ds n left m snaps) ≡ rest_of turns.Before (left - 1) tick snaps (waits drops printed d.taken) t
   unfolding rest_of
   goes-told some awake g =
       let s = next_state m in
-      let p = standing m in
+      let p = standing_at m in
       let k = left - 1 in
-      let rest = told (timed_behind ds n k p snaps) in
+      let rest = told_of_events (timed_behind ds n k p snaps) in
       let state : s ≡ t.machine.state = ap {A = Scene} (λ c. c.machine) (sym g.scene) in
       let waiting : waits (dropped_if (ends_segment m) m) printed (interrupt s) ≡ waits drops printed d.taken =
       ap {A = Bool} (λ b. waits (dropped_if b m) printed (interrupt s)) (sym g.ends)
@@ -69,20 +69,20 @@ module _ (ds : List ℕ) (n left tick : ℕ) (m : Moment) (snaps : List ℕ) (d 
       ap {A = Scene} (λ c. record { scene = c; tick = m.tick; front = next_front m }) (sym g.scene)
       ∙ ap {A = ℕ} (λ x. record { scene = scene_of t; tick = x; front = next_front m }) (sym tick_is)
       ∙ ap {A = Front} (λ f. record { scene = scene_of t; tick = tick; front = f }) (sym g.front) in
-      ap told (timed-goes_on ds n left m snaps some awake)
-      ∙ told-append (between m) (timed_behind ds n k p snaps)
+      ap told_of_events (timed-goes_on ds n left m snaps some awake)
+      ∙ told-append (events_between m) (timed_behind ds n k p snaps)
       ∙ ap {A = List Told} (λ xs. xs ++ rest) (told-between m printed text)
       ∙ ap {A = Waiting} (λ w. map (at_once m.tick s) (whats w s) ++ rest) waiting
       ∙ ap {A = Machine} (λ u. map (at_once m.tick u) (whats (waits drops printed d.taken) u) ++ rest) state
       ∙ ap {A = ℕ} (λ x. map (at_once x t.machine.state) (whats (waits drops printed d.taken) t.machine.state) ++ rest) (sym tick_is)
       ∙ ap {A = List Told} (λ xs. map (at_once tick t.machine.state) (whats (waits drops printed d.taken) t.machine.state) ++ xs)
-      (ap {A = Standing} (λ q. told (timed_behind ds n k q snaps)) stand
-      ∙ ap {A = List ℕ} (λ es. told (timed_behind es n k (standing_of tick t) snaps)) (sym delays)
-      ∙ ap {A = ℕ} (λ l. told (timed_behind t.machine.delays l k (standing_of tick t) snaps)) (sym levels))
+      (ap {A = Standing} (λ q. told_of_events (timed_behind ds n k q snaps)) stand
+      ∙ ap {A = List ℕ} (λ es. told_of_events (timed_behind es n k (standing_of tick t) snaps)) (sym delays)
+      ∙ ap {A = ℕ} (λ l. told_of_events (timed_behind t.machine.delays l k (standing_of tick t) snaps)) (sym levels))
 
   stops-told : (resting : Bool) → resting ≡ rests (next_state m) → (resting ≡ false → left ≡ 0) → d.ends ≡ true → d.taken ≡ None
-      → Stops m t
-      → told (timed_from ds n left m snaps) ≡ rest_of (turns.AtEnd resting) (left - 1) tick snaps (waits drops printed d.taken) t
+      → RunStops m t
+      → told_of_events (timed_from ds n left m snaps) ≡ rest_of (turns.AtEnd resting) (left - 1) tick snaps (waits drops printed d.taken) t
   unfolding rest_of
   stops-told resting same none ends void g =
       let s = next_state m in
@@ -91,7 +91,7 @@ module _ (ds : List ℕ) (n left tick : ℕ) (m : Moment) (snaps : List ℕ) (d 
       ap {A = Bool} (λ b. waits (dropped_if b m) printed None) (sym ends)
       ∙ ap {A = List (ℕ × ℕ)} (λ xs. waits xs printed None) (sym dropped)
       ∙ ap {A = Option ℕ} (λ o. waits drops printed o) (sym void) in
-      ap told (ends-here ds n left m snaps resting same none)
+      ap told_of_events (ends-here ds n left m snaps resting same none)
       ∙ told-last m printed snaps text
       ∙ ap {A = Waiting} (λ w. map (at_once m.tick s) (whats w s) ++ told_at_end (rests s) m.tick snaps s) waiting
       ∙ ap {A = Bool} (λ b. map (at_once m.tick s) (whats (waits drops printed d.taken) s) ++ told_at_end b m.tick snaps s) (sym same)
@@ -100,7 +100,7 @@ module _ (ds : List ℕ) (n left tick : ℕ) (m : Moment) (snaps : List ℕ) (d 
       ++ told_at_end resting x snaps t.machine.state) (sym tick_is)
 
   way-told : (turn : Turn) → IsWay turn left m d t
-      → told (timed_from ds n left m snaps) ≡ rest_of turn (left - 1) tick snaps (waits drops printed d.taken) t
+      → told_of_events (timed_from ds n left m snaps) ≡ rest_of turn (left - 1) tick snaps (waits drops printed d.taken) t
   way-told turns.Before way = goes-told way.0 way.1 way.2
   way-told (turns.AtEnd resting) way = stops-told resting way.0 way.1 way.2 way.3 way.4
   way-told turns.Over way = absurd way
@@ -117,21 +117,21 @@ module _ (ds : List ℕ) (n left tick : ℕ) (m : Moment) (snaps : List ℕ) (d 
 
   levels-still : (es : List ℕ) (l : ℕ) (c : Scene) (f : Front) (x now : ℕ)
       → levels_of (still es l c.machine f now)
-      ≡ prepared_before now (entries_ahead es l (record { scene = c; tick = x; front = f }))
-  unfolding levels_of seen
+      ≡ prepared_before now (entries_at_moment es l (record { scene = c; tick = x; front = f }))
+  unfolding levels_of state_ahead
   levels-still es l c f x now = refl
 
-  none-ahead : GoesOn m d.ends d.taken t → IsSome d.taken → levels_of t.machine ≡ []
+  none-ahead : RunGoesOn m d.ends d.taken t → IsSome d.taken → levels_of t.machine ≡ []
   none-ahead g some =
       let o = t.machine in
-      let stand : standing_of m.tick t ≡ standing m =
+      let stand : standing_of m.tick t ≡ standing_at m =
       ap {A = Scene} (λ c. record { scene = c; tick = m.tick; front = o.front }) g.scene
-      ∙ ap {A = Front} (λ f. record (standing m) { front = f }) g.front in
+      ∙ ap {A = Front} (λ f. record (standing_at m) { front = f }) g.front in
       let taken : is_some (interrupt (next_state m)) ≡ true = ap is_some (sym g.taken) ∙ some in
       ap levels_of (ready-still o (ready-before t g.before))
       ∙ levels-still o.delays o.levels (scene_of t) o.front m.tick o.now
-      ∙ ap {A = ℕ} (λ k. prepared_before k (entries_ahead o.delays o.levels (standing_of m.tick t))) g.now
-      ∙ ap {A = Standing} (λ p. prepared_before (m.tick + 1) (entries_ahead o.delays o.levels p)) stand
+      ∙ ap {A = ℕ} (λ k. prepared_before k (entries_at_moment o.delays o.levels (standing_of m.tick t))) g.now
+      ∙ ap {A = Standing} (λ p. prepared_before (m.tick + 1) (entries_at_moment o.delays o.levels p)) stand
       ∙ nothing-ahead o.delays o.levels m m.tick (ends-taken taken) (omega arith)
 
   rising-on : (now : ℕ) (xs : List ℕ) → now ≡ tick + 1 → AreRising tick xs → AreRising (now - 1) xs
@@ -141,14 +141,14 @@ module _ (ds : List ℕ) (n left tick : ℕ) (m : Moment) (snaps : List ℕ) (d 
 
   way-stands : (turn : Turn) → IsWay turn left m d t → AreRising tick snaps → IsTurn turn snaps t
   way-stands turns.Before way rising =
-      let g : GoesOn m d.ends d.taken t = way.2 in
+      let g : RunGoesOn m d.ends d.taken t = way.2 in
       (g.before, rising-on t.machine.now snaps (g.now ∙ ap {A = ℕ} (λ x. x + 1) (sym tick_is)) rising)
-  way-stands (turns.AtEnd resting) way rising = let g : Stops m t = way.4 in g.none
+  way-stands (turns.AtEnd resting) way rising = let g : RunStops m t = way.4 in g.none
   way-stands turns.Over way rising = absurd way
 
   way-taken : (turn : Turn) → IsWay turn left m d t → IsSome d.taken → levels_of t.machine ≡ []
   way-taken turns.Before way some = none-ahead way.2 some
-  way-taken (turns.AtEnd resting) way some = let g : Stops m t = way.4 in g.none
+  way-taken (turns.AtEnd resting) way some = let g : RunStops m t = way.4 in g.none
   way-taken turns.Over way some = absurd way
 
 -- the answers to how a run is left
@@ -156,7 +156,7 @@ module _ (left tick : ℕ) (snaps : List ℕ) (old t : Together) (d : Decided) (
     (is : IsLeft left snaps tick old) (decided : IsDecided left (moment_of old) d t)
     (delays : t.machine.delays ≡ old.machine.delays) (levels : t.machine.levels ≡ old.machine.levels)
     (dropped : drops ≡ (if d.ends then map dropped_at (levels_of old.machine) else [])) where
-  pub left-told : told (timed_from old.machine.delays old.machine.levels left (moment_of old) snaps)
+  pub left-told : told_of_events (timed_from old.machine.delays old.machine.levels left (moment_of old) snaps)
       ≡ rest_of d.turn (left - 1) tick snaps (waits drops (option_map (λ x. x.bytes) d.text) d.taken) t
   left-told =
       way-told old.machine.delays old.machine.levels left tick (moment_of old) snaps d drops t decided.text is.tick_is delays levels dropped
@@ -178,16 +178,16 @@ module _ (left tick : ℕ) (snaps : List ℕ) (old t : Together) (d : Decided) (
 -- ---- an entry is done
 
 by-place : (o : Option ℕ) (place : Place) (a : Aim) (x : List ℕ) (read : Option ℕ) → (prepared_by o place a x read).place ≡ place
-unfolding suppressed entry_of
+unfolding suppressed_entry entry_of
 by-place None place a x read = refl
 by-place (Some i) place a x read = refl
 
 pub plan-address : (s : Machine) (t : Option ℕ) → (plan s t).place.address ≡ address_by t s
-unfolding plan prepared sight place_of
+unfolding plan prepared_entry sight place_of
 plan-address s t = ap {A = Place} (λ q. q.address) (by-place _ (place_of s t) _ _ _)
 
-module _ (left tick : ℕ) (snaps : List ℕ) (t : Together) (before : IsBefore t)
-    (in_time : AreInTime (told (timed_behind t.machine.delays t.machine.levels left (standing_of tick t) snaps))) where
+module _ (left tick : ℕ) (snaps : List ℕ) (t : Together) (before : IsBeforeEntry t)
+    (in_time : AreInTime (told_of_events (timed_behind t.machine.delays t.machine.levels left (standing_of tick t) snaps))) where
   abbrev p : Standing
   p = standing_of tick t
 

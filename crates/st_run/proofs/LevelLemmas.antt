@@ -6,13 +6,13 @@ use Rattle.st_prep.specs.declared.entries.Prepared.{Prepared}
 use Rattle.st_ring.specs.declared.level.Level.{Level}
 use Rattle.st_segment.specs.Ahead.{Ahead}
 use Rattle.st_ahead.specs.Shown.{IsLevelOf}
-use Rattle.st_run.specs.Events.{address_of}
+use Rattle.st_run.specs.Events.{address_ahead}
 
 abbrev pub level_row : Level → ℕ × ℕ
 level_row v = (v.prepared.place.address, v.p)
 
 abbrev pub ahead_row : Ahead → ℕ × ℕ
-ahead_row a = (address_of a, a.row.p)
+ahead_row a = (address_ahead a, a.row.p)
 
 abbrev pair_of : ℕ → ℕ → ℕ × ℕ
 pair_of x y = (x, y)
@@ -20,7 +20,7 @@ pair_of x y = (x, y)
 same-level : (ds : List ℕ) (n tick : ℕ) (v : Level) (a : Ahead) → IsLevelOf ds n tick v a → level_row v ≡ ahead_row a
 same-level ds n tick v a is =
     let first = λ (p : Prepared). pair_of p.place.address v.p in
-    ap first is.prepared ∙ ap (pair_of (address_of a)) is.p
+    ap first is.prepared ∙ ap (pair_of (address_ahead a)) is.p
 
 pub same-levels : (ds : List ℕ) (n tick : ℕ) (vs : List Level) (xs : List Ahead) → AllZip (IsLevelOf ds n tick) vs xs
     → map level_row vs ≡ map ahead_row xs

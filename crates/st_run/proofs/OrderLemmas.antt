@@ -5,16 +5,16 @@ use Rattle.std.proofs.lemmas.Bool.{cases_Bool, ltb-true, ltb-false}
 use Rattle.st_prep.proofs.Choices.{of_choice}
 use Rattle.st_exec.specs.Step.{interrupt, rests}
 use Rattle.st_run.specs.Run.{PlainEvent, Ends, interlude, interrupts_by}
-use Rattle.st_rows.specs.Rows.{row, tick_c, after}
+use Rattle.st_rows.specs.Rows.{row_of_entry, tick_c, front_after_entry}
 use Rattle.st_run.specs.Events.{Timed, drop_of, snapshot}
-use Rattle.st_run.specs.Moments.{Moment, Standing, next_state, ends_segment, next_segment, next_front, standing, next_row, next_moment}
-use Rattle.st_run.specs.TimedRun.{at, ticks_before, ticks_from, snapshot_at, last_snapshot_at, drops, drops_if_ends, happening_at, between, completion, until_done, last_events, timed_from}
-use Rattle.st_run.specs.Order.{told_at, AreInOrder, AreRising}
+use Rattle.st_run.specs.Moments.{Moment, Standing, next_state, ends_segment, next_segment, next_front, standing_at, next_row, next_moment}
+use Rattle.st_run.specs.TimedRun.{event_at, ticks_before, snapshots_from, snapshot_at, last_snapshot_at, drops, drops_if_ends, happening_at, events_between, completion, until_done, last_events, timed_from}
+use Rattle.st_run.specs.Order.{told_at, AreEventsInOrder, AreRising}
 
 -- ---- lists of ticks
 
-order-weaker : (t u : ℕ) (xs : List Timed) → t ≤ u → AreInOrder u xs → AreInOrder t xs
-unfolding AreInOrder
+order-weaker : (t u : ℕ) (xs : List Timed) → t ≤ u → AreEventsInOrder u xs → AreEventsInOrder t xs
+unfolding AreEventsInOrder
 order-weaker t u [] le is = tt
 order-weaker t u (x ∷ xs) le is = (omega (arith, is.0), is.1)
 
@@ -26,8 +26,8 @@ rising-weaker t u (x ∷ xs) le is = (omega (arith, is.0), is.1)
 pub test-lt : (x u : ℕ) → ((nat_lt x u ≡ true) × (x < u)) ⊎ ((nat_lt x u ≡ false) × (u ≤ x))
 test-lt x u = elim (cases_Bool (nat_lt x u)) [ inl t ↦ inl (t, ltb-true x u t) | inr f ↦ inr (f, ltb-false x u f) ]
 
-rising-from : (t u : ℕ) (xs : List ℕ) → t ≤ u → AreRising t xs → AreRising u (ticks_from u xs)
-unfolding AreRising ticks_from
+rising-from : (t u : ℕ) (xs : List ℕ) → t ≤ u → AreRising t xs → AreRising u (snapshots_from u xs)
+unfolding AreRising snapshots_from
 rising-from t u [] le is = tt
 rising-from t u (x ∷ xs) le is = elim (test-lt x u) [
   | inl early ↦ rw early.0 (rising-from (x + 1) u xs (omega (arith, early.1)) is.1)
@@ -37,29 +37,29 @@ rising-from t u (x ∷ xs) le is = elim (test-lt x u) [
 -- ---- events that lead from one tick to another: in order, and whatever comes from there on in order stands behind them in order
 
 abbrev Leads : ℕ → ℕ → List Timed → Type 0
-Leads t u xs = (ys : List Timed) → AreInOrder u ys → AreInOrder t (xs ++ ys)
+Leads t u xs = (ys : List Timed) → AreEventsInOrder u ys → AreEventsInOrder t (xs ++ ys)
 
 leads-nil : (t : ℕ) → Leads t t []
 leads-nil t ys is = is
 
 leads-append : (t u v : ℕ) (xs zs : List Timed) → Leads t u xs → Leads u v zs → Leads t v (xs ++ zs)
 leads-append t u v xs zs first second ys is =
-    subst (AreInOrder t) (sym (append_assoc xs zs ys)) (first (zs ++ ys) (second ys is))
+    subst (AreEventsInOrder t) (sym (append_assoc xs zs ys)) (first (zs ++ ys) (second ys is))
 
 leads-one : (t u : ℕ) (x : Timed) → told_at x.tick x.event ≡ u → t ≤ u → Leads t u (x ∷ [])
-unfolding AreInOrder
+unfolding AreEventsInOrder
 leads-one t u x told le ys is = rw told (le, is)
 
 leads-at : {A : Type 0} (t : ℕ) (f : A → Timed) (xs : List A) → ((x : A) → told_at (f x).tick (f x).event ≡ t)
     → Leads t t (map f xs)
-unfolding AreInOrder
+unfolding AreEventsInOrder
 leads-at t f [] told ys is = is
 leads-at t f (x ∷ xs) told ys is = rw (told x) (omega arith, leads-at t f xs told ys is)
 
 -- snapshots at rising ticks, those before v
 leads-snapshots : (t u v : ℕ) (f : ℕ → Timed) (xs : List ℕ) → ((x : ℕ) → told_at (f x).tick (f x).event ≡ x)
     → t ≤ u → v ≤ u + 1 → AreRising t xs → Leads t u (map f (ticks_before v xs))
-unfolding AreInOrder AreRising ticks_before
+unfolding AreEventsInOrder AreRising ticks_before
 leads-snapshots t u v f [] told le near rising ys is = order-weaker t u ys le is
 leads-snapshots t u v f (x ∷ xs) told le near rising ys is = elim (test-lt x v) [
   | inl early ↦
@@ -74,21 +74,21 @@ leads-snapshots t u v f (x ∷ xs) told le near rising ys is = elim (test-lt x v
 module _ (m : Moment) where
   drops-lead : Leads m.tick m.tick (drops m)
   unfolding drops
-  drops-lead = leads-at m.tick (λ a. at m.tick m.scene.machine (drop_of a)) (reverse m.dropped) (λ a. refl)
+  drops-lead = leads-at m.tick (λ a. event_at m.tick m.scene.machine (drop_of a)) (reverse m.dropped) (λ a. refl)
 
   happenings-lead : (hs : List PlainEvent) → Leads m.tick m.tick (map (happening_at m) hs)
   happenings-lead hs = leads-at m.tick (happening_at m) hs (λ h. refl)
 
-  between-lead : Leads m.tick m.tick (between m)
-  unfolding between
+  between-lead : Leads m.tick m.tick (events_between m)
+  unfolding events_between
   between-lead =
       let hs = (interlude m.scene).happened ++ interrupts_by (interrupt (next_state m)) (next_state m) in
       leads-append m.tick m.tick m.tick (drops_if_ends m) (map (happening_at m) hs)
       (of_choice (λ xs. Leads m.tick m.tick xs) (ends_segment m) (drops m) [] drops-lead (leads-nil m.tick))
       (happenings-lead hs)
 
-  last-order : (snaps : List ℕ) → AreRising m.tick snaps → AreInOrder m.tick (last_events m snaps)
-  unfolding last_events AreInOrder
+  last-order : (snaps : List ℕ) → AreRising m.tick snaps → AreEventsInOrder m.tick (last_events m snaps)
+  unfolding last_events AreEventsInOrder
   last-order snaps rising =
       let came = map (happening_at m) (interlude m.scene).happened in
       let shows = map (last_snapshot_at m) (ticks_before (m.tick + 1) snaps) in
@@ -110,27 +110,27 @@ until_done-lead ds n p snaps later rising =
 -- ---- the run
 
 module _ (ds : List ℕ) (n : ℕ) where
-  pub next-later : (m : Moment) → m.front.c ≡ m.tick → m.tick ≤ (next_moment ds n (standing m)).tick
-  unfolding next_moment next_row row tick_c next_front
+  pub next-later : (m : Moment) → m.front.c ≡ m.tick → m.tick ≤ (next_moment ds n (standing_at m)).tick
+  unfolding next_moment next_row row_of_entry tick_c next_front
   next-later m same =
       let front : m.tick ≤ (next_front m).c = of_choice (λ f. m.tick ≤ f.c) (ends_segment m) (next_segment m) m.front (omega arith) (omega (arith, same)) in
       omega (arith, front)
 
   pub next-same : (p : Standing) → (next_moment ds n p).front.c ≡ (next_moment ds n p).tick
-  unfolding next_moment next_row row after
+  unfolding next_moment next_row row_of_entry front_after_entry
   next-same p = refl
 
   pub timed-order : (left : ℕ) (m : Moment) (snaps : List ℕ) → m.front.c ≡ m.tick → AreRising m.tick snaps
-      → AreInOrder m.tick (timed_from ds n left m snaps)
+      → AreEventsInOrder m.tick (timed_from ds n left m snaps)
   unfolding timed_from
   timed-order zero m snaps same rising = last-order m snaps rising
   timed-order (suc left) m snaps same rising =
-      let p = standing m in
+      let p = standing_at m in
       let next = next_moment ds n p in
       let later : m.tick ≤ next.tick = next-later m same in
-      let turn = between m ++ until_done ds n p snaps in
-      let rest = timed_from ds n left next (ticks_from next.tick snaps) in
-      of_choice (λ xs. AreInOrder m.tick xs) (rests (next_state m)) (last_events m snaps) (turn ++ rest)
+      let turn = events_between m ++ until_done ds n p snaps in
+      let rest = timed_from ds n left next (snapshots_from next.tick snaps) in
+      of_choice (λ xs. AreEventsInOrder m.tick xs) (rests (next_state m)) (last_events m snaps) (turn ++ rest)
       (last-order m snaps rising)
-      (leads-append m.tick m.tick next.tick (between m) (until_done ds n p snaps) (between-lead m) (until_done-lead ds n p snaps later rising)
-      rest (timed-order left next (ticks_from next.tick snaps) (next-same p) (rising-from m.tick next.tick snaps later rising)))
+      (leads-append m.tick m.tick next.tick (events_between m) (until_done ds n p snaps) (between-lead m) (until_done-lead ds n p snaps later rising)
+      rest (timed-order left next (snapshots_from next.tick snaps) (next-same p) (rising-from m.tick next.tick snaps later rising)))

@@ -4,10 +4,10 @@ use Rattle.st_prep.proofs.Choices.{of_choice}
 use Rattle.st_exec.proofs.BesideEntries.{beside-same}
 use Rattle.st_exec.specs.Step.{rests}
 use Rattle.st_run.specs.Run.{interlude}
-use Rattle.st_rows.specs.Rows.{opening}
+use Rattle.st_rows.specs.Rows.{opening_front}
 use Rattle.st_ahead.specs.Overlap.{Overlap, levels_of, interrupt_due}
-use Rattle.st_ahead.specs.Calls.{banks_left, ended, settled as settled_of, settled_by}
-use Rattle.st_run.specs.Together.{Together, scene_of, IsBehind, IsSince, closed_if}
+use Rattle.st_ahead.specs.Calls.{banks_left, machine_after_segment, machine_after_settling as settled_of, settled_by}
+use Rattle.st_run.specs.Together.{Together, scene_of, IsBehindEntry, IsSince, closed_if}
 use Rattle.st_run.specs.Between.{Came, IsChoice}
 use Rattle.st_run.specs.declared.turn.Turn.{Turn}
 use Rattle.st_run.specs.declared.turn.Turn.TheVariants.{Before, AtEnd, Over}
@@ -21,11 +21,11 @@ pub record HasParts (o p : Overlap) : Type 0 where
 parts-then : (o p q : Overlap) → HasParts o p → HasParts p q → HasParts o q
 parts-then o p q first second = record { delays = second.delays ∙ first.delays; levels = second.levels ∙ first.levels }
 
-ended-parts : (o : Overlap) → HasParts o (ended o)
-unfolding ended
+ended-parts : (o : Overlap) → HasParts o (machine_after_segment o)
+unfolding machine_after_segment
 ended-parts o =
     of_choice (λ (q : Overlap). HasParts o q) o.ended o
-    (record o { front = opening (banks_left o.closing) (o.now + 1 + length (levels_of o)); ended = true })
+    (record o { front = opening_front (banks_left o.closing) (o.now + 1 + length (levels_of o)); ended = true })
     (record { delays = refl; levels = refl }) (record { delays = refl; levels = refl })
 
 settled-parts : (due : Option ℕ) (waits : Bool) (behind : Option ℕ) (o : Overlap) → HasParts o (settled_by due waits behind o)
@@ -46,7 +46,7 @@ closed-parts : (over : Bool) (o : Overlap) → HasParts o (closed_if over o)
 closed-parts true o = ended-parts o
 closed-parts false o = record { delays = refl; levels = refl }
 
-pub left-parts : (b t n : Together) (text : Option (List ℕ)) (over : Bool) (left : ℕ) (d : Decided) → IsBehind b
+pub left-parts : (b t n : Together) (text : Option (List ℕ)) (over : Bool) (left : ℕ) (d : Decided) → IsBehindEntry b
     → Came (interlude (scene_of b)) text false over b t → IsChoice d.turn left over t.machine d n.machine → HasParts b.machine n.machine
 left-parts b t n text over left d is came choice =
     let since : IsSince b.machine over t = came.since b is (record { machine = refl; alike = λ open_still. beside-same b.machine.state }) in

@@ -8,17 +8,17 @@ use Rattle.st_state.specs.Orders.{is_due}
 use Rattle.st_exec.specs.Step.{rests}
 use Rattle.st_card.specs.declared.control_cards.Signal.{Signal}
 use Rattle.st_ahead.specs.Overlap.{Overlap, oldest_row, interrupt_due}
-use Rattle.st_ahead.specs.Calls.{is_done, row_done, completed, ticked, passed, settled, answer, answer_by}
+use Rattle.st_ahead.specs.Calls.{is_done, row_done, machine_after_completion, machine_after_tick, machine_after_pass, machine_after_settling, answer, answer_by}
 use Rattle.st_ahead.specs.RunTo.{after_ticks, may_come, IsPassed, ArePassed, StopsAt, RunsTo}
 use Rattle.st_ahead.specs.declared.events.Row.{Row}
 use Rattle.st_ahead.specs.declared.events.Settled.TheVariants.{Goes}
 use Rattle.st_run.specs.Moments.{Moment, next_moment}
 use Rattle.st_run.specs.TimedRun.{timed_from, timed_behind}
 use Rattle.st_run.specs.Order.{AreRising}
-use Rattle.st_run.specs.Told.{Done, Told, told}
+use Rattle.st_run.specs.Told.{Done, Told, told_of_events}
 use Rattle.st_run.specs.Between.{IsQuiet, signal_due}
 use Rattle.st_run.specs.Leaving.{IsDecided, nothing_decided}
-use Rattle.st_run.specs.Together.{Together, IsBefore, scene_of, standing_of, moment_of, at_tick}
+use Rattle.st_run.specs.Together.{Together, IsBeforeEntry, scene_of, standing_of, moment_of, at_tick}
 use Rattle.st_run.specs.Telling.{Waiting, whats, IsDone, AreLeftOut, IsLeft, IsRun, AreInTime, rest_of}
 use Rattle.st_run.specs.Ticking.{AreMade, AreMadeUpTo, at_completion, last_for}
 use Rattle.st_run.specs.declared.turn.Turn.TheVariants as turns
@@ -33,7 +33,7 @@ use Rattle.st_run.proofs.GoLemmas.{tick-before, go-leaves, go-tells}
 
 -- what is still to be told before the next entry
 abbrev rest_told : ℕ → ℕ → Together → List Told
-rest_told left tick t = told (timed_behind t.machine.delays t.machine.levels left (standing_of tick t) [])
+rest_told left tick t = told_of_events (timed_behind t.machine.delays t.machine.levels left (standing_of tick t) [])
 
 -- a row as it is told
 abbrev pub told_row : Row → Told
@@ -76,7 +76,7 @@ pub record PassedTo (left tick k : ℕ) (t : Together) (new : Overlap) : Type 0 
   pub left_now : ℕ
   pub tick_now : ℕ
   pub are : All (λ x. IsDone x.what) rows
-  pub before : IsBefore (record t { machine = new })
+  pub before : IsBeforeEntry (record t { machine = new })
   pub in_time : AreInTime (rest_told left_now tick_now (record t { machine = new }))
   pub tells : rest_told left tick t ≡ rows ++ rest_told left_now tick_now (record t { machine = new })
   pub number : left_now + new.state.done ≡ left + t.machine.state.done
@@ -84,7 +84,7 @@ pub record PassedTo (left tick k : ℕ) (t : Together) (new : Overlap) : Type 0 
   pub now : new.now ≡ t.machine.now + k
 
 -- the entry is done at this tick
-module _ (left tick : ℕ) (t : Together) (before : IsBefore t) (in_time : AreInTime (rest_told left tick t)) (due : is_done t.machine ≡ true) where
+module _ (left tick : ℕ) (t : Together) (before : IsBeforeEntry t) (in_time : AreInTime (rest_told left tick t)) (due : is_done t.machine ≡ true) where
   abbrev o : Overlap
   o = t.machine
 
@@ -92,10 +92,10 @@ module _ (left tick : ℕ) (t : Together) (before : IsBefore t) (in_time : AreIn
   at_end = ap {A = ℕ} (λ k. record o { now = k }) (tick-done o o o.now refl due)
 
   abbrev behind : Together
-  behind = record t { machine = completed (at_completion o) }
+  behind = record t { machine = machine_after_completion (at_completion o) }
 
-  ticked-is : ticked o ≡ completed (at_completion o)
-  ticked-is = done-completed o o o.now refl due ∙ ap {A = Overlap} completed at_end
+  ticked-is : machine_after_tick o ≡ machine_after_completion (at_completion o)
+  ticked-is = done-completed o o o.now refl due ∙ ap {A = Overlap} machine_after_completion at_end
 
   made : AreMade (Some (row_done o)) None t behind
   made = record { ticked = (tt, refl, ap {A = Overlap} row_done at_end); kept = refl }
@@ -104,23 +104,23 @@ module _ (left tick : ℕ) (t : Together) (before : IsBefore t) (in_time : AreIn
   one-left =
       go-leaves left tick [] t behind before (rising-none (o.now - 1)) in_time (row_done o) None refl made
 
-  pub one-told : (rest : List Told) → told (timed_from behind.machine.delays behind.machine.levels left (moment_of behind) []) ≡ rest
+  pub one-told : (rest : List Told) → told_of_events (timed_from behind.machine.delays behind.machine.levels left (moment_of behind) []) ≡ rest
       → rest_told left tick t ≡ told_row (row_done o) ∷ rest
-  unfolding completed
+  unfolding machine_after_completion
   one-told rest same =
       go-tells left tick [] t behind before (rising-none (o.now - 1)) in_time (row_done o) None refl made rest same
 
-  one-done : (completed (at_completion o)).state.done ≡ o.state.done + 1
+  one-done : (machine_after_completion (at_completion o)).state.done ≡ o.state.done + 1
   one-done = ap {A = Moment} (λ m. m.scene.machine.done) (moment-next t tick before) ∙ next-done left tick [] t before in_time
 
   -- and passed
   module _ (count : ℕ) (passes : IsPassed count o) (few : count ≤ o.state.done + left + 1)
       (signals : (d : ℕ) → d < count → signal_due d t.signals ≡ false) where
     abbrev m : Overlap
-    m = completed (at_completion o)
+    m = machine_after_completion (at_completion o)
 
     abbrev next : Together
-    next = record t { machine = settled (ticked o) }
+    next = record t { machine = machine_after_settling (machine_after_tick o) }
 
     none : may_come count m ≡ false
     none = subst {A = Overlap} (λ x. may_come count x ≡ false) ticked-is (passes.nothing due)
@@ -136,15 +136,15 @@ module _ (left tick : ℕ) (t : Together) (before : IsBefore t) (in_time : AreIn
     some : left ≢ 0
     some zero_left = omega (arith, zero_left, below, few, one-done)
 
-    after : settled (ticked o) ≡ passed m
-    after = ap {A = Overlap} settled ticked-is ∙ sym (quiet-settled m quiet)
+    after : machine_after_settling (machine_after_tick o) ≡ machine_after_pass m
+    after = ap {A = Overlap} machine_after_settling ticked-is ∙ sym (quiet-settled m quiet)
 
     decided : IsDecided left (moment_of behind) nothing_decided next
     decided =
-        passed-decided left behind m (settled (ticked o)) t.signals t.cards refl one-left.behind some (signals m.state.done below) quiet after
+        passed-decided left behind m (machine_after_settling (machine_after_tick o)) t.signals t.cards refl one-left.behind some (signals m.state.done below) quiet after
 
-    parts : HasParts m (settled (ticked o))
-    parts = passed-parts left behind m (settled (ticked o)) t.signals t.cards refl one-left.behind some (signals m.state.done below) quiet after
+    parts : HasParts m (machine_after_settling (machine_after_tick o))
+    parts = passed-parts left behind m (machine_after_settling (machine_after_tick o)) t.signals t.cards refl one-left.behind some (signals m.state.done below) quiet after
 
     keeps : IsRun turns.Before (left - 1) (row_done o).c [] (waits [] None None) next
     keeps = left-keeps left (row_done o).c [] behind next nothing_decided [] one-left decided parts.delays parts.levels refl
@@ -155,10 +155,10 @@ module _ (left tick : ℕ) (t : Together) (before : IsBefore t) (in_time : AreIn
     some-left : 1 ≤ left
     some-left = omega (arith, below, few, one-done)
 
-    now-is : (settled (ticked o)).now ≡ o.now + 1
+    now-is : (machine_after_settling (machine_after_tick o)).now ≡ o.now + 1
     now-is = let g = decided.way.2 in g.now ∙ ap {A = ℕ} (λ k. k + 1) (sym one-left.tick_is)
 
-    pub one-passed : PassedTo left tick 1 t (settled (ticked o))
+    pub one-passed : PassedTo left tick 1 t (machine_after_settling (machine_after_tick o))
     one-passed = record {
       rows = told_row (row_done o) ∷ [];
       left_now = left - 1;
@@ -175,11 +175,11 @@ module _ (left tick : ℕ) (t : Together) (before : IsBefore t) (in_time : AreIn
     }
 
 -- a tick
-pub tick-passed : (count left tick : ℕ) (t : Together) → IsBefore t → AreInTime (rest_told left tick t) → count ≤ t.machine.state.done + left + 1
-    → ((d : ℕ) → d < count → signal_due d t.signals ≡ false) → IsPassed count t.machine → PassedTo left tick 1 t (settled (ticked t.machine))
+pub tick-passed : (count left tick : ℕ) (t : Together) → IsBeforeEntry t → AreInTime (rest_told left tick t) → count ≤ t.machine.state.done + left + 1
+    → ((d : ℕ) → d < count → signal_due d t.signals ≡ false) → IsPassed count t.machine → PassedTo left tick 1 t (machine_after_settling (machine_after_tick t.machine))
 tick-passed count left tick t before in_time few signals passes = by (is_done t.machine) refl
   where
-    by : (b : Bool) → is_done t.machine ≡ b → PassedTo left tick 1 t (settled (ticked t.machine))
+    by : (b : Bool) → is_done t.machine ≡ b → PassedTo left tick 1 t (machine_after_settling (machine_after_tick t.machine))
     by true due = one-passed left tick t before in_time due count passes few signals
     by false late =
         let o = t.machine in
@@ -198,7 +198,7 @@ tick-passed count left tick t before in_time few signals passes = by (is_done t.
         })
 
 -- so many ticks
-pub all-passed : (k count left tick : ℕ) (t : Together) (new : Overlap) → IsBefore t → AreInTime (rest_told left tick t)
+pub all-passed : (k count left tick : ℕ) (t : Together) (new : Overlap) → IsBeforeEntry t → AreInTime (rest_told left tick t)
     → count ≤ t.machine.state.done + left + 1 → ((d : ℕ) → d < count → signal_due d t.signals ≡ false)
     → ArePassed count k t.machine new → PassedTo left tick k t new
 unfolding after_ticks
@@ -217,7 +217,7 @@ all-passed zero count left tick t new before in_time few signals are =
     })
 all-passed (suc k) count left tick t new before in_time few signals are =
     let first = tick-passed count left tick t before in_time few signals (are.each 0 (omega arith)) in
-    let next : Together = record t { machine = settled (ticked t.machine) } in
+    let next : Together = record t { machine = machine_after_settling (machine_after_tick t.machine) } in
     let more : ArePassed count k next.machine new = record { each = λ i early. are.each (suc i) (omega (arith, early)); after = are.after } in
     let rest = all-passed k count first.left_now first.tick_now next new first.before first.in_time (omega (arith, few, first.number)) signals more in
     record {
@@ -244,17 +244,17 @@ pub record PassedUpTo (left tick : ℕ) (t new : Together) (row : Row) : Type 0 
   pub number : left_now + row.number ≡ left + t.machine.state.done + 1
   pub more : t.machine.state.done + 1 ≤ row.number
   pub leaves : IsLeft left_now [] row.c new
-  pub tells : (rest : List Told) → told (timed_from new.machine.delays new.machine.levels left_now (moment_of new) []) ≡ rest
+  pub tells : (rest : List Told) → told_of_events (timed_from new.machine.delays new.machine.levels left_now (moment_of new) []) ≡ rest
       → rest_told left tick t ≡ rows ++ told_row row ∷ rest
 
-module _ (count left tick : ℕ) (t new : Together) (before : IsBefore t) (in_time : AreInTime (rest_told left tick t))
+module _ (count left tick : ℕ) (t new : Together) (before : IsBeforeEntry t) (in_time : AreInTime (rest_told left tick t))
     (few : count ≤ t.machine.state.done + left + 1) (signals : (d : ℕ) → d < count → signal_due d t.signals ≡ false) where
   pub passed-row : (row : Row) → AreMadeUpTo count (Some row) t new → PassedUpTo left tick t new row
   passed-row row made =
       let stop = made.ticked in
       let all = all-passed stop.ticks count left tick t stop.before before in_time few signals stop.passed in
       let here : Together = record t { machine = stop.before } in
-      let behind : Together = record t { machine = completed (at_completion stop.before) } in
+      let behind : Together = record t { machine = machine_after_completion (at_completion stop.before) } in
       let is : new ≡ behind =
       made.kept ∙ ap {A = Overlap} (λ m. record t { machine = m }) (stop.after ∙ ticked-is all.left_now all.tick_now here all.before all.in_time stop.done) in
       let row_is : row ≡ row_done stop.before = stop.row_is in
@@ -272,7 +272,7 @@ module _ (count left tick : ℕ) (t new : Together) (before : IsBefore t) (in_ti
             all.tells
             ∙ ap {A = List Told} (λ xs. all.rows ++ xs)
             (one-told all.left_now all.tick_now here all.before all.in_time stop.done rest
-            (ap {A = Together} (λ u. told (timed_from u.machine.delays u.machine.levels all.left_now (moment_of u) [])) (sym is) ∙ same)
+            (ap {A = Together} (λ u. told_of_events (timed_from u.machine.delays u.machine.levels all.left_now (moment_of u) [])) (sym is) ∙ same)
             ∙ ap {A = Row} (λ r. told_row r ∷ rest) (sym row_is));
       }
 
@@ -288,7 +288,7 @@ module _ (count left tick : ℕ) (t new : Together) (before : IsBefore t) (in_ti
 -- ---- of a run where nothing waits and no snapshot is to come
 
 pub record AreAhead (left tick : ℕ) (t : Together) : Type 0 where
-  pub before : IsBefore t
+  pub before : IsBeforeEntry t
   pub in_time : AreInTime (rest_told left tick t)
 
 pub ahead-is : (left tick : ℕ) (snaps : List ℕ) (w : Waiting) (t : Together) → IsRun turns.Before left tick snaps w t
@@ -296,7 +296,7 @@ pub ahead-is : (left tick : ℕ) (snaps : List ℕ) (w : Waiting) (t : Together)
 ahead-is left tick snaps w t is quiet none = record {
   before = is.stands.0;
   in_time =
-      subst {A = List ℕ} (λ xs. AreInTime (told (timed_behind t.machine.delays t.machine.levels left (standing_of tick t) xs))) none
+      subst {A = List ℕ} (λ xs. AreInTime (told_of_events (timed_behind t.machine.delays t.machine.levels left (standing_of tick t) xs))) none
       (subst {A = List Told} AreInTime (rest-quiet turns.Before left tick snaps w t quiet) is.in_time);
 }
 
@@ -315,16 +315,16 @@ module _ (left tick : ℕ) (snaps : List ℕ) (t new : Together) (row : Row) (fa
       subst {A = List ℕ} (λ xs. IsLeft k xs row.c new) (sym none) (subst {A = ℕ} (λ x. IsLeft x [] row.c new) same far.leaves)
 
   pub far-told : (rest : List Told)
-      → told (timed_from new.machine.delays new.machine.levels k (moment_of new) snaps) ≡ rest
+      → told_of_events (timed_from new.machine.delays new.machine.levels k (moment_of new) snaps) ≡ rest
       → AreLeftOut (told_row row)
-      (told (timed_behind t.machine.delays t.machine.levels left (standing_of tick t) snaps)) rest
+      (told_of_events (timed_behind t.machine.delays t.machine.levels left (standing_of tick t) snaps)) rest
   far-told rest tells = record {
     rows = far.rows;
     are = far.are;
     is = tt;
     rest =
-        ap {A = List ℕ} (λ xs. told (timed_behind t.machine.delays t.machine.levels left (standing_of tick t) xs)) none
+        ap {A = List ℕ} (λ xs. told_of_events (timed_behind t.machine.delays t.machine.levels left (standing_of tick t) xs)) none
         ∙ far.tells rest
-        (ap {A = ℕ} (λ x. told (timed_from new.machine.delays new.machine.levels x (moment_of new) [])) same
-        ∙ ap {A = List ℕ} (λ xs. told (timed_from new.machine.delays new.machine.levels k (moment_of new) xs)) (sym none) ∙ tells);
+        (ap {A = ℕ} (λ x. told_of_events (timed_from new.machine.delays new.machine.levels x (moment_of new) [])) same
+        ∙ ap {A = List ℕ} (λ xs. told_of_events (timed_from new.machine.delays new.machine.levels k (moment_of new) xs)) (sym none) ∙ tells);
   }

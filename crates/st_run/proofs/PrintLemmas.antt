@@ -1,7 +1,7 @@
 -- What comes between two steps is one print at most: the printer has one order at most, and gets none there.
 use Rattle.std.proofs.Common.{◌≡◌, ℕ, ◌+◌, ◌≤◌, List, [], ◌∷◌, length, length-append, nat_le, Option, None, Some, refl, ap, arith}
-use Rattle.st_state.specs.Machine.{Machine, stored}
-use Rattle.st_state.specs.Interrupts.{signalled}
+use Rattle.st_state.specs.Machine.{Machine, state_with_store}
+use Rattle.st_state.specs.Interrupts.{state_with_signal}
 use Rattle.st_state.specs.Orders.{is_due, next_device}
 use Rattle.st_state.specs.declared.devices.Order.{Order}
 use Rattle.st_state.specs.declared.devices.Device.{Device}
@@ -31,19 +31,19 @@ record PrintsWithin (c : Scene) (r : Transition) : Type 0 where
 due-printer : (m : Machine) (xs : List Signal) (cards : List (List ℕ)) → (with_due_signals m xs cards).machine.printer ≡ m.printer
 due-printer m [] cards = refl
 due-printer m (x ∷ xs) cards =
-    of_choice (λ c. c.machine.printer ≡ m.printer) (nat_le x.count m.done) (with_due_signals (signalled m x.indicator) xs cards) _
-    (due-printer (signalled m x.indicator) xs cards) refl
+    of_choice (λ c. c.machine.printer ≡ m.printer) (nat_le x.count m.done) (with_due_signals (state_with_signal m x.indicator) xs cards) _
+    (due-printer (state_with_signal m x.indicator) xs cards) refl
 
 rest-printer : (m : Machine) (xs : List Signal) (cards : List (List ℕ)) → (with_signals_at_rest m xs cards).machine.printer ≡ m.printer
 rest-printer m [] cards = refl
 rest-printer m (x ∷ xs) cards =
-    of_choice (λ c. c.machine.printer ≡ m.printer) (rests m) (with_signals_at_rest (signalled m x.indicator) xs cards) _
-    (rest-printer (signalled m x.indicator) xs cards) refl
+    of_choice (λ c. c.machine.printer ≡ m.printer) (rests m) (with_signals_at_rest (state_with_signal m x.indicator) xs cards) _
+    (rest-printer (state_with_signal m x.indicator) xs cards) refl
 
 stored-printer : (m : Machine) (w : ℕ) (xs : List ℕ) → (all_stored m w xs).printer ≡ m.printer
 unfolding all_stored
 stored-printer m w [] = refl
-stored-printer m w (x ∷ xs) = stored-printer (stored m w x) (w + 1) xs
+stored-printer m w (x ∷ xs) = stored-printer (state_with_store m w x) (w + 1) xs
 
 read-printer : (m : Machine) (w : ℕ) (card : Option (List ℕ)) → (read_in m w card).printer ≡ m.printer
 read-printer m w None = refl

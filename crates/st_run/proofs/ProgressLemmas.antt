@@ -10,15 +10,15 @@ use Rattle.st_run.specs.Run.{Scene}
 use Rattle.st_rows.specs.declared.front.Front.{Front}
 use Rattle.st_segment.specs.Ahead.{Ahead, prepared_before}
 use Rattle.st_segment.specs.Guesses.{split_words}
-use Rattle.st_ahead.specs.Overlap.{Overlap, seen, oldest_row, levels_of, with_counter, last_tick}
-use Rattle.st_ahead.specs.Shown.{index_of}
+use Rattle.st_ahead.specs.Overlap.{Overlap, state_ahead, oldest_row, levels_of, with_counter, last_tick_made}
+use Rattle.st_ahead.specs.Shown.{lent_index_words}
 use Rattle.st_run.specs.Events.{Level, snapshot, level_at, with_index_words}
-use Rattle.st_run.specs.Moments.{next_row, entries_ahead, next_moment}
+use Rattle.st_run.specs.Moments.{next_row, entries_at_moment, next_moment}
 use Rattle.st_run.specs.TimedRun.{ticks_before, snapshot_at, timed_behind}
 use Rattle.st_run.specs.Order.{AreRising}
-use Rattle.st_run.specs.Told.{What, Dropped, Interrupted, Shown, Ended, Told, told_of, told}
-use Rattle.st_run.specs.Together.{Together, scene_of, IsBefore, standing_of, text_told}
-use Rattle.st_run.specs.Telling.{Waiting, taken_told, whats, at_once, told_at_end, rest_of, rest_by, seen_of, ahead_of, IsRun, AreInTime, IsShown, first_tick}
+use Rattle.st_run.specs.Told.{What, Dropped, Interrupted, Shown, Ended, Told, told_of, told_of_events}
+use Rattle.st_run.specs.Together.{Together, scene_of, IsBeforeEntry, standing_of, text_told}
+use Rattle.st_run.specs.Telling.{Waiting, taken_told, whats, at_once, told_at_end, rest_of, rest_by, state_told, ahead_of, IsRun, AreInTime, IsShown, snapshot_tick}
 use Rattle.st_run.specs.declared.turn.Turn.{Turn}
 use Rattle.st_run.specs.declared.turn.Turn.TheVariants as turns
 use Rattle.st_run.proofs.Turns.{behind-snapshot, same-words}
@@ -64,34 +64,34 @@ index-seen true h s = refl
 index-seen false None s = refl
 index-seen false (Some h) s = refl
 
-pub seen-none : (o : Overlap) → levels_of o ≡ [] → seen_of o ≡ o.state
-unfolding index_of split_words seen
+pub seen-none : (o : Overlap) → levels_of o ≡ [] → state_told o ≡ o.state
+unfolding lent_index_words split_words state_ahead
 seen-none o none =
-    ap (λ (xs : List Ahead). with_index_words (split_words (length xs) o.taken (seen o)) o.state) none
+    ap (λ (xs : List Ahead). with_index_words (split_words (length xs) o.taken (state_ahead o)) o.state) none
     ∙ ap (λ (xs : List ℕ). with_index_words xs o.state) (index-seen o.ended o.behind o.state)
     ∙ same-words o.state
 
 pub ahead-none : (o : Overlap) → levels_of o ≡ [] → ahead_of o ≡ []
-ahead-none o none = ap (map (level_at (last_tick o))) none
+ahead-none o none = ap (map (level_at (last_tick_made o))) none
 
 -- ---- a snapshot before the next entry
 
 shown-still : (ds : List ℕ) (n : ℕ) (c : Scene) (f : Front) (tick x : ℕ)
     → told_of (snapshot_at ds n (record { scene = c; tick = tick; front = f }) x)
     ≡ once c.machine.done tick
-    (Shown x (seen_of (still ds n c.machine f (x + 1))) (ahead_of (still ds n c.machine f (x + 1))))
-unfolding snapshot index_of levels_of seen
+    (Shown x (state_told (still ds n c.machine f (x + 1))) (ahead_of (still ds n c.machine f (x + 1))))
+unfolding snapshot lent_index_words levels_of state_ahead
 shown-still ds n c f tick x =
     let same : x ≡ x + 1 - 1 = omega arith in
-    let levels = prepared_before (x + 1) (entries_ahead ds n (record { scene = c; tick = tick; front = f })) in
+    let levels = prepared_before (x + 1) (entries_at_moment ds n (record { scene = c; tick = tick; front = f })) in
     ap (λ (k : ℕ). once c.machine.done tick
     (Shown x (with_index_words (split_words (length levels) (interrupt c.machine) c.machine) c.machine) (map (level_at k) levels))) same
 
-pub show-told : (left tick x : ℕ) (xs : List ℕ) (t : Together) → IsBefore t → t.machine.now ≡ x + 1
-    → told (timed_behind t.machine.delays t.machine.levels left (standing_of tick t) (x ∷ xs))
-    ≡ at_once tick t.machine.state (Shown x (seen_of t.machine) (ahead_of t.machine))
-    ∷ told (timed_behind t.machine.delays t.machine.levels left (standing_of tick t) xs)
-unfolding told next_moment
+pub show-told : (left tick x : ℕ) (xs : List ℕ) (t : Together) → IsBeforeEntry t → t.machine.now ≡ x + 1
+    → told_of_events (timed_behind t.machine.delays t.machine.levels left (standing_of tick t) (x ∷ xs))
+    ≡ at_once tick t.machine.state (Shown x (state_told t.machine) (ahead_of t.machine))
+    ∷ told_of_events (timed_behind t.machine.delays t.machine.levels left (standing_of tick t) xs)
+unfolding told_of_events next_moment
 show-told left tick x xs t h now =
     let o = t.machine in
     let ds = o.delays in
@@ -101,10 +101,10 @@ show-told left tick x xs t h now =
     let early : x < (next_moment ds n p).tick = omega (arith, h.early, now, ap (λ r. r.c) row) in
     let machine : o ≡ still ds n o.state o.front (x + 1) =
     ready-still o (ready-before t h) ∙ ap {A = ℕ} (λ k. still ds n o.state o.front k) now in
-    ap told (behind-snapshot ds n left p x xs early)
-    ∙ ap (λ (y : Told). y ∷ told (timed_behind ds n left p xs))
+    ap told_of_events (behind-snapshot ds n left p x xs early)
+    ∙ ap (λ (y : Told). y ∷ told_of_events (timed_behind ds n left p xs))
     (shown-still ds n (scene_of t) o.front tick x
-    ∙ ap {A = Overlap} (λ q. once o.state.done tick (Shown x (seen_of q) (ahead_of q))) (sym machine))
+    ∙ ap {A = Overlap} (λ q. once o.state.done tick (Shown x (state_told q) (ahead_of q))) (sym machine))
 
 rising-same : (x now : ℕ) (xs : List ℕ) → now ≡ x + 1 → AreRising (x + 1) xs → AreRising (now - 1) xs
 unfolding AreRising
@@ -117,13 +117,13 @@ module _ (left tick x : ℕ) (xs snaps : List ℕ) (w : Waiting) (t : Together) 
   shown_first : IsShown left tick (x ∷ xs) t
   shown_first = subst {A = List ℕ} (λ k. IsShown left tick k t) first shown
 
-  pub show-tells : told (timed_behind t.machine.delays t.machine.levels left (standing_of tick t) snaps)
-      ≡ at_once tick t.machine.state (Shown x (seen_of t.machine) (ahead_of t.machine)) ∷ rest_of turn left tick xs w t
+  pub show-tells : told_of_events (timed_behind t.machine.delays t.machine.levels left (standing_of tick t) snaps)
+      ≡ at_once tick t.machine.state (Shown x (state_told t.machine) (ahead_of t.machine)) ∷ rest_of turn left tick xs w t
   show-tells =
       let p = standing_of tick t in
-      ap {A = List ℕ} (λ k. told (timed_behind t.machine.delays t.machine.levels left p k)) first
+      ap {A = List ℕ} (λ k. told_of_events (timed_behind t.machine.delays t.machine.levels left p k)) first
       ∙ show-told left tick x xs t shown_first.before shown_first.first.0
-      ∙ ap {A = List Told} (λ rest. at_once tick t.machine.state (Shown x (seen_of t.machine) (ahead_of t.machine)) ∷ rest)
+      ∙ ap {A = List Told} (λ rest. at_once tick t.machine.state (Shown x (state_told t.machine) (ahead_of t.machine)) ∷ rest)
       (sym (rest-quiet turns.Before left tick xs w t quiet)
       ∙ ap {A = Turn} (λ k. rest_of k left tick xs w t) (sym before))
 
@@ -147,7 +147,7 @@ due-first : (rests : Bool) (tick x : ℕ) (xs : List ℕ) (s : Machine) → x �
 unfolding told_at_end ticks_before
 due-first rests tick x xs s due = let soon : x < tick + 1 = omega arith in rw (lt-ltb x (tick + 1) soon) refl
 
-due-none : (rests : Bool) (tick : ℕ) (snaps : List ℕ) (s : Machine) → IfSome (first_tick snaps) (λ x. tick < x)
+due-none : (rests : Bool) (tick : ℕ) (snaps : List ℕ) (s : Machine) → IfSome (snapshot_tick snaps) (λ x. tick < x)
     → told_at_end rests tick snaps s ≡ at_once tick s (Ended rests s) ∷ []
 unfolding told_at_end ticks_before
 due-none rests tick [] s late = refl
@@ -158,13 +158,13 @@ module _ (rests : Bool) (left tick : ℕ) (snaps : List ℕ) (w : Waiting) (t : 
   abbrev state : Machine
   state = t.machine.state
 
-  pub end-tells : IfSome (first_tick snaps) (λ x. tick < x)
+  pub end-tells : IfSome (snapshot_tick snaps) (λ x. tick < x)
       → told_at_end rests tick snaps state
-      ≡ at_once tick state (Ended rests (seen_of t.machine)) ∷ rest_of turns.Over left tick snaps w t
+      ≡ at_once tick state (Ended rests (state_told t.machine)) ∷ rest_of turns.Over left tick snaps w t
   end-tells late =
       due-none rests tick snaps state late
       ∙ ap {A = Machine} (λ s. at_once tick state (Ended rests s) ∷ []) (sym (seen-none t.machine none))
-      ∙ ap {A = List Told} (λ rest. at_once tick state (Ended rests (seen_of t.machine)) ∷ rest)
+      ∙ ap {A = List Told} (λ rest. at_once tick state (Ended rests (state_told t.machine)) ∷ rest)
       (sym (rest-quiet turns.Over left tick snaps w t quiet))
 
   pub end-keeps : IsRun turns.Over left tick snaps w t
@@ -176,14 +176,14 @@ module _ (rests : Bool) (left tick : ℕ) (snaps : List ℕ) (w : Waiting) (t : 
 
   module _ (x : ℕ) (xs : List ℕ) (turn : Turn) (first : snaps ≡ x ∷ xs) (due : x ≤ tick) (at_end : turn ≡ turns.AtEnd rests) where
     pub last-tells : told_at_end rests tick snaps state
-        ≡ at_once tick state (Shown x (seen_of t.machine) (ahead_of t.machine)) ∷ rest_of turn left tick xs w t
+        ≡ at_once tick state (Shown x (state_told t.machine) (ahead_of t.machine)) ∷ rest_of turn left tick xs w t
     last-tells =
         ap {A = List ℕ} (λ k. told_at_end rests tick k state) first
         ∙ due-first rests tick x xs state due
         ∙ ap {A = Machine} (λ s. at_once tick state (Shown x s []) ∷ told_at_end rests tick xs state) (sym (seen-none t.machine none))
-        ∙ ap {A = List Level} (λ ls. at_once tick state (Shown x (seen_of t.machine) ls) ∷ told_at_end rests tick xs state)
+        ∙ ap {A = List Level} (λ ls. at_once tick state (Shown x (state_told t.machine) ls) ∷ told_at_end rests tick xs state)
         (sym (ahead-none t.machine none))
-        ∙ ap {A = List Told} (λ rest. at_once tick state (Shown x (seen_of t.machine) (ahead_of t.machine)) ∷ rest)
+        ∙ ap {A = List Told} (λ rest. at_once tick state (Shown x (state_told t.machine) (ahead_of t.machine)) ∷ rest)
         (sym (rest-quiet (turns.AtEnd rests) left tick xs w t quiet)
         ∙ ap {A = Turn} (λ k. rest_of k left tick xs w t) (sym at_end))
 

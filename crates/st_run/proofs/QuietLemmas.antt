@@ -5,10 +5,10 @@ use Rattle.std.proofs.lemmas.Bool.{le-ltb}
 use Rattle.st_state.specs.Machine.{Machine}
 use Rattle.st_state.specs.Orders.{is_due}
 use Rattle.st_ahead.specs.Overlap.{Overlap, interrupt_due}
-use Rattle.st_ahead.specs.Calls.{settled as settled_of, passed}
+use Rattle.st_ahead.specs.Calls.{machine_after_settling as settled_of, machine_after_pass}
 use Rattle.st_card.specs.declared.control_cards.Signal.{Signal}
 use Rattle.st_run.specs.Run.{Scene, with_due_signals, with_due_orders, interlude, uneventful}
-use Rattle.st_run.specs.Together.{Together, scene_of, moment_of, with_scene, IsBehind}
+use Rattle.st_run.specs.Together.{Together, scene_of, moment_of, with_scene, IsBehindEntry}
 use Rattle.st_run.specs.Between.{Came, IsChoice, IsQuiet, signal_due}
 use Rattle.st_run.specs.Leaving.{IsDecided, nothing_decided}
 use Rattle.st_run.specs.Telling.{Waiting, whats, rest_of, IsRun, AreInTime}
@@ -67,7 +67,7 @@ quiet-due m quiet = still-due (is_some m.behind) (interrupt_due m) quiet.open_st
 pub quiet-right : (m : Overlap) → IsQuiet m → m.behind ≡ None
 quiet-right m quiet = still-right m.behind (interrupt_due m) quiet.open_still
 
-pub quiet-settled : (m : Overlap) → IsQuiet m → passed m ≡ settled_of m
+pub quiet-settled : (m : Overlap) → IsQuiet m → machine_after_pass m ≡ settled_of m
 quiet-settled m quiet = still-settled m (quiet-due m quiet) quiet.awake (quiet-right m quiet)
 
 same-count : (n : ℕ) → false ≡ nat_lt n n
@@ -75,7 +75,7 @@ same-count n = sym (le-ltb n n (omega arith))
 
 -- ---- the decision
 
-module _ (left : ℕ) (b n : Together) (is : IsBehind b) (some : left ≢ 0) (signals : signal_due b.machine.state.done b.signals ≡ false)
+module _ (left : ℕ) (b n : Together) (is : IsBehindEntry b) (some : left ≢ 0) (signals : signal_due b.machine.state.done b.signals ≡ false)
     (quiet : IsQuiet b.machine) (rest : n ≡ record b { machine = n.machine }) (after : n.machine ≡ settled_of b.machine) where
   came : Came (interlude (scene_of b)) None false false b b
   came = settled-going b b b None false (no-signal b signals) (no-text b quiet) quiet.awake
@@ -100,7 +100,7 @@ module _ (left : ℕ) (b n : Together) (is : IsBehind b) (some : left ≢ 0) (si
 
 -- the same of the parts of a machine with what is to come to it
 module _ (left : ℕ) (old : Together) (m k : Overlap) (xs : List Signal) (cards : List (List ℕ)) (view : record { machine = m; signals = xs; cards = cards } ≡ old)
-    (is : IsBehind old) (some : left ≢ 0) (signals : signal_due m.state.done xs ≡ false) (quiet : IsQuiet m) (after : k ≡ passed m) where
+    (is : IsBehindEntry old) (some : left ≢ 0) (signals : signal_due m.state.done xs ≡ false) (quiet : IsQuiet m) (after : k ≡ machine_after_pass m) where
   abbrev settles : k ≡ settled_of m
   settles = after ∙ quiet-settled m quiet
 
@@ -113,12 +113,12 @@ module _ (left : ℕ) (old : Together) (m k : Overlap) (xs : List Signal) (cards
   pub passed-decided : IsDecided left (moment_of old) nothing_decided n
   passed-decided =
       subst {A = Together} (λ t. IsDecided left (moment_of t) nothing_decided n) view
-      (quiet-decided left b n (subst {A = Together} IsBehind (sym view) is) some signals quiet refl settles)
+      (quiet-decided left b n (subst {A = Together} IsBehindEntry (sym view) is) some signals quiet refl settles)
 
   pub passed-parts : HasParts old.machine k
   passed-parts =
       subst {A = Together} (λ t. HasParts t.machine k) view
-      (quiet-parts left b n (subst {A = Together} IsBehind (sym view) is) some signals quiet refl settles)
+      (quiet-parts left b n (subst {A = Together} IsBehindEntry (sym view) is) some signals quiet refl settles)
 
 -- ---- what waits is nothing, whichever way
 

@@ -6,11 +6,11 @@ use Rattle.st_state.specs.Machine.{Machine}
 use Rattle.st_prep.proofs.Choices.{of_choice}
 use Rattle.st_exec.specs.Step.{interrupt, rests}
 use Rattle.st_exec.proofs.StepLemmas.{step-done}
-use Rattle.st_run.specs.Run.{Scene, PlainEvent, Ends, Execution, interlude, interrupts_by, stepped, ended, goes_on, run}
+use Rattle.st_run.specs.Run.{Scene, PlainEvent, Ends, Execution, interlude, interrupts_by, scene_after_step, execution_at_end, goes_on, run}
 use Rattle.st_run.specs.Events.{Timed, drop_of}
-use Rattle.st_run.specs.Moments.{Moment, Standing, start, next_scene, next_state, ends_segment, standing, next_moment}
-use Rattle.st_run.specs.TimedRun.{at, ticks_before, ticks_from, drops, drops_if_ends, happening_at, between, snapshot_at, completion, until_done, last_snapshot_at, last_events, timed_from}
-use Rattle.st_rows.specs.Ranges.{AreDelays}
+use Rattle.st_run.specs.Moments.{Moment, Standing, moment_at_start, next_scene, next_state, ends_segment, standing_at, next_moment}
+use Rattle.st_run.specs.TimedRun.{event_at, ticks_before, snapshots_from, drops, drops_if_ends, happening_at, events_between, snapshot_at, completion, until_done, last_snapshot_at, last_events, timed_from}
+use Rattle.st_rows.specs.Ranges.{AreDelaysUpTo}
 use Rattle.st_run.specs.RunLaws.{RunsKeepTheirBudget, AreNear, CompletionsAreNear}
 use Rattle.st_run.proofs.Bounds.{IsMoment, next-is, next-tick, start-is}
 use Rattle.st_run.proofs.DoneLemmas.{settled-done}
@@ -30,8 +30,8 @@ module _ (k : ℕ) (m : Moment) (few : m.scene.machine.done ≤ k) where
   unfolding drops
   drops-done = each-done k (λ a. record { done = m.scene.machine.done; tick = m.tick; event = drop_of a }) (reverse m.dropped) (λ a. few)
 
-  between-done : All (HasDone k) (between m)
-  unfolding between
+  between-done : All (HasDone k) (events_between m)
+  unfolding events_between
   between-done =
       let hs = (interlude m.scene).happened ++ interrupts_by (interrupt (next_state m)) (next_state m) in
       All-append (HasDone k) (drops_if_ends m) (map (happening_at m) hs)
@@ -60,7 +60,7 @@ until_done-done k ds n p snaps few next_few =
     (each-done k (snapshot_at ds n p) due (λ x. few))
     (All-cons (HasDone k) last [] next_few (All-nil (HasDone k)))
 
-one-more : (ds : List ℕ) (n : ℕ) (m : Moment) → (next_moment ds n (standing m)).scene.machine.done ≡ m.scene.machine.done + 1
+one-more : (ds : List ℕ) (n : ℕ) (m : Moment) → (next_moment ds n (standing_at m)).scene.machine.done ≡ m.scene.machine.done + 1
 unfolding next_moment
 one-more ds n m = step-done (next_state m) ∙ ap (λ d. d + 1) (settled-done m.scene)
 
@@ -69,18 +69,18 @@ timed-done : (ds : List ℕ) (n left k : ℕ) (m : Moment) (snaps : List ℕ) �
 unfolding timed_from
 timed-done ds n zero k m snaps few = last_events-done k m (omega arith) snaps
 timed-done ds n (suc left) k m snaps few =
-    let p = standing m in
+    let p = standing_at m in
     let next = next_moment ds n p in
     let more = one-more ds n m in
     let same : p.scene.machine.done ≡ m.scene.machine.done = settled-done m.scene in
-    let rest = timed_from ds n left next (ticks_from next.tick snaps) in
-    let turn = between m ++ until_done ds n p snaps in
+    let rest = timed_from ds n left next (snapshots_from next.tick snaps) in
+    let turn = events_between m ++ until_done ds n p snaps in
     of_choice (λ xs. All (HasDone k) xs) (rests (next_state m)) (last_events m snaps) (turn ++ rest)
     (last_events-done k m (omega arith) snaps)
     (All-append (HasDone k) turn rest
-    (All-append (HasDone k) (between m) (until_done ds n p snaps) (between-done k m (omega arith))
+    (All-append (HasDone k) (events_between m) (until_done ds n p snaps) (between-done k m (omega arith))
     (until_done-done k ds n p snaps (omega (arith, same, few)) (omega (arith, more, few))))
-    (timed-done ds n left k next (ticks_from next.tick snaps) (omega (arith, more, few))))
+    (timed-done ds n left k next (snapshots_from next.tick snaps) (omega (arith, more, few))))
 
 -- the plain run
 ran-done : (left : ℕ) (c : Scene) → (run left c).last.done ≤ c.machine.done + left
@@ -88,16 +88,16 @@ unfolding run
 ran-done zero c = let same = settled-done c in omega (arith, same)
 ran-done (suc left) c =
     let same = settled-done c in
-    let next = stepped (interlude c).scene in
+    let next = scene_after_step (interlude c).scene in
     let more : next.machine.done ≡ (interlude c).scene.machine.done + 1 = step-done (interlude c).scene.machine in
     let rest = ran-done left next in
     of_choice (λ (x : Execution). x.last.done ≤ c.machine.done + suc left) (rests (interlude c).scene.machine)
-    (ended (interlude c)) (goes_on (interlude c) (run left next)) (omega (arith, same)) (omega (arith, same, more, rest))
+    (execution_at_end (interlude c)) (goes_on (interlude c) (run left next)) (omega (arith, same)) (omega (arith, same, more, rest))
 
 pub runs_keep_their_budget : RunsKeepTheirBudget
 runs_keep_their_budget = record {
   plain = ran-done;
-  whole = λ ds snaps n left c. timed-done ds n left (c.machine.done + left) (start c) snaps (omega arith);
+  whole = λ ds snaps n left c. timed-done ds n left (c.machine.done + left) (moment_at_start c) snaps (omega arith);
   from = λ ds snaps n left m. timed-done ds n left (m.scene.machine.done + left) m snaps (omega arith);
 }
 
@@ -125,10 +125,10 @@ near-nil b t ys is = is
 module _ (b : ℕ) (m : Moment) where
   drops-near : ComesNear b m.tick m.tick (drops m)
   unfolding drops
-  drops-near = near-at b m.tick (λ a. at m.tick m.scene.machine (drop_of a)) (reverse m.dropped) (λ a. refl)
+  drops-near = near-at b m.tick (λ a. event_at m.tick m.scene.machine (drop_of a)) (reverse m.dropped) (λ a. refl)
 
-  between-near : ComesNear b m.tick m.tick (between m)
-  unfolding between
+  between-near : ComesNear b m.tick m.tick (events_between m)
+  unfolding events_between
   between-near =
       let hs = (interlude m.scene).happened ++ interrupts_by (interrupt (next_state m)) (next_state m) in
       near-append b m.tick m.tick m.tick (drops_if_ends m) (map (happening_at m) hs)
@@ -155,20 +155,20 @@ until_done-near b ds n p snaps soon =
     (near-at b p.tick (snapshot_at ds n p) (ticks_before tick snaps) (λ x. refl))
     (near-one b p.tick (completion ds n p) soon)
 
-module _ (most n : ℕ) (ds : List ℕ) (are : AreDelays most ds) (levels : n ≤ 8) where
+module _ (most n : ℕ) (ds : List ℕ) (are : AreDelaysUpTo most ds) (levels : n ≤ 8) where
   timed-near : (left : ℕ) (m : Moment) (snaps : List ℕ) → IsMoment most n m → AreNear (64 * (most + 4)) m.tick (timed_from ds n left m snaps)
   unfolding timed_from
   timed-near zero m snaps is = last-near (64 * (most + 4)) m snaps
   timed-near (suc left) m snaps is =
       let b = 64 * (most + 4) in
-      let p = standing m in
+      let p = standing_at m in
       let next = next_moment ds n p in
-      let turn = between m ++ until_done ds n p snaps in
-      let rest = timed_from ds n left next (ticks_from next.tick snaps) in
+      let turn = events_between m ++ until_done ds n p snaps in
+      let rest = timed_from ds n left next (snapshots_from next.tick snaps) in
       of_choice (λ xs. AreNear b m.tick xs) (rests (next_state m)) (last_events m snaps) (turn ++ rest) (last-near b m snaps)
-      (near-append b m.tick m.tick next.tick (between m) (until_done ds n p snaps) (between-near b m)
+      (near-append b m.tick m.tick next.tick (events_between m) (until_done ds n p snaps) (between-near b m)
       (until_done-near b ds n p snaps (next-tick most n ds are levels m is))
-      rest (timed-near left next (ticks_from next.tick snaps) (next-is most n ds are levels m is)))
+      rest (timed-near left next (snapshots_from next.tick snaps) (next-is most n ds are levels m is)))
 
 pub completions_are_near : CompletionsAreNear
-completions_are_near ds snaps most n left c are levels is = timed-near most n ds are levels left (start c) snaps (start-is most n ds are levels c is)
+completions_are_near ds snaps most n left c are levels is = timed-near most n ds are levels left (moment_at_start c) snaps (start-is most n ds are levels c is)

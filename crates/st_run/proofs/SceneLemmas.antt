@@ -6,8 +6,8 @@ use Rattle.std.proofs.lemmas.List.Elements.{All-head, All-tail}
 use Rattle.st_bits.specs.Storage.{words_of_storage, words_of_storage_is}
 use Rattle.st_bits.proofs.RegisterLaws.{fixed_below}
 use Rattle.st_bits.specs.Indicators.{indicator}
-use Rattle.st_state.specs.Machine.{Machine, IsMachine, HasArea, stored, word}
-use Rattle.st_state.specs.Interrupts.{signalled, turned, pending, first_from, is_pending}
+use Rattle.st_state.specs.Machine.{Machine, IsMachine, HasArea, state_with_store, word}
+use Rattle.st_state.specs.Interrupts.{state_with_signal, indicator_word, pending, first_from, is_pending}
 use Rattle.st_state.proofs.Kept.{is_machine-with_word}
 use Rattle.st_state.proofs.Turned.{turned_below}
 use Rattle.st_state.specs.Orders.{is_due, next_device}
@@ -20,7 +20,7 @@ use Rattle.st_prep.proofs.PlanLemmas.{plan-prepared, fixed-indicators}
 use Rattle.st_exec.specs.Step.{rests, interrupt, step}
 use Rattle.st_exec.specs.Transfer.{all_stored, read_in}
 use Rattle.st_card.specs.declared.control_cards.Signal.{Signal}
-use Rattle.st_run.specs.Run.{Scene, first_card, cards_after, with_due_signals, with_signals_at_rest, with_reader, with_printer, if_due, with_due_orders, with_device, with_order_at_rest, with_wait, interlude, stepped, uneventful}
+use Rattle.st_run.specs.Run.{Scene, first_card, cards_after, with_due_signals, with_signals_at_rest, with_reader, with_printer, if_due, with_due_orders, with_device, with_order_at_rest, with_wait, interlude, scene_after_step, uneventful}
 use Rattle.st_exec.proofs.MachineKept.{kept-stored, kept-completed}
 use Rattle.st_refine.specs.Reached.{IsCard}
 use Rattle.st_run.specs.Scenes.{IsScene}
@@ -45,9 +45,9 @@ interrupt-below s =
 
 -- ---- states
 
-signalled-machine : (s : Machine) (i : ℕ) → IsMachine s → IsMachine (signalled s i)
+signalled-machine : (s : Machine) (i : ℕ) → IsMachine s → IsMachine (state_with_signal s i)
 signalled-machine s i m =
-    let x = turned 64 (indicator i) 0 (word s 11) in
+    let x = indicator_word 64 (indicator i) 0 (word s 11) in
     is_machine-with_word s 11 x m (omega (arith, words_of_storage_is)) (turned_below 64 (indicator i) 0 (word s 11)) (fixed-indicators x)
 
 stored-machine : (s : Machine) (w : ℕ) (xs : List ℕ) → IsMachine s → w + length xs ≤ words_of_storage
@@ -55,7 +55,7 @@ stored-machine : (s : Machine) (w : ℕ) (xs : List ℕ) → IsMachine s → w +
 unfolding all_stored
 stored-machine s w [] m inside below = m
 stored-machine s w (x ∷ xs) m inside below =
-    stored-machine (stored s w x) (w + 1) xs
+    stored-machine (state_with_store s w x) (w + 1) xs
     (kept-stored s w x m (omega arith) (fixed_below w x (All-head (λ y. y < 2 ^ 64) x xs below)))
     (omega arith) (All-tail (λ y. y < 2 ^ 64) x xs below)
 
@@ -97,18 +97,18 @@ pub due-scene : (s : Machine) (xs : List Signal) (cards : List (List ℕ)) → I
     → IsScene (with_due_signals s xs cards)
 due-scene s [] cards m are = record { machine = m; cards = are }
 due-scene s (x ∷ xs) cards m are =
-    of_choice IsScene (nat_le x.count s.done) (with_due_signals (signalled s x.indicator) xs cards)
+    of_choice IsScene (nat_le x.count s.done) (with_due_signals (state_with_signal s x.indicator) xs cards)
     (record { machine = s; signals = x ∷ xs; cards = cards })
-    (due-scene (signalled s x.indicator) xs cards (signalled-machine s x.indicator m) are)
+    (due-scene (state_with_signal s x.indicator) xs cards (signalled-machine s x.indicator m) are)
     (record { machine = m; cards = are })
 
 rest-scene : (s : Machine) (xs : List Signal) (cards : List (List ℕ)) → IsMachine s → All IsCard cards
     → IsScene (with_signals_at_rest s xs cards)
 rest-scene s [] cards m are = record { machine = m; cards = are }
 rest-scene s (x ∷ xs) cards m are =
-    of_choice IsScene (rests s) (with_signals_at_rest (signalled s x.indicator) xs cards)
+    of_choice IsScene (rests s) (with_signals_at_rest (state_with_signal s x.indicator) xs cards)
     (record { machine = s; signals = x ∷ xs; cards = cards })
-    (rest-scene (signalled s x.indicator) xs cards (signalled-machine s x.indicator m) are)
+    (rest-scene (state_with_signal s x.indicator) xs cards (signalled-machine s x.indicator m) are)
     (record { machine = m; cards = are })
 
 reader-scene : (o : Option Order) (c : Scene) → IsScene c → HasArea o → IsScene (with_reader o c).scene
@@ -161,7 +161,7 @@ settled-scene c is =
     let d = with_due_signals c.machine c.signals c.cards in
     wait-scene (with_due_orders d).scene (due_orders-scene d (due-scene c.machine c.signals c.cards is.machine is.cards))
 
-pub stepped-scene : (c : Scene) → IsScene c → IsScene (stepped c)
+pub stepped-scene : (c : Scene) → IsScene c → IsScene (scene_after_step c)
 unfolding step
 stepped-scene c is =
     let s = c.machine in

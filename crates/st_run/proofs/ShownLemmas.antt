@@ -5,9 +5,9 @@ use Rattle.std.proofs.lemmas.Bool.{lt-ltb}
 use Rattle.st_exec.specs.Step.{interrupt, rests}
 use Rattle.st_run.specs.Run.{Ends, interlude, interrupts_by}
 use Rattle.st_run.specs.Events.{Timed, drop_of, snapshot}
-use Rattle.st_run.specs.Moments.{Moment, Standing, next_state, ends_segment, standing, next_moment}
-use Rattle.st_run.specs.TimedRun.{at, ticks_before, ticks_from, snapshot_at, last_snapshot_at, drops, drops_if_ends, happening_at, between, completion, until_done, last_events, timed_from}
-use Rattle.st_run.specs.Order.{asked_by, shown_ticks, last_tick}
+use Rattle.st_run.specs.Moments.{Moment, Standing, next_state, ends_segment, standing_at, next_moment}
+use Rattle.st_run.specs.TimedRun.{event_at, ticks_before, snapshots_from, snapshot_at, last_snapshot_at, drops, drops_if_ends, happening_at, events_between, completion, until_done, last_events, timed_from}
+use Rattle.st_run.specs.Order.{asked_by, shown_ticks, last_completion}
 use Rattle.st_run.proofs.OrderLemmas.{test-lt, next-later, next-same}
 
 -- ---- lists
@@ -19,8 +19,8 @@ shown-append (x ∷ xs) ys =
     ap (λ rest. asked_by x.event ++ rest) (shown-append xs ys)
     ∙ sym (append_assoc (asked_by x.event) (shown_ticks xs) (shown_ticks ys))
 
-pub last-append : (t : ℕ) (xs ys : List Timed) → last_tick t (xs ++ ys) ≡ last_tick (last_tick t xs) ys
-unfolding last_tick
+pub last-append : (t : ℕ) (xs ys : List Timed) → last_completion t (xs ++ ys) ≡ last_completion (last_completion t xs) ys
+unfolding last_completion
 last-append t [] ys = refl
 last-append t (x ∷ xs) ys = last-append x.tick xs ys
 
@@ -35,8 +35,8 @@ all-shown f [] each = refl
 all-shown f (x ∷ xs) each = rw (each x) (ap (λ rest. x ∷ rest) (all-shown f xs each))
 
 -- those before a tick, and of the others those before a later one
-before-both : (u v : ℕ) (xs : List ℕ) → u ≤ v → ticks_before u xs ++ ticks_before v (ticks_from u xs) ≡ ticks_before v xs
-unfolding ticks_before ticks_from
+before-both : (u v : ℕ) (xs : List ℕ) → u ≤ v → ticks_before u xs ++ ticks_before v (snapshots_from u xs) ≡ ticks_before v xs
+unfolding ticks_before snapshots_from
 before-both u v [] le = refl
 before-both u v (x ∷ xs) le = elim (test-lt x u) [
   | inl early ↦
@@ -49,11 +49,11 @@ before-both u v (x ∷ xs) le = elim (test-lt x u) [
 
 drops-shown : (b : Bool) (m : Moment) → shown_ticks (if b then drops m else []) ≡ []
 unfolding shown_ticks drops
-drops-shown true m = none-shown (λ a. at m.tick m.scene.machine (drop_of a)) (reverse m.dropped) (λ a. refl)
+drops-shown true m = none-shown (λ a. event_at m.tick m.scene.machine (drop_of a)) (reverse m.dropped) (λ a. refl)
 drops-shown false m = refl
 
-between-shown : (m : Moment) → shown_ticks (between m) ≡ []
-unfolding between
+between-shown : (m : Moment) → shown_ticks (events_between m) ≡ []
+unfolding events_between
 between-shown m =
     let hs = (interlude m.scene).happened ++ interrupts_by (interrupt (next_state m)) (next_state m) in
     shown-append (drops_if_ends m) (map (happening_at m) hs)
@@ -86,11 +86,11 @@ last-shown m snaps =
 
 -- ---- the last tick
 
-last-one : (t : ℕ) (xs : List Timed) (x : Timed) → last_tick t (xs ++ x ∷ []) ≡ x.tick
-unfolding last_tick
+last-one : (t : ℕ) (xs : List Timed) (x : Timed) → last_completion t (xs ++ x ∷ []) ≡ x.tick
+unfolding last_completion
 last-one t xs x = last-append t xs (x ∷ [])
 
-pub last_events-tick : (t : ℕ) (m : Moment) (snaps : List ℕ) → last_tick t (last_events m snaps) ≡ m.tick
+pub last_events-tick : (t : ℕ) (m : Moment) (snaps : List ℕ) → last_completion t (last_events m snaps) ≡ m.tick
 unfolding last_events
 last_events-tick t m snaps =
     last-one t (drops m ++ map (happening_at m) (interlude m.scene).happened ++ map (last_snapshot_at m) (ticks_before (m.tick + 1) snaps))
@@ -101,9 +101,9 @@ last_events-tick t m snaps =
 module _ (ds : List ℕ) (n : ℕ) where
   -- the events of a run end at a tick, up to which snapshots are shown, whatever tick is given for no events
   record IsShown (t : ℕ) (snaps : List ℕ) (xs : List Timed) : Type 0 where
-    later : (u : ℕ) → t ≤ last_tick u xs
-    same : (u v : ℕ) → last_tick u xs ≡ last_tick v xs
-    shown : (u : ℕ) → shown_ticks xs ≡ ticks_before (last_tick u xs + 1) snaps
+    later : (u : ℕ) → t ≤ last_completion u xs
+    same : (u v : ℕ) → last_completion u xs ≡ last_completion v xs
+    shown : (u : ℕ) → shown_ticks xs ≡ ticks_before (last_completion u xs + 1) snaps
 
   last-is : (m : Moment) (snaps : List ℕ) → IsShown m.tick snaps (last_events m snaps)
   last-is m snaps = record {
@@ -112,26 +112,26 @@ module _ (ds : List ℕ) (n : ℕ) where
     shown = λ u. last-shown m snaps ∙ ap (λ t. ticks_before (t + 1) snaps) (sym (last_events-tick u m snaps));
   }
 
-  turn-is : (m : Moment) (snaps : List ℕ) (rest : List Timed) → m.tick ≤ (next_moment ds n (standing m)).tick
-      → IsShown (next_moment ds n (standing m)).tick (ticks_from (next_moment ds n (standing m)).tick snaps) rest
-      → IsShown m.tick snaps (between m ++ until_done ds n (standing m) snaps ++ rest)
+  turn-is : (m : Moment) (snaps : List ℕ) (rest : List Timed) → m.tick ≤ (next_moment ds n (standing_at m)).tick
+      → IsShown (next_moment ds n (standing_at m)).tick (snapshots_from (next_moment ds n (standing_at m)).tick snaps) rest
+      → IsShown m.tick snaps (events_between m ++ until_done ds n (standing_at m) snaps ++ rest)
   turn-is m snaps rest le is =
-      let p = standing m in
+      let p = standing_at m in
       let tick = (next_moment ds n p).tick in
-      let turn = between m ++ until_done ds n p snaps in
-      let ends : (u : ℕ) → last_tick u (turn ++ rest) ≡ last_tick (last_tick u turn) rest = λ u. last-append u turn rest in
+      let turn = events_between m ++ until_done ds n p snaps in
+      let ends : (u : ℕ) → last_completion u (turn ++ rest) ≡ last_completion (last_completion u turn) rest = λ u. last-append u turn rest in
       record {
-        later = λ u. let e = ends u in let far = is.later (last_tick u turn) in omega (arith, e, far);
-        same = λ u v. ends u ∙ is.same (last_tick u turn) (last_tick v turn) ∙ sym (ends v);
+        later = λ u. let e = ends u in let far = is.later (last_completion u turn) in omega (arith, e, far);
+        same = λ u v. ends u ∙ is.same (last_completion u turn) (last_completion v turn) ∙ sym (ends v);
         shown = λ u.
-            let v = last_tick u turn in
+            let v = last_completion u turn in
             shown-append turn rest
             ∙ ap (λ xs. xs ++ shown_ticks rest)
-            (shown-append (between m) (until_done ds n p snaps)
+            (shown-append (events_between m) (until_done ds n p snaps)
             ∙ ap (λ xs. xs ++ shown_ticks (until_done ds n p snaps)) (between-shown m)
             ∙ until_done-shown ds n p snaps)
             ∙ ap (λ xs. ticks_before tick snaps ++ xs) (is.shown v)
-            ∙ before-both tick (last_tick v rest + 1) snaps (let far = is.later v in omega (arith, far))
+            ∙ before-both tick (last_completion v rest + 1) snaps (let far = is.later v in omega (arith, far))
             ∙ ap (λ t. ticks_before (t + 1) snaps) (sym (ends u));
       }
 
@@ -144,13 +144,13 @@ module _ (ds : List ℕ) (n : ℕ) where
   unfolding timed_from
   timed-is zero m snaps same = last-is m snaps
   timed-is (suc left) m snaps same =
-      let p = standing m in
+      let p = standing_at m in
       let next = next_moment ds n p in
-      let rest = timed_from ds n left next (ticks_from next.tick snaps) in
-      shown-if (rests (next_state m)) m snaps (last_events m snaps) (between m ++ until_done ds n p snaps ++ rest)
+      let rest = timed_from ds n left next (snapshots_from next.tick snaps) in
+      shown-if (rests (next_state m)) m snaps (last_events m snaps) (events_between m ++ until_done ds n p snaps ++ rest)
       (last-is m snaps)
-      (turn-is m snaps rest (next-later ds n m same) (timed-is left next (ticks_from next.tick snaps) (next-same ds n p)))
+      (turn-is m snaps rest (next-later ds n m same) (timed-is left next (snapshots_from next.tick snaps) (next-same ds n p)))
 
   pub timed-shown : (left : ℕ) (m : Moment) (snaps : List ℕ) (t : ℕ) → m.front.c ≡ m.tick
-      → shown_ticks (timed_from ds n left m snaps) ≡ ticks_before (last_tick t (timed_from ds n left m snaps) + 1) snaps
+      → shown_ticks (timed_from ds n left m snaps) ≡ ticks_before (last_completion t (timed_from ds n left m snaps) + 1) snaps
   timed-shown left m snaps t same = (timed-is left m snaps same).shown t

@@ -5,25 +5,25 @@ use Rattle.std.proofs.Common.{◌≡◌, ◌≢◌, ℕ, zero, suc, ◌+◌, ◌
 use Rattle.std.proofs.lemmas.Bool.{le-ltb}
 use Rattle.std.proofs.lemmas.List.Elements.{All-nil, All-cons, All-append, All-head, All-tail}
 use Rattle.st_state.specs.Machine.{Machine}
-use Rattle.st_state.specs.Interrupts.{signalled}
+use Rattle.st_state.specs.Interrupts.{state_with_signal}
 use Rattle.st_state.specs.Orders.{next_device}
 use Rattle.st_state.specs.declared.devices.Order.{Order}
 use Rattle.st_prep.proofs.Choices.{of_choice}
 use Rattle.st_exec.specs.Step.{interrupt, rests}
 use Rattle.st_card.specs.declared.control_cards.Signal.{Signal}
 use Rattle.st_run.specs.Run.{Scene, PlainEvent, Ends, with_due_signals, with_due_orders, with_order_at_rest, with_signals_at_rest, with_wait, interlude, interrupts_by, if_due, Transition, uneventful, and_then, with_reader, with_printer, with_device}
-use Rattle.st_rows.specs.Ranges.{AreDelays}
-use Rattle.st_rows.specs.Rows.{opening}
-use Rattle.st_ahead.specs.Overlap.{started}
+use Rattle.st_rows.specs.Ranges.{AreDelaysUpTo}
+use Rattle.st_rows.specs.Rows.{opening_front}
+use Rattle.st_ahead.specs.Overlap.{machine_at_start}
 use Rattle.st_segment.specs.Ahead.{Ahead}
 use Rattle.st_exec.proofs.StepLemmas.{step-done}
 use Rattle.st_run.specs.Events.{Timed, drop_of}
 use Rattle.st_run.specs.Scenes.{IsScene}
-use Rattle.st_run.specs.Moments.{Moment, Standing, start, unread, next_state, has_card, has_waited, ends_segment, next_segment, next_front, standing, next_moment}
-use Rattle.st_run.specs.TimedRun.{at, ticks_before, ticks_from, snapshot_at, last_snapshot_at, drops, drops_if_ends, happening_at, between, completion, until_done, last_events, timed_from, timed_behind, timed_run}
+use Rattle.st_run.specs.Moments.{Moment, Standing, moment_at_start, answers_at_start, next_state, has_card, has_waited, ends_segment, next_segment, next_front, standing_at, next_moment}
+use Rattle.st_run.specs.TimedRun.{event_at, ticks_before, snapshots_from, snapshot_at, last_snapshot_at, drops, drops_if_ends, happening_at, events_between, completion, until_done, last_events, timed_from, timed_behind, timed_run}
 use Rattle.st_run.specs.Order.{AreRising}
-use Rattle.st_run.specs.Told.{Told, told_of, told}
-use Rattle.st_run.specs.Together.{Together, with_scene, IsBefore}
+use Rattle.st_run.specs.Told.{Told, told_of, told_of_events}
+use Rattle.st_run.specs.Together.{Together, with_scene, IsBeforeEntry}
 use Rattle.st_run.specs.Telling.{Waiting, whats, rest_of, IsRun, AreInTime}
 use Rattle.st_run.specs.declared.turn.Turn.TheVariants as turns
 use Rattle.st_run.proofs.ProgressLemmas.{Quiet, rest-quiet}
@@ -43,14 +43,14 @@ pub record IsIdle (s : Machine) : Type 0 where
 signals-idle : (s : Machine) (xs : List Signal) (cards : List (List ℕ)) → IsIdle s → IsIdle (with_due_signals s xs cards).machine
 signals-idle s [] cards is = is
 signals-idle s (x ∷ xs) cards is =
-    of_choice (λ (c : Scene). IsIdle c.machine) (nat_le x.count s.done) (with_due_signals (signalled s x.indicator) xs cards) _
-    (signals-idle (signalled s x.indicator) xs cards (record { enabled = is.enabled; waiting = is.waiting; reader = is.reader; printer = is.printer })) is
+    of_choice (λ (c : Scene). IsIdle c.machine) (nat_le x.count s.done) (with_due_signals (state_with_signal s x.indicator) xs cards) _
+    (signals-idle (state_with_signal s x.indicator) xs cards (record { enabled = is.enabled; waiting = is.waiting; reader = is.reader; printer = is.printer })) is
 
 signals-cards : (s : Machine) (xs : List Signal) (cards : List (List ℕ)) → (with_due_signals s xs cards).cards ≡ cards
 signals-cards s [] cards = refl
 signals-cards s (x ∷ xs) cards =
-    of_choice (λ (c : Scene). c.cards ≡ cards) (nat_le x.count s.done) (with_due_signals (signalled s x.indicator) xs cards) _
-    (signals-cards (signalled s x.indicator) xs cards) refl
+    of_choice (λ (c : Scene). c.cards ≡ cards) (nat_le x.count s.done) (with_due_signals (state_with_signal s x.indicator) xs cards) _
+    (signals-cards (state_with_signal s x.indicator) xs cards) refl
 
 idle-rests : (s : Machine) → IsIdle s → rests s ≡ false
 idle-rests s is = rw is.waiting refl
@@ -100,53 +100,53 @@ module _ (c : Scene) (is : IsIdle c.machine) where
   same-not_less : (n : ℕ) → nat_lt n n ≡ false
   same-not_less n = let le : n ≤ n = omega arith in le-ltb n n le
 
-  no-card : has_card (start c) ≡ false
+  no-card : has_card (moment_at_start c) ≡ false
   no-card =
       ap {A = Transition} (λ r. nat_lt (length r.scene.cards) (length c.cards)) settled-idle
       ∙ ap {A = List (List ℕ)} (λ xs. nat_lt (length xs) (length c.cards)) (signals-cards c.machine c.signals c.cards)
       ∙ same-not_less (length c.cards)
 
-  no-wait : has_waited (start c) ≡ false
+  no-wait : has_waited (moment_at_start c) ≡ false
   no-wait = ap {A = Transition} (λ r. rests r.scene.machine) (orders-idle due due-idle) ∙ idle-rests due.machine due-idle
 
-  no-interrupt : is_some (interrupt (next_state (start c))) ≡ false
+  no-interrupt : is_some (interrupt (next_state (moment_at_start c))) ≡ false
   no-interrupt =
       ap {A = Transition} (λ r. is_some (interrupt r.scene.machine)) settled-idle
       ∙ ap is_some (idle-interrupt due.machine due-idle)
 
-  no-end : ends_segment (start c) ≡ false
+  no-end : ends_segment (moment_at_start c) ≡ false
   unfolding ends_segment
   no-end =
-      ap {A = Bool} (λ b. false || b || has_waited (start c) || is_some (interrupt (next_state (start c)))) no-card
-      ∙ ap {A = Bool} (λ b. false || false || b || is_some (interrupt (next_state (start c)))) no-wait
+      ap {A = Bool} (λ b. false || b || has_waited (moment_at_start c) || is_some (interrupt (next_state (moment_at_start c)))) no-card
+      ∙ ap {A = Bool} (λ b. false || false || b || is_some (interrupt (next_state (moment_at_start c)))) no-wait
       ∙ ap {A = Bool} (λ b. false || false || false || b) no-interrupt
 
   abbrev pub first : Standing
-  first = record { scene = due; tick = 0; front = opening unread 0 }
+  first = record { scene = due; tick = 0; front = opening_front answers_at_start 0 }
 
-  standing-idle : standing (start c) ≡ first
+  standing-idle : standing_at (moment_at_start c) ≡ first
   unfolding next_front
   standing-idle =
-      ap {A = Transition} (λ r. record (standing (start c)) { scene = r.scene }) settled-idle
-      ∙ ap {A = Bool} (λ b. record { scene = due; tick = 0; front = if b then next_segment (start c) else opening unread 0 }) no-end
+      ap {A = Transition} (λ r. record (standing_at (moment_at_start c)) { scene = r.scene }) settled-idle
+      ∙ ap {A = Bool} (λ b. record { scene = due; tick = 0; front = if b then next_segment (moment_at_start c) else opening_front answers_at_start 0 }) no-end
 
-  between-idle : between (start c) ≡ []
-  unfolding between
+  between-idle : events_between (moment_at_start c) ≡ []
+  unfolding events_between
   between-idle =
-      let m = start c in
+      let m = moment_at_start c in
       ap {A = Bool} (λ b. (if b then drops m else []) ++ map (happening_at m)
       ((interlude c).happened ++ interrupts_by (interrupt (next_state m)) (next_state m))) no-end
       ∙ ap {A = Transition} (λ r. map (happening_at m) (r.happened ++ interrupts_by (interrupt r.scene.machine) r.scene.machine)) settled-idle
       ∙ ap {A = Option ℕ} (λ o. map (happening_at m) (interrupts_by o due.machine)) (idle-interrupt due.machine due-idle)
 
-  awake-idle : rests (next_state (start c)) ≡ false
+  awake-idle : rests (next_state (moment_at_start c)) ≡ false
   awake-idle = ap {A = Transition} (λ r. rests r.scene.machine) settled-idle ∙ idle-rests due.machine due-idle
 
   pub run-idle : (ds : List ℕ) (n budget : ℕ) (snaps : List ℕ) → budget ≢ 0
       → timed_run ds n budget c snaps ≡ timed_behind ds n (budget - 1) first snaps
   run-idle ds n budget snaps some =
-      timed-goes_on ds n budget (start c) snaps some awake-idle
-      ∙ ap {A = List Timed} (λ xs. xs ++ timed_behind ds n (budget - 1) (standing (start c)) snaps) between-idle
+      timed-goes_on ds n budget (moment_at_start c) snaps some awake-idle
+      ∙ ap {A = List Timed} (λ xs. xs ++ timed_behind ds n (budget - 1) (standing_at (moment_at_start c)) snaps) between-idle
       ∙ ap {A = Standing} (λ p. timed_behind ds n (budget - 1) p snaps) standing-idle
 
 -- ---- how many are done
@@ -161,13 +161,13 @@ each-few b f (x ∷ xs) holds = All-cons (IsFew b) (f x) (map f xs) (holds x) (e
 module _ (b : ℕ) (m : Moment) (few : m.scene.machine.done ≤ b) where
   drops-few : All (IsFew b) (drops m)
   unfolding drops
-  drops-few = each-few b (λ (a : Ahead). at m.tick m.scene.machine (drop_of a)) (reverse m.dropped) (λ a. few)
+  drops-few = each-few b (λ (a : Ahead). event_at m.tick m.scene.machine (drop_of a)) (reverse m.dropped) (λ a. few)
 
   happenings-few : (hs : List PlainEvent) → All (IsFew b) (map (happening_at m) hs)
   happenings-few hs = each-few b (happening_at m) hs (λ h. few)
 
-  between-few : All (IsFew b) (between m)
-  unfolding between
+  between-few : All (IsFew b) (events_between m)
+  unfolding events_between
   between-few =
       let hs = (interlude m.scene).happened ++ interrupts_by (interrupt (next_state m)) (next_state m) in
       All-append (IsFew b) (drops_if_ends m) (map (happening_at m) hs)
@@ -196,7 +196,7 @@ until-few b ds n p snaps few next_few =
     (each-few b (snapshot_at ds n p) shown (λ x. few))
     (All-cons (IsFew b) last [] next_few (All-nil (IsFew b)))
 
-next-more : (ds : List ℕ) (n : ℕ) (m : Moment) → (next_moment ds n (standing m)).scene.machine.done ≡ m.scene.machine.done + 1
+next-more : (ds : List ℕ) (n : ℕ) (m : Moment) → (next_moment ds n (standing_at m)).scene.machine.done ≡ m.scene.machine.done + 1
 unfolding next_moment
 next-more ds n m = step-done (next_state m) ∙ ap {A = ℕ} (λ d. d + 1) (settled-done m.scene)
 
@@ -205,34 +205,34 @@ run-few : (b : ℕ) (ds : List ℕ) (n left : ℕ) (m : Moment) (snaps : List �
 unfolding timed_from
 run-few b ds n zero m snaps few = last-few b m (omega arith) snaps
 run-few b ds n (suc left) m snaps few =
-    let p = standing m in
+    let p = standing_at m in
     let next = next_moment ds n p in
     let here : m.scene.machine.done ≤ b = omega arith in
     let more : next.scene.machine.done ≡ m.scene.machine.done + 1 = next-more ds n m in
     let same : (next_state m).done ≡ m.scene.machine.done = settled-done m.scene in
-    let rest = timed_from ds n left next (ticks_from next.tick snaps) in
-    let turn = between m ++ until_done ds n p snaps in
+    let rest = timed_from ds n left next (snapshots_from next.tick snaps) in
+    let turn = events_between m ++ until_done ds n p snaps in
     of_choice (λ (xs : List Timed). All (IsFew b) xs) (rests (next_state m)) (last_events m snaps) (turn ++ rest)
     (last-few b m here snaps)
     (All-append (IsFew b) turn rest
-    (All-append (IsFew b) (between m) (until_done ds n p snaps) (between-few b m here)
+    (All-append (IsFew b) (events_between m) (until_done ds n p snaps) (between-few b m here)
     (until-few b ds n p snaps (omega (arith, same)) (omega (arith, more))))
-    (run-few b ds n left next (ticks_from next.tick snaps) (omega (arith, more))))
+    (run-few b ds n left next (snapshots_from next.tick snaps) (omega (arith, more))))
 
 -- ---- all comes in time
 
-told-all : (P : Told → Type 0) (xs : List Timed) → All (λ (x : Timed). P (told_of x)) xs → All P (told xs)
-unfolding told
+told-all : (P : Told → Type 0) (xs : List Timed) → All (λ (x : Timed). P (told_of x)) xs → All P (told_of_events xs)
+unfolding told_of_events
 told-all P [] all = All-nil P
 told-all P (x ∷ xs) all =
-    All-cons P (told_of x) (told xs) (All-head (λ (y : Timed). P (told_of y)) x xs all)
+    All-cons P (told_of x) (told_of_events xs) (All-head (λ (y : Timed). P (told_of y)) x xs all)
     (told-all P xs (All-tail (λ (y : Timed). P (told_of y)) x xs all))
 
-pub run-in_time : (ds : List ℕ) (n budget : ℕ) (c : Scene) (snaps : List ℕ) → AreDelays 255 ds → n ≤ 8 → IsScene c
-    → c.machine.done ≡ 0 → budget ≤ 10000000 → AreInTime (told (timed_run ds n budget c snaps))
+pub run-in_time : (ds : List ℕ) (n budget : ℕ) (c : Scene) (snaps : List ℕ) → AreDelaysUpTo 255 ds → n ≤ 8 → IsScene c
+    → c.machine.done ≡ 0 → budget ≤ 10000000 → AreInTime (told_of_events (timed_run ds n budget c snaps))
 run-in_time ds n budget c snaps are levels is none few =
     let timely = run-time 255 n ds are levels budget c snaps is in
-    let less = run-few 10000000 ds n budget (start c) snaps (omega arith) in
+    let less = run-few 10000000 ds n budget (moment_at_start c) snaps (omega arith) in
     told-all (λ (y : Told). (y.tick < 2 ^ 63) × (y.done < 2 ^ 63)) (timed_run ds n budget c snaps)
     (λ k d inside.
     let early = timely k d inside in
@@ -258,14 +258,14 @@ increasing-rises xs up = rising-from 0 xs up (λ some. omega arith)
 -- ---- the start of a run
 
 abbrev pub opened : List ℕ → ℕ → Scene → Together
-opened ds n c = record { machine = started ds n c.machine; signals = c.signals; cards = c.cards }
+opened ds n c = record { machine = machine_at_start ds n c.machine; signals = c.signals; cards = c.cards }
 
 -- nothing waits
 abbrev pub none : Waiting
 none = record { drops = []; text = None; taken = None }
 
 module _ (ds : List ℕ) (n : ℕ) (c : Scene) (idle : IsIdle c.machine) (is : IsScene c) where
-  pub opened-before : 1 ≤ n → n ≤ 8 → AreDelays 255 ds → IsBefore (with_scene (opened ds n c) (due c idle))
+  pub opened-before : 1 ≤ n → n ≤ 8 → AreDelaysUpTo 255 ds → IsBeforeEntry (with_scene (opened ds n c) (due c idle))
   opened-before some few are = record {
     some = some;
     few = few;
@@ -287,12 +287,12 @@ module _ (ds : List ℕ) (n : ℕ) (c : Scene) (idle : IsIdle c.machine) (is : I
 
   pub start-told : (budget : ℕ) (snaps : List ℕ) → 1 ≤ budget
       → rest_of turns.Before (budget - 1) 0 snaps none (with_scene (opened ds n c) (due c idle))
-      ≡ told (timed_run ds n budget c snaps)
+      ≡ told_of_events (timed_run ds n budget c snaps)
   start-told budget snaps some =
       rest-quiet turns.Before (budget - 1) 0 snaps none (with_scene (opened ds n c) (due c idle)) none-quiet
-      ∙ ap told (sym (run-idle c idle ds n budget snaps (omega arith)))
+      ∙ ap told_of_events (sym (run-idle c idle ds n budget snaps (omega arith)))
 
-  pub start-run : (budget : ℕ) (snaps : List ℕ) → 1 ≤ n → n ≤ 8 → AreDelays 255 ds → 1 ≤ budget → budget ≤ 10000000
+  pub start-run : (budget : ℕ) (snaps : List ℕ) → 1 ≤ n → n ≤ 8 → AreDelaysUpTo 255 ds → 1 ≤ budget → budget ≤ 10000000
       → c.machine.done ≡ 0 → IsStrictlyIncreasing snaps
       → IsRun turns.Before (budget - 1) 0 snaps none (with_scene (opened ds n c) (due c idle))
   start-run budget snaps some few are one most zero_done up = record {

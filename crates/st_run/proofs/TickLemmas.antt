@@ -5,18 +5,18 @@ use Rattle.std.proofs.lemmas.Bool.Decides.{nat_tests}
 use Rattle.st_state.specs.Machine.{Machine}
 use Rattle.st_exec.specs.Step.{interrupt, rests}
 use Rattle.st_rows.specs.declared.front.Front.{Front}
-use Rattle.st_ahead.specs.Overlap.{Overlap, seen, oldest_row, interrupt_due}
-use Rattle.st_ahead.specs.Calls.{is_done, completed, row_done, ticked, settled, passed}
+use Rattle.st_ahead.specs.Overlap.{Overlap, state_ahead, oldest_row, interrupt_due}
+use Rattle.st_ahead.specs.Calls.{is_done, machine_after_completion, row_done, machine_after_tick, machine_after_settling, machine_after_pass}
 use Rattle.st_ahead.specs.RunTo.{after_ticks, IsPassed, ArePassed, RunsTo}
 use Rattle.st_ahead.specs.declared.events.Row.{Row}
 use Rattle.st_ahead.proofs.Idling.{zero-comes}
 use Rattle.st_card.specs.declared.control_cards.Signal.{Signal}
-use Rattle.st_run.specs.Together.{Together, IsBefore}
-use Rattle.st_run.specs.Ticking.{IsReady, at_completion, AreTicked, AreMade, last_for}
+use Rattle.st_run.specs.Together.{Together, IsBeforeEntry}
+use Rattle.st_run.specs.Ticking.{IsMachineReady, at_completion, AreTicked, AreMade, last_for}
 
 -- a machine between two ticks, in which nothing is owed
-abbrev pub calm : List ℕ → ℕ → Machine → Option ℕ → Front → ℕ → Overlap
-calm ds n s table front now = record {
+abbrev pub hazard_free : List ℕ → ℕ → Machine → Option ℕ → Front → ℕ → Overlap
+hazard_free ds n s table front now = record {
   delays = ds;
   levels = n;
   state = s;
@@ -30,8 +30,8 @@ calm ds n s table front now = record {
   closing = None;
 }
 
-pub ready-calm : (o : Overlap) → IsReady o → o ≡ calm o.delays o.levels o.state o.taken o.front o.now
-ready-calm o h =
+pub ready-hazard_free : (o : Overlap) → IsMachineReady o → o ≡ hazard_free o.delays o.levels o.state o.taken o.front o.now
+ready-hazard_free o h =
     ap (λ x. record o { owed = x }) h.settled
     ∙ ap (λ x. record o { owed = false; ended = x }) h.going
     ∙ ap (λ x. record o { owed = false; ended = false; behind = x }) h.guessed
@@ -40,7 +40,7 @@ ready-calm o h =
 
 -- the oldest row does not depend on the tick
 pub row-same : (o : Overlap) (at : ℕ) → oldest_row (record o { now = at }) ≡ oldest_row o
-unfolding oldest_row seen
+unfolding oldest_row state_ahead
 row-same o at = refl
 
 -- no interrupt is due, since the one that is pending was taken
@@ -49,26 +49,26 @@ none-due s None same = sym same
 none-due s (Some i) same = refl
 
 -- where nothing comes the tick is settled by passing
-pub still-settled : (m : Overlap) → interrupt_due m ≡ None → rests m.state ≡ false → m.behind ≡ None → passed m ≡ settled m
-unfolding settled
+pub still-settled : (m : Overlap) → interrupt_due m ≡ None → rests m.state ≡ false → m.behind ≡ None → machine_after_pass m ≡ machine_after_settling m
+unfolding machine_after_settling
 still-settled m due awake right = rw (due, awake, right) refl
 
 -- a tick at which no entry is done passes
-calm-passes : (ds : List ℕ) (n : ℕ) (s : Machine) (t : Option ℕ) (f : Front) (at : ℕ) → t ≡ interrupt s → rests s ≡ false
-    → is_done (calm ds n s t f at) ≡ false
-    → settled (ticked (calm ds n s t f at)) ≡ calm ds n s t f (at + 1)
-unfolding ticked settled
-calm-passes ds n s t f at same awake late = rw (late, none-due s t same, awake) refl
+hazard_free-passes : (ds : List ℕ) (n : ℕ) (s : Machine) (t : Option ℕ) (f : Front) (at : ℕ) → t ≡ interrupt s → rests s ≡ false
+    → is_done (hazard_free ds n s t f at) ≡ false
+    → machine_after_settling (machine_after_tick (hazard_free ds n s t f at)) ≡ hazard_free ds n s t f (at + 1)
+unfolding machine_after_tick machine_after_settling
+hazard_free-passes ds n s t f at same awake late = rw (late, none-due s t same, awake) refl
 
-pub tick-passes : (o m : Overlap) (at : ℕ) → IsReady o → m ≡ record o { now = at } → is_done m ≡ false
-    → settled (ticked m) ≡ record o { now = at + 1 }
+pub tick-passes : (o m : Overlap) (at : ℕ) → IsMachineReady o → m ≡ record o { now = at } → is_done m ≡ false
+    → machine_after_settling (machine_after_tick m) ≡ record o { now = at + 1 }
 tick-passes o m at h same late =
-    let calm_at : (k : ℕ) → record o { now = k } ≡ calm o.delays o.levels o.state o.taken o.front k =
-    λ k. ap {A = Overlap} (λ q. record q { now = k }) (ready-calm o h) in
-    let is : m ≡ calm o.delays o.levels o.state o.taken o.front at = same ∙ calm_at at in
-    ap {A = Overlap} (λ q. settled (ticked q)) is
-    ∙ calm-passes o.delays o.levels o.state o.taken o.front at h.table h.awake (ap is_done (sym is) ∙ late)
-    ∙ sym (calm_at (at + 1))
+    let hazard_free_at : (k : ℕ) → record o { now = k } ≡ hazard_free o.delays o.levels o.state o.taken o.front k =
+    λ k. ap {A = Overlap} (λ q. record q { now = k }) (ready-hazard_free o h) in
+    let is : m ≡ hazard_free o.delays o.levels o.state o.taken o.front at = same ∙ hazard_free_at at in
+    ap {A = Overlap} (λ q. machine_after_settling (machine_after_tick q)) is
+    ∙ hazard_free-passes o.delays o.levels o.state o.taken o.front at h.table h.awake (ap is_done (sym is) ∙ late)
+    ∙ sym (hazard_free_at (at + 1))
 
 -- the next entry is done later
 apart : (c at : ℕ) → at ≤ c → (c == at) ≡ false → at + 1 ≤ c
@@ -88,15 +88,15 @@ not-done true never = absurd (never refl)
 not-done false never = refl
 
 -- so do ticks that are passed over, one after another
-pub idle-passes : (o : Overlap) (k at : ℕ) (new : Overlap) → IsReady o → at ≤ (oldest_row o).c → ArePassed 0 k (record o { now = at }) new
+pub idle-passes : (o : Overlap) (k at : ℕ) (new : Overlap) → IsMachineReady o → at ≤ (oldest_row o).c → ArePassed 0 k (record o { now = at }) new
     → (new ≡ record o { now = at + k }) × (at + k ≤ (oldest_row o).c)
 unfolding after_ticks
 idle-passes o zero at new h early idle =
     let same : at ≡ at + 0 = omega arith in (idle.after ∙ ap {A = ℕ} (λ x. record o { now = x }) same, omega arith)
 idle-passes o (suc k) at new h early idle =
     let first : IsPassed 0 (record o { now = at }) = idle.each 0 (omega arith) in
-    let late : is_done (record o { now = at }) ≡ false = not-done (is_done (record o { now = at })) (λ done. zero-comes (ticked (record o { now = at })) (first.nothing done)) in
-    let next : settled (ticked (record o { now = at })) ≡ record o { now = at + 1 } = tick-passes o (record o { now = at }) at h refl late in
+    let late : is_done (record o { now = at }) ≡ false = not-done (is_done (record o { now = at })) (λ done. zero-comes (machine_after_tick (record o { now = at })) (first.nothing done)) in
+    let next : machine_after_settling (machine_after_tick (record o { now = at })) ≡ record o { now = at + 1 } = tick-passes o (record o { now = at }) at h refl late in
     let later : ArePassed 0 k (record o { now = at + 1 }) new = record {
       each = λ i before. subst (λ (m : Overlap). IsPassed 0 (after_ticks i m)) next (idle.each (suc i) (omega (arith, before)));
       after = idle.after ∙ ap {A = Overlap} (after_ticks k) next;
@@ -111,8 +111,8 @@ tick-done o m at same done =
     together (oldest_row o).c at
     (ap (λ r. r.c == at) (sym (row-same o at)) ∙ ap is_done (sym same) ∙ done)
 
-pub done-completed : (o m : Overlap) (at : ℕ) → m ≡ record o { now = at } → is_done m ≡ true → ticked m ≡ completed m
-unfolding ticked
+pub done-completed : (o m : Overlap) (at : ℕ) → m ≡ record o { now = at } → is_done m ≡ true → machine_after_tick m ≡ machine_after_completion m
+unfolding machine_after_tick
 done-completed o m at same done = rw done refl
 
 -- ---- up to the next entry that is done, or a snapshot
@@ -129,7 +129,7 @@ until-made o new last (Some x) in_time early is late from after =
     let same : o.now + (last + 1 - o.now) ≡ x + 1 = omega (arith, in_time, early, is, late, from) in
     (omega (arith, same, late), after ∙ ap {A = ℕ} (λ k. record o { now = k }) same)
 
-pub ticked-until : (o new : Overlap) (row : Option Row) (last : ℕ) (snap : Option ℕ) → IsReady o → (oldest_row o).c < 2 ^ 63
+pub ticked-until : (o new : Overlap) (row : Option Row) (last : ℕ) (snap : Option ℕ) → IsMachineReady o → (oldest_row o).c < 2 ^ 63
     → IfSome snap (λ x. o.now - 1 ≤ x) → last ≡ last_for snap → RunsTo 0 last row o new → AreTicked row snap o new
 ticked-until o new None last snap h in_time from is ran =
     let all = idle-passes o (last + 1 - o.now) o.now new h h.early ran in
@@ -141,18 +141,18 @@ ticked-until o new (Some row) last snap h in_time from is ran =
     let at_end : ran.before ≡ at_completion o = all.0 ∙ ap {A = ℕ} (λ k. record o { now = k }) same in
     let soon : (oldest_row o).c ≤ last = omega (arith, ran.soon, ap (λ (m : Overlap). m.now) at_end) in (
       until-late (oldest_row o).c o.now last snap soon is,
-      ran.after ∙ done-completed o ran.before at all.0 ran.done ∙ ap {A = Overlap} completed at_end,
+      ran.after ∙ done-completed o ran.before at all.0 ran.done ∙ ap {A = Overlap} machine_after_completion at_end,
       ran.row_is ∙ ap {A = Overlap} row_done at_end,
     )
 
 -- the same of the parts of a machine with what is to come to it
 pub made-until : (old : Together) (m new : Overlap) (xs : List Signal) (cards : List (List ℕ))
-    → record { machine = m; signals = xs; cards = cards } ≡ old → IsBefore old → (oldest_row old.machine).c < 2 ^ 63
+    → record { machine = m; signals = xs; cards = cards } ≡ old → IsBeforeEntry old → (oldest_row old.machine).c < 2 ^ 63
     → (snap : Option ℕ) → IfSome snap (λ x. old.machine.now - 1 ≤ x) → (last : ℕ) → last ≡ last_for snap
     → (row : Option Row) → RunsTo 0 last row m new → AreMade row snap old (record { machine = new; signals = xs; cards = cards })
 made-until old m new xs cards view before in_time snap from last is row ran =
     let machine : m ≡ old.machine = ap (λ (t : Together). t.machine) view in
-    let ready : IsReady old.machine = record {
+    let ready : IsMachineReady old.machine = record {
       settled = before.settled;
       going = before.going;
       stands = before.stands;

@@ -8,10 +8,10 @@ use Rattle.st_state.specs.Machine.{Machine}
 use Rattle.st_exec.specs.Step.{interrupt, rests}
 use Rattle.st_run.specs.Run.{PlainEvent, Ends, interlude, interrupts_by}
 use Rattle.st_segment.specs.Ahead.{Ahead}
-use Rattle.st_run.specs.Events.{Timed, address_of, drop_of}
+use Rattle.st_run.specs.Events.{Timed, address_ahead, drop_of}
 use Rattle.st_run.specs.Moments.{Moment, Standing, next_state, ends_segment, next_moment}
-use Rattle.st_run.specs.TimedRun.{at, ticks_before, ticks_from, last_snapshot_at, snapshot_at, drops, drops_if_ends, happening_at, between, completion, until_done, last_events, timed_from, timed_behind}
-use Rattle.st_run.specs.Told.{What, Dropped, Shown, Ended, Told, what_happens, told_of, told}
+use Rattle.st_run.specs.TimedRun.{event_at, ticks_before, snapshots_from, last_snapshot_at, snapshot_at, drops, drops_if_ends, happening_at, events_between, completion, until_done, last_events, timed_from, timed_behind}
+use Rattle.st_run.specs.Told.{What, Dropped, Shown, Ended, Told, what_happens, told_of, told_of_events}
 use Rattle.st_run.specs.Together.{text_told, AreTexts}
 use Rattle.st_run.specs.Telling.{taken_told, whats, at_once, told_at_end}
 use Rattle.st_run.proofs.DoneLemmas.{settled-done}
@@ -20,15 +20,15 @@ use Rattle.st_run.proofs.DoneLemmas.{settled-done}
 abbrev pub once : ℕ → ℕ → What → Told
 once done tick what = record { done = done; tick = tick; what = what }
 
-pub told-append : (xs ys : List Timed) → told (xs ++ ys) ≡ told xs ++ told ys
-unfolding told
+pub told-append : (xs ys : List Timed) → told_of_events (xs ++ ys) ≡ told_of_events xs ++ told_of_events ys
+unfolding told_of_events
 told-append [] ys = refl
 told-append (x ∷ xs) ys = ap (λ (rest : List Told). told_of x ∷ rest) (told-append xs ys)
 
 -- what is told of events of one kind
 told-each : {A : Type 0} (event : A → Timed) (tell : A → Told) (xs : List A) → ((x : A) → told_of (event x) ≡ tell x)
-    → told (map event xs) ≡ map tell xs
-unfolding told
+    → told_of_events (map event xs) ≡ map tell xs
+unfolding told_of_events
 told-each event tell [] each = refl
 told-each event tell (x ∷ xs) each = rw (each x) (ap (λ (rest : List Told). tell x ∷ rest) (told-each event tell xs each))
 
@@ -46,7 +46,7 @@ reverse-map {A} {B} f (x ∷ xs) =
 
 -- an entry that is dropped, by its address and its tick
 abbrev pub dropped_at : Ahead → ℕ × ℕ
-dropped_at a = (address_of a, a.row.p)
+dropped_at a = (address_ahead a, a.row.p)
 
 abbrev dropped_told : ℕ × ℕ → What
 dropped_told d = Dropped d.0 d.1
@@ -55,15 +55,15 @@ module _ (m : Moment) where
   abbrev tell : What → Told
   tell what = once m.scene.machine.done m.tick what
 
-  tell-drops : told (drops m) ≡ map tell (map dropped_told (reverse (map dropped_at m.dropped)))
+  tell-drops : told_of_events (drops m) ≡ map tell (map dropped_told (reverse (map dropped_at m.dropped)))
   unfolding drops
   tell-drops =
-      told-each (λ (a : Ahead). at m.tick m.scene.machine (drop_of a)) (λ (a : Ahead). tell (dropped_told (dropped_at a))) (reverse m.dropped) (λ a. refl)
+      told-each (λ (a : Ahead). event_at m.tick m.scene.machine (drop_of a)) (λ (a : Ahead). tell (dropped_told (dropped_at a))) (reverse m.dropped) (λ a. refl)
       ∙ map-both (λ (a : Ahead). dropped_told (dropped_at a)) tell (reverse m.dropped)
       ∙ ap (map tell) (map-both dropped_at dropped_told (reverse m.dropped)
       ∙ ap (map dropped_told) (sym (reverse-map dropped_at m.dropped)))
 
-  tell-happenings : (hs : List PlainEvent) → told (map (happening_at m) hs) ≡ map tell (map what_happens hs)
+  tell-happenings : (hs : List PlainEvent) → told_of_events (map (happening_at m) hs) ≡ map tell (map what_happens hs)
   tell-happenings hs =
       told-each (happening_at m) (λ (h : PlainEvent). tell (what_happens h)) hs (λ h. refl)
       ∙ map-both what_happens tell hs
@@ -72,8 +72,8 @@ module _ (m : Moment) where
   abbrev pub drops_by : Bool → List (ℕ × ℕ)
   drops_by ends = if ends then map dropped_at m.dropped else []
 
-  tell-drops_by : (ends : Bool) → told (if ends then drops m else []) ≡ map tell (map dropped_told (reverse (drops_by ends)))
-  unfolding told
+  tell-drops_by : (ends : Bool) → told_of_events (if ends then drops m else []) ≡ map tell (map dropped_told (reverse (drops_by ends)))
+  unfolding told_of_events
   tell-drops_by true = tell-drops
   tell-drops_by false = refl
 
@@ -82,16 +82,16 @@ module _ (m : Moment) where
   tell-taken (Some i) s = refl
 
   tell-between : (text : Option (List ℕ)) → AreTexts text (interlude m.scene).happened
-      → told (between m)
+      → told_of_events (events_between m)
       ≡ map tell (whats (record { drops = drops_by (ends_segment m); text = text; taken = interrupt (next_state m) }) (next_state m))
-  unfolding between whats
+  unfolding events_between whats
   tell-between text same =
       let hs = (interlude m.scene).happened in
       let s = next_state m in
       let is = interrupts_by (interrupt s) s in
       let ds : List What = map dropped_told (reverse (drops_by (ends_segment m))) in
       told-append (drops_if_ends m) (map (happening_at m) (hs ++ is))
-      ∙ ap (λ (xs : List Told). xs ++ told (map (happening_at m) (hs ++ is))) (tell-drops_by (ends_segment m))
+      ∙ ap (λ (xs : List Told). xs ++ told_of_events (map (happening_at m) (hs ++ is))) (tell-drops_by (ends_segment m))
       ∙ ap (λ (xs : List Told). map tell ds ++ xs) (tell-happenings (hs ++ is)
       ∙ ap (map tell) (map-append what_happens hs is))
       ∙ sym (map-append tell ds (map what_happens hs ++ map what_happens is))
@@ -101,7 +101,7 @@ module _ (m : Moment) where
 
   -- where the state behind it has as many done
   pub told-between : (text : Option (List ℕ)) → AreTexts text (interlude m.scene).happened
-      → told (between m)
+      → told_of_events (events_between m)
       ≡ map (at_once m.tick (next_state m))
       (whats (record { drops = drops_by (ends_segment m); text = text; taken = interrupt (next_state m) }) (next_state m))
   told-between text same =
@@ -110,11 +110,11 @@ module _ (m : Moment) where
       ∙ ap (λ (d : ℕ). map (once d m.tick) ws) (sym (settled-done m.scene))
 
   tell-last : (text : Option (List ℕ)) (snaps : List ℕ) → AreTexts text (interlude m.scene).happened
-      → told (last_events m snaps)
+      → told_of_events (last_events m snaps)
       ≡ map tell (whats (record { drops = map dropped_at m.dropped; text = text; taken = None }) (next_state m))
       ++ (map (λ (x : ℕ). tell (Shown x (next_state m) [])) (ticks_before (m.tick + 1) snaps)
       ++ tell (Ended (rests (next_state m)) (next_state m)) ∷ [])
-  unfolding last_events whats told
+  unfolding last_events whats told_of_events
   tell-last text snaps same =
       let hs = (interlude m.scene).happened in
       let s = next_state m in
@@ -127,11 +127,11 @@ module _ (m : Moment) where
       told-append (drops m ++ map (happening_at m) hs ++ shows) (last ∷ [])
       ∙ ap (λ (xs : List Told). xs ++ ending)
       (told-append (drops m ++ map (happening_at m) hs) shows
-      ∙ ap (λ (xs : List Told). told (drops m ++ map (happening_at m) hs) ++ xs)
+      ∙ ap (λ (xs : List Told). told_of_events (drops m ++ map (happening_at m) hs) ++ xs)
       (told-each (last_snapshot_at m) (λ (x : ℕ). tell (Shown x s [])) due (λ x. refl))
       ∙ ap (λ (xs : List Told). xs ++ showing)
       (told-append (drops m) (map (happening_at m) hs)
-      ∙ ap (λ (xs : List Told). xs ++ told (map (happening_at m) hs)) tell-drops
+      ∙ ap (λ (xs : List Told). xs ++ told_of_events (map (happening_at m) hs)) tell-drops
       ∙ ap (λ (xs : List Told). map tell ds ++ xs) (tell-happenings hs)
       ∙ sym (map-append tell ds (map what_happens hs))
       ∙ ap (λ (xs : List What). map tell (ds ++ xs)) (sym same)
@@ -143,7 +143,7 @@ module _ (m : Moment) where
       append-none (x ∷ xs) = ap (λ (ys : List What). x ∷ ys) (append-none xs)
 
   pub told-last : (text : Option (List ℕ)) (snaps : List ℕ) → AreTexts text (interlude m.scene).happened
-      → told (last_events m snaps)
+      → told_of_events (last_events m snaps)
       ≡ map (at_once m.tick (next_state m)) (whats (record { drops = map dropped_at m.dropped; text = text; taken = None }) (next_state m))
       ++ told_at_end (rests (next_state m)) m.tick snaps (next_state m)
   unfolding told_at_end
@@ -162,14 +162,14 @@ all-behind P [] ys all = all
 all-behind P (x ∷ xs) ys all = all-behind P xs ys (All-tail P x (xs ++ ys) all)
 
 pub told-completion : (P : Told → Type 0) (ds : List ℕ) (n left : ℕ) (p : Standing) (snaps : List ℕ)
-    → All P (told (timed_behind ds n left p snaps)) → P (told_of (completion ds n p))
-unfolding until_done told
+    → All P (told_of_events (timed_behind ds n left p snaps)) → P (told_of (completion ds n p))
+unfolding until_done told_of_events
 told-completion P ds n left p snaps all =
     let shows = map (snapshot_at ds n p) (ticks_before (next_moment ds n p).tick snaps) in
     let last = completion ds n p in
-    let rest = timed_from ds n left (next_moment ds n p) (ticks_from (next_moment ds n p).tick snaps) in
-    let joined : told (timed_behind ds n left p snaps) ≡ told shows ++ (told_of last ∷ told rest) =
+    let rest = timed_from ds n left (next_moment ds n p) (snapshots_from (next_moment ds n p).tick snaps) in
+    let joined : told_of_events (timed_behind ds n left p snaps) ≡ told_of_events shows ++ (told_of last ∷ told_of_events rest) =
     told-append (shows ++ last ∷ []) rest
-    ∙ ap (λ (xs : List Told). xs ++ told rest) (told-append shows (last ∷ []))
-    ∙ append_assoc (told shows) (told_of last ∷ []) (told rest) in
-    All-head P (told_of last) (told rest) (all-behind P (told shows) (told_of last ∷ told rest) (rw joined at all))
+    ∙ ap (λ (xs : List Told). xs ++ told_of_events rest) (told-append shows (last ∷ []))
+    ∙ append_assoc (told_of_events shows) (told_of last ∷ []) (told_of_events rest) in
+    All-head P (told_of last) (told_of_events rest) (all-behind P (told_of_events shows) (told_of last ∷ told_of_events rest) (rw joined at all))

@@ -6,13 +6,13 @@ use Rattle.st_state.specs.Machine.{Machine}
 use Rattle.st_prep.specs.Fetch.{index_words}
 use Rattle.st_exec.specs.Step.{rests}
 use Rattle.st_banks.specs.declared.answers.LastAnswers.{LastAnswers}
-use Rattle.st_rows.specs.Rows.{opening, row, addressed, prepared, tick_a, tick_p}
+use Rattle.st_rows.specs.Rows.{opening_front, row_of_entry, address_tick, preparation_tick, tick_a, tick_p}
 use Rattle.st_segment.specs.Entries.{entry}
 use Rattle.st_segment.specs.Ahead.{ahead, prepared_before}
 use Rattle.st_segment.specs.Guesses.{split_words}
 use Rattle.st_run.specs.Events.{Shows, with_index_words, snapshot}
-use Rattle.st_run.specs.Moments.{Moment, Standing, next_state, ends_segment, next_segment, next_front, standing, taken, entries_ahead, next_moment}
-use Rattle.st_run.specs.TimedRun.{ticks_before, ticks_from, snapshot_at, between, completion, until_done, last_events, timed_from, timed_behind}
+use Rattle.st_run.specs.Moments.{Moment, Standing, next_state, ends_segment, next_segment, next_front, standing_at, interrupt_of_moment, entries_at_moment, next_moment}
+use Rattle.st_run.specs.TimedRun.{ticks_before, snapshots_from, snapshot_at, events_between, completion, until_done, last_events, timed_from, timed_behind}
 
 -- ---- turns
 
@@ -32,36 +32,36 @@ timed-budget ds n (suc left) m snaps h = absurd (omega arith)
 
 -- else the next entry is done
 goes_on-some : (ds : List ℕ) (n left : ℕ) (m : Moment) (snaps : List ℕ) → rests (next_state m) ≡ false
-    → timed_from ds n (suc left) m snaps ≡ between m ++ timed_behind ds n left (standing m) snaps
+    → timed_from ds n (suc left) m snaps ≡ events_between m ++ timed_behind ds n left (standing_at m) snaps
 unfolding timed_from
 goes_on-some ds n left m snaps h =
-    let next = next_moment ds n (standing m) in
-    rw h (append_assoc (between m) (until_done ds n (standing m) snaps) (timed_from ds n left next (ticks_from next.tick snaps)))
+    let next = next_moment ds n (standing_at m) in
+    rw h (append_assoc (events_between m) (until_done ds n (standing_at m) snaps) (timed_from ds n left next (snapshots_from next.tick snaps)))
 
 pub timed-goes_on : (ds : List ℕ) (n left : ℕ) (m : Moment) (snaps : List ℕ) → left ≢ 0 → rests (next_state m) ≡ false
-    → timed_from ds n left m snaps ≡ between m ++ timed_behind ds n (left - 1) (standing m) snaps
+    → timed_from ds n left m snaps ≡ events_between m ++ timed_behind ds n (left - 1) (standing_at m) snaps
 timed-goes_on ds n zero m snaps some h = absurd (some refl)
 timed-goes_on ds n (suc left) m snaps some h =
     let same : left ≡ suc left - 1 = omega arith in
-    goes_on-some ds n left m snaps h ∙ ap (λ k. between m ++ timed_behind ds n k (standing m) snaps) same
+    goes_on-some ds n left m snaps h ∙ ap (λ k. events_between m ++ timed_behind ds n k (standing_at m) snaps) same
 
 -- ---- before an entry is done
 
 -- a snapshot that is due before is shown first
 pub behind-snapshot : (ds : List ℕ) (n left : ℕ) (p : Standing) (x : ℕ) (xs : List ℕ) → x < (next_moment ds n p).tick
     → timed_behind ds n left p (x ∷ xs) ≡ snapshot_at ds n p x ∷ timed_behind ds n left p xs
-unfolding until_done ticks_before ticks_from
+unfolding until_done ticks_before snapshots_from
 behind-snapshot ds n left p x xs early = rw (lt-ltb x (next_moment ds n p).tick early) refl
 
 -- where none is, the entry is done
 pub behind-done : (ds : List ℕ) (n left : ℕ) (p : Standing) (x : ℕ) (xs : List ℕ) → (next_moment ds n p).tick ≤ x
     → timed_behind ds n left p (x ∷ xs) ≡ completion ds n p ∷ timed_from ds n left (next_moment ds n p) (x ∷ xs)
-unfolding until_done ticks_before ticks_from
+unfolding until_done ticks_before snapshots_from
 behind-done ds n left p x xs late = rw (le-ltb x (next_moment ds n p).tick late) refl
 
 pub behind-none : (ds : List ℕ) (n left : ℕ) (p : Standing)
     → timed_behind ds n left p [] ≡ completion ds n p ∷ timed_from ds n left (next_moment ds n p) []
-unfolding until_done ticks_before ticks_from
+unfolding until_done ticks_before snapshots_from
 behind-none ds n left p = refl
 
 -- ---- snapshots of which nothing is ahead
@@ -84,11 +84,11 @@ snapshot-none tick t s = ap (λ u. Shows tick u []) (same-words s)
 
 -- the first entry of a segment is prepared behind its start
 opening-late : (ds : List ℕ) (n k : ℕ) (t : Option ℕ) (s : Machine) (banks : LastAnswers) (start tick : ℕ) → tick ≤ start
-    → prepared_before (tick + 1) (ahead ds n k t s (opening banks start)) ≡ []
-unfolding ahead prepared_before row tick_a tick_p addressed prepared
+    → prepared_before (tick + 1) (ahead ds n k t s (opening_front banks start)) ≡ []
+unfolding ahead prepared_before row_of_entry tick_a tick_p address_tick preparation_tick
 opening-late ds n zero t s banks start tick early = refl
 opening-late ds n (suc k) t s banks start tick early =
-    let p = tick_p ds n (opening banks start) (entry t s) in
+    let p = tick_p ds n (opening_front banks start) (entry t s) in
     let late : tick + 1 ≤ p = omega arith in
     rw (le-ltb p (tick + 1) late) refl
 
@@ -98,7 +98,7 @@ front-ended m h = rw h refl
 
 pub nothing-ahead : (ds : List ℕ) (n : ℕ) (m : Moment) (tick : ℕ) → ends_segment m ≡ true
     → tick ≤ m.tick + 1 + length m.dropped
-    → prepared_before (tick + 1) (entries_ahead ds n (standing m)) ≡ []
+    → prepared_before (tick + 1) (entries_at_moment ds n (standing_at m)) ≡ []
 nothing-ahead ds n m tick h early =
-    ap (λ f. prepared_before (tick + 1) (ahead ds n n (taken (standing m)) (next_state m) f)) (front-ended m h)
-    ∙ opening-late ds n n (taken (standing m)) (next_state m) m.banks (m.tick + 1 + length m.dropped) tick early
+    ap (λ f. prepared_before (tick + 1) (ahead ds n n (interrupt_of_moment (standing_at m)) (next_state m) f)) (front-ended m h)
+    ∙ opening-late ds n n (interrupt_of_moment (standing_at m)) (next_state m) m.banks (m.tick + 1 + length m.dropped) tick early

@@ -11,26 +11,26 @@ use Rattle.st_state.specs.Machine.{Machine, IsMachine, word}
 use Rattle.st_prep.specs.declared.entries.IndexChange.{IndexChange}
 use Rattle.st_prep.specs.declared.entries.Place.{Place}
 use Rattle.st_prep.specs.declared.entries.Aim.{Aim}
-use Rattle.st_prep.specs.EarlyChange.{unchanged, compared, changed, half_change, progressive_change, change}
+use Rattle.st_prep.specs.EarlyChange.{without_change, change_of_comparison, change_of_index, half_change, progressive_change, change}
 use Rattle.st_prep.specs.Fetch.{index_words}
-use Rattle.st_prep.specs.Plan.{plan, prepared, prepared_by, suppressed, entry as entry_of, sight}
+use Rattle.st_prep.specs.Plan.{plan, prepared_entry, prepared_by, suppressed_entry, entry_at as entry_of, sight}
 use Rattle.st_prep.specs.Ranges.{IsChange}
 use Rattle.st_prep.proofs.Choices.{of_choice}
 use Rattle.st_prep.proofs.PlanLemmas.{plan-prepared}
 use Rattle.st_exec.specs.Completion.{guess}
 use Rattle.st_exec.proofs.UnwrittenLemmas.{guessed-machine}
-use Rattle.st_rows.specs.Rows.{row, after}
+use Rattle.st_rows.specs.Rows.{row_of_entry, front_after_entry}
 use Rattle.st_rows.specs.declared.front.Front.{Front}
 use Rattle.st_segment.specs.Entries.{entry}
 use Rattle.st_segment.specs.Ahead.{Ahead, ahead, prepared_before, plan_of}
-use Rattle.st_ahead.specs.Overlap.{Overlap, seen, levels_of, last_tick}
-use Rattle.st_ahead.specs.Shown.{kept_by, level_shown, shown}
+use Rattle.st_ahead.specs.Overlap.{Overlap, state_ahead, levels_of, last_tick_made}
+use Rattle.st_ahead.specs.Shown.{word_before_change, level_shown, view_at_tick}
 use Rattle.st_ahead.specs.declared.events.LevelView.{LevelView}
 use Rattle.st_run.specs.Events.{changed_by, level_at}
-use Rattle.st_run.specs.Telling.{Waiting, IsLevel, AreLevels, IsRun, ahead_of}
+use Rattle.st_run.specs.Telling.{Waiting, IsLevelShown, AreLevelsShown, IsRun, ahead_of}
 use Rattle.st_run.specs.declared.turn.Turn.{Turn}
 use Rattle.st_run.specs.declared.turn.Turn.TheVariants as turns
-use Rattle.st_run.specs.Together.{Together, IsBefore}
+use Rattle.st_run.specs.Together.{Together, IsBeforeEntry}
 use Rattle.st_run.proofs.SceneLemmas.{interrupt-below}
 
 -- ---- the word that an early change replaces
@@ -40,7 +40,7 @@ abbrev Keeps : List ℕ → Option IndexChange → Type 0
 Keeps xs o = IfSome o (λ c. c.kept ≡ slice_index xs c.number)
 
 half-keeps : (op : HalfOp) (xs : List ℕ) (a j e : ℕ) (r : Option ℕ) → Keeps xs (half_change op xs a j (slice_index xs j) e r).index
-unfolding half_change compared changed
+unfolding half_change change_of_comparison change_of_index
 half-keeps Lx xs a j e r = refl
 half-keeps Lv xs a j e r = refl
 half-keeps Lc xs a j e r = refl
@@ -70,9 +70,9 @@ half-keeps Sva xs a j e r = tt
 half-keeps Ex xs a j e r = tt
 
 progressive-keeps : (xs : List ℕ) (p i a : ℕ) (r : Option ℕ) → Keeps xs (progressive_change p i (slice_index xs i) a r).index
-unfolding progressive_change changed
+unfolding progressive_change change_of_index
 progressive-keeps xs p i a r =
-    of_choice (λ early. Keeps xs early.index) (nat_lt p 2) unchanged (changed i (slice_index xs i) _ r) tt refl
+    of_choice (λ early. Keeps xs early.index) (nat_lt p 2) without_change (change_of_index i (slice_index xs i) _ r) tt refl
 
 change-keeps : (xs : List ℕ) (instr : Instr) (e : ℕ) (r : Option ℕ) → Keeps xs (change xs instr e r).index
 unfolding change
@@ -89,12 +89,12 @@ change-keeps xs (Transfer w a i n) e r = tt
 change-keeps xs (Invalid first second full) e r = tt
 
 by-keeps : (o : Option ℕ) (place : Place) (a : Aim) (xs : List ℕ) (read : Option ℕ) → Keeps xs (prepared_by o place a xs read).index
-unfolding suppressed entry_of
+unfolding suppressed_entry entry_of
 by-keeps None place a xs read = change-keeps xs a.instr a.e read
 by-keeps (Some i) place a xs read = tt
 
 plan-keeps : (s : Machine) (t : Option ℕ) → Keeps (index_words s) (plan s t).index
-unfolding plan prepared sight
+unfolding plan prepared_entry sight
 plan-keeps s t = by-keeps _ _ _ (index_words s) _
 
 word-of_index : (s : Machine) (j : ℕ) → j < 16 → slice_index (index_words s) j ≡ word s (16 + j)
@@ -103,12 +103,12 @@ word-of_index s j low = get_or-take 16 (drop 16 s.words) j 0 low ∙ get_or-drop
 
 -- so it stands in the state before the step
 changed-same : (o : Option IndexChange) (s : Machine) → Keeps (index_words s) o → IfSome o IsChange
-    → option_map (λ (i : ℕ). record { number = i; before = kept_by o }) (option_map (λ (c : IndexChange). c.number) o) ≡ changed_by o s
+    → option_map (λ (i : ℕ). record { number = i; before = word_before_change o }) (option_map (λ (c : IndexChange). c.number) o) ≡ changed_by o s
 changed-same None s keeps fits = refl
 changed-same (Some c) s keeps fits =
     ap {A = ℕ} (λ k. Some (record { number = c.number; before = k })) (keeps ∙ word-of_index s c.number fits.number)
 
-level-is : (tick : ℕ) (a : Ahead) → IsMachine a.state → IfSome a.table (λ i. i < 64) → IsLevel (level_shown tick a) (level_at tick a)
+level-is : (tick : ℕ) (a : Ahead) → IsMachine a.state → IfSome a.table (λ i. i < 64) → IsLevelShown (level_shown tick a) (level_at tick a)
 level-is tick a m some = record {
   address = refl;
   changed = changed-same (plan_of a).index a.state (plan-keeps a.state a.table) (plan-prepared a.state a.table m some).change;
@@ -118,16 +118,16 @@ level-is tick a m some = record {
 -- ---- all of them
 
 levels-are : (tick now : ℕ) (ds : List ℕ) (n k : ℕ) (t : Option ℕ) (s : Machine) (f : Front) → IsMachine s → IfSome t (λ i. i < 64)
-    → AllZip IsLevel (map (level_shown tick) (prepared_before now (ahead ds n k t s f)))
+    → AllZip IsLevelShown (map (level_shown tick) (prepared_before now (ahead ds n k t s f)))
     (map (level_at tick) (prepared_before now (ahead ds n k t s f)))
 unfolding ahead prepared_before
 levels-are tick now ds n zero t s f m some = tt
 levels-are tick now ds n (suc k) t s f m some =
-    let a : Ahead = record { state = s; table = t; front = f; entry = entry t s; row = row ds n f (entry t s) } in
+    let a : Ahead = record { state = s; table = t; front = f; entry = entry t s; row = row_of_entry ds n f (entry t s) } in
     let next = guessed-machine (plan s t) s (plan-prepared s t m some) m in
-    of_choice (λ (xs : List Ahead). AllZip IsLevel (map (level_shown tick) xs) (map (level_at tick) xs)) (nat_lt a.row.p now)
-    (a ∷ prepared_before now (ahead ds n k None (guess t s) (after ds n f (entry t s)))) []
-    (level-is tick a m some, levels-are tick now ds n k None (guess t s) (after ds n f (entry t s)) next tt)
+    of_choice (λ (xs : List Ahead). AllZip IsLevelShown (map (level_shown tick) xs) (map (level_at tick) xs)) (nat_lt a.row.p now)
+    (a ∷ prepared_before now (ahead ds n k None (guess t s) (front_after_entry ds n f (entry t s)))) []
+    (level-is tick a m some, levels-are tick now ds n k None (guess t s) (front_after_entry ds n f (entry t s)) next tt)
     tt
 
 map-map : {A B C : Type 0} (f : A → B) (g : B → C) (xs : List A) → map (λ (x : A). g (f x)) xs ≡ map g (map f xs)
@@ -145,30 +145,30 @@ room-is tick xs =
     ap {A = List (Option LevelView)} (λ ys. ys ++ replicate (8 - length xs) None) (map-map (level_shown tick) (λ (v : LevelView). Some v) xs)
     ∙ ap {A = ℕ} (λ k. map (λ (v : LevelView). Some v) (map (level_shown tick) xs) ++ replicate (8 - k) None) (sym (map-length (level_shown tick) xs))
 
-seen-plain : (o : Overlap) → o.ended ≡ false → o.behind ≡ None → o.state ≡ seen o
-unfolding seen
+seen-plain : (o : Overlap) → o.ended ≡ false → o.behind ≡ None → o.state ≡ state_ahead o
+unfolding state_ahead
 seen-plain o going guessed = rw (going, guessed) refl
 
 same-levels : (o : Overlap) (m : IsMachine o.state) → o.ended ≡ false → o.behind ≡ None → IfSome o.taken (λ i. i < 64)
-    → AllZip IsLevel (map (level_shown (last_tick o)) (levels_of o)) (ahead_of o)
+    → AllZip IsLevelShown (map (level_shown (last_tick_made o)) (levels_of o)) (ahead_of o)
 unfolding levels_of
 same-levels o m going guessed some =
-    levels-are (last_tick o) o.now o.delays o.levels o.levels o.taken (seen o) o.front
+    levels-are (last_tick_made o) o.now o.delays o.levels o.levels o.taken (state_ahead o) o.front
     (subst IsMachine (seen-plain o going guessed) m) some
 
-pub view-before : (t : Together) → IsBefore t → AreLevels (shown t.machine).levels (ahead_of t.machine)
-unfolding shown
+pub view-before : (t : Together) → IsBeforeEntry t → AreLevelsShown (view_at_tick t.machine).levels (ahead_of t.machine)
+unfolding view_at_tick
 view-before t h =
     let o = t.machine in
     let some : IfSome o.taken (λ i. i < 64) = subst {A = Option ℕ} (λ k. IfSome k (λ i. i < 64)) (sym h.table) (interrupt-below o.state) in
     record {
-      views = map (level_shown (last_tick o)) (levels_of o);
-      room = room-is (last_tick o) (levels_of o);
+      views = map (level_shown (last_tick_made o)) (levels_of o);
+      room = room-is (last_tick_made o) (levels_of o);
       same = same-levels o h.scene.machine h.going h.guessed some;
     }
 
-pub view-none : (o : Overlap) → levels_of o ≡ [] → AreLevels (shown o).levels (ahead_of o)
-unfolding shown
+pub view-none : (o : Overlap) → levels_of o ≡ [] → AreLevelsShown (view_at_tick o).levels (ahead_of o)
+unfolding view_at_tick
 view-none o none = record {
   views = [];
   room = rw none refl;
@@ -176,7 +176,7 @@ view-none o none = record {
 }
 
 pub view-run : (turn : Turn) (left tick : ℕ) (snaps : List ℕ) (w : Waiting) (t : Together) → IsRun turn left tick snaps w t
-    → AreLevels (shown t.machine).levels (ahead_of t.machine)
+    → AreLevelsShown (view_at_tick t.machine).levels (ahead_of t.machine)
 view-run turns.Before left tick snaps w t is = view-before t is.stands.0
 view-run (turns.AtEnd rests) left tick snaps w t is = view-none t.machine is.stands
 view-run turns.Over left tick snaps w t is = view-none t.machine is.stands

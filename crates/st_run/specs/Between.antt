@@ -5,34 +5,39 @@ use Rattle.st_exec.specs.Step.{rests}
 use Rattle.st_card.specs.declared.control_cards.Signal.{Signal}
 use Rattle.st_run.specs.Run.{Transition}
 use Rattle.st_ahead.specs.Overlap.{Overlap, interrupt_due}
-use Rattle.st_ahead.specs.Calls.{run_ended, settled, MayServe}
+use Rattle.st_ahead.specs.Calls.{run_ended, machine_after_settling, MayServe}
 use Rattle.st_ahead.specs.declared.events.Settled.{Settled}
 use Rattle.st_ahead.specs.declared.events.Settled.TheVariants as answers
-use Rattle.st_run.specs.Together.{Together, scene_of, AreTexts, IsBehind, IsSince}
+use Rattle.st_run.specs.Together.{Together, scene_of, AreTexts, IsBehindEntry, IsSince}
 use Rattle.st_run.specs.declared.turn.Turn.{Turn}
 use Rattle.st_run.specs.declared.turn.Turn.TheVariants.{Before, AtEnd, Over}
 use Rattle.st_run.specs.declared.leaving.Decided.{Decided}
 
 -- of two texts the first one
-abbrev pub first_text : Option (List ℕ) → Option (List ℕ) → Option (List ℕ)
-first_text (Some text) later = Some text
-first_text None later = later
+abbrev pub first_of_texts : Option (List ℕ) → Option (List ℕ) → Option (List ℕ)
+first_of_texts (Some text) later = Some text
+first_of_texts None later = later
 
--- the scene is the one that is reached, and the text is what was printed, if that is no more than one; by now the
--- segment has ended or not, as it had before or not
-pub record Came (r : Transition) (text : Option (List ℕ)) (before after : Bool) (old new : Together) : Type 0 where
+-- the scene is the one that is reached, and the text is what was printed, if that is no more than
+-- one; by now the segment has ended or not, as it had before or not
+pub record Came (r : Transition) (text : Option (List ℕ)) (before after : Bool)
+    (old new : Together) : Type 0 where
   pub scene : scene_of new ≡ r.scene
   pub told : length r.happened ≤ 1 → AreTexts text r.happened
-  pub since : (b : Together) → IsBehind b → IsSince b.machine before old → IsSince b.machine after new
+  pub since : (b : Together) → IsBehindEntry b → IsSince b.machine before old →
+      IsSince b.machine after new
   pub serves : MayServe old.machine → MayServe new.machine
 
--- the run goes on by the decision about interrupts; or its last segment ends, at rest or where no more may be done
+-- the run goes on by the decision about interrupts; or its last segment ends, at rest or where no
+-- more may be done
 abbrev pub IsChoice : Turn → ℕ → Bool → Overlap → Decided → Overlap → Type 0
 IsChoice Before left over old d new =
-    (left ≢ 0) × (rests old.state ≡ false) × (new ≡ settled old) × (d.taken ≡ interrupt_due old)
+    (left ≢ 0) × (rests old.state ≡ false) × (new ≡ machine_after_settling old)
+    × (d.taken ≡ interrupt_due old)
     × (d.ends ≡ (is_some old.behind || over || is_some (interrupt_due old)))
 IsChoice (AtEnd resting) left over old d new =
-    (resting ≡ rests old.state) × (resting ≡ false → left ≡ 0) × (d.ends ≡ true) × (d.taken ≡ None) × (new ≡ run_ended old)
+    (resting ≡ rests old.state) × (resting ≡ false → left ≡ 0) × (d.ends ≡ true) × (d.taken ≡ None)
+    × (new ≡ run_ended old)
 IsChoice Over left over old d new = ⊥
 
 -- whether the segment ends and which interrupt is taken, by the answer

@@ -4,18 +4,20 @@ use Rattle.st_bits.specs.declared.register.TheConstants.{FIRST_INDEX_WORD, FIRST
 use Rattle.st_state.specs.Machine.{Machine, word}
 use Rattle.st_prep.specs.declared.entries.IndexChange.{IndexChange}
 use Rattle.st_run.specs.Run.{PlainEvent, Executes}
-use Rattle.st_rows.specs.declared.front.Row.{Row}
+use Rattle.st_rows.specs.declared.front.EntryTicks.{EntryTicks}
 use Rattle.st_segment.specs.Ahead.{Ahead, plan_of}
 use Rattle.st_segment.specs.Guesses.{split_words}
 
 -- ---- what is shown of the entries ahead
 
--- an index word that an entry changed early: its number, and what it was before the entry's own step
+-- an index word that an entry changed early: its number, and what it was before the entry's own
+-- step
 pub record Changed : Type 0 where
   pub number : ℕ
   pub before : ℕ
 
--- an entry ahead: its address, the index word that it changed, and whether all its operands are there
+-- an entry ahead: its address, the index word that it changed, and whether all its operands are
+-- there
 pub record Level : Type 0 where
   pub address : ℕ
   pub changed : Option Changed
@@ -23,18 +25,18 @@ pub record Level : Type 0 where
 
 -- ---- events
 
--- an entry is done and leaves this state, with its address and its row; an entry that ran ahead is dropped,
--- with its address and the tick at which it was prepared; at a tick a state and the entries ahead of it are
--- shown, oldest first; and what else happens in the plain run: words are printed, an interrupt is taken, the
--- run ends
+-- an entry is done and leaves this state, with its address and its row; an entry that ran ahead is
+-- dropped, with its address and the tick at which it was prepared; at a tick a state and the
+-- entries ahead of it are shown, oldest first; and what else happens in the plain run: words are
+-- printed, an interrupt is taken, the run ends
 pub data Event : Type 0 where
-  Completes : Machine → ℕ → Row → Event
+  Completes : Machine → ℕ → EntryTicks → Event
   Drops : ℕ → ℕ → Event
   Shows : ℕ → Machine → List Level → Event
   Happens : PlainEvent → Event
 
--- an event, with the number of entries that are done by then and the tick at which the last of them was,
--- 0 before the first
+-- an event, with the number of entries that are done by then and the tick at which the last of them
+-- was, 0 before the first
 pub record Timed : Type 0 where
   pub done : ℕ
   pub tick : ℕ
@@ -43,12 +45,12 @@ pub record Timed : Type 0 where
 -- ---- entries ahead
 
 -- its address
-abbrev pub address_of : Ahead → ℕ
-address_of a = (plan_of a).place.address
+abbrev pub address_ahead : Ahead → ℕ
+address_ahead a = (plan_of a).place.address
 
 -- it is dropped
 abbrev pub drop_of : Ahead → Event
-drop_of a = Drops (address_of a) a.row.p
+drop_of a = Drops (address_ahead a) a.row.p
 
 -- the index word that it changes early, and what that is in the state before its step
 abbrev pub changed_by : Option IndexChange → Machine → Option Changed
@@ -59,7 +61,7 @@ changed_by (Some c) s =
 -- how it is shown at a tick
 abbrev pub level_at : ℕ → Ahead → Level
 level_at tick a = record {
-  address = address_of a;
+  address = address_ahead a;
   changed = changed_by (plan_of a).index a.state;
   ready = nat_le a.row.r tick;
 }
@@ -69,22 +71,23 @@ unfoldable pub with_index_words : List ℕ → Machine → Machine
 with_index_words xs s =
     record s { words = take FIRST_INDEX_WORD s.words ++ xs ++ drop FIRST_STORAGE_WORD s.words }
 
--- the state with these entries ahead of it, shown at a tick; the first of them is the table instruction of
--- an interrupt where one was taken
+-- the state with these entries ahead of it, shown at a tick; the first of them is the table
+-- instruction of an interrupt where one was taken
 unfoldable pub snapshot : ℕ → Option ℕ → Machine → List Ahead → Event
 snapshot tick taken s levels =
-    Shows tick (with_index_words (split_words (length levels) taken s) s) (map (level_at tick) levels)
+    Shows tick (with_index_words (split_words (length levels) taken s) s)
+    (map (level_at tick) levels)
 
 -- ---- what is left without the timetable
 
 -- what an event is in the plain run
-abbrev pub plain : Event → List PlainEvent
-plain (Completes s address row) = Executes s address ∷ []
-plain (Drops address p) = []
-plain (Shows tick s levels) = []
-plain (Happens happening) = happening ∷ []
+abbrev pub plain_events_of : Event → List PlainEvent
+plain_events_of (Completes s address row) = Executes s address ∷ []
+plain_events_of (Drops address p) = []
+plain_events_of (Shows tick s levels) = []
+plain_events_of (Happens happening) = happening ∷ []
 
 -- what a list of events is there
-unfoldable pub untimed : List Timed → List PlainEvent
-untimed [] = []
-untimed (x ∷ xs) = plain x.event ++ untimed xs
+unfoldable pub plain_run : List Timed → List PlainEvent
+plain_run [] = []
+plain_run (x ∷ xs) = plain_events_of x.event ++ plain_run xs

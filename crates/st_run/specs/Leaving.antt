@@ -3,16 +3,17 @@ use Rattle.std.specs.Prelude.{ℕ, ◌≡◌, ◌≢◌, true, false, None, opti
 use Rattle.st_exec.specs.Step.{rests}
 use Rattle.st_run.specs.Run.{interlude}
 use Rattle.st_run.specs.Moments.{Moment, next_state}
-use Rattle.st_run.specs.Together.{Together, AreTexts, GoesOn, Stops}
+use Rattle.st_run.specs.Together.{Together, AreTexts, RunGoesOn, RunStops}
 use Rattle.st_run.specs.declared.turn.Turn.{Turn}
 use Rattle.st_run.specs.declared.turn.Turn.TheVariants.{Before, AtEnd, Over}
 use Rattle.st_run.specs.declared.leaving.Decided.{Decided}
 
 -- the run goes on; or it ends, at rest or where no more may be done
 abbrev pub IsWay : Turn → ℕ → Moment → Decided → Together → Type 0
-IsWay Before left m d t = (left ≢ 0) × (rests (next_state m) ≡ false) × GoesOn m d.ends d.taken t
+IsWay Before left m d t = (left ≢ 0) × (rests (next_state m) ≡ false) × RunGoesOn m d.ends d.taken t
 IsWay (AtEnd resting) left m d t =
-    (resting ≡ rests (next_state m)) × (resting ≡ false → left ≡ 0) × (d.ends ≡ true) × (d.taken ≡ None) × Stops m t
+    (resting ≡ rests (next_state m)) × (resting ≡ false → left ≡ 0) × (d.ends ≡ true)
+    × (d.taken ≡ None) × RunStops m t
 IsWay Over left m d t = ⊥
 
 -- what was decided is what the moment gives: the text that is printed, and how the run goes on

@@ -5,21 +5,21 @@ use Rattle.st_state.specs.Machine.{Machine}
 use Rattle.st_prep.specs.Plan.{plan}
 use Rattle.st_exec.specs.Completion.{guess, is_missed}
 use Rattle.st_exec.specs.Step.{interrupt, rests}
-use Rattle.st_run.specs.Run.{Scene, with_due_signals, with_due_orders, interlude, stepped}
+use Rattle.st_run.specs.Run.{Scene, with_due_signals, with_due_orders, interlude, scene_after_step}
 use Rattle.st_banks.specs.declared.answers.LastAnswers.{LastAnswers}
 use Rattle.st_banks.specs.declared.answers.TheConstants.{BANKS}
-use Rattle.st_rows.specs.Rows.{opening, row, after}
+use Rattle.st_rows.specs.Rows.{opening_front, row_of_entry, front_after_entry}
 use Rattle.st_rows.specs.Asked.{Read}
 use Rattle.st_rows.specs.declared.entry.Entry.{Entry}
 use Rattle.st_rows.specs.declared.front.Front.{Front}
-use Rattle.st_rows.specs.declared.front.Row.{Row}
+use Rattle.st_rows.specs.declared.front.EntryTicks.{EntryTicks}
 use Rattle.st_segment.specs.Entries.{entry}
 use Rattle.st_segment.specs.Ahead.{Ahead, ahead, prepared_before, reads_to_end, banks_at_end, front_behind_end}
 
--- An entry has just been done, at this tick, and nothing has come from outside since: the scene with the
--- state that it leaves; the front behind it; whether the guess was wrong by which others ran ahead of it;
--- and for the case that the segment ends here, the entries that are prepared behind that guess, oldest
--- first, and the last answers of the banks.
+-- An entry has just been done, at this tick, and nothing has come from outside since: the scene
+-- with the state that it leaves; the front behind it; whether the guess was wrong by which others
+-- ran ahead of it; and for the case that the segment ends here, the entries that are prepared
+-- behind that guess, oldest first, and the last answers of the banks.
 pub record Moment : Type 0 where
   pub scene : Scene
   pub tick : ℕ
@@ -28,26 +28,26 @@ pub record Moment : Type 0 where
   pub dropped : List Ahead
   pub banks : LastAnswers
 
--- What comes between two entries is over: the scene, the tick at which the last entry was done, and the
--- front that the row of the next one is computed from.
+-- What comes between two entries is over: the scene, the tick at which the last entry was done, and
+-- the front that the row of the next one is computed from.
 pub record Standing : Type 0 where
   pub scene : Scene
   pub tick : ℕ
   pub front : Front
 
 -- banks before their first read
-abbrev pub unread : LastAnswers
-unread = record { ticks = replicate BANKS 0 }
+abbrev pub answers_at_start : LastAnswers
+answers_at_start = record { ticks = replicate BANKS 0 }
 
 -- the start of a run, at tick 0
-abbrev pub start : Scene → Moment
-start c = record {
+abbrev pub moment_at_start : Scene → Moment
+moment_at_start c = record {
   scene = c;
   tick = 0;
-  front = opening unread 0;
+  front = opening_front answers_at_start 0;
   missed = false;
   dropped = [];
-  banks = unread;
+  banks = answers_at_start;
 }
 
 -- ---- what comes between two entries
@@ -67,14 +67,16 @@ has_card m = nat_lt (length (next_scene m).cards) (length m.scene.cards)
 -- with the signals and the orders that are due, the machine rests: it waits for what comes next
 abbrev pub has_waited : Moment → Bool
 has_waited m =
-    rests (with_due_orders (with_due_signals m.scene.machine m.scene.signals m.scene.cards)).scene.machine
+    rests (with_due_orders
+    (with_due_signals m.scene.machine m.scene.signals m.scene.cards)).scene.machine
 
--- where the run goes on, the segment ends here if a branch was missed, a card came, the machine waited, or
--- an interrupt is taken
+-- where the run goes on, the segment ends here if a branch was missed, a card came, the machine
+-- waited, or an interrupt is taken
 unfoldable pub ends_segment : Moment → Bool
 ends_segment m = m.missed || has_card m || has_waited m || is_some (interrupt (next_state m))
 
--- the front of the segment behind it, which starts one tick later and one more for each entry that is dropped
+-- the front of the segment behind it, which starts one tick later and one more for each entry that
+-- is dropped
 abbrev pub next_segment : Moment → Front
 next_segment m = front_behind_end m.banks m.tick (length m.dropped)
 
@@ -83,48 +85,51 @@ unfoldable pub next_front : Moment → Front
 next_front m = if ends_segment m then next_segment m else m.front
 
 -- where the run stands then
-abbrev pub standing : Moment → Standing
-standing m = record { scene = next_scene m; tick = m.tick; front = next_front m }
+abbrev pub standing_at : Moment → Standing
+standing_at m = record { scene = next_scene m; tick = m.tick; front = next_front m }
 
 -- ---- the next entry
 
 -- the interrupt whose table instruction it is, if it is one
-abbrev pub taken : Standing → Option ℕ
-taken p = interrupt p.scene.machine
+abbrev pub interrupt_of_moment : Standing → Option ℕ
+interrupt_of_moment p = interrupt p.scene.machine
 
 -- the next entry, as the timetable sees it
-abbrev pub oldest : Standing → Entry
-oldest p = entry (taken p) p.scene.machine
+abbrev pub entry_of_moment : Standing → Entry
+entry_of_moment p = entry (interrupt_of_moment p) p.scene.machine
 
 -- its row
-unfoldable pub next_row : List ℕ → ℕ → Standing → Row
-next_row ds n p = row ds n p.front (oldest p)
+unfoldable pub next_row : List ℕ → ℕ → Standing → EntryTicks
+next_row ds n p = row_of_entry ds n p.front (entry_of_moment p)
 
 -- the front behind it
 abbrev pub front_after : List ℕ → ℕ → Standing → Front
-front_after ds n p = after ds n p.front (oldest p)
+front_after ds n p = front_after_entry ds n p.front (entry_of_moment p)
 
 -- it, and the entries behind it, by guessed steps
-abbrev pub entries_ahead : List ℕ → ℕ → Standing → List Ahead
-entries_ahead ds n p = ahead ds n n (taken p) p.scene.machine p.front
+abbrev pub entries_at_moment : List ℕ → ℕ → Standing → List Ahead
+entries_at_moment ds n p = ahead ds n n (interrupt_of_moment p) p.scene.machine p.front
 
 -- k entries behind its guess
 abbrev pub entries_behind : List ℕ → ℕ → ℕ → Standing → List Ahead
-entries_behind ds n k p = ahead ds n k None (guess (taken p) p.scene.machine) (front_after ds n p)
+entries_behind ds n k p = ahead ds n k None (guess (interrupt_of_moment p) p.scene.machine)
+    (front_after ds n p)
 
--- its reads, those of the entries behind it that are prepared before the tick, and of the one behind these
+-- its reads, those of the entries behind it that are prepared before the tick, and of the one
+-- behind these
 abbrev pub reads_until : List ℕ → ℕ → ℕ → Standing → List Read
-reads_until ds n tick p = reads_to_end ds n tick (taken p) p.scene.machine p.front (oldest p)
+reads_until ds n tick p = reads_to_end ds n tick (interrupt_of_moment p) p.scene.machine p.front
+    (entry_of_moment p)
 
 -- the moment at which it is done: of the reads those are made that are accepted before
 unfoldable pub next_moment : List ℕ → ℕ → Standing → Moment
 next_moment ds n p =
     let tick = (next_row ds n p).c in
     record {
-      scene = stepped p.scene;
+      scene = scene_after_step p.scene;
       tick = tick;
       front = front_after ds n p;
-      missed = is_missed (plan p.scene.machine (taken p)) p.scene.machine;
+      missed = is_missed (plan p.scene.machine (interrupt_of_moment p)) p.scene.machine;
       dropped = prepared_before tick (entries_behind ds n n p);
       banks = banks_at_end ds tick (reads_until ds n tick p) p.front.bus;
     }

@@ -2,8 +2,8 @@
 use Rattle.std.specs.Prelude.{ℕ, ◌+◌, ◌≤◌, List, [], ◌∷◌, ◌++◌}
 use Rattle.st_run.specs.Events.{Event, Timed, Completes, Drops, Shows, Happens}
 
--- the tick at which an event is told: a snapshot at the one that was asked for, else that at which the last
--- entry was done
+-- the tick at which an event is told: a snapshot at the one that was asked for, else that at which
+-- the last entry was done
 abbrev pub told_at : ℕ → Event → ℕ
 told_at tick (Completes s address row) = tick
 told_at tick (Drops address p) = tick
@@ -11,9 +11,10 @@ told_at tick (Shows asked s levels) = asked
 told_at tick (Happens happening) = tick
 
 -- events in the order of their ticks, none before the tick t
-unfoldable pub AreInOrder : ℕ → List Timed → Type 0
-AreInOrder t [] = Unit {0}
-AreInOrder t (x ∷ xs) = (t ≤ told_at x.tick x.event) × AreInOrder (told_at x.tick x.event) xs
+unfoldable pub AreEventsInOrder : ℕ → List Timed → Type 0
+AreEventsInOrder t [] = Unit {0}
+AreEventsInOrder t (x ∷ xs) = (t ≤ told_at x.tick x.event)
+    × AreEventsInOrder (told_at x.tick x.event) xs
 
 -- ticks that rise, none before the tick t
 unfoldable pub AreRising : ℕ → List ℕ → Type 0
@@ -35,6 +36,6 @@ shown_ticks [] = []
 shown_ticks (x ∷ xs) = asked_by x.event ++ shown_ticks xs
 
 -- the tick at which the last entry was done by the end of a list of events, t before it
-unfoldable pub last_tick : ℕ → List Timed → ℕ
-last_tick t [] = t
-last_tick t (x ∷ xs) = last_tick x.tick xs
+unfoldable pub last_completion : ℕ → List Timed → ℕ
+last_completion t [] = t
+last_completion t (x ∷ xs) = last_completion x.tick xs

@@ -2,7 +2,7 @@
 use Rattle.std.specs.Prelude.{ℕ, zero, suc, Bool, nat_le, if◌then◌else◌, List, [], ◌∷◌, ◌++◌, Option, None, Some}
 use Rattle.st_card.specs.declared.control_cards.Signal.{Signal}
 use Rattle.st_state.specs.Machine.{Machine}
-use Rattle.st_state.specs.Interrupts.{signalled}
+use Rattle.st_state.specs.Interrupts.{state_with_signal}
 use Rattle.st_state.specs.Orders.{is_due, next_device}
 use Rattle.st_state.specs.declared.devices.Order.{Order}
 use Rattle.st_state.specs.declared.devices.Device.{Device}
@@ -16,8 +16,8 @@ pub record Scene : Type 0 where
   pub signals : List Signal
   pub cards : List (List ℕ)
 
--- what a report shows of a run: eight words are printed, an interrupt is taken, the instruction at an address is done
--- and leaves this state, the run ends
+-- what a report shows of a run: eight words are printed, an interrupt is taken, the instruction at
+-- an address is done and leaves this state, the run ends
 pub data PlainEvent : Type 0 where
   Prints : Machine → List ℕ → PlainEvent
   Interrupts : Machine → ℕ → PlainEvent
@@ -33,7 +33,7 @@ pub record Transition : Type 0 where
 abbrev pub with_due_signals : Machine → List Signal → List (List ℕ) → Scene
 with_due_signals s [] cards = record { machine = s; signals = []; cards = cards }
 with_due_signals s (x ∷ xs) cards =
-    if nat_le x.count s.done then with_due_signals (signalled s x.indicator) xs cards
+    if nat_le x.count s.done then with_due_signals (state_with_signal s x.indicator) xs cards
     else record { machine = s; signals = x ∷ xs; cards = cards }
 
 -- the next card of the reader
@@ -89,15 +89,17 @@ with_device None c = uneventful c
 with_device (Some Reader) c = with_reader c.machine.reader c
 with_device (Some Printer) c = with_printer c.machine.printer c
 
--- the order that is given takes effect where the machine rests; the reader's where both are due at once
+-- the order that is given takes effect where the machine rests; the reader's where both are due at
+-- once
 unfoldable pub with_order_at_rest : Scene → Transition
-with_order_at_rest c = if rests c.machine then with_device (next_device c.machine) c else uneventful c
+with_order_at_rest c = if rests c.machine then with_device (next_device c.machine) c
+    else uneventful c
 
 -- signals come one at a time as long as the machine rests
 abbrev pub with_signals_at_rest : Machine → List Signal → List (List ℕ) → Scene
 with_signals_at_rest s [] cards = record { machine = s; signals = []; cards = cards }
 with_signals_at_rest s (x ∷ xs) cards =
-    if rests s then with_signals_at_rest (signalled s x.indicator) xs cards
+    if rests s then with_signals_at_rest (state_with_signal s x.indicator) xs cards
     else record { machine = s; signals = x ∷ xs; cards = cards }
 
 -- what ends a wait: orders, then signals
@@ -116,8 +118,8 @@ pub record Execution : Type 0 where
   pub last : Machine
 
 -- the run ends here, the machine at rest or the budget used up
-abbrev pub ended : Transition → Execution
-ended r = record {
+abbrev pub execution_at_end : Transition → Execution
+execution_at_end r = record {
   happened = r.happened ++ Ends r.scene.machine (rests r.scene.machine) ∷ [];
   last = r.scene.machine;
 }
@@ -128,8 +130,8 @@ interrupts_by None s = []
 interrupts_by (Some i) s = Interrupts s i ∷ []
 
 -- the scene after the next step
-abbrev pub stepped : Scene → Scene
-stepped c = record c { machine = step c.machine }
+abbrev pub scene_after_step : Scene → Scene
+scene_after_step c = record c { machine = step c.machine }
 
 -- what happens in the next step
 abbrev pub happens : Machine → List PlainEvent
@@ -142,9 +144,11 @@ goes_on r rest = record {
   last = rest.last;
 }
 
--- the run from a scene on, in which so many instructions may still be done; a rest is tried before the budget
+-- the run from a scene on, in which so many instructions may still be done; a rest is tried before
+-- the budget
 unfoldable pub run : ℕ → Scene → Execution
-run zero c = ended (interlude c)
+run zero c = execution_at_end (interlude c)
 run (suc left) c =
     let r = interlude c in
-    if rests r.scene.machine then ended r else goes_on r (run left (stepped r.scene))
+    if rests r.scene.machine then execution_at_end r else goes_on r
+    (run left (scene_after_step r.scene))

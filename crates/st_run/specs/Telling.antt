@@ -3,17 +3,17 @@ use Rattle.std.specs.Prelude.{ℕ, ◌≡◌, ◌+◌, ◌-◌, ◌<◌, ◌^◌
 use Rattle.std.specs.List.{AllZip}
 use Rattle.st_state.specs.Machine.{Machine}
 use Rattle.st_exec.specs.Step.{rests}
-use Rattle.st_ahead.specs.Overlap.{Overlap, levels_of, last_tick}
-use Rattle.st_ahead.specs.Shown.{index_of}
+use Rattle.st_ahead.specs.Overlap.{Overlap, levels_of, last_tick_made}
+use Rattle.st_ahead.specs.Shown.{lent_index_words}
 use Rattle.st_ahead.specs.declared.events.LevelView.{LevelView}
 use Rattle.st_run.specs.Events.{Level, level_at, with_index_words}
 use Rattle.st_run.specs.TimedRun.{ticks_before, timed_from, timed_behind}
 use Rattle.st_run.specs.Order.{AreRising}
-use Rattle.st_run.specs.Told.{What, Done, Dropped, Printed, Interrupted, Shown, Ended, Told, told}
-use Rattle.st_run.specs.Together.{Together, IsBefore, IsBehind, standing_of, moment_of, text_told}
-use Rattle.st_run.specs.declared.told.Told.{Told as ToldNext}
-use Rattle.st_run.specs.declared.told.What.{What as WhatTold}
-use Rattle.st_run.specs.declared.told.What.TheVariants as tells
+use Rattle.st_run.specs.Told.{What, Done, Dropped, Printed, Interrupted, Shown, Ended, Told, told_of_events}
+use Rattle.st_run.specs.Together.{Together, IsBeforeEntry, IsBehindEntry, standing_of, moment_of, text_told}
+use Rattle.st_run.specs.declared.told.TimedRunEvent.{TimedRunEvent as ToldNext}
+use Rattle.st_run.specs.declared.told.RunEvent.{RunEvent as WhatTold}
+use Rattle.st_run.specs.declared.told.RunEvent.TheVariants as tells
 use Rattle.st_run.specs.declared.turn.Turn.{Turn}
 use Rattle.st_run.specs.declared.turn.Turn.TheVariants as turns
 
@@ -44,7 +44,8 @@ IsDone (Interrupted i s) = ⊥
 IsDone (Shown tick s levels) = ⊥
 IsDone (Ended rests s) = ⊥
 
--- of what was to be told entries that are done are left out at the front, of which this is the last one, and nothing else
+-- of what was to be told entries that are done are left out at the front, of which this is the last
+-- one, and nothing else
 pub record AreLeftOut (last : Told) (old new : List Told) : Type 0 where
   pub rows : List Told
   pub are : All (λ t. IsDone t.what) rows
@@ -77,12 +78,14 @@ at_once tick s what = record { done = s.done; tick = tick; what = what }
 -- at the end of the run: snapshots up to the last tick, and the end
 unfoldable pub told_at_end : Bool → ℕ → List ℕ → Machine → List Told
 told_at_end rests tick snaps s =
-    map (λ x. at_once tick s (Shown x s [])) (ticks_before (tick + 1) snaps) ++ at_once tick s (Ended rests s) ∷ []
+    map (λ x. at_once tick s (Shown x s [])) (ticks_before (tick + 1) snaps)
+    ++ at_once tick s (Ended rests s) ∷ []
 
--- by the turn: before the next entry, behind which so many more may be done; at the end, or behind it
+-- by the turn: before the next entry, behind which so many more may be done; at the end, or behind
+-- it
 abbrev pub rest_by : Turn → ℕ → ℕ → List ℕ → Together → List Told
 rest_by turns.Before left tick snaps t =
-    told (timed_behind t.machine.delays t.machine.levels left (standing_of tick t) snaps)
+    told_of_events (timed_behind t.machine.delays t.machine.levels left (standing_of tick t) snaps)
 rest_by (turns.AtEnd rests) left tick snaps t = told_at_end rests tick snaps t.machine.state
 rest_by turns.Over left tick snaps t = []
 
@@ -94,35 +97,40 @@ rest_of turn left tick snaps w t =
 -- ---- what is shown
 
 -- the state with the index words of what runs ahead
-abbrev pub seen_of : Overlap → Machine
-seen_of m = with_index_words (index_of m) m.state
+abbrev pub state_told : Overlap → Machine
+state_told m = with_index_words (lent_index_words m) m.state
 
 -- what runs ahead, after the last tick
 abbrev pub ahead_of : Overlap → List Level
-ahead_of m = map (level_at (last_tick m)) (levels_of m)
+ahead_of m = map (level_at (last_tick_made m)) (levels_of m)
 
 -- an answer, where a machine and a text are shown
 abbrev pub told_with : ToldNext → Overlap → List ℕ → Told
 told_with t m text =
-    record { done = t.done; tick = t.tick; what = what_told t.what t.tick (seen_of m) (ahead_of m) text }
+    record {
+      done = t.done;
+      tick = t.tick;
+      what = what_told t.what t.tick (state_told m)
+          (ahead_of m) text;
+    }
 
 -- a level as the machine shows it
-pub record IsLevel (v : LevelView) (level : Level) : Type 0 where
+pub record IsLevelShown (v : LevelView) (level : Level) : Type 0 where
   pub address : v.address ≡ level.address
   pub changed : option_map (λ i. record { number = i; before = v.kept }) v.index ≡ level.changed
   pub ready : v.ready ≡ level.ready
 
 -- the levels that are shown, with room for eight
-pub record AreLevels (shown : List (Option LevelView)) (levels : List Level) : Type 0 where
+pub record AreLevelsShown (shown : List (Option LevelView)) (levels : List Level) : Type 0 where
   pub views : List LevelView
   pub room : shown ≡ map (λ v. Some v) views ++ replicate (8 - length views) None
-  pub same : AllZip IsLevel views levels
+  pub same : AllZip IsLevelShown views levels
 
 -- ---- what a run keeps
 
 -- where the machine stands by the turn: an entry is to be done, or nothing is ahead any more
 abbrev pub IsTurn : Turn → List ℕ → Together → Type 0
-IsTurn turns.Before snaps t = IsBefore t × AreRising (t.machine.now - 1) snaps
+IsTurn turns.Before snaps t = IsBeforeEntry t × AreRising (t.machine.now - 1) snaps
 IsTurn (turns.AtEnd rests) snaps t = levels_of t.machine ≡ []
 IsTurn turns.Over snaps t = levels_of t.machine ≡ []
 
@@ -130,8 +138,10 @@ IsTurn turns.Over snaps t = levels_of t.machine ≡ []
 abbrev pub AreInTime : List Told → Type 0
 AreInTime = All (λ x. (x.tick < 2 ^ 63) × (x.done < 2 ^ 63))
 
--- where an interrupt waits to be told nothing is ahead, so that the state is shown in which it is taken
-pub record IsRun (turn : Turn) (left tick : ℕ) (snaps : List ℕ) (w : Waiting) (t : Together) : Type 0 where
+-- where an interrupt waits to be told nothing is ahead, so that the state is shown in which it is
+-- taken
+pub record IsRun (turn : Turn) (left tick : ℕ) (snaps : List ℕ) (w : Waiting)
+    (t : Together) : Type 0 where
   pub stands : IsTurn turn snaps t
   pub taken : IsSome w.taken → levels_of t.machine ≡ []
   pub in_time : AreInTime (rest_of turn left tick snaps w t)
@@ -139,9 +149,9 @@ pub record IsRun (turn : Turn) (left tick : ℕ) (snaps : List ℕ) (w : Waiting
 -- ---- on the way from one thing that is told to the next
 
 -- the tick of the next snapshot
-abbrev pub first_tick : List ℕ → Option ℕ
-first_tick [] = None
-first_tick (x ∷ xs) = Some x
+abbrev pub snapshot_tick : List ℕ → Option ℕ
+snapshot_tick [] = None
+snapshot_tick (x ∷ xs) = Some x
 
 -- the tick before was that of the first snapshot
 abbrev pub IsAtFirst : ℕ → List ℕ → Type 0
@@ -150,15 +160,17 @@ IsAtFirst now (x ∷ xs) = (now ≡ x + 1) × AreRising (x + 1) xs
 
 -- the tick of a snapshot was made last
 pub record IsShown (left tick : ℕ) (snaps : List ℕ) (t : Together) : Type 0 where
-  pub before : IsBefore t
+  pub before : IsBeforeEntry t
   pub first : IsAtFirst t.machine.now snaps
   pub soon : t.machine.now ≤ 2 ^ 63
-  pub in_time : AreInTime (told (timed_behind t.machine.delays t.machine.levels left (standing_of tick t) snaps))
+  pub in_time : AreInTime (told_of_events (timed_behind t.machine.delays t.machine.levels left
+      (standing_of tick t) snaps))
 
 -- an entry has just been done at a tick
 pub record IsLeft (left : ℕ) (snaps : List ℕ) (tick : ℕ) (t : Together) : Type 0 where
-  pub behind : IsBehind t
+  pub behind : IsBehindEntry t
   pub tick_is : tick ≡ t.machine.now
   pub soon : tick < 2 ^ 63
   pub rising : AreRising tick snaps
-  pub in_time : AreInTime (told (timed_from t.machine.delays t.machine.levels left (moment_of t) snaps))
+  pub in_time : AreInTime (told_of_events (timed_from t.machine.delays t.machine.levels left
+      (moment_of t) snaps))

@@ -2,13 +2,13 @@
 use Rattle.std.specs.Prelude.{ℕ, ◌≡◌, ◌+◌, ◌-◌, ◌<◌, ◌≤◌, ◌^◌, min, false, Option, None, Some, IfSome}
 use Rattle.st_exec.specs.Step.{interrupt, rests}
 use Rattle.st_ahead.specs.Overlap.{Overlap, oldest_row}
-use Rattle.st_ahead.specs.Calls.{completed, row_done}
+use Rattle.st_ahead.specs.Calls.{machine_after_completion, row_done}
 use Rattle.st_ahead.specs.RunTo.{RunsTo}
 use Rattle.st_ahead.specs.declared.events.Row.{Row}
 use Rattle.st_run.specs.Together.{Together}
 
 -- a machine between two ticks, in which nothing is owed, nothing comes between and no entry is late
-pub record IsReady (o : Overlap) : Type 0 where
+pub record IsMachineReady (o : Overlap) : Type 0 where
   pub settled : o.owed ≡ false
   pub going : o.ended ≡ false
   pub stands : o.stopped ≡ false
@@ -22,14 +22,14 @@ pub record IsReady (o : Overlap) : Type 0 where
 abbrev pub at_completion : Overlap → Overlap
 at_completion o = record o { now = (oldest_row o).c }
 
--- the ticks up to that of a snapshot were made, before an entry was done; or an entry was done at the last of
--- them, and no snapshot comes before
+-- the ticks up to that of a snapshot were made, before an entry was done; or an entry was done at
+-- the last of them, and no snapshot comes before
 abbrev pub AreTicked : Option Row → Option ℕ → Overlap → Overlap → Type 0
 AreTicked None None old new = ⊥
 AreTicked None (Some x) old new = (x < (oldest_row old).c) × (new ≡ record old { now = x + 1 })
 AreTicked (Some row) snap old new =
     IfSome snap (λ x. (oldest_row old).c ≤ x)
-    × (new ≡ completed (at_completion old))
+    × (new ≡ machine_after_completion (at_completion old))
     × (row ≡ row_done (at_completion old))
 
 -- the same of a machine with what is still to come, which stays
@@ -42,7 +42,8 @@ abbrev pub last_for : Option ℕ → ℕ
 last_for None = 2 ^ 63 - 1
 last_for (Some x) = min x (2 ^ 63 - 1)
 
--- ticks are made up to an entry that is done behind which something may come, or when so many instructions are done
+-- ticks are made up to an entry that is done behind which something may come, or when so many
+-- instructions are done
 pub record AreMadeUpTo (count : ℕ) (row : Option Row) (old new : Together) : Type 0 where
   pub ticked : RunsTo count (last_for None) row old.machine new.machine
   pub kept : new ≡ record old { machine = new.machine }

@@ -1,16 +1,16 @@
--- A whole run with its timetable: what happens, and at which ticks. The machine has the delays ds and n
--- levels.
+-- A whole run with its timetable: what happens, and at which ticks. The machine has the delays ds
+-- and n levels.
 use Rattle.std.specs.Prelude.{ℕ, zero, suc, ◌+◌, nat_lt, if◌then◌else◌, List, [], ◌∷◌, ◌++◌, map, reverse}
 use Rattle.st_state.specs.Machine.{Machine}
 use Rattle.st_exec.specs.Step.{rests, address, interrupt}
 use Rattle.st_run.specs.Run.{Scene, PlainEvent, Ends, interlude, interrupts_by}
 use Rattle.st_segment.specs.Ahead.{prepared_before}
 use Rattle.st_run.specs.Events.{Event, Timed, Completes, Shows, Happens, drop_of, snapshot}
-use Rattle.st_run.specs.Moments.{Moment, Standing, start, next_state, ends_segment, standing, taken, next_row, entries_ahead, next_moment}
+use Rattle.st_run.specs.Moments.{Moment, Standing, moment_at_start, next_state, ends_segment, standing_at, interrupt_of_moment, next_row, entries_at_moment, next_moment}
 
 -- an event by which the last entry was done at the tick, and left the state
-abbrev pub at : ℕ → Machine → Event → Timed
-at tick s event = record { done = s.done; tick = tick; event = event }
+abbrev pub event_at : ℕ → Machine → Event → Timed
+event_at tick s event = record { done = s.done; tick = tick; event = event }
 
 -- ---- when snapshots are shown
 
@@ -20,15 +20,15 @@ ticks_before t [] = []
 ticks_before t (x ∷ xs) = if nat_lt x t then x ∷ ticks_before t xs else []
 
 -- and those from the tick t on
-unfoldable pub ticks_from : ℕ → List ℕ → List ℕ
-ticks_from t [] = []
-ticks_from t (x ∷ xs) = if nat_lt x t then ticks_from t xs else x ∷ xs
+unfoldable pub snapshots_from : ℕ → List ℕ → List ℕ
+snapshots_from t [] = []
+snapshots_from t (x ∷ xs) = if nat_lt x t then snapshots_from t xs else x ∷ xs
 
 -- ---- events at the tick of a moment
 
 -- what ran ahead is dropped, the youngest entry first
 unfoldable pub drops : Moment → List Timed
-drops m = map (λ a. at m.tick m.scene.machine (drop_of a)) (reverse m.dropped)
+drops m = map (λ a. event_at m.tick m.scene.machine (drop_of a)) (reverse m.dropped)
 
 -- that, where the segment ends here
 abbrev pub drops_if_ends : Moment → List Timed
@@ -36,11 +36,11 @@ drops_if_ends m = if ends_segment m then drops m else []
 
 -- what happens in the plain run
 abbrev pub happening_at : Moment → PlainEvent → Timed
-happening_at m happening = at m.tick m.scene.machine (Happens happening)
+happening_at m happening = event_at m.tick m.scene.machine (Happens happening)
 
 -- the run goes on: what is dropped, words that are printed, and the interrupt that is taken
-unfoldable pub between : Moment → List Timed
-between m =
+unfoldable pub events_between : Moment → List Timed
+events_between m =
     drops_if_ends m
     ++ map (happening_at m)
     ((interlude m.scene).happened ++ interrupts_by (interrupt (next_state m)) (next_state m))
@@ -50,28 +50,31 @@ between m =
 -- the state at a tick, and what is ahead of it
 abbrev pub snapshot_at : List ℕ → ℕ → Standing → ℕ → Timed
 snapshot_at ds n p tick =
-    at p.tick p.scene.machine
-    (snapshot tick (taken p) p.scene.machine (prepared_before (tick + 1) (entries_ahead ds n p)))
+    event_at p.tick p.scene.machine
+    (snapshot tick (interrupt_of_moment p) p.scene.machine
+    (prepared_before (tick + 1) (entries_at_moment ds n p)))
 
 -- the next entry is done
 abbrev pub completion : List ℕ → ℕ → Standing → Timed
 completion ds n p =
     let m = next_moment ds n p in
-    at m.tick m.scene.machine (Completes m.scene.machine (address p.scene.machine) (next_row ds n p))
+    event_at m.tick m.scene.machine (Completes m.scene.machine (address p.scene.machine)
+    (next_row ds n p))
 
 -- the snapshots that come before, and that
 unfoldable pub until_done : List ℕ → ℕ → Standing → List ℕ → List Timed
 until_done ds n p snaps =
-    map (snapshot_at ds n p) (ticks_before (next_moment ds n p).tick snaps) ++ completion ds n p ∷ []
+    map (snapshot_at ds n p) (ticks_before (next_moment ds n p).tick snaps) ++ completion ds n p
+    ∷ []
 
 -- ---- the end
 
 -- the last state, of which nothing is ahead
 abbrev pub last_snapshot_at : Moment → ℕ → Timed
-last_snapshot_at m tick = at m.tick m.scene.machine (Shows tick (next_state m) [])
+last_snapshot_at m tick = event_at m.tick m.scene.machine (Shows tick (next_state m) [])
 
--- the run ends, and its last segment: what is dropped, words that are printed, the snapshots up to this
--- tick, and the end itself
+-- the run ends, and its last segment: what is dropped, words that are printed, the snapshots up to
+-- this tick, and the end itself
 unfoldable pub last_events : Moment → List ℕ → List Timed
 last_events m snaps =
     drops m
@@ -81,22 +84,22 @@ last_events m snaps =
 
 -- ---- the whole
 
--- the run from a moment on, in which so many entries may still be done, with snapshots at ticks that are to
--- come; a rest is tried before the budget
+-- the run from a moment on, in which so many entries may still be done, with snapshots at ticks
+-- that are to come; a rest is tried before the budget
 unfoldable pub timed_from : List ℕ → ℕ → ℕ → Moment → List ℕ → List Timed
 timed_from ds n zero m snaps = last_events m snaps
 timed_from ds n (suc left) m snaps =
     if rests (next_state m) then last_events m snaps
-    else between m ++ until_done ds n (standing m) snaps
-    ++ timed_from ds n left (next_moment ds n (standing m))
-    (ticks_from (next_moment ds n (standing m)).tick snaps)
+    else events_between m ++ until_done ds n (standing_at m) snaps
+    ++ timed_from ds n left (next_moment ds n (standing_at m))
+    (snapshots_from (next_moment ds n (standing_at m)).tick snaps)
 
 -- the same before an entry, behind which so many more may be done
 abbrev pub timed_behind : List ℕ → ℕ → ℕ → Standing → List ℕ → List Timed
 timed_behind ds n left p snaps =
     until_done ds n p snaps
-    ++ timed_from ds n left (next_moment ds n p) (ticks_from (next_moment ds n p).tick snaps)
+    ++ timed_from ds n left (next_moment ds n p) (snapshots_from (next_moment ds n p).tick snaps)
 
 -- the whole run of a scene
 abbrev pub timed_run : List ℕ → ℕ → ℕ → Scene → List ℕ → List Timed
-timed_run ds n left c snaps = timed_from ds n left (start c) snaps
+timed_run ds n left c snaps = timed_from ds n left (moment_at_start c) snaps

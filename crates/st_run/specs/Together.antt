@@ -4,9 +4,9 @@ use Rattle.st_card.specs.declared.control_cards.Signal.{Signal}
 use Rattle.st_prep.specs.BesideOrders.{AreAlikeBesideOrders}
 use Rattle.st_exec.specs.Step.{interrupt, rests}
 use Rattle.st_run.specs.Run.{Scene, PlainEvent}
-use Rattle.st_rows.specs.Ranges.{AreDelays}
+use Rattle.st_rows.specs.Ranges.{AreDelaysUpTo}
 use Rattle.st_ahead.specs.Overlap.{Overlap, oldest_row, levels_of}
-use Rattle.st_ahead.specs.Calls.{ended, banks_left}
+use Rattle.st_ahead.specs.Calls.{machine_after_segment, banks_left}
 use Rattle.st_run.specs.Moments.{Moment, Standing, next_scene, next_state, ends_segment, next_front}
 use Rattle.st_run.specs.Scenes.{IsScene}
 use Rattle.st_run.specs.Told.{What, Printed, what_happens}
@@ -23,16 +23,20 @@ scene_of t = record { machine = t.machine.state; signals = t.signals; cards = t.
 
 -- the same at another scene
 abbrev pub with_scene : Together → Scene → Together
-with_scene t c = record { machine = record t.machine { state = c.machine }; signals = c.signals; cards = c.cards }
+with_scene t c = record {
+  machine = record t.machine { state = c.machine };
+  signals = c.signals;
+  cards = c.cards;
+}
 
 -- ---- between two ticks, before an entry is done
 
--- the tick is settled and the run goes on: no interrupt is due that is not taken, and no entry was to be done at an
--- earlier tick
-pub record IsBefore (t : Together) : Type 0 where
+-- the tick is settled and the run goes on: no interrupt is due that is not taken, and no entry was
+-- to be done at an earlier tick
+pub record IsBeforeEntry (t : Together) : Type 0 where
   pub some : 1 ≤ t.machine.levels
   pub few : t.machine.levels ≤ 8
-  pub delays : AreDelays 255 t.machine.delays
+  pub delays : AreDelaysUpTo 255 t.machine.delays
   pub scene : IsScene (scene_of t)
   pub settled : t.machine.owed ≡ false
   pub going : t.machine.ended ≡ false
@@ -54,10 +58,10 @@ at_tick now t = record t { machine = record t.machine { now = now } }
 -- ---- an entry has just been done, and nothing has come from outside since
 
 -- a tick that is not settled, at which an entry was done
-pub record IsBehind (t : Together) : Type 0 where
+pub record IsBehindEntry (t : Together) : Type 0 where
   pub some : 1 ≤ t.machine.levels
   pub few : t.machine.levels ≤ 8
-  pub delays : AreDelays 255 t.machine.delays
+  pub delays : AreDelaysUpTo 255 t.machine.delays
   pub scene : IsScene (scene_of t)
   pub owed : t.machine.owed ≡ true
   pub going : t.machine.ended ≡ false
@@ -82,10 +86,10 @@ moment_of t = record {
 
 -- the segment has ended, or not
 abbrev pub closed_if : Bool → Overlap → Overlap
-closed_if over o = if over then ended o else o
+closed_if over o = if over then machine_after_segment o else o
 
--- since the machine was o the state alone has changed, and the segment has ended or not; as long as it has not, a
--- signal or an order without a card has changed it
+-- since the machine was o the state alone has changed, and the segment has ended or not; as long as
+-- it has not, a signal or an order without a card has changed it
 pub record IsSince (o : Overlap) (over : Bool) (t : Together) : Type 0 where
   pub machine : t.machine ≡ record (closed_if over o) { state = t.machine.state }
   pub alike : over ≡ false → AreAlikeBesideOrders o.state t.machine.state
@@ -102,8 +106,8 @@ abbrev pub AreTexts : Option (List ℕ) → List PlainEvent → Type 0
 AreTexts text happened = text_told text ≡ map what_happens happened
 
 -- before the next entry
-pub record GoesOn (m : Moment) (over : Bool) (table : Option ℕ) (t : Together) : Type 0 where
-  pub before : IsBefore t
+pub record RunGoesOn (m : Moment) (over : Bool) (table : Option ℕ) (t : Together) : Type 0 where
+  pub before : IsBeforeEntry t
   pub scene : scene_of t ≡ next_scene m
   pub front : t.machine.front ≡ next_front m
   pub ends : over ≡ ends_segment m
@@ -111,6 +115,6 @@ pub record GoesOn (m : Moment) (over : Bool) (table : Option ℕ) (t : Together)
   pub now : t.machine.now ≡ m.tick + 1
 
 -- at the end of the run
-pub record Stops (m : Moment) (t : Together) : Type 0 where
+pub record RunStops (m : Moment) (t : Together) : Type 0 where
   pub scene : scene_of t ≡ next_scene m
   pub none : levels_of t.machine ≡ []

@@ -1,13 +1,14 @@
 -- What is told of a run, one thing after another.
 use Rattle.std.specs.Prelude.{ℕ, Bool, List, [], ◌∷◌}
 use Rattle.st_state.specs.Machine.{Machine}
-use Rattle.st_exch.specs.Printer.{printed}
+use Rattle.st_exch.specs.Printer.{line_of_words}
 use Rattle.st_run.specs.Run.{PlainEvent, Prints, Interrupts, Executes, Ends}
 use Rattle.st_run.specs.Events.{Event, Level, Timed, Completes, Drops, Shows, Happens}
 
--- an entry is done, with its address and the ticks at which it was prepared, ready and done; one that ran ahead
--- is dropped, with its address and the tick at which it was prepared; a text is printed; an interrupt is taken
--- in a state; at a tick a state and what is ahead of it are shown; the run ends in a state, at rest or not
+-- an entry is done, with its address and the ticks at which it was prepared, ready and done; one
+-- that ran ahead is dropped, with its address and the tick at which it was prepared; a text is
+-- printed; an interrupt is taken in a state; at a tick a state and what is ahead of it are shown;
+-- the run ends in a state, at rest or not
 pub data What : Type 0 where
   Done : ℕ → ℕ → ℕ → ℕ → What
   Dropped : ℕ → ℕ → What
@@ -24,7 +25,7 @@ pub record Told : Type 0 where
 
 -- what is told of a happening of the plain run; that an instruction is done is told with its row
 abbrev pub what_happens : PlainEvent → What
-what_happens (Prints s words) = Printed (printed words)
+what_happens (Prints s words) = Printed (line_of_words words)
 what_happens (Interrupts s i) = Interrupted i s
 what_happens (Executes s address) = Done address 0 0 0
 what_happens (Ends s rests) = Ended rests s
@@ -41,6 +42,6 @@ abbrev pub told_of : Timed → Told
 told_of x = record { done = x.done; tick = x.tick; what = what_of x.event }
 
 -- what is told of events
-unfoldable pub told : List Timed → List Told
-told [] = []
-told (x ∷ xs) = told_of x ∷ told xs
+unfoldable pub told_of_events : List Timed → List Told
+told_of_events [] = []
+told_of_events (x ∷ xs) = told_of x ∷ told_of_events xs

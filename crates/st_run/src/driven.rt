@@ -4,7 +4,7 @@ ghost use Rattle.std.specs.List.{AllPass};
 ghost use Rattle.st_card.specs.Limits.{is_signal};
 ghost use Rattle.st_run.specs.Run.{with_due_signals};
 ghost use Rattle.st_ahead.specs.Calls.{MaySignal};
-ghost use Rattle.st_ahead.specs.Shown.{shown};
+ghost use Rattle.st_ahead.specs.Shown.{view_at_tick};
 ghost use Rattle.st_refine.specs.Reached.{IsLed};
 ghost use Rattle.st_run.specs.Together.{with_scene};
 
@@ -63,7 +63,7 @@ pub(crate) fn take_due_signals<const N: usize>(driven: &mut Driven<N>)
 
 // What is shown of the machine, to which calls within the protocol lead.
 pub(crate) fn view_of<const N: usize>(driven: &Driven<N>) -> View
-    ensures view { result ≡ shown driven.now.machine }
+    ensures view { result ≡ view_at_tick driven.now.machine }
     ensures led { IsLed driven.now.machine }
 {
     driven.machine.view()

@@ -1,18 +1,18 @@
-//! What comes between two entries: signals, orders of the reader and the printer, what ends a wait, and the decision
-//! how the run goes on.
+//! What comes between two entries: signals, orders of the reader and the printer, what ends a wait,
+//! and the decision how the run goes on.
 ghost use Rattle.std.specs.Prelude.{◌≡◌, ◌≤◌, ◌||◌, ℕ, List, Bool, true, false, None, IfSome, IsSome, nat_lt, length, map, option_map};
 ghost use Rattle.std.specs.List.{AllPass};
 ghost use Rattle.st_card.specs.Limits.{is_signal};
 ghost use Rattle.st_exec.specs.Step.{rests};
 ghost use Rattle.st_run.specs.Run as run;
 ghost use Rattle.st_ahead.specs.Overlap.{levels_of};
-ghost use Rattle.st_ahead.specs.Calls.{ended, MayServe, MaySignal};
-ghost use Rattle.st_run.specs.Events.{address_of};
+ghost use Rattle.st_ahead.specs.Calls.{machine_after_segment, MayServe, MaySignal};
+ghost use Rattle.st_run.specs.Events.{address_ahead};
 ghost use Rattle.st_run.specs.Moments.{has_card, has_waited};
-ghost use Rattle.st_run.specs.Together.{IsBehind, moment_of, scene_of, with_scene};
+ghost use Rattle.st_run.specs.Together.{IsBehindEntry, moment_of, scene_of, with_scene};
 ghost use Rattle.st_run.specs.Leaving.{IsDecided, nothing_decided};
 ghost use Rattle.st_run.specs.Serving.{IsServed, is_card, order_of, printed_text};
-ghost use Rattle.st_run.specs.Between.{Came, IsChoice, IsQuiet, choice_of, signal_due, first_text as first_text_of};
+ghost use Rattle.st_run.specs.Between.{Came, IsChoice, IsQuiet, choice_of, signal_due, first_of_texts as first_text_of};
 
 use crate::driven::{Driven, take_due_signals};
 use crate::plain::{printer_is_due, printer_is_free, reader_is_due, reader_is_free};
@@ -40,14 +40,16 @@ pub(crate) struct Decided {
     pub turn: Turn,
 }
 
-// The entries that run ahead, oldest first: the half-word address of each, and the tick at which it was prepared.
+// The entries that run ahead, oldest first: the half-word address of each, and the tick at which it
+// was prepared.
 pub(crate) fn levels_ahead<const N: usize>(driven: &Driven<N>) -> ArrayVec<(u32, u64), 8>
-    ensures { result.items ≡ map (λ a. (address_of a, a.row.p)) (levels_of driven.now.machine) }
+    ensures { result.items ≡ map (λ a. (address_ahead a, a.row.p)) (levels_of driven.now.machine) }
 {
     levels_in(driven.machine.ring())
 }
 
-// The half-word address of each level, oldest first, and the tick at which it was prepared. There are eight at most.
+// The half-word address of each level, oldest first, and the tick at which it was prepared. There
+// are eight at most.
 fn levels_in<const N: usize>(ring: &SpecRing<N>) -> ArrayVec<(u32, u64), 8>
     requires { length ring.now ≤ 8 }
     ensures { result.items ≡ map (λ v. (v.prepared.place.address, v.p)) ring.now }
@@ -66,7 +68,8 @@ fn levels_in<const N: usize>(ring: &SpecRing<N>) -> ArrayVec<(u32, u64), 8>
 fn serve_device<const N: usize>(driven: &mut Driven<N>, device: Device) -> Served
     requires order { IsSome (order_of device driven.old.machine.state) }
     requires turn { MayServe driven.old.machine }
-    ensures served { IfSome (order_of device driven.old.machine.state) (λ order. IsServed device order
+    ensures served { IfSome (order_of device driven.old.machine.state)
+        (λ order. IsServed device order
         driven.old.machine driven.old.cards driven.new.machine driven.new.cards result) }
     ensures signals { driven.new.signals ≡ driven.old.signals }
 {
@@ -99,7 +102,8 @@ fn text_of(served: Served) -> Option<ArrayString<64>>
 // The reader's order takes effect, if it has one. The result says whether a card came.
 fn serve_reader<const N: usize>(driven: &mut Driven<N>) -> bool
     requires { MayServe driven.old.machine }
-    ensures came { (over : Bool) → Came (run.with_reader driven.old.machine.state.reader (scene_of driven.old))
+    ensures came { (over : Bool) → Came (run.with_reader driven.old.machine.state.reader
+        (scene_of driven.old))
         None over (over || result) driven.old driven.new }
     ensures card { result ≡ nat_lt (length driven.new.cards) (length driven.old.cards) }
 {
@@ -112,7 +116,8 @@ fn serve_reader<const N: usize>(driven: &mut Driven<N>) -> bool
 // The printer's order takes effect, if it has one. The result is the text that is printed.
 fn serve_printer<const N: usize>(driven: &mut Driven<N>) -> Option<ArrayString<64>>
     requires { MayServe driven.old.machine }
-    ensures { (over : Bool) → Came (run.with_printer driven.old.machine.state.printer (scene_of driven.old))
+    ensures { (over : Bool) → Came (run.with_printer driven.old.machine.state.printer
+        (scene_of driven.old))
         (option_map (λ x. x.bytes) result) over over driven.old driven.new }
 {
     if printer_is_free(driven.machine.state()) {
@@ -124,7 +129,8 @@ fn serve_printer<const N: usize>(driven: &mut Driven<N>) -> Option<ArrayString<6
 // The reader's order takes effect, if it is due. The result says whether a card came.
 fn serve_due_reader<const N: usize>(driven: &mut Driven<N>) -> bool
     requires { MayServe driven.old.machine }
-    ensures came { Came (run.with_reader (run.if_due driven.old.machine.state.done driven.old.machine.state.reader)
+    ensures came { Came
+        (run.with_reader (run.if_due driven.old.machine.state.done driven.old.machine.state.reader)
         (scene_of driven.old)) None false result driven.old driven.new }
     ensures card { result ≡ nat_lt (length driven.new.cards) (length driven.old.cards) }
 {
@@ -147,11 +153,12 @@ fn serve_due_printer<const N: usize>(driven: &mut Driven<N>) -> Option<ArrayStri
     None
 }
 
-// The orders that are due take effect, the reader's first. The result says whether a card came, and has the text
-// that is printed.
+// The orders that are due take effect, the reader's first. The result says whether a card came, and
+// has the text that is printed.
 fn serve_due<const N: usize>(driven: &mut Driven<N>) -> (bool, Option<ArrayString<64>>)
     requires { MayServe driven.old.machine }
-    ensures came { Came (run.with_due_orders (scene_of driven.old)) (option_map (λ x. x.bytes) result.1)
+    ensures came { Came (run.with_due_orders (scene_of driven.old))
+        (option_map (λ x. x.bytes) result.1)
         false result.0 driven.old driven.new }
     ensures card { result.0 ≡ nat_lt (length driven.new.cards) (length driven.old.cards) }
 {
@@ -166,13 +173,14 @@ fn serve_due<const N: usize>(driven: &mut Driven<N>) -> (bool, Option<ArrayStrin
 fn rest<const N: usize>(driven: &mut Driven<N>)
     requires serves { MayServe driven.old.machine }
     requires rests { rests driven.old.machine.state ≡ true }
-    ensures { driven.new ≡ record driven.old { machine = ended driven.old.machine } }
+    ensures { driven.new
+        ≡ record driven.old { machine = machine_after_segment driven.old.machine } }
 {
     driven.machine.settle();
 }
 
-// The order that is due earliest takes effect, if the machine rests. The segment has ended. The result is the text that is
-// printed.
+// The order that is due earliest takes effect, if the machine rests. The segment has ended. The
+// result is the text that is printed.
 fn serve_at_rest<const N: usize>(driven: &mut Driven<N>) -> Option<ArrayString<64>>
     requires { MayServe driven.old.machine }
     ensures { Came (run.with_order_at_rest (scene_of driven.old)) (option_map (λ x. x.bytes) result)
@@ -191,7 +199,8 @@ fn serve_at_rest<const N: usize>(driven: &mut Driven<N>) -> Option<ArrayString<6
     }
 }
 
-// Turns on signals, one at a time, as long as the machine rests, and gives those that are still to come.
+// Turns on signals, one at a time, as long as the machine rests, and gives those that are still to
+// come.
 fn signals_at_rest<'a, const N: usize>(
     machine: &mut Machine<N>,
     signals: &'a [Signal],
@@ -199,7 +208,8 @@ fn signals_at_rest<'a, const N: usize>(
     requires known { AllPass is_signal signals.now }
     requires turn { MaySignal machine.old }
     ensures rest { AllPass is_signal result.now }
-    ensures came { (cards : List (List ℕ)) → run.with_signals_at_rest machine.old.state signals.now cards
+    ensures came { (cards : List (List ℕ)) →
+        run.with_signals_at_rest machine.old.state signals.now cards
         ≡ record { machine = machine.new.state; signals = result.now; cards = cards } }
     ensures machine { machine.new ≡ record machine.old { state = machine.new.state } }
 {
@@ -237,7 +247,8 @@ fn first_text(
     }
 }
 
-// What ends a wait comes: orders, then signals. The segment has ended. The result is the text that is printed.
+// What ends a wait comes: orders, then signals. The segment has ended. The result is the text that
+// is printed.
 fn end_wait<const N: usize>(driven: &mut Driven<N>) -> Option<ArrayString<64>>
     requires { MayServe driven.old.machine }
     ensures { Came (run.with_wait (scene_of driven.old)) (option_map (λ x. x.bytes) result)
@@ -251,13 +262,14 @@ fn end_wait<const N: usize>(driven: &mut Driven<N>) -> Option<ArrayString<64>>
 
 // ---- all of it
 
-// What comes between two entries. The result says whether a card came or the machine waited, and has the text that is
-// printed.
+// What comes between two entries. The result says whether a card came or the machine waited, and
+// has the text that is printed.
 fn come<const N: usize>(driven: &mut Driven<N>) -> (bool, Option<ArrayString<64>>)
     requires { MayServe driven.old.machine }
     ensures came { Came (run.interlude (scene_of driven.old)) (option_map (λ x. x.bytes) result.1)
         false result.0 driven.old driven.new }
-    ensures over { result.0 ≡ (has_card (moment_of driven.old) || has_waited (moment_of driven.old)) }
+    ensures over { result.0 ≡ (has_card (moment_of driven.old)
+        || has_waited (moment_of driven.old)) }
 {
     take_due_signals(driven);
     let (card, text) = serve_due(driven);
@@ -269,8 +281,8 @@ fn come<const N: usize>(driven: &mut Driven<N>) -> (bool, Option<ArrayString<64>
     (true, first_text(text, later))
 }
 
-// It is decided whether the segment ends and which interrupt is taken, by what the machine answers, and by whether the
-// segment has ended.
+// It is decided whether the segment ends and which interrupt is taken, by what the machine answers,
+// and by whether the segment has ended.
 fn choice(answer: Settled, over: bool) -> (bool, Option<u8>)
     ensures { result ≡ choice_of answer over }
 {
@@ -281,7 +293,8 @@ fn choice(answer: Settled, over: bool) -> (bool, Option<u8>)
     }
 }
 
-// It is decided how the run goes on, in which so many entries may still be done, where the segment has ended or not.
+// It is decided how the run goes on, in which so many entries may still be done, where the segment
+// has ended or not.
 fn decide<const N: usize>(
     driven: &mut Driven<N>,
     left: u64,
@@ -312,9 +325,10 @@ fn decide<const N: usize>(
     }
 }
 
-// What comes between two entries comes, of which so many may still be done; and it is decided how the run goes on.
+// What comes between two entries comes, of which so many may still be done; and it is decided how
+// the run goes on.
 pub(crate) fn leave<const N: usize>(driven: &mut Driven<N>, left: u64) -> Decided
-    requires { IsBehind driven.old }
+    requires { IsBehindEntry driven.old }
     ensures decided { IsDecided left (moment_of driven.old) result driven.new }
     ensures delays { driven.new.machine.delays ≡ driven.old.machine.delays }
     ensures levels { driven.new.machine.levels ≡ driven.old.machine.levels }
@@ -351,11 +365,12 @@ fn is_quiet<const N: usize>(machine: &Machine<N>) -> bool
     !is_at_rest(machine.state())
 }
 
-// The run goes on at once where nothing comes between two entries and the segment does not end. The result says whether it did; else
-// nothing changes. So many entries may still be done.
+// The run goes on at once where nothing comes between two entries and the segment does not end. The
+// result says whether it did; else nothing changes. So many entries may still be done.
 pub(crate) fn pass_on<const N: usize>(driven: &mut Driven<N>, left: u64) -> bool
-    requires { IsBehind driven.old }
-    ensures decided { result ≡ true → IsDecided left (moment_of driven.old) nothing_decided driven.new }
+    requires { IsBehindEntry driven.old }
+    ensures decided { result ≡ true →
+        IsDecided left (moment_of driven.old) nothing_decided driven.new }
     ensures delays { driven.new.machine.delays ≡ driven.old.machine.delays }
     ensures levels { driven.new.machine.levels ≡ driven.old.machine.levels }
     ensures stays { result ≡ false → driven.new ≡ driven.old }

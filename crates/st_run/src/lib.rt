@@ -1,5 +1,5 @@
-//! A whole run with its timetable: each event of it with its tick, as definitions and laws, and the run that tells one
-//! after another. `docs/timetable.md` has the rules.
+//! A whole run with its timetable: each event of it with its tick, as definitions and laws, and the
+//! run that tells one after another. `docs/timetable.md` has the rules.
 #![tactic(auto, using(st_bits::specs::Storage::words_of_storage_is))]
 
 mod driven;
@@ -17,4 +17,4 @@ mod waiting;
 pub use run::Run;
 pub use seen::Seen;
 pub use serving::{Served, serve};
-pub use told::{Told, What};
+pub use told::{RunEvent, TimedRunEvent};

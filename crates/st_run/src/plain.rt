@@ -1,4 +1,5 @@
-//! What comes to a machine that executes one instruction after the other: signals, and whether its devices have orders.
+//! What comes to a machine that executes one instruction after the other: signals, and whether its
+//! devices have orders.
 ghost use Rattle.std.specs.Prelude.{◌≡◌, ℕ, List, is_none};
 ghost use Rattle.std.specs.List.{AllPass};
 ghost use Rattle.st_card.specs.Limits.{is_signal};
@@ -27,7 +28,8 @@ pub fn due_signals<'a>(state: &mut State, signals: &'a [Signal]) -> &'a [Signal]
     rest
 }
 
-/// Turns on signals, one at a time, as long as the machine is at rest, and gives those that are still to come.
+/// Turns on signals, one at a time, as long as the machine is at rest, and gives those that are
+/// still to come.
 pub fn signals_at_rest<'a>(state: &mut State, signals: &'a [Signal]) -> &'a [Signal]
     requires { AllPass is_signal signals.now }
     ensures rest { AllPass is_signal result.now }

@@ -3,17 +3,17 @@ ghost use Rattle.std.specs.Prelude.{◌≡◌, ◌+◌, ◌-◌, ◌<◌, ◌≤
 ghost use Rattle.st_state.specs.Machine.{Machine};
 ghost use Rattle.st_ahead.specs.Overlap.{levels_of};
 ghost use Rattle.st_run.specs.TimedRun.{timed_from, timed_behind};
-ghost use Rattle.st_run.specs.Told.{told as told_events};
+ghost use Rattle.st_run.specs.Told.{told_of_events as told_events};
 ghost use Rattle.st_run.specs.Together.{moment_of, standing_of};
 ghost use Rattle.st_run.specs.Between.{signal_due};
-ghost use Rattle.st_run.specs.Telling.{whats, told_at_end, rest_of, told_with, first_tick, AreLeftOut, IsRun, IsShown, IsLeft, AreInTime};
-ghost use Rattle.st_run.specs.declared.told.What.TheVariants as tells;
+ghost use Rattle.st_run.specs.Telling.{whats, told_at_end, rest_of, told_with, snapshot_tick, AreLeftOut, IsRun, IsShown, IsLeft, AreInTime};
+ghost use Rattle.st_run.specs.declared.told.RunEvent.TheVariants as tells;
 ghost use Rattle.st_run.specs.declared.turn.Turn.TheVariants as turns;
 
 use crate::driven::Driven;
 use crate::leaving::{leave, levels_ahead, pass_on};
 use crate::ticking::{run_many, run_until};
-use crate::told::{Told, What};
+use crate::told::{RunEvent, TimedRunEvent};
 use crate::turn::Turn;
 use crate::waiting::Waiting;
 use arrayvec::{ArrayString, ArrayVec};
@@ -24,8 +24,10 @@ use st_state::State;
 // No more instructions are done than this number, 2^63 - 1.
 const MOST: u64 = (1 << 63) - 1;
 
-// A run between two things that it tells: the machine with what is still to come to it, the snapshots that are still to
-// come, how many instructions may be done behind the next one, the tick at which the last one was done, what waits to be told, the text that was printed last, and the turn.
+// A run between two things that it tells: the machine with what is still to come to it, the
+// snapshots that are still to come, how many instructions may be done behind the next one, the tick
+// at which the last one was done, what waits to be told, the text that was printed last, and the
+// turn.
 #[derive(Drop)]
 pub(crate) struct Progress<'a, const N: usize> {
     pub driven: Driven<'a, N>,
@@ -38,7 +40,7 @@ pub(crate) struct Progress<'a, const N: usize> {
 }
 
 // The next thing that is told; `None` exactly where all is told.
-pub(crate) fn tell_next<const N: usize>(run: &mut Progress<N>) -> Option<Told>
+pub(crate) fn tell_next<const N: usize>(run: &mut Progress<N>) -> Option<TimedRunEvent>
     requires { IsRun run.old.turn run.old.left run.old.tick run.old.snaps.now run.old.waiting run.old.driven }
     ensures kept { IsRun run.new.turn run.new.left run.new.tick run.new.snaps.now run.new.waiting run.new.driven }
     ensures told { MatchOption result
@@ -57,10 +59,11 @@ pub(crate) fn tell_next<const N: usize>(run: &mut Progress<N>) -> Option<Told>
     }
 }
 
-// Passes over entries that are done, as so many calls would tell them, as long as nothing else comes between them. The last of
-// them is the result; there is none where something else is told next, or may be.
+// Passes over entries that are done, as so many calls would tell them, as long as nothing else
+// comes between them. The last of them is the result; there is none where something else is told
+// next, or may be.
 #[inline(never)]
-pub(crate) fn pass_entries<const N: usize>(run: &mut Progress<N>) -> Option<Told>
+pub(crate) fn pass_entries<const N: usize>(run: &mut Progress<N>) -> Option<TimedRunEvent>
     requires { IsRun run.old.turn run.old.left run.old.tick run.old.snaps.now run.old.waiting run.old.driven }
     ensures kept { IsRun run.new.turn run.new.left run.new.tick run.new.snaps.now run.new.waiting run.new.driven }
     ensures told { MatchOption result
@@ -82,12 +85,14 @@ pub(crate) fn pass_entries<const N: usize>(run: &mut Progress<N>) -> Option<Told
     Some(go_far(run))
 }
 
-// Before the next entry, where no snapshot is to come: it is done, and those behind it between which nothing comes.
-fn go_far<const N: usize>(run: &mut Progress<N>) -> Told
+// Before the next entry, where no snapshot is to come: it is done, and those behind it between
+// which nothing comes.
+fn go_far<const N: usize>(run: &mut Progress<N>) -> TimedRunEvent
     requires run { IsRun turns.Before run.old.left run.old.tick run.old.snaps.now run.old.waiting run.old.driven }
     requires turn { run.old.turn ≡ turns.Before }
     requires waits { (s : Machine) → whats run.old.waiting s ≡ [] }
     requires snaps { run.old.snaps.now ≡ [] }
+
     ensures kept { IsRun run.new.turn run.new.left run.new.tick run.new.snaps.now run.new.waiting run.new.driven }
     ensures told { AreLeftOut (told_with result run.new.driven.machine run.new.printed.bytes)
         (told_events (timed_behind run.old.driven.machine.delays run.old.driven.machine.levels run.old.left
@@ -97,15 +102,15 @@ fn go_far<const N: usize>(run: &mut Progress<N>) -> Told
     let done = done_of(&run.driven);
     let count = count_of(&run.driven, done, run.left);
     let Some(row) = run_many(&mut run.driven, count) else {
-        return at_once(&run.driven, run.tick, What::Shown(0));
+        return at_once(&run.driven, run.tick, RunEvent::Shown(0));
     };
     run.left -= row.number - 1 - done;
     leave_entry(run, row.c);
     told_of(row)
 }
 
-// The number of instructions after which something else may come than entries that are done: where the budget is used up, or a
-// signal comes; 2^63 at most.
+// The number of instructions after which something else may come than entries that are done: where
+// the budget is used up, or a signal comes; 2^63 at most.
 fn count_of<const N: usize>(driven: &Driven<N>, done: u64, left: u64) -> u64
     requires { done < 2 ^ 63 }
     ensures few { result ≤ 2 ^ 63 }
@@ -134,13 +139,17 @@ fn count_before(signals: &[Signal], done: u64, left: u64) -> u64
 }
 
 // An entry that is done.
-fn told_of(row: Row) -> Told
-    ensures { result ≡ record { done = row.number; tick = row.c; what = tells.Done row.address row.p row.r } }
+fn told_of(row: Row) -> TimedRunEvent
+    ensures { result ≡ record {
+      done = row.number;
+      tick = row.c;
+      what = tells.Done row.address row.p row.r;
+    } }
 {
-    Told {
+    TimedRunEvent {
         done: row.number,
         tick: row.c,
-        what: What::Done {
+        what: RunEvent::Done {
             address: row.address,
             p: row.p,
             r: row.r,
@@ -149,12 +158,13 @@ fn told_of(row: Row) -> Told
 }
 
 // Before the next entry: a snapshot, or that entry is done.
-fn go<const N: usize>(run: &mut Progress<N>) -> Told
+fn go<const N: usize>(run: &mut Progress<N>) -> TimedRunEvent
     requires run { IsRun turns.Before run.old.left run.old.tick run.old.snaps.now run.old.waiting run.old.driven }
     requires turn { run.old.turn ≡ turns.Before }
     requires waits { (s : Machine) → whats run.old.waiting s ≡ [] }
     ensures kept { IsRun run.new.turn run.new.left run.new.tick run.new.snaps.now run.new.waiting run.new.driven }
-    ensures told { told_events (timed_behind run.old.driven.machine.delays run.old.driven.machine.levels run.old.left
+    ensures told { told_events
+        (timed_behind run.old.driven.machine.delays run.old.driven.machine.levels run.old.left
         (standing_of run.old.tick run.old.driven) run.old.snaps.now)
         ≡ told_with result run.new.driven.machine run.new.printed.bytes
         ∷ rest_of run.new.turn run.new.left run.new.tick run.new.snaps.now run.new.waiting run.new.driven }
@@ -168,30 +178,33 @@ fn go<const N: usize>(run: &mut Progress<N>) -> Told
 }
 
 // The snapshot whose tick was made last.
-fn show<const N: usize>(run: &mut Progress<N>) -> Told
+fn show<const N: usize>(run: &mut Progress<N>) -> TimedRunEvent
     requires shown { IsShown run.old.left run.old.tick run.old.snaps.now run.old.driven }
     requires turn { run.old.turn ≡ turns.Before }
     requires waits { (s : Machine) → whats run.old.waiting s ≡ [] }
     ensures kept { IsRun run.new.turn run.new.left run.new.tick run.new.snaps.now run.new.waiting run.new.driven }
-    ensures told { told_events (timed_behind run.old.driven.machine.delays run.old.driven.machine.levels run.old.left
+    ensures told { told_events
+        (timed_behind run.old.driven.machine.delays run.old.driven.machine.levels run.old.left
         (standing_of run.old.tick run.old.driven) run.old.snaps.now)
         ≡ told_with result run.new.driven.machine run.new.printed.bytes
         ∷ rest_of run.new.turn run.new.left run.new.tick run.new.snaps.now run.new.waiting run.new.driven }
 {
     let Some((at, after)) = split_first(run.snaps) else {
-        return at_once(&run.driven, run.tick, What::Shown(0));
+        return at_once(&run.driven, run.tick, RunEvent::Shown(0));
     };
     run.snaps = after;
-    at_once(&run.driven, run.tick, What::Shown(at))
+    at_once(&run.driven, run.tick, RunEvent::Shown(at))
 }
 
-// What comes behind an entry that has just been done at a tick waits to be told; mostly that is nothing.
+// What comes behind an entry that has just been done at a tick waits to be told; mostly that is
+// nothing.
 fn leave_entry<const N: usize>(run: &mut Progress<N>, tick: u64)
     requires left { IsLeft run.old.left run.old.snaps.now tick run.old.driven }
     requires turn { run.old.turn ≡ turns.Before }
     requires waits { (s : Machine) → whats run.old.waiting s ≡ [] }
     ensures kept { IsRun run.new.turn run.new.left run.new.tick run.new.snaps.now run.new.waiting run.new.driven }
-    ensures told { told_events (timed_from run.old.driven.machine.delays run.old.driven.machine.levels run.old.left
+    ensures told { told_events
+        (timed_from run.old.driven.machine.delays run.old.driven.machine.levels run.old.left
         (moment_of run.old.driven) run.old.snaps.now)
         ≡ rest_of run.new.turn run.new.left run.new.tick run.new.snaps.now run.new.waiting run.new.driven }
 {
@@ -208,7 +221,8 @@ fn leave_entry<const N: usize>(run: &mut Progress<N>, tick: u64)
 fn leave_fully<const N: usize>(run: &mut Progress<N>, tick: u64)
     requires left { IsLeft run.old.left run.old.snaps.now tick run.old.driven }
     ensures kept { IsRun run.new.turn run.new.left run.new.tick run.new.snaps.now run.new.waiting run.new.driven }
-    ensures told { told_events (timed_from run.old.driven.machine.delays run.old.driven.machine.levels run.old.left
+    ensures told { told_events
+        (timed_from run.old.driven.machine.delays run.old.driven.machine.levels run.old.left
         (moment_of run.old.driven) run.old.snaps.now)
         ≡ rest_of run.new.turn run.new.left run.new.tick run.new.snaps.now run.new.waiting run.new.driven }
 {
@@ -226,11 +240,13 @@ fn leave_fully<const N: usize>(run: &mut Progress<N>, tick: u64)
 }
 
 // At the end: a snapshot up to the last tick, or the end itself.
-fn finish<const N: usize>(run: &mut Progress<N>, rests: bool) -> Told
+fn finish<const N: usize>(run: &mut Progress<N>, rests: bool) -> TimedRunEvent
     requires turn { run.old.turn ≡ turns.AtEnd rests }
     requires levels { levels_of run.old.driven.machine ≡ [] }
-    requires in_time { AreInTime (told_at_end rests run.old.tick run.old.snaps.now run.old.driven.machine.state) }
+    requires in_time { AreInTime
+        (told_at_end rests run.old.tick run.old.snaps.now run.old.driven.machine.state) }
     requires waits { (s : Machine) → whats run.old.waiting s ≡ [] }
+
     ensures kept { IsRun run.new.turn run.new.left run.new.tick run.new.snaps.now run.new.waiting run.new.driven }
     ensures told { told_at_end rests run.old.tick run.old.snaps.now run.old.driven.machine.state
         ≡ told_with result run.new.driven.machine run.new.printed.bytes
@@ -238,17 +254,17 @@ fn finish<const N: usize>(run: &mut Progress<N>, rests: bool) -> Told
 {
     let Some((at, after)) = split_due(run.snaps, run.tick) else {
         run.turn = Turn::Over;
-        return at_once(&run.driven, run.tick, What::Ended(rests));
+        return at_once(&run.driven, run.tick, RunEvent::Ended(rests));
     };
     run.snaps = after;
-    at_once(&run.driven, run.tick, What::Shown(at))
+    at_once(&run.driven, run.tick, RunEvent::Shown(at))
 }
 
 // Something that is told at the tick at which the last entry was done.
-fn at_once<const N: usize>(driven: &Driven<N>, tick: u64, what: What) -> Told
+fn at_once<const N: usize>(driven: &Driven<N>, tick: u64, what: RunEvent) -> TimedRunEvent
     ensures { result ≡ record { done = driven.now.machine.state.done; tick = tick; what = what } }
 {
-    Told {
+    TimedRunEvent {
         done: done_of(driven),
         tick,
         what,
@@ -271,7 +287,7 @@ fn done_in(state: &State) -> u64
 
 // The tick of the next snapshot.
 fn first_of(snaps: &[u64]) -> Option<u64>
-    ensures { result ≡ first_tick snaps.now }
+    ensures { result ≡ snapshot_tick snaps.now }
 {
     match snaps {
         [first, ..] => Some(*first),
@@ -291,7 +307,7 @@ fn split_first(snaps: &[u64]) -> Option<(u64, &[u64])>
 
 // The same where it comes up to this tick.
 fn split_due(snaps: &[u64], tick: u64) -> Option<(u64, &[u64])>
-    ensures { MatchOption result (IfSome (first_tick snaps.now) (λ x. tick < x))
+    ensures { MatchOption result (IfSome (snapshot_tick snaps.now) (λ x. tick < x))
         (λ r. (snaps.now ≡ r.0 ∷ r.1.now) × (r.0 ≤ tick)) }
 {
     let (first, after) = split_first(snaps)?;

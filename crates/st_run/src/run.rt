@@ -5,14 +5,14 @@ ghost use Rattle.std.specs.List.Sorted.{IsStrictlyIncreasing};
 ghost use Rattle.st_bits.specs.declared.limits.TheConstants.{MOST_INSTRUCTIONS};
 ghost use Rattle.st_card.specs.Limits.{is_signal};
 ghost use Rattle.st_refine.specs.Reached.{IsCard};
-ghost use Rattle.st_run.specs.Told.{told as told_events};
+ghost use Rattle.st_run.specs.Told.{told_of_events as told_events};
 ghost use Rattle.st_run.specs.TimedRun.{timed_run};
-ghost use Rattle.st_run.specs.Telling.{what_told, AreLeftOut, AreLevels};
+ghost use Rattle.st_run.specs.Telling.{what_told, AreLeftOut, AreLevelsShown};
 
 use crate::driven::{Driven, take_due_signals, view_of};
 use crate::progress::{Progress, pass_entries, tell_next};
 use crate::seen::Seen;
-use crate::told::Told;
+use crate::told::TimedRunEvent;
 use crate::turn::Turn;
 use crate::waiting::Waiting;
 use arrayvec::ArrayString;
@@ -23,8 +23,9 @@ use st_exch::Hopper;
 use st_state::State;
 use std::marker::Model;
 
-/// A run on a machine with N levels, 1 to 8. It tells one thing after another: entries that are done or dropped, texts
-/// that are printed, interrupts, snapshots, and its end. No call takes memory. `docs/timetable.md` has the rules.
+/// A run on a machine with N levels, 1 to 8. It tells one thing after another: entries that are
+/// done or dropped, texts that are printed, interrupts, snapshots, and its end. No call takes
+/// memory. `docs/timetable.md` has the rules.
 #[derive(Drop)]
 pub struct Run<'a, const N: usize> {
     progress: Progress<'a, N>,
@@ -32,13 +33,13 @@ pub struct Run<'a, const N: usize> {
 
 // Clauses see what is still to be told, and what is shown.
 impl<'a, const N: usize> Model for Run<'a, N> {
-    ghost use Rattle.st_run.specs.Telling.{Telling, rest_of, seen_of, ahead_of, IsRun};
+    ghost use Rattle.st_run.specs.Telling.{Telling, rest_of, state_told, ahead_of, IsRun};
 
     ghost Value = { Telling };
 
     ghost view = { λ r. record {
       rest = rest_of r.progress.turn r.progress.left r.progress.tick r.progress.snaps.now r.progress.waiting r.progress.driven;
-      seen = seen_of r.progress.driven.machine;
+      seen = state_told r.progress.driven.machine;
       ahead = ahead_of r.progress.driven.machine;
       text = r.progress.printed.bytes;
     } };
@@ -51,13 +52,14 @@ impl<'a, const N: usize> Run<'a, N> {
     ghost use Rattle.std.specs.List.Sorted.{IsStrictlyIncreasing};
     ghost use Rattle.st_card.specs.Limits.{is_signal};
     ghost use Rattle.st_refine.specs.Reached.{IsCard};
-    ghost use Rattle.st_run.specs.Told.{told as told_events};
+    ghost use Rattle.st_run.specs.Told.{told_of_events as told_events};
     ghost use Rattle.st_run.specs.TimedRun.{timed_run};
-    ghost use Rattle.st_run.specs.Telling.{what_told, AreLeftOut, AreLevels};
+    ghost use Rattle.st_run.specs.Telling.{what_told, AreLeftOut, AreLevelsShown};
     ghost use Rattle.st_run.specs.Protocol.{ShowsLed, IsViewOfLed};
 
-    /// A run from a state that nothing has happened in, with the signals and the reader's cards that come to it, the ticks
-    /// of the snapshots, and how many instructions may be done, at most 10,000,000.
+    /// A run from a state that nothing has happened in, with the signals and the reader's cards
+    /// that come to it, the ticks of the snapshots, and how many instructions may be done, at most
+    /// 10,000,000.
     pub fn new(
         state: State,
         delays: Delays,
@@ -78,6 +80,7 @@ impl<'a, const N: usize> Run<'a, N> {
         requires snaps { IsStrictlyIncreasing snaps.now }
         requires some_done { 1 ≤ budget }
         requires few_done { budget ≤ MOST_INSTRUCTIONS }
+
         ensures { result.rest ≡ told_events (timed_run delays N budget
             (record { machine = state; signals = signals.now; cards = cards }) snaps.now) }
     {
@@ -103,7 +106,7 @@ impl<'a, const N: usize> Run<'a, N> {
     }
 
     /// The next thing that is told; `None` exactly where all is told.
-    pub fn next(&mut self) -> Option<Told>
+    pub fn next(&mut self) -> Option<TimedRunEvent>
         ensures { MatchOption result (self.old.rest ≡ []) (λ t. self.old.rest ≡ record {
           done = t.done;
           tick = t.tick;
@@ -113,9 +116,10 @@ impl<'a, const N: usize> Run<'a, N> {
         tell_next(&mut self.progress)
     }
 
-    /// Passes over entries that are done, as so many calls of `next` would tell them, as long as nothing else comes between them. The
-    /// last of them is the result; there is none where something else is told next, or may be, as long as snapshots are to come.
-    pub fn pass_entries(&mut self) -> Option<Told>
+    /// Passes over entries that are done, as so many calls of `next` would tell them, as long as
+    /// nothing else comes between them. The last of them is the result; there is none where
+    /// something else is told next, or may be, as long as snapshots are to come.
+    pub fn pass_entries(&mut self) -> Option<TimedRunEvent>
         ensures { MatchOption result (self.new.rest ≡ self.old.rest) (λ t. AreLeftOut (record {
           done = t.done;
           tick = t.tick;
@@ -125,7 +129,8 @@ impl<'a, const N: usize> Run<'a, N> {
         pass_entries(&mut self.progress)
     }
 
-    /// The state that is shown. Calls within the protocol of the machine lead to what the run shows.
+    /// The state that is shown. Calls within the protocol of the machine lead to what the run
+    /// shows.
     pub fn seen(&self) -> Seen<'_>
         ensures seen { result ≡ self.entry.now.seen }
         ensures led { ShowsLed self.entry.now }
@@ -136,9 +141,10 @@ impl<'a, const N: usize> Run<'a, N> {
         )
     }
 
-    /// What is shown of the machine: the levels. Calls within its protocol lead to a machine that shows this.
+    /// What is shown of the machine: the levels. Calls within its protocol lead to a machine that
+    /// shows this.
     pub fn view(&self) -> View
-        ensures levels { AreLevels result.levels self.entry.now.ahead }
+        ensures levels { AreLevelsShown result.levels self.entry.now.ahead }
         ensures led { IsViewOfLed result self.entry.now }
     {
         view_of(&self.progress.driven)

@@ -21,7 +21,8 @@ impl<'a> Model for Seen<'a> {
 
     ghost Value = { Machine };
 
-    ghost view = { λ s. option_map_or (λ xs. with_index_words xs.now s.state.now) s.index s.state.now };
+    ghost view = { λ s.
+        option_map_or (λ xs. with_index_words xs.now s.state.now) s.index s.state.now };
 }
 
 impl<'a> Seen<'a> {

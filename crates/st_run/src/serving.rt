@@ -1,6 +1,6 @@
 //! A device of an overlapped machine is served.
 ghost use Rattle.std.specs.Prelude.{◌≡◌, IfSome, IsSome, Some};
-ghost use Rattle.st_exch.specs.Printer.{printed};
+ghost use Rattle.st_exch.specs.Printer.{line_of_words};
 ghost use Rattle.st_exec.specs.Transfer.{words_from};
 ghost use Rattle.st_ahead.specs.Calls.{MayServe, printed_by, read_in_by};
 ghost use Rattle.st_run.specs.Run.{cards_after, first_card};
@@ -14,7 +14,8 @@ use st_state::Device;
 /// What a device that is served has done.
 #[derive(Clone, Copy, Debug)]
 pub enum Served {
-    /// The reader has read its next card. That ended the segment, and so many levels were dropped, 0 to 8.
+    /// The reader has read its next card. That ended the segment, and so many levels were dropped,
+    /// 0 to 8.
     Card { dropped: u8 },
     /// The reader had no card left.
     NoCard,
@@ -45,7 +46,7 @@ fn print_line<const N: usize>(machine: &mut Machine<N>) -> Served
     requires turn { MayServe machine.old }
     ensures machine { machine.new ≡ printed_by machine.old }
     ensures answer { IfSome machine.old.state.printer (λ order.
-        printed_text result ≡ Some (printed (words_from machine.old.state order.word 8))) }
+        printed_text result ≡ Some (line_of_words (words_from machine.old.state order.word 8))) }
 {
     let words = machine.print_out();
     Served::Printed {
@@ -53,9 +54,10 @@ fn print_line<const N: usize>(machine: &mut Machine<N>) -> Served
     }
 }
 
-/// Serves a device that has an order, behind a tick at which an entry was done, while the settle of that tick is owed. The
-/// reader's next card leaves the hopper and goes into the area of the order, which ends the segment; without a card
-/// the reader only says that none came. The printer's text is that of the eight words of its area. No memory is taken.
+/// Serves a device that has an order, behind a tick at which an entry was done, while the settle of
+/// that tick is owed. The reader's next card leaves the hopper and goes into the area of the order,
+/// which ends the segment; without a card the reader only says that none came. The printer's text
+/// is that of the eight words of its area. No memory is taken.
 pub fn serve<const N: usize>(
     machine: &mut Machine<N>,
     hopper: &mut Hopper,

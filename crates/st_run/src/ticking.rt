@@ -1,7 +1,7 @@
 //! Ticks up to an entry that is told, or up to a snapshot.
 ghost use Rattle.std.specs.Prelude.{◌≡◌, ◌-◌, ◌<◌, ◌≤◌, ◌^◌, [], IfSome};
 ghost use Rattle.st_ahead.specs.Overlap.{oldest_row};
-ghost use Rattle.st_run.specs.Together.{IsBefore};
+ghost use Rattle.st_run.specs.Together.{IsBeforeEntry};
 ghost use Rattle.st_run.specs.Ticking.{AreMade, AreMadeUpTo, last_for};
 
 use crate::driven::Driven;
@@ -10,10 +10,10 @@ use st_ahead::Row;
 // The last tick that may be made.
 const LAST: u64 = (1 << 63) - 1;
 
-// Makes ticks until an entry is done, whose row is the result; or until that of the next snapshot is made, if it comes
-// before.
+// Makes ticks until an entry is done, whose row is the result; or until that of the next snapshot
+// is made, if it comes before.
 pub(crate) fn run_until<const N: usize>(driven: &mut Driven<N>, snap: Option<u64>) -> Option<Row>
-    requires before { IsBefore driven.old }
+    requires before { IsBeforeEntry driven.old }
     requires in_time { (oldest_row driven.old.machine).c < 2 ^ 63 }
     requires few { driven.old.machine.state.done < 2 ^ 63 }
     requires snap { IfSome snap (λ x. driven.old.machine.now - 1 ≤ x) }
@@ -22,9 +22,10 @@ pub(crate) fn run_until<const N: usize>(driven: &mut Driven<N>, snap: Option<u64
     driven.machine.run_to(0, last_of(snap))
 }
 
-// Makes ticks until an entry is done behind which something may come, when `count` instructions are done at the latest. Its row is the result.
+// Makes ticks until an entry is done behind which something may come, when `count` instructions are
+// done at the latest. Its row is the result.
 pub(crate) fn run_many<const N: usize>(driven: &mut Driven<N>, count: u64) -> Option<Row>
-    requires before { IsBefore driven.old }
+    requires before { IsBeforeEntry driven.old }
     requires few { driven.old.machine.state.done < 2 ^ 63 }
     requires count { count ≤ 2 ^ 63 }
     ensures { AreMadeUpTo count result driven.old driven.new }

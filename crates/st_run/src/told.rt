@@ -1,9 +1,9 @@
 //! What is told of a run.
 /// What a run tells next.
 #[derive(Clone, Copy, Debug)]
-pub enum What {
-    /// The entry at this half-word address is done, which was prepared at the tick `p` and ready at `r`. It is complete at
-    /// the tick at which this is told.
+pub enum RunEvent {
+    /// The entry at this half-word address is done, which was prepared at the tick `p` and ready at
+    /// `r`. It is complete at the tick at which this is told.
     Done { address: u32, p: u64, r: u64 },
     /// An entry that ran ahead, at this half-word address and prepared at this tick, is dropped.
     Dropped { address: u32, p: u64 },
@@ -19,11 +19,11 @@ pub enum What {
 
 /// What is told, and when.
 #[derive(Clone, Copy, Debug)]
-pub struct Told {
+pub struct TimedRunEvent {
     /// The number of instructions done by then.
     pub done: u64,
     /// The tick at which the last of them was done, 0 before the first.
     pub tick: u64,
     /// What is told.
-    pub what: What,
+    pub what: RunEvent,
 }

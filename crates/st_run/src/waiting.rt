@@ -5,12 +5,12 @@ ghost use Rattle.st_state.specs.Machine.{Machine};
 ghost use Rattle.st_run.specs.Events.{Level};
 ghost use Rattle.st_run.specs.Telling.{what_told, whats as whats_of};
 
-use crate::told::What;
+use crate::told::RunEvent;
 use arrayvec::{ArrayString, ArrayVec};
 use std::marker::Model;
 
-// What waits to be told: the entries that are dropped, each with its half-word address and the tick at which it was
-// prepared, oldest first; the text that is printed; the interrupt that is taken.
+// What waits to be told: the entries that are dropped, each with its half-word address and the tick
+// at which it was prepared, oldest first; the text that is printed; the interrupt that is taken.
 #[derive(Drop)]
 pub(crate) struct Waiting {
     pub drops: ArrayVec<(u32, u64), 8>,
@@ -24,7 +24,11 @@ impl Model for Waiting {
 
     ghost Value = { Waiting };
 
-    ghost view = { λ w. record { drops = w.drops.items; text = option_map (λ t. t.bytes) w.text; taken = w.taken } };
+    ghost view = { λ w. record {
+      drops = w.drops.items;
+      text = option_map (λ t. t.bytes) w.text;
+      taken = w.taken;
+    } };
 }
 
 impl Waiting {
@@ -57,28 +61,31 @@ impl Waiting {
         true
     }
 
-    /// What is told next, and no longer waits: the youngest entry that is dropped, the text, which is then the one that was
-    /// printed last, or the interrupt.
-    pub fn next(&mut self, printed: &mut ArrayString<64>) -> Option<What>
+    /// What is told next, and no longer waits: the youngest entry that is dropped, the text, which
+    /// is then the one that was printed last, or the interrupt.
+    pub fn next(&mut self, printed: &mut ArrayString<64>) -> Option<RunEvent>
         ensures told { (s : Machine) → MatchOption result (whats_of self.old s ≡ [])
-            (λ what. whats_of self.old s ≡ what_told what 0 s [] printed.new.bytes ∷ whats_of self.new s) }
-        ensures shown { (s t : Machine) (tick : ℕ) (levels : List Level) (text : List ℕ) → (IsSome self.old.taken → s ≡ t)
-            → IfSome result (λ what. what_told what 0 s [] text ≡ what_told what tick t levels text) }
+            (λ what. whats_of self.old s ≡ what_told what 0 s [] printed.new.bytes
+            ∷ whats_of self.new s) }
+        ensures shown { (s t : Machine) (tick : ℕ) (levels : List Level) (text : List ℕ) →
+            (IsSome self.old.taken → s ≡ t)
+            → IfSome result (λ what. what_told what 0 s [] text
+            ≡ what_told what tick t levels text) }
         ensures taken { IsSome self.new.taken → IsSome self.old.taken }
         ensures none { IfNone result (self.new ≡ self.old) }
     {
         if let Some((address, p)) = self.drops.pop() {
-            return Some(What::Dropped { address, p });
+            return Some(RunEvent::Dropped { address, p });
         }
         if let Some(text) = self.text {
             self.text = None;
             *printed = text;
-            return Some(What::Printed);
+            return Some(RunEvent::Printed);
         }
         let Some(indicator) = self.taken else {
             return None;
         };
         self.taken = None;
-        Some(What::Interrupted(indicator))
+        Some(RunEvent::Interrupted(indicator))
     }
 }

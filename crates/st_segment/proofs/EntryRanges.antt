@@ -6,7 +6,7 @@ use Rattle.std.proofs.lemmas.List.{get_or_append_left}
 use Rattle.std.proofs.lemmas.Bool.{and_parts, leb-true, leb-false}
 use Rattle.st_bits.specs.Storage.{words_of_storage}
 use Rattle.st_state.specs.Machine.{Machine, IsMachine, word}
-use Rattle.st_prep.specs.Fetch.{index_words, place_of, fetched}
+use Rattle.st_prep.specs.Fetch.{index_words, place_of, words_fetched}
 use Rattle.st_prep.specs.Plan.{needs, sight, plan}
 use Rattle.st_prep.specs.Ranges.{IsPrepared, IsNeeds}
 use Rattle.st_prep.specs.Reading.{index_side_words, words_read, own_words}
@@ -15,33 +15,33 @@ use Rattle.st_prep.proofs.CountLemmas.{few-plan}
 use Rattle.st_prep.proofs.PlanLemmas.{plan-prepared}
 use Rattle.st_prep.proofs.PreparedLemmas.{is_needs}
 use Rattle.st_prep.proofs.ReadingLemmas.{fetched-outcome, reading-few}
-use Rattle.st_rows.specs.declared.entry.Run.{Run}
+use Rattle.st_rows.specs.declared.entry.WordRun.{WordRun}
 use Rattle.st_rows.specs.Asked.{side_count, own_reads}
-use Rattle.st_rows.specs.Ranges.{IsReadable, IsEntry}
-use Rattle.st_segment.specs.Alone.{words_from, words_of_run}
+use Rattle.st_rows.specs.Ranges.{IsReadable, IsEntryInTime}
+use Rattle.st_segment.specs.Alone.{word_list_from, words_of_run}
 use Rattle.st_segment.specs.Entries.{reading_at, instruction_words, own_count, run_of, above_registers, words_to_read, side_to_read, entry}
 use Rattle.st_segment.proofs.InstructionRuns.{IsCut, reading-cut, reading-some}
 
 -- ---- runs of words
 
-length-words_from : (w n : ℕ) → length (words_from w n) ≡ n
-unfolding words_from
+length-words_from : (w n : ℕ) → length (word_list_from w n) ≡ n
+unfolding word_list_from
 length-words_from w zero = refl
 length-words_from w (suc n) = ap suc (length-words_from (w + 1) n)
 
 -- words that follow each other are those of their run
-words-run : (w n : ℕ) → words_of_run (run_of (words_from w n)) ≡ words_from w n
-unfolding words_from run_of
+words-run : (w n : ℕ) → words_of_run (run_of (word_list_from w n)) ≡ word_list_from w n
+unfolding word_list_from run_of
 words-run w zero = refl
-words-run w (suc n) = ap (λ k. w ∷ words_from (w + 1) k) (length-words_from (w + 1) n)
+words-run w (suc n) = ap (λ k. w ∷ word_list_from (w + 1) k) (length-words_from (w + 1) n)
 
 len-run : (ws : List ℕ) → (run_of ws).len ≡ length ws
 unfolding run_of
 len-run [] = refl
 len-run (w ∷ ws) = refl
 
-len-from : (w n : ℕ) → (run_of (words_from w n)).len ≡ n
-len-from w n = len-run (words_from w n) ∙ length-words_from w n
+len-from : (w n : ℕ) → (run_of (word_list_from w n)).len ≡ n
+len-from w n = len-run (word_list_from w n) ∙ length-words_from w n
 
 take-front : (ws vs : List ℕ) (n : ℕ) → length ws ≡ n → take n (ws ++ vs) ≡ ws
 take-front ws vs n e = ap (λ k. take k (ws ++ vs)) (sym e) ∙ take-append_seam ws vs
@@ -54,21 +54,21 @@ drop-front ws vs n e = ap (λ k. drop k (ws ++ vs)) (sym e) ∙ drop-append_seam
 cut : (t : Option ℕ) (s : Machine) → IsCut (word s) (reading_at t s)
 cut t s = reading-cut (index_words s) (word s 3) s.enabled (place_of s t) (word s)
 
-own-run : (t : Option ℕ) (s : Machine) → (entry t s).own ≡ run_of (words_from (cut t s).w (cut t s).n)
+own-run : (t : Option ℕ) (s : Machine) → (entry t s).own ≡ run_of (word_list_from (cut t s).w (cut t s).n)
 unfolding entry instruction_words own_count
 own-run t s =
     let k = cut t s in
     ap (λ n. run_of (take n (words_read (reading_at t s) (word s)))) k.own
     ∙ ap (λ ws. run_of (take k.n ws)) k.words
-    ∙ ap run_of (take-front (words_from k.w k.n) (words_from k.v k.m) k.n (length-words_from k.w k.n))
+    ∙ ap run_of (take-front (word_list_from k.w k.n) (word_list_from k.v k.m) k.n (length-words_from k.w k.n))
 
-target-run : (t : Option ℕ) (s : Machine) → (entry t s).target ≡ run_of (words_from (cut t s).v (cut t s).m)
+target-run : (t : Option ℕ) (s : Machine) → (entry t s).target ≡ run_of (word_list_from (cut t s).v (cut t s).m)
 unfolding entry instruction_words own_count
 target-run t s =
     let k = cut t s in
     ap (λ n. run_of (drop n (words_read (reading_at t s) (word s)))) k.own
     ∙ ap (λ ws. run_of (drop k.n ws)) k.words
-    ∙ ap run_of (drop-front (words_from k.w k.n) (words_from k.v k.m) k.n (length-words_from k.w k.n))
+    ∙ ap run_of (drop-front (word_list_from k.w k.n) (word_list_from k.v k.m) k.n (length-words_from k.w k.n))
 
 pub entry-words : (t : Option ℕ) (s : Machine)
     → instruction_words t s ≡ words_of_run (entry t s).own ++ words_of_run (entry t s).target
@@ -76,40 +76,40 @@ unfolding instruction_words
 entry-words t s =
     let k = cut t s in
     k.words
-    ∙ ap (λ ws. ws ++ words_from k.v k.m) (sym (ap words_of_run (own-run t s) ∙ words-run k.w k.n))
+    ∙ ap (λ ws. ws ++ word_list_from k.v k.m) (sym (ap words_of_run (own-run t s) ∙ words-run k.w k.n))
     ∙ ap (λ ws. words_of_run (entry t s).own ++ ws) (sym (ap words_of_run (target-run t s) ∙ words-run k.v k.m))
 
 pub entry-own : (t : Option ℕ) (s : Machine) → own_count t s ≡ (entry t s).own.len
 unfolding own_count
 entry-own t s =
-    let k = cut t s in k.own ∙ sym (ap (λ (r : Run). r.len) (own-run t s) ∙ len-from k.w k.n)
+    let k = cut t s in k.own ∙ sym (ap (λ (r : WordRun). r.len) (own-run t s) ∙ len-from k.w k.n)
 
 -- ---- they can be read
 
-first-from : (w n : ℕ) → (run_of (words_from w (suc n))).first ≡ w
-unfolding words_from run_of
+first-from : (w n : ℕ) → (run_of (word_list_from w (suc n))).first ≡ w
+unfolding word_list_from run_of
 first-from w n = refl
 
-nth-from : (w n k d : ℕ) → k < n → get_or (words_from w n) k d ≡ w + k
-unfolding words_from
+nth-from : (w n k d : ℕ) → k < n → get_or (word_list_from w n) k d ≡ w + k
+unfolding word_list_from
 nth-from w zero k d h = absurd (omega arith)
 nth-from w (suc n) zero d h = omega arith
 nth-from w (suc n) (suc k) d h =
-    let rest : get_or (words_from (w + 1) n) k d ≡ w + 1 + k = nth-from (w + 1) n k d (omega arith) in omega (arith, rest)
+    let rest : get_or (word_list_from (w + 1) n) k d ≡ w + 1 + k = nth-from (w + 1) n k d (omega arith) in omega (arith, rest)
 
-readable-from : (w n : ℕ) → All (λ v. 32 ≤ v) (words_from w n) → All (λ v. v < words_of_storage) (words_from w n)
-    → IsReadable (run_of (words_from w n))
+readable-from : (w n : ℕ) → All (λ v. 32 ≤ v) (word_list_from w n) → All (λ v. v < words_of_storage) (word_list_from w n)
+    → IsReadable (run_of (word_list_from w n))
 readable-from w zero above inside =
-    let none : (run_of (words_from w 0)).len ≡ 0 = len-from w 0 in
+    let none : (run_of (word_list_from w 0)).len ≡ 0 = len-from w 0 in
     record { above = λ h. absurd (omega arith); inside = λ h. absurd (omega arith) }
 readable-from w (suc n) above inside =
-    let first : (run_of (words_from w (suc n))).first ≡ w = first-from w n in
-    let long : length (words_from w (suc n)) ≡ suc n = length-words_from w (suc n) in
-    let len : (run_of (words_from w (suc n))).len ≡ suc n = len-from w (suc n) in
-    let head : 32 ≤ get_or (words_from w (suc n)) 0 0 = above 0 0 (omega arith) in
-    let last : get_or (words_from w (suc n)) n 0 < words_of_storage = inside n 0 (omega arith) in
-    let head_is : get_or (words_from w (suc n)) 0 0 ≡ w + 0 = nth-from w (suc n) 0 0 (omega arith) in
-    let last_is : get_or (words_from w (suc n)) n 0 ≡ w + n = nth-from w (suc n) n 0 (omega arith) in
+    let first : (run_of (word_list_from w (suc n))).first ≡ w = first-from w n in
+    let long : length (word_list_from w (suc n)) ≡ suc n = length-words_from w (suc n) in
+    let len : (run_of (word_list_from w (suc n))).len ≡ suc n = len-from w (suc n) in
+    let head : 32 ≤ get_or (word_list_from w (suc n)) 0 0 = above 0 0 (omega arith) in
+    let last : get_or (word_list_from w (suc n)) n 0 < words_of_storage = inside n 0 (omega arith) in
+    let head_is : get_or (word_list_from w (suc n)) 0 0 ≡ w + 0 = nth-from w (suc n) 0 0 (omega arith) in
+    let last_is : get_or (word_list_from w (suc n)) n 0 ≡ w + n = nth-from w (suc n) n 0 (omega arith) in
     record { above = λ h. omega arith; inside = λ h. omega arith }
 
 all-left : (P : ℕ → Type 0) (xs ys : List ℕ) → All P (xs ++ ys) → All P xs
@@ -138,7 +138,7 @@ readable-above w n inside = readable-by (nat_le 32 w) w n refl inside
 few-above : (w n : ℕ) → (above_registers w n).len ≤ n
 unfolding above_registers
 few-above w n =
-    of_choice (λ (r : Run). r.len ≤ n) (nat_le 32 w) (record { first = w; len = n })
+    of_choice (λ (r : WordRun). r.len ≤ n) (nat_le 32 w) (record { first = w; len = n })
     (record { first = 32; len = n - (32 - w) }) (omega arith) (omega arith)
 
 -- ---- the index-side word
@@ -166,13 +166,13 @@ side-few (Some w) = side-one w (nat_le 32 w)
 -- ---- the entry
 
 above-words : (t : Option ℕ) (s : Machine)
-    → All (λ w. 32 ≤ w) (words_from (cut t s).w (cut t s).n ++ words_from (cut t s).v (cut t s).m)
+    → All (λ w. 32 ≤ w) (word_list_from (cut t s).w (cut t s).n ++ word_list_from (cut t s).v (cut t s).m)
 above-words t s =
     subst (All (λ w. 32 ≤ w)) (cut t s).words
     (reading-few (index_words s) (word s 3) s.enabled (place_of s t) (word s)).above
 
 inside-words : (t : Option ℕ) (s : Machine)
-    → All (λ w. w < words_of_storage) (words_from (cut t s).w (cut t s).n ++ words_from (cut t s).v (cut t s).m)
+    → All (λ w. w < words_of_storage) (word_list_from (cut t s).w (cut t s).n ++ word_list_from (cut t s).v (cut t s).m)
 inside-words t s =
     subst (All (λ w. w < words_of_storage)) (cut t s).words
     (reading-few (index_words s) (word s 3) s.enabled (place_of s t) (word s)).inside
@@ -180,8 +180,8 @@ inside-words t s =
 readable-own : (t : Option ℕ) (s : Machine) → IsReadable (entry t s).own
 readable-own t s =
     let k = cut t s in
-    let ws = words_from k.w k.n in
-    let vs = words_from k.v k.m in
+    let ws = word_list_from k.w k.n in
+    let vs = word_list_from k.v k.m in
     subst IsReadable (sym (own-run t s))
     (readable-from k.w k.n (all-left (λ w. 32 ≤ w) ws vs (above-words t s))
     (all-left (λ w. w < words_of_storage) ws vs (inside-words t s)))
@@ -189,14 +189,14 @@ readable-own t s =
 readable-target : (t : Option ℕ) (s : Machine) → IsReadable (entry t s).target
 readable-target t s =
     let k = cut t s in
-    let ws = words_from k.w k.n in
-    let vs = words_from k.v k.m in
+    let ws = word_list_from k.w k.n in
+    let vs = word_list_from k.v k.m in
     subst IsReadable (sym (target-run t s))
     (readable-from k.v k.m (all-right (λ w. 32 ≤ w) ws vs (above-words t s))
     (all-right (λ w. w < words_of_storage) ws vs (inside-words t s)))
 
 target-len : (t : Option ℕ) (s : Machine) → (entry t s).target.len ≡ (cut t s).m
-target-len t s = let k = cut t s in ap (λ (r : Run). r.len) (target-run t s) ∙ len-from k.v k.m
+target-len t s = let k = cut t s in ap (λ (r : WordRun). r.len) (target-run t s) ∙ len-from k.v k.m
 
 own-few : (t : Option ℕ) (s : Machine) → (entry t s).own.len ≤ 2
 unfolding own_count
@@ -208,17 +208,17 @@ own-few t s =
 target-few : (t : Option ℕ) (s : Machine) → (entry t s).target.len ≤ 2
 target-few t s = omega (arith, target-len t s, (cut t s).few_target)
 
-followed : (t : Option ℕ) (s : Machine) → (is_none t && is_none (fetched s (place_of s t)).fault) ≡ true
+followed : (t : Option ℕ) (s : Machine) → (is_none t && is_none (words_fetched s (place_of s t)).fault) ≡ true
     → 1 ≤ (entry t s).own.len
 unfolding own_count
 followed t s e =
     let p = place_of s t in
-    let free : is_none (fetched s p).fault ≡ true = (and_parts (is_none t) _ e).1 in
+    let free : is_none (words_fetched s p).fault ≡ true = (and_parts (is_none t) _ e).1 in
     let some : 1 ≤ own_words (reading_at t s) (word s) =
     reading-some (index_words s) (word s 3) s.enabled p (word s) (subst (λ f. is_none f.fault ≡ true) (fetched-outcome s p) free) in
     subst (λ n. 1 ≤ n) (entry-own t s) some
 
-pub entry-ranges : (t : Option ℕ) (s : Machine) → IsMachine s → IfSome t (λ i. i < 64) → IsEntry (entry t s)
+pub entry-ranges : (t : Option ℕ) (s : Machine) → IsMachine s → IfSome t (λ i. i < 64) → IsEntryInTime (entry t s)
 unfolding entry words_to_read
 entry-ranges t s m some =
     let p : IsPrepared (plan s t) = plan-prepared s t m some in
@@ -245,8 +245,8 @@ lengths t s =
     let k = cut t s in
     let all : length (words_read (reading_at t s) (word s)) ≡ k.n + k.m =
     ap length k.words
-    ∙ length-append (words_from k.w k.n) (words_from k.v k.m)
-    ∙ ap (λ n. n + length (words_from k.v k.m)) (length-words_from k.w k.n)
+    ∙ length-append (word_list_from k.w k.n) (word_list_from k.v k.m)
+    ∙ ap (λ n. n + length (word_list_from k.v k.m)) (length-words_from k.w k.n)
     ∙ ap (λ n. k.n + n) (length-words_from k.v k.m) in
     let own : (entry t s).own.len ≡ k.n = sym (entry-own t s) ∙ k.own in
     omega (arith, target-len t s)

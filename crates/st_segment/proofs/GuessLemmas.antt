@@ -6,7 +6,7 @@ use Rattle.st_prep.specs.Plan.{plan}
 use Rattle.st_prep.proofs.PlanLemmas.{plan-prepared}
 use Rattle.st_exec.specs.Completion.{guess}
 use Rattle.st_exec.proofs.UnwrittenLemmas.{guessed-machine}
-use Rattle.st_rows.specs.Rows.{after}
+use Rattle.st_rows.specs.Rows.{front_after_entry}
 use Rattle.st_rows.specs.declared.front.Front.{Front}
 use Rattle.st_segment.specs.Entries.{entry}
 use Rattle.st_segment.specs.Guesses.{guesses, table_behind}
@@ -51,7 +51,7 @@ unfolding ahead front_behind guesses
 ahead-next ds n zero t s f = refl
 ahead-next ds n (suc k) t s f =
     let s' = guess t s in
-    let f' = after ds n f (entry t s) in
+    let f' = front_after_entry ds n f (entry t s) in
     let u = guesses k None s' in
     let g = front_behind ds n k None s' f' in
     ap (λ rest. next_ahead ds n t s f ∷ rest)
@@ -65,7 +65,7 @@ unfolding front_behind guesses
 front-next ds n zero t s f = refl
 front-next ds n (suc k) t s f =
     let s' = guess t s in
-    let f' = after ds n f (entry t s) in
+    let f' = front_after_entry ds n f (entry t s) in
     let u = guesses k None s' in
     let g = front_behind ds n k None s' f' in
     front-next ds n k None s' f' ∙ ap (λ i. front_behind ds n 1 i u g) (behind-none k)

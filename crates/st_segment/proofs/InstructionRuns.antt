@@ -5,16 +5,16 @@ use Rattle.std.proofs.Math.Nat.{add-zero}
 use Rattle.std.proofs.lemmas.List.{append-nil}
 use Rattle.std.proofs.lemmas.Bool.Decides.{nat_tests}
 use Rattle.st_format.specs.declared.instruction.Decoded.{Decoded}
-use Rattle.st_format.specs.Formats.{decoded}
+use Rattle.st_format.specs.Formats.{decoded_entry}
 use Rattle.st_state.specs.Boundary.{forbidden_by}
 use Rattle.st_state.specs.declared.protection.Access.TheVariants.{Fetch}
 use Rattle.st_prep.specs.declared.entries.Place.{Place}
 use Rattle.st_prep.specs.declared.entries.Fetched.{Fetched}
 use Rattle.st_prep.specs.declared.fetching.Found.{Found}
 use Rattle.st_prep.specs.EarlyChange.{effective}
-use Rattle.st_prep.specs.Reading.{Reading, Finds, Reads, outcome, words_read, own_words, half_of, Use, with_second, with_first, read_after, instruction_at, is_execute, with_target, alone, own_use, reading}
+use Rattle.st_prep.specs.Reading.{Reading, Finds, Reads, outcome, words_read, own_words, half_of, Use, with_second, with_first, read_after, instruction_at, is_execute, with_target, fetched_alone, own_use, reading_at_place}
 use Rattle.st_prep.proofs.Choices.{of_choice}
-use Rattle.st_segment.specs.Alone.{words_from}
+use Rattle.st_segment.specs.Alone.{word_list_from}
 
 -- ---- one instruction
 
@@ -28,19 +28,19 @@ record IsRead (t : Bool) (w m : ℕ) (k : Use) (c : ℕ → ℕ) (r : Reading) :
   n : ℕ
   found : Found
   few : n ≤ m
-  words : words_read r c ≡ words_from w n ++ words_read (k found) c
+  words : words_read r c ≡ word_list_from w n ++ words_read (k found) c
   own : own_words r c ≡ own_of t n + own_words (k found) c
 
 -- it reads none
 read-none : (t : Bool) (w m : ℕ) (k : Use) (c : ℕ → ℕ) (f : Found) → IsRead t w m k c (k f)
-unfolding words_from
+unfolding word_list_from
 read-none true w m k c f = record { n = 0; found = f; few = omega arith; words = refl; own = omega arith }
 read-none false w m k c f = record { n = 0; found = f; few = omega arith; words = refl; own = omega arith }
 
 -- one word more before
 read-more : (t : Bool) (w m : ℕ) (k : Use) (c : ℕ → ℕ) (r : ℕ → Reading) → IsRead t (w + 1) m k c (r (c w))
     → IsRead t w (suc m) k c (Reads t w r)
-unfolding words_from words_read own_words
+unfolding word_list_from words_read own_words
 read-more true w m k c r h = record {
   n = suc h.n;
   found = h.found;
@@ -62,15 +62,15 @@ second-word h e = grind (arith, nat_tests, e)
 
 second-by : (b t : Bool) (first h content : ℕ) (k : Use) (c : ℕ → ℕ) → ((h + 1) / 2 == h / 2) ≡ b
     → IsRead t (h / 2 + 1) 1 k c
-    (if b then k (record { decoded = decoded first (half_of content (h + 1)); fault = None })
-    else Reads t ((h + 1) / 2) (λ x. k (record { decoded = decoded first (half_of x (h + 1)); fault = None })))
+    (if b then k (record { decoded = decoded_entry first (half_of content (h + 1)); fault = None })
+    else Reads t ((h + 1) / 2) (λ x. k (record { decoded = decoded_entry first (half_of x (h + 1)); fault = None })))
 second-by true t first h content k c e = read-none t (h / 2 + 1) 1 k c _
 second-by false t first h content k c e =
     subst
     (λ w.
-    IsRead t (h / 2 + 1) 1 k c (Reads t w (λ x. k (record { decoded = decoded first (half_of x (h + 1)); fault = None }))))
+    IsRead t (h / 2 + 1) 1 k c (Reads t w (λ x. k (record { decoded = decoded_entry first (half_of x (h + 1)); fault = None }))))
     (sym (second-word h e))
-    (read-more t (h / 2 + 1) 0 k c (λ x. k (record { decoded = decoded first (half_of x (h + 1)); fault = None }))
+    (read-more t (h / 2 + 1) 0 k c (λ x. k (record { decoded = decoded_entry first (half_of x (h + 1)); fault = None }))
     (read-none t (h / 2 + 1 + 1) 0 k c _))
 
 read-second : (f : Option ℕ) (t : Bool) (first h content : ℕ) (k : Use) (c : ℕ → ℕ)
@@ -82,7 +82,7 @@ read-first : (t : Bool) (b : ℕ) (en : Bool) (h content : ℕ) (k : Use) (c : �
     → IsRead t (h / 2 + 1) 1 k c (with_first t b en h content k)
 unfolding with_first
 read-first t b en h content k c =
-    of_choice (IsRead t (h / 2 + 1) 1 k c) ((decoded (half_of content h) 0).halves == 2) _ _
+    of_choice (IsRead t (h / 2 + 1) 1 k c) ((decoded_entry (half_of content h) 0).halves == 2) _ _
     (read-second (forbidden_by b en Fetch ((h + 1) / 2)) t (half_of content h) h content k c)
     (read-none t (h / 2 + 1) 1 k c _)
 
@@ -103,11 +103,11 @@ record IsTarget (c : ℕ → ℕ) (r : Reading) : Type 0 where
   w : ℕ
   n : ℕ
   few : n ≤ 2
-  words : words_read r c ≡ words_from w n
+  words : words_read r c ≡ word_list_from w n
   own : own_words r c ≡ 0
 
 target-none : (f : Fetched) (c : ℕ → ℕ) → IsTarget c (Finds f)
-unfolding words_read own_words words_from
+unfolding words_read own_words word_list_from
 target-none f c = record { w = 0; n = 0; few = omega arith; words = refl; own = refl }
 
 target-at : (b : ℕ) (en : Bool) (h : ℕ) (ex : Decoded) (c : ℕ → ℕ)
@@ -117,13 +117,13 @@ target-at b en h ex c =
     let it : IsRead true (h / 2) 2 (λ target. Finds (with_target ex target)) c
     (instruction_at true b en h (λ target. Finds (with_target ex target))) =
     read-at true b en h (λ target. Finds (with_target ex target)) c in
-    record { w = h / 2; n = it.n; few = it.few; words = it.words ∙ append-nil (words_from (h / 2) it.n); own = it.own }
+    record { w = h / 2; n = it.n; few = it.few; words = it.words ∙ append-nil (word_list_from (h / 2) it.n); own = it.own }
 
 target-use : (x : List ℕ) (b : ℕ) (en : Bool) (own : Found) (c : ℕ → ℕ) → IsTarget c (own_use x b en own)
 unfolding own_use
 target-use x b en own c =
     of_choice (IsTarget c) (is_execute own.decoded.instr) _ _
-    (target-at b en (effective x own.decoded.instr / 32) own.decoded c) (target-none (alone own) c)
+    (target-at b en (effective x own.decoded.instr / 32) own.decoded c) (target-none (fetched_alone own) c)
 
 -- ---- the whole
 
@@ -135,11 +135,11 @@ pub record IsCut (c : ℕ → ℕ) (r : Reading) : Type 0 where
   pub m : ℕ
   pub few : n ≤ 2
   pub few_target : m ≤ 2
-  pub words : words_read r c ≡ words_from w n ++ words_from v m
+  pub words : words_read r c ≡ word_list_from w n ++ word_list_from v m
   pub own : own_words r c ≡ n
 
-pub reading-cut : (x : List ℕ) (b : ℕ) (en : Bool) (p : Place) (c : ℕ → ℕ) → IsCut c (reading x b en p)
-unfolding reading
+pub reading-cut : (x : List ℕ) (b : ℕ) (en : Bool) (p : Place) (c : ℕ → ℕ) → IsCut c (reading_at_place x b en p)
+unfolding reading_at_place
 reading-cut x b en p c =
     let it : IsRead false (p.address / 2) 2 (own_use x b en) c (instruction_at false b en p.address (own_use x b en)) =
     read-at false b en p.address (own_use x b en) c in
@@ -151,7 +151,7 @@ reading-cut x b en p c =
       m = target.n;
       few = it.few;
       few_target = target.few;
-      words = it.words ∙ ap (λ ws. words_from (p.address / 2) it.n ++ ws) target.words;
+      words = it.words ∙ ap (λ ws. word_list_from (p.address / 2) it.n ++ ws) target.words;
       own = it.own ∙ ap (λ k. it.n + k) target.own ∙ add-zero it.n;
     }
 
@@ -164,6 +164,6 @@ some-after (Some i) x b en h c e = cc
 some-after None x b en h c e = omega arith
 
 pub reading-some : (x : List ℕ) (b : ℕ) (en : Bool) (p : Place) (c : ℕ → ℕ)
-    → is_none (outcome (reading x b en p) c).fault ≡ true → 1 ≤ own_words (reading x b en p) c
-unfolding reading instruction_at
+    → is_none (outcome (reading_at_place x b en p) c).fault ≡ true → 1 ≤ own_words (reading_at_place x b en p) c
+unfolding reading_at_place instruction_at
 reading-some x b en p c e = some-after (forbidden_by b en Fetch (p.address / 2)) x b en p.address c e

@@ -4,7 +4,7 @@ use Rattle.std.specs.Prelude.{is_none}
 use Rattle.st_state.specs.Machine.{Machine}
 use Rattle.st_prep.specs.declared.entries.Prepared.{Prepared}
 use Rattle.st_prep.specs.Fetch.{place_of}
-use Rattle.st_prep.specs.Plan.{Sight, needs, sight, side_word, prepared, plan}
+use Rattle.st_prep.specs.Plan.{Sight, needs, sight, side_word, prepared_entry, plan}
 use Rattle.st_prep.proofs.PreparedLemmas.{prepared-read}
 use Rattle.st_rows.specs.declared.entry.Entry.{Entry}
 use Rattle.st_segment.specs.Entries.{instruction_words, own_count, run_of, side_to_read, words_to_read, words_to_write, entry}
@@ -12,13 +12,13 @@ use Rattle.st_segment.specs.Entries.{instruction_words, own_count, run_of, side_
 -- the plan is that of any other index-side word, but for the index change and its indicators
 plan-by_any : (t : Option ℕ) (s : Machine) (q : Option ℕ)
     → plan s t
-    ≡ record (prepared (sight s (place_of s t)) q) { index = (plan s t).index; ind = (plan s t).ind }
+    ≡ record (prepared_entry (sight s (place_of s t)) q) { index = (plan s t).index; ind = (plan s t).ind }
 unfolding plan
 plan-by_any t s q =
     let v = sight s (place_of s t) in prepared-read v (side_word t s (needs v).index_read) q
 
 pub known-early : (t : Option ℕ) (s : Machine) (q : Option ℕ)
-    → let v = sight s (place_of s t) in let p = prepared v q in
+    → let v = sight s (place_of s t) in let p = prepared_entry v q in
     ((entry t s).reads ≡ words_to_read p.reads) × ((entry t s).writes ≡ words_to_write p.writes)
     × ((entry t s).cost ≡ p.cost) × ((entry t s).serial ≡ p.serial) × ((entry t s).side ≡ side_to_read (needs v).index_read)
     × ((plan s t).following ≡ p.following) × ((plan s t).reads ≡ p.reads) × ((plan s t).instr ≡ p.instr)
@@ -49,7 +49,7 @@ entry_by t ws n p v = record {
 }
 
 abbrev pub entry_seen : Option ℕ → List ℕ → ℕ → Sight → Entry
-entry_seen t ws n v = entry_by t ws n (prepared v None) v
+entry_seen t ws n v = entry_by t ws n (prepared_entry v None) v
 
 -- so it is known by its instruction words and by what is seen
 pub entry-seen : (t : Option ℕ) (s : Machine)

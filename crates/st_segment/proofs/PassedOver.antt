@@ -2,8 +2,8 @@
 use Rattle.std.proofs.Common.{◌≡◌, ◌≢◌, ℕ, zero, suc, ◌+◌, false, List, get_or, length, Option, None, Some, refl, sym, subst, ◌∙◌, ap, get_or-set_other}
 use Rattle.std.specs.List.{AllZip}
 use Rattle.std.proofs.lemmas.List.{length-set}
-use Rattle.st_bits.specs.Registers.{fixed}
-use Rattle.st_state.specs.Machine.{Machine, IsMachine, word, with_word, stored}
+use Rattle.st_bits.specs.Registers.{register_word}
+use Rattle.st_state.specs.Machine.{Machine, IsMachine, word, with_word, state_with_store}
 use Rattle.st_prep.specs.BesideOrders.{AreAlikeBesideOrders}
 use Rattle.st_prep.specs.declared.entries.IndexChange.{IndexChange}
 use Rattle.st_prep.specs.declared.entries.Prepared.{Prepared}
@@ -11,11 +11,11 @@ use Rattle.st_prep.specs.Fetch.{index_words, place_of}
 use Rattle.st_prep.specs.Plan.{sight, plan}
 use Rattle.st_prep.proofs.BesideLemmas.{plan-beside_ahead}
 use Rattle.st_prep.proofs.PlanLemmas.{plan-prepared}
-use Rattle.st_exec.specs.Completion.{with_change, early, guessed, guess}
+use Rattle.st_exec.specs.Completion.{with_change, state_with_early_changes, guessed_state, guess}
 use Rattle.st_exec.proofs.AlikeStates.{same-set}
 use Rattle.st_exec.proofs.BesideEntries.{guessed-beside}
 use Rattle.st_exec.proofs.UnwrittenLemmas.{guessed-machine}
-use Rattle.st_rows.specs.Rows.{row, after}
+use Rattle.st_rows.specs.Rows.{row_of_entry, front_after_entry}
 use Rattle.st_rows.specs.declared.front.Front.{Front}
 use Rattle.st_segment.specs.Entries.{instruction_words, own_count, entry}
 use Rattle.st_segment.specs.Guesses.{guesses, table_behind, after_early_change, split_words}
@@ -53,10 +53,10 @@ with-words s u vs ws h size e = record {
   done = h.done;
 }
 
-stored-same : (s u : Machine) (w x : ℕ) → AreAlikeBesideOrders s u → AreAlikeBesideOrders (stored s w x) (stored u w x)
+stored-same : (s u : Machine) (w x : ℕ) → AreAlikeBesideOrders s u → AreAlikeBesideOrders (state_with_store s w x) (state_with_store u w x)
 stored-same s u w x h =
-    with-words s u _ _ h (length-set u.words w (fixed w x) ∙ h.size ∙ sym (length-set s.words w (fixed w x)))
-    (λ i other. same-set s.words u.words w (fixed w x) i h.size (h.words i other))
+    with-words s u _ _ h (length-set u.words w (register_word w x) ∙ h.size ∙ sym (length-set s.words w (register_word w x)))
+    (λ i other. same-set s.words u.words w (register_word w x) i h.size (h.words i other))
 
 -- whatever the indicators become
 indicators-same : (s u : Machine) (x y : ℕ) → AreAlikeBesideOrders s u
@@ -70,8 +70,8 @@ change-same : (c : Option IndexChange) (s u : Machine) → AreAlikeBesideOrders 
 change-same None s u h = h
 change-same (Some c) s u h = stored-same s u (16 + c.number) c.word h
 
-early-same : (p : Prepared) (s u : Machine) → AreAlikeBesideOrders s u → AreAlikeBesideOrders (early p s) (early p u)
-unfolding early
+early-same : (p : Prepared) (s u : Machine) → AreAlikeBesideOrders s u → AreAlikeBesideOrders (state_with_early_changes p s) (state_with_early_changes p u)
+unfolding state_with_early_changes
 early-same p s u h = indicators-same _ _ _ _ (change-same p.index s u h)
 
 -- ---- guesses
@@ -82,7 +82,7 @@ guess-machine s m = guessed-machine (plan s None) s (plan-prepared s None m tt) 
 guess-same : (s u : Machine) → IsMachine s → AreAlikeBesideOrders s u → (plan s None).serial ≡ false
     → AreAlikeBesideOrders (guess None s) (guess None u)
 guess-same s u m h free =
-    subst (λ (p : Prepared). AreAlikeBesideOrders (guess None s) (guessed p u)) (sym (plan-same s u h free))
+    subst (λ (p : Prepared). AreAlikeBesideOrders (guess None s) (guessed_state p u)) (sym (plan-same s u h free))
     (guessed-beside (plan s None) s u (plan-prepared s None m tt) m h free)
 
 guesses-same : (k : ℕ) (s u : Machine) → IsMachine s → AreAlikeBesideOrders s u → RunAhead k None s
@@ -114,7 +114,7 @@ none-behind zero = refl
 none-behind (suc k) = refl
 
 split-last : (k : ℕ) (s : Machine)
-    → split_words (suc k) None s ≡ index_words (early (plan (guesses k None s) None) (guesses k None s))
+    → split_words (suc k) None s ≡ index_words (state_with_early_changes (plan (guesses k None s) None) (guesses k None s))
 unfolding split_words
 split-last k s = ap (λ t. index_words (after_early_change t (guesses k None s))) (none-behind k)
 
@@ -129,8 +129,8 @@ split-same (suc k) s u m h run =
     let same : AreAlikeBesideOrders v w = guesses-same k s u m h last.0 in
     let planned : plan w None ≡ plan v None = plan-same v w same last.1 in
     split-last k u
-    ∙ ap (λ (p : Prepared). index_words (early p w)) planned
-    ∙ same-index (early (plan v None) v) (early (plan v None) w) (early-same (plan v None) v w same)
+    ∙ ap (λ (p : Prepared). index_words (state_with_early_changes p w)) planned
+    ∙ same-index (state_with_early_changes (plan v None) v) (state_with_early_changes (plan v None) w) (early-same (plan v None) v w same)
     ∙ sym (split-last k s)
 
 pub passed-over : (k : ℕ) (s u : Machine) → IsMachine s → AreAlikeBesideOrders s u → RunAhead k None s
@@ -144,7 +144,7 @@ next-same : (ds : List ℕ) (n : ℕ) (s u : Machine) (f : Front) → AreAlikeBe
     → IsSameAhead (next_ahead ds n None s f) (next_ahead ds n None u f)
 next-same ds n s u f h =
     let same = entry-same None s u h in
-    record { state = h; table = refl; front = refl; entry = same; row = ap (row ds n f) same }
+    record { state = h; table = refl; front = refl; entry = same; row = ap (row_of_entry ds n f) same }
 
 pub rows-same : (ds : List ℕ) (n k : ℕ) (s u : Machine) (f : Front) → IsMachine s → AreAlikeBesideOrders s u
     → RunAhead k None s → AllZip IsSameAhead (ahead ds n (suc k) None s f) (ahead ds n (suc k) None u f)
@@ -154,9 +154,9 @@ rows-same ds n (suc k) s u f m h run = (
   next-same ds n s u f h,
   subst
       (λ e.
-      AllZip IsSameAhead (ahead ds n (suc k) None (guess None s) (after ds n f (entry None s)))
-      (ahead ds n (suc k) None (guess None u) (after ds n f e)))
+      AllZip IsSameAhead (ahead ds n (suc k) None (guess None s) (front_after_entry ds n f (entry None s)))
+      (ahead ds n (suc k) None (guess None u) (front_after_entry ds n f e)))
       (sym (entry-same None s u h))
-      (rows-same ds n k (guess None s) (guess None u) (after ds n f (entry None s)) (guess-machine s m)
+      (rows-same ds n k (guess None s) (guess None u) (front_after_entry ds n f (entry None s)) (guess-machine s m)
       (guess-same s u m h run.0) run.1),
 )

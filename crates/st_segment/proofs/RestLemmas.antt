@@ -12,7 +12,7 @@ use Rattle.st_exec.proofs.UnwrittenLemmas.{guessed-unwritten, guessed-following}
 use Rattle.st_rows.specs.Entries.{is_in, is_among}
 use Rattle.st_segment.specs.Entries.{words_to_write, entry}
 use Rattle.st_segment.specs.Guesses.{guesses, table_behind}
-use Rattle.st_segment.specs.Alone.{RunAhead, is_written}
+use Rattle.st_segment.specs.Alone.{RunAhead, is_word_written}
 use Rattle.st_segment.proofs.GuessLemmas.{guess-machine, guesses-next}
 use Rattle.st_segment.proofs.IndexLemmas.{guess-past}
 
@@ -56,11 +56,11 @@ unwritten-entry t s w m some above h =
     guessed-unwritten (plan s t) s w (plan-prepared s t m some) m above (not-among w (plan s t).writes h)
 
 pub storage-kept : (k : ℕ) (t : Option ℕ) (s : Machine) (w : ℕ) → IsMachine s → IfSome t (λ i. i < 64) → 32 ≤ w
-    → is_written k t s w ≡ false → word (guesses k t s) w ≡ word s w
-unfolding guesses is_written
+    → is_word_written k t s w ≡ false → word (guesses k t s) w ≡ word s w
+unfolding guesses is_word_written
 storage-kept zero t s w m some above h = refl
 storage-kept (suc k) t s w m some above h =
-    let both = or_parts (is_among w (entry t s).writes) (is_written k None (guess t s) w) h in
+    let both = or_parts (is_among w (entry t s).writes) (is_word_written k None (guess t s) w) h in
     storage-kept k None (guess t s) w (guess-machine t s m some) tt above both.1
     ∙ unwritten-entry t s w m some above both.0
 

@@ -6,9 +6,9 @@ use Rattle.st_bits.specs.Bits.{part}
 use Rattle.st_state.specs.Machine.{Machine, word}
 use Rattle.st_prep.specs.declared.entries.Place.{Place}
 use Rattle.st_prep.specs.BesideOrders.{AreAlikeBesideOrders}
-use Rattle.st_prep.specs.Fetch.{index_words, address_by, place_of, reading_of, fetched}
+use Rattle.st_prep.specs.Fetch.{index_words, address_by, place_of, reading_of, words_fetched}
 use Rattle.st_prep.specs.Plan.{sight}
-use Rattle.st_prep.specs.Reading.{Reading, Finds, Reads, outcome, words_read, own_words, reading}
+use Rattle.st_prep.specs.Reading.{Reading, Finds, Reads, outcome, words_read, own_words, reading_at_place}
 use Rattle.st_prep.proofs.PlanLemmas.{same_seen}
 use Rattle.st_prep.proofs.ReadingLemmas.{fetched-outcome, reading-few, outcome-same}
 use Rattle.st_segment.specs.Entries.{reading_at, instruction_words, own_count}
@@ -69,9 +69,9 @@ same-place s u t h = place-by _ _ _ _ t h.ic (same-address s u t h)
 
 same-reading : (s u : Machine) (p : Place) → AreAlikeBesideOrders s u → reading_of u p ≡ reading_of s p
 same-reading s u p h =
-    ap (λ x. reading x (word u 3) u.enabled p) (same-index s u h)
-    ∙ ap (λ b. reading (index_words s) b u.enabled p) (h.words 3 (omega arith))
-    ∙ ap (λ en. reading (index_words s) (word s 3) en p) h.enabled
+    ap (λ x. reading_at_place x (word u 3) u.enabled p) (same-index s u h)
+    ∙ ap (λ b. reading_at_place (index_words s) b u.enabled p) (h.words 3 (omega arith))
+    ∙ ap (λ en. reading_at_place (index_words s) (word s 3) en p) h.enabled
 
 -- no register is an instruction word
 same-words : (s u : Machine) (p : Place) → AreAlikeBesideOrders s u
@@ -81,7 +81,7 @@ same-words s u p h k d few =
     let above : 32 ≤ get_or ws k d = (reading-few (index_words s) (word s 3) s.enabled p (word s)).above k d few in
     h.words (get_or ws k d) (omega arith)
 
-same-fetched : (s u : Machine) (p : Place) → AreAlikeBesideOrders s u → fetched u p ≡ fetched s p
+same-fetched : (s u : Machine) (p : Place) → AreAlikeBesideOrders s u → words_fetched u p ≡ words_fetched s p
 same-fetched s u p h =
     fetched-outcome u p
     ∙ ap (λ r. outcome r (word u)) (same-reading s u p h)

@@ -3,37 +3,37 @@ use Rattle.std.proofs.Common.{◌≡◌, ℕ, ◌<◌, List, Option, refl, ◌�
 use Rattle.std.specs.Prelude.{IfSome}
 use Rattle.st_state.specs.Machine.{Machine, IsMachine, word}
 use Rattle.st_prep.specs.declared.entries.Place.{Place}
-use Rattle.st_prep.specs.Reading.{reading}
-use Rattle.st_prep.specs.Fetch.{index_words, place_of, reading_of, fetched}
-use Rattle.st_prep.specs.Plan.{seen, sight, IsSeen}
+use Rattle.st_prep.specs.Reading.{reading_at_place}
+use Rattle.st_prep.specs.Fetch.{index_words, place_of, reading_of, words_fetched}
+use Rattle.st_prep.specs.Plan.{sight_of, sight, IsSeen}
 use Rattle.st_segment.specs.Guesses.{guesses, table_behind, split_words}
 use Rattle.st_segment.specs.Alone.{RunAhead}
 use Rattle.st_segment.proofs.IndexLemmas.{index-split}
 use Rattle.st_segment.proofs.RestLemmas.{low-kept, enabled-kept}
 
 pub reading-behind : (k : ℕ) (t : Option ℕ) (s : Machine) (p : Place) → IsMachine s → IfSome t (λ i. i < 64)
-    → RunAhead k t s → reading_of (guesses k t s) p ≡ reading (split_words k t s) (word s 3) s.enabled p
+    → RunAhead k t s → reading_of (guesses k t s) p ≡ reading_at_place (split_words k t s) (word s 3) s.enabled p
 reading-behind k t s p m some free =
     let u = guesses k t s in
-    ap (λ x. reading x (word u 3) u.enabled p) (index-split k t s m some free)
-    ∙ ap (λ b. reading (split_words k t s) b u.enabled p) (low-kept k t s 3 m some free (omega arith))
-    ∙ ap (λ on. reading (split_words k t s) (word s 3) on p) (enabled-kept k t s m some free)
+    ap (λ x. reading_at_place x (word u 3) u.enabled p) (index-split k t s m some free)
+    ∙ ap (λ b. reading_at_place (split_words k t s) b u.enabled p) (low-kept k t s 3 m some free (omega arith))
+    ∙ ap (λ on. reading_at_place (split_words k t s) (word s 3) on p) (enabled-kept k t s m some free)
 
 -- a state is seen as another one where index words, word 3 and the mark are the same
 sight-by : (u s : Machine) (p : Place) (x : List ℕ) → index_words u ≡ x → word u 3 ≡ word s 3 → u.enabled ≡ s.enabled
-    → sight u p ≡ seen p (fetched u p) x s
+    → sight u p ≡ sight_of p (words_fetched u p) x s
 unfolding sight
 sight-by u s p x index bounds enabled = cc
 
 seen-by : (u s : Machine) (t : Option ℕ) (x : List ℕ) → index_words u ≡ x → word u 3 ≡ word s 3
-    → u.enabled ≡ s.enabled → IsSeen u (seen (place_of u t) (fetched u (place_of u t)) x s)
+    → u.enabled ≡ s.enabled → IsSeen u (sight_of (place_of u t) (words_fetched u (place_of u t)) x s)
 unfolding place_of
 seen-by u s t x index bounds enabled =
     record { place = refl; fetched = refl; words = index; bounds = bounds; enabled = enabled }
 
 pub seen-behind : (k : ℕ) (t : Option ℕ) (s : Machine) → IsMachine s → IfSome t (λ i. i < 64) → RunAhead k t s
     → let u = guesses k t s in let p = place_of u (table_behind k t) in
-    (sight u p ≡ seen p (fetched u p) (split_words k t s) s) × IsSeen u (seen p (fetched u p) (split_words k t s) s)
+    (sight u p ≡ sight_of p (words_fetched u p) (split_words k t s) s) × IsSeen u (sight_of p (words_fetched u p) (split_words k t s) s)
 seen-behind k t s m some free =
     let u = guesses k t s in
     let index = index-split k t s m some free in

@@ -1,26 +1,27 @@
--- The entries ahead of a state, with their rows: those that are prepared before a tick, and the reads that are made for them.
+-- The entries ahead of a state, with their rows: those that are prepared before a tick, and the
+-- reads that are made for them.
 use Rattle.std.specs.Prelude.{ℕ, zero, suc, ◌+◌, nat_lt, if◌then◌else◌, List, [], ◌∷◌, ◌++◌, Option, None}
 use Rattle.st_state.specs.Machine.{Machine}
 use Rattle.st_prep.specs.Plan.{plan}
 use Rattle.st_prep.specs.declared.entries.Prepared.{Prepared}
 use Rattle.st_exec.specs.Completion.{guess}
 use Rattle.st_banks.specs.declared.answers.LastAnswers.{LastAnswers}
-use Rattle.st_rows.specs.Rows.{opening, row, after}
-use Rattle.st_rows.specs.Asked.{Read, asked, made_before}
+use Rattle.st_rows.specs.Rows.{opening_front, row_of_entry, front_after_entry}
+use Rattle.st_rows.specs.Asked.{Read, reads_of_entry, made_before}
 use Rattle.st_rows.specs.declared.bus.Bus.{Bus}
 use Rattle.st_rows.specs.declared.entry.Entry.{Entry}
 use Rattle.st_rows.specs.declared.front.Front.{Front}
-use Rattle.st_rows.specs.declared.front.Row.{Row}
+use Rattle.st_rows.specs.declared.front.EntryTicks.{EntryTicks}
 use Rattle.st_segment.specs.Entries.{entry}
 
--- an entry ahead: the state before its step, the indicator where it is a table instruction, the front that its row is
--- computed from, what it is for the timetable, and its row
+-- an entry ahead: the state before its step, the indicator where it is a table instruction, the
+-- front that its row is computed from, what it is for the timetable, and its row
 pub record Ahead : Type 0 where
   pub state : Machine
   pub table : Option ℕ
   pub front : Front
   pub entry : Entry
-  pub row : Row
+  pub row : EntryTicks
 
 -- the next entry of a state behind a front
 abbrev pub next_ahead : List ℕ → ℕ → Option ℕ → Machine → Front → Ahead
@@ -29,20 +30,21 @@ next_ahead ds n table s f = record {
   table = table;
   front = f;
   entry = entry table s;
-  row = row ds n f (entry table s);
+  row = row_of_entry ds n f (entry table s);
 }
 
 -- the next k entries by guessed steps, on a machine with the delays ds and with n levels
 unfoldable pub ahead : List ℕ → ℕ → ℕ → Option ℕ → Machine → Front → List Ahead
 ahead ds n zero table s f = []
 ahead ds n (suc k) table s f =
-    next_ahead ds n table s f ∷ ahead ds n k None (guess table s) (after ds n f (entry table s))
+    next_ahead ds n table s f ∷ ahead ds n k None (guess table s)
+    (front_after_entry ds n f (entry table s))
 
 -- the front behind k of them
 unfoldable pub front_behind : List ℕ → ℕ → ℕ → Option ℕ → Machine → Front → Front
 front_behind ds n zero table s f = f
 front_behind ds n (suc k) table s f =
-    front_behind ds n k None (guess table s) (after ds n f (entry table s))
+    front_behind ds n k None (guess table s) (front_after_entry ds n f (entry table s))
 
 -- how an entry ahead is prepared
 abbrev pub plan_of : Ahead → Prepared
@@ -53,24 +55,29 @@ unfoldable pub prepared_before : ℕ → List Ahead → List Ahead
 prepared_before t [] = []
 prepared_before t (a ∷ rest) = if nat_lt a.row.p t then a ∷ prepared_before t rest else []
 
--- the reads of those, and of the first one that is not: its instruction words, and its index-side word, may be accepted
--- before that tick
+-- the reads of those, and of the first one that is not: its instruction words, and its index-side
+-- word, may be accepted before that tick
 unfoldable pub reads_before : List ℕ → ℕ → ℕ → List Ahead → List Read
 reads_before ds n t [] = []
 reads_before ds n t (a ∷ rest) =
-    asked ds n a.front a.entry ++ (if nat_lt a.row.p t then reads_before ds n t rest else [])
+    reads_of_entry ds n a.front a.entry ++ (if nat_lt a.row.p t then reads_before ds n t rest
+    else [])
 
 -- ---- the end of a segment
 
--- the reads that may be made by then, where it ends at a tick: those of the next entry, and of those behind the guess of it
+-- the reads that may be made by then, where it ends at a tick: those of the next entry, and of
+-- those behind the guess of it
 abbrev pub reads_to_end : List ℕ → ℕ → ℕ → Option ℕ → Machine → Front → Entry → List Read
 reads_to_end ds n tick table s f e =
-    asked ds n f e ++ reads_before ds n tick (ahead ds n (suc n) None (guess table s) (after ds n f e))
+    reads_of_entry ds n f e ++ reads_before ds n tick (ahead ds n (suc n) None (guess table s)
+    (front_after_entry ds n f e))
 
--- the last answers of the banks, where it ends at a tick: those of the reads are made that are accepted before
+-- the last answers of the banks, where it ends at a tick: those of the reads are made that are
+-- accepted before
 abbrev pub banks_at_end : List ℕ → ℕ → List Read → Bus → LastAnswers
 banks_at_end ds tick reads bus = (made_before ds tick reads bus).banks
 
--- the front of the segment behind it, which starts one tick later and one more for each entry that is dropped
+-- the front of the segment behind it, which starts one tick later and one more for each entry that
+-- is dropped
 abbrev pub front_behind_end : LastAnswers → ℕ → ℕ → Front
-front_behind_end banks tick dropped = opening banks (tick + 1 + dropped)
+front_behind_end banks tick dropped = opening_front banks (tick + 1 + dropped)

@@ -5,7 +5,7 @@ use Rattle.st_prep.specs.Plan.{plan}
 use Rattle.st_prep.specs.BesideOrders.{AreAlikeBesideOrders}
 use Rattle.st_exec.specs.Completion.{guess}
 use Rattle.st_rows.specs.Entries.{is_among}
-use Rattle.st_rows.specs.declared.entry.Run.{Run}
+use Rattle.st_rows.specs.declared.entry.WordRun.{WordRun}
 use Rattle.st_segment.specs.Entries.{entry}
 use Rattle.st_segment.specs.Ahead.{Ahead}
 
@@ -15,20 +15,21 @@ RunAhead zero table s = Unit {0}
 RunAhead (suc k) table s = ((plan s table).serial ≡ false) × RunAhead k None (guess table s)
 
 -- one of the next k entries writes the word w
-unfoldable pub is_written : ℕ → Option ℕ → Machine → ℕ → Bool
-is_written zero table s w = false
-is_written (suc k) table s w = is_among w (entry table s).writes || is_written k None (guess table s) w
+unfoldable pub is_word_written : ℕ → Option ℕ → Machine → ℕ → Bool
+is_word_written zero table s w = false
+is_word_written (suc k) table s w = is_among w (entry table s).writes || is_word_written k None (guess table s) w
 
 -- n words from the word w on
-unfoldable pub words_from : ℕ → ℕ → List ℕ
-words_from w zero = []
-words_from w (suc n) = w ∷ words_from (w + 1) n
+unfoldable pub word_list_from : ℕ → ℕ → List ℕ
+word_list_from w zero = []
+word_list_from w (suc n) = w ∷ word_list_from (w + 1) n
 
 -- the words of a run, in order
-abbrev pub words_of_run : Run → List ℕ
-words_of_run run = words_from run.first run.len
+abbrev pub words_of_run : WordRun → List ℕ
+words_of_run run = word_list_from run.first run.len
 
--- two entries ahead that are the same for the timetable, with the same words but for indicators, and beside the orders
+-- two entries ahead that are the same for the timetable, with the same words but for indicators,
+-- and beside the orders
 pub record IsSameAhead (a b : Ahead) : Type 0 where
   pub state : AreAlikeBesideOrders a.state b.state
   pub table : b.table ≡ a.table

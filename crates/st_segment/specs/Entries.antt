@@ -2,12 +2,12 @@
 use Rattle.std.specs.Prelude.{ℕ, ◌-◌, suc, Bool, ◌&&◌, nat_le, if◌then◌else◌, is_none, List, [], ◌∷◌, length, take, drop, Option, None, Some}
 use Rattle.st_bits.specs.declared.register.TheConstants.{FIRST_STORAGE_WORD}
 use Rattle.st_state.specs.Machine.{Machine, word}
-use Rattle.st_prep.specs.Fetch.{place_of, reading_of, fetched}
+use Rattle.st_prep.specs.Fetch.{place_of, reading_of, words_fetched}
 use Rattle.st_prep.specs.Plan.{needs, sight, plan}
 use Rattle.st_prep.specs.Reading.{Reading, words_read, own_words}
 use Rattle.st_prep.specs.declared.entries.Words.{Words}
-use Rattle.st_rows.specs.declared.entry.Run.{Run}
-use Rattle.st_rows.specs.declared.entry.Runs.{Runs}
+use Rattle.st_rows.specs.declared.entry.WordRun.{WordRun}
+use Rattle.st_rows.specs.declared.entry.WordRuns.{WordRuns}
 use Rattle.st_rows.specs.declared.entry.Entry.{Entry}
 
 -- ---- instruction words
@@ -25,24 +25,27 @@ unfoldable pub own_count : Option ℕ → Machine → ℕ
 own_count table s = own_words (reading_at table s) (word s)
 
 -- words that follow each other, as a run
-unfoldable pub run_of : List ℕ → Run
+unfoldable pub run_of : List ℕ → WordRun
 run_of [] = record { first = 0; len = 0 }
 run_of (w ∷ ws) = record { first = w; len = suc (length ws) }
 
 -- ---- the words of data
 
 -- a run of words without the registers at its front, which make no read
-unfoldable pub above_registers : ℕ → ℕ → Run
+unfoldable pub above_registers : ℕ → ℕ → WordRun
 above_registers first n =
     if nat_le FIRST_STORAGE_WORD first then record { first = first; len = n }
     else record { first = FIRST_STORAGE_WORD; len = n - (FIRST_STORAGE_WORD - first) }
 
 -- its operand words that are read from storage
-unfoldable pub words_to_read : Words → Runs
-words_to_read w = record { one = above_registers w.first w.len; two = above_registers w.first2 w.len2 }
+unfoldable pub words_to_read : Words → WordRuns
+words_to_read w = record {
+  one = above_registers w.first w.len;
+  two = above_registers w.first2 w.len2;
+}
 
 -- the words that it writes, registers among them
-abbrev pub words_to_write : Words → Runs
+abbrev pub words_to_write : Words → WordRuns
 words_to_write w = record {
   one = record { first = w.first; len = w.len };
   two = record { first = w.first2; len = w.len2 };
@@ -55,9 +58,10 @@ side_to_read (Some w) = if nat_le FIRST_STORAGE_WORD w then Some w else None
 
 -- ---- the entry
 
--- following words are asked for but by a table instruction, and where an instruction word may not be fetched
+-- following words are asked for but by a table instruction, and where an instruction word may not
+-- be fetched
 abbrev pub asks_for_following : Option ℕ → Machine → Bool
-asks_for_following table s = is_none table && is_none (fetched s (place_of s table)).fault
+asks_for_following table s = is_none table && is_none (words_fetched s (place_of s table)).fault
 
 -- the next entry of a state, or its table instruction
 unfoldable pub entry : Option ℕ → Machine → Entry

@@ -2,10 +2,11 @@
 use Rattle.std.specs.Prelude.{ℕ, zero, suc, List, Option, None}
 use Rattle.st_state.specs.Machine.{Machine}
 use Rattle.st_prep.specs.Fetch.{index_words}
-use Rattle.st_prep.specs.Plan.{plan, opened}
-use Rattle.st_exec.specs.Completion.{early, guess}
+use Rattle.st_prep.specs.Plan.{plan, state_at_entry}
+use Rattle.st_exec.specs.Completion.{state_with_early_changes, guess}
 
--- the state after k guessed steps; the first one is the table instruction of an interrupt where one was taken
+-- the state after k guessed steps; the first one is the table instruction of an interrupt where one
+-- was taken
 unfoldable pub guesses : ℕ → Option ℕ → Machine → Machine
 guesses zero table s = s
 guesses (suc k) table s = guesses k None (guess table s)
@@ -17,9 +18,10 @@ table_behind (suc k) table = None
 
 -- the state with the early change of its next entry, its index word and indicators
 abbrev pub after_early_change : Option ℕ → Machine → Machine
-after_early_change table s = early (plan s table) (opened table s)
+after_early_change table s = state_with_early_changes (plan s table) (state_at_entry table s)
 
--- the index words of a state of which k entries are ahead: as the early changes of all of them leave them
+-- the index words of a state of which k entries are ahead: as the early changes of all of them
+-- leave them
 unfoldable pub split_words : ℕ → Option ℕ → Machine → List ℕ
 split_words zero table s = index_words s
 split_words (suc k) table s =

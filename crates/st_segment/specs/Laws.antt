@@ -4,40 +4,46 @@ use Rattle.std.specs.List.{AllZip}
 use Rattle.st_state.specs.Machine.{Machine, IsMachine, word}
 use Rattle.st_prep.specs.declared.entries.Place.{Place}
 use Rattle.st_prep.specs.EarlyChange.{words_after}
-use Rattle.st_prep.specs.Fetch.{index_words, place_of, reading_of, fetched}
-use Rattle.st_prep.specs.Reading.{reading}
-use Rattle.st_prep.specs.Plan.{seen, sight, needs, plan, prepared, IsSeen}
+use Rattle.st_prep.specs.Fetch.{index_words, place_of, reading_of, words_fetched}
+use Rattle.st_prep.specs.Reading.{reading_at_place}
+use Rattle.st_prep.specs.Plan.{sight_of, sight, needs, plan, prepared_entry, IsSeen}
 use Rattle.st_prep.specs.BesideOrders.{AreAlikeBesideOrders}
-use Rattle.st_exec.specs.Completion.{executed, guess, is_missed}
-use Rattle.st_rows.specs.Ranges.{IsEntry}
+use Rattle.st_exec.specs.Completion.{state_after_execution, guess, is_missed}
+use Rattle.st_rows.specs.Ranges.{IsEntryInTime}
 use Rattle.st_rows.specs.Asked.{own_reads}
 use Rattle.st_rows.specs.declared.front.Front.{Front}
 use Rattle.st_segment.specs.Entries.{instruction_words, own_count, side_to_read, words_to_read, words_to_write, entry}
 use Rattle.st_segment.specs.Guesses.{guesses, table_behind, split_words}
 use Rattle.st_segment.specs.Ahead.{next_ahead, ahead, front_behind}
-use Rattle.st_segment.specs.Alone.{RunAhead, is_written, words_of_run, IsSameAhead}
+use Rattle.st_segment.specs.Alone.{RunAhead, is_word_written, words_of_run, IsSameAhead}
 
--- The next entry of each state is in the ranges of the timetable, and its instruction words are two runs of words.
+-- The next entry of each state is in the ranges of the timetable, and its instruction words are two
+-- runs of words.
 pub record EntriesAreInRange : Type 0 where
-  pub ranges : (t : Option ℕ) (s : Machine) → IsMachine s → IfSome t (λ i. i < 64) → IsEntry (entry t s)
-  pub reads : (t : Option ℕ) (s : Machine) → IsMachine s → IfSome t (λ i. i < 64) → own_reads (entry t s) ≤ 36
+  pub ranges : (t : Option ℕ) (s : Machine) → IsMachine s → IfSome t (λ i. i < 64) →
+      IsEntryInTime (entry t s)
+  pub reads : (t : Option ℕ) (s : Machine) → IsMachine s → IfSome t (λ i. i < 64) →
+      own_reads (entry t s) ≤ 36
   pub words : (t : Option ℕ) (s : Machine) →
       instruction_words t s ≡ words_of_run (entry t s).own ++ words_of_run (entry t s).target
   pub own : (t : Option ℕ) (s : Machine) → own_count t s ≡ (entry t s).own.len
 
 -- Guessed steps leave states, and go on one by one.
 pub record GuessesGoOn : Type 0 where
-  pub machine : (k : ℕ) (t : Option ℕ) (s : Machine) → IsMachine s → IfSome t (λ i. i < 64) → IsMachine (guesses k t s)
+  pub machine : (k : ℕ) (t : Option ℕ) (s : Machine) → IsMachine s → IfSome t (λ i. i < 64) →
+      IsMachine (guesses k t s)
   pub state : (k : ℕ) (t : Option ℕ) (s : Machine) →
       guesses (suc k) t s ≡ guess (table_behind k t) (guesses k t s)
   pub next : (ds : List ℕ) (n k : ℕ) (t : Option ℕ) (s : Machine) (f : Front) →
       ahead ds n (suc k) t s f
-      ≡ ahead ds n k t s f ++ next_ahead ds n (table_behind k t) (guesses k t s) (front_behind ds n k t s f) ∷ []
+      ≡ ahead ds n k t s f ++ next_ahead ds n (table_behind k t) (guesses k t s)
+      (front_behind ds n k t s f) ∷ []
   pub front : (ds : List ℕ) (n k : ℕ) (t : Option ℕ) (s : Machine) (f : Front) →
-      front_behind ds n (suc k) t s f ≡ front_behind ds n 1 (table_behind k t) (guesses k t s) (front_behind ds n k t s f)
+      front_behind ds n (suc k) t s f ≡ front_behind ds n 1 (table_behind k t) (guesses k t s)
+      (front_behind ds n k t s f)
 
--- The index words of which entries ahead are prepared: each early change makes the next ones of them, and behind entries that are not
--- done alone they are those of the state.
+-- The index words of which entries ahead are prepared: each early change makes the next ones of
+-- them, and behind entries that are not done alone they are those of the state.
 pub record IndexWordsRunAhead : Type 0 where
   pub change : (k : ℕ) (t : Option ℕ) (s : Machine) → IsMachine s → IfSome t (λ i. i < 64) →
       split_words (suc k) t s
@@ -45,53 +51,63 @@ pub record IndexWordsRunAhead : Type 0 where
   pub state : (k : ℕ) (t : Option ℕ) (s : Machine) → IsMachine s → IfSome t (λ i. i < 64) →
       RunAhead k t s → index_words (guesses k t s) ≡ split_words k t s
 
--- Entries that are not done alone leave the low registers and the mark, and each word from 32 up that none of them writes; and the counter
--- behind one of them is its following one.
+-- Entries that are not done alone leave the low registers and the mark, and each word from 32 up
+-- that none of them writes; and the counter behind one of them is its following one.
 pub record GuessesLeaveTheRest : Type 0 where
   pub low : (k : ℕ) (t : Option ℕ) (s : Machine) (w : ℕ) → IsMachine s → IfSome t (λ i. i < 64) →
       RunAhead k t s → w < 7 → word (guesses k t s) w ≡ word s w
   pub enabled : (k : ℕ) (t : Option ℕ) (s : Machine) → IsMachine s → IfSome t (λ i. i < 64) →
       RunAhead k t s → (guesses k t s).enabled ≡ s.enabled
-  pub storage : (k : ℕ) (t : Option ℕ) (s : Machine) (w : ℕ) → IsMachine s → IfSome t (λ i. i < 64) →
-      32 ≤ w → is_written k t s w ≡ false → word (guesses k t s) w ≡ word s w
-  pub counter : (k : ℕ) (t : Option ℕ) (s : Machine) → (plan (guesses k t s) (table_behind k t)).serial ≡ false →
+  pub storage : (k : ℕ) (t : Option ℕ) (s : Machine) (w : ℕ) → IsMachine s →
+      IfSome t (λ i. i < 64) →
+      32 ≤ w → is_word_written k t s w ≡ false → word (guesses k t s) w ≡ word s w
+  pub counter : (k : ℕ) (t : Option ℕ) (s : Machine) →
+      (plan (guesses k t s) (table_behind k t)).serial ≡ false →
       (guesses (suc k) t s).ic ≡ (plan (guesses k t s) (table_behind k t)).following
 
--- So the entry behind them is read by the index words so far, and by the low registers and the mark of the state; and what is so seen of it is
--- what it is prepared by.
+-- So the entry behind them is read by the index words so far, and by the low registers and the mark
+-- of the state; and what is so seen of it is what it is prepared by.
 pub record EntriesBehindAreSeen : Type 0 where
-  pub reading : (k : ℕ) (t : Option ℕ) (s : Machine) (p : Place) → IsMachine s → IfSome t (λ i. i < 64) →
+  pub reading : (k : ℕ) (t : Option ℕ) (s : Machine) (p : Place) → IsMachine s →
+      IfSome t (λ i. i < 64) →
       RunAhead k t s →
-      reading_of (guesses k t s) p ≡ reading (split_words k t s) (word s 3) s.enabled p
+      reading_of (guesses k t s) p ≡ reading_at_place (split_words k t s) (word s 3) s.enabled p
   pub seen : (k : ℕ) (t : Option ℕ) (s : Machine) → IsMachine s → IfSome t (λ i. i < 64) →
       RunAhead k t s → let u = guesses k t s in let p = place_of u (table_behind k t) in
-      (sight u p ≡ seen p (fetched u p) (split_words k t s) s) × IsSeen u (seen p (fetched u p) (split_words k t s) s)
+      (sight u p ≡ sight_of p (words_fetched u p) (split_words k t s) s)
+      × IsSeen u (sight_of p (words_fetched u p) (split_words k t s) s)
 
 -- All of an entry but its index change and its indicators is known without its index-side word.
 abbrev pub EntriesAreKnownEarly : Type 0
-EntriesAreKnownEarly = (t : Option ℕ) (s : Machine) (q : Option ℕ) → let v = sight s (place_of s t) in let p = prepared v q in
+EntriesAreKnownEarly = (t : Option ℕ) (s : Machine) (q : Option ℕ) → let v = sight s (place_of s t)
+    in let p = prepared_entry v q in
     ((entry t s).reads ≡ words_to_read p.reads) × ((entry t s).writes ≡ words_to_write p.writes)
     × ((entry t s).cost ≡ p.cost) × ((entry t s).serial ≡ p.serial)
     × ((entry t s).side ≡ side_to_read (needs v).index_read)
-    × ((plan s t).following ≡ p.following) × ((plan s t).reads ≡ p.reads) × ((plan s t).instr ≡ p.instr)
+    × ((plan s t).following ≡ p.following) × ((plan s t).reads ≡ p.reads)
+    × ((plan s t).instr ≡ p.instr)
 
 -- A step is the guess, but for the counter of a branch on an indicator that is missed.
 pub record StepsAreGuesses : Type 0 where
   pub right : (t : Option ℕ) (s : Machine) → IsMachine s → IfSome t (λ i. i < 64) →
-      is_missed (plan s t) s ≡ false → guess t s ≡ executed t s
+      is_missed (plan s t) s ≡ false → guess t s ≡ state_after_execution t s
   pub missed : (t : Option ℕ) (s : Machine) → IsMachine s → IfSome t (λ i. i < 64) →
-      is_missed (plan s t) s ≡ true → guess t s ≡ record (executed t s) { ic = (plan s t).following }
+      is_missed (plan s t) s ≡ true → guess t s ≡ record
+      (state_after_execution t s) { ic = (plan s t).following }
   pub alone : (t : Option ℕ) (s : Machine) → (plan s t).serial ≡ true →
-      (is_missed (plan s t) s ≡ false) × (guess t s ≡ executed t s)
+      (is_missed (plan s t) s ≡ false) × (guess t s ≡ state_after_execution t s)
 
--- A signal, and an order that brings no card, are passed over: the next entry is the same for the timetable; and where none of the
--- next k is done alone they are the same too, and so are the index words.
+-- A signal, and an order that brings no card, are passed over: the next entry is the same for the
+-- timetable; and where none of the next k is done alone they are the same too, and so are the index
+-- words.
 pub record SignalsArePassedOver : Type 0 where
   pub entry : (t : Option ℕ) (s u : Machine) → AreAlikeBesideOrders s u → entry t u ≡ entry t s
   pub same : (k : ℕ) (s u : Machine) → IsMachine s → AreAlikeBesideOrders s u → RunAhead k None s →
       RunAhead k None u × AreAlikeBesideOrders (guesses k None s) (guesses k None u)
       × (split_words k None u ≡ split_words k None s)
-  pub rows : (ds : List ℕ) (n k : ℕ) (s u : Machine) (f : Front) → IsMachine s → AreAlikeBesideOrders s u →
-      RunAhead k None s → AllZip IsSameAhead (ahead ds n (suc k) None s f) (ahead ds n (suc k) None u f)
+  pub rows : (ds : List ℕ) (n k : ℕ) (s u : Machine) (f : Front) → IsMachine s →
+      AreAlikeBesideOrders s u →
+      RunAhead k None s → AllZip IsSameAhead (ahead ds n (suc k) None s f)
+      (ahead ds n (suc k) None u f)
   pub plans : (s u : Machine) → AreAlikeBesideOrders s u → (plan s None).serial ≡ false →
       plan u None ≡ plan s None

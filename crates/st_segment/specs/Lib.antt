@@ -3,3 +3,13 @@ pub mod Guesses
 pub mod Ahead
 pub mod Alone
 pub mod Laws
+pub use Rattle.st_exec.specs.Completion
+pub use Rattle.st_prep.specs.BesideOrders
+pub use Rattle.st_prep.specs.EarlyChange
+pub use Rattle.st_prep.specs.Fetch
+pub use Rattle.st_prep.specs.Plan
+pub use Rattle.st_prep.specs.Reading
+pub use Rattle.st_rows.specs.Asked
+pub use Rattle.st_rows.specs.Ranges
+pub use Rattle.st_rows.specs.Rows
+pub use Rattle.st_state.specs.Machine

@@ -3,10 +3,10 @@ use Rattle.std.proofs.Common.{◌≡◌, ◌≢◌, ℕ, ◌<◌, ◌^◌, List,
 use Rattle.std.proofs.Math.ListN.{set}
 use Rattle.std.proofs.lemmas.List.{length-set, get_or-set_same, get_or-set_other}
 use Rattle.std.proofs.lemmas.Bool.Decides.{eqb_tells}
-use Rattle.st_bits.specs.Registers.{fixed}
+use Rattle.st_bits.specs.Registers.{register_word}
 use Rattle.st_bits.specs.Storage.{words_of_storage, words_of_storage_is}
 use Rattle.st_bits.proofs.RegisterLaws.{fixed-twice, fixed_below, fixed-zero}
-use Rattle.st_state.specs.Machine.{Machine, IsMachine, with_word, opening}
+use Rattle.st_state.specs.Machine.{Machine, IsMachine, with_word, opening_state}
 
 -- what holds of the new item in its place, and of the others before the write, holds of each place after it
 pub each_after_set : (P : ℕ → ℕ → Type 0) (xs : List ℕ) (w x : ℕ) → w < length xs → P w x
@@ -21,7 +21,7 @@ each_after_set P xs w x room here before i =
     ]
 
 -- a state with another word w, whose fixed bits are as they should be
-pub is_machine-with_word : (s : Machine) (w x : ℕ) → IsMachine s → w < words_of_storage → x < 2 ^ 64 → fixed w x ≡ x
+pub is_machine-with_word : (s : Machine) (w x : ℕ) → IsMachine s → w < words_of_storage → x < 2 ^ 64 → register_word w x ≡ x
     → IsMachine (with_word s w x)
 is_machine-with_word s w x m inside below fits =
     let room : w < length s.words = omega (arith, m.size) in
@@ -30,7 +30,7 @@ is_machine-with_word s w x m inside below fits =
       counter = m.counter;
       below = each_after_set (λ _ y. y < 2 ^ 64) s.words w x room below (λ i _. m.below i);
       registers =
-          each_after_set (λ i y. i < 32 → fixed i y ≡ y) s.words w x room (λ _. fits) (λ i _. m.registers i);
+          each_after_set (λ i y. i < 32 → register_word i y ≡ y) s.words w x room (λ _. fits) (λ i _. m.registers i);
       reader_area = m.reader_area;
       printer_area = m.printer_area;
     }
@@ -38,18 +38,18 @@ is_machine-with_word s w x m inside below fits =
 -- the state at the start
 pub is_machine-opening : (image : List ℕ) (start : ℕ) → length image ≡ words_of_storage
     → ((w : ℕ) → w < 32 → get_or image w 0 ≡ 0) → ((w : ℕ) → get_or image w 0 < 2 ^ 64) → start < 2 ^ 19
-    → IsMachine (opening image start)
+    → IsMachine (opening_state image start)
 is_machine-opening image start size zeros below counter =
     let number : words_of_storage ≡ 98304 = words_of_storage_is in
     let room : 12 < length image = omega arith in
-    let mask : fixed 12 0 < 2 ^ 64 = fixed_below 12 0 (omega arith) in
+    let mask : register_word 12 0 < 2 ^ 64 = fixed_below 12 0 (omega arith) in
     record {
-      size = length-set image 12 (fixed 12 0) ∙ size;
+      size = length-set image 12 (register_word 12 0) ∙ size;
       counter = counter;
-      below = each_after_set (λ _ y. y < 2 ^ 64) image 12 (fixed 12 0) room mask (λ i _. below i);
+      below = each_after_set (λ _ y. y < 2 ^ 64) image 12 (register_word 12 0) room mask (λ i _. below i);
       registers =
           each_after_set
-          (λ i y. i < 32 → fixed i y ≡ y) image 12 (fixed 12 0) room
+          (λ i y. i < 32 → register_word i y ≡ y) image 12 (register_word 12 0) room
           (λ _. fixed-twice 12 0)
           (λ i other h. let zero : get_or image i 0 ≡ 0 = zeros i h in rw zero (fixed-zero i other));
       reader_area = tt;

@@ -4,15 +4,15 @@ use Rattle.std.proofs.Math.ListN.{set}
 use Rattle.std.proofs.lemmas.List.{length-set}
 use Rattle.std.proofs.lemmas.Bool.Decides.{leb_tells}
 use Rattle.st_bits.specs.Bits.{all_bits, put, words_of}
-use Rattle.st_bits.specs.Registers.{fixed, fixed_from}
+use Rattle.st_bits.specs.Registers.{register_word, fixed_from}
 use Rattle.st_bits.specs.Storage.{words_of_storage}
 use Rattle.st_bits.proofs.RegisterLaws.{fixed-index}
 use Rattle.st_bits.proofs.Windows.{put-stored, put-stored_two, words_of-all_bits, fixed_from-kept, fixed_from-set}
-use Rattle.st_state.specs.Machine.{Machine, IsMachine, word, stored, placed}
+use Rattle.st_state.specs.Machine.{Machine, IsMachine, word, state_with_store, state_with_bits}
 use Rattle.st_state.proofs.Kept.{each_after_set}
 
 -- each word of a state has its fixed bits
-pub fixed-word : (s : Machine) (w : ℕ) → IsMachine s → fixed w (word s w) ≡ word s w
+pub fixed-word : (s : Machine) (w : ℕ) → IsMachine s → register_word w (word s w) ≡ word s w
 fixed-word s w m =
     elim (leb_tells 32 w) [
       | inl p ↦ let above : 32 ≤ w = p.1 in fixed-index w (word s w) (omega arith)
@@ -28,33 +28,33 @@ words_of-changed ws changed size below =
 -- the words of a state have their fixed bits
 fixed-words : (s : Machine) → IsMachine s → fixed_from 0 s.words ≡ s.words
 fixed-words s m =
-    fixed_from-kept 0 s.words (λ w. ap (λ k. fixed k (word s w)) (zero-add w) ∙ fixed-word s w m)
+    fixed_from-kept 0 s.words (λ w. ap (λ k. register_word k (word s w)) (zero-add w) ∙ fixed-word s w m)
 
-fixed-set : (ws : List ℕ) (w y : ℕ) → fixed_from 0 (set ws w y) ≡ set (fixed_from 0 ws) w (fixed w y)
+fixed-set : (ws : List ℕ) (w y : ℕ) → fixed_from 0 (set ws w y) ≡ set (fixed_from 0 ws) w (register_word w y)
 fixed-set ws w y =
-    fixed_from-set 0 ws w y ∙ ap (λ k. set (fixed_from 0 ws) w (fixed k y)) (zero-add w)
+    fixed_from-set 0 ws w y ∙ ap (λ k. set (fixed_from 0 ws) w (register_word k y)) (zero-add w)
 
 -- bits put within one word
 pub placed-stored : (s : Machine) (w b : ℕ) (v : List ℕ) (y : ℕ) → IsMachine s → w < words_of_storage
     → b + length v ≤ 64 → y < 2 ^ 64
-    → put (all_bits (word s w ∷ [])) b v ≡ all_bits (y ∷ []) → placed s (64 * w + b) v ≡ stored s w y
+    → put (all_bits (word s w ∷ [])) b v ≡ all_bits (y ∷ []) → state_with_bits s (64 * w + b) v ≡ state_with_store s w y
 placed-stored s w b v y m inside le below e =
     let ws = s.words in
     let room : w < length ws = omega (arith, m.size) in
-    let words : fixed_from 0 (words_of (length ws) (put (all_bits ws) (64 * w + b) v)) ≡ set ws w (fixed w y) =
+    let words : fixed_from 0 (words_of (length ws) (put (all_bits ws) (64 * w + b) v)) ≡ set ws w (register_word w y) =
     ap (λ bs. fixed_from 0 (words_of (length ws) bs)) (put-stored ws w b v y room le e)
     ∙ ap (fixed_from 0)
     (words_of-changed ws (set ws w y) (length-set ws w y)
     (each_after_set (λ _ x. x < 2 ^ 64) ws w y room below (λ i _. m.below i)))
     ∙ fixed-set ws w y
-    ∙ ap (λ xs. set xs w (fixed w y)) (fixed-words s m) in
+    ∙ ap (λ xs. set xs w (register_word w y)) (fixed-words s m) in
     ap (λ xs. record s { words = xs }) words
 
 -- bits put within two words
 pub placed-stored_two : (s : Machine) (w b : ℕ) (v : List ℕ) (y z : ℕ) → IsMachine s → suc w < words_of_storage
     → b + length v ≤ 128 → y < 2 ^ 64 → z < 2 ^ 64
     → put (all_bits (word s w ∷ word s (suc w) ∷ [])) b v ≡ all_bits (y ∷ z ∷ [])
-    → placed s (64 * w + b) v ≡ stored (stored s w y) (suc w) z
+    → state_with_bits s (64 * w + b) v ≡ state_with_store (state_with_store s w y) (suc w) z
 placed-stored_two s w b v y z m inside le below under e =
     let ws = s.words in
     let one = set ws w y in
@@ -64,14 +64,14 @@ placed-stored_two s w b v y z m inside le below under e =
     let ones_below : (i : ℕ) → get_or one i 0 < 2 ^ 64 =
     each_after_set (λ _ x. x < 2 ^ 64) ws w y room below (λ i _. m.below i) in
     let words : fixed_from 0 (words_of (length ws) (put (all_bits ws) (64 * w + b) v))
-    ≡ set (set ws w (fixed w y)) (suc w) (fixed (suc w) z) =
+    ≡ set (set ws w (register_word w y)) (suc w) (register_word (suc w) z) =
     ap (λ bs. fixed_from 0 (words_of (length ws) bs)) (put-stored_two ws w b v y z (omega arith) le e)
     ∙ ap (fixed_from 0)
     (words_of-changed ws (set one (suc w) z) (length-set one (suc w) z ∙ size)
     (each_after_set (λ _ x. x < 2 ^ 64) one (suc w) z more under (λ i _. ones_below i)))
     ∙ fixed-set one (suc w) z
-    ∙ ap (λ xs. set xs (suc w) (fixed (suc w) z)) (fixed-set ws w y)
-    ∙ ap (λ xs. set (set xs w (fixed w y)) (suc w) (fixed (suc w) z)) (fixed-words s m) in
+    ∙ ap (λ xs. set xs (suc w) (register_word (suc w) z)) (fixed-set ws w y)
+    ∙ ap (λ xs. set (set xs w (register_word w y)) (suc w) (register_word (suc w) z)) (fixed-words s m) in
     ap (λ xs. record s { words = xs }) words
 
 -- lists of one and of two items
@@ -89,10 +89,10 @@ two_items (x ∷ y ∷ z ∷ xs) e = absurd (omega arith)
 -- the same by the address of the first bit, for a list of one word that was read, changed and is stored
 pub placed-one : (s : Machine) (a x : ℕ) (v new : List ℕ) → IsMachine s → a / 64 < words_of_storage
     → a % 64 + length v ≤ 64 → x ≡ word s (a / 64) → length new ≡ 1 → get_or new 0 0 < 2 ^ 64
-    → all_bits new ≡ put (all_bits (x ∷ [])) (a % 64) v → placed s a v ≡ stored s (a / 64) (get_or new 0 0)
+    → all_bits new ≡ put (all_bits (x ∷ [])) (a % 64) v → state_with_bits s a v ≡ state_with_store s (a / 64) (get_or new 0 0)
 placed-one s a x v new m inside le read size below e =
     let address : a ≡ 64 * (a / 64) + a % 64 = omega arith in
-    ap (λ k. placed s k v) address
+    ap (λ k. state_with_bits s k v) address
     ∙ placed-stored s (a / 64) (a % 64) v (get_or new 0 0) m inside le below
     (ap (λ y. put (all_bits (y ∷ [])) (a % 64) v) (sym read) ∙ sym e ∙ ap all_bits (one_item new size))
 
@@ -101,15 +101,15 @@ pub placed-two : (s : Machine) (a x y : ℕ) (v new : List ℕ) → IsMachine s 
     → a % 64 + length v ≤ 128 → x ≡ word s (a / 64) → y ≡ word s (a / 64 + 1) → length new ≡ 2
     → get_or new 0 0 < 2 ^ 64 → get_or new 1 0 < 2 ^ 64
     → all_bits new ≡ put (all_bits (x ∷ y ∷ [])) (a % 64) v
-    → placed s a v ≡ stored (stored s (a / 64) (get_or new 0 0)) (a / 64 + 1) (get_or new 1 0)
+    → state_with_bits s a v ≡ state_with_store (state_with_store s (a / 64) (get_or new 0 0)) (a / 64 + 1) (get_or new 1 0)
 placed-two s a x y v new m inside le read next size below under e =
     let address : a ≡ 64 * (a / 64) + a % 64 = omega arith in
     let after : a / 64 + 1 ≡ suc (a / 64) = omega arith in
-    ap (λ k. placed s k v) address
+    ap (λ k. state_with_bits s k v) address
     ∙ placed-stored_two s (a / 64) (a % 64) v (get_or new 0 0) (get_or new 1 0) m (omega arith) le below under
     (ap (λ z. put (all_bits (word s (a / 64) ∷ z ∷ [])) (a % 64) v)
     (ap (word s) (sym after) ∙ sym next)
     ∙ ap (λ z. put (all_bits (z ∷ y ∷ [])) (a % 64) v) (sym read)
     ∙ sym e
     ∙ ap all_bits (two_items new size))
-    ∙ ap (λ k. stored (stored s (a / 64) (get_or new 0 0)) k (get_or new 1 0)) (sym after)
+    ∙ ap (λ k. state_with_store (state_with_store s (a / 64) (get_or new 0 0)) k (get_or new 1 0)) (sym after)

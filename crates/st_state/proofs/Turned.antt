@@ -5,7 +5,7 @@ use Rattle.std.proofs.lemmas.Bool.Decides.{nat_tests, eqb_tells}
 use Rattle.std.proofs.lemmas.Nat.{or_lt, and_le_l, mul-le}
 use Rattle.std.proofs.Math.Nat.{mod-eq_of_lt, pow-succ'}
 use Rattle.std.proofs.lemmas.Nat.Bits.{bit_at-lt, bit_at_and, bit_at_or, bit_at_not, bit_at_cat_low, bit_at_cat_high, bit_at_lowest, same_from_bits_below}
-use Rattle.st_state.specs.Interrupts.{turned, turned_bit}
+use Rattle.st_state.specs.Interrupts.{indicator_word, turned_bit}
 
 pub turned_bit_below : (on off was : ℕ) → was < 2 → turned_bit on off was < 2
 turned_bit_below on off was h = grind (arith, nat_tests)
@@ -13,19 +13,19 @@ turned_bit_below on off was h = grind (arith, nat_tests)
 pub one_more : (b p t r : ℕ) → b < 2 → t < p → r ≡ 2 * p → b * p + t < r
 one_more b p t r small below e = omega (arith, mul-le b p 1 p (omega arith) (omega arith))
 
-pub turned_below : (n on off x : ℕ) → turned n on off x < 2 ^ n
-unfolding turned
+pub turned_below : (n on off x : ℕ) → indicator_word n on off x < 2 ^ n
+unfolding indicator_word
 turned_below zero on off x = omega arith
 turned_below (suc n) on off x =
     one_more _ _ _ _ (turned_bit_below (bit_at on n) (bit_at off n) _ (bit_at-lt x n)) (turned_below n on off x) (pow-succ' 2 n)
 
 pub bit_at-turned : (n on off x i : ℕ) → i < n
-    → bit_at (turned n on off x) i ≡ turned_bit (bit_at on i) (bit_at off i) (bit_at x i)
-unfolding turned
+    → bit_at (indicator_word n on off x) i ≡ turned_bit (bit_at on i) (bit_at off i) (bit_at x i)
+unfolding indicator_word
 bit_at-turned zero on off x i h = absurd (omega arith)
 bit_at-turned (suc n) on off x i h =
     let here = turned_bit (bit_at on n) (bit_at off n) (bit_at x n) in
-    let rest = turned n on off x in
+    let rest = indicator_word n on off x in
     let below : rest < 2 ^ n = turned_below n on off x in
     let single : here < 2 = turned_bit_below (bit_at on n) (bit_at off n) _ (bit_at-lt x n) in
     elim (eqb_tells i n) [
@@ -49,7 +49,7 @@ pub turned_bit_is : (on off was : ℕ) → on < 2 → off < 2 → was < 2
 turned_bit_is on off was h k l = grind (arith, nat_tests)
 
 pub turned-masks : (on off x : ℕ) → on < 2 ^ 64 → off < 2 ^ 64 → x < 2 ^ 64
-    → bit_or (bit_and x (2 ^ 64 - 1 - off)) on ≡ turned 64 on off x
+    → bit_or (bit_and x (2 ^ 64 - 1 - off)) on ≡ indicator_word 64 on off x
 turned-masks on off x on_fits off_fits fits =
     same_from_bits_below 64 _ _
     (or_lt 64 (bit_and x (2 ^ 64 - 1 - off)) on (omega (arith, and_le_l x (2 ^ 64 - 1 - off))) on_fits)

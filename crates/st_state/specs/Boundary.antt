@@ -9,37 +9,39 @@ use Rattle.st_state.specs.declared.protection.Access.{Access}
 use Rattle.st_state.specs.declared.protection.Access.TheVariants.{Read, Write, Fetch}
 
 -- no such word, or a register where an instruction is fetched
-abbrev pub is_invalid : Access → ℕ → Bool
-is_invalid Read w = nat_le words_of_storage w
-is_invalid Write w = nat_le words_of_storage w
-is_invalid Fetch w = nat_le words_of_storage w || nat_lt w FIRST_STORAGE_WORD
+abbrev pub is_invalid_word : Access → ℕ → Bool
+is_invalid_word Read w = nat_le words_of_storage w
+is_invalid_word Write w = nat_le words_of_storage w
+is_invalid_word Fetch w = nat_le words_of_storage w || nat_lt w FIRST_STORAGE_WORD
 
--- the word lies between the bounds of their register: the upper one in bits 0-17, the lower one in bits 32-49
+-- the word lies between the bounds of their register: the upper one in bits 0-17, the lower one in
+-- bits 32-49
 abbrev pub is_between : ℕ → ℕ → Bool
 is_between bounds w = nat_le (part bounds 32 18) w && nat_lt w (part bounds 0 18)
 
--- by the register of the bounds and the mark for interrupts: bit 57 zero protects the words between the bounds, one all
--- others; never a register
+-- by the register of the bounds and the mark for interrupts: bit 57 zero protects the words between
+-- the bounds, one all others; never a register
 abbrev pub is_protected : ℕ → Bool → ℕ → Bool
 is_protected bounds enabled w =
-    enabled && nat_le FIRST_STORAGE_WORD w && (if part bounds 57 1 == 0 then is_between bounds w else not (is_between bounds w))
+    enabled && nat_le FIRST_STORAGE_WORD w
+    && (if part bounds 57 1 == 0 then is_between bounds w else not (is_between bounds w))
 
 -- the indicators of an address that is not valid, and of each access to a protected word
 abbrev pub address_invalid : ℕ
 address_invalid = ADDRESS_INVALID
 
-abbrev pub protected : Access → ℕ
-protected Read = DATA_FETCH
-protected Write = DATA_STORE
-protected Fetch = INSTRUCTION_FETCH
+abbrev pub protection_indicator : Access → ℕ
+protection_indicator Read = DATA_FETCH
+protection_indicator Write = DATA_STORE
+protection_indicator Fetch = INSTRUCTION_FETCH
 
 -- the indicator that forbids the access, if one does, by the bounds and the mark for interrupts
 unfoldable pub forbidden_by : ℕ → Bool → Access → ℕ → Option ℕ
 forbidden_by bounds enabled access w =
-    if is_invalid access w then Some address_invalid
-    else if is_protected bounds enabled w then Some (protected access)
+    if is_invalid_word access w then Some address_invalid
+    else if is_protected bounds enabled w then Some (protection_indicator access)
     else None
 
 -- the same of a state
-abbrev pub forbidden : Machine → Access → ℕ → Option ℕ
-forbidden s access w = forbidden_by (word s BOUNDS) s.enabled access w
+abbrev pub indicator_of_access : Machine → Access → ℕ → Option ℕ
+indicator_of_access s access w = forbidden_by (word s BOUNDS) s.enabled access w

@@ -3,3 +3,7 @@ pub mod Interrupts
 pub mod Machine
 pub mod Orders
 pub mod View
+pub use Rattle.st_bits.specs.Bits
+pub use Rattle.st_bits.specs.Indicators
+pub use Rattle.st_bits.specs.Registers
+pub use Rattle.st_bits.specs.Storage

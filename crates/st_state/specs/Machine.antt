@@ -1,7 +1,7 @@
 -- The state of the machine between two instructions.
 use Rattle.std.specs.Prelude.{ℕ, ◌≡◌, ◌+◌, ◌<◌, ◌≤◌, ◌^◌, Bool, false, List, length, slice_index, slice_set, Option, None, Some}
 use Rattle.st_bits.specs.Bits.{all_bits, put, words_of}
-use Rattle.st_bits.specs.Registers.{fixed, fixed_from}
+use Rattle.st_bits.specs.Registers.{register_word, fixed_from}
 use Rattle.st_bits.specs.Storage.{words_of_storage}
 use Rattle.st_bits.specs.declared.register.TheConstants.{MASK, FIRST_STORAGE_WORD}
 use Rattle.st_state.specs.declared.devices.Order.{Order}
@@ -25,18 +25,22 @@ abbrev pub with_word : Machine → ℕ → ℕ → Machine
 with_word s w x = record s { words = slice_set s.words w x }
 
 -- the state after x is written to word w
-abbrev pub stored : Machine → ℕ → ℕ → Machine
-stored s w x = with_word s w (fixed w x)
+abbrev pub state_with_store : Machine → ℕ → ℕ → Machine
+state_with_store s w x = with_word s w (register_word w x)
 
 -- the state after the bits b are put into storage from bit a on; the fixed bits stand
-abbrev pub placed : Machine → ℕ → List ℕ → Machine
-placed s a b = record s { words = fixed_from 0 (words_of (length s.words) (put (all_bits s.words) a b)) }
+abbrev pub state_with_bits : Machine → ℕ → List ℕ → Machine
+state_with_bits s a b = record s {
+  words = fixed_from 0
+      (words_of (length s.words) (put (all_bits s.words) a b));
+}
 
--- the state at the start: the image with the fixed bits of the mask, and the counter at the start address
-abbrev pub opening : List ℕ → ℕ → Machine
-opening image start =
+-- the state at the start: the image with the fixed bits of the mask, and the counter at the start
+-- address
+abbrev pub opening_state : List ℕ → ℕ → Machine
+opening_state image start =
     record {
-      words = slice_set image MASK (fixed MASK 0);
+      words = slice_set image MASK (register_word MASK 0);
       ic = start;
       enabled = false;
       waiting = false;
@@ -55,6 +59,6 @@ pub record IsMachine (s : Machine) : Type 0 where
   pub size : length s.words ≡ words_of_storage
   pub counter : s.ic < 2 ^ 19
   pub below : (w : ℕ) → word s w < 2 ^ 64
-  pub registers : (w : ℕ) → w < FIRST_STORAGE_WORD → fixed w (word s w) ≡ word s w
+  pub registers : (w : ℕ) → w < FIRST_STORAGE_WORD → register_word w (word s w) ≡ word s w
   pub reader_area : HasArea s.reader
   pub printer_area : HasArea s.printer

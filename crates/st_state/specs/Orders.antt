@@ -18,12 +18,13 @@ due s =
     else None
 
 -- of two orders the one that is due earlier, the reader's where both are due at once
-abbrev pub earlier : Option Order → Option Order → Option Device
-earlier None None = None
-earlier (Some _) None = Some Reader
-earlier None (Some _) = Some Printer
-earlier (Some reader) (Some printer) = if nat_le reader.due printer.due then Some Reader else Some Printer
+abbrev pub earlier_device : Option Order → Option Order → Option Device
+earlier_device None None = None
+earlier_device (Some _) None = Some Reader
+earlier_device None (Some _) = Some Printer
+earlier_device (Some reader) (Some printer) = if nat_le reader.due printer.due then Some Reader
+    else Some Printer
 
 -- the device whose order takes effect first in a wait
 abbrev pub next_device : Machine → Option Device
-next_device s = earlier s.reader s.printer
+next_device s = earlier_device s.reader s.printer

@@ -1,6 +1,6 @@
 //! The leftmost indicator that is on and not masked.
 ghost use Rattle.std.specs.Prelude.{◌≡◌, ◌<◌, IfSome};
-ghost use Rattle.st_state.specs.Interrupts.{first_from, is_pending, turned as turned_of};
+ghost use Rattle.st_state.specs.Interrupts.{first_from, is_pending, indicator_word as turned_of};
 
 /// The leftmost indicator that is on and whose mask bit is one.
 pub fn leftmost(indicators: u64, mask: u64) -> Option<u8>

@@ -1,7 +1,7 @@
 //! The state of the machine: storage, the counter and the marks, and what is asked of them.
 //!
-//! Words 0 to 31 of storage are the registers. A letter is a bit that can be one, `.` is always zero and
-//! `1` always one; bit 0 is leftmost.
+//! Words 0 to 31 of storage are the registers. A letter is a bit that can be one, `.` is always
+//! zero and `1` always one; bit 0 is leftmost.
 //!
 //! ```text
 //!        0        8        16       24       32       40       48       56
@@ -33,7 +33,7 @@
 #![tactic(auto, using(st_bits::specs::Storage::words_of_storage_is))]
 
 ghost use Rattle.std.specs.Prelude.{◌≡◌, ℕ, ◌+◌, ◌*◌, ◌<◌, ◌≤◌, ◌^◌, length, slice_index, IfOk, IfSome, IsNone};
-ghost use Rattle.st_bits.specs.Registers.{fixed};
+ghost use Rattle.st_bits.specs.Registers.{register_word};
 ghost use Rattle.st_bits.specs.Storage.{words_of_storage};
 
 use indicators::{leftmost, turned};
@@ -83,19 +83,19 @@ impl Model for State {
 }
 
 impl State {
-    ghost use Rattle.st_state.specs.Machine.{IsMachine, opening, placed, stored, word as word_of};
+    ghost use Rattle.st_state.specs.Machine.{IsMachine, opening_state, state_with_bits, state_with_store, word as word_of};
     ghost use Rattle.st_bits.specs.Bits.{bits as bits_of};
-    ghost use Rattle.st_state.specs.Interrupts.{applied, signalled, pending as pending_of};
-    ghost use Rattle.st_state.specs.Boundary.{forbidden, is_protected};
+    ghost use Rattle.st_state.specs.Interrupts.{state_with_indicators, state_with_signal, pending as pending_of};
+    ghost use Rattle.st_state.specs.Boundary.{indicator_of_access, is_protected};
     ghost use Rattle.st_state.specs.Orders.{due as due_of, next_device as next_device_of};
 
-    /// The state at the start: storage is the image, no register but the mask has a bit that is one, and the
-    /// counter is the half-word address `start`.
+    /// The state at the start: storage is the image, no register but the mask has a bit that is
+    /// one, and the counter is the half-word address `start`.
     pub fn new(alloc: Global, image: &[u64], start: u32) -> Result<State, NoMemory>
         requires whole { length image.now ≡ words_of_storage }
         requires registers { (w : ℕ) → w < FIRST_STORAGE_WORD → slice_index image.now w ≡ 0 }
         requires counter { start < 2 ^ 19 }
-        ensures { IfOk result (λ s. s ≡ opening image.now start) }
+        ensures { IfOk result (λ s. s ≡ opening_state image.now start) }
     {
         let Ok(mut words) = Vec::from_slice(alloc, image) else {
             return Err(NoMemory);
@@ -112,8 +112,9 @@ impl State {
         })
     }
 
-    /// Makes known what holds of each state: storage has all its words, the counter is below 2^19, registers have
-    /// their fixed bits, and the area of an order lies in storage above the registers.
+    /// Makes known what holds of each state: storage has all its words, the counter is below 2^19,
+    /// registers have their fixed bits, and the area of an order lies in storage above the
+    /// registers.
     pub fn shape(&self)
         ensures { IsMachine self.now }
     {
@@ -128,22 +129,23 @@ impl State {
         self.words[w as usize]
     }
 
-    /// Writes `value` to the word at the word address `w`, below WORDS: a register keeps its fixed bits.
+    /// Writes `value` to the word at the word address `w`, below WORDS: a register keeps its fixed
+    /// bits.
     pub fn store(&mut self, w: u32, value: u64)
         requires { w < words_of_storage }
-        ensures { self.new ≡ stored self.old w value }
+        ensures { self.new ≡ state_with_store self.old w value }
     {
         self.words[w as usize] = fixed_word(w, value);
     }
 
-    /// Puts the number `bits`, below 2^n, into the `n` bits, 1 to 64, of storage from the bit address `a` on: a
-    /// register keeps its fixed bits, and no other bit changes.
+    /// Puts the number `bits`, below 2^n, into the `n` bits, 1 to 64, of storage from the bit
+    /// address `a` on: a register keeps its fixed bits, and no other bit changes.
     pub fn put_field(&mut self, a: u32, n: u8, bits: u64)
         requires some { 1 ≤ n }
         requires few { n ≤ 64 }
         requires inside { a + n ≤ 64 * words_of_storage }
         requires fits { bits < 2 ^ n }
-        ensures { self.new ≡ placed self.old a (bits_of n bits) }
+        ensures { self.new ≡ state_with_bits self.old a (bits_of n bits) }
     {
         self.shape();
         let w = a / 64;
@@ -164,7 +166,7 @@ impl State {
     #[tactic(auto, unfolding(crate::specs::Boundary::forbidden_by), using(st_bits::specs::Storage::words_of_storage_is))]
     #[inline(always)]
     pub fn may(&self, access: Access, w: u32) -> Option<u8>
-        ensures value { result ≡ forbidden self.now access w }
+        ensures value { result ≡ indicator_of_access self.now access w }
         ensures bound { IfSome result (λ i. i < 64) }
         ensures inside { IsNone result → w < words_of_storage }
     {
@@ -195,7 +197,8 @@ impl State {
         self.enabled && FIRST_STORAGE_WORD <= w && between == (part(bounds, 57, 1) == 0)
     }
 
-    /// The leftmost indicator that is on and whose mask bit is one, 0 to 63; None where there is none.
+    /// The leftmost indicator that is on and whose mask bit is one, 0 to 63; None where there is
+    /// none.
     pub fn pending(&self) -> Option<u8>
         ensures value { result ≡ pending_of self.now }
         ensures bound { IfSome result (λ i. i < 64) }
@@ -206,7 +209,7 @@ impl State {
     /// Turns on the indicator `i`, none behind the channel signal, as a signal from outside does.
     pub fn signal(&mut self, i: u8)
         requires { i ≤ CHANNEL_SIGNAL }
-        ensures { self.new ≡ signalled self.old i }
+        ensures { self.new ≡ state_with_signal self.old i }
     {
         self.apply(Ind {
             on: indicator(i),
@@ -216,7 +219,7 @@ impl State {
 
     /// Turns indicators on and off; one that is named for both is on.
     pub fn apply(&mut self, ind: Ind)
-        ensures { self.new ≡ applied ind self.old }
+        ensures { self.new ≡ state_with_indicators ind self.old }
     {
         self.words[INDICATORS as usize] = turned(self.words[INDICATORS as usize], ind.on, ind.off);
     }
@@ -234,7 +237,8 @@ impl State {
         }
     }
 
-    /// The device whose order takes effect first while the machine waits; None where no order is given.
+    /// The device whose order takes effect first while the machine waits; None where no order is
+    /// given.
     pub fn next_device(&self) -> Option<Device>
         ensures { result ≡ next_device_of self.now }
     {
@@ -255,7 +259,7 @@ impl State {
 
 // What stands in word `w` after `value` is written to it.
 fn fixed_word(w: u32, value: u64) -> u64
-    ensures { result ≡ fixed w value }
+    ensures { result ≡ register_word w value }
 {
     if w < FIRST_STORAGE_WORD {
         fix_register(w as u8, value)

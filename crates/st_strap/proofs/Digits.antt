@@ -9,10 +9,10 @@ use Rattle.std.proofs.lemmas.Bool.Decides.{nat_tests}
 use Rattle.std.proofs.lemmas.List.{take_all}
 use Rattle.std.proofs.lemmas.Str.Parse.{IsNumeralModel, numerals_by_fold}
 use Rattle.std.proofs.lemmas.Fmt.{digits_decimal, digits_value-decimal, decimal_nonempty}
-use Rattle.st_text.specs.Number.{is_filled, is_number, value, value_after, reading}
-use Rattle.st_text.specs.Pieces.{parted, onto_first, lacks}
+use Rattle.st_text.specs.Number.{is_filled, is_number, digits_value, value_after, reading}
+use Rattle.st_text.specs.Pieces.{pieces_of, onto_first, lacks}
 use Rattle.st_text.specs.declared.numbers.Reading.TheVariants.{Bad, Large, Good}
-use Rattle.st_strap.specs.Text.{stop, begins_with, ends_with, clean}
+use Rattle.st_strap.specs.Text.{stop, begins_with, ends_with, statement_text}
 
 own : IsNumeralModel (λ ds. list_all is_ascii_digit ds ≡ true) (value_after 0)
 own = numerals_by_fold _ (search rules) value_after (search rules)
@@ -37,11 +37,11 @@ read_good false b v first second = cc
 pub reading-decimal : (most n : ℕ) → n ≤ most → n < 2 ^ 64 → reading most (decimal n) ≡ Good n
 reading-decimal most n fits small =
     let ds = decimal-digits n small in
-    let same : value (decimal n) ≡ n = digits_value-decimal own n small in
+    let same : digits_value (decimal n) ≡ n = digits_value-decimal own n small in
     let some : is_filled (decimal n) ≡ true = filled (length (decimal n)) ds.some in
     let number : is_number (decimal n) ≡ true = ap (λ b. b && list_all is_ascii_digit (decimal n)) some ∙ ds.each in
-    let room : nat_le (value (decimal n)) most ≡ true = ap (λ v. nat_le v most) same ∙ within n most fits in
-    read_good (is_number (decimal n)) (nat_le (value (decimal n)) most) (value (decimal n)) number room
+    let room : nat_le (digits_value (decimal n)) most ≡ true = ap (λ v. nat_le v most) same ∙ within n most fits in
+    read_good (is_number (decimal n)) (nat_le (digits_value (decimal n)) most) (digits_value (decimal n)) number room
     ∙ ap (λ v. Good v) same
 
 -- bytes that pass one test pass another
@@ -87,11 +87,11 @@ lacks-begins at [] lack = refl
 lacks-begins at (c ∷ cs) lack = unequal (c == at) (both (not (c == at)) (lacks at cs) lack).0
 
 -- a text that lacks a byte is one piece
-pub lacks-parted : (at : ℕ) (text : List ℕ) → lacks at text ≡ true → parted at text ≡ text ∷ []
+pub lacks-parted : (at : ℕ) (text : List ℕ) → lacks at text ≡ true → pieces_of at text ≡ text ∷ []
 lacks-parted at [] lack = refl
 lacks-parted at (c ∷ cs) lack =
     let tests = both (not (c == at)) (lacks at cs) lack in
-    ap (λ b. if b then [] ∷ parted at cs else onto_first c (parted at cs)) (unequal (c == at) tests.0)
+    ap (λ b. if b then [] ∷ pieces_of at cs else onto_first c (pieces_of at cs)) (unequal (c == at) tests.0)
     ∙ ap (λ (ps : List (List ℕ)). onto_first c ps) (lacks-parted at cs tests.1)
 
 stop-none : (at : ℕ) (text : List ℕ) → lacks at text ≡ true → stop at at text ≡ length text
@@ -108,8 +108,8 @@ filter-all p (c ∷ cs) all =
     ap (λ b. if b then c ∷ filter p cs else filter p cs) tests.0 ∙ ap (λ (t : List ℕ). c ∷ t) (filter-all p cs tests.1)
 
 -- a statement without blanks and comment is as it stands
-pub clean-is : (text : List ℕ) → lacks 59 text ≡ true → lacks 32 text ≡ true → clean text ≡ text
-unfolding clean
+pub clean-is : (text : List ℕ) → lacks 59 text ≡ true → lacks 32 text ≡ true → statement_text text ≡ text
+unfolding statement_text
 clean-is text no_comment no_blank =
     let whole : take (stop 59 59 text) text ≡ text =
     ap (λ n. take n text) (stop-none 59 text no_comment) ∙ take_all (length text) text (omega arith) in

@@ -13,12 +13,12 @@ use Rattle.st_text.specs.declared.numbers.Reading.{Reading}
 use Rattle.st_text.specs.declared.numbers.Reading.TheVariants.{Bad, Large, Good}
 use Rattle.st_expr.specs.Expression.{parts, any_bad, any_large, terms_of, expr_of}
 use Rattle.st_expr.specs.declared.terms.Term.{Term}
-use Rattle.st_strap.specs.Order.{earlier, both_of, mapped, judged}
-use Rattle.st_strap.specs.Text.{clean, begins_with, behind_word}
+use Rattle.st_strap.specs.Order.{earlier_fault, both_of, reading_map, next_reading}
+use Rattle.st_strap.specs.Text.{statement_text, begins_with, behind_word}
 use Rattle.st_strap.specs.Forming.{behind_description}
-use Rattle.st_strap.specs.Reading.{front, index_part, index_fields, index_parts, index_field, index_of, spot, unindexed, expression, number_or_fault, number_of, plain_number, signed_of, signed_number, with_selected, selected}
-use Rattle.st_strap.specs.Saying.{index_alone, spot_alone, expression_alone, number_alone, index_and_spot, index_and_list, operand, two_addresses, spot_and_number, address_and_number, two_addresses_and_number, refill_and_flags, count_and_refill, index_word_parts, without_fields, with_fields, is_misnamed, formed, said, clean_statement_of, statement_of}
-use Rattle.st_strap.specs.Faults.{Wanted, an_index_word, an_address, a_plain_address, a_number, a_signed_number, wanted_by, miscounts, plain, without_sign, is_bad, is_large, lacks_expression, lacks_index, is_past, any_field, named_in, described_in, progressed_in, fields_in, has_bad_progressive, field_faults, faults_behind, faults_on, wanted_in, fault_in}
+use Rattle.st_strap.specs.Reading.{field_front, index_part, index_fields, index_parts, index_field, index_named, spot, reading_without_index, expression, number_or_fault, number_result, plain_number, signed_of, signed_number, with_selected, index_selector}
+use Rattle.st_strap.specs.Saying.{index_alone, spot_alone, expression_alone, number_alone, index_and_spot, index_and_list, operand_spot, two_addresses, spot_and_number, address_and_number, two_addresses_and_number, refill_and_flags, count_and_refill, index_word_parts, without_fields, with_fields, is_misnamed, statement_in_form, reading_of_operation, clean_statement_of, statement_of}
+use Rattle.st_strap.specs.Faults.{Wanted, an_index_word, an_address, a_plain_address, a_number, a_signed_number, wanted_by, has_other_count, number_reading, without_sign, is_bad, is_large, lacks_expression, lacks_index, is_past, any_field, operation_named, described_in, progressed_in, fields_in, has_bad_progressive, field_faults, faults_behind, faults_on, wanted_in, fault_in}
 use Rattle.st_strap.specs.declared.statement.Form.{Form}
 use Rattle.st_strap.specs.declared.operations.Operation.{Operation}
 use Rattle.st_strap.specs.declared.operations.Operation.TheVariants.{Half, Sum, Refill, Execute, Branch, Bare, Floating, Vfl, Connect, Move, BitBranch, IndBranch, StoreCounter, Transfer, Data, IndexWord, Synonym, SetLocation, Reserve, End}
@@ -32,7 +32,7 @@ first-of c e i l = first_fault ((c, BadFieldCount) ∷ (e, BadExpression) ∷ (i
 abbrev pub earliest : Option Fault → Option Fault → Option Fault
 earliest None b = b
 earliest (Some a) None = Some a
-earliest (Some a) (Some b) = Some (earlier a b)
+earliest (Some a) (Some b) = Some (earlier_fault a b)
 
 pub first-joined : (c e i l d f j m : Bool) →
     earliest (first-of c e i l) (first-of d f j m) ≡ first-of (c || d) (e || f) (i || j) (l || m)
@@ -79,7 +79,7 @@ fault-both (Ok a) (Err g) = refl
 fault-both (Err f) (Ok b) = refl
 fault-both (Err f) (Err g) = refl
 
-pub fault-mapped : {A B : Type 0} (f : A → B) (r : Result A Fault) → fault_in (mapped f r) ≡ fault_in r
+pub fault-mapped : {A B : Type 0} (f : A → B) (r : Result A Fault) → fault_in (reading_map f r) ≡ fault_in r
 fault-mapped f (Ok a) = refl
 fault-mapped f (Err e) = refl
 
@@ -104,9 +104,9 @@ must-fault : (must : Bool) → fault_in {A = ℕ} (if must then Err BadIndex els
 must-fault true = refl
 must-fault false = refl
 
-part-fault : (must : Bool) (part : List ℕ) → fault_in (index_of must part)
+part-fault : (must : Bool) (part : List ℕ) → fault_in (index_named must part)
     ≡ first-of false false (if is_filled part then is_none (row_of part index_parts) else must) false
-unfolding index_of
+unfolding index_named
 part-fault must [] = must-fault must
 part-fault must (c ∷ cs) =
     row-fault (row_of (c ∷ cs) index_parts)
@@ -124,20 +124,20 @@ expr-fault text = tests-fault {A = ArrayVec Term} (any_bad (parts text)) (any_la
 pub address-fault : (must : Bool) (field : List ℕ) → fault_in (spot must field) ≡ field-fault (an_address must) field
 unfolding spot
 address-fault must field =
-    fault-mapped _ (both_of (expr_of (front field)) (index_of must (index_part field)))
-    ∙ (fault-both (expr_of (front field)) (index_of must (index_part field))
-    ∙ (ap (λ x. earliest x (fault_in (index_of must (index_part field)))) (expr-fault (front field))
-    ∙ (ap (λ x. earliest (first-of false (any_bad (parts (front field))) false (any_large (parts (front field)))) x) (part-fault must (index_part field))
-    ∙ beside-index (any_bad (parts (front field))) (any_large (parts (front field))) (lacks_index (an_address must) field))))
+    fault-mapped _ (both_of (expr_of (field_front field)) (index_named must (index_part field)))
+    ∙ (fault-both (expr_of (field_front field)) (index_named must (index_part field))
+    ∙ (ap (λ x. earliest x (fault_in (index_named must (index_part field)))) (expr-fault (field_front field))
+    ∙ (ap (λ x. earliest (first-of false (any_bad (parts (field_front field))) false (any_large (parts (field_front field)))) x) (part-fault must (index_part field))
+    ∙ beside-index (any_bad (parts (field_front field))) (any_large (parts (field_front field))) (lacks_index (an_address must) field))))
 
 -- an index part in excess
 excess : {A : Type 0} (c : ℕ) (cs : List ℕ) (value : Result A Fault) →
-    fault_in (unindexed (c ∷ cs) value) ≡ earliest (fault_in value) (Some BadIndex)
+    fault_in (reading_without_index (c ∷ cs) value) ≡ earliest (fault_in value) (Some BadIndex)
 excess c cs (Ok a) = refl
 excess c cs (Err e) = refl
 
 unindexed-fault : {A : Type 0} (part : List ℕ) (value : Result A Fault) (b l : Bool) → fault_in value ≡ first-of false b false l →
-    fault_in (unindexed part value) ≡ first-of false b (is_filled part) l
+    fault_in (reading_without_index part value) ≡ first-of false b (is_filled part) l
 unindexed-fault [] value b l is = is
 unindexed-fault (c ∷ cs) value b l is =
     excess c cs value
@@ -146,37 +146,37 @@ unindexed-fault (c ∷ cs) value b l is =
 
 pub plain_address-fault : (field : List ℕ) → fault_in (expression field) ≡ field-fault a_plain_address field
 unfolding expression
-plain_address-fault field = unindexed-fault (index_part field) (expr_of (front field)) _ _ (expr-fault (front field))
+plain_address-fault field = unindexed-fault (index_part field) (expr_of (field_front field)) _ _ (expr-fault (field_front field))
 
 reading-fault : (r : Reading) → fault_in (number_or_fault r) ≡ first-of false (is_bad r) false (is_large r)
 reading-fault Bad = refl
 reading-fault Large = refl
 reading-fault (Good n) = refl
 
-plain-fault : (text : List ℕ) → fault_in (number_of text) ≡ first-of false (is_bad (plain text)) false (is_large (plain text))
-unfolding number_of
-plain-fault text = reading-fault (plain text)
+plain-fault : (text : List ℕ) → fault_in (number_result text) ≡ first-of false (is_bad (number_reading text)) false (is_large (number_reading text))
+unfolding number_result
+plain-fault text = reading-fault (number_reading text)
 
 pub number-fault : (field : List ℕ) → fault_in (plain_number field) ≡ field-fault a_number field
 unfolding plain_number
-number-fault field = unindexed-fault (index_part field) (number_of (front field)) _ _ (plain-fault (front field))
+number-fault field = unindexed-fault (index_part field) (number_result (field_front field)) _ _ (plain-fault (field_front field))
 
 signs-fault : (minus plus : Bool) (text : List ℕ) →
-    fault_in {A = Bool × ℕ} (if minus then mapped (λ n. (true, n)) (number_of (drop 1 text))
-    else (if plus then mapped (λ n. (false, n)) (number_of (drop 1 text)) else mapped (λ n. (false, n)) (number_of text)))
-    ≡ fault_in (number_of (if minus || plus then drop 1 text else text))
-signs-fault true plus text = fault-mapped {B = Bool × ℕ} (λ n. (true, n)) (number_of (drop 1 text))
-signs-fault false true text = fault-mapped {B = Bool × ℕ} (λ n. (false, n)) (number_of (drop 1 text))
-signs-fault false false text = fault-mapped {B = Bool × ℕ} (λ n. (false, n)) (number_of text)
+    fault_in {A = Bool × ℕ} (if minus then reading_map (λ n. (true, n)) (number_result (drop 1 text))
+    else (if plus then reading_map (λ n. (false, n)) (number_result (drop 1 text)) else reading_map (λ n. (false, n)) (number_result text)))
+    ≡ fault_in (number_result (if minus || plus then drop 1 text else text))
+signs-fault true plus text = fault-mapped {B = Bool × ℕ} (λ n. (true, n)) (number_result (drop 1 text))
+signs-fault false true text = fault-mapped {B = Bool × ℕ} (λ n. (false, n)) (number_result (drop 1 text))
+signs-fault false false text = fault-mapped {B = Bool × ℕ} (λ n. (false, n)) (number_result text)
 
 sign-fault : (text : List ℕ) →
-    fault_in (signed_of text) ≡ first-of false (is_bad (plain (without_sign text))) false (is_large (plain (without_sign text)))
+    fault_in (signed_of text) ≡ first-of false (is_bad (number_reading (without_sign text))) false (is_large (number_reading (without_sign text)))
 unfolding signed_of
 sign-fault text = signs-fault (begins_with 45 text) (begins_with 43 text) text ∙ plain-fault (without_sign text)
 
 pub signed_number-fault : (field : List ℕ) → fault_in (signed_number field) ≡ field-fault a_signed_number field
 unfolding signed_number
-signed_number-fault field = unindexed-fault (index_part field) (signed_of (front field)) _ _ (sign-fault (front field))
+signed_number-fault field = unindexed-fault (index_part field) (signed_of (field_front field)) _ _ (sign-fault (field_front field))
 
 -- ---- several fields
 
@@ -195,7 +195,7 @@ any-fault (p ∷ ps) =
 
 -- the first fault of fields, their count among them
 abbrev pub counted : List Wanted × List Wanted → List (List ℕ) → Option Fault
-counted wanted fields = first-of (miscounts wanted fields) (any_field lacks_expression wanted fields)
+counted wanted fields = first-of (has_other_count wanted fields) (any_field lacks_expression wanted fields)
     (any_field lacks_index wanted fields) (any_field is_past wanted fields)
 
 further-below : (a b : ℕ) → nat_lt (suc a) (suc b) ≡ nat_lt a b
@@ -209,7 +209,7 @@ too-many : (wanted : List Wanted × List Wanted) (fields : List (List ℕ)) → 
 too-many wanted fields more =
     let most = length (wanted.0 ++ wanted.1) in
     let above : nat_lt most (length fields) ≡ true = grind (arith, nat_tests) in
-    let either : miscounts wanted fields ≡ true =
+    let either : has_other_count wanted fields ≡ true =
     elim (nat_lt (length fields) (length wanted.0)) as (λ b. (b || nat_lt most (length fields)) ≡ true) [ true ↦ refl | false ↦ above ] in
     ap (λ b. first-of b (any_field lacks_expression wanted fields) (any_field lacks_index wanted fields) (any_field is_past wanted fields)) (sym either)
 
@@ -222,7 +222,7 @@ one-more : (k : Wanted) (field : List ℕ) (ks ms : List Wanted) (fields : List 
     earliest (field-fault k field) (counted (ks, ms) fields) ≡ counted (k ∷ ks, ms) (field ∷ fields)
 one-more k field ks ms fields =
     first-joined false (lacks_expression k field) (lacks_index k field) (is_past k field)
-    (miscounts (ks, ms) fields) (any_field lacks_expression (ks, ms) fields) (any_field lacks_index (ks, ms) fields) (any_field is_past (ks, ms) fields)
+    (has_other_count (ks, ms) fields) (any_field lacks_expression (ks, ms) fields) (any_field lacks_index (ks, ms) fields) (any_field is_past (ks, ms) fields)
     ∙ ap (λ c. first-of c (any_field lacks_expression (k ∷ ks, ms) (field ∷ fields)) (any_field lacks_index (k ∷ ks, ms) (field ∷ fields))
     (any_field is_past (k ∷ ks, ms) (field ∷ fields))) (sym (further-test (length fields) (length ks) (length (ks ++ ms))))
 
@@ -305,8 +305,8 @@ two_addresses_and_number-fault (a ∷ more) = pair-fault (spot false a) (address
     (address-fault false a) (address_and_number-fault more)
 
 operand-fault : (form : Form) (fields : List (List ℕ)) →
-    fault_in (operand form fields) ≡ counted (an_address (nat_le 2 form.p) ∷ [], a_number ∷ []) fields
-unfolding operand
+    fault_in (operand_spot form fields) ≡ counted (an_address (nat_le 2 form.p) ∷ [], a_number ∷ []) fields
+unfolding operand_spot
 operand-fault form [] = refl
 operand-fault form (a ∷ []) = pair-fault {B = ℕ} (spot (nat_le 2 form.p) a) (Ok 0) (an_address (nat_le 2 form.p)) a [] (a_number ∷ []) []
     (address-fault (nat_le 2 form.p) a) refl
@@ -358,9 +358,9 @@ listed-fault (Err e) b false r first rest = let no : ⊥ = cc in absurd no
 abbrev none-such : List (List ℕ) → Bool
 none-such fields = list_any (λ field. is_none (row_of field index_fields)) fields
 
-selected-fault : (fields : List (List ℕ)) → fault_in (selected fields) ≡ first-of false false (none-such fields) false
+selected-fault : (fields : List (List ℕ)) → fault_in (index_selector fields) ≡ first-of false false (none-such fields) false
 selected-fault [] = refl
-selected-fault (field ∷ more) = listed-fault (index_field field) (selected more) (is_none (row_of field index_fields)) (none-such more)
+selected-fault (field ∷ more) = listed-fault (index_field field) (index_selector more) (is_none (row_of field index_fields)) (none-such more)
     (index-fault field) (selected-fault more)
 
 -- the earliest fault of index words
@@ -374,7 +374,7 @@ index_words-fault (suc n) (field ∷ more) few =
     ∙ first-joined false false (is_none (row_of field index_fields)) false false false (none-such more) false
 
 -- fields of which there are neither too few nor too many
-right-count : (wanted : List Wanted × List Wanted) (fields : List (List ℕ)) → miscounts wanted fields ≡ false →
+right-count : (wanted : List Wanted × List Wanted) (fields : List (List ℕ)) → has_other_count wanted fields ≡ false →
     fields-fault (zip (wanted.0 ++ wanted.1) fields) ≡ counted wanted fields
 right-count wanted fields right =
     any-fault (zip (wanted.0 ++ wanted.1) fields)
@@ -394,10 +394,10 @@ index_and_list-fault (j ∷ []) = refl
 index_and_list-fault (j ∷ k ∷ ks) =
     let wanted : List Wanted × List Wanted = (replicate 2 an_index_word, replicate 14 an_index_word) in
     let step : (b : Bool) → nat_le (length ks) 14 ≡ b →
-    fault_in (if b then both_of (index_field j) (selected (k ∷ ks)) else Err BadFieldCount) ≡ counted wanted (j ∷ k ∷ ks) =
+    fault_in (if b then both_of (index_field j) (index_selector (k ∷ ks)) else Err BadFieldCount) ≡ counted wanted (j ∷ k ∷ ks) =
     λ b. elim b as (λ v. nat_le (length ks) 14 ≡ v →
-    fault_in (if v then both_of (index_field j) (selected (k ∷ ks)) else Err BadFieldCount) ≡ counted wanted (j ∷ k ∷ ks)) [
-      | true ↦ λ few. pair-fault (index_field j) (selected (k ∷ ks)) an_index_word j (an_index_word ∷ []) (replicate 14 an_index_word) (k ∷ ks)
+    fault_in (if v then both_of (index_field j) (index_selector (k ∷ ks)) else Err BadFieldCount) ≡ counted wanted (j ∷ k ∷ ks)) [
+      | true ↦ λ few. pair-fault (index_field j) (index_selector (k ∷ ks)) an_index_word j (an_index_word ∷ []) (replicate 14 an_index_word) (k ∷ ks)
           (index-fault j)
           (selected-fault (k ∷ ks)
           ∙ (sym (index_words-fault 15 (k ∷ ks) (grind (arith, nat_tests)))
@@ -417,8 +417,8 @@ fields-of-fault Execute form fields = fault-mapped _ (spot_alone fields) ∙ spo
 fields-of-fault (Branch op) form fields = fault-mapped _ (spot_alone fields) ∙ spot_alone-fault fields
 fields-of-fault (Bare op) form fields = without_fields-fault _ fields
 fields-of-fault (Floating number) form fields = fault-mapped _ (spot_alone fields) ∙ spot_alone-fault fields
-fields-of-fault (Vfl op negated) form fields = fault-mapped _ (operand form fields) ∙ operand-fault form fields
-fields-of-fault (Connect kind table) form fields = fault-mapped _ (operand form fields) ∙ operand-fault form fields
+fields-of-fault (Vfl op negated) form fields = fault-mapped _ (operand_spot form fields) ∙ operand-fault form fields
+fields-of-fault (Connect kind table) form fields = fault-mapped _ (operand_spot form fields) ∙ operand-fault form fields
 fields-of-fault (Move swap) form fields = fault-mapped _ (two_addresses_and_number fields) ∙ two_addresses_and_number-fault fields
 fields-of-fault (BitBranch sense change) form fields = fault-mapped _ (two_addresses fields) ∙ two_addresses-fault fields
 fields-of-fault (IndBranch sense off) form fields = fault-mapped _ (two_addresses fields) ∙ two_addresses-fault fields
@@ -432,24 +432,24 @@ fields-of-fault Reserve form fields = fault-mapped _ (expression_alone fields) �
 fields-of-fault End form fields = fault-mapped _ (expression_alone fields) ∙ expression_alone-fault fields
 
 progressed-fault : (p : Option Form) (op : Operation) (fields : List (List ℕ)) →
-    fault_in (judged BadProgressive p (λ f. with_fields op f fields))
+    fault_in (next_reading BadProgressive p (λ f. with_fields op f fields))
     ≡ first_fault ((is_none p, BadProgressive) ∷ field_faults (option_map (λ f. wanted_by op f) p) fields)
 progressed-fault None op fields = refl
 progressed-fault (Some form) op fields = fields-of-fault op form fields
 
 described-fault : (m : Option (Operation × Form)) (text : List ℕ) →
-    fault_in (judged BadDataDescription m (λ d. formed d.0 d.1 (behind_description text)))
+    fault_in (next_reading BadDataDescription m (λ d. statement_in_form d.0 d.1 (behind_description text)))
     ≡ first_fault ((is_none m, BadDataDescription) ∷ (has_bad_progressive text m, BadProgressive) ∷ field_faults (wanted_in text m) (fields_in text))
-unfolding formed
+unfolding statement_in_form
 described-fault None text = refl
 described-fault (Some d) text = progressed-fault (progressed_in text d) d.0 (fields_in text)
 
-said-fault : (op : Operation) (text : List ℕ) → fault_in (said op text) ≡ first_fault (faults_behind (Some op) text)
-unfolding said
+said-fault : (op : Operation) (text : List ℕ) → fault_in (reading_of_operation op text) ≡ first_fault (faults_behind (Some op) text)
+unfolding reading_of_operation
 said-fault op text = described-fault (described_in text op) text
 
 named-fault : (b : Bool) (o : Option Operation) (text : List ℕ) →
-    fault_in (if b then Err BadName else judged UnknownOperation o (λ op. said op text))
+    fault_in (if b then Err BadName else next_reading UnknownOperation o (λ op. reading_of_operation op text))
     ≡ first_fault ((b, BadName) ∷ (is_none o, UnknownOperation) ∷ faults_behind o text)
 named-fault true o text = refl
 named-fault false None text = refl
@@ -459,4 +459,4 @@ named-fault false (Some op) text = said-fault op text
 pub card-fault : (name text : List ℕ) → fault_in (statement_of name text) ≡ first_fault (faults_on name text)
 unfolding clean_statement_of
 card-fault name text =
-    let op = named_in (clean text) in named-fault (is_misnamed name op) op (behind_word (clean text))
+    let op = operation_named (statement_text text) in named-fault (is_misnamed name op) op (behind_word (statement_text text))

@@ -4,14 +4,14 @@ use Rattle.std.specs.Option.{option_and_then}
 use Rattle.std.proofs.Math.Seq.{take-append_seam}
 use Rattle.std.proofs.lemmas.List.{length-take-le, length-map, map-append}
 use Rattle.std.proofs.lemmas.Bool.Decides.{nat_tests}
-use Rattle.st_text.specs.Pieces.{parted}
+use Rattle.st_text.specs.Pieces.{pieces_of}
 use Rattle.st_text.specs.Tables.{row_of}
 use Rattle.st_card.specs.declared.faults.Fault.TheVariants.{BadFieldCount}
 use Rattle.st_strap.specs.Fields.{texts}
-use Rattle.st_strap.specs.Order.{both_of, mapped}
+use Rattle.st_strap.specs.Order.{both_of, reading_map}
 use Rattle.st_strap.specs.Describing.{in_mode, in_pieces, modes}
-use Rattle.st_strap.specs.Reading.{index_field, selected}
-use Rattle.st_strap.specs.Saying.{index_alone, spot_alone, expression_alone, number_alone, index_and_spot, index_and_list, operand, two_addresses, spot_and_number, address_and_number, two_addresses_and_number, refill_and_flags, count_and_refill, index_word_parts, without_fields, with_fields}
+use Rattle.st_strap.specs.Reading.{index_field, index_selector}
+use Rattle.st_strap.specs.Saying.{index_alone, spot_alone, expression_alone, number_alone, index_and_spot, index_and_list, operand_spot, two_addresses, spot_and_number, address_and_number, two_addresses_and_number, refill_and_flags, count_and_refill, index_word_parts, without_fields, with_fields}
 use Rattle.st_strap.specs.declared.descriptions.Mode.{Mode}
 use Rattle.st_strap.specs.declared.descriptions.Mode.TheVariants.{Field, Normalized, Unnormalized}
 use Rattle.st_strap.specs.declared.field.Field.{Field as FieldOf}
@@ -34,16 +34,16 @@ first_found found rest pieces all full =
 
 -- so are those that were kept when there is room for no more
 pub no_room : (kept new : List FieldOf) (f : FieldOf) (left after text : List ℕ) → new ≡ kept ++ f ∷ [] →
-    texts kept ++ parted 44 left ≡ parted 44 text → parted 44 left ≡ f.text.now ∷ parted 44 after → length new ≡ 17 →
-    texts new ≡ take 17 (parted 44 text)
+    texts kept ++ pieces_of 44 left ≡ pieces_of 44 text → pieces_of 44 left ≡ f.text.now ∷ pieces_of 44 after → length new ≡ 17 →
+    texts new ≡ take 17 (pieces_of 44 text)
 no_room kept new f left after text pushed so_far cut full =
     let both : texts new ≡ texts kept ++ f.text.now ∷ [] =
     ap (λ (fs : List FieldOf). texts fs) pushed ∙ map-append (λ (g : FieldOf). g.text.now) kept (f ∷ []) in
-    let all : texts new ++ parted 44 after ≡ parted 44 text =
-    ap (λ (t : List (List ℕ)). t ++ parted 44 after) both
-    ∙ (append_assoc (texts kept) (f.text.now ∷ []) (parted 44 after)
+    let all : texts new ++ pieces_of 44 after ≡ pieces_of 44 text =
+    ap (λ (t : List (List ℕ)). t ++ pieces_of 44 after) both
+    ∙ (append_assoc (texts kept) (f.text.now ∷ []) (pieces_of 44 after)
     ∙ (ap (λ (ps : List (List ℕ)). texts kept ++ ps) (sym cut) ∙ so_far)) in
-    first_found (texts new) (parted 44 after) (parted 44 text) all (length-map new (λ (g : FieldOf). g.text.now) ∙ full)
+    first_found (texts new) (pieces_of 44 after) (pieces_of 44 text) all (length-map new (λ (g : FieldOf). g.text.now) ∙ full)
 
 -- ---- descriptions
 
@@ -70,15 +70,15 @@ too_many n many = grind (arith, nat_tests)
 long_list : (a b : List ℕ) (more : List (List ℕ)) → 15 ≤ length more → index_and_list (a ∷ b ∷ more) ≡ Err BadFieldCount
 unfolding index_and_list
 long_list a b more many =
-    ap (λ (t : Bool). if t then both_of (index_field a) (selected (b ∷ more)) else Err BadFieldCount) (too_many (length more) many)
+    ap (λ (t : Bool). if t then both_of (index_field a) (index_selector (b ∷ more)) else Err BadFieldCount) (too_many (length more) many)
 
 past_five : (op : Operation) (form : Form) (a b c d e : List ℕ) (more : List (List ℕ)) → 13 ≤ length more →
     with_fields op form (a ∷ b ∷ c ∷ d ∷ e ∷ take 12 more) ≡ with_fields op form (a ∷ b ∷ c ∷ d ∷ e ∷ more)
-unfolding with_fields index_alone spot_alone expression_alone number_alone index_and_spot operand two_addresses spot_and_number address_and_number two_addresses_and_number refill_and_flags count_and_refill index_word_parts without_fields
+unfolding with_fields index_alone spot_alone expression_alone number_alone index_and_spot operand_spot two_addresses spot_and_number address_and_number two_addresses_and_number refill_and_flags count_and_refill index_word_parts without_fields
 past_five (HalfOperation op) form a b c d e more long = refl
 past_five SumOperation form a b c d e more long =
     let front : length (take 12 more) ≡ 12 = length-take-le 12 more (omega arith) in
-    ap (mapped (λ p. Sum p.0 p.1)) (long_list a b (c ∷ d ∷ e ∷ take 12 more) (omega (arith, front))
+    ap (reading_map (λ p. Sum p.0 p.1)) (long_list a b (c ∷ d ∷ e ∷ take 12 more) (omega (arith, front))
     ∙ sym (long_list a b (c ∷ d ∷ e ∷ more) (omega arith)))
 past_five RefillOperation form a b c d e more long = refl
 past_five ExecuteOperation form a b c d e more long = refl

@@ -5,12 +5,12 @@ use Rattle.std.specs.Option.{option_and_then}
 use Rattle.st_text.specs.Pieces.{lacks}
 use Rattle.st_card.specs.declared.faults.Fault.TheVariants.{BadName, UnknownOperation, BadDataDescription, BadProgressive}
 use Rattle.st_strap.specs.Text.{group_length, group, behind_group, fields_of}
-use Rattle.st_strap.specs.Table.{operation_of, other_operations}
-use Rattle.st_strap.specs.Order.{judged, mapped}
-use Rattle.st_strap.specs.Describing.{modes, plain_form, number_to, in_mode, description_of, may_have, described}
-use Rattle.st_strap.specs.Forming.{forms, unclosed, is_form, description_in, behind_description, form_number, may_have_form, is_behind_groups, progressed}
-use Rattle.st_strap.specs.Reading.{last_open, index_start, front, index_part, unindexed, number_of, signed_of, signed_number}
-use Rattle.st_strap.specs.Saying.{number_alone, with_fields, is_misnamed, formed, said, clean_statement_of, statement_of}
+use Rattle.st_strap.specs.Table.{operation_of_word, other_operations}
+use Rattle.st_strap.specs.Order.{next_reading, reading_map}
+use Rattle.st_strap.specs.Describing.{modes, plain_form, number_to, in_mode, description_of, may_have, described_form}
+use Rattle.st_strap.specs.Forming.{progressive_forms, open_group, is_form, description_in, behind_description, form_number, may_have_form, is_behind_groups, form_with_progress}
+use Rattle.st_strap.specs.Reading.{last_open, index_start, field_front, index_part, reading_without_index, number_result, signed_of, signed_number}
+use Rattle.st_strap.specs.Saying.{number_alone, with_fields, is_misnamed, statement_in_form, reading_of_operation, clean_statement_of, statement_of}
 use Rattle.st_strap.specs.declared.statement.Form.{Form}
 use Rattle.st_strap.specs.declared.statement.Statement.TheVariants.{Data}
 use Rattle.st_strap.specs.declared.operations.Operation.TheVariants.{Data as DataOperation}
@@ -27,7 +27,7 @@ no_index_part text lack = ap (λ b. if b then unwrap_or (last_open text) (length
 
 -- digits are read as a number without a sign
 signed-decimal : (n : ℕ) → n < 2 ^ 64 → signed_of (decimal n) ≡ Ok (false, n)
-unfolding signed_of number_of
+unfolding signed_of number_result
 signed-decimal n small =
     let ds = decimal-digits n small in
     let no_minus = lacks-begins 45 (decimal n) (digits-lack 45 (decimal n) (low_other 45 (omega arith)) ds) in
@@ -40,9 +40,9 @@ unfolding signed_number
 number-decimal n small =
     let ds = decimal-digits n small in
     let start = no_index_part (decimal n) (digits-lack 41 (decimal n) (low_other 41 (omega arith)) ds) in
-    let whole : front (decimal n) ≡ decimal n = ap (λ k. take k (decimal n)) start ∙ take_all (length (decimal n)) (decimal n) (omega arith) in
+    let whole : field_front (decimal n) ≡ decimal n = ap (λ k. take k (decimal n)) start ∙ take_all (length (decimal n)) (decimal n) (omega arith) in
     let nothing : index_part (decimal n) ≡ [] = ap (λ k. drop k (decimal n)) start ∙ drop_all (length (decimal n)) (decimal n) (omega arith) in
-    ap (λ (part : List ℕ). unindexed part (signed_of (front (decimal n)))) nothing
+    ap (λ (part : List ℕ). reading_without_index part (signed_of (field_front (decimal n)))) nothing
     ∙ (ap (λ (text : List ℕ). signed_of text) whole ∙ signed-decimal n small)
 
 -- the field behind the description
@@ -51,21 +51,21 @@ unfolding with_fields number_alone fields_of
 field-read n small =
     let ds = decimal-digits n small in
     let one = lacks-parted 44 (decimal n) (digits-lack 44 (decimal n) (low_other 44 (omega arith)) ds) in
-    ap (λ (fields : List (List ℕ)). mapped (λ p. Data word_form p.0 p.1) (number_alone fields)) one
-    ∙ ap (λ r. mapped (λ p. Data word_form p.0 p.1) r) (number-decimal n small)
+    ap (λ (fields : List (List ℕ)). reading_map (λ p. Data word_form p.0 p.1) (number_alone fields)) one
+    ∙ ap (λ r. reading_map (λ p. Data word_form p.0 p.1) r) (number-decimal n small)
 
 -- no progressive form stands before it
 pub is_behind_groups-comma : (text : List ℕ) → is_behind_groups (44 ∷ text) ≡ true
 is_behind_groups-comma text = elim (length (44 ∷ text) == 0) as (λ b. (b || true) ≡ true) [ true ↦ refl | false ↦ refl ]
 
-progressed-none : (text : List ℕ) → progressed DataOperation word_form (44 ∷ text) ≡ Some word_form
-unfolding progressed group_length form_number may_have_form
+progressed-none : (text : List ℕ) → form_with_progress DataOperation word_form (44 ∷ text) ≡ Some word_form
+unfolding form_with_progress group_length form_number may_have_form
 progressed-none text = ap (λ b. if b then Some word_form else None) (is_behind_groups-comma text)
 
-formed-read : (n : ℕ) → n < 2 ^ 64 → formed DataOperation word_form (44 ∷ decimal n) ≡ Ok (Data word_form false n)
-unfolding formed group_length
+formed-read : (n : ℕ) → n < 2 ^ 64 → statement_in_form DataOperation word_form (44 ∷ decimal n) ≡ Ok (Data word_form false n)
+unfolding statement_in_form group_length
 formed-read n small =
-    ap (λ (f : Option Form). judged BadProgressive f (λ f. with_fields DataOperation f (fields_of (behind_group (44 ∷ decimal n)))))
+    ap (λ (f : Option Form). next_reading BadProgressive f (λ f. with_fields DataOperation f (fields_of (behind_group (44 ∷ decimal n)))))
     (progressed-none (decimal n)) ∙ field-read n small
 
 -- the description
@@ -74,41 +74,41 @@ unfolding group_length
 description-length text = omega arith
 
 description-read : (text : List ℕ) → description_in (codes "(BU,64)," ++ text) ≡ codes "(BU,64)"
-unfolding description_in unclosed forms
+unfolding description_in open_group progressive_forms
 description-read text =
     let whole : group (codes "(BU,64)," ++ text) ≡ codes "(BU,64)" =
     ap (λ n. take n (codes "(BU,64)," ++ text)) (description-length text) in
     ap (λ (g : List ℕ). if is_form g then [] else g) whole
 
 description-behind : (text : List ℕ) → behind_description (codes "(BU,64)," ++ text) ≡ 44 ∷ text
-unfolding behind_description unclosed forms
+unfolding behind_description open_group progressive_forms
 description-behind text =
     let all = codes "(BU,64)," ++ text in
     let whole : group all ≡ codes "(BU,64)" = ap (λ n. take n all) (description-length text) in
     ap (λ (g : List ℕ). if is_form g then all else behind_group all) whole
     ∙ ap (λ n. drop n all) (description-length text)
 
-described-read : option_and_then (described DataOperation) (description_of (codes "(BU,64)")) ≡ Some (DataOperation, word_form)
-unfolding described description_of in_mode modes number_to may_have
+described-read : option_and_then (described_form DataOperation) (description_of (codes "(BU,64)")) ≡ Some (DataOperation, word_form)
+unfolding described_form description_of in_mode modes number_to may_have
 described-read = refl
 
-said-read : (n : ℕ) → n < 2 ^ 64 → said DataOperation (codes "(BU,64)," ++ decimal n) ≡ Ok (Data word_form false n)
-unfolding said
+said-read : (n : ℕ) → n < 2 ^ 64 → reading_of_operation DataOperation (codes "(BU,64)," ++ decimal n) ≡ Ok (Data word_form false n)
+unfolding reading_of_operation
 said-read n small =
     let text = codes "(BU,64)," ++ decimal n in
-    ap (λ (d : List ℕ). judged BadDataDescription (option_and_then (described DataOperation) (description_of d))
-    (λ d. formed d.0 d.1 (behind_description text))) (description-read (decimal n))
-    ∙ (ap (λ o. judged BadDataDescription o (λ d. formed d.0 d.1 (behind_description text))) described-read
-    ∙ (ap (λ (t : List ℕ). formed DataOperation word_form t) (description-behind (decimal n)) ∙ formed-read n small))
+    ap (λ (d : List ℕ). next_reading BadDataDescription (option_and_then (described_form DataOperation) (description_of d))
+    (λ d. statement_in_form d.0 d.1 (behind_description text))) (description-read (decimal n))
+    ∙ (ap (λ o. next_reading BadDataDescription o (λ d. statement_in_form d.0 d.1 (behind_description text))) described-read
+    ∙ (ap (λ (t : List ℕ). statement_in_form DataOperation word_form t) (description-behind (decimal n)) ∙ formed-read n small))
 
-data-operation : operation_of (codes "DD") ≡ Some DataOperation
-unfolding operation_of other_operations
+data-operation : operation_of_word (codes "DD") ≡ Some DataOperation
+unfolding operation_of_word other_operations
 data-operation = refl
 
-clean-read : (text : List ℕ) → clean_statement_of [] (codes "DD(BU,64)," ++ text) ≡ said DataOperation (codes "(BU,64)," ++ text)
+clean-read : (text : List ℕ) → clean_statement_of [] (codes "DD(BU,64)," ++ text) ≡ reading_of_operation DataOperation (codes "(BU,64)," ++ text)
 unfolding clean_statement_of is_misnamed
 clean-read text =
-    ap (λ op. if is_misnamed [] op then Err BadName else judged UnknownOperation op (λ found. said found (codes "(BU,64)," ++ text))) data-operation
+    ap (λ op. if is_misnamed [] op then Err BadName else next_reading UnknownOperation op (λ found. reading_of_operation found (codes "(BU,64)," ++ text))) data-operation
 
 -- the card of a number
 abbrev pub number_card : ℕ → List ℕ

@@ -14,18 +14,18 @@ use Rattle.st_bits.specs.declared.operations.BranchOp.TheVariants.{Bew}
 use Rattle.st_bits.specs.declared.operations.VflOp.{VflOp}
 use Rattle.st_bits.specs.declared.operations.VflOp.TheVariants.{L, Add, St, MAdd1, Mul}
 use Rattle.st_bits.specs.declared.operations.ConnKind.TheVariants.{C}
-use Rattle.st_text.specs.Pieces.{parted, lacks}
+use Rattle.st_text.specs.Pieces.{pieces_of, lacks}
 use Rattle.st_text.specs.Tables.{row_of}
 use Rattle.st_card.specs.declared.faults.Fault.TheVariants.{BadName, UnknownOperation, BadDataDescription, BadProgressive}
 use Rattle.st_expr.specs.Expression.{expr_of}
-use Rattle.st_strap.specs.Text.{stop, ends_with, clean, group_length, group, behind_group, fields_of}
-use Rattle.st_strap.specs.Table.{operation_of, other_operations, index_operations, field_operations, negated_operation, connective, kinds, truth_tables}
-use Rattle.st_strap.specs.Order.{judged, mapped, both_of}
-use Rattle.st_strap.specs.Describing.{modes, plain_form, some_number, number_to, in_mode, in_pieces, description_of, may_have, described}
-use Rattle.st_strap.specs.Forming.{forms, unclosed, is_form, description_in, behind_description, form_number, may_have_form, progressed}
-use Rattle.st_strap.specs.Reading.{front, index_part, index_fields, index_parts, index_field, index_of, spot, unindexed, number_or_fault, number_of, plain_number, number_expr, index_start}
-use Rattle.st_strap.specs.Spots.{number_spot, operands_text, AreOperands, progressive_form}
-use Rattle.st_strap.specs.Saying.{index_and_spot, operand, without_fields, with_fields, is_misnamed, formed, said, clean_statement_of, statement_of}
+use Rattle.st_strap.specs.Text.{stop, ends_with, statement_text, group_length, group, behind_group, fields_of}
+use Rattle.st_strap.specs.Table.{operation_of_word, other_operations, index_operations, field_operations, negated_operation, connective, connective_kinds, truth_tables}
+use Rattle.st_strap.specs.Order.{next_reading, reading_map, both_of}
+use Rattle.st_strap.specs.Describing.{modes, plain_form, some_number, number_to, in_mode, in_pieces, description_of, may_have, described_form}
+use Rattle.st_strap.specs.Forming.{progressive_forms, open_group, is_form, description_in, behind_description, form_number, may_have_form, form_with_progress}
+use Rattle.st_strap.specs.Reading.{field_front, index_part, index_fields, index_parts, index_field, index_named, spot, reading_without_index, number_or_fault, number_result, plain_number, number_expr, index_start}
+use Rattle.st_strap.specs.Spots.{number_spot, operands_text, AreSpots, progressive_form}
+use Rattle.st_strap.specs.Saying.{index_and_spot, operand_spot, without_fields, with_fields, is_misnamed, statement_in_form, reading_of_operation, clean_statement_of, statement_of}
 use Rattle.st_strap.specs.declared.statement.Form.{Form}
 use Rattle.st_strap.specs.declared.statement.Statement.TheVariants.{Half, Branch, Vfl, Connect}
 use Rattle.st_strap.specs.declared.descriptions.Description.{Description}
@@ -48,25 +48,25 @@ decimal-lacks at n other small = digits-lack at (decimal n) other (decimal-digit
 -- ---- fields
 
 place-spot : (w b : ℕ) → w ≤ 262143 → b ≤ 63 → spot false (place_text w b) ≡ Ok (number_spot (64 * w + b) 0)
-unfolding spot index_of
+unfolding spot index_named
 place-spot w b fits_w fits_b =
     let text = place_text w b in
     let start = no_index_part text (place-lacks 41 w b (low_other 41 (omega arith)) refl (omega arith) (omega arith)) in
-    let whole : front text ≡ text = ap (λ k. take k text) start ∙ take_all (length text) text (omega arith) in
+    let whole : field_front text ≡ text = ap (λ k. take k text) start ∙ take_all (length text) text (omega arith) in
     let nothing : index_part text ≡ [] = ap (λ k. drop k text) start ∙ drop_all (length text) text (omega arith) in
-    let value : expr_of (front text) ≡ Ok (number_expr (64 * w + b)) = ap (λ (t : List ℕ). expr_of t) whole ∙ place-expr w b fits_w fits_b in
-    let none : index_of false (index_part text) ≡ Ok 0 = ap (λ (t : List ℕ). index_of false t) nothing in
+    let value : expr_of (field_front text) ≡ Ok (number_expr (64 * w + b)) = ap (λ (t : List ℕ). expr_of t) whole ∙ place-expr w b fits_w fits_b in
+    let none : index_named false (index_part text) ≡ Ok 0 = ap (λ (t : List ℕ). index_named false t) nothing in
     rw (value, none)
 
 number-field : (n : ℕ) → n < 2 ^ 64 → plain_number (decimal n) ≡ Ok n
-unfolding plain_number number_of
+unfolding plain_number number_result
 number-field n small =
     let text = decimal n in
     let start = no_index_part text (decimal-lacks 41 n (low_other 41 (omega arith)) small) in
-    let whole : front text ≡ text = ap (λ k. take k text) start ∙ take_all (length text) text (omega arith) in
+    let whole : field_front text ≡ text = ap (λ k. take k text) start ∙ take_all (length text) text (omega arith) in
     let nothing : index_part text ≡ [] = ap (λ k. drop k text) start ∙ drop_all (length text) text (omega arith) in
-    ap (λ (part : List ℕ). unindexed part (number_of (front text))) nothing
-    ∙ (ap (λ (t : List ℕ). number_of t) whole ∙ ap (λ r. number_or_fault r) (reading-decimal 18446744073709551615 n (omega arith) small))
+    ap (λ (part : List ℕ). reading_without_index part (number_result (field_front text))) nothing
+    ∙ (ap (λ (t : List ℕ). number_result t) whole ∙ ap (λ r. number_or_fault r) (reading-decimal 18446744073709551615 n (omega arith) small))
 
 -- what holds of the index words 1 to 7
 pub of_seven : (P : ℕ → Type 0) → P 1 → P 2 → P 3 → P 4 → P 5 → P 6 → P 7 → (j : ℕ) → 1 ≤ j → j ≤ 7 → P j
@@ -101,32 +101,32 @@ index-fields-read j w b small_j small_w small_b =
     (lacks-parted 44 (place_text w b) (place-lacks 44 w b (low_other 44 (omega arith)) refl small_w small_b))
 
 half-said : (op : HalfOp) (j w b : ℕ) → 1 ≤ j → j ≤ 7 → w ≤ 262143 → b ≤ 63 →
-    said (HalfOperation op) (44 ∷ (index_text j ++ 44 ∷ place_text w b)) ≡ Ok (Half op j (number_spot (64 * w + b) 0))
+    reading_of_operation (HalfOperation op) (44 ∷ (index_text j ++ 44 ∷ place_text w b)) ≡ Ok (Half op j (number_spot (64 * w + b) 0))
 unfolding with_fields index_and_spot
 half-said op j w b some few fits_w fits_b =
     plain-said (HalfOperation op) (index_text j ++ 44 ∷ place_text w b)
-    ∙ (ap (λ (fields : List (List ℕ)). mapped (λ p. Half op p.0 p.1) (index_and_spot fields))
+    ∙ (ap (λ (fields : List (List ℕ)). reading_map (λ p. Half op p.0 p.1) (index_and_spot fields))
     (index-fields-read j w b (omega arith) (omega arith) (omega arith))
-    ∙ (ap (λ r. mapped (λ p. Half op p.0 p.1) (both_of r (spot false (place_text w b)))) (index-read j some few)
-    ∙ ap (λ r. mapped (λ p. Half op p.0 p.1) (both_of (Ok j) r)) (place-spot w b fits_w fits_b)))
+    ∙ (ap (λ r. reading_map (λ p. Half op p.0 p.1) (both_of r (spot false (place_text w b)))) (index-read j some few)
+    ∙ ap (λ r. reading_map (λ p. Half op p.0 p.1) (both_of (Ok j) r)) (place-spot w b fits_w fits_b)))
 
-lvi-operation : operation_of (codes "LVI") ≡ Some (HalfOperation Lvi)
-unfolding operation_of other_operations index_operations
+lvi-operation : operation_of_word (codes "LVI") ≡ Some (HalfOperation Lvi)
+unfolding operation_of_word other_operations index_operations
 lvi-operation = refl
 
-lvi-clean : (text : List ℕ) → clean_statement_of [] (codes "LVI," ++ text) ≡ said (HalfOperation Lvi) (44 ∷ text)
+lvi-clean : (text : List ℕ) → clean_statement_of [] (codes "LVI," ++ text) ≡ reading_of_operation (HalfOperation Lvi) (44 ∷ text)
 unfolding clean_statement_of is_misnamed
 lvi-clean text =
-    ap (λ op. if is_misnamed [] op then Err BadName else judged UnknownOperation op (λ found. said found (44 ∷ text))) lvi-operation
+    ap (λ op. if is_misnamed [] op then Err BadName else next_reading UnknownOperation op (λ found. reading_of_operation found (44 ∷ text))) lvi-operation
 
-add_value-operation : operation_of (codes "V+I") ≡ Some (HalfOperation VPlusI)
-unfolding operation_of other_operations index_operations
+add_value-operation : operation_of_word (codes "V+I") ≡ Some (HalfOperation VPlusI)
+unfolding operation_of_word other_operations index_operations
 add_value-operation = refl
 
-add_value-clean : (text : List ℕ) → clean_statement_of [] (codes "V+I," ++ text) ≡ said (HalfOperation VPlusI) (44 ∷ text)
+add_value-clean : (text : List ℕ) → clean_statement_of [] (codes "V+I," ++ text) ≡ reading_of_operation (HalfOperation VPlusI) (44 ∷ text)
 unfolding clean_statement_of is_misnamed
 add_value-clean text =
-    ap (λ op. if is_misnamed [] op then Err BadName else judged UnknownOperation op (λ found. said found (44 ∷ text))) add_value-operation
+    ap (λ op. if is_misnamed [] op then Err BadName else next_reading UnknownOperation op (λ found. reading_of_operation found (44 ∷ text))) add_value-operation
 
 -- an index word and an address have no byte but these
 index-lacks : (at j w b : ℕ) → IsOther at → lacks at (codes "$X,.") ≡ true → j < 2 ^ 64 → w < 2 ^ 64 → b < 2 ^ 64 →
@@ -150,7 +150,7 @@ load_value-read j w some few fits_w =
     let behind = index_text j ++ 44 ∷ place_text w 0 in
     let nested : codes "LVI,$X" ++ decimal j ++ codes "," ++ decimal w ++ codes ".0" ≡ text = simp append_assoc refl in
     let same : text ≡ codes "LVI," ++ behind = ap (λ (z : List ℕ). codes "LVI," ++ (index_text j ++ 44 ∷ (decimal w ++ 46 ∷ z))) (sym digit) in
-    let plain : clean (codes "LVI," ++ behind) ≡ codes "LVI," ++ behind = clean-is (codes "LVI," ++ behind)
+    let plain : statement_text (codes "LVI," ++ behind) ≡ codes "LVI," ++ behind = clean-is (codes "LVI," ++ behind)
     (index-lacks 59 j w 0 (high_other 59 (omega arith)) refl (omega arith) (omega arith) (omega arith))
     (index-lacks 32 j w 0 (low_other 32 (omega arith)) refl (omega arith) (omega arith) (omega arith)) in
     let value : 64 * w + 0 ≡ 64 * w = omega arith in
@@ -166,7 +166,7 @@ add_value-read j w some few fits_w =
     let behind = index_text j ++ 44 ∷ place_text w 0 in
     let nested : codes "V+I,$X" ++ decimal j ++ codes "," ++ decimal w ++ codes ".0" ≡ text = simp append_assoc refl in
     let same : text ≡ codes "V+I," ++ behind = ap (λ (z : List ℕ). codes "V+I," ++ (index_text j ++ 44 ∷ (decimal w ++ 46 ∷ z))) (sym digit) in
-    let plain : clean (codes "V+I," ++ behind) ≡ codes "V+I," ++ behind = clean-is (codes "V+I," ++ behind)
+    let plain : statement_text (codes "V+I," ++ behind) ≡ codes "V+I," ++ behind = clean-is (codes "V+I," ++ behind)
     (index-lacks 59 j w 0 (high_other 59 (omega arith)) refl (omega arith) (omega arith) (omega arith))
     (index-lacks 32 j w 0 (low_other 32 (omega arith)) refl (omega arith) (omega arith) (omega arith)) in
     let value : 64 * w + 0 ≡ 64 * w = omega arith in
@@ -212,40 +212,40 @@ module _ (inside : List ℕ) (lack : lacks 41 inside ≡ true) where
   group-behind rest =
       ap (λ n. drop n (group_text inside ++ rest)) (group-length rest) ∙ drop-append_seam (group_text inside) rest
 
-  unclosed-is : unclosed (group_text inside) ≡ 40 ∷ inside
-  unfolding unclosed
+  unclosed-is : open_group (group_text inside) ≡ 40 ∷ inside
+  unfolding open_group
   unclosed-is =
       let one = length-append inside (41 ∷ []) in
       let size : length (40 ∷ inside) ≡ length (group_text inside) - 1 = omega (arith, one) in
       ap (λ b. if b then take (length (group_text inside) - 1) (group_text inside) else group_text inside) (ends-append 41 (40 ∷ inside))
       ∙ take_at (40 ∷ inside) (41 ∷ []) (length (group_text inside) - 1) size
 
-  description-is : description_of (group_text inside) ≡ in_pieces (parted 44 inside)
+  description-is : description_of (group_text inside) ≡ in_pieces (pieces_of 44 inside)
   unfolding description_of
   description-is =
       let one = length-append inside (41 ∷ []) in
       let size : length inside ≡ length (group_text inside) - 2 = omega (arith, one) in
-      ap (λ b. if b then in_pieces (parted 44 (take (length (group_text inside) - 2) (inside ++ 41 ∷ []))) else None) (ends-append 41 (40 ∷ inside))
-      ∙ ap (λ (t : List ℕ). in_pieces (parted 44 t)) (take_at inside (41 ∷ []) (length (group_text inside) - 2) size)
+      ap (λ b. if b then in_pieces (pieces_of 44 (take (length (group_text inside) - 2) (inside ++ 41 ∷ []))) else None) (ends-append 41 (40 ∷ inside))
+      ∙ ap (λ (t : List ℕ). in_pieces (pieces_of 44 t)) (take_at inside (41 ∷ []) (length (group_text inside) - 2) size)
 
   -- an operation with a description that is no progressive form
-  group-said : (op : Operation) (rest : List ℕ) → is_some (row_of (40 ∷ inside) forms) ≡ false →
-      said op (group_text inside ++ rest)
-      ≡ judged BadDataDescription (option_and_then (described op) (in_pieces (parted 44 inside))) (λ d. formed d.0 d.1 rest)
-  unfolding said description_in behind_description
+  group-said : (op : Operation) (rest : List ℕ) → is_some (row_of (40 ∷ inside) progressive_forms) ≡ false →
+      reading_of_operation op (group_text inside ++ rest)
+      ≡ next_reading BadDataDescription (option_and_then (described_form op) (in_pieces (pieces_of 44 inside))) (λ d. statement_in_form d.0 d.1 rest)
+  unfolding reading_of_operation description_in behind_description
   group-said op rest none =
       let text = group_text inside ++ rest in
       let no_form : is_form (group text) ≡ false =
-      ap (λ (g : List ℕ). is_form g) (group-is rest) ∙ (ap (λ (t : List ℕ). is_some (row_of t forms)) unclosed-is ∙ none) in
+      ap (λ (g : List ℕ). is_form g) (group-is rest) ∙ (ap (λ (t : List ℕ). is_some (row_of t progressive_forms)) unclosed-is ∙ none) in
       let first : description_in text ≡ group_text inside =
       ap (λ b. if b then [] else group text) no_form ∙ group-is rest in
       let behind : behind_description text ≡ rest =
       ap (λ b. if b then text else behind_group text) no_form ∙ group-behind rest in
-      ap (λ (d : List ℕ). judged BadDataDescription (option_and_then (described op) (description_of d))
-      (λ d. formed d.0 d.1 (behind_description text))) first
-      ∙ (ap (λ (o : Option Description). judged BadDataDescription (option_and_then (described op) o)
-      (λ d. formed d.0 d.1 (behind_description text))) description-is
-      ∙ ap (λ (t : List ℕ). judged BadDataDescription (option_and_then (described op) (in_pieces (parted 44 inside))) (λ d. formed d.0 d.1 t)) behind)
+      ap (λ (d : List ℕ). next_reading BadDataDescription (option_and_then (described_form op) (description_of d))
+      (λ d. statement_in_form d.0 d.1 (behind_description text))) first
+      ∙ (ap (λ (o : Option Description). next_reading BadDataDescription (option_and_then (described_form op) o)
+      (λ d. statement_in_form d.0 d.1 (behind_description text))) description-is
+      ∙ ap (λ (t : List ℕ). next_reading BadDataDescription (option_and_then (described_form op) (in_pieces (pieces_of 44 inside))) (λ d. statement_in_form d.0 d.1 t)) behind)
 
 -- ---- descriptions
 
@@ -264,7 +264,7 @@ unsigned_form n = plain_form false true n 8
 abbrev pub signed_form : ℕ → Form
 signed_form n = plain_form false false n 8
 
-unsigned-pieces : (n : ℕ) → 1 ≤ n → n ≤ 64 → in_pieces (parted 44 (codes "BU," ++ decimal n)) ≡ Some (InForm (unsigned_form n))
+unsigned-pieces : (n : ℕ) → 1 ≤ n → n ≤ 64 → in_pieces (pieces_of 44 (codes "BU," ++ decimal n)) ≡ Some (InForm (unsigned_form n))
 unfolding modes in_mode
 unsigned-pieces n some few =
     ap (λ (ps : List (List ℕ)). in_pieces ((66 ∷ 85 ∷ []) ∷ ps))
@@ -275,7 +275,7 @@ eight-to : number_to 8 (codes "8") ≡ Some 8
 unfolding number_to
 eight-to = refl
 
-signed-pieces : (n : ℕ) → 1 ≤ n → n ≤ 64 → in_pieces (parted 44 (codes "B," ++ (decimal n ++ codes ",8"))) ≡ Some (InForm (signed_form n))
+signed-pieces : (n : ℕ) → 1 ≤ n → n ≤ 64 → in_pieces (pieces_of 44 (codes "B," ++ (decimal n ++ codes ",8"))) ≡ Some (InForm (signed_form n))
 unfolding modes in_mode
 signed-pieces n some few =
     ap (λ (ps : List (List ℕ)). in_pieces ((66 ∷ []) ∷ ps)) (parted-once 44 (decimal n) (codes "8")
@@ -285,18 +285,18 @@ signed-pieces n some few =
 
 -- a form without a progressive one
 plain-formed : (op : Operation) (d u : Bool) (n s : ℕ) (text : List ℕ) →
-    formed op (plain_form d u n s) (44 ∷ text) ≡ with_fields op (plain_form d u n s) (fields_of (44 ∷ text))
-unfolding formed progressed group_length form_number may_have_form
+    statement_in_form op (plain_form d u n s) (44 ∷ text) ≡ with_fields op (plain_form d u n s) (fields_of (44 ∷ text))
+unfolding statement_in_form form_with_progress group_length form_number may_have_form
 plain-formed op d u n s text =
-    ap (λ b. judged BadProgressive (if b then Some (plain_form d u n s) else None) (λ f. with_fields op f (fields_of (44 ∷ text))))
+    ap (λ b. next_reading BadProgressive (if b then Some (plain_form d u n s) else None) (λ f. with_fields op f (fields_of (44 ∷ text))))
     (is_behind_groups-comma text)
 
-unsigned-none : (n : ℕ) → is_some (row_of (40 ∷ (codes "BU," ++ decimal n)) forms) ≡ false
-unfolding forms
+unsigned-none : (n : ℕ) → is_some (row_of (40 ∷ (codes "BU," ++ decimal n)) progressive_forms) ≡ false
+unfolding progressive_forms
 unsigned-none n = refl
 
-signed-none : (n : ℕ) → is_some (row_of (40 ∷ (codes "B," ++ (decimal n ++ codes ",8"))) forms) ≡ false
-unfolding forms
+signed-none : (n : ℕ) → is_some (row_of (40 ∷ (codes "B," ++ (decimal n ++ codes ",8"))) progressive_forms) ≡ false
+unfolding progressive_forms
 signed-none n = refl
 
 unsigned-lacks : (at n : ℕ) → IsOther at → lacks at (codes "BU,") ≡ true → n < 2 ^ 64 → lacks at (codes "BU," ++ decimal n) ≡ true
@@ -309,22 +309,22 @@ signed-lacks at n other plain eight small =
 
 -- an operation that may have the form of a description
 described-formed : (op : Operation) (inside : List ℕ) (form : Form) (rest : List ℕ) → lacks 41 inside ≡ true →
-    is_some (row_of (40 ∷ inside) forms) ≡ false → in_pieces (parted 44 inside) ≡ Some (InForm form) → may_have op form ≡ true →
-    said op (group_text inside ++ rest) ≡ formed op form rest
-unfolding described
+    is_some (row_of (40 ∷ inside) progressive_forms) ≡ false → in_pieces (pieces_of 44 inside) ≡ Some (InForm form) → may_have op form ≡ true →
+    reading_of_operation op (group_text inside ++ rest) ≡ statement_in_form op form rest
+unfolding described_form
 described-formed op inside form rest lack none pieces may =
     group-said inside lack op rest none
-    ∙ (ap (λ (o : Option Description). judged BadDataDescription (option_and_then (described op) o) (λ d. formed d.0 d.1 rest)) pieces
-    ∙ ap (λ b. judged {A = Operation × Form} BadDataDescription (if b then Some (op, form) else None) (λ d. formed d.0 d.1 rest)) may)
+    ∙ (ap (λ (o : Option Description). next_reading BadDataDescription (option_and_then (described_form op) o) (λ d. statement_in_form d.0 d.1 rest)) pieces
+    ∙ ap (λ b. next_reading {A = Operation × Form} BadDataDescription (if b then Some (op, form) else None) (λ d. statement_in_form d.0 d.1 rest)) may)
 
 unsigned-formed : (op : Operation) (n : ℕ) (rest : List ℕ) → may_have op (unsigned_form n) ≡ true → 1 ≤ n → n ≤ 64 →
-    said op (group_text (codes "BU," ++ decimal n) ++ rest) ≡ formed op (unsigned_form n) rest
+    reading_of_operation op (group_text (codes "BU," ++ decimal n) ++ rest) ≡ statement_in_form op (unsigned_form n) rest
 unsigned-formed op n rest may some few =
     described-formed op (codes "BU," ++ decimal n) (unsigned_form n) rest (unsigned-lacks 41 n (low_other 41 (omega arith)) refl (omega arith))
     (unsigned-none n) (unsigned-pieces n some few) may
 
 signed-formed : (op : Operation) (n : ℕ) (rest : List ℕ) → may_have op (signed_form n) ≡ true → 1 ≤ n → n ≤ 64 →
-    said op (group_text (codes "B," ++ (decimal n ++ codes ",8")) ++ rest) ≡ formed op (signed_form n) rest
+    reading_of_operation op (group_text (codes "B," ++ (decimal n ++ codes ",8")) ++ rest) ≡ statement_in_form op (signed_form n) rest
 signed-formed op n rest may some few =
     described-formed op (codes "B," ++ (decimal n ++ codes ",8")) (signed_form n) rest
     (signed-lacks 41 n (low_other 41 (omega arith)) refl refl (omega arith))
@@ -345,17 +345,17 @@ two-fields w b o small_w small_b small_o =
 
 module _ (d u : Bool) (n s : ℕ) where
   one-operand : (w b : ℕ) → w ≤ 262143 → b ≤ 63 →
-      operand (plain_form d u n s) (fields_of (44 ∷ place_text w b)) ≡ Ok (number_spot (64 * w + b) 0, 0)
-  unfolding operand
+      operand_spot (plain_form d u n s) (fields_of (44 ∷ place_text w b)) ≡ Ok (number_spot (64 * w + b) 0, 0)
+  unfolding operand_spot
   one-operand w b fits_w fits_b =
-      ap (λ (fields : List (List ℕ)). operand (plain_form d u n s) fields) (one-field w b (omega arith) (omega arith))
+      ap (λ (fields : List (List ℕ)). operand_spot (plain_form d u n s) fields) (one-field w b (omega arith) (omega arith))
       ∙ ap (λ r. both_of r (Ok 0)) (place-spot w b fits_w fits_b)
 
   two-operands : (w b o : ℕ) → w ≤ 262143 → b ≤ 63 → o < 2 ^ 64 →
-      operand (plain_form d u n s) (fields_of (44 ∷ (place_text w b ++ 44 ∷ decimal o))) ≡ Ok (number_spot (64 * w + b) 0, o)
-  unfolding operand
+      operand_spot (plain_form d u n s) (fields_of (44 ∷ (place_text w b ++ 44 ∷ decimal o))) ≡ Ok (number_spot (64 * w + b) 0, o)
+  unfolding operand_spot
   two-operands w b o fits_w fits_b small_o =
-      ap (λ (fields : List (List ℕ)). operand (plain_form d u n s) fields) (two-fields w b o (omega arith) (omega arith) small_o)
+      ap (λ (fields : List (List ℕ)). operand_spot (plain_form d u n s) fields) (two-fields w b o (omega arith) (omega arith) small_o)
       ∙ (ap (λ r. both_of r (plain_number (decimal o))) (place-spot w b fits_w fits_b)
       ∙ ap (λ r. both_of (Ok (number_spot (64 * w + b) 0)) r) (number-field o small_o))
 
@@ -396,32 +396,32 @@ operands-lack at n w b o other plain small_n small_w small_b small_o =
     (join at (place_text w b) (44 ∷ decimal o) (place-lacks at w b other point.0 small_w small_b) offset) in
     join at (group_text (codes "BU," ++ decimal n)) (44 ∷ (place_text w b ++ 44 ∷ decimal o)) group fields
 
-add-operation : operation_of (codes "+") ≡ Some (VflOperation Add false)
-unfolding operation_of other_operations index_operations field_operations
+add-operation : operation_of_word (codes "+") ≡ Some (VflOperation Add false)
+unfolding operation_of_word other_operations index_operations field_operations
 add-operation = refl
 
-add-clean : (text : List ℕ) → clean_statement_of [] (codes "+" ++ 40 ∷ text) ≡ said (VflOperation Add false) (40 ∷ text)
+add-clean : (text : List ℕ) → clean_statement_of [] (codes "+" ++ 40 ∷ text) ≡ reading_of_operation (VflOperation Add false) (40 ∷ text)
 unfolding clean_statement_of is_misnamed
 add-clean text =
-    ap (λ op. if is_misnamed [] op then Err BadName else judged UnknownOperation op (λ found. said found (40 ∷ text))) add-operation
+    ap (λ op. if is_misnamed [] op then Err BadName else next_reading UnknownOperation op (λ found. reading_of_operation found (40 ∷ text))) add-operation
 
-store-operation : operation_of (codes "ST") ≡ Some (VflOperation St false)
-unfolding operation_of other_operations index_operations field_operations
+store-operation : operation_of_word (codes "ST") ≡ Some (VflOperation St false)
+unfolding operation_of_word other_operations index_operations field_operations
 store-operation = refl
 
-store-clean : (text : List ℕ) → clean_statement_of [] (codes "ST" ++ 40 ∷ text) ≡ said (VflOperation St false) (40 ∷ text)
+store-clean : (text : List ℕ) → clean_statement_of [] (codes "ST" ++ 40 ∷ text) ≡ reading_of_operation (VflOperation St false) (40 ∷ text)
 unfolding clean_statement_of is_misnamed
 store-clean text =
-    ap (λ op. if is_misnamed [] op then Err BadName else judged UnknownOperation op (λ found. said found (40 ∷ text))) store-operation
+    ap (λ op. if is_misnamed [] op then Err BadName else next_reading UnknownOperation op (λ found. reading_of_operation found (40 ∷ text))) store-operation
 
-connect-operation : operation_of (codes "C0110") ≡ Some (ConnectOperation C 6)
-unfolding operation_of other_operations index_operations field_operations negated_operation connective kinds truth_tables
+connect-operation : operation_of_word (codes "C0110") ≡ Some (ConnectOperation C 6)
+unfolding operation_of_word other_operations index_operations field_operations negated_operation connective connective_kinds truth_tables
 connect-operation = refl
 
-connect-clean : (text : List ℕ) → clean_statement_of [] (codes "C0110" ++ 40 ∷ text) ≡ said (ConnectOperation C 6) (40 ∷ text)
+connect-clean : (text : List ℕ) → clean_statement_of [] (codes "C0110" ++ 40 ∷ text) ≡ reading_of_operation (ConnectOperation C 6) (40 ∷ text)
 unfolding clean_statement_of is_misnamed
 connect-clean text =
-    ap (λ op. if is_misnamed [] op then Err BadName else judged UnknownOperation op (λ found. said found (40 ∷ text))) connect-operation
+    ap (λ op. if is_misnamed [] op then Err BadName else next_reading UnknownOperation op (λ found. reading_of_operation found (40 ∷ text))) connect-operation
 
 field-may : (op : VflOp) (n : ℕ) → may_have (VflOperation op false) (unsigned_form n) ≡ true
 unfolding may_have
@@ -431,23 +431,23 @@ connect-may : (n : ℕ) → may_have (ConnectOperation C 6) (unsigned_form n) �
 unfolding may_have
 connect-may n = refl
 
-field-said : (op : VflOp) (n w b o : ℕ) → AreOperands n w b o →
-    said (VflOperation op false) (nested_operands n w b o) ≡ Ok (Vfl op false (unsigned_form n) (number_spot (64 * w + b) 0) o)
+field-said : (op : VflOp) (n w b o : ℕ) → AreSpots n w b o →
+    reading_of_operation (VflOperation op false) (nested_operands n w b o) ≡ Ok (Vfl op false (unsigned_form n) (number_spot (64 * w + b) 0) o)
 unfolding with_fields
 field-said op n w b o are =
     unsigned-formed (VflOperation op false) n (44 ∷ (place_text w b ++ 44 ∷ decimal o)) (field-may op n) are.some_bits are.few_bits
     ∙ (plain-formed (VflOperation op false) false true n 8 (place_text w b ++ 44 ∷ decimal o)
-    ∙ ap (λ r. mapped (λ p. Vfl op false (unsigned_form n) p.0 p.1) r) (two-operands false true n 8 w b o are.word are.bit are.offset))
+    ∙ ap (λ r. reading_map (λ p. Vfl op false (unsigned_form n) p.0 p.1) r) (two-operands false true n 8 w b o are.word are.bit are.offset))
 
-connect-said : (n w b o : ℕ) → AreOperands n w b o →
-    said (ConnectOperation C 6) (nested_operands n w b o) ≡ Ok (Connect C 6 (unsigned_form n) (number_spot (64 * w + b) 0) o)
+connect-said : (n w b o : ℕ) → AreSpots n w b o →
+    reading_of_operation (ConnectOperation C 6) (nested_operands n w b o) ≡ Ok (Connect C 6 (unsigned_form n) (number_spot (64 * w + b) 0) o)
 unfolding with_fields
 connect-said n w b o are =
     unsigned-formed (ConnectOperation C 6) n (44 ∷ (place_text w b ++ 44 ∷ decimal o)) (connect-may n) are.some_bits are.few_bits
     ∙ (plain-formed (ConnectOperation C 6) false true n 8 (place_text w b ++ 44 ∷ decimal o)
-    ∙ ap (λ r. mapped (λ p. Connect C 6 (unsigned_form n) p.0 p.1) r) (two-operands false true n 8 w b o are.word are.bit are.offset))
+    ∙ ap (λ r. reading_map (λ p. Connect C 6 (unsigned_form n) p.0 p.1) r) (two-operands false true n 8 w b o are.word are.bit are.offset))
 
-module _ (n w b o : ℕ) (are : AreOperands n w b o) where
+module _ (n w b o : ℕ) (are : AreSpots n w b o) where
   no_comment : lacks 59 (nested_operands n w b o) ≡ true
   no_comment =
       let bits = are.few_bits in
@@ -465,7 +465,7 @@ module _ (n w b o : ℕ) (are : AreOperands n w b o) where
   pub add-read : statement_of [] (codes "+" ++ operands_text n w b o) ≡ Ok (Vfl Add false (unsigned_form n) (number_spot (64 * w + b) 0) o)
   add-read =
       let behind = nested_operands n w b o in
-      let plain : clean (codes "+" ++ behind) ≡ codes "+" ++ behind = clean-is (codes "+" ++ behind) no_comment no_blank in
+      let plain : statement_text (codes "+" ++ behind) ≡ codes "+" ++ behind = clean-is (codes "+" ++ behind) no_comment no_blank in
       ap (λ (t : List ℕ). statement_of [] (codes "+" ++ t)) (operands-nested n w b o)
       ∙ (ap (λ (t : List ℕ). clean_statement_of [] t) plain
       ∙ (add-clean (drop 1 behind) ∙ field-said Add n w b o are))
@@ -473,7 +473,7 @@ module _ (n w b o : ℕ) (are : AreOperands n w b o) where
   pub store-read : statement_of [] (codes "ST" ++ operands_text n w b o) ≡ Ok (Vfl St false (unsigned_form n) (number_spot (64 * w + b) 0) o)
   store-read =
       let behind = nested_operands n w b o in
-      let plain : clean (codes "ST" ++ behind) ≡ codes "ST" ++ behind = clean-is (codes "ST" ++ behind) no_comment no_blank in
+      let plain : statement_text (codes "ST" ++ behind) ≡ codes "ST" ++ behind = clean-is (codes "ST" ++ behind) no_comment no_blank in
       ap (λ (t : List ℕ). statement_of [] (codes "ST" ++ t)) (operands-nested n w b o)
       ∙ (ap (λ (t : List ℕ). clean_statement_of [] t) plain
       ∙ (store-clean (drop 1 behind) ∙ field-said St n w b o are))
@@ -481,38 +481,38 @@ module _ (n w b o : ℕ) (are : AreOperands n w b o) where
   pub connect-read : statement_of [] (codes "C0110" ++ operands_text n w b o) ≡ Ok (Connect C 6 (unsigned_form n) (number_spot (64 * w + b) 0) o)
   connect-read =
       let behind = nested_operands n w b o in
-      let plain : clean (codes "C0110" ++ behind) ≡ codes "C0110" ++ behind = clean-is (codes "C0110" ++ behind) no_comment no_blank in
+      let plain : statement_text (codes "C0110" ++ behind) ≡ codes "C0110" ++ behind = clean-is (codes "C0110" ++ behind) no_comment no_blank in
       ap (λ (t : List ℕ). statement_of [] (codes "C0110" ++ t)) (operands-nested n w b o)
       ∙ (ap (λ (t : List ℕ). clean_statement_of [] t) plain
       ∙ (connect-clean (drop 1 behind) ∙ connect-said n w b o are))
 
 -- ---- a whole word
 
-whole-pieces : in_pieces (parted 44 (codes "BU,64")) ≡ Some (InForm (unsigned_form 64))
+whole-pieces : in_pieces (pieces_of 44 (codes "BU,64")) ≡ Some (InForm (unsigned_form 64))
 unfolding modes in_mode number_to
 whole-pieces = refl
 
-whole-none : is_some (row_of (40 ∷ codes "BU,64") forms) ≡ false
-unfolding forms
+whole-none : is_some (row_of (40 ∷ codes "BU,64") progressive_forms) ≡ false
+unfolding progressive_forms
 whole-none = refl
 
-load-operation : operation_of (codes "L") ≡ Some (VflOperation L false)
-unfolding operation_of other_operations index_operations field_operations
+load-operation : operation_of_word (codes "L") ≡ Some (VflOperation L false)
+unfolding operation_of_word other_operations index_operations field_operations
 load-operation = refl
 
-load-clean : (text : List ℕ) → clean_statement_of [] (codes "L" ++ 40 ∷ text) ≡ said (VflOperation L false) (40 ∷ text)
+load-clean : (text : List ℕ) → clean_statement_of [] (codes "L" ++ 40 ∷ text) ≡ reading_of_operation (VflOperation L false) (40 ∷ text)
 unfolding clean_statement_of is_misnamed
 load-clean text =
-    ap (λ op. if is_misnamed [] op then Err BadName else judged UnknownOperation op (λ found. said found (40 ∷ text))) load-operation
+    ap (λ op. if is_misnamed [] op then Err BadName else next_reading UnknownOperation op (λ found. reading_of_operation found (40 ∷ text))) load-operation
 
 load-said : (w b : ℕ) → w ≤ 262143 → b ≤ 63 →
-    said (VflOperation L false) (group_text (codes "BU,64") ++ 44 ∷ place_text w b)
+    reading_of_operation (VflOperation L false) (group_text (codes "BU,64") ++ 44 ∷ place_text w b)
     ≡ Ok (Vfl L false (unsigned_form 64) (number_spot (64 * w + b) 0) 0)
 unfolding with_fields
 load-said w b fits_w fits_b =
     described-formed (VflOperation L false) (codes "BU,64") (unsigned_form 64) (44 ∷ place_text w b) refl whole-none whole-pieces (field-may L 64)
     ∙ (plain-formed (VflOperation L false) false true 64 8 (place_text w b)
-    ∙ ap (λ r. mapped (λ p. Vfl L false (unsigned_form 64) p.0 p.1) r) (one-operand false true 64 8 w b fits_w fits_b))
+    ∙ ap (λ r. reading_map (λ p. Vfl L false (unsigned_form 64) p.0 p.1) r) (one-operand false true 64 8 w b fits_w fits_b))
 
 pub load_word-read : (w : ℕ) → w ≤ 262143 →
     statement_of [] (codes "L(BU,64)," ++ decimal w ++ codes ".0") ≡ Ok (Vfl L false (unsigned_form 64) (number_spot (64 * w) 0) 0)
@@ -523,7 +523,7 @@ load_word-read w fits_w =
     append_assoc (codes "L(BU,64),") (decimal w) (codes ".0") in
     let same : codes "L(BU,64)," ++ (decimal w ++ 46 ∷ 48 ∷ []) ≡ codes "L" ++ behind =
     ap (λ (z : List ℕ). codes "L(BU,64)," ++ (decimal w ++ 46 ∷ z)) (sym digit) in
-    let plain : clean (codes "L" ++ behind) ≡ codes "L" ++ behind = clean-is (codes "L" ++ behind)
+    let plain : statement_text (codes "L" ++ behind) ≡ codes "L" ++ behind = clean-is (codes "L" ++ behind)
     (place-lacks 59 w 0 (high_other 59 (omega arith)) refl (omega arith) (omega arith))
     (place-lacks 32 w 0 (low_other 32 (omega arith)) refl (omega arith) (omega arith)) in
     let value : 64 * w + 0 ≡ 64 * w = omega arith in
@@ -536,14 +536,14 @@ load_word-read w fits_w =
 six-flat : (a b c d e f : List ℕ) → a ++ b ++ c ++ d ++ e ++ f ≡ a ++ (b ++ (c ++ (d ++ (e ++ f))))
 six-flat a b c d e f = simp append_assoc refl
 
-add_one-operation : operation_of (codes "M+1") ≡ Some (VflOperation MAdd1 false)
-unfolding operation_of other_operations index_operations field_operations
+add_one-operation : operation_of_word (codes "M+1") ≡ Some (VflOperation MAdd1 false)
+unfolding operation_of_word other_operations index_operations field_operations
 add_one-operation = refl
 
-add_one-clean : (text : List ℕ) → clean_statement_of [] (codes "M+1" ++ 40 ∷ text) ≡ said (VflOperation MAdd1 false) (40 ∷ text)
+add_one-clean : (text : List ℕ) → clean_statement_of [] (codes "M+1" ++ 40 ∷ text) ≡ reading_of_operation (VflOperation MAdd1 false) (40 ∷ text)
 unfolding clean_statement_of is_misnamed
 add_one-clean text =
-    ap (λ op. if is_misnamed [] op then Err BadName else judged UnknownOperation op (λ found. said found (40 ∷ text))) add_one-operation
+    ap (λ op. if is_misnamed [] op then Err BadName else next_reading UnknownOperation op (λ found. reading_of_operation found (40 ∷ text))) add_one-operation
 
 signed-may : (op : VflOp) (n : ℕ) → 8 ≤ n → may_have (VflOperation op false) (signed_form n) ≡ true
 unfolding may_have
@@ -581,19 +581,19 @@ nested_signed-lacks at n w b other plain small_n small_w small_b =
     join at (group_text inside) (44 ∷ place_text w b) group field
 
 signed-said : (n w b : ℕ) → 8 ≤ n → n ≤ 64 → w ≤ 262143 → b ≤ 63 →
-    said (VflOperation MAdd1 false) (nested_signed n w b) ≡ Ok (Vfl MAdd1 false (signed_form n) (number_spot (64 * w + b) 0) 0)
+    reading_of_operation (VflOperation MAdd1 false) (nested_signed n w b) ≡ Ok (Vfl MAdd1 false (signed_form n) (number_spot (64 * w + b) 0) 0)
 unfolding with_fields
 signed-said n w b fits few fits_w fits_b =
     signed-formed (VflOperation MAdd1 false) n (44 ∷ place_text w b) (signed-may MAdd1 n fits) (omega arith) few
     ∙ (plain-formed (VflOperation MAdd1 false) false false n 8 (place_text w b)
-    ∙ ap (λ r. mapped (λ p. Vfl MAdd1 false (signed_form n) p.0 p.1) r) (one-operand false false n 8 w b fits_w fits_b))
+    ∙ ap (λ r. reading_map (λ p. Vfl MAdd1 false (signed_form n) p.0 p.1) r) (one-operand false false n 8 w b fits_w fits_b))
 
 pub add_one-read : (n w b : ℕ) → 8 ≤ n → n ≤ 64 → w ≤ 262143 → b ≤ 63 →
     statement_of [] (codes "M+1(B," ++ decimal n ++ codes ",8)," ++ decimal w ++ codes "." ++ decimal b)
     ≡ Ok (Vfl MAdd1 false (signed_form n) (number_spot (64 * w + b) 0) 0)
 add_one-read n w b fits few fits_w fits_b =
     let behind = nested_signed n w b in
-    let plain : clean (codes "M+1" ++ behind) ≡ codes "M+1" ++ behind = clean-is (codes "M+1" ++ behind)
+    let plain : statement_text (codes "M+1" ++ behind) ≡ codes "M+1" ++ behind = clean-is (codes "M+1" ++ behind)
     (nested_signed-lacks 59 n w b (high_other 59 (omega arith)) refl (omega arith) (omega arith) (omega arith))
     (nested_signed-lacks 32 n w b (low_other 32 (omega arith)) refl (omega arith) (omega arith) (omega arith)) in
     ap (λ (t : List ℕ). statement_of [] t) (signed-nested n w b)
@@ -607,21 +607,21 @@ abbrev progressive_text : ℕ → List ℕ
 progressive_text j = codes "(V+I),0.32($X" ++ (48 + j) ∷ 41 ∷ []
 
 progressive-formed : (n j : ℕ) → 1 ≤ j → j ≤ 7 →
-    formed (VflOperation Mul false) (unsigned_form n) (progressive_text j) ≡ Ok (Vfl Mul false (progressive_form n) (number_spot 32 j) 0)
-unfolding formed progressed group_length form_number unclosed forms may_have_form fields_of with_fields operand spot index_start index_of index_parts
+    statement_in_form (VflOperation Mul false) (unsigned_form n) (progressive_text j) ≡ Ok (Vfl Mul false (progressive_form n) (number_spot 32 j) 0)
+unfolding statement_in_form form_with_progress group_length form_number open_group progressive_forms may_have_form fields_of with_fields operand_spot spot index_start index_named index_parts
 progressive-formed n j some few =
-    of_seven (λ k. formed (VflOperation Mul false) (unsigned_form n) (progressive_text k)
+    of_seven (λ k. statement_in_form (VflOperation Mul false) (unsigned_form n) (progressive_text k)
     ≡ Ok (Vfl Mul false (progressive_form n) (number_spot 32 k) 0))
     refl refl refl refl refl refl refl j some few
 
-multiply-operation : operation_of (codes "*") ≡ Some (VflOperation Mul false)
-unfolding operation_of other_operations index_operations field_operations
+multiply-operation : operation_of_word (codes "*") ≡ Some (VflOperation Mul false)
+unfolding operation_of_word other_operations index_operations field_operations
 multiply-operation = refl
 
-multiply-clean : (text : List ℕ) → clean_statement_of [] (codes "*" ++ 40 ∷ text) ≡ said (VflOperation Mul false) (40 ∷ text)
+multiply-clean : (text : List ℕ) → clean_statement_of [] (codes "*" ++ 40 ∷ text) ≡ reading_of_operation (VflOperation Mul false) (40 ∷ text)
 unfolding clean_statement_of is_misnamed
 multiply-clean text =
-    ap (λ op. if is_misnamed [] op then Err BadName else judged UnknownOperation op (λ found. said found (40 ∷ text))) multiply-operation
+    ap (λ op. if is_misnamed [] op then Err BadName else next_reading UnknownOperation op (λ found. reading_of_operation found (40 ∷ text))) multiply-operation
 
 five-flat : (a b c d e : List ℕ) → a ++ b ++ c ++ d ++ e ≡ a ++ (b ++ (c ++ (d ++ e)))
 five-flat a b c d e = simp append_assoc refl
@@ -659,7 +659,7 @@ multiply-read n j some_n few_n some few =
     of_seven (λ k. lacks 59 (progressive_text k) ≡ true) refl refl refl refl refl refl refl j some few in
     let no_blank_there : lacks 32 (progressive_text j) ≡ true =
     of_seven (λ k. lacks 32 (progressive_text k) ≡ true) refl refl refl refl refl refl refl j some few in
-    let plain : clean (codes "*" ++ behind) ≡ codes "*" ++ behind = clean-is (codes "*" ++ behind)
+    let plain : statement_text (codes "*" ++ behind) ≡ codes "*" ++ behind = clean-is (codes "*" ++ behind)
     (multiply-lacks 59 n j (high_other 59 (omega arith)) refl (omega arith) no_comment_there)
     (multiply-lacks 32 n j (low_other 32 (omega arith)) refl (omega arith) no_blank_there) in
     ap (λ (t : List ℕ). statement_of [] t) (multiply-nested n j some few)
@@ -669,18 +669,18 @@ multiply-read n j some_n few_n some few =
 
 -- ---- a branch without an address
 
-wait-operation : operation_of (codes "BEW") ≡ Some (BareOperation Bew)
-unfolding operation_of other_operations
+wait-operation : operation_of_word (codes "BEW") ≡ Some (BareOperation Bew)
+unfolding operation_of_word other_operations
 wait-operation = refl
 
-wait-said : said (BareOperation Bew) [] ≡ Ok (Branch Bew None)
-unfolding said description_in behind_description group_length unclosed forms description_of described formed progressed form_number may_have_form fields_of with_fields without_fields
+wait-said : reading_of_operation (BareOperation Bew) [] ≡ Ok (Branch Bew None)
+unfolding reading_of_operation description_in behind_description group_length open_group progressive_forms description_of described_form statement_in_form form_with_progress form_number may_have_form fields_of with_fields without_fields
 wait-said = refl
 
-wait-clean : clean_statement_of [] (codes "BEW") ≡ said (BareOperation Bew) []
+wait-clean : clean_statement_of [] (codes "BEW") ≡ reading_of_operation (BareOperation Bew) []
 unfolding clean_statement_of is_misnamed
-wait-clean = ap (λ op. if is_misnamed [] op then Err BadName else judged UnknownOperation op (λ found. said found [])) wait-operation
+wait-clean = ap (λ op. if is_misnamed [] op then Err BadName else next_reading UnknownOperation op (λ found. reading_of_operation found [])) wait-operation
 
 pub wait-read : statement_of [] (codes "BEW") ≡ Ok (Branch Bew None)
-unfolding clean
+unfolding statement_text
 wait-read = wait-clean ∙ wait-said

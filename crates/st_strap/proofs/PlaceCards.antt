@@ -7,19 +7,19 @@ use Rattle.std.proofs.lemmas.List.Folds.{list_all-append}
 use Rattle.std.specs.Char.{is_ascii_digit, is_ascii_uppercase}
 use Rattle.std.specs.List.{list_all}
 use Rattle.st_text.specs.Number.{is_filled, reading}
-use Rattle.st_text.specs.Pieces.{parted, onto_first, lacks}
+use Rattle.st_text.specs.Pieces.{pieces_of, onto_first, lacks}
 use Rattle.st_card.specs.declared.faults.Fault.TheVariants.{BadName, UnknownOperation, BadProgressive}
 use Rattle.st_text.specs.declared.numbers.Reading.TheVariants.{Good}
 use Rattle.st_expr.specs.Name.{is_name_byte, is_name, is_system_word}
-use Rattle.st_expr.specs.Term.{atom_of, place_of, bit_address}
+use Rattle.st_expr.specs.Term.{atom_of, place_reading, bit_reading}
 use Rattle.st_expr.specs.Expression.{onto_part, parts_after, parts, expr_in, expr_of}
-use Rattle.st_strap.specs.Text.{clean, group_length, fields_of}
-use Rattle.st_strap.specs.Table.{operation_of, other_operations}
-use Rattle.st_strap.specs.Order.{judged, mapped}
-use Rattle.st_strap.specs.Describing.{default_form, description_of, described}
-use Rattle.st_strap.specs.Forming.{forms, unclosed, description_in, behind_description, form_number, may_have_form, progressed}
-use Rattle.st_strap.specs.Reading.{front, index_part, unindexed, expression, number_expr}
-use Rattle.st_strap.specs.Saying.{expression_alone, with_fields, is_misnamed, formed, said, clean_statement_of, statement_of}
+use Rattle.st_strap.specs.Text.{statement_text, group_length, fields_of}
+use Rattle.st_strap.specs.Table.{operation_of_word, other_operations}
+use Rattle.st_strap.specs.Order.{next_reading, reading_map}
+use Rattle.st_strap.specs.Describing.{default_form, description_of, described_form}
+use Rattle.st_strap.specs.Forming.{progressive_forms, open_group, description_in, behind_description, form_number, may_have_form, form_with_progress}
+use Rattle.st_strap.specs.Reading.{field_front, index_part, reading_without_index, expression, number_expr}
+use Rattle.st_strap.specs.Saying.{expression_alone, with_fields, is_misnamed, statement_in_form, reading_of_operation, clean_statement_of, statement_of}
 use Rattle.st_strap.specs.declared.statement.Form.{Form}
 use Rattle.st_strap.specs.declared.statement.Statement.TheVariants.{SetLocation, End}
 use Rattle.st_strap.specs.declared.operations.Operation.{Operation}
@@ -79,28 +79,28 @@ no_system_word (c ∷ cs) rest digits =
     ap (λ b. b && is_filled (cs ++ rest) && list_all is_name_byte (cs ++ rest) && nat_le (length (cs ++ rest)) 7) (no_dollar c first)
 
 -- a text is cut at a byte that it has once
-pub parted-once : (at : ℕ) (ahead back : List ℕ) → lacks at ahead ≡ true → parted at (ahead ++ at ∷ back) ≡ ahead ∷ parted at back
+pub parted-once : (at : ℕ) (ahead back : List ℕ) → lacks at ahead ≡ true → pieces_of at (ahead ++ at ∷ back) ≡ ahead ∷ pieces_of at back
 parted-once at [] back lack =
     let same : (at == at) ≡ true = grind (arith, nat_tests) in
-    ap (λ b. if b then [] ∷ parted at back else onto_first at (parted at back)) same
+    ap (λ b. if b then [] ∷ pieces_of at back else onto_first at (pieces_of at back)) same
 parted-once at (c ∷ cs) back lack =
     let tests = both (not (c == at)) (lacks at cs) lack in
-    ap (λ b. if b then [] ∷ parted at (cs ++ at ∷ back) else onto_first c (parted at (cs ++ at ∷ back))) (unequal (c == at) tests.0)
+    ap (λ b. if b then [] ∷ pieces_of at (cs ++ at ∷ back) else onto_first c (pieces_of at (cs ++ at ∷ back))) (unequal (c == at) tests.0)
     ∙ ap (λ (ps : List (List ℕ)). onto_first c ps) (parted-once at cs back tests.1)
 
 -- a place is read as its word and its bit
-place-pieces : (w b : ℕ) → w ≤ 262143 → b ≤ 63 → place_of (parted 46 (place_text w b)) ≡ bit_address (Good w) (Good b)
+place-pieces : (w b : ℕ) → w ≤ 262143 → b ≤ 63 → place_reading (pieces_of 46 (place_text w b)) ≡ bit_reading (Good w) (Good b)
 place-pieces w b fits_w fits_b =
     let ds = decimal-digits w (omega arith) in
     let bs = decimal-digits b (omega arith) in
-    let cut : parted 46 (place_text w b) ≡ decimal w ∷ decimal b ∷ [] =
+    let cut : pieces_of 46 (place_text w b) ≡ decimal w ∷ decimal b ∷ [] =
     parted-once 46 (decimal w) (decimal b) (digits-lack 46 (decimal w) (low_other 46 (omega arith)) ds)
     ∙ ap (λ (ps : List (List ℕ)). decimal w ∷ ps) (lacks-parted 46 (decimal b) (digits-lack 46 (decimal b) (low_other 46 (omega arith)) bs)) in
-    ap (λ (ps : List (List ℕ)). place_of ps) cut
-    ∙ (ap (λ r. bit_address r (reading 63 (decimal b))) (reading-decimal 262143 w fits_w (omega arith))
-    ∙ ap (λ r. bit_address (Good w) r) (reading-decimal 63 b fits_b (omega arith)))
+    ap (λ (ps : List (List ℕ)). place_reading ps) cut
+    ∙ (ap (λ r. bit_reading r (reading 63 (decimal b))) (reading-decimal 262143 w fits_w (omega arith))
+    ∙ ap (λ r. bit_reading (Good w) r) (reading-decimal 63 b fits_b (omega arith)))
 
-place-atom : (w b : ℕ) → w ≤ 262143 → b ≤ 63 → atom_of (place_text w b) ≡ bit_address (Good w) (Good b)
+place-atom : (w b : ℕ) → w ≤ 262143 → b ≤ 63 → atom_of (place_text w b) ≡ bit_reading (Good w) (Good b)
 place-atom w b fits_w fits_b =
     let ds = decimal-digits w (omega arith) in
     let word = no_name (decimal w) (46 ∷ decimal b) ds in
@@ -108,7 +108,7 @@ place-atom w b fits_w fits_b =
     let pieces = place-pieces w b fits_w fits_b in
     rw (word, system, pieces)
 
-one_good : (text : List ℕ) (w b : ℕ) → atom_of text ≡ bit_address (Good w) (Good b) →
+one_good : (text : List ℕ) (w b : ℕ) → atom_of text ≡ bit_reading (Good w) (Good b) →
     expr_in ((false, text) ∷ []) ≡ Ok (number_expr (64 * w + b))
 one_good text w b good = rw good
 
@@ -125,9 +125,9 @@ unfolding expression
 place-expression w b fits_w fits_b =
     let text = place_text w b in
     let start = no_index_part text (place-lacks 41 w b (low_other 41 (omega arith)) refl (omega arith) (omega arith)) in
-    let whole : front text ≡ text = ap (λ k. take k text) start ∙ take_all (length text) text (omega arith) in
+    let whole : field_front text ≡ text = ap (λ k. take k text) start ∙ take_all (length text) text (omega arith) in
     let nothing : index_part text ≡ [] = ap (λ k. drop k text) start ∙ drop_all (length text) text (omega arith) in
-    ap (λ (part : List ℕ). unindexed part (expr_of (front text))) nothing
+    ap (λ (part : List ℕ). reading_without_index part (expr_of (field_front text))) nothing
     ∙ (ap (λ (t : List ℕ). expr_of t) whole ∙ place-expr w b fits_w fits_b)
 
 -- the one field of a card
@@ -140,42 +140,42 @@ place-field w b fits_w fits_b =
     ∙ place-expression w b fits_w fits_b
 
 -- an operation without description and progressive form
-plain-progressed : (op : Operation) (text : List ℕ) → progressed op default_form (44 ∷ text) ≡ Some default_form
-unfolding progressed group_length form_number may_have_form
+plain-progressed : (op : Operation) (text : List ℕ) → form_with_progress op default_form (44 ∷ text) ≡ Some default_form
+unfolding form_with_progress group_length form_number may_have_form
 plain-progressed op text = ap (λ b. if b then Some default_form else None) (is_behind_groups-comma text)
 
-pub plain-said : (op : Operation) (text : List ℕ) → said op (44 ∷ text) ≡ with_fields op default_form (fields_of (44 ∷ text))
-unfolding said description_in behind_description group_length unclosed forms description_of described formed
+pub plain-said : (op : Operation) (text : List ℕ) → reading_of_operation op (44 ∷ text) ≡ with_fields op default_form (fields_of (44 ∷ text))
+unfolding reading_of_operation description_in behind_description group_length open_group progressive_forms description_of described_form statement_in_form
 plain-said op text =
-    ap (λ (f : Option Form). judged BadProgressive f (λ f. with_fields op f (fields_of (44 ∷ text)))) (plain-progressed op text)
+    ap (λ (f : Option Form). next_reading BadProgressive f (λ f. with_fields op f (fields_of (44 ∷ text)))) (plain-progressed op text)
 
-set-operation : operation_of (codes "SLC") ≡ Some SetLocationOperation
-unfolding operation_of other_operations
+set-operation : operation_of_word (codes "SLC") ≡ Some SetLocationOperation
+unfolding operation_of_word other_operations
 set-operation = refl
 
-end-operation : operation_of (codes "END") ≡ Some EndOperation
-unfolding operation_of other_operations
+end-operation : operation_of_word (codes "END") ≡ Some EndOperation
+unfolding operation_of_word other_operations
 end-operation = refl
 
-set-clean : (text : List ℕ) → clean_statement_of [] (codes "SLC," ++ text) ≡ said SetLocationOperation (44 ∷ text)
+set-clean : (text : List ℕ) → clean_statement_of [] (codes "SLC," ++ text) ≡ reading_of_operation SetLocationOperation (44 ∷ text)
 unfolding clean_statement_of is_misnamed
 set-clean text =
-    ap (λ op. if is_misnamed [] op then Err BadName else judged UnknownOperation op (λ found. said found (44 ∷ text))) set-operation
+    ap (λ op. if is_misnamed [] op then Err BadName else next_reading UnknownOperation op (λ found. reading_of_operation found (44 ∷ text))) set-operation
 
-end-clean : (text : List ℕ) → clean_statement_of [] (codes "END," ++ text) ≡ said EndOperation (44 ∷ text)
+end-clean : (text : List ℕ) → clean_statement_of [] (codes "END," ++ text) ≡ reading_of_operation EndOperation (44 ∷ text)
 unfolding clean_statement_of is_misnamed
 end-clean text =
-    ap (λ op. if is_misnamed [] op then Err BadName else judged UnknownOperation op (λ found. said found (44 ∷ text))) end-operation
+    ap (λ op. if is_misnamed [] op then Err BadName else next_reading UnknownOperation op (λ found. reading_of_operation found (44 ∷ text))) end-operation
 
 set-fields : (w b : ℕ) → w ≤ 262143 → b ≤ 63 →
     with_fields SetLocationOperation default_form (fields_of (44 ∷ place_text w b)) ≡ Ok (SetLocation (number_expr (64 * w + b)))
 unfolding with_fields
-set-fields w b fits_w fits_b = ap (λ r. mapped (λ at. SetLocation at) r) (place-field w b fits_w fits_b)
+set-fields w b fits_w fits_b = ap (λ r. reading_map (λ at. SetLocation at) r) (place-field w b fits_w fits_b)
 
 end-fields : (w b : ℕ) → w ≤ 262143 → b ≤ 63 →
     with_fields EndOperation default_form (fields_of (44 ∷ place_text w b)) ≡ Ok (End (number_expr (64 * w + b)))
 unfolding with_fields
-end-fields w b fits_w fits_b = ap (λ r. mapped (λ at. End at) r) (place-field w b fits_w fits_b)
+end-fields w b fits_w fits_b = ap (λ r. reading_map (λ at. End at) r) (place-field w b fits_w fits_b)
 
 -- the card that sets the location, and the one that ends a program
 pub set-read : (w b : ℕ) → w ≤ 262143 → b ≤ 63 →
@@ -183,7 +183,7 @@ pub set-read : (w b : ℕ) → w ≤ 262143 → b ≤ 63 →
 set-read w b fits_w fits_b =
     let text = codes "SLC," ++ place_text w b in
     let same : codes "SLC," ++ decimal w ++ codes "." ++ decimal b ≡ text = simp append_assoc refl in
-    let plain : clean text ≡ text = clean-is text (place-lacks 59 w b (high_other 59 (omega arith)) refl (omega arith) (omega arith))
+    let plain : statement_text text ≡ text = clean-is text (place-lacks 59 w b (high_other 59 (omega arith)) refl (omega arith) (omega arith))
     (place-lacks 32 w b (low_other 32 (omega arith)) refl (omega arith) (omega arith)) in
     ap (λ (t : List ℕ). statement_of [] t) same
     ∙ (ap (λ (t : List ℕ). clean_statement_of [] t) plain
@@ -194,7 +194,7 @@ pub end-read : (w b : ℕ) → w ≤ 262143 → b ≤ 63 →
 end-read w b fits_w fits_b =
     let text = codes "END," ++ place_text w b in
     let same : codes "END," ++ decimal w ++ codes "." ++ decimal b ≡ text = simp append_assoc refl in
-    let plain : clean text ≡ text = clean-is text (place-lacks 59 w b (high_other 59 (omega arith)) refl (omega arith) (omega arith))
+    let plain : statement_text text ≡ text = clean-is text (place-lacks 59 w b (high_other 59 (omega arith)) refl (omega arith) (omega arith))
     (place-lacks 32 w b (low_other 32 (omega arith)) refl (omega arith) (omega arith)) in
     ap (λ (t : List ℕ). statement_of [] t) same
     ∙ (ap (λ (t : List ℕ). clean_statement_of [] t) plain

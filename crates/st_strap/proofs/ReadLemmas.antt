@@ -6,16 +6,16 @@ use Rattle.std.specs.Option.{IfSome, option_map, option_and_then, option_or, ok_
 use Rattle.std.specs.Result.{IfOk}
 use Rattle.st_text.specs.Tables.{is_same, row_of}
 use Rattle.st_card.specs.declared.faults.Fault.{Fault}
-use Rattle.st_strap.specs.Order.{both_of, mapped, judged}
+use Rattle.st_strap.specs.Order.{both_of, reading_map, next_reading}
 
 -- what is there has a property
 pub some-judged : {A B : Type 0} (Q : A → Type 0) (P : B → Type 0) (fault : Fault) (o : Option A) (next : A → Result B Fault) →
-    IfSome o Q → ((a : A) → o ≡ Some a → Q a → IfOk (next a) P) → IfOk (judged fault o next) P
+    IfSome o Q → ((a : A) → o ≡ Some a → Q a → IfOk (next a) P) → IfOk (next_reading fault o next) P
 some-judged Q P fault None next q h = tt
 some-judged Q P fault (Some a) next q h = h a refl q
 
 pub ok-mapped : {A B : Type 0} (Q : A → Type 0) (P : B → Type 0) (f : A → B) (r : Result A Fault) →
-    IfOk r Q → ((a : A) → Q a → P (f a)) → IfOk (mapped f r) P
+    IfOk r Q → ((a : A) → Q a → P (f a)) → IfOk (reading_map f r) P
 ok-mapped Q P f (Ok a) q h = h a q
 ok-mapped Q P f (Err e) q h = tt
 

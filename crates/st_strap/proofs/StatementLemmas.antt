@@ -4,10 +4,10 @@ use Rattle.std.proofs.lemmas.Bool.{and_parts as both-true, not-true as not_false
 use Rattle.std.specs.Bool.{IsFalse}
 use Rattle.std.specs.Option.{IfSome, option_map, option_map_or, option_and_then, option_zip}
 use Rattle.std.specs.Result.{IfOk}
-use Rattle.st_text.specs.Number.{is_number, is_filled, value}
+use Rattle.st_text.specs.Number.{is_number, is_filled, digits_value}
 use Rattle.st_expr.specs.Name.{is_name}
 use Rattle.st_text.specs.declared.numbers.Reading.TheVariants.{Bad, Large, Good}
-use Rattle.st_text.specs.Pieces.{parted}
+use Rattle.st_text.specs.Pieces.{pieces_of}
 use Rattle.st_text.specs.Tables.{row_of}
 use Rattle.st_card.specs.declared.faults.Fault.{Fault}
 use Rattle.st_card.specs.declared.faults.Fault.TheVariants.{BadName, UnknownOperation, BadDataDescription, BadProgressive, BadFieldCount, BadIndex}
@@ -19,13 +19,13 @@ use Rattle.st_format.specs.Validity.{misfits, misuses_p}
 use Rattle.st_format.specs.declared.operations.FullOp.TheVariants.{Variable, Connective}
 use Rattle.st_format.proofs.Spelled.{or-left as either_false}
 use Rattle.st_strap.proofs.TableBounds.{index_below}
-use Rattle.st_strap.specs.Order.{both_of, judged}
-use Rattle.st_strap.specs.Text.{clean, word_of, behind_word, behind_group, fields_of, ends_with, group}
-use Rattle.st_strap.specs.Table.{operation_of, other_operations, index_operations, index_operation, field_operations, field_operation, negated_operation, connective, connective_at, kinds, truth_tables}
-use Rattle.st_strap.specs.Describing.{description_of, in_pieces, in_mode, number_to, some_number, described, may_have, floating_number, plain_form, default_form, usual_byte, modes}
-use Rattle.st_strap.specs.Forming.{description_in, behind_description, progressed, with_number, may_have_form, form_number, forms, unclosed, is_behind_groups}
-use Rattle.st_strap.specs.Reading.{front, index_part, index_field, index_fields, index_of, index_parts, spot, expression, plain_number, selected}
-use Rattle.st_strap.specs.Saying.{misnames, index_alone, spot_alone, expression_alone, number_alone, index_and_spot, index_and_list, operand, two_addresses, spot_and_number, address_and_number, two_addresses_and_number, index_word_parts, without_fields, with_fields, is_misnamed, formed, said, clean_statement_of, statement_of}
+use Rattle.st_strap.specs.Order.{both_of, next_reading}
+use Rattle.st_strap.specs.Text.{statement_text, operation_text, behind_word, behind_group, fields_of, ends_with, group}
+use Rattle.st_strap.specs.Table.{operation_of_word, other_operations, index_operations, index_operation, field_operations, field_operation, negated_operation, connective, connective_at, connective_kinds, truth_tables}
+use Rattle.st_strap.specs.Describing.{description_of, in_pieces, in_mode, number_to, some_number, described_form, may_have, floating_number, plain_form, default_form, usual_byte, modes}
+use Rattle.st_strap.specs.Forming.{description_in, behind_description, form_with_progress, form_with_number, may_have_form, form_number, progressive_forms, open_group, is_behind_groups}
+use Rattle.st_strap.specs.Reading.{field_front, index_part, index_field, index_fields, index_named, index_parts, spot, expression, plain_number, index_selector}
+use Rattle.st_strap.specs.Saying.{misnames, index_alone, spot_alone, expression_alone, number_alone, index_and_spot, index_and_list, operand_spot, two_addresses, spot_and_number, address_and_number, two_addresses_and_number, index_word_parts, without_fields, with_fields, is_misnamed, statement_in_form, reading_of_operation, clean_statement_of, statement_of}
 use Rattle.st_strap.specs.Statements.{Spot, Statement}
 use Rattle.st_strap.specs.declared.statement.Form.{Form}
 use Rattle.st_strap.specs.declared.statement.Statement.TheVariants.{Half, Sum, Refill, Branch, Floating, Vfl, Connect, Move, BitBranch, IndBranch, StoreCounter, Transfer, Data, IndexWord, Synonym, SetLocation, Reserve, End}
@@ -66,7 +66,7 @@ connective-fits word =
     elim (nat_lt (length word) 4) as (λ b. IfSome (if b then None else connective_at (length word - 4) word) (λ op. fits_word op ≡ true)) [
       | true ↦ tt
       | false ↦ some-map (λ p. nat_lt p.1 16 ≡ true) (λ op. fits_word op ≡ true) (λ p. ConnectOperation p.0 p.1) _
-          (some-zip (λ n. nat_lt n 16 ≡ true) (row_of (take (length word - 4) word) kinds) _ (truth-fits _)) (λ a q. q)
+          (some-zip (λ n. nat_lt n 16 ≡ true) (row_of (take (length word - 4) word) connective_kinds) _ (truth-fits _)) (λ a q. q)
     ]
 
 field-fits : (negated : Bool) (word : List ℕ) → IfSome (field_operation negated word) (λ op. fits_word op ≡ true)
@@ -87,8 +87,8 @@ index-fits word =
     some-map (λ _. Unit {0}) (λ op. fits_word op ≡ true) (λ op. HalfOperation op) (row_of word index_operations)
     (some-any (row_of word index_operations)) (λ a q. refl)
 
-operation-fits : (word : List ℕ) → IfSome (operation_of word) (λ op. fits_word op ≡ true)
-unfolding operation_of
+operation-fits : (word : List ℕ) → IfSome (operation_of_word word) (λ op. fits_word op ≡ true)
+unfolding operation_of_word
 operation-fits word =
     let P : Operation → Type 0 = λ op. fits_word op ≡ true in
     some-or P _ (connective word)
@@ -115,8 +115,8 @@ number-within : (most : ℕ) (text : List ℕ) → IfSome (number_to most text) 
 unfolding number_to
 number-within most text =
     let P : Option ℕ → Type 0 = λ o. IfSome o (λ n. (1 ≤ n) × (n ≤ most)) in
-    elim (is_number text) as (λ b. P (some_number (if b then (if nat_le (value text) most then Good (value text) else Large) else Bad))) [
-      | true ↦ large (value text) (nat_le (value text) most) refl
+    elim (is_number text) as (λ b. P (some_number (if b then (if nat_le (digits_value text) most then Good (digits_value text) else Large) else Bad))) [
+      | true ↦ large (digits_value text) (nat_le (digits_value text) most) refl
       | false ↦ tt
     ]
   where
@@ -166,8 +166,8 @@ description-is : (text : List ℕ) → IfSome (description_of text) IsDescriptio
 unfolding description_of
 description-is [] = tt
 description-is (c ∷ cs) =
-    elim (ends_with 41 (c ∷ cs)) as (λ b. IfSome (if b then in_pieces (parted 44 (take (length (c ∷ cs) - 2) cs)) else None) IsDescription) [
-      | true ↦ pieces-is (parted 44 (take (length (c ∷ cs) - 2) cs))
+    elim (ends_with 41 (c ∷ cs)) as (λ b. IfSome (if b then in_pieces (pieces_of 44 (take (length (c ∷ cs) - 2) cs)) else None) IsDescription) [
+      | true ↦ pieces-is (pieces_of 44 (take (length (c ∷ cs) - 2) cs))
       | false ↦ tt
     ]
 
@@ -221,8 +221,8 @@ abbrev IsDescribed : Operation × Form → Type 0
 IsDescribed p = Suits p.0 p.1 × (p.1.p ≡ 0)
 
 described-is : (op : Operation) (description : Description) → fits_word op ≡ true → IsDescription description →
-    IfSome (described op description) IsDescribed
-unfolding described
+    IfSome (described_form op description) IsDescribed
+unfolding described_form
 described-is op Absent fits is = (suits-default op fits, refl)
 described-is op (InForm form) fits is = may_or (may_have op form) refl
   where
@@ -237,12 +237,12 @@ described-is op (FloatingDescription unnormalized) fits is =
 -- ---- progressive forms
 
 form-below : (group : List ℕ) → IfSome (form_number group) (λ n. n < 8)
-unfolding form_number forms
+unfolding form_number progressive_forms
 form-below [] = lit< tt
 form-below (c ∷ cs) =
-    let text = unclosed (c ∷ cs) in
-    elim (ends_with 41 (c ∷ cs)) as (λ b. IfSome (if b then row_of text forms else None) (λ n. n < 8)) [
-      | true ↦ below_eight (row_of text forms) (row-passes (λ n. nat_lt n 8) text forms refl)
+    let text = open_group (c ∷ cs) in
+    elim (ends_with 41 (c ∷ cs)) as (λ b. IfSome (if b then row_of text progressive_forms else None) (λ n. n < 8)) [
+      | true ↦ below_eight (row_of text progressive_forms) (row-passes (λ n. nat_lt n 8) text progressive_forms refl)
       | false ↦ tt
     ]
   where
@@ -305,11 +305,11 @@ carries-form (FloatingOperation number) form n suits below may = suits
 carries-form (BitBranchOperation sense change) form n suits below may = suits
 carries-form _ form n suits below may = tt
 
-progressed-is : (op : Operation) (form : Form) (text : List ℕ) → Suits op form → IfSome (progressed op form text) (Carries op)
-unfolding progressed
+progressed-is : (op : Operation) (form : Form) (text : List ℕ) → Suits op form → IfSome (form_with_progress op form text) (Carries op)
+unfolding form_with_progress
 progressed-is op form text suits =
-    elim (is_behind_groups (behind_group text)) as (λ b. IfSome (if b then option_and_then (with_number op form) (form_number (group text)) else None) (Carries op)) [
-      | true ↦ some-then (λ n. n < 8) (Carries op) (with_number op form) (form_number (group text)) (form-below (group text))
+    elim (is_behind_groups (behind_group text)) as (λ b. IfSome (if b then option_and_then (form_with_number op form) (form_number (group text)) else None) (Carries op)) [
+      | true ↦ some-then (λ n. n < 8) (Carries op) (form_with_number op form) (form_number (group text)) (form-below (group text))
           (λ n below. may_or n below (may_have_form op form.length n) refl)
       | false ↦ tt
     ]
@@ -329,8 +329,8 @@ index-is field = some-ok (λ j. j < 16) (row_of field index_fields) BadIndex (in
 abbrev IsIndex : Bool → ℕ → Type 0
 IsIndex must i = (i < 16) × (must ≡ true → 1 ≤ i)
 
-part-is : (must : Bool) (part : List ℕ) → IfOk (index_of must part) (IsIndex must)
-unfolding index_of index_parts
+part-is : (must : Bool) (part : List ℕ) → IfOk (index_named must part) (IsIndex must)
+unfolding index_named index_parts
 part-is true [] = tt
 part-is false [] = (lit< tt, λ e. let no : ⊥ = cc in absurd no)
 part-is must (c ∷ cs) =
@@ -347,9 +347,9 @@ spot-is : (must : Bool) (field : List ℕ) → IfOk (spot must field) (λ at. Is
 unfolding spot
 spot-is must field =
     ok-mapped (λ p. Unit {0} × IsIndex must p.1) (λ at. IsIndex must at.index) (λ p. record { expr = p.0; index = p.1 })
-    (both_of (expr_of (front field)) (index_of must (index_part field)))
-    (ok-both (λ _. Unit {0}) (IsIndex must) (expr_of (front field)) (index_of must (index_part field))
-    (ok-any (expr_of (front field))) (part-is must (index_part field)))
+    (both_of (expr_of (field_front field)) (index_named must (index_part field)))
+    (ok-both (λ _. Unit {0}) (IsIndex must) (expr_of (field_front field)) (index_named must (index_part field))
+    (ok-any (expr_of (field_front field))) (part-is must (index_part field)))
     (λ p q. q.1)
 
 spot_alone-is : (fields : List (List ℕ)) → IfOk (spot_alone fields) IsSpot
@@ -391,13 +391,13 @@ unfolding index_and_list
 index_and_list-is [] = tt
 index_and_list-is (j ∷ []) = tt
 index_and_list-is (j ∷ k ∷ ks) =
-    elim (nat_le (length ks) 14) as (λ b. IfOk (if b then both_of (index_field j) (selected (k ∷ ks)) else Err BadFieldCount) (λ p. (p.0 < 16) × Unit {0})) [
-      | true ↦ ok-both (λ j. j < 16) (λ _. Unit {0}) (index_field j) (selected (k ∷ ks)) (index-is j) (ok-any (selected (k ∷ ks)))
+    elim (nat_le (length ks) 14) as (λ b. IfOk (if b then both_of (index_field j) (index_selector (k ∷ ks)) else Err BadFieldCount) (λ p. (p.0 < 16) × Unit {0})) [
+      | true ↦ ok-both (λ j. j < 16) (λ _. Unit {0}) (index_field j) (index_selector (k ∷ ks)) (index-is j) (ok-any (index_selector (k ∷ ks)))
       | false ↦ tt
     ]
 
-operand-is : (form : Form) (fields : List (List ℕ)) → IfOk (operand form fields) (λ p. IsIndex (nat_le 2 form.p) p.0.index × Unit {0})
-unfolding operand
+operand-is : (form : Form) (fields : List (List ℕ)) → IfOk (operand_spot form fields) (λ p. IsIndex (nat_le 2 form.p) p.0.index × Unit {0})
+unfolding operand_spot
 operand-is form [] = tt
 operand-is form (place ∷ []) =
     ok-both (λ at. IsIndex (nat_le 2 form.p) at.index) (λ _. Unit {0}) (spot (nat_le 2 form.p) place) (Ok 0)
@@ -468,11 +468,11 @@ with_fields-is (FloatingOperation number) form fields carries =
     ok-mapped IsSpot IsWellFormed (λ at. Floating number at) (spot_alone fields) (spot_alone-is fields) (λ at q. (carries, q))
 with_fields-is (VflOperation op negated) form fields carries =
     ok-mapped (λ p. IsIndex (nat_le 2 form.p) p.0.index × Unit {0}) IsWellFormed (λ p. Vfl op negated form p.0 p.1)
-    (operand form fields) (operand-is form fields)
+    (operand_spot form fields) (operand-is form fields)
     (λ p q. (carries.0, q.0.0, not_misused (writes_field (Variable op)) form p.0.index carries.1 q.0))
 with_fields-is (ConnectOperation kind truth) form fields carries =
     ok-mapped (λ p. IsIndex (nat_le 2 form.p) p.0.index × Unit {0}) IsWellFormed (λ p. Connect kind truth form p.0 p.1)
-    (operand form fields) (operand-is form fields)
+    (operand_spot form fields) (operand-is form fields)
     (λ p q. (carries.0, q.0.0, carries.1, not_misused (writes_field (Connective kind)) form p.0.index carries.2 q.0))
 with_fields-is (MoveOperation swap) form fields carries =
     ok-mapped (λ p. IsSpot p.0) IsWellFormed (λ p. Move swap p.0 p.1.address p.1.number) (two_addresses_and_number fields)
@@ -504,33 +504,33 @@ with_fields-is ReserveOperation form fields carries =
 with_fields-is EndOperation form fields carries =
     ok-mapped (λ _. Unit {0}) IsWellFormed (λ at. End at) (expression_alone fields) (ok-any (expression_alone fields)) (λ p q. tt)
 
-formed-is : (op : Operation) (form : Form) (text : List ℕ) → Suits op form → IfOk (formed op form text) IsWellFormed
-unfolding formed
+formed-is : (op : Operation) (form : Form) (text : List ℕ) → Suits op form → IfOk (statement_in_form op form text) IsWellFormed
+unfolding statement_in_form
 formed-is op form text suits =
-    some-judged (Carries op) IsWellFormed BadProgressive (progressed op form text)
+    some-judged (Carries op) IsWellFormed BadProgressive (form_with_progress op form text)
     (λ f. with_fields op f (fields_of (behind_group text))) (progressed-is op form text suits)
     (λ f is carries. with_fields-is op f (fields_of (behind_group text)) carries)
 
-said-is : (op : Operation) (text : List ℕ) → fits_word op ≡ true → IfOk (said op text) IsWellFormed
-unfolding said
+said-is : (op : Operation) (text : List ℕ) → fits_word op ≡ true → IfOk (reading_of_operation op text) IsWellFormed
+unfolding reading_of_operation
 said-is op text fits =
     some-judged IsDescribed IsWellFormed BadDataDescription
-    (option_and_then (described op) (description_of (description_in text)))
-    (λ d. formed d.0 d.1 (behind_description text))
-    (some-then IsDescription IsDescribed (described op) (description_of (description_in text))
+    (option_and_then (described_form op) (description_of (description_in text)))
+    (λ d. statement_in_form d.0 d.1 (behind_description text))
+    (some-then IsDescription IsDescribed (described_form op) (description_of (description_in text))
     (description-is (description_in text)) (λ d is. described-is op d fits is))
     (λ d is suits. formed-is d.0 d.1 (behind_description text) suits.0)
 
 statement-is : (name text : List ℕ) → IfOk (statement_of name text) IsWellFormed
 unfolding clean_statement_of
 statement-is name text =
-    let op = operation_of (word_of (clean text)) in
+    let op = operation_of_word (operation_text (statement_text text)) in
     elim (is_misnamed name op) as (λ b. IfOk (if b then Err BadName
-    else judged UnknownOperation op (λ found. said found (behind_word (clean text)))) IsWellFormed) [
+    else next_reading UnknownOperation op (λ found. reading_of_operation found (behind_word (statement_text text)))) IsWellFormed) [
       | true ↦ tt
       | false ↦ some-judged (λ o. fits_word o ≡ true) IsWellFormed UnknownOperation op
-          (λ found. said found (behind_word (clean text))) (operation-fits (word_of (clean text)))
-          (λ o is fits. said-is o (behind_word (clean text)) fits)
+          (λ found. reading_of_operation found (behind_word (statement_text text))) (operation-fits (operation_text (statement_text text)))
+          (λ o is fits. said-is o (behind_word (statement_text text)) fits)
     ]
 
 -- a statement that was read is well formed
@@ -542,20 +542,20 @@ no_bad true true e f = refl
 no_bad true false e f = let no : ⊥ = cc in absurd no
 no_bad false named e f = let no : ⊥ = cc in absurd no
 
-named_or : (name text : List ℕ) (s : Statement) (b : Bool) → is_misnamed name (operation_of (word_of (clean text))) ≡ b →
+named_or : (name text : List ℕ) (s : Statement) (b : Bool) → is_misnamed name (operation_of_word (operation_text (statement_text text))) ≡ b →
     is_filled name ≡ true →
-    (if b then Err BadName else judged UnknownOperation (operation_of (word_of (clean text)))
-    (λ found. said found (behind_word (clean text)))) ≡ Ok s → is_name name ≡ true
+    (if b then Err BadName else next_reading UnknownOperation (operation_of_word (operation_text (statement_text text)))
+    (λ found. reading_of_operation found (behind_word (statement_text text)))) ≡ Ok s → is_name name ≡ true
 unfolding is_misnamed
 named_or name text s true misnamed filled e = let no : ⊥ = cc in absurd no
 named_or name text s false misnamed filled e =
     no_bad (is_filled name) (is_name name) filled
     (either_false (is_filled name && not (is_name name))
-    (option_map_or (misnames (is_filled name)) (operation_of (word_of (clean text))) false) misnamed)
+    (option_map_or (misnames (is_filled name)) (operation_of_word (operation_text (statement_text text))) false) misnamed)
 
 -- the name of a card that was read is none or a good one
 pub read-named : (name text : List ℕ) (s : Statement) → statement_of name text ≡ Ok s → is_filled name ≡ true →
     is_name name ≡ true
 unfolding clean_statement_of
 read-named name text s read filled =
-    named_or name text s (is_misnamed name (operation_of (word_of (clean text)))) refl filled read
+    named_or name text s (is_misnamed name (operation_of_word (operation_text (statement_text text)))) refl filled read

@@ -3,7 +3,7 @@ use Rattle.std.specs.Prelude.{ℕ, ◌+◌, ◌-◌, ◌==◌, ◌||◌, Bool, t
 use Rattle.std.specs.Option.{option_map, option_and_then}
 use Rattle.st_text.specs.Bytes.{close_parenthesis, comma}
 use Rattle.st_text.specs.Number.{reading}
-use Rattle.st_text.specs.Pieces.{parted}
+use Rattle.st_text.specs.Pieces.{pieces_of}
 use Rattle.st_text.specs.Tables.{row_of}
 use Rattle.st_text.specs.declared.numbers.Reading.{Reading}
 use Rattle.st_text.specs.declared.numbers.Reading.TheVariants.{Bad, Large, Good}
@@ -55,9 +55,11 @@ number_to most text = some_number (reading most text)
 -- what a length, a byte size or neither say behind a mode
 unfoldable pub in_mode : Mode → List (List ℕ) → Option Description
 in_mode (Field d u) [] = Some (InForm (plain_form d u 64 (usual_byte d)))
-in_mode (Field d u) (bits ∷ []) = option_map (λ n. InForm (plain_form d u n (usual_byte d))) (number_to 64 bits)
+in_mode (Field d u) (bits ∷ []) = option_map (λ n. InForm (plain_form d u n (usual_byte d)))
+    (number_to 64 bits)
 in_mode (Field d u) (bits ∷ byte ∷ []) =
-    option_and_then (λ n. option_map (λ b. InForm (plain_form d u n b)) (number_to 8 byte)) (number_to 64 bits)
+    option_and_then (λ n. option_map (λ b. InForm (plain_form d u n b)) (number_to 8 byte))
+    (number_to 64 bits)
 in_mode (Field d u) _ = None
 in_mode Normalized [] = Some (Floating false)
 in_mode Normalized _ = None
@@ -73,10 +75,11 @@ in_pieces (mode ∷ more) = option_and_then (λ m. in_mode m more) (row_of mode 
 unfoldable pub description_of : List ℕ → Option Description
 description_of [] = Some Absent
 description_of (c ∷ cs) =
-    if ends_with close_parenthesis (c ∷ cs) then in_pieces (parted comma (take (length (c ∷ cs) - 2) cs)) else None
+    if ends_with close_parenthesis (c ∷ cs) then in_pieces
+    (pieces_of comma (take (length (c ∷ cs) - 2) cs)) else None
 
--- whether an operation may have a form: one on a field and a laid number a valid one, a connective a
--- binary unsigned one
+-- whether an operation may have a form: one on a field and a laid number a valid one, a connective
+-- a binary unsigned one
 unfoldable pub may_have : Operation → Form → Bool
 may_have (Half op) form = false
 may_have Sum form = false
@@ -110,8 +113,9 @@ floating_number (Vfl Div false) = Some 6
 floating_number _ = None
 
 -- the operation and the form that a description makes of an operation, where it may stand there
-unfoldable pub described : Operation → Description → Option (Operation × Form)
-described op Absent = Some (op, default_form)
-described op (InForm form) = if may_have op form then Some (op, form) else None
-described op (Floating unnormalized) = option_map
-    (λ n. (FloatingOperation (if unnormalized then n + 8 else n), default_form)) (floating_number op)
+unfoldable pub described_form : Operation → Description → Option (Operation × Form)
+described_form op Absent = Some (op, default_form)
+described_form op (InForm form) = if may_have op form then Some (op, form) else None
+described_form op (Floating unnormalized) = option_map
+    (λ n. (FloatingOperation (if unnormalized then n + 8 else n), default_form))
+    (floating_number op)

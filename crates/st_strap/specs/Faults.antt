@@ -1,4 +1,5 @@
--- The faults that a statement card has, each told by itself, and the list in which the first one counts.
+-- The faults that a statement card has, each told by itself, and the list in which the first one
+-- counts.
 use Rattle.std.specs.Prelude.{ℕ, ◌||◌, Bool, true, false, nat_le, nat_lt, List, [], ◌∷◌, ◌++◌, length, drop, replicate, Option, None, Some, is_none, Result, Ok, Err, if◌then◌else◌}
 use Rattle.std.specs.List.{list_any, zip}
 use Rattle.std.specs.Option.{option_map, option_and_then, option_map_or}
@@ -9,18 +10,18 @@ use Rattle.st_card.specs.declared.faults.Fault.TheVariants.{BadName, UnknownOper
 use Rattle.st_text.specs.declared.numbers.Reading.{Reading}
 use Rattle.st_text.specs.declared.numbers.Reading.TheVariants.{Bad, Large, Good}
 use Rattle.st_expr.specs.Expression.{parts, any_bad, any_large}
-use Rattle.st_strap.specs.Text.{clean, begins_with, word_of, behind_word, behind_group, fields_of}
-use Rattle.st_strap.specs.Table.{operation_of}
-use Rattle.st_strap.specs.Describing.{description_of, described}
-use Rattle.st_strap.specs.Forming.{description_in, behind_description, progressed}
-use Rattle.st_strap.specs.Reading.{front, index_part, index_fields, index_parts}
+use Rattle.st_strap.specs.Text.{statement_text, begins_with, operation_text, behind_word, behind_group, fields_of}
+use Rattle.st_strap.specs.Table.{operation_of_word}
+use Rattle.st_strap.specs.Describing.{description_of, described_form}
+use Rattle.st_strap.specs.Forming.{description_in, behind_description, form_with_progress}
+use Rattle.st_strap.specs.Reading.{field_front, index_part, index_fields, index_parts}
 use Rattle.st_strap.specs.Saying.{is_misnamed}
 use Rattle.st_strap.specs.declared.statement.Form.{Form}
 use Rattle.st_strap.specs.declared.operations.Operation.{Operation}
 use Rattle.st_strap.specs.declared.operations.Operation.TheVariants.{Half, Sum, Refill, Execute, Branch, Bare, Floating, Vfl, Connect, Move, BitBranch, IndBranch, StoreCounter, Transfer, Data, IndexWord, Synonym, SetLocation, Reserve, End}
 
--- what a field is to be: an index word, an address that may have an index part or must have one, an address
--- without one, a number, or a number with a sign or none
+-- what a field is to be: an index word, an address that may have an index part or must have one, an
+-- address without one, a number, or a number with a sign or none
 pub data Wanted : Type 0 where
   an_index_word : Wanted
   an_address : Bool → Wanted
@@ -52,13 +53,14 @@ wanted_by Reserve form = (a_plain_address ∷ [], [])
 wanted_by End form = (a_plain_address ∷ [], [])
 
 -- whether there are too few fields or too many
-abbrev pub miscounts : List Wanted × List Wanted → List (List ℕ) → Bool
-miscounts wanted fields =
-    nat_lt (length fields) (length wanted.0) || nat_lt (length (wanted.0 ++ wanted.1)) (length fields)
+abbrev pub has_other_count : List Wanted × List Wanted → List (List ℕ) → Bool
+has_other_count wanted fields =
+    nat_lt (length fields) (length wanted.0) || nat_lt (length (wanted.0 ++ wanted.1))
+    (length fields)
 
 -- what a text says as a plain number below 2^64
-abbrev pub plain : List ℕ → Reading
-plain text = reading 18446744073709551615 text
+abbrev pub number_reading : List ℕ → Reading
+number_reading text = reading 18446744073709551615 text
 
 -- a text without the sign before it, if it has one
 abbrev pub without_sign : List ℕ → List ℕ
@@ -79,12 +81,13 @@ is_large (Good n) = false
 -- whether what is to be an expression or a number is none
 abbrev pub lacks_expression : Wanted → List ℕ → Bool
 lacks_expression an_index_word field = false
-lacks_expression (an_address must) field = any_bad (parts (front field))
-lacks_expression a_plain_address field = any_bad (parts (front field))
-lacks_expression a_number field = is_bad (plain (front field))
-lacks_expression a_signed_number field = is_bad (plain (without_sign (front field)))
+lacks_expression (an_address must) field = any_bad (parts (field_front field))
+lacks_expression a_plain_address field = any_bad (parts (field_front field))
+lacks_expression a_number field = is_bad (number_reading (field_front field))
+lacks_expression a_signed_number field = is_bad (number_reading (without_sign (field_front field)))
 
--- whether what is to be an index word is none, an index part is missing or none, or stands where none may
+-- whether what is to be an index word is none, an index part is missing or none, or stands where
+-- none may
 abbrev pub lacks_index : Wanted → List ℕ → Bool
 lacks_index an_index_word field = is_none (row_of field index_fields)
 lacks_index (an_address must) field =
@@ -96,26 +99,26 @@ lacks_index a_signed_number field = is_filled (index_part field)
 -- whether a number is past the most that may stand in its place
 abbrev pub is_past : Wanted → List ℕ → Bool
 is_past an_index_word field = false
-is_past (an_address must) field = any_large (parts (front field))
-is_past a_plain_address field = any_large (parts (front field))
-is_past a_number field = is_large (plain (front field))
-is_past a_signed_number field = is_large (plain (without_sign (front field)))
+is_past (an_address must) field = any_large (parts (field_front field))
+is_past a_plain_address field = any_large (parts (field_front field))
+is_past a_number field = is_large (number_reading (field_front field))
+is_past a_signed_number field = is_large (number_reading (without_sign (field_front field)))
 
 -- whether a test holds of one of the fields as it is wanted
 abbrev pub any_field : (Wanted → List ℕ → Bool) → List Wanted × List Wanted → List (List ℕ) → Bool
 any_field test wanted fields = list_any (λ p. test p.0 p.1) (zip (wanted.0 ++ wanted.1) fields)
 
 -- the operation of a statement
-abbrev pub named_in : List ℕ → Option Operation
-named_in statement = operation_of (word_of statement)
+abbrev pub operation_named : List ℕ → Option Operation
+operation_named statement = operation_of_word (operation_text statement)
 
 -- an operation with the form that the data description makes of it
 abbrev pub described_in : List ℕ → Operation → Option (Operation × Form)
-described_in text op = option_and_then (described op) (description_of (description_in text))
+described_in text op = option_and_then (described_form op) (description_of (description_in text))
 
 -- that form with the progressive form
 abbrev pub progressed_in : List ℕ → Operation × Form → Option Form
-progressed_in text d = progressed d.0 d.1 (behind_description text)
+progressed_in text d = form_with_progress d.0 d.1 (behind_description text)
 
 -- the fields behind both
 abbrev pub fields_in : List ℕ → List (List ℕ)
@@ -137,7 +140,7 @@ wanted_in text meant =
 -- the faults of fields, in the order in which they count
 abbrev pub field_faults : Option (List Wanted × List Wanted) → List (List ℕ) → List (Bool × Fault)
 field_faults wanted fields =
-    (option_map_or (λ w. miscounts w fields) wanted false, BadFieldCount)
+    (option_map_or (λ w. has_other_count w fields) wanted false, BadFieldCount)
     ∷ (option_map_or (λ w. any_field lacks_expression w fields) wanted false, BadExpression)
     ∷ (option_map_or (λ w. any_field lacks_index w fields) wanted false, BadIndex)
     ∷ (option_map_or (λ w. any_field is_past w fields) wanted false, NumberTooLarge) ∷ []
@@ -149,9 +152,10 @@ faults_behind op text = let meant = option_and_then (described_in text) op in
     ∷ (has_bad_progressive text meant, BadProgressive)
     ∷ field_faults (wanted_in text meant) (fields_in text)
 
--- all faults of a card with a name and a text: whether it has each, in the order in which they count
+-- all faults of a card with a name and a text: whether it has each, in the order in which they
+-- count
 abbrev pub faults_on : List ℕ → List ℕ → List (Bool × Fault)
-faults_on name text = let statement = clean text in let op = named_in statement in
+faults_on name text = let statement = statement_text text in let op = operation_named statement in
     (is_misnamed name op, BadName)
     ∷ (is_none op, UnknownOperation)
     ∷ faults_behind op (behind_word statement)

@@ -12,18 +12,19 @@ use Rattle.st_strap.specs.declared.operations.Operation.{Operation}
 use Rattle.st_strap.specs.declared.operations.Operation.TheVariants.{Half, Sum, Refill, Execute, Branch, Bare, Floating, Vfl, Connect, Move, BitBranch, IndBranch, StoreCounter, Transfer, Data, IndexWord, Synonym, SetLocation, Reserve, End}
 
 -- the progressive forms, each as a group without the parenthesis that closes it
-unfoldable pub forms : List (List ℕ × ℕ)
-forms =
+unfoldable pub progressive_forms : List (List ℕ × ℕ)
+progressive_forms =
     (codes "(IM", 1) ∷ (codes "(V+I", 2) ∷ (codes "(V+IC", 3) ∷ (codes "(V+ICR", 4)
     ∷ (codes "(V-I", 5) ∷ (codes "(V-IC", 6) ∷ (codes "(V-ICR", 7) ∷ []
 
 -- a group without the parenthesis that closes it, if there is one
-unfoldable pub unclosed : List ℕ → List ℕ
-unclosed group = if ends_with close_parenthesis group then take (length group - 1) group else group
+unfoldable pub open_group : List ℕ → List ℕ
+open_group group = if ends_with close_parenthesis group then take (length group - 1) group
+    else group
 
 -- whether a group spells a progressive form, be it closed or not
 abbrev pub is_form : List ℕ → Bool
-is_form group = is_some (row_of (unclosed group) forms)
+is_form group = is_some (row_of (open_group group) progressive_forms)
 
 -- the data description: a first group that spells no progressive form
 unfoldable pub description_in : List ℕ → List ℕ
@@ -36,7 +37,8 @@ behind_description text = if is_form (group text) then text else behind_group te
 -- the progressive form that a group is, 0 where there is no group; one that is not closed is none
 unfoldable pub form_number : List ℕ → Option ℕ
 form_number [] = Some 0
-form_number (c ∷ cs) = if ends_with close_parenthesis (c ∷ cs) then row_of (unclosed (c ∷ cs)) forms else None
+form_number (c ∷ cs) = if ends_with close_parenthesis (c ∷ cs)
+    then row_of (open_group (c ∷ cs)) progressive_forms else None
 
 -- the operation on a field that an operation is, if it is one
 abbrev pub field_operation_of : Operation → Option FullOp
@@ -66,12 +68,12 @@ abbrev pub may_progress : Operation → Bool
 may_progress op = is_some (field_operation_of op)
 
 -- whether an operation writes its field
-abbrev pub writes : Operation → Bool
-writes op = option_map_or writes_field (field_operation_of op) false
+abbrev pub is_field_written : Operation → Bool
+is_field_written op = option_map_or writes_field (field_operation_of op) false
 
 -- whether the operand may stand in the address: it is not written and has at most 24 bits
 abbrev pub may_be_immediate : Operation → ℕ → Bool
-may_be_immediate op bits = not (writes op) && nat_le bits 24
+may_be_immediate op bits = not (is_field_written op) && nat_le bits 24
 
 -- whether an operation whose field has so many bits may have a progressive form by its number
 unfoldable pub may_have_form : Operation → ℕ → ℕ → Bool
@@ -83,10 +85,13 @@ abbrev pub is_behind_groups : List ℕ → Bool
 is_behind_groups text = length text == 0 || begins_with comma text
 
 -- a form with a progressive form
-abbrev pub with_number : Operation → Form → ℕ → Option Form
-with_number op form n = if may_have_form op form.length n then Some (record form { p = n }) else None
+abbrev pub form_with_number : Operation → Form → ℕ → Option Form
+form_with_number op form n = if may_have_form op form.length n then Some (record form { p = n })
+    else None
 
--- the form with the progressive form that a text begins with, where nothing but fields stands behind it
-unfoldable pub progressed : Operation → Form → List ℕ → Option Form
-progressed op form text =
-    if is_behind_groups (behind_group text) then option_and_then (with_number op form) (form_number (group text)) else None
+-- the form with the progressive form that a text begins with, where nothing but fields stands
+-- behind it
+unfoldable pub form_with_progress : Operation → Form → List ℕ → Option Form
+form_with_progress op form text =
+    if is_behind_groups (behind_group text) then option_and_then (form_with_number op form)
+    (form_number (group text)) else None

@@ -5,15 +5,15 @@ use Rattle.st_strap.specs.Describing.{plain_form}
 use Rattle.st_strap.specs.Faults.{fault_in, faults_on}
 use Rattle.st_strap.specs.Saying.{statement_of}
 use Rattle.st_strap.specs.declared.statement.Statement.TheVariants.{Half, Branch, Vfl, Connect, Data, SetLocation, End}
-use Rattle.st_strap.specs.Spots.{number_spot, operands_text, AreOperands, progressive_form}
+use Rattle.st_strap.specs.Spots.{number_spot, operands_text, AreSpots, progressive_form}
 use Rattle.st_bits.specs.declared.operations.BranchOp.TheVariants.{Bew}
 use Rattle.st_bits.specs.declared.operations.VflOp.TheVariants.{L, Add, St, MAdd1, Mul}
 use Rattle.st_bits.specs.declared.operations.ConnKind.TheVariants.{C}
 use Rattle.st_bits.specs.declared.operations.HalfOp.TheVariants.{Lvi, VPlusI}
 use Rattle.st_strap.specs.Reading.{number_expr}
 
--- A statement card has a fault exactly where it has one of the list, each told by itself, and it is refused for the
--- first of those that it has.
+-- A statement card has a fault exactly where it has one of the list, each told by itself, and it is
+-- refused for the first of those that it has.
 abbrev pub TheFirstFaultOfTheListCounts : Type 0
 TheFirstFaultOfTheListCounts = (name text : List ℕ) →
     fault_in (statement_of name text) ≡ first_fault (faults_on name text)
@@ -23,7 +23,8 @@ abbrev pub NumbersOfWordsAreRead : Type 0
 NumbersOfWordsAreRead = (n : ℕ) → n < 2 ^ 64 → statement_of [] (codes "DD(BU,64)," ++ decimal n)
     ≡ Ok (Data (plain_form false true 64 8) false n)
 
--- A place, word w and bit b, is read as bit address 64w + b where it stands behind `SLC,` or `END,`.
+-- A place, word w and bit b, is read as bit address 64w + b where it stands behind `SLC,` or
+-- `END,`.
 pub record PlacesAreRead : Type 0 where
   pub set : (w b : ℕ) → w ≤ 262143 → b ≤ 63 →
       statement_of [] (codes "SLC," ++ decimal w ++ codes "." ++ decimal b)
@@ -43,23 +44,25 @@ pub record IndexOperationsAreRead : Type 0 where
 
 -- An operation on a field of n bits at bit b of word w, with an offset, is read as that operation.
 pub record FieldOperationsAreRead : Type 0 where
-  pub add : (n w b o : ℕ) → AreOperands n w b o →
+  pub add : (n w b o : ℕ) → AreSpots n w b o →
       statement_of [] (codes "+" ++ operands_text n w b o)
       ≡ Ok (Vfl Add false (plain_form false true n 8) (number_spot (64 * w + b) 0) o)
-  pub store : (n w b o : ℕ) → AreOperands n w b o →
+  pub store : (n w b o : ℕ) → AreSpots n w b o →
       statement_of [] (codes "ST" ++ operands_text n w b o)
       ≡ Ok (Vfl St false (plain_form false true n 8) (number_spot (64 * w + b) 0) o)
-  pub connect : (n w b o : ℕ) → AreOperands n w b o →
+  pub connect : (n w b o : ℕ) → AreSpots n w b o →
       statement_of [] (codes "C0110" ++ operands_text n w b o)
       ≡ Ok (Connect C 6 (plain_form false true n 8) (number_spot (64 * w + b) 0) o)
   pub load : (w : ℕ) → w ≤ 262143 →
       statement_of [] (codes "L(BU,64)," ++ decimal w ++ codes ".0")
       ≡ Ok (Vfl L false (plain_form false true 64 8) (number_spot (64 * w) 0) 0)
   pub add_one : (n w b : ℕ) → 8 ≤ n → n ≤ 64 → w ≤ 262143 → b ≤ 63 →
-      statement_of [] (codes "M+1(B," ++ decimal n ++ codes ",8)," ++ decimal w ++ codes "." ++ decimal b)
+      statement_of [] (codes "M+1(B," ++ decimal n ++ codes ",8)," ++ decimal w ++ codes "."
+      ++ decimal b)
       ≡ Ok (Vfl MAdd1 false (plain_form false false n 8) (number_spot (64 * w + b) 0) 0)
   pub multiply : (n j : ℕ) → 1 ≤ n → n ≤ 64 → 1 ≤ j → j ≤ 7 →
-      statement_of [] (codes "*(BU," ++ decimal n ++ codes ")(V+I),0.32($X" ++ decimal j ++ codes ")")
+      statement_of [] (codes "*(BU," ++ decimal n ++ codes ")(V+I),0.32($X" ++ decimal j
+      ++ codes ")")
       ≡ Ok (Vfl Mul false (progressive_form n) (number_spot 32 j) 0)
 
 -- The branch that waits is read as that branch.

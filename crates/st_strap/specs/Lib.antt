@@ -11,3 +11,12 @@ pub mod Faults
 pub mod WellFormed
 pub mod Spots
 pub mod Laws
+pub use Rattle.st_card.specs.Cards
+pub use Rattle.st_expr.specs.Expression
+pub use Rattle.st_expr.specs.Name
+pub use Rattle.st_format.specs.Operations
+pub use Rattle.st_format.specs.Validity
+pub use Rattle.st_text.specs.Bytes
+pub use Rattle.st_text.specs.Number
+pub use Rattle.st_text.specs.Pieces
+pub use Rattle.st_text.specs.Tables

@@ -30,22 +30,22 @@ rank LocationOutOfStorage = 21
 rank BadObjectCard = 22
 
 -- the earlier of two faults
-abbrev pub earlier : Fault → Fault → Fault
-earlier a b = if nat_lt (rank b) (rank a) then b else a
+abbrev pub earlier_fault : Fault → Fault → Fault
+earlier_fault a b = if nat_lt (rank b) (rank a) then b else a
 
 -- two readings, or the earlier of their faults
 abbrev pub both_of : {A B : Type 0} → Result A Fault → Result B Fault → Result (A × B) Fault
 both_of (Ok a) (Ok b) = Ok (a, b)
 both_of (Ok a) (Err f) = Err f
 both_of (Err e) (Ok b) = Err e
-both_of (Err e) (Err f) = Err (earlier e f)
+both_of (Err e) (Err f) = Err (earlier_fault e f)
 
 -- a reading made into something else
-abbrev pub mapped : {A B : Type 0} → (A → B) → Result A Fault → Result B Fault
-mapped f (Ok a) = Ok (f a)
-mapped f (Err e) = Err e
+abbrev pub reading_map : {A B : Type 0} → (A → B) → Result A Fault → Result B Fault
+reading_map f (Ok a) = Ok (f a)
+reading_map f (Err e) = Err e
 
 -- what comes next where there is something, else a fault
-abbrev pub judged : {A B : Type 0} → Fault → Option A → (A → Result B Fault) → Result B Fault
-judged fault None next = Err fault
-judged fault (Some a) next = next a
+abbrev pub next_reading : {A B : Type 0} → Fault → Option A → (A → Result B Fault) → Result B Fault
+next_reading fault None next = Err fault
+next_reading fault (Some a) next = next a

@@ -12,23 +12,25 @@ use Rattle.st_text.specs.declared.numbers.Reading.TheVariants.{Bad, Large, Good}
 use Rattle.st_expr.specs.Expression.{expr_of}
 use Rattle.st_expr.specs.declared.terms.Term.{Term}
 use Rattle.st_expr.specs.declared.terms.Atom.TheVariants.{Number}
-use Rattle.st_strap.specs.Order.{earlier, both_of, mapped}
+use Rattle.st_strap.specs.Order.{earlier_fault, both_of, reading_map}
 use Rattle.st_strap.specs.Text.{begins_with, ends_with}
 use Rattle.st_strap.specs.Statements.{Spot}
 
 -- where the last opening parenthesis of a text stands
 abbrev pub last_open : List ℕ → Option ℕ
 last_open [] = None
-last_open (c ∷ cs) = option_or (option_map (λ n. n + 1) (last_open cs)) (if c == open_parenthesis then Some 0 else None)
+last_open (c ∷ cs) = option_or (option_map (λ n. n + 1) (last_open cs))
+    (if c == open_parenthesis then Some 0 else None)
 
--- where the index part of a field begins: at its last `(` where it ends with `)`; the field's end where
--- it has none
+-- where the index part of a field begins: at its last `(` where it ends with `)`; the field's end
+-- where it has none
 unfoldable pub index_start : List ℕ → ℕ
-index_start field = if ends_with close_parenthesis field then unwrap_or (last_open field) (length field) else length field
+index_start field = if ends_with close_parenthesis field
+    then unwrap_or (last_open field) (length field) else length field
 
 -- a field without its index part
-abbrev pub front : List ℕ → List ℕ
-front field = take (index_start field) field
+abbrev pub field_front : List ℕ → List ℕ
+field_front field = take (index_start field) field
 
 -- the index part of a field, empty where it has none
 abbrev pub index_part : List ℕ → List ℕ
@@ -55,24 +57,24 @@ unfoldable pub index_field : List ℕ → Result ℕ Fault
 index_field field = ok_or (row_of field index_fields) BadIndex
 
 -- the index word that an index part names: 0 where no part stands and none must
-unfoldable pub index_of : Bool → List ℕ → Result ℕ Fault
-index_of must [] = if must then Err BadIndex else Ok 0
-index_of must (c ∷ cs) = ok_or (row_of (c ∷ cs) index_parts) BadIndex
+unfoldable pub index_named : Bool → List ℕ → Result ℕ Fault
+index_named must [] = if must then Err BadIndex else Ok 0
+index_named must (c ∷ cs) = ok_or (row_of (c ∷ cs) index_parts) BadIndex
 
 -- an address that may have, or must have, an index part
 unfoldable pub spot : Bool → List ℕ → Result Spot Fault
-spot must field = mapped (λ p. record { expr = p.0; index = p.1 })
-    (both_of (expr_of (front field)) (index_of must (index_part field)))
+spot must field = reading_map (λ p. record { expr = p.0; index = p.1 })
+    (both_of (expr_of (field_front field)) (index_named must (index_part field)))
 
 -- a reading behind which no index part may stand
-abbrev pub unindexed : {A : Type 0} → List ℕ → Result A Fault → Result A Fault
-unindexed [] value = value
-unindexed (c ∷ cs) (Ok a) = Err BadIndex
-unindexed (c ∷ cs) (Err e) = Err (earlier e BadIndex)
+abbrev pub reading_without_index : {A : Type 0} → List ℕ → Result A Fault → Result A Fault
+reading_without_index [] value = value
+reading_without_index (c ∷ cs) (Ok a) = Err BadIndex
+reading_without_index (c ∷ cs) (Err e) = Err (earlier_fault e BadIndex)
 
 -- an address without an index part
 unfoldable pub expression : List ℕ → Result (ArrayVec Term) Fault
-expression field = unindexed (index_part field) (expr_of (front field))
+expression field = reading_without_index (index_part field) (expr_of (field_front field))
 
 -- a number that was read
 abbrev pub number_or_fault : Reading → Result ℕ Fault
@@ -81,23 +83,24 @@ number_or_fault Large = Err NumberTooLarge
 number_or_fault (Good n) = Ok n
 
 -- a plain number below 2^64
-unfoldable pub number_of : List ℕ → Result ℕ Fault
-number_of text = number_or_fault (reading 18446744073709551615 text)
+unfoldable pub number_result : List ℕ → Result ℕ Fault
+number_result text = number_or_fault (reading 18446744073709551615 text)
 
 -- a field that is a plain number
 unfoldable pub plain_number : List ℕ → Result ℕ Fault
-plain_number field = unindexed (index_part field) (number_of (front field))
+plain_number field = reading_without_index (index_part field) (number_result (field_front field))
 
 -- whether a minus stands before a number, and the number: it may have a sign
 unfoldable pub signed_of : List ℕ → Result (Bool × ℕ) Fault
 signed_of text =
-    if begins_with minus_sign text then mapped (λ n. (true, n)) (number_of (drop 1 text))
-    else (if begins_with plus_sign text then mapped (λ n. (false, n)) (number_of (drop 1 text))
-    else mapped (λ n. (false, n)) (number_of text))
+    if begins_with minus_sign text then reading_map (λ n. (true, n)) (number_result (drop 1 text))
+    else (if begins_with plus_sign text then reading_map (λ n. (false, n))
+    (number_result (drop 1 text))
+    else reading_map (λ n. (false, n)) (number_result text))
 
 -- a field that is a number with a sign or none
 unfoldable pub signed_number : List ℕ → Result (Bool × ℕ) Fault
-signed_number field = unindexed (index_part field) (signed_of (front field))
+signed_number field = reading_without_index (index_part field) (signed_of (field_front field))
 
 -- the bit of a list of index words that stands for one of them
 abbrev pub selector : ℕ → ℕ
@@ -110,9 +113,9 @@ with_selected (Ok j) (Err e) = Err BadIndex
 with_selected (Err e) list = Err BadIndex
 
 -- the list of index words that fields name
-abbrev pub selected : List (List ℕ) → Result ℕ Fault
-selected [] = Ok 0
-selected (field ∷ more) = with_selected (index_field field) (selected more)
+abbrev pub index_selector : List (List ℕ) → Result ℕ Fault
+index_selector [] = Ok 0
+index_selector (field ∷ more) = with_selected (index_field field) (index_selector more)
 
 -- the expression that is one number
 abbrev pub number_expr : ℕ → ArrayVec Term

@@ -8,12 +8,12 @@ use Rattle.st_card.specs.declared.faults.Fault.{Fault}
 use Rattle.st_card.specs.declared.faults.Fault.TheVariants.{BadName, UnknownOperation, BadDataDescription, BadProgressive, BadFieldCount}
 use Rattle.st_expr.specs.Name.{is_name}
 use Rattle.st_expr.specs.declared.terms.Term.{Term}
-use Rattle.st_strap.specs.Order.{both_of, mapped, judged}
-use Rattle.st_strap.specs.Text.{clean, word_of, behind_word, behind_group, fields_of}
-use Rattle.st_strap.specs.Table.{operation_of}
-use Rattle.st_strap.specs.Describing.{description_of, described}
-use Rattle.st_strap.specs.Forming.{description_in, behind_description, progressed}
-use Rattle.st_strap.specs.Reading.{index_field, spot, expression, plain_number, signed_number, selected}
+use Rattle.st_strap.specs.Order.{both_of, reading_map, next_reading}
+use Rattle.st_strap.specs.Text.{statement_text, operation_text, behind_word, behind_group, fields_of}
+use Rattle.st_strap.specs.Table.{operation_of_word}
+use Rattle.st_strap.specs.Describing.{description_of, described_form}
+use Rattle.st_strap.specs.Forming.{description_in, behind_description, form_with_progress}
+use Rattle.st_strap.specs.Reading.{index_field, spot, expression, plain_number, signed_number, index_selector}
 use Rattle.st_strap.specs.declared.shapes.AddressAndNumber.{AddressAndNumber}
 use Rattle.st_strap.specs.declared.shapes.RefillAndFlags.{RefillAndFlags}
 use Rattle.st_strap.specs.declared.shapes.CountAndRefill.{CountAndRefill}
@@ -51,14 +51,17 @@ index_and_spot _ = Err BadFieldCount
 -- an index word, and 1 to 15 that are listed
 unfoldable pub index_and_list : List (List ℕ) → Result (ℕ × ℕ) Fault
 index_and_list (j ∷ k ∷ ks) =
-    if nat_le (length ks) 14 then both_of (index_field j) (selected (k ∷ ks)) else Err BadFieldCount
+    if nat_le (length ks) 14 then both_of (index_field j) (index_selector (k ∷ ks))
+    else Err BadFieldCount
 index_and_list _ = Err BadFieldCount
 
--- the address of a field and an offset or none; a progressive form but the first needs an index part
-unfoldable pub operand : Form → List (List ℕ) → Result (Spot × ℕ) Fault
-operand form (place ∷ []) = both_of (spot (nat_le 2 form.p) place) (Ok 0)
-operand form (place ∷ offset ∷ []) = both_of (spot (nat_le 2 form.p) place) (plain_number offset)
-operand form _ = Err BadFieldCount
+-- the address of a field and an offset or none; a progressive form but the first needs an index
+-- part
+unfoldable pub operand_spot : Form → List (List ℕ) → Result (Spot × ℕ) Fault
+operand_spot form (place ∷ []) = both_of (spot (nat_le 2 form.p) place) (Ok 0)
+operand_spot form (place ∷ offset ∷ []) = both_of (spot (nat_le 2 form.p) place)
+    (plain_number offset)
+operand_spot form _ = Err BadFieldCount
 
 -- an address and a second one
 unfoldable pub two_addresses : List (List ℕ) → Result (Spot × ArrayVec Term) Fault
@@ -71,8 +74,10 @@ spot_and_number (place ∷ n ∷ []) = both_of (spot false place) (plain_number 
 spot_and_number _ = Err BadFieldCount
 
 -- an address and a number that were read
-abbrev pub address_with_number : Result (ArrayVec Term) Fault → Result ℕ Fault → Result AddressAndNumber Fault
-address_with_number address number = mapped (λ p. record { address = p.0; number = p.1 }) (both_of address number)
+abbrev pub address_with_number : Result (ArrayVec Term) Fault → Result ℕ Fault →
+    Result AddressAndNumber Fault
+address_with_number address number = reading_map (λ p. record { address = p.0; number = p.1 })
+    (both_of address number)
 
 -- an address without an index part and a number
 unfoldable pub address_and_number : List (List ℕ) → Result AddressAndNumber Fault
@@ -85,8 +90,10 @@ two_addresses_and_number [] = Err BadFieldCount
 two_addresses_and_number (place ∷ more) = both_of (spot false place) (address_and_number more)
 
 -- a refill address and flags that were read
-abbrev pub refill_with_flags : Result (ArrayVec Term) Fault → Result ℕ Fault → Result RefillAndFlags Fault
-refill_with_flags refill flags = mapped (λ p. record { refill = p.0; flags = p.1 }) (both_of refill flags)
+abbrev pub refill_with_flags : Result (ArrayVec Term) Fault → Result ℕ Fault →
+    Result RefillAndFlags Fault
+refill_with_flags refill flags = reading_map (λ p. record { refill = p.0; flags = p.1 })
+    (both_of refill flags)
 
 -- a refill address, and flags or none
 unfoldable pub refill_and_flags : List (List ℕ) → Result RefillAndFlags Fault
@@ -95,9 +102,11 @@ refill_and_flags (refill ∷ flags ∷ []) = refill_with_flags (expression refil
 refill_and_flags _ = Err BadFieldCount
 
 -- a count, a refill address and flags that were read
-abbrev pub count_with_refill : Result ℕ Fault → Result RefillAndFlags Fault → Result CountAndRefill Fault
+abbrev pub count_with_refill : Result ℕ Fault → Result RefillAndFlags Fault →
+    Result CountAndRefill Fault
 count_with_refill count more =
-    mapped (λ p. record { count = p.0; refill = p.1.refill; flags = p.1.flags }) (both_of count more)
+    reading_map (λ p. record { count = p.0; refill = p.1.refill; flags = p.1.flags })
+    (both_of count more)
 
 -- a count, a refill address, and flags or none
 unfoldable pub count_and_refill : List (List ℕ) → Result CountAndRefill Fault
@@ -116,33 +125,38 @@ without_fields statement _ = Err BadFieldCount
 
 -- what an operation says with its form and its fields
 unfoldable pub with_fields : Operation → Form → List (List ℕ) → Result Statement Fault
-with_fields (HalfOperation op) form fields = mapped (λ p. Half op p.0 p.1) (index_and_spot fields)
-with_fields SumOperation form fields = mapped (λ p. Sum p.0 p.1) (index_and_list fields)
-with_fields RefillOperation form fields = mapped (λ j. Refill j) (index_alone fields)
-with_fields ExecuteOperation form fields = mapped (λ at. Half Ex 0 at) (spot_alone fields)
-with_fields (BranchOperation op) form fields = mapped (λ at. Branch op (Some at)) (spot_alone fields)
+with_fields (HalfOperation op) form fields = reading_map (λ p. Half op p.0 p.1)
+    (index_and_spot fields)
+with_fields SumOperation form fields = reading_map (λ p. Sum p.0 p.1) (index_and_list fields)
+with_fields RefillOperation form fields = reading_map (λ j. Refill j) (index_alone fields)
+with_fields ExecuteOperation form fields = reading_map (λ at. Half Ex 0 at) (spot_alone fields)
+with_fields (BranchOperation op) form fields = reading_map (λ at. Branch op (Some at))
+    (spot_alone fields)
 with_fields (BareOperation op) form fields = without_fields (Branch op None) fields
-with_fields (FloatingOperation number) form fields = mapped (λ at. Floating number at) (spot_alone fields)
+with_fields (FloatingOperation number) form fields = reading_map (λ at. Floating number at)
+    (spot_alone fields)
 with_fields (VflOperation op negated) form fields =
-    mapped (λ p. Vfl op negated form p.0 p.1) (operand form fields)
+    reading_map (λ p. Vfl op negated form p.0 p.1) (operand_spot form fields)
 with_fields (ConnectOperation kind table) form fields =
-    mapped (λ p. Connect kind table form p.0 p.1) (operand form fields)
+    reading_map (λ p. Connect kind table form p.0 p.1) (operand_spot form fields)
 with_fields (MoveOperation swap) form fields =
-    mapped (λ p. Move swap p.0 p.1.address p.1.number) (two_addresses_and_number fields)
+    reading_map (λ p. Move swap p.0 p.1.address p.1.number) (two_addresses_and_number fields)
 with_fields (BitBranchOperation sense change) form fields =
-    mapped (λ p. BitBranch sense change p.0 p.1) (two_addresses fields)
+    reading_map (λ p. BitBranch sense change p.0 p.1) (two_addresses fields)
 with_fields (IndBranchOperation sense off) form fields =
-    mapped (λ p. IndBranch sense off p.0 p.1) (two_addresses fields)
-with_fields StoreCounterOperation form fields = mapped (λ p. StoreCounter p.0 p.1) (two_addresses fields)
+    reading_map (λ p. IndBranch sense off p.0 p.1) (two_addresses fields)
+with_fields StoreCounterOperation form fields = reading_map (λ p. StoreCounter p.0 p.1)
+    (two_addresses fields)
 with_fields (TransferOperation write) form fields =
-    mapped (λ p. Transfer write p.0 p.1) (spot_and_number fields)
-with_fields DataOperation form fields = mapped (λ p. Data form p.0 p.1) (number_alone fields)
+    reading_map (λ p. Transfer write p.0 p.1) (spot_and_number fields)
+with_fields DataOperation form fields = reading_map (λ p. Data form p.0 p.1) (number_alone fields)
 with_fields IndexWordOperation form fields =
-    mapped (λ p. IndexWord p.0 p.1.count p.1.refill p.1.flags) (index_word_parts fields)
-with_fields SynonymOperation form fields = mapped (λ at. Synonym at) (expression_alone fields)
-with_fields SetLocationOperation form fields = mapped (λ at. SetLocation at) (expression_alone fields)
-with_fields ReserveOperation form fields = mapped (λ at. Reserve at) (expression_alone fields)
-with_fields EndOperation form fields = mapped (λ at. End at) (expression_alone fields)
+    reading_map (λ p. IndexWord p.0 p.1.count p.1.refill p.1.flags) (index_word_parts fields)
+with_fields SynonymOperation form fields = reading_map (λ at. Synonym at) (expression_alone fields)
+with_fields SetLocationOperation form fields = reading_map (λ at. SetLocation at)
+    (expression_alone fields)
+with_fields ReserveOperation form fields = reading_map (λ at. Reserve at) (expression_alone fields)
+with_fields EndOperation form fields = reading_map (λ at. End at) (expression_alone fields)
 
 -- whether a card of this operation may not have a name, or must have one
 abbrev pub misnames : Bool → Operation → Bool
@@ -173,23 +187,25 @@ is_misnamed name op =
     (is_filled name && not (is_name name)) || option_map_or (misnames (is_filled name)) op false
 
 -- what an operation says with an allowed description and the text behind that
-unfoldable pub formed : Operation → Form → List ℕ → Result Statement Fault
-formed op form text = judged BadProgressive (progressed op form text)
+unfoldable pub statement_in_form : Operation → Form → List ℕ → Result Statement Fault
+statement_in_form op form text = next_reading BadProgressive (form_with_progress op form text)
     (λ f. with_fields op f (fields_of (behind_group text)))
 
 -- what an operation says with the text behind it
-unfoldable pub said : Operation → List ℕ → Result Statement Fault
-said op text =
-    judged BadDataDescription (option_and_then (described op) (description_of (description_in text)))
-    (λ d. formed d.0 d.1 (behind_description text))
+unfoldable pub reading_of_operation : Operation → List ℕ → Result Statement Fault
+reading_of_operation op text =
+    next_reading BadDataDescription (option_and_then (described_form op)
+    (description_of (description_in text)))
+    (λ d. statement_in_form d.0 d.1 (behind_description text))
 
 -- what a statement without comment and blanks says on a card with this name
 unfoldable pub clean_statement_of : List ℕ → List ℕ → Result Statement Fault
 clean_statement_of name statement =
-    let op = operation_of (word_of statement) in
+    let op = operation_of_word (operation_text statement) in
     if is_misnamed name op then Err BadName
-    else judged UnknownOperation op (λ found. said found (behind_word statement))
+    else next_reading UnknownOperation op
+    (λ found. reading_of_operation found (behind_word statement))
 
 -- what the card of a name and a text says: its statement, or the first of its faults
 abbrev pub statement_of : List ℕ → List ℕ → Result Statement Fault
-statement_of name text = clean_statement_of name (clean text)
+statement_of name text = clean_statement_of name (statement_text text)

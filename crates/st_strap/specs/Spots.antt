@@ -12,16 +12,18 @@ number_spot place index = record { expr = number_expr place; index = index }
 -- a field of n bits at bit b of word w, and an offset, as text
 abbrev pub operands_text : ℕ → ℕ → ℕ → ℕ → List ℕ
 operands_text n w b o =
-    codes "(BU," ++ decimal n ++ codes ")," ++ decimal w ++ codes "." ++ decimal b ++ codes "," ++ decimal o
+    codes "(BU," ++ decimal n ++ codes ")," ++ decimal w ++ codes "." ++ decimal b ++ codes ","
+    ++ decimal o
 
 -- the numbers of such operands
-pub record AreOperands (n w b o : ℕ) : Type 0 where
+pub record AreSpots (n w b o : ℕ) : Type 0 where
   pub some_bits : 1 ≤ n
   pub few_bits : n ≤ 64
   pub word : w ≤ 262143
   pub bit : b ≤ 63
   pub offset : o < 2 ^ 64
 
--- an unsigned binary field of n bits in bytes of eight, its address taken from an index word that is then raised by it
+-- an unsigned binary field of n bits in bytes of eight, its address taken from an index word that
+-- is then raised by it
 abbrev pub progressive_form : ℕ → Form
 progressive_form n = record (plain_form false true n 8) { p = 2 }

@@ -18,7 +18,8 @@ use Rattle.st_strap.specs.declared.operations.Operation.TheVariants.{Half, Sum, 
 unfoldable pub index_operations : List (List ℕ × HalfOp)
 index_operations =
     (codes "LX", Lx) ∷ (codes "LV", Lv) ∷ (codes "LC", Lc) ∷ (codes "LR", Lr) ∷ (codes "SX", Sx)
-    ∷ (codes "SV", Sv) ∷ (codes "SC", Sc) ∷ (codes "SR", Sr) ∷ (codes "SVA", Sva) ∷ (codes "V+", VPlus)
+    ∷ (codes "SV", Sv) ∷ (codes "SC", Sc) ∷ (codes "SR", Sr) ∷ (codes "SVA", Sva)
+    ∷ (codes "V+", VPlus)
     ∷ (codes "V+C", VPlusC) ∷ (codes "KV", Kv) ∷ (codes "LVI", Lvi) ∷ (codes "LCI", Lci)
     ∷ (codes "LRI", Lri) ∷ (codes "V+I", VPlusI) ∷ (codes "V-I", VMinusI) ∷ (codes "V+IC", VPlusIC)
     ∷ (codes "V+ICR", VPlusICR) ∷ (codes "KVI", Kvi) ∷ (codes "KC", Kc) ∷ (codes "KCI", Kci)
@@ -27,17 +28,21 @@ index_operations =
 -- on a field
 unfoldable pub field_operations : List (List ℕ × VflOp)
 field_operations =
-    (codes "L", L) ∷ (codes "LWF", Lwf) ∷ (codes "LTRS", Ltrs) ∷ (codes "LFT", Lft) ∷ (codes "ST", St)
+    (codes "L", L) ∷ (codes "LWF", Lwf) ∷ (codes "LTRS", Ltrs) ∷ (codes "LFT", Lft)
+    ∷ (codes "ST", St)
     ∷ (codes "+", Add) ∷ (codes "+MG", AddMg) ∷ (codes "M+", MAdd) ∷ (codes "M+MG", MAddMg)
-    ∷ (codes "M+1", MAdd1) ∷ (codes "K", K) ∷ (codes "KF", Kf) ∷ (codes "KE", Ke) ∷ (codes "KFE", Kfe)
-    ∷ (codes "KR", Kr) ∷ (codes "KFR", Kfr) ∷ (codes "*", Mul) ∷ (codes "*+", MulAdd) ∷ (codes "/", Div)
+    ∷ (codes "M+1", MAdd1) ∷ (codes "K", K) ∷ (codes "KF", Kf) ∷ (codes "KE", Ke)
+    ∷ (codes "KFE", Kfe)
+    ∷ (codes "KR", Kr) ∷ (codes "KFR", Kfr) ∷ (codes "*", Mul) ∷ (codes "*+", MulAdd)
+    ∷ (codes "/", Div)
     ∷ (codes "LCV", Lcv) ∷ []
 
 -- the others, but for the connectives
 unfoldable pub other_operations : List (List ℕ × Operation)
 other_operations =
     (codes "LVS", Sum) ∷ (codes "R", Refill) ∷ (codes "EX", Execute)
-    ∷ (codes "B", Branch B) ∷ (codes "BR", Branch Br) ∷ (codes "BE", Branch Be) ∷ (codes "BD", Branch Bd)
+    ∷ (codes "B", Branch B) ∷ (codes "BR", Branch Br) ∷ (codes "BE", Branch Be)
+    ∷ (codes "BD", Branch Bd)
     ∷ (codes "BEW", Bare Bew) ∷ (codes "NOP", Bare Nop)
     ∷ (codes "T", Move false) ∷ (codes "SWAP", Move true)
     ∷ (codes "BB0", BitBranch false 0) ∷ (codes "BB0Z", BitBranch false 1)
@@ -47,18 +52,21 @@ other_operations =
     ∷ (codes "BI0", IndBranch false false) ∷ (codes "BI0Z", IndBranch false true)
     ∷ (codes "BI1", IndBranch true false) ∷ (codes "BI1Z", IndBranch true true)
     ∷ (codes "SIC", StoreCounter) ∷ (codes "RD", Transfer false) ∷ (codes "WR", Transfer true)
-    ∷ (codes "DD", Data) ∷ (codes "XW", IndexWord) ∷ (codes "SYN", Synonym) ∷ (codes "SLC", SetLocation)
+    ∷ (codes "DD", Data) ∷ (codes "XW", IndexWord) ∷ (codes "SYN", Synonym)
+    ∷ (codes "SLC", SetLocation)
     ∷ (codes "DR", Reserve) ∷ (codes "END", End) ∷ []
 
 -- where connectives put their results
-unfoldable pub kinds : List (List ℕ × ConnKind)
-kinds = (codes "C", C) ∷ (codes "CM", Cm) ∷ (codes "CT", Ct) ∷ []
+unfoldable pub connective_kinds : List (List ℕ × ConnKind)
+connective_kinds = (codes "C", C) ∷ (codes "CM", Cm) ∷ (codes "CT", Ct) ∷ []
 
 -- truth tables: the results for 00, 01, 10 and 11
 unfoldable pub truth_tables : List (List ℕ × ℕ)
 truth_tables =
-    (codes "0000", 0) ∷ (codes "0001", 1) ∷ (codes "0010", 2) ∷ (codes "0011", 3) ∷ (codes "0100", 4)
-    ∷ (codes "0101", 5) ∷ (codes "0110", 6) ∷ (codes "0111", 7) ∷ (codes "1000", 8) ∷ (codes "1001", 9)
+    (codes "0000", 0) ∷ (codes "0001", 1) ∷ (codes "0010", 2) ∷ (codes "0011", 3)
+    ∷ (codes "0100", 4)
+    ∷ (codes "0101", 5) ∷ (codes "0110", 6) ∷ (codes "0111", 7) ∷ (codes "1000", 8)
+    ∷ (codes "1001", 9)
     ∷ (codes "1010", 10) ∷ (codes "1011", 11) ∷ (codes "1100", 12) ∷ (codes "1101", 13)
     ∷ (codes "1110", 14) ∷ (codes "1111", 15) ∷ []
 
@@ -78,14 +86,16 @@ negated_operation word =
 -- a connective: its kind, and behind it digits for its truth table
 abbrev pub connective_at : ℕ → List ℕ → Option Operation
 connective_at place word =
-    option_map (λ p. Connect p.0 p.1) (option_zip (row_of (take place word) kinds) (row_of (drop place word) truth_tables))
+    option_map (λ p. Connect p.0 p.1) (option_zip (row_of (take place word) connective_kinds)
+    (row_of (drop place word) truth_tables))
 
 -- a connective: four digits stand last
 unfoldable pub connective : List ℕ → Option Operation
 connective word = if nat_lt (length word) 4 then None else connective_at (length word - 4) word
 
 -- the operation that a word names
-unfoldable pub operation_of : List ℕ → Option Operation
-operation_of word =
-    option_or (option_or (option_or (option_or (row_of word other_operations) (index_operation word))
+unfoldable pub operation_of_word : List ℕ → Option Operation
+operation_of_word word =
+    option_or (option_or (option_or (option_or (row_of word other_operations)
+    (index_operation word))
     (field_operation false word)) (negated_operation word)) (connective word)

@@ -2,7 +2,7 @@
 use Rattle.std.specs.Prelude.{ℕ, ◌+◌, ◌==◌, ◌||◌, Bool, not, min, List, [], ◌∷◌, length, take, drop, filter, slice_get, false, if◌then◌else◌}
 use Rattle.std.specs.Option.{option_map_or}
 use Rattle.st_text.specs.Bytes.{blank, open_parenthesis, close_parenthesis, comma, semicolon}
-use Rattle.st_text.specs.Pieces.{parted}
+use Rattle.st_text.specs.Pieces.{pieces_of}
 
 -- how many bytes stand before the first of two bytes
 abbrev pub stop : ℕ → ℕ → List ℕ → ℕ
@@ -20,20 +20,22 @@ ends_with c (last ∷ []) = last == c
 ends_with c (_ ∷ next ∷ text) = ends_with c (next ∷ text)
 
 -- a statement without its comment and its blanks
-unfoldable pub clean : List ℕ → List ℕ
-clean text = filter (λ c. not (c == blank)) (take (stop semicolon semicolon text) text)
+unfoldable pub statement_text : List ℕ → List ℕ
+statement_text text = filter (λ c. not (c == blank)) (take (stop semicolon semicolon text) text)
 
 -- the operation: all up to the first parenthesis or comma
-abbrev pub word_of : List ℕ → List ℕ
-word_of statement = take (stop open_parenthesis comma statement) statement
+abbrev pub operation_text : List ℕ → List ℕ
+operation_text statement = take (stop open_parenthesis comma statement) statement
 
 -- what stands behind the operation
 abbrev pub behind_word : List ℕ → List ℕ
 behind_word statement = drop (stop open_parenthesis comma statement) statement
 
--- the length of the group that a text begins with: up to its first `)`, or to the end where it has none
+-- the length of the group that a text begins with: up to its first `)`, or to the end where it has
+-- none
 unfoldable pub group_length : List ℕ → ℕ
-group_length text = if begins_with open_parenthesis text then min (stop close_parenthesis close_parenthesis text + 1) (length text) else 0
+group_length text = if begins_with open_parenthesis text
+    then min (stop close_parenthesis close_parenthesis text + 1) (length text) else 0
 
 -- the group that a text begins with, empty where there is none
 abbrev pub group : List ℕ → List ℕ
@@ -46,4 +48,4 @@ behind_group text = drop (group_length text) text
 -- the fields, each behind a comma
 unfoldable pub fields_of : List ℕ → List (List ℕ)
 fields_of [] = []
-fields_of (c ∷ cs) = parted comma cs
+fields_of (c ∷ cs) = pieces_of comma cs

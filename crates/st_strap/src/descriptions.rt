@@ -3,7 +3,7 @@
 ghost use Rattle.std.specs.Prelude.{◌≡◌, ◌≤◌, length, IfSome};
 ghost use Rattle.st_text.specs.Bytes.{comma};
 ghost use Rattle.st_text.specs.Tables.{row_of};
-ghost use Rattle.st_text.specs.Pieces.{parted};
+ghost use Rattle.st_text.specs.Pieces.{pieces_of};
 ghost use Rattle.st_strap.specs.Describing as spec;
 ghost use Rattle.st_strap.specs.Fields.{texts};
 
@@ -156,7 +156,7 @@ pub(crate) fn description_of(group: &[u8]) -> Option<Description>
 // What a description says between its parentheses.
 fn in_pieces(text: &[u8]) -> Option<Description>
     requires { length text.now ≤ 63 }
-    ensures { result ≡ spec.in_pieces (parted comma text.now) }
+    ensures { result ≡ spec.in_pieces (pieces_of comma text.now) }
 {
     in_fields(pieces(text).as_slice())
 }
@@ -204,9 +204,9 @@ fn floating_number(op: Operation) -> Option<u8>
 }
 
 // The operation and the form that a description makes of an operation, where it may stand there.
-#[tactic(auto, unfolding(crate::specs::Describing::described))]
+#[tactic(auto, unfolding(crate::specs::Describing::described_form))]
 pub(crate) fn described(op: Operation, description: Description) -> Option<(Operation, Form)>
-    ensures { result ≡ spec.described op description }
+    ensures { result ≡ spec.described_form op description }
 {
     match description {
         Description::Absent => Some((op, default_form())),

@@ -59,7 +59,7 @@ fn rank(fault: Fault) -> u8
 
 // The earlier of two faults.
 fn earlier(a: Fault, b: Fault) -> Fault
-    ensures { result ≡ order.earlier a b }
+    ensures { result ≡ order.earlier_fault a b }
 {
     if rank(b) < rank(a) { b } else { a }
 }
@@ -110,7 +110,7 @@ fn index_start(field: &[u8]) -> usize
 
 // A field without its index part, and that part.
 fn split_index(field: &[u8]) -> (&[u8], &[u8])
-    ensures front { result.0.now ≡ spec.front field.now }
+    ensures front { result.0.now ≡ spec.field_front field.now }
     ensures part { result.1.now ≡ spec.index_part field.now }
     ensures within { length result.0.now ≤ length field.now }
 {
@@ -141,9 +141,9 @@ pub(crate) fn index_field(field: &[u8]) -> Result<u8, Fault>
 }
 
 // The index word that an index part names, 0 where no part stands and none must.
-#[tactic(auto, unfolding(crate::specs::Reading::index_of))]
+#[tactic(auto, unfolding(crate::specs::Reading::index_named))]
 fn index_of(must: bool, part: &[u8]) -> Result<u8, Fault>
-    ensures { result ≡ spec.index_of must part.now }
+    ensures { result ≡ spec.index_named must part.now }
 {
     match part {
         [] if must => Err(Fault::BadIndex),
@@ -167,7 +167,7 @@ pub(crate) fn spot(must: bool, field: &[u8]) -> Result<CompactSpot, Fault>
 
 // A reading behind which no index part may stand.
 fn unindexed<A: Drop>(part: &[u8], value: Result<A, Fault>) -> Result<A, Fault>
-    ensures { result ≡ spec.unindexed part.now value }
+    ensures { result ≡ spec.reading_without_index part.now value }
 {
     if part.is_empty() {
         return value;
@@ -189,9 +189,9 @@ pub(crate) fn expression(field: &[u8]) -> Result<ExprText, Fault>
 }
 
 // A plain number below 2^64.
-#[tactic(auto, unfolding(crate::specs::Reading::number_of))]
+#[tactic(auto, unfolding(crate::specs::Reading::number_result))]
 fn number_of(text: &[u8]) -> Result<u64, Fault>
-    ensures { result ≡ spec.number_of text.now }
+    ensures { result ≡ spec.number_result text.now }
 {
     match read_number(text, u64::MAX) {
         Reading::Bad => Err(Fault::BadExpression),
@@ -211,7 +211,7 @@ pub(crate) fn plain_number(field: &[u8]) -> Result<u64, Fault>
 
 // A sign and a number, the sign being the caller's.
 fn with_sign(minus: bool, text: &[u8]) -> Result<(bool, u64), Fault>
-    ensures { result ≡ order.mapped (λ n. (minus, n)) (spec.number_of text.now) }
+    ensures { result ≡ order.reading_map (λ n. (minus, n)) (spec.number_result text.now) }
 {
     match number_of(text) {
         Ok(number) => Ok((minus, number)),
@@ -252,7 +252,7 @@ fn selector(j: u8) -> u16
 
 // A list of index words from fields that name them.
 pub(crate) fn selected(fields: &[Field]) -> Result<u16, Fault>
-    ensures { result ≡ spec.selected (texts fields.now) }
+    ensures { result ≡ spec.index_selector (texts fields.now) }
 {
     match fields {
         [] => Ok(0),

@@ -23,17 +23,17 @@ const FORMS: [(&[u8], u8); 7] = [
 ];
 
 // The number of a group without the parenthesis that closes it.
-#[tactic(auto, unfolding(crate::specs::Forming::forms))]
+#[tactic(auto, unfolding(crate::specs::Forming::progressive_forms))]
 fn form_row(group: &[u8]) -> Option<u8>
-    ensures { result ≡ row_of group.now spec.forms }
+    ensures { result ≡ row_of group.now spec.progressive_forms }
 {
     row_of(&FORMS, group)
 }
 
 // A group without the parenthesis that closes it.
-#[tactic(auto, unfolding(crate::specs::Forming::unclosed))]
+#[tactic(auto, unfolding(crate::specs::Forming::open_group))]
 fn unclosed(group: &[u8]) -> &[u8]
-    ensures { result.now ≡ spec.unclosed group.now }
+    ensures { result.now ≡ spec.open_group group.now }
 {
     if ends_with(group, b')') {
         group.split_at(group.len() - 1).0
@@ -59,9 +59,9 @@ pub(crate) fn split_description(text: &[u8]) -> (&[u8], &[u8])
 }
 
 // The form with the progressive form that a text begins with, and what stands behind that.
-#[tactic(auto, unfolding(crate::specs::Forming::progressed))]
+#[tactic(auto, unfolding(crate::specs::Forming::form_with_progress))]
 pub(crate) fn progressed(op: Operation, form: Form, text: &[u8]) -> (Option<Form>, &[u8])
-    ensures form { result.0 ≡ spec.progressed op form text.now }
+    ensures form { result.0 ≡ spec.form_with_progress op form text.now }
     ensures behind { result.1.now ≡ behind_group text.now }
     ensures shorter { length result.1.now ≤ length text.now }
 {
@@ -74,13 +74,14 @@ pub(crate) fn progressed(op: Operation, form: Form, text: &[u8]) -> (Option<Form
 }
 
 fn with_group(op: Operation, form: Form, group: &[u8]) -> Option<Form>
-    ensures { result ≡ option_and_then (spec.with_number op form) (spec.form_number group.now) }
+    ensures { result ≡ option_and_then (spec.form_with_number op form)
+        (spec.form_number group.now) }
 {
     with_number(op, form, form_number(group)?)
 }
 
 fn with_number(op: Operation, form: Form, number: u8) -> Option<Form>
-    ensures { result ≡ spec.with_number op form number }
+    ensures { result ≡ spec.form_with_number op form number }
 {
     if may_have_form(op, form.length, number) {
         Some(Form { p: number, ..form })
@@ -125,7 +126,7 @@ fn may_progress(op: Operation) -> bool
 }
 
 fn writes(op: Operation) -> bool
-    ensures { result ≡ spec.writes op }
+    ensures { result ≡ spec.is_field_written op }
 {
     match op {
         Operation::Vfl { op, .. } => writes_field(FullOp::Variable(op)),

@@ -219,9 +219,9 @@ const TRUTH_TABLES: [(&[u8], u8); 16] = [
 ];
 
 // The operation that a word names.
-#[tactic(auto, unfolding(crate::specs::Table::operation_of))]
+#[tactic(auto, unfolding(crate::specs::Table::operation_of_word))]
 pub(crate) fn operation_of(word: &[u8]) -> Option<Operation>
-    ensures { result ≡ spec.operation_of word.now }
+    ensures { result ≡ spec.operation_of_word word.now }
 {
     if let Some(op) = listed_operation(word) {
         return Some(op);
@@ -232,9 +232,11 @@ pub(crate) fn operation_of(word: &[u8]) -> Option<Operation>
     connective(word)
 }
 
-// The operation whose word stands in a table. No word stands in two of them, so those come first that cards have most.
+// The operation whose word stands in a table. No word stands in two of them, so those come first
+// that cards have most.
 fn listed_operation(word: &[u8]) -> Option<Operation>
-    ensures { result ≡ option_or (option_or (row_of word.now spec.other_operations) (spec.index_operation word.now))
+    ensures { result ≡ option_or (option_or (row_of word.now spec.other_operations)
+        (spec.index_operation word.now))
         (spec.field_operation false word.now) }
 {
     if let Some(op) = field_operation(word, false) {
@@ -305,9 +307,9 @@ fn connective(word: &[u8]) -> Option<Operation>
         .map(|(kind, table)| Operation::Connect { kind, table })
 }
 
-#[tactic(auto, unfolding(crate::specs::Table::kinds))]
+#[tactic(auto, unfolding(crate::specs::Table::connective_kinds))]
 fn kind_row(word: &[u8]) -> Option<ConnKind>
-    ensures { result ≡ row_of word.now spec.kinds }
+    ensures { result ≡ row_of word.now spec.connective_kinds }
 {
     row_of(&KINDS, word)
 }

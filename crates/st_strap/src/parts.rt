@@ -2,7 +2,7 @@
 
 ghost use Rattle.std.specs.Prelude.{◌≡◌, ◌≤◌, ◌==◌, not, length, take, filter};
 ghost use Rattle.st_text.specs.Bytes.{blank, comma};
-ghost use Rattle.st_text.specs.Pieces.{parted};
+ghost use Rattle.st_text.specs.Pieces.{pieces_of};
 ghost use Rattle.st_strap.specs.Text as spec;
 ghost use Rattle.st_strap.specs.Fields.{texts};
 
@@ -40,10 +40,10 @@ pub(crate) fn ends_with(text: &[u8], byte: u8) -> bool
 }
 
 // A statement without its comment and its blanks.
-#[tactic(auto, unfolding(crate::specs::Text::clean))]
+#[tactic(auto, unfolding(crate::specs::Text::statement_text))]
 pub(crate) fn clean(text: &[u8]) -> ArrayVec<u8, 63>
     requires { length text.now ≤ 63 }
-    ensures value { result.items ≡ spec.clean text.now }
+    ensures value { result.items ≡ spec.statement_text text.now }
     ensures within { length result.items ≤ 63 }
 {
     without_blanks(text.split_at(stop(text, b';', b';')).0)
@@ -93,7 +93,7 @@ pub(crate) fn fields(text: &[u8]) -> Fields<'_>
 // The first seventeen pieces that stand between the commas of a text.
 pub(crate) fn pieces(text: &[u8]) -> Fields<'_>
     requires { length text.now ≤ 63 }
-    ensures { texts result.items ≡ take 17 (parted comma text.now) }
+    ensures { texts result.items ≡ take 17 (pieces_of comma text.now) }
 {
     let mut fields = Fields::new();
     let mut rest = text;

@@ -24,9 +24,10 @@ use st_expr::is_name;
 
 /// The statement of a card, or the first of its faults.
 ///
-/// `name` is what columns 2 to 9 hold without the blanks at both ends, empty where they are blank; `text`
-/// is what columns 10 to 72 hold, at most 63 bytes. The faults are those of the form pass from `BadName`
-/// down to `NumberTooLarge`, and of several on the card it is the earliest in that list.
+/// `name` is what columns 2 to 9 hold without the blanks at both ends, empty where they are blank;
+/// `text` is what columns 10 to 72 hold, at most 63 bytes. The faults are those of the form pass
+/// from `BadName` down to `NumberTooLarge`, and of several on the card it is the earliest in that
+/// list.
 pub fn read_statement(name: &[u8], text: &[u8]) -> Result<Statement, Fault>
     requires { length text.now ≤ 63 }
     ensures { result ≡ spec.statement_of name.now text.now }
@@ -80,10 +81,10 @@ fn misnames(named: bool, op: Operation) -> bool
 }
 
 // What an operation says with the text behind it.
-#[tactic(auto, unfolding(crate::specs::Saying::said))]
+#[tactic(auto, unfolding(crate::specs::Saying::reading_of_operation))]
 fn say(op: Operation, text: &[u8]) -> Result<CompactStatement, Fault>
     requires { length text.now ≤ 63 }
-    ensures { result ≡ spec.said op text.now }
+    ensures { result ≡ spec.reading_of_operation op text.now }
 {
     let (description, behind) = split_description(text);
     match description_in(op, description) {
@@ -95,17 +96,17 @@ fn say(op: Operation, text: &[u8]) -> Result<CompactStatement, Fault>
 // The operation and the form that a group makes of an operation.
 fn description_in(op: Operation, group: &[u8]) -> Option<(Operation, Form)>
     requires { length group.now ≤ 63 }
-    ensures { result ≡ option_and_then (describing.described op)
+    ensures { result ≡ option_and_then (describing.described_form op)
         (describing.description_of group.now) }
 {
     described(op, description_of(group)?)
 }
 
 // What an operation says with an allowed description and the text behind that.
-#[tactic(auto, unfolding(crate::specs::Saying::formed))]
+#[tactic(auto, unfolding(crate::specs::Saying::statement_in_form))]
 fn say_formed(op: Operation, form: Form, text: &[u8]) -> Result<CompactStatement, Fault>
     requires { length text.now ≤ 63 }
-    ensures { result ≡ spec.formed op form text.now }
+    ensures { result ≡ spec.statement_in_form op form text.now }
 {
     let (form, behind) = progressed(op, form, text);
     match form {

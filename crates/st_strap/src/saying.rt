@@ -1,5 +1,5 @@
-//! What each operation says with its form and its fields. Each has a function of its own that is never inlined, so that no other
-//! one's large values are cleared for it.
+//! What each operation says with its form and its fields. Each has a function of its own that is
+//! never inlined, so that no other one's large values are cleared for it.
 
 ghost use Rattle.std.specs.Prelude.{◌≡◌};
 ghost use Rattle.st_strap.specs.Fields.{texts};
@@ -20,7 +20,8 @@ use st_card::Fault;
 #[inline(never)]
 #[tactic(auto, unfolding(crate::specs::Saying::with_fields))]
 pub(crate) fn say_half(op: HalfOp, fields: &[Field]) -> Result<CompactStatement, Fault>
-    ensures { (form : FormOf) → result ≡ spec.with_fields (Operation.Half op) form (texts fields.now) }
+    ensures { (form : FormOf) → result ≡ spec.with_fields (Operation.Half op) form
+        (texts fields.now) }
 {
     let (j, at) = index_and_spot(fields)?;
     Ok(Statement::Half { op, j, at })
@@ -51,7 +52,8 @@ pub(crate) fn say_refill(fields: &[Field]) -> Result<CompactStatement, Fault>
 #[inline(never)]
 #[tactic(auto, unfolding(crate::specs::Saying::with_fields))]
 pub(crate) fn say_execute(fields: &[Field]) -> Result<CompactStatement, Fault>
-    ensures { (form : FormOf) → result ≡ spec.with_fields Operation.Execute form (texts fields.now) }
+    ensures { (form : FormOf) → result ≡ spec.with_fields Operation.Execute form
+        (texts fields.now) }
 {
     Ok(Statement::Half {
         op: HalfOp::Ex,
@@ -64,7 +66,8 @@ pub(crate) fn say_execute(fields: &[Field]) -> Result<CompactStatement, Fault>
 #[inline(never)]
 #[tactic(auto, unfolding(crate::specs::Saying::with_fields))]
 pub(crate) fn say_branch(op: BranchOp, fields: &[Field]) -> Result<CompactStatement, Fault>
-    ensures { (form : FormOf) → result ≡ spec.with_fields (Operation.Branch op) form (texts fields.now) }
+    ensures { (form : FormOf) → result ≡ spec.with_fields (Operation.Branch op) form
+        (texts fields.now) }
 {
     Ok(Statement::Branch {
         op,
@@ -76,7 +79,8 @@ pub(crate) fn say_branch(op: BranchOp, fields: &[Field]) -> Result<CompactStatem
 #[inline(never)]
 #[tactic(auto, unfolding(crate::specs::Saying::with_fields))]
 pub(crate) fn say_bare(op: BranchOp, fields: &[Field]) -> Result<CompactStatement, Fault>
-    ensures { (form : FormOf) → result ≡ spec.with_fields (Operation.Bare op) form (texts fields.now) }
+    ensures { (form : FormOf) → result ≡ spec.with_fields (Operation.Bare op) form
+        (texts fields.now) }
 {
     without_fields(Statement::Branch { op, at: None }, fields)
 }
@@ -85,7 +89,8 @@ pub(crate) fn say_bare(op: BranchOp, fields: &[Field]) -> Result<CompactStatemen
 #[inline(never)]
 #[tactic(auto, unfolding(crate::specs::Saying::with_fields))]
 pub(crate) fn say_floating(number: u8, fields: &[Field]) -> Result<CompactStatement, Fault>
-    ensures { (form : FormOf) → result ≡ spec.with_fields (Operation.Floating number) form (texts fields.now) }
+    ensures { (form : FormOf) → result ≡ spec.with_fields (Operation.Floating number) form
+        (texts fields.now) }
 {
     Ok(Statement::Floating {
         number,
@@ -139,7 +144,8 @@ pub(crate) fn say_connect(
 #[inline(never)]
 #[tactic(auto, unfolding(crate::specs::Saying::with_fields))]
 pub(crate) fn say_move(swap: bool, fields: &[Field]) -> Result<CompactStatement, Fault>
-    ensures { (form : FormOf) → result ≡ spec.with_fields (Operation.Move swap) form (texts fields.now) }
+    ensures { (form : FormOf) → result ≡ spec.with_fields (Operation.Move swap) form
+        (texts fields.now) }
 {
     let (at, more) = two_addresses_and_number(fields)?;
     Ok(Statement::Move {
@@ -158,7 +164,8 @@ pub(crate) fn say_bit_branch(
     change: u8,
     fields: &[Field],
 ) -> Result<CompactStatement, Fault>
-    ensures { (form : FormOf) → result ≡ spec.with_fields (Operation.BitBranch sense change) form (texts fields.now) }
+    ensures { (form : FormOf) → result ≡ spec.with_fields (Operation.BitBranch sense change) form
+        (texts fields.now) }
 {
     let (at, second) = two_addresses(fields)?;
     Ok(Statement::BitBranch {
@@ -177,7 +184,8 @@ pub(crate) fn say_ind_branch(
     off: bool,
     fields: &[Field],
 ) -> Result<CompactStatement, Fault>
-    ensures { (form : FormOf) → result ≡ spec.with_fields (Operation.IndBranch sense off) form (texts fields.now) }
+    ensures { (form : FormOf) → result ≡ spec.with_fields (Operation.IndBranch sense off) form
+        (texts fields.now) }
 {
     let (at, second) = two_addresses(fields)?;
     Ok(Statement::IndBranch {
@@ -192,7 +200,8 @@ pub(crate) fn say_ind_branch(
 #[inline(never)]
 #[tactic(auto, unfolding(crate::specs::Saying::with_fields))]
 pub(crate) fn say_store_counter(fields: &[Field]) -> Result<CompactStatement, Fault>
-    ensures { (form : FormOf) → result ≡ spec.with_fields Operation.StoreCounter form (texts fields.now) }
+    ensures { (form : FormOf) → result ≡ spec.with_fields Operation.StoreCounter form
+        (texts fields.now) }
 {
     let (at, second) = two_addresses(fields)?;
     Ok(Statement::StoreCounter { at, second })
@@ -202,7 +211,8 @@ pub(crate) fn say_store_counter(fields: &[Field]) -> Result<CompactStatement, Fa
 #[inline(never)]
 #[tactic(auto, unfolding(crate::specs::Saying::with_fields))]
 pub(crate) fn say_transfer(write: bool, fields: &[Field]) -> Result<CompactStatement, Fault>
-    ensures { (form : FormOf) → result ≡ spec.with_fields (Operation.Transfer write) form (texts fields.now) }
+    ensures { (form : FormOf) → result ≡ spec.with_fields (Operation.Transfer write) form
+        (texts fields.now) }
 {
     let (at, count) = spot_and_number(fields)?;
     Ok(Statement::Transfer { write, at, count })
@@ -226,7 +236,8 @@ pub(crate) fn say_data(form: Form, fields: &[Field]) -> Result<CompactStatement,
 #[inline(never)]
 #[tactic(auto, unfolding(crate::specs::Saying::with_fields))]
 pub(crate) fn say_index_word(fields: &[Field]) -> Result<CompactStatement, Fault>
-    ensures { (form : FormOf) → result ≡ spec.with_fields Operation.IndexWord form (texts fields.now) }
+    ensures { (form : FormOf) → result ≡ spec.with_fields Operation.IndexWord form
+        (texts fields.now) }
 {
     let (value, more) = index_word_parts(fields)?;
     Ok(Statement::IndexWord {
@@ -241,7 +252,8 @@ pub(crate) fn say_index_word(fields: &[Field]) -> Result<CompactStatement, Fault
 #[inline(never)]
 #[tactic(auto, unfolding(crate::specs::Saying::with_fields))]
 pub(crate) fn say_synonym(fields: &[Field]) -> Result<CompactStatement, Fault>
-    ensures { (form : FormOf) → result ≡ spec.with_fields Operation.Synonym form (texts fields.now) }
+    ensures { (form : FormOf) → result ≡ spec.with_fields Operation.Synonym form
+        (texts fields.now) }
 {
     Ok(Statement::Synonym {
         at: expression_alone(fields)?,
@@ -252,7 +264,8 @@ pub(crate) fn say_synonym(fields: &[Field]) -> Result<CompactStatement, Fault>
 #[inline(never)]
 #[tactic(auto, unfolding(crate::specs::Saying::with_fields))]
 pub(crate) fn say_set_location(fields: &[Field]) -> Result<CompactStatement, Fault>
-    ensures { (form : FormOf) → result ≡ spec.with_fields Operation.SetLocation form (texts fields.now) }
+    ensures { (form : FormOf) → result ≡ spec.with_fields Operation.SetLocation form
+        (texts fields.now) }
 {
     Ok(Statement::SetLocation {
         at: expression_alone(fields)?,
@@ -263,7 +276,8 @@ pub(crate) fn say_set_location(fields: &[Field]) -> Result<CompactStatement, Fau
 #[inline(never)]
 #[tactic(auto, unfolding(crate::specs::Saying::with_fields))]
 pub(crate) fn say_reserve(fields: &[Field]) -> Result<CompactStatement, Fault>
-    ensures { (form : FormOf) → result ≡ spec.with_fields Operation.Reserve form (texts fields.now) }
+    ensures { (form : FormOf) → result ≡ spec.with_fields Operation.Reserve form
+        (texts fields.now) }
 {
     Ok(Statement::Reserve {
         at: expression_alone(fields)?,

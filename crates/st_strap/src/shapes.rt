@@ -101,9 +101,9 @@ pub(crate) fn index_and_list(fields: &[Field]) -> Result<(u8, u16), Fault>
 }
 
 // The address of a field and an offset or none.
-#[tactic(auto, unfolding(crate::specs::Saying::operand))]
+#[tactic(auto, unfolding(crate::specs::Saying::operand_spot))]
 pub(crate) fn operand(form: Form, fields: &[Field]) -> Result<(CompactSpot, u64), Fault>
-    ensures { result ≡ spec.operand form (texts fields.now) }
+    ensures { result ≡ spec.operand_spot form (texts fields.now) }
 {
     match fields {
         [at] => both(spot(form.p >= 2, at.text), Ok(0)),

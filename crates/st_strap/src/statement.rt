@@ -3,7 +3,8 @@
 use st_bits::{BranchOp, ConnKind, HalfOp, VflOp};
 use st_expr::{Expr, ExprText};
 
-/// An address, and the index word that changes it. The address is kept in the form `E`: as its terms, or as its text.
+/// An address, and the index word that changes it. The address is kept in the form `E`: as its
+/// terms, or as its text.
 #[derive(Drop, Debug, PartialEq)]
 pub struct Spot<E = Expr> {
     /// The address, a bit address.
@@ -23,14 +24,15 @@ pub struct Form {
     pub length: u8,
     /// The bits of a byte, 1 to 8.
     pub byte: u8,
-    /// The progressive form, 0 to 7: 0 is none, 1 takes the operand from the address, and the others
-    /// change the index word.
+    /// The progressive form, 0 to 7: 0 is none, 1 takes the operand from the address, and the
+    /// others change the index word.
     pub p: u8,
 }
 
-/// A statement: an instruction, or an order to the assembler. `at` is its first address, and `second` is another one, in bits,
-/// without an index part. Numbers (`offset`, `count`, `number`, `flags`) are as they were read, below 2^64; only the
-/// assembler tries them against what has room. Addresses are kept in the form `E`: as their terms, or as their texts.
+/// A statement: an instruction, or an order to the assembler. `at` is its first address, and
+/// `second` is another one, in bits, without an index part. Numbers (`offset`, `count`, `number`,
+/// `flags`) are as they were read, below 2^64; only the assembler tries them against what has room.
+/// Addresses are kept in the form `E`: as their terms, or as their texts.
 #[derive(Drop, Debug, PartialEq)]
 pub enum Statement<E = Expr> {
     /// An operation on the index word `j`, 0 to 15; EX has `j` 0.
@@ -112,7 +114,8 @@ pub enum Statement<E = Expr> {
         minus: bool,
         number: u64,
     },
-    /// XW: an index word. Its value is in bits and may be negative; the refill is the address of a word, in bits.
+    /// XW: an index word. Its value is in bits and may be negative; the refill is the address of a
+    /// word, in bits.
     IndexWord {
         value: E,
         count: u64,

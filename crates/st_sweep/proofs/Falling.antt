@@ -1,12 +1,12 @@
--- The ticks of a calm run do not rise with the number of levels.
+-- The ticks of a hazard-free run do not rise with the number of levels.
 use Rattle.std.specs.Prelude.{IfOk, Result, Ok, Err}
 use Rattle.std.proofs.Common.{◌≡◌, ℕ, zero, suc, ◌+◌, ◌≤◌, ◌<◌, true, List, [], ◌∷◌, length, slice_index, refl, sym, ◌∙◌, ap, subst, arith}
 use Rattle.st_run.specs.Run.{Scene}
-use Rattle.st_sweep.specs.Calm.{is_calm}
+use Rattle.st_sweep.specs.HazardFree.{is_hazard_free}
 use Rattle.st_sweep.specs.Sweep.{ticks}
-use Rattle.st_sweep.specs.SideBySide.{swept, AreNotRising}
+use Rattle.st_sweep.specs.SideBySide.{side_by_side, AreNotRising}
 use Rattle.st_sweep.specs.declared.sweeping.Swept.{Swept}
-use Rattle.st_sweep.proofs.Segment.{calm-ticks}
+use Rattle.st_sweep.proofs.Segment.{hazard_free-ticks}
 
 -- the values of a function at n numbers from k on
 values : (ℕ → ℕ) → ℕ → ℕ → List ℕ
@@ -23,15 +23,15 @@ value-at f k (suc n) (suc i) low =
     let same : k + 1 + i ≡ k + suc i = omega arith in
     value-at f (k + 1) n i (omega arith) ∙ ap f same
 
-not-rising : (ds : List ℕ) (left : ℕ) (c : Scene) → 1 ≤ length ds → is_calm ds left c ≡ true → AreNotRising (swept ds left c).ticks
+not-rising : (ds : List ℕ) (left : ℕ) (c : Scene) → 1 ≤ length ds → is_hazard_free ds left c ≡ true → AreNotRising (side_by_side ds left c).ticks
 unfolding values
-not-rising ds left c some calm i j low inside =
+not-rising ds left c some hazard_free i j low inside =
     let f = λ (n : ℕ). ticks ds n left c in
-    let at : (k : ℕ) → k < 8 → slice_index (swept ds left c).ticks k ≡ f (1 + k) = value-at f 1 8 in
-    let more = calm-ticks ds (1 + j) (1 + i) left c some (omega arith) calm in
+    let at : (k : ℕ) → k < 8 → slice_index (side_by_side ds left c).ticks k ≡ f (1 + k) = value-at f 1 8 in
+    let more = hazard_free-ticks ds (1 + j) (1 + i) left c some (omega arith) hazard_free in
     omega (arith, at i (omega arith), at j inside, more)
 
 pub levels-of : {E : Type 0} (ds : List ℕ) (left : ℕ) (c : Scene) (r : Result Swept E) → 1 ≤ length ds
-    → IfOk r (λ x. x ≡ swept ds left c) → IfOk r (λ x. x.calm ≡ true → AreNotRising x.ticks)
-levels-of ds left c (Ok x) some same = subst (λ y. y.calm ≡ true → AreNotRising y.ticks) (sym same) (not-rising ds left c some)
+    → IfOk r (λ x. x ≡ side_by_side ds left c) → IfOk r (λ x. x.hazard_free ≡ true → AreNotRising x.ticks)
+levels-of ds left c (Ok x) some same = subst (λ y. y.hazard_free ≡ true → AreNotRising y.ticks) (sym same) (not-rising ds left c some)
 levels-of ds left c (Err e) some same = tt

@@ -1,6 +1,6 @@
--- What holds of each run that is calm, proved.
-use Rattle.st_sweep.proofs.Segment.{calm-ticks}
+-- What holds of each run that is hazard-free, proved.
+use Rattle.st_sweep.proofs.Segment.{hazard_free-ticks}
 use Rattle.st_sweep.specs.Laws.{MoreLevelsAreNoSlower}
 
 pub more_levels_are_no_slower : MoreLevelsAreNoSlower
-more_levels_are_no_slower = λ ds m n left scene some more calm. calm-ticks ds m n left scene some more calm
+more_levels_are_no_slower = λ ds m n left scene some more hazard_free. hazard_free-ticks ds m n left scene some more hazard_free

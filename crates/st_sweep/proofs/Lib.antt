@@ -1,4 +1,4 @@
-pub mod Calmness
+pub mod HazardFreedom
 pub mod Segment
 pub mod Stages
 pub mod MarkLemmas

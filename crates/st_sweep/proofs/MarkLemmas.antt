@@ -7,27 +7,27 @@ use Rattle.std.proofs.lemmas.Bool.Decides.{nat_tests}
 use Rattle.std.proofs.lemmas.List.{length-set, get_or-set_same, get_or-set_other}
 use Rattle.st_prep.specs.declared.entries.Words.{Words}
 use Rattle.st_rows.specs.Entries.{is_in, is_among}
-use Rattle.st_rows.specs.declared.entry.Runs.{Runs}
+use Rattle.st_rows.specs.declared.entry.WordRuns.{WordRuns}
 use Rattle.st_segment.specs.Entries.{words_to_write}
-use Rattle.st_sweep.specs.Calm.{is_written, are_written}
-use Rattle.st_sweep.specs.Marks.{AreMarks, marked}
+use Rattle.st_sweep.specs.HazardFree.{is_among_written, are_written}
+use Rattle.st_sweep.specs.Marks.{AreMarks, marks_with}
 
 -- ---- one word of a run after the other
 
-pub written-next : (earlier : List Runs) (w n : ℕ) → 0 < n
-    → are_written earlier w n ≡ (is_written earlier w || are_written earlier (w + 1) (n - 1))
+pub written-next : (earlier : List WordRuns) (w n : ℕ) → 0 < n
+    → are_written earlier w n ≡ (is_among_written earlier w || are_written earlier (w + 1) (n - 1))
 unfolding are_written
 written-next earlier w zero some = let no : ⊥ = omega arith in absurd no
 written-next earlier w (suc n) some =
     let one : n ≡ suc n - 1 = omega arith in
-    ap (λ k. is_written earlier w || are_written earlier (w + 1) k) one
+    ap (λ k. is_among_written earlier w || are_written earlier (w + 1) k) one
 
-pub marked-next : (marks : List Bool) (w n : ℕ) → 0 < n → marked marks w n ≡ marked (set marks w true) (w + 1) (n - 1)
-unfolding marked
+pub marked-next : (marks : List Bool) (w n : ℕ) → 0 < n → marks_with marks w n ≡ marks_with (set marks w true) (w + 1) (n - 1)
+unfolding marks_with
 marked-next marks w zero some = let no : ⊥ = omega arith in absurd no
 marked-next marks w (suc n) some =
     let one : n ≡ suc n - 1 = omega arith in
-    ap (λ k. marked (set marks w true) (w + 1) k) one
+    ap (λ k. marks_with (set marks w true) (w + 1) k) one
 
 -- ---- no marks
 
@@ -37,13 +37,13 @@ none-marked (suc n) zero = refl
 none-marked (suc n) (suc w) = none-marked n w
 
 pub marks-none : (n : ℕ) → AreMarks [] (replicate n false)
-unfolding is_written
+unfolding is_among_written
 marks-none n = record { each = λ w. none-marked n w }
 
 -- ---- marks after a run of words
 
-pub length-marked : (marks : List Bool) (w n : ℕ) → length (marked marks w n) ≡ length marks
-unfolding marked
+pub length-marked : (marks : List Bool) (w n : ℕ) → length (marks_with marks w n) ≡ length marks
+unfolding marks_with
 length-marked marks w zero = refl
 length-marked marks w (suc n) = length-marked (set marks w true) (w + 1) n ∙ length-set marks w true
 
@@ -65,8 +65,8 @@ module _ (v w : ℕ) where
   other-in other n = grind (arith, nat_tests)
 
 run-marked : (marks : List Bool) (v w n : ℕ) → (1 ≤ n → w + n ≤ length marks)
-    → get_or (marked marks w n) v false ≡ (is_in v (record { first = w; len = n }) || get_or marks v false)
-unfolding marked
+    → get_or (marks_with marks w n) v false ≡ (is_in v (record { first = w; len = n }) || get_or marks v false)
+unfolding marks_with
 run-marked marks v w zero inside = rw (outside v w) refl
 run-marked marks v w (suc n) inside =
     let next = set marks w true in
@@ -89,12 +89,12 @@ regroup true false c = refl
 regroup false true c = refl
 regroup false false c = refl
 
-pub marks-put : (earlier : List Runs) (marks : List Bool) (words : Words) → AreMarks earlier marks
+pub marks-put : (earlier : List WordRuns) (marks : List Bool) (words : Words) → AreMarks earlier marks
     → (1 ≤ words.len → words.first + words.len ≤ length marks) → (1 ≤ words.len2 → words.first2 + words.len2 ≤ length marks)
-    → AreMarks (words_to_write words ∷ earlier) (marked (marked marks words.first words.len) words.first2 words.len2)
-unfolding is_written is_among
+    → AreMarks (words_to_write words ∷ earlier) (marks_with (marks_with marks words.first words.len) words.first2 words.len2)
+unfolding is_among_written is_among
 marks-put earlier marks words are inside inside2 =
-    let once = marked marks words.first words.len in
+    let once = marks_with marks words.first words.len in
     let one = λ (v : ℕ). is_in v (record { first = words.first; len = words.len }) in
     let two = λ (v : ℕ). is_in v (record { first = words.first2; len = words.len2 }) in
     let long : length once ≡ length marks = length-marked marks words.first words.len in
@@ -108,24 +108,24 @@ marks-put earlier marks words are inside inside2 =
 
 -- ---- a run, word by word
 
-pub none-left : (earlier : List Runs) (w n : ℕ) → n ≡ 0 → false ≡ are_written earlier w n
+pub none-left : (earlier : List WordRuns) (w n : ℕ) → n ≡ 0 → false ≡ are_written earlier w n
 unfolding are_written
 none-left earlier w zero none = refl
 none-left earlier w (suc n) none = let no : ⊥ = omega arith in absurd no
 
-pub found-mark : (earlier : List Runs) (marks : List Bool) (w n : ℕ) → 0 < n → AreMarks earlier marks → get_or marks w false ≡ true
+pub found-mark : (earlier : List WordRuns) (marks : List Bool) (w n : ℕ) → 0 < n → AreMarks earlier marks → get_or marks w false ≡ true
     → true ≡ are_written earlier w n
 found-mark earlier marks w n some are on =
-    let here : is_written earlier w ≡ true = sym (are.each w) ∙ on in
+    let here : is_among_written earlier w ≡ true = sym (are.each w) ∙ on in
     sym (written-next earlier w n some ∙ ap (λ b. b || are_written earlier (w + 1) (n - 1)) here)
 
-pub passed-mark : (earlier : List Runs) (marks : List Bool) (w n : ℕ) → 0 < n → AreMarks earlier marks → get_or marks w false ≡ false
+pub passed-mark : (earlier : List WordRuns) (marks : List Bool) (w n : ℕ) → 0 < n → AreMarks earlier marks → get_or marks w false ≡ false
     → are_written earlier (w + 1) (n - 1) ≡ are_written earlier w n
 passed-mark earlier marks w n some are off =
-    let here : is_written earlier w ≡ false = sym (are.each w) ∙ off in
+    let here : is_among_written earlier w ≡ false = sym (are.each w) ∙ off in
     sym (written-next earlier w n some ∙ ap (λ b. b || are_written earlier (w + 1) (n - 1)) here)
 
-pub none-marked-left : (marks : List Bool) (w n : ℕ) → n ≡ 0 → marks ≡ marked marks w n
-unfolding marked
+pub none-marked-left : (marks : List Bool) (w n : ℕ) → n ≡ 0 → marks ≡ marks_with marks w n
+unfolding marks_with
 none-marked-left marks w zero none = refl
 none-marked-left marks w (suc n) none = let no : ⊥ = omega arith in absurd no

@@ -7,34 +7,34 @@ use Rattle.st_prep.specs.Plan.{plan}
 use Rattle.st_exec.specs.Completion.{is_missed}
 use Rattle.st_exec.specs.Step.{interrupt, step, rests, IsStep}
 use Rattle.st_card.specs.declared.control_cards.Signal.{Signal}
-use Rattle.st_run.specs.Run.{Scene, interlude, stepped, run}
-use Rattle.st_exec.specs.Trails.{IsTrail, CanBePutBack, IsKept}
+use Rattle.st_run.specs.Run.{Scene, interlude, scene_after_step, run}
+use Rattle.st_exec.specs.Trails.{IsTrail, CanBePutBack, IsKeptStep}
 use Rattle.st_exec.specs.declared.kept.Trail.{Trail}
 use Rattle.st_exec.specs.declared.step.Step.{Step}
 use Rattle.st_exec.specs.declared.step.Step.TheVariants.{Plain, Interrupt, Waits}
 use Rattle.st_exec.proofs.StepLemmas.{step-done}
 use Rattle.st_run.proofs.Runs.{run-rests, run-budget, run-goes_on}
-use Rattle.st_rows.specs.declared.entry.Runs.{Runs}
+use Rattle.st_rows.specs.declared.entry.WordRuns.{WordRuns}
 use Rattle.st_run.proofs.DoneLemmas.{settled-done}
-use Rattle.st_sweep.specs.Calm.{side_is_written, one_is_written, next_writes, next_side, is_calm_entry, is_quiet, is_calm_behind}
+use Rattle.st_sweep.specs.HazardFree.{side_is_written, one_is_written, next_writes, next_side, is_hazard_free_entry, is_quiet, is_hazard_free_behind}
 use Rattle.st_sweep.specs.Marks.{AreMarks}
 use Rattle.st_sweep.specs.Sweep.{without_cards}
 
 -- ---- one step
 
 -- what is kept of a step that is made
-pub kept-step : (s t : Machine) (old new : Trail) (r : Step) → rests s ≡ false → IsStep s t r → IsKept s old new r → IsTrail s new × CanBePutBack new
+pub kept-step : (s t : Machine) (old new : Trail) (r : Step) → rests s ≡ false → IsStep s t r → IsKeptStep s old new r → IsTrail s new × CanBePutBack new
 kept-step s t old new Plain going made kept = kept
 kept-step s t old new (Interrupt i) going made kept = kept
 kept-step s t old new Waits going made kept = absurd (cc)
 
--- whether it is a calm entry
-pub entry-calm : (earlier : List Runs) (s : Machine) (t : Trail) (straight side words : Bool) → IsTrail s t
+-- whether it is a hazard-free entry
+pub entry-hazard_free : (earlier : List WordRuns) (s : Machine) (t : Trail) (straight side words : Bool) → IsTrail s t
     → straight ≡ (is_none (interrupt s) && not (is_missed (plan s (interrupt s)) s))
     → side ≡ side_is_written earlier t.index_read → words ≡ one_is_written earlier t.reads
-    → (straight && not side && not words) ≡ is_calm_entry earlier s
-unfolding is_calm_entry
-entry-calm earlier s t straight side words trail first second third =
+    → (straight && not side && not words) ≡ is_hazard_free_entry earlier s
+unfolding is_hazard_free_entry
+entry-hazard_free earlier s t straight side words trail first second third =
     ap (λ b. b && not side && not words) first
     ∙ ap (λ b. is_none (interrupt s) && not (is_missed (plan s (interrupt s)) s) && not b && not words)
     (second ∙ ap (side_is_written earlier) trail.index_read)
@@ -43,26 +43,26 @@ entry-calm earlier s t straight side words trail first second third =
 
 -- ---- the run
 
--- the run began so that it is calm or not and ends with so many done; it was calm or not so far, so many entries may still be
+-- the run began so that it is hazard-free or not and ends with so many done; it was hazard-free or not so far, so many entries may still be
 -- done, and it goes on with a scene
 pub record IsSoFar (whole : Bool) (last : ℕ) (so : Bool) (left : ℕ) (s : Machine) (xs : List Signal) (written : List Bool) : Type 0 where
-  pub earlier : List Runs
+  pub earlier : List WordRuns
   pub marks : AreMarks earlier written
-  pub calm : (so && is_calm_behind earlier left (without_cards s xs)) ≡ whole
+  pub hazard_free : (so && is_hazard_free_behind earlier left (without_cards s xs)) ≡ whole
   pub done : (run left (without_cards s xs)).last.done ≡ last
   pub few : s.done + left ≤ MOST_INSTRUCTIONS
 
 pub at-start : (s : Machine) (xs : List Signal) (left : ℕ) (marks : List Bool) → AreMarks [] marks → s.done + left ≤ MOST_INSTRUCTIONS
-    → IsSoFar (is_calm_behind [] left (without_cards s xs)) (run left (without_cards s xs)).last.done true left s xs marks
-at-start s xs left marks are few = record { earlier = []; marks = are; calm = refl; done = refl; few = few }
+    → IsSoFar (is_hazard_free_behind [] left (without_cards s xs)) (run left (without_cards s xs)).last.done true left s xs marks
+at-start s xs left marks are few = record { earlier = []; marks = are; hazard_free = refl; done = refl; few = few }
 
 -- at its end
-calm-ends : (earlier : List Runs) (left : ℕ) (c : Scene) → (left ≡ 0) ⊎ (rests (interlude c).scene.machine ≡ true)
-    → is_calm_behind earlier left c ≡ is_quiet c
-unfolding is_calm_behind
-calm-ends earlier zero c end = refl
-calm-ends earlier (suc left) c (inl none) = let no : ⊥ = omega arith in absurd no
-calm-ends earlier (suc left) c (inr resting) = rw resting (and-right (is_quiet c))
+hazard_free-ends : (earlier : List WordRuns) (left : ℕ) (c : Scene) → (left ≡ 0) ⊎ (rests (interlude c).scene.machine ≡ true)
+    → is_hazard_free_behind earlier left c ≡ is_quiet c
+unfolding is_hazard_free_behind
+hazard_free-ends earlier zero c end = refl
+hazard_free-ends earlier (suc left) c (inl none) = let no : ⊥ = omega arith in absurd no
+hazard_free-ends earlier (suc left) c (inr resting) = rw resting (and-right (is_quiet c))
   where
     and-right : (b : Bool) → (b && true) ≡ b
     and-right true = refl
@@ -73,32 +73,32 @@ done-ends left c (inl none) = ap (λ r. r.last.done) (run-budget left c none)
 done-ends left c (inr resting) = ap (λ r. r.last.done) (run-rests left c resting)
 
 -- it goes on by an entry
-abbrev calm_on : List Runs → ℕ → Scene → Bool
-calm_on earlier left d =
-    is_calm_entry earlier d.machine && is_calm_behind (next_writes d.machine ∷ earlier) left (stepped d)
+abbrev hazard_free_on : List WordRuns → ℕ → Scene → Bool
+hazard_free_on earlier left d =
+    is_hazard_free_entry earlier d.machine && is_hazard_free_behind (next_writes d.machine ∷ earlier) left (scene_after_step d)
 
-calm-goes_on : (earlier : List Runs) (left : ℕ) (c : Scene) → left ≢ 0 → rests (interlude c).scene.machine ≡ false
-    → is_calm_behind earlier left c ≡ (is_quiet c && calm_on earlier (left - 1) (interlude c).scene)
-unfolding is_calm_behind
-calm-goes_on earlier zero c some going = absurd (some refl)
-calm-goes_on earlier (suc left) c some going =
+hazard_free-goes_on : (earlier : List WordRuns) (left : ℕ) (c : Scene) → left ≢ 0 → rests (interlude c).scene.machine ≡ false
+    → is_hazard_free_behind earlier left c ≡ (is_quiet c && hazard_free_on earlier (left - 1) (interlude c).scene)
+unfolding is_hazard_free_behind
+hazard_free-goes_on earlier zero c some going = absurd (some refl)
+hazard_free-goes_on earlier (suc left) c some going =
     let one : left ≡ suc left - 1 = omega arith in
-    rw going (ap (λ k. is_quiet c && calm_on earlier k (interlude c).scene) one)
+    rw going (ap (λ k. is_quiet c && hazard_free_on earlier k (interlude c).scene) one)
 
 regroup : (a b c d : Bool) → (((a && b) && c) && d) ≡ (a && (b && (c && d)))
 regroup true true c d = refl
 regroup true false c d = refl
 regroup false b c d = refl
 
-module _ (whole : Bool) (last : ℕ) (calm quiet : Bool) (left : ℕ) (s t : Machine) (xs ys : List Signal) (marks : List Bool)
-    (is : IsSoFar whole last calm left s xs marks) (came : (interlude (without_cards s xs)).scene ≡ without_cards t ys)
+module _ (whole : Bool) (last : ℕ) (hazard_free quiet : Bool) (left : ℕ) (s t : Machine) (xs ys : List Signal) (marks : List Bool)
+    (is : IsSoFar whole last hazard_free left s xs marks) (came : (interlude (without_cards s xs)).scene ≡ without_cards t ys)
     (still : quiet ≡ is_quiet (without_cards s xs)) where
   module _ (end : (left ≡ 0) ⊎ (rests t ≡ true)) where
     at_end : (left ≡ 0) ⊎ (rests (interlude (without_cards s xs)).scene.machine ≡ true)
     at_end = subst (λ m. (left ≡ 0) ⊎ (rests m ≡ true)) (ap (λ c. c.machine) (sym came)) end
 
-    pub ends-calm : (calm && quiet) ≡ whole
-    ends-calm = ap (λ b. calm && b) (still ∙ sym (calm-ends is.earlier left (without_cards s xs) at_end)) ∙ is.calm
+    pub ends-hazard_free : (hazard_free && quiet) ≡ whole
+    ends-hazard_free = ap (λ b. hazard_free && b) (still ∙ sym (hazard_free-ends is.earlier left (without_cards s xs) at_end)) ∙ is.hazard_free
 
     pub ends-done : t.done ≡ last
     ends-done = ap (λ c. c.machine.done) (sym came) ∙ sym (done-ends left (without_cards s xs) at_end) ∙ is.done
@@ -113,30 +113,30 @@ module _ (whole : Bool) (last : ℕ) (calm quiet : Bool) (left : ℕ) (s t : Mac
         let same : t.done ≡ s.done = ap (λ c. c.machine.done) (sym came) ∙ settled-done (without_cards s xs) in
         omega (arith, same, is.few)
 
-    pub next-so_far : (u : Machine) (entry now : Bool) (marks2 : List Bool) → u ≡ step t → now ≡ ((calm && quiet) && entry)
-        → ((earlier : List Runs) → AreMarks earlier marks → AreMarks (next_writes t ∷ earlier) marks2 × (entry ≡ is_calm_entry earlier t))
+    pub next-so_far : (u : Machine) (entry now : Bool) (marks2 : List Bool) → u ≡ step t → now ≡ ((hazard_free && quiet) && entry)
+        → ((earlier : List WordRuns) → AreMarks earlier marks → AreMarks (next_writes t ∷ earlier) marks2 × (entry ≡ is_hazard_free_entry earlier t))
         → IsSoFar whole last now (left - 1) u ys marks2
     next-so_far u entry now marks2 made all kept =
         let c = without_cards s xs in
         let e = is.earlier in
         let noted = kept e is.marks in
-        let later = is_calm_behind (next_writes t ∷ e) (left - 1) (without_cards u ys) in
-        let on : calm_on e (left - 1) (interlude c).scene ≡ (entry && later) =
-        ap (calm_on e (left - 1)) came
-        ∙ ap (λ b. b && is_calm_behind (next_writes t ∷ e) (left - 1) (without_cards (step t) ys)) (sym noted.1)
-        ∙ ap (λ m. entry && is_calm_behind (next_writes t ∷ e) (left - 1) (without_cards m ys)) (sym made) in
+        let later = is_hazard_free_behind (next_writes t ∷ e) (left - 1) (without_cards u ys) in
+        let on : hazard_free_on e (left - 1) (interlude c).scene ≡ (entry && later) =
+        ap (hazard_free_on e (left - 1)) came
+        ∙ ap (λ b. b && is_hazard_free_behind (next_writes t ∷ e) (left - 1) (without_cards (step t) ys)) (sym noted.1)
+        ∙ ap (λ m. entry && is_hazard_free_behind (next_writes t ∷ e) (left - 1) (without_cards m ys)) (sym made) in
         record {
           earlier = next_writes t ∷ e;
           marks = noted.0;
-          calm =
-              ap (λ b. b && later) all ∙ regroup calm quiet entry later
-              ∙ ap (λ b. calm && (b && (entry && later))) still
-              ∙ ap (λ b. calm && (is_quiet c && b)) (sym on)
-              ∙ ap (λ b. calm && b) (sym (calm-goes_on e left c some goes_on))
-              ∙ is.calm;
+          hazard_free =
+              ap (λ b. b && later) all ∙ regroup hazard_free quiet entry later
+              ∙ ap (λ b. hazard_free && (b && (entry && later))) still
+              ∙ ap (λ b. hazard_free && (is_quiet c && b)) (sym on)
+              ∙ ap (λ b. hazard_free && b) (sym (hazard_free-goes_on e left c some goes_on))
+              ∙ is.hazard_free;
           done =
               ap (λ m. (run (left - 1) (without_cards m ys)).last.done) made
-              ∙ ap (λ d. (run (left - 1) (stepped d)).last.done) (sym came)
+              ∙ ap (λ d. (run (left - 1) (scene_after_step d)).last.done) (sym came)
               ∙ sym (ap (λ r. r.last.done) (run-goes_on left c some goes_on))
               ∙ is.done;
           few =

@@ -7,7 +7,7 @@ use Rattle.st_state.specs.declared.devices.Device.{Device}
 use Rattle.st_exec.specs.Step.{rests}
 use Rattle.st_card.specs.declared.control_cards.Signal.{Signal}
 use Rattle.st_run.specs.Run.{with_due_signals, with_reader, with_printer, if_due, with_due_orders, with_device, with_order_at_rest, with_signals_at_rest, with_wait, interlude}
-use Rattle.st_sweep.specs.Calm.{is_quiet}
+use Rattle.st_sweep.specs.HazardFree.{is_quiet}
 use Rattle.st_sweep.specs.Sweep.{without_cards}
 
 pub due-stages : (s t u : Machine) (xs : List Signal)

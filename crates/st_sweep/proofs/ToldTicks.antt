@@ -3,15 +3,15 @@ use Rattle.st_card.specs.declared.control_cards.Signal.{Signal}
 use Rattle.std.proofs.Common.{◌≡◌, ℕ, ◌<◌, List, [], ◌∷◌, ◌++◌, length, refl, sym, subst, ◌∙◌, ap, arith}
 use Rattle.st_state.specs.Machine.{Machine}
 use Rattle.st_run.specs.Events.{Timed}
-use Rattle.st_run.specs.Order.{last_tick}
+use Rattle.st_run.specs.Order.{last_completion}
 use Rattle.st_run.specs.TimedRun.{timed_run}
-use Rattle.st_run.specs.Told.{Told, told}
+use Rattle.st_run.specs.Told.{Told, told_of_events}
 use Rattle.st_run.specs.Telling.{AreLeftOut}
 use Rattle.st_sweep.specs.Starts.{last_told}
 use Rattle.st_sweep.specs.Sweep.{without_cards, ticks}
 
-pub told-last : (t : ℕ) (xs : List Timed) → last_told t (told xs) ≡ last_tick t xs
-unfolding last_told told last_tick
+pub told-last : (t : ℕ) (xs : List Timed) → last_told t (told_of_events xs) ≡ last_completion t xs
+unfolding last_told told_of_events last_completion
 told-last t [] = refl
 told-last t (x ∷ xs) = told-last x.tick xs
 
@@ -41,9 +41,9 @@ left_out-fewer last old new is = subst (λ xs. length new < length xs) (sym is.r
 
 -- what a whole run tells
 pub told-whole : (ds : List ℕ) (n left : ℕ) (s : Machine) (xs : List Signal) (cards : List (List ℕ)) (rest : List Told)
-    → rest ≡ told (timed_run ds n left (record { machine = s; signals = xs; cards = cards }) []) → cards ≡ []
+    → rest ≡ told_of_events (timed_run ds n left (record { machine = s; signals = xs; cards = cards }) []) → cards ≡ []
     → last_told 0 rest ≡ ticks ds n left (without_cards s xs)
 unfolding ticks
 told-whole ds n left s xs cards rest tells none =
     let run = λ (ys : List (List ℕ)). timed_run ds n left (record { machine = s; signals = xs; cards = ys }) [] in
-    ap (last_told 0) tells ∙ told-last 0 (run cards) ∙ ap (λ ys. last_tick 0 (run ys)) none
+    ap (last_told 0) tells ∙ told-last 0 (run cards) ∙ ap (λ ys. last_completion 0 (run ys)) none

@@ -3,18 +3,19 @@ use Rattle.std.specs.Prelude.{ℕ, ◌≡◌, ◌≤◌, ◌<◌, false, List, [
 use Rattle.st_state.specs.Machine.{Machine}
 use Rattle.st_card.specs.declared.control_cards.Signal.{Signal}
 use Rattle.st_run.specs.Run.{Scene, run}
-use Rattle.st_sweep.specs.Calm.{is_calm}
+use Rattle.st_sweep.specs.HazardFree.{is_hazard_free}
 use Rattle.st_sweep.specs.Sweep.{without_cards, ticks}
 use Rattle.st_sweep.specs.Starts.{Start}
 use Rattle.st_sweep.specs.declared.start.Four.{Four}
 use Rattle.st_sweep.specs.declared.sweeping.Swept.{Swept}
 
--- the ticks on machines of one to eight levels, the number done at the end, and whether the run is calm
-abbrev pub swept : List ℕ → ℕ → Scene → Swept
-swept ds left c = record {
+-- the ticks on machines of one to eight levels, the number done at the end, and whether the run is
+-- hazard-free
+abbrev pub side_by_side : List ℕ → ℕ → Scene → Swept
+side_by_side ds left c = record {
   ticks = map (λ n. ticks ds n left c) (1 ∷ 2 ∷ 3 ∷ 4 ∷ 5 ∷ 6 ∷ 7 ∷ 8 ∷ []);
   done = (run left c).last.done;
-  calm = is_calm ds left c;
+  hazard_free = is_hazard_free ds left c;
 }
 
 -- four times the same machine

@@ -1,7 +1,7 @@
 -- Machines before their first entry.
 use Rattle.st_card.specs.declared.control_cards.Signal.{Signal}
 use Rattle.std.specs.Prelude.{ℕ, ◌≡◌, false, List, [], ◌∷◌, None}
-use Rattle.st_state.specs.Machine.{Machine, opening}
+use Rattle.st_state.specs.Machine.{Machine, opening_state}
 use Rattle.st_run.specs.Told.{Told}
 use Rattle.st_sweep.specs.Sweep.{without_cards, ticks}
 
@@ -11,11 +11,11 @@ pub record Start : Type 0 where
   pub delays : List ℕ
 
 -- at the start of an image
-abbrev pub start_of : List ℕ → ℕ → List ℕ → Start
-start_of image start ds = record { machine = opening image start; delays = ds }
+abbrev pub start_of_image : List ℕ → ℕ → List ℕ → Start
+start_of_image image start ds = record { machine = opening_state image start; delays = ds }
 
 -- nothing has happened in the state
-pub record IsFresh (s : Machine) : Type 0 where
+pub record IsFreshStart (s : Machine) : Type 0 where
   pub done : s.done ≡ 0
   pub enabled : s.enabled ≡ false
   pub waiting : s.waiting ≡ false

@@ -1,7 +1,7 @@
 //! One job on machines of one to eight levels, side by side. `docs/timetable.md` has the rules.
 #![tactic(auto, using(st_bits::specs::Storage::words_of_storage_is))]
 
-mod calm;
+mod hazards;
 mod settling;
 mod start;
 mod sweeping;

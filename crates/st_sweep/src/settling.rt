@@ -4,7 +4,7 @@ ghost use Rattle.std.specs.List.{AllPass};
 ghost use Rattle.st_card.specs.Limits.{is_signal};
 ghost use Rattle.st_card.specs.declared.control_cards.Signal.{Signal as SignalOf};
 ghost use Rattle.st_run.specs.Run.{with_reader, with_printer, if_due, with_due_orders, with_order_at_rest, with_wait, interlude};
-ghost use Rattle.st_sweep.specs.Calm.{is_quiet};
+ghost use Rattle.st_sweep.specs.HazardFree.{is_quiet};
 ghost use Rattle.st_sweep.specs.Sweep.{without_cards};
 
 use st_card::Signal;
@@ -16,7 +16,8 @@ use st_state::{Device, State};
 
 // The reader's order takes effect, if it has one. There is no card.
 fn serve_reader(state: &mut State)
-    ensures { (xs : List SignalOf) → (with_reader state.old.reader (without_cards state.old xs)).scene
+    ensures { (xs : List SignalOf) → (with_reader state.old.reader
+        (without_cards state.old xs)).scene
         ≡ without_cards state.new xs }
 {
     if reader_is_free(state) {
@@ -27,7 +28,8 @@ fn serve_reader(state: &mut State)
 
 // The printer's order takes effect, if it has one.
 fn serve_printer(state: &mut State)
-    ensures { (xs : List SignalOf) → (with_printer state.old.printer (without_cards state.old xs)).scene
+    ensures { (xs : List SignalOf) → (with_printer state.old.printer
+        (without_cards state.old xs)).scene
         ≡ without_cards state.new xs }
 {
     if printer_is_free(state) {
@@ -101,7 +103,8 @@ pub(crate) struct Settled<'a> {
     pub quiet: bool,
 }
 
-// Whether nothing came that ends a wait, by whether the machine rested before, and whether it rests after.
+// Whether nothing came that ends a wait, by whether the machine rested before, and whether it rests
+// after.
 fn is_kept(before: bool, after: bool) -> bool
     ensures { result ≡ (after || not before) }
 {

@@ -5,7 +5,7 @@ ghost use Rattle.st_bits.specs.Storage.{words_of_storage};
 ghost use Rattle.st_bits.specs.declared.limits.TheConstants.{MOST_INSTRUCTIONS};
 ghost use Rattle.st_bits.specs.declared.register.TheConstants.{FIRST_STORAGE_WORD};
 ghost use Rattle.st_card.specs.Limits.{is_signal};
-ghost use Rattle.st_sweep.specs.Starts.{ticks_from, start_of, last_told};
+ghost use Rattle.st_sweep.specs.Starts.{ticks_from, start_of_image, last_told};
 ghost use Rattle.st_sweep.specs.SideBySide.{four_of};
 
 use st_banks::Delays;
@@ -25,25 +25,26 @@ pub(crate) struct Start {
 }
 
 impl Model for Start {
-    ghost use Rattle.st_sweep.specs.Starts.{Start, IsFresh};
+    ghost use Rattle.st_sweep.specs.Starts.{Start, IsFreshStart};
 
     ghost Value = { Start };
 
     ghost view = { λ s. record { machine = s.state; delays = s.delays } };
 
-    ghost invariant = { λ s. IsFresh s.state };
+    ghost invariant = { λ s. IsFreshStart s.state };
 }
 
 impl Start {
-    /// The machine that begins with this image at this address, and has these delays. The one error is that memory ran
-    /// out; no later call takes any.
+    /// The machine that begins with this image at this address, and has these delays. The one error
+    /// is that memory ran out; no later call takes any.
     pub fn new(alloc: Global, image: &[u64], start: u32, delays: &[u8]) -> Result<Start, NoMemory>
         requires whole { length image.now ≡ words_of_storage }
         requires registers { (w : ℕ) → w < FIRST_STORAGE_WORD → slice_index image.now w ≡ 0 }
         requires counter { start < 2 ^ 19 }
         requires some { 1 ≤ length delays.now }
         requires few { length delays.now ≤ 4096 }
-        ensures { IfOk result (λ s. s ≡ start_of image.now start delays.now) }
+
+        ensures { IfOk result (λ s. s ≡ start_of_image image.now start delays.now) }
     {
         let Ok(delays) = Delays::new(alloc, delays) else {
             return Err(NoMemory);
@@ -75,6 +76,7 @@ fn ticks<const N: usize>(start: Start, signals: &[Signal], budget: u64) -> u64
     requires signals { AllPass is_signal signals.now }
     requires some_done { 1 ≤ budget }
     requires few_done { budget ≤ MOST_INSTRUCTIONS }
+
     ensures { result ≡ ticks_from start N budget signals.now }
 {
     let Start { state, delays } = start;
@@ -103,7 +105,8 @@ impl Four {
         requires counter { start < 2 ^ 19 }
         requires some { 1 ≤ length delays.now }
         requires few { length delays.now ≤ 4096 }
-        ensures { IfOk result (λ f. f ≡ four_of (start_of image.now start delays.now)) }
+
+        ensures { IfOk result (λ f. f ≡ four_of (start_of_image image.now start delays.now)) }
     {
         Ok(Four {
             first: Start::new(alloc, image, start, delays)?,

@@ -5,11 +5,11 @@ ghost use Rattle.st_bits.specs.Storage.{words_of_storage};
 ghost use Rattle.st_bits.specs.declared.limits.TheConstants.{MOST_INSTRUCTIONS};
 ghost use Rattle.st_bits.specs.declared.register.TheConstants.{FIRST_STORAGE_WORD};
 ghost use Rattle.st_card.specs.Limits.{is_signal};
-ghost use Rattle.st_state.specs.Machine.{opening};
+ghost use Rattle.st_state.specs.Machine.{opening_state};
 ghost use Rattle.st_sweep.specs.Sweep.{without_cards};
-ghost use Rattle.st_sweep.specs.SideBySide.{swept, AreNotRising};
+ghost use Rattle.st_sweep.specs.SideBySide.{side_by_side, AreNotRising};
 
-use crate::calm::{are_equal, both, run_plain};
+use crate::hazards::{are_equal, both, run_plain};
 use crate::start::{Four, ticks_on_few, ticks_on_many};
 use crate::written::Written;
 use st_bits::NoMemory;
@@ -20,13 +20,15 @@ use std::alloc::Global;
 /// A run on machines of one to eight levels.
 #[derive(Clone, Copy, Debug, PartialEq, Eq)]
 pub struct Swept {
-    /// The tick at which its last instruction is done, on the machine of one level first; 0 where none is.
+    /// The tick at which its last instruction is done, on the machine of one level first; 0 where
+    /// none is.
     pub ticks: [u64; 8],
     /// The number of instructions done at its end.
     pub done: u64,
-    /// Whether the run is calm: all delays are equal; no interrupt is taken, no branch on an indicator is missed, and a
-    /// wait only ends the run; and no instruction has an index-side word or an operand word that an earlier one writes.
-    pub calm: bool,
+    /// Whether the run is hazard-free: all delays are equal; no interrupt is taken, no branch on an
+    /// indicator is missed, and a wait only ends the run; and no instruction has an index-side word
+    /// or an operand word that an earlier one writes.
+    pub hazard_free: bool,
 }
 
 // Takes all memory, and then runs the job on one machine after the other.
@@ -46,8 +48,10 @@ fn run_all(
     requires signals { AllPass is_signal signals.now }
     requires some_done { 1 ≤ budget }
     requires few_done { budget ≤ MOST_INSTRUCTIONS }
+
     ensures { IfOk result (λ r. r
-        ≡ swept delays.now budget (without_cards (opening image.now start) signals.now)) }
+        ≡ side_by_side delays.now budget
+        (without_cards (opening_state image.now start) signals.now)) }
 {
     let few = Four::new(alloc, image, start, delays)?;
     let many = Four::new(alloc, image, start, delays)?;
@@ -59,14 +63,14 @@ fn run_all(
     Ok(Swept {
         ticks: [one, two, three, four, five, six, seven, eight],
         done: found.done,
-        calm: both(are_equal(delays), found.calm),
+        hazard_free: both(are_equal(delays), found.hazard_free),
     })
 }
 
-/// Runs a job with an empty reader on machines of one to eight levels, one after the other: from its image and the
-/// half-word address of its start, with 1 to 4,096 delays, each from 1 to 255 ticks, its signals, and up to 10,000,000
-/// instructions. The one error is that memory ran out; all of it is taken before the first instruction.
-/// `docs/timetable.md` has the rules.
+/// Runs a job with an empty reader on machines of one to eight levels, one after the other: from
+/// its image and the half-word address of its start, with 1 to 4,096 delays, each from 1 to 255
+/// ticks, its signals, and up to 10,000,000 instructions. The one error is that memory ran out; all
+/// of it is taken before the first instruction. `docs/timetable.md` has the rules.
 pub fn sweep(
     alloc: Global,
     image: &[u64],
@@ -84,9 +88,11 @@ pub fn sweep(
     requires signals { AllPass is_signal signals.now }
     requires some_done { 1 ≤ budget }
     requires few_done { budget ≤ MOST_INSTRUCTIONS }
+
     ensures value { IfOk result (λ r. r
-        ≡ swept delays.now budget (without_cards (opening image.now start) signals.now)) }
-    ensures levels { IfOk result (λ r. r.calm ≡ true → AreNotRising r.ticks) }
+        ≡ side_by_side delays.now budget
+        (without_cards (opening_state image.now start) signals.now)) }
+    ensures levels { IfOk result (λ r. r.hazard_free ≡ true → AreNotRising r.ticks) }
 {
     run_all(alloc, image, start, delays, signals, budget)
 }

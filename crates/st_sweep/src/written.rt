@@ -2,10 +2,10 @@
 ghost use Rattle.std.specs.Prelude.{◌≡◌, ℕ, ◌+◌, ◌≤◌, List, [], ◌∷◌, IfOk, length, get_or, false};
 ghost use Rattle.st_bits.specs.Storage.{words_of_storage};
 ghost use Rattle.st_prep.specs.Ranges.{IsRuns, AreInside};
-ghost use Rattle.st_rows.specs.declared.entry.Runs.{Runs};
+ghost use Rattle.st_rows.specs.declared.entry.WordRuns.{WordRuns};
 ghost use Rattle.st_segment.specs.Entries.{words_to_write};
-ghost use Rattle.st_sweep.specs.Calm.{is_written, are_written, one_is_written, side_is_written};
-ghost use Rattle.st_sweep.specs.Marks.{AreMarks, marked};
+ghost use Rattle.st_sweep.specs.HazardFree.{is_among_written, are_written, one_is_written, side_is_written};
+ghost use Rattle.st_sweep.specs.Marks.{AreMarks, marks_with};
 
 use st_bits::NoMemory;
 use st_bits::limits::WORDS;
@@ -47,7 +47,8 @@ fn is_marked(marks: &[bool], w: usize) -> bool
 
 // Whether one of the words of a run has a mark.
 fn has_mark(marks: &[bool], first: u32, len: u8) -> bool
-    ensures { (earlier : List Runs) → AreMarks earlier marks.now → result ≡ are_written earlier first len }
+    ensures { (earlier : List WordRuns) → AreMarks earlier marks.now → result
+        ≡ are_written earlier first len }
 {
     let mut w = first as usize;
     let mut left = len;
@@ -64,7 +65,7 @@ fn has_mark(marks: &[bool], first: u32, len: u8) -> bool
 // The words of a run get their marks.
 fn mark(marks: &mut Vec<bool>, first: u32, len: u8)
     requires { 1 ≤ len → first + len ≤ length marks.old.items }
-    ensures marked { marks.new.items ≡ marked marks.old.items first len }
+    ensures marked { marks.new.items ≡ marks_with marks.old.items first len }
     ensures long { length marks.new.items ≡ length marks.old.items }
 {
     let mut w = first as usize;
@@ -77,7 +78,7 @@ fn mark(marks: &mut Vec<bool>, first: u32, len: u8)
 }
 
 impl Written {
-    ghost use Rattle.st_sweep.specs.Marks.{AreMarks, marked};
+    ghost use Rattle.st_sweep.specs.Marks.{AreMarks, marks_with};
 
     /// No word was written. The one error is that memory ran out.
     pub fn new(alloc: Global) -> Result<Written, NoMemory>
@@ -90,18 +91,20 @@ impl Written {
     }
 
     /// Whether one of the words of two runs was.
-    #[tactic(auto, unfolding(crate::specs::Calm::one_is_written))]
+    #[tactic(auto, unfolding(crate::specs::HazardFree::one_is_written))]
     pub fn has_words(&self, words: Words) -> bool
-        ensures { (earlier : List Runs) → AreMarks earlier self.now → result ≡ one_is_written earlier words }
+        ensures { (earlier : List WordRuns) → AreMarks earlier self.now → result
+            ≡ one_is_written earlier words }
     {
         has_mark(&self.marks, words.first, words.len)
             || has_mark(&self.marks, words.first2, words.len2)
     }
 
     /// Whether the index-side word was, if there is one.
-    #[tactic(auto, unfolding(crate::specs::Calm::side_is_written))]
+    #[tactic(auto, unfolding(crate::specs::HazardFree::side_is_written))]
     pub fn has_side(&self, side: Option<u32>) -> bool
-        ensures { (earlier : List Runs) → AreMarks earlier self.now → result ≡ side_is_written earlier side }
+        ensures { (earlier : List WordRuns) → AreMarks earlier self.now → result
+            ≡ side_is_written earlier side }
     {
         match side {
             Some(w) => is_marked(&self.marks, w as usize),
@@ -113,7 +116,8 @@ impl Written {
     pub fn put(&mut self, words: Words)
         requires runs { IsRuns words }
         requires inside { AreInside words }
-        ensures { (earlier : List Runs) → AreMarks earlier self.old → AreMarks (words_to_write words ∷ earlier) self.new }
+        ensures { (earlier : List WordRuns) → AreMarks earlier self.old →
+            AreMarks (words_to_write words ∷ earlier) self.new }
     {
         mark(&mut self.marks, words.first, words.len);
         mark(&mut self.marks, words.first2, words.len2);

@@ -2,18 +2,18 @@
 use Rattle.std.proofs.Common.{◌≡◌, ◌<◌, ◌≤◌, ◌&&◌, ℕ, zero, suc, slice_index, List, [], ◌∷◌, ◌++◌, Bool, true, false, not, IsTrue, length, take, drop, refl, ap, sym, subst, ◌∙◌, if◌then◌else◌, ◌==◌, arith}
 use Rattle.std.proofs.Math.Seq.{take-length}
 use Rattle.std.proofs.lemmas.List.{take-append-drop}
-use Rattle.st_text.specs.Pieces.{onto_first, parted, lacks}
+use Rattle.st_text.specs.Pieces.{onto_first, pieces_of, lacks}
 
 -- a text has a first piece
 pub first_piece : (at : ℕ) (text : List ℕ) →
-    (piece : List ℕ) × ((pieces : List (List ℕ)) × (parted at text ≡ piece ∷ pieces))
+    (piece : List ℕ) × ((pieces : List (List ℕ)) × (pieces_of at text ≡ piece ∷ pieces))
 first_piece at [] = ([], ([], refl))
 first_piece at (c ∷ cs) =
     let F : List (List ℕ) → Type 0 =
     λ p. (piece : List ℕ) × ((pieces : List (List ℕ)) × (p ≡ piece ∷ pieces)) in
-    elim (c == at) as (λ v. F (if v then [] ∷ parted at cs else onto_first c (parted at cs))) [
-      | true ↦ ([], (parted at cs, refl))
-      | false ↦ elim (parted at cs) as (λ p. F (onto_first c p)) [ [] ↦ (c ∷ [], ([], refl)) | q ∷ qs ↦ (c ∷ q, (qs, refl)) ]
+    elim (c == at) as (λ v. F (if v then [] ∷ pieces_of at cs else onto_first c (pieces_of at cs))) [
+      | true ↦ ([], (pieces_of at cs, refl))
+      | false ↦ elim (pieces_of at cs) as (λ p. F (onto_first c p)) [ [] ↦ (c ∷ [], ([], refl)) | q ∷ qs ↦ (c ∷ q, (qs, refl)) ]
     ]
 
 both_hold : (a b : Bool) → IsTrue a → b ≡ true → IsTrue (a && b)
@@ -42,12 +42,12 @@ other_false false differs = refl
 -- a text is cut there
 pub parted_at : (at n : ℕ) (text : List ℕ) → n < length text → (slice_index text n == at) ≡ true
     → ((k : ℕ) → 0 ≤ k → k < n → (slice_index text k == at) ≡ true → ⊥)
-    → parted at text ≡ take n text ∷ parted at (drop 1 (drop n text))
+    → pieces_of at text ≡ take n text ∷ pieces_of at (drop 1 (drop n text))
 parted_at at n [] within here before = absurd (omega arith)
 parted_at at zero (c ∷ cs) within here before =
-    ap (λ (b : Bool). if b then [] ∷ parted at cs else onto_first c (parted at cs)) here
+    ap (λ (b : Bool). if b then [] ∷ pieces_of at cs else onto_first c (pieces_of at cs)) here
 parted_at at (suc n) (c ∷ cs) within here before =
-    ap (λ (b : Bool). if b then [] ∷ parted at cs else onto_first c (parted at cs))
+    ap (λ (b : Bool). if b then [] ∷ pieces_of at cs else onto_first c (pieces_of at cs))
     (other_false (c == at) (before 0 (omega arith) (omega arith)))
     ∙ ap (onto_first c) (parted_at at n cs (omega arith) here (λ k low less. before (suc k) (omega arith) (omega arith)))
 
@@ -62,9 +62,9 @@ lacks_before at (suc n) (c ∷ cs) within before =
 
 -- nor anywhere, where there is no such place
 pub parted_nowhere : (at : ℕ) (text : List ℕ) → ((k : ℕ) → 0 ≤ k → k < length text → (slice_index text k == at) ≡ true → ⊥)
-    → parted at text ≡ text ∷ []
+    → pieces_of at text ≡ text ∷ []
 parted_nowhere at [] before = refl
 parted_nowhere at (c ∷ cs) before =
-    ap (λ (b : Bool). if b then [] ∷ parted at cs else onto_first c (parted at cs))
+    ap (λ (b : Bool). if b then [] ∷ pieces_of at cs else onto_first c (pieces_of at cs))
     (other_false (c == at) (before 0 (omega arith) (omega arith)))
     ∙ ap (onto_first c) (parted_nowhere at cs (λ k low less. before (suc k) (omega arith) (omega arith)))

@@ -20,13 +20,14 @@ value_after n [] = n
 value_after n (c ∷ cs) = value_after (n * 10 + (c - digit_zero)) cs
 
 -- the value of digits
-abbrev pub value : List ℕ → ℕ
-value digits = value_after 0 digits
+abbrev pub digits_value : List ℕ → ℕ
+digits_value digits = value_after 0 digits
 
 -- what a text says where a number is wanted that is at most `most`
 abbrev pub reading : ℕ → List ℕ → Reading
 reading most text =
-    if is_number text then (if nat_le (value text) most then Good (value text) else Large) else Bad
+    if is_number text then (if nat_le (digits_value text) most then Good (digits_value text)
+    else Large) else Bad
 
 -- a number that was read is at most `most`
 abbrev pub IsWithin : ℕ → Reading → Type 0
@@ -35,11 +36,11 @@ IsWithin most Large = Unit {0}
 IsWithin most Bad = Unit {0}
 
 -- the number that was read, where one was
-abbrev pub good : Reading → Option ℕ
-good (Good n) = Some n
-good Large = None
-good Bad = None
+abbrev pub number_if_good : Reading → Option ℕ
+number_if_good (Good n) = Some n
+number_if_good Large = None
+number_if_good Bad = None
 
 -- the number that a text is, where it is one of at most `most`
 abbrev pub number_up_to : ℕ → List ℕ → Option ℕ
-number_up_to most text = good (reading most text)
+number_up_to most text = number_if_good (reading most text)

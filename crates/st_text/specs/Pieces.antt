@@ -10,9 +10,9 @@ onto_first c [] = (c ∷ []) ∷ []
 onto_first c (piece ∷ pieces) = (c ∷ piece) ∷ pieces
 
 -- the pieces of a text between the places where a byte stands
-abbrev pub parted : ℕ → List ℕ → List (List ℕ)
-parted at [] = [] ∷ []
-parted at (c ∷ cs) = if c == at then [] ∷ parted at cs else onto_first c (parted at cs)
+abbrev pub pieces_of : ℕ → List ℕ → List (List ℕ)
+pieces_of at [] = [] ∷ []
+pieces_of at (c ∷ cs) = if c == at then [] ∷ pieces_of at cs else onto_first c (pieces_of at cs)
 
 -- whether a text has no byte of a kind
 abbrev pub lacks : ℕ → List ℕ → Bool
@@ -30,4 +30,4 @@ pub record IsBehind (back text : List ℕ) : Type 0 where
 
 -- the words of a text: what stands between blanks
 abbrev pub words : List ℕ → List (List ℕ)
-words text = filter is_filled (parted blank text)
+words text = filter is_filled (pieces_of blank text)

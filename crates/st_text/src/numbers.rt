@@ -46,7 +46,8 @@ pub fn number_up_to(text: &[u8], most: u64) -> Option<u64>
 fn read_digits(text: &[u8], cap: u128) -> Option<u128>
     requires { cap ≤ 2 ^ 64 }
     ensures { result
-        ≡ (if list_all is_ascii_digit text.now then Some (min (spec.value text.now) cap) else None) }
+        ≡ (if list_all is_ascii_digit text.now then Some (min (spec.digits_value text.now) cap)
+        else None) }
 {
     let mut number = 0;
     let mut rest = text;

@@ -1,7 +1,7 @@
 //! Cutting a text: at a byte, and behind so many bytes.
 
 ghost use Rattle.std.specs.Prelude.{◌≡◌, ◌+◌, length, take, drop, [], ◌∷◌, ◌++◌, IsTrue, MatchOption, IfSome};
-ghost use Rattle.st_text.specs.Pieces.{parted, lacks};
+ghost use Rattle.st_text.specs.Pieces.{pieces_of, lacks};
 
 use memchr::memchr;
 
@@ -9,8 +9,8 @@ use memchr::memchr;
 ///
 /// `None` where the text has no such byte.
 pub fn cut(text: &[u8], at: u8) -> Option<(&[u8], &[u8])>
-    ensures pieces { MatchOption result (parted at text.now ≡ text.now ∷ [])
-        (λ p. parted at text.now ≡ p.0.now ∷ parted at p.1.now) }
+    ensures pieces { MatchOption result (pieces_of at text.now ≡ text.now ∷ [])
+        (λ p. pieces_of at text.now ≡ p.0.now ∷ pieces_of at p.1.now) }
     ensures whole { IfSome result (λ p. text.now ≡ p.0.now ++ at ∷ p.1.now) }
     ensures first { MatchOption result (IsTrue (lacks at text.now))
         (λ p. IsTrue (lacks at p.0.now)) }

@@ -1,1 +1,2 @@
 pub mod Shown
+pub use Rattle.st_report.specs.Line

@@ -3,11 +3,11 @@ use Rattle.std.specs.Prelude.{ℕ, zero, suc, List, [], ◌∷◌, Option, None,
 use Rattle.st_ahead.specs.declared.events.LevelView.{LevelView}
 
 -- how many levels stand at the front, before the first place that is empty
-unfoldable pub standing : List (Option LevelView) → ℕ
-standing [] = zero
-standing (None ∷ more) = zero
-standing (Some level ∷ more) = suc (standing more)
+unfoldable pub levels_standing : List (Option LevelView) → ℕ
+levels_standing [] = zero
+levels_standing (None ∷ more) = zero
+levels_standing (Some level ∷ more) = suc (levels_standing more)
 
 -- the index word that a level changed early, with what it held before
-abbrev pub change_of : LevelView → Option (ℕ × ℕ)
-change_of level = option_map (λ number. (number, level.kept)) level.index
+abbrev pub change_shown : LevelView → Option (ℕ × ℕ)
+change_shown level = option_map (λ number. (number, level.kept)) level.index

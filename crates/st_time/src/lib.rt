@@ -1,10 +1,10 @@
-//! The lines that show the timetable: rows, entries that are dropped, snapshots and their levels, each made of what the
-//! overlapped machine shows. `docs/report.md` has the rules.
+//! The lines that show the timetable: rows, entries that are dropped, snapshots and their levels,
+//! each made of what the overlapped machine shows. `docs/report.md` has the rules.
 #![tactic(auto)]
 
 ghost use Rattle.std.specs.Prelude.{◌≡◌, ◌≤◌, length, option_map};
 ghost use Rattle.st_report.specs.Line.{row_line, drop_line as drop_line_of, snap_line as snap_line_of, lev_line};
-ghost use Rattle.st_time.specs.Shown.{standing, change_of};
+ghost use Rattle.st_time.specs.Shown.{levels_standing, change_shown};
 
 use st_ahead::{LevelView, Row, View};
 use st_report::{Line, LineFromEnd, fill_row, line_drop, line_lev, line_row, line_snap};
@@ -30,16 +30,19 @@ pub fn drop_line(level: &LevelView) -> Line
     line_drop(level.address, level.p)
 }
 
-/// `LEV a X x OLD h READY r`, or `LEV a X - READY r` where it changed no index word: a level of a snapshot.
+/// `LEV a X x OLD h READY r`, or `LEV a X - READY r` where it changed no index word: a level of a
+/// snapshot.
 pub fn level_line(level: &LevelView) -> Line
-    ensures { result.bytes ≡ lev_line level.now.address (change_of level.now) level.now.ready }
+    ensures { result.bytes ≡ lev_line level.now.address (change_shown level.now) level.now.ready }
 {
     line_lev(level.address, change(level.index, level.kept), level.ready)
 }
 
-/// `SNAP t DONE q AHEAD k`: a snapshot at the tick that was made last. The levels stand at the front of `levels`.
+/// `SNAP t DONE q AHEAD k`: a snapshot at the tick that was made last. The levels stand at the
+/// front of `levels`.
 pub fn snap_line(view: &View) -> Line
-    ensures { result.bytes ≡ snap_line_of view.now.tick view.now.done (standing view.now.levels) }
+    ensures { result.bytes ≡ snap_line_of view.now.tick view.now.done
+        (levels_standing view.now.levels) }
 {
     line_snap(view.tick, view.done, count(&view.levels))
 }
@@ -55,10 +58,10 @@ fn change(index: Option<u8>, kept: u64) -> Option<(u8, u64)>
 }
 
 // How many levels stand at the front, of at most eight.
-#[tactic(auto, unfolding(crate::specs::Shown::standing))]
+#[tactic(auto, unfolding(crate::specs::Shown::levels_standing))]
 fn count(levels: &[Option<LevelView>]) -> u8
     requires { length levels.now ≤ 8 }
-    ensures value { result ≡ standing levels.now }
+    ensures value { result ≡ levels_standing levels.now }
     ensures bound { result ≤ length levels.now }
 {
     match levels {

@@ -8,7 +8,7 @@ use Rattle.st_text.specs.Tables.{row_of}
 use Rattle.st_bits.specs.declared.limits.TheConstants.{LONGEST_LIST}
 use Rattle.st_card.specs.declared.limits.TheConstants.{MOST_DELAY}
 use Rattle.st_card.specs.Cards.{columns, kind_of, cards_of, text_in}
-use Rattle.st_card.specs.Controls.{Asked, nothing_asked, keywords, card_numbers, is_in_range, with_delays, with_keyword, with_card, with_words, added}
+use Rattle.st_card.specs.Controls.{Asked, nothing_asked, keywords, card_numbers, is_in_range, with_delays, with_keyword, with_card, with_words, asked_with_card}
 use Rattle.st_card.specs.declared.cards.Card.{Card}
 use Rattle.st_card.specs.declared.cards.CardKind.{CardKind}
 use Rattle.st_card.specs.declared.cards.CardKind.TheVariants.{Comment, Control, Statement}
@@ -136,7 +136,7 @@ Mixes texts = (a d s e : Asked) → a.delays ≡ d.delays → asked_with (still 
 
 mix-delays : (text : List ℕ) (texts : List (List ℕ)) (a d s e : Asked) → kind_of text ≡ Control → begins_delays (words (columns text)) ≡ true
     → Mixes texts → a.delays ≡ d.delays → asked_with (still a) (others texts) ≡ Some s
-    → (f : Asked) × (added d text ≡ Some f) × (asked_in f (delays_in texts) ≡ Some e) → All-asked a (text ∷ texts)
+    → (f : Asked) × (asked_with_card d text ≡ Some f) × (asked_in f (delays_in texts) ≡ Some e) → All-asked a (text ∷ texts)
 unfolding asked_with
 mix-delays text texts a d s e kind begins rest same others_good (f, is, good) =
     let (b, adds, like) = words-like a d f (words (columns text)) begins same is in
@@ -154,8 +154,8 @@ mix-other Comment text texts a d s e kind plain rest same others_good good =
     let (z, all) = rest a d s e same others_good good in
     (z, ap (λ (k : CardKind). asked_on (asked_by k a text) (λ c. asked_with c texts)) kind ∙ all)
 mix-other Control text texts a d s e kind plain rest same others_good good =
-    let (sb, adds, more) = on-some (added (still a) text) (λ c. asked_with c (others texts)) s others_good in
-    let (b, is, still_is) = stills-some (added a text) sb (sym (other-still a text plain) ∙ adds) in
+    let (sb, adds, more) = on-some (asked_with_card (still a) text) (λ c. asked_with c (others texts)) s others_good in
+    let (b, is, still_is) = stills-some (asked_with_card a text) sb (sym (other-still a text plain) ∙ adds) in
     let (z, all) = rest b d s e (words-leave a b (words (columns text)) plain is ∙ same)
     (ap (λ c. asked_with c (others texts)) still_is ∙ more) good in (
       z,
@@ -170,9 +170,9 @@ control-and Control b h = (refl, h)
 control-and Statement b h = let no : ⊥ = cc in absurd no
 
 in-some : (d e : Asked) (text : List ℕ) (texts : List (List ℕ)) → asked_in d (text ∷ texts) ≡ Some e
-    → (f : Asked) × (added d text ≡ Some f) × (asked_in f texts ≡ Some e)
+    → (f : Asked) × (asked_with_card d text ≡ Some f) × (asked_in f texts ≡ Some e)
 unfolding asked_in
-in-some d e text texts h = by (added d text) h where
+in-some d e text texts h = by (asked_with_card d text) h where
   by : (o : Option Asked) → asked_on o (λ more. asked_in more texts) ≡ Some e → (f : Asked) × (o ≡ Some f) × (asked_in f texts ≡ Some e)
   by o g = on-some o (λ more. asked_in more texts) e g
 

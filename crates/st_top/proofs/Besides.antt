@@ -4,8 +4,8 @@ use Rattle.std.proofs.lemmas.Bool.Decides.{nat_tests}
 use Rattle.std.proofs.lemmas.List.{length-set, length-drop, drop-append-le}
 use Rattle.std.specs.Prelude.{Option, None, Some, MatchOption, IfSome, is_none, slice_get}
 use Rattle.circular_buffer.specs.Buffer.{keep_last}
-use Rattle.st_state.specs.Machine.{Machine, IsMachine, word, with_word, stored}
-use Rattle.st_state.specs.Interrupts.{signalled}
+use Rattle.st_state.specs.Machine.{Machine, IsMachine, word, with_word, state_with_store}
+use Rattle.st_state.specs.Interrupts.{state_with_signal}
 use Rattle.st_state.specs.Orders.{next_device}
 use Rattle.st_state.specs.declared.devices.Order.{Order}
 use Rattle.st_state.specs.declared.devices.Device.{Device}
@@ -19,10 +19,10 @@ use Rattle.st_run.specs.Run.{Scene, with_due_signals, with_signals_at_rest, with
 use Rattle.st_exec.proofs.StepLemmas.{step_made}
 use Rattle.st_back.specs.declared.kept.Kept.{Kept}
 use Rattle.st_back.specs.Between.{AreAlikeAbove}
-use Rattle.st_back.specs.Steps.{Steps, none_of, newest, IsForth, IsStepKept, IsPut, has_room, states_before}
-use Rattle.st_back.specs.Undone.{noted}
+use Rattle.st_back.specs.Steps.{Steps, none_of, newest_step, IsForth, IsStepKept, IsPut, has_room, states_before}
+use Rattle.st_back.specs.Undone.{step_with_word}
 use Rattle.st_back.proofs.ManyLemmas.{between-states, forth-states}
-use Rattle.st_top.specs.Beside.{Beside, IsFresh, HasRoom, IsReady, IsMoved, IsStepped, IsBeside, StandsAtStart}
+use Rattle.st_top.specs.Beside.{Beside, IsFreshStep, HasRoomForCard, IsBesideReady, IsMoved, IsStepped, IsBeside, StandsAtStart}
 
 -- ---- the words from 32 up
 
@@ -39,7 +39,7 @@ alike-turned s r q x = record {
   words = λ w above. get_or-set_other s.words 11 w x 0 (omega arith);
 }
 
-pub alike-signalled : (s : Machine) (i : ℕ) → AreAlikeAbove s (signalled s i)
+pub alike-signalled : (s : Machine) (i : ℕ) → AreAlikeAbove s (state_with_signal s i)
 alike-signalled s i = alike-turned s s.reader s.printer _
 
 either_alike : (s : Machine) (b : Bool) (c d : Scene) → AreAlikeAbove s c.machine → AreAlikeAbove s d.machine → AreAlikeAbove s (if b then c else d).machine
@@ -49,14 +49,14 @@ either_alike s false c d h k = k
 pub due-alike : (m : Machine) (xs : List Signal) (cards : List (List ℕ)) → AreAlikeAbove m (with_due_signals m xs cards).machine
 due-alike m [] cards = alike-same m
 due-alike m (x ∷ xs) cards =
-    either_alike m (nat_le x.count m.done) (with_due_signals (signalled m x.indicator) xs cards) (record { machine = m; signals = x ∷ xs; cards = cards })
-    (alike-then m (signalled m x.indicator) _ (alike-signalled m x.indicator) (due-alike (signalled m x.indicator) xs cards)) (alike-same m)
+    either_alike m (nat_le x.count m.done) (with_due_signals (state_with_signal m x.indicator) xs cards) (record { machine = m; signals = x ∷ xs; cards = cards })
+    (alike-then m (state_with_signal m x.indicator) _ (alike-signalled m x.indicator) (due-alike (state_with_signal m x.indicator) xs cards)) (alike-same m)
 
 pub rest-alike : (m : Machine) (xs : List Signal) (cards : List (List ℕ)) → AreAlikeAbove m (with_signals_at_rest m xs cards).machine
 rest-alike m [] cards = alike-same m
 rest-alike m (x ∷ xs) cards =
-    either_alike m (rests m) (with_signals_at_rest (signalled m x.indicator) xs cards) (record { machine = m; signals = x ∷ xs; cards = cards })
-    (alike-then m (signalled m x.indicator) _ (alike-signalled m x.indicator) (rest-alike (signalled m x.indicator) xs cards)) (alike-same m)
+    either_alike m (rests m) (with_signals_at_rest (state_with_signal m x.indicator) xs cards) (record { machine = m; signals = x ∷ xs; cards = cards })
+    (alike-then m (state_with_signal m x.indicator) _ (alike-signalled m x.indicator) (rest-alike (state_with_signal m x.indicator) xs cards)) (alike-same m)
 
 -- ---- the reader's order
 
@@ -67,21 +67,21 @@ either_reader o false c d h k = k
 pub due-reader : (m : Machine) (xs : List Signal) (cards : List (List ℕ)) → (with_due_signals m xs cards).machine.reader ≡ m.reader
 due-reader m [] cards = refl
 due-reader m (x ∷ xs) cards =
-    either_reader m.reader (nat_le x.count m.done) (with_due_signals (signalled m x.indicator) xs cards) (record { machine = m; signals = x ∷ xs; cards = cards })
-    (due-reader (signalled m x.indicator) xs cards) refl
+    either_reader m.reader (nat_le x.count m.done) (with_due_signals (state_with_signal m x.indicator) xs cards) (record { machine = m; signals = x ∷ xs; cards = cards })
+    (due-reader (state_with_signal m x.indicator) xs cards) refl
 
 pub rest-reader : (m : Machine) (xs : List Signal) (cards : List (List ℕ)) → (with_signals_at_rest m xs cards).machine.reader ≡ m.reader
 rest-reader m [] cards = refl
 rest-reader m (x ∷ xs) cards =
-    either_reader m.reader (rests m) (with_signals_at_rest (signalled m x.indicator) xs cards) (record { machine = m; signals = x ∷ xs; cards = cards })
-    (rest-reader (signalled m x.indicator) xs cards) refl
+    either_reader m.reader (rests m) (with_signals_at_rest (state_with_signal m x.indicator) xs cards) (record { machine = m; signals = x ∷ xs; cards = cards })
+    (rest-reader (state_with_signal m x.indicator) xs cards) refl
 
 -- ---- moving without a step
 
-pub room_same : (o q : Option Order) (ks : List Kept) → q ≡ o → HasRoom o ks → HasRoom q ks
-room_same o q ks e h = subst (λ r. HasRoom r ks) (sym e) h
+pub room_same : (o q : Option Order) (ks : List Kept) → q ≡ o → HasRoomForCard o ks → HasRoomForCard q ks
+room_same o q ks e h = subst (λ r. HasRoomForCard r ks) (sym e) h
 
-pub moved_same : (b : Beside) → IsReady b → IsMoved b b b.0
+pub moved_same : (b : Beside) → IsBesideReady b → IsMoved b b b.0
 moved_same b h = record { ready = h; scene = refl; depth = refl; states = refl }
 
 pub moved_then : (a b d : Beside) (c e : Scene) → IsMoved a b c → IsMoved b d e → IsMoved a d e
@@ -95,7 +95,7 @@ pub moved_to : (a b : Beside) (c e : Scene) → IsMoved a b c → b.0 ≡ e → 
 moved_to a b c e h same = record { ready = h.ready; scene = same; depth = h.depth; states = h.states }
 
 -- to a scene whose machine has the same words from 32 up and the same order of the reader
-pub moved_alike : (k : Steps) (b c e : Scene) → IsReady (b, k) → IsMachine b.machine → AreAlikeAbove b.machine e.machine → e.machine.reader ≡ b.machine.reader → c ≡ e → IsMoved (b, k) (c, k) e
+pub moved_alike : (k : Steps) (b c e : Scene) → IsBesideReady (b, k) → IsMachine b.machine → AreAlikeAbove b.machine e.machine → e.machine.reader ≡ b.machine.reader → c ≡ e → IsMoved (b, k) (c, k) e
 moved_alike k b c e h m alike reader same =
     let moved : IsMoved (b, k) (e, k) e = record {
       ready = record { some = h.some; few = h.few; room = room_same b.machine.reader e.machine.reader k.kept reader h.room };
@@ -122,35 +122,35 @@ newest-last : (ks : List Kept) (k : Kept) → slice_get (ks ++ k ∷ []) (length
 newest-last [] k = refl
 newest-last (j ∷ ks) k = newest-last ks k
 
-newest-pushed : (ks : List Kept) (k : Kept) → newest (ks ++ k ∷ []) ≡ Some k
+newest-pushed : (ks : List Kept) (k : Kept) → newest_step (ks ++ k ∷ []) ≡ Some k
 newest-pushed ks k =
     let same : length (ks ++ k ∷ []) - 1 ≡ length ks = omega (arith, length-append ks (k ∷ [])) in
     ap (λ n. slice_get (ks ++ k ∷ []) n) same ∙ newest-last ks k
 
-newest-kept : (depth : ℕ) (ks : List Kept) (k : Kept) → 1 ≤ depth → newest (keep_last depth (ks ++ k ∷ [])) ≡ Some k
+newest-kept : (depth : ℕ) (ks : List Kept) (k : Kept) → 1 ≤ depth → newest_step (keep_last depth (ks ++ k ∷ [])) ≡ Some k
 newest-kept depth ks k some =
     let n = length (ks ++ k ∷ []) - depth in
     let few : n ≤ length ks = omega (arith, length-append ks (k ∷ [])) in
-    ap newest (drop-append-le n ks (k ∷ []) few) ∙ newest-pushed (drop n ks) k
+    ap newest_step (drop-append-le n ks (k ∷ []) few) ∙ newest-pushed (drop n ks) k
 
-pub fresh_when : (ks : List Kept) (k : Kept) → newest ks ≡ Some k → k.puts ≡ 0 → IsFresh ks
+pub fresh_when : (ks : List Kept) (k : Kept) → newest_step ks ≡ Some k → k.puts ≡ 0 → IsFreshStep ks
 fresh_when ks k e none = subst (λ (o : Option Kept). MatchOption o ⊥ (λ j. j.puts ≡ 0)) (sym e) none
 
-pub room_when : (o : Option Order) (ks : List Kept) → IsFresh ks → HasRoom o ks
+pub room_when : (o : Option Order) (ks : List Kept) → IsFreshStep ks → HasRoomForCard o ks
 room_when None ks h = tt
 room_when (Some order) ks h = h
 
-kept-room : (old new : Steps) (s t : Machine) (o : Option Order) → 1 ≤ old.depth → IsStepKept old new s t → HasRoom o new.kept
+kept-room : (old new : Steps) (s t : Machine) (o : Option Order) → 1 ≤ old.depth → IsStepKept old new s t → HasRoomForCard o new.kept
 kept-room old new s t o some h =
-    room_when o new.kept (fresh_when new.kept h.last (ap newest h.kept ∙ newest-kept old.depth old.kept h.last some) h.puts)
+    room_when o new.kept (fresh_when new.kept h.last (ap newest_step h.kept ∙ newest-kept old.depth old.kept h.last some) h.puts)
 
-forth-room : (old new : Steps) (s t : Machine) (r : Step) → 1 ≤ old.depth → HasRoom s.reader old.kept → IsStep s t r → IsForth old new s t r → HasRoom t.reader new.kept
+forth-room : (old new : Steps) (s t : Machine) (r : Step) → 1 ≤ old.depth → HasRoomForCard s.reader old.kept → IsStep s t r → IsForth old new s t r → HasRoomForCard t.reader new.kept
 forth-room old new s t Waits some room step forth =
-    subst (λ (k : Steps). HasRoom t.reader k.kept) (sym forth) (subst (λ (m : Machine). HasRoom m.reader old.kept) (sym step.1) room)
+    subst (λ (k : Steps). HasRoomForCard t.reader k.kept) (sym forth) (subst (λ (m : Machine). HasRoomForCard m.reader old.kept) (sym step.1) room)
 forth-room old new s t Plain some room step forth = kept-room old new s t t.reader some forth
 forth-room old new s t (Interrupt i) some room step forth = kept-room old new s t t.reader some forth
 
-forth-ready : (old new : Steps) (c : Scene) (t : Machine) (r : Step) → IsReady (c, old) → IsStep c.machine t r → IsForth old new c.machine t r → IsReady (record c { machine = t }, new)
+forth-ready : (old new : Steps) (c : Scene) (t : Machine) (r : Step) → IsBesideReady (c, old) → IsStep c.machine t r → IsForth old new c.machine t r → IsBesideReady (record c { machine = t }, new)
 forth-ready old new c t r h step forth =
     let depth = depth-forth old new c.machine t r forth in
     record {
@@ -159,7 +159,7 @@ forth-ready old new c t r h step forth =
       room = forth-room old new c.machine t r h.some h.room step forth;
     }
 
-pub stepped_by : (old new : Steps) (c d : Scene) (t : Machine) (r : Step) → IsReady (c, old) → rests c.machine ≡ false → IsStep c.machine t r → IsForth old new c.machine t r → d ≡ record c { machine = t } → IsStepped (c, old) (d, new)
+pub stepped_by : (old new : Steps) (c d : Scene) (t : Machine) (r : Step) → IsBesideReady (c, old) → rests c.machine ≡ false → IsStep c.machine t r → IsForth old new c.machine t r → d ≡ record c { machine = t } → IsStepped (c, old) (d, new)
 stepped_by old new c d t r h going step forth same =
     let made : IsStepped (c, old) (record c { machine = t }, new) = record {
       ready = forth-ready old new c t r h step forth;
@@ -234,17 +234,17 @@ beside_stepped back b d before h k = record {
       ∙ (ap (λ (ss : List Machine). keep_last back (ss ++ b.0.machine ∷ [])) k.states ∙ keep-more back before b.0.machine k.some));
 }
 
-pub start_ready : (back : ℕ) (start : Scene) (b : Option Beside) → StandsAtStart back start b → IfSome b IsReady
+pub start_ready : (back : ℕ) (start : Scene) (b : Option Beside) → StandsAtStart back start b → IfSome b IsBesideReady
 start_ready back start None h = tt
 start_ready back start (Some b) h = h.0.ready
 
 -- ---- a card that is put
 
-pub put-fresh : (old new : Steps) (s t : Machine) (w x n : ℕ) → IsPut old new s t w x → MatchOption (newest old.kept) ⊥ (λ k. k.puts ≡ n) → MatchOption (newest new.kept) ⊥ (λ k. k.puts ≡ n + 1)
+pub put-fresh : (old new : Steps) (s t : Machine) (w x n : ℕ) → IsPut old new s t w x → MatchOption (newest_step old.kept) ⊥ (λ k. k.puts ≡ n) → MatchOption (newest_step new.kept) ⊥ (λ k. k.puts ≡ n + 1)
 put-fresh old new s t w x n h puts =
-    let last : h.last.puts ≡ n = subst (λ (o : Option Kept). MatchOption o ⊥ (λ k. k.puts ≡ n)) (ap newest h.was ∙ newest-pushed h.others h.last) puts in
-    let more : (noted h.last w (word s w)).puts ≡ n + 1 = ap (λ k. k + 1) last in
-    subst (λ (o : Option Kept). MatchOption o ⊥ (λ k. k.puts ≡ n + 1)) (sym (ap newest h.is ∙ newest-pushed h.others (noted h.last w (word s w)))) more
+    let last : h.last.puts ≡ n = subst (λ (o : Option Kept). MatchOption o ⊥ (λ k. k.puts ≡ n)) (ap newest_step h.was ∙ newest-pushed h.others h.last) puts in
+    let more : (step_with_word h.last w (word s w)).puts ≡ n + 1 = ap (λ k. k + 1) last in
+    subst (λ (o : Option Kept). MatchOption o ⊥ (λ k. k.puts ≡ n + 1)) (sym (ap newest_step h.is ∙ newest-pushed h.others (step_with_word h.last w (word s w)))) more
 
 pub room_at : (o : Option Kept) (n : ℕ) → MatchOption o ⊥ (λ k. k.puts ≡ n) → n < 8 → has_room o ≡ true
 room_at None n puts few = absurd puts
@@ -255,13 +255,13 @@ room_at (Some k) n puts few = let most : nat_le k.puts 7 ≡ true = grind (arith
 all_stored-reader : (m : Machine) (w : ℕ) (xs : List ℕ) → (all_stored m w xs).reader ≡ m.reader
 unfolding all_stored
 all_stored-reader m w [] = refl
-all_stored-reader m w (x ∷ xs) = all_stored-reader (stored m w x) (w + 1) xs
+all_stored-reader m w (x ∷ xs) = all_stored-reader (state_with_store m w x) (w + 1) xs
 
 read_in-free : (m : Machine) (w : ℕ) (card : Option (List ℕ)) → (read_in m w card).reader ≡ None
 read_in-free m w None = refl
 read_in-free m w (Some card) = all_stored-reader (record m { reader = None }) w card
 
-pub reader_moved : (k l : Steps) (b d : Scene) (o : Option Order) (t : Machine) (card : Option (List ℕ)) (rest : List (List ℕ)) → IsReady (b, k) → is_none o ≡ false → IfSome o (λ order. t ≡ read_in b.machine order.word card) → first_card b.cards ≡ card → cards_after b.cards ≡ rest → l.depth ≡ k.depth → states_before l.kept t ≡ states_before k.kept b.machine → d ≡ record b { machine = t; cards = rest } → IsMoved (b, k) (d, l) (with_reader o b).scene
+pub reader_moved : (k l : Steps) (b d : Scene) (o : Option Order) (t : Machine) (card : Option (List ℕ)) (rest : List (List ℕ)) → IsBesideReady (b, k) → is_none o ≡ false → IfSome o (λ order. t ≡ read_in b.machine order.word card) → first_card b.cards ≡ card → cards_after b.cards ≡ rest → l.depth ≡ k.depth → states_before l.kept t ≡ states_before k.kept b.machine → d ≡ record b { machine = t; cards = rest } → IsMoved (b, k) (d, l) (with_reader o b).scene
 reader_moved k l b d None t card rest h some read first after depth states same = absurd (cc)
 reader_moved k l b d (Some order) t card rest h some read first after depth states same =
     let with_parts : Machine → List (List ℕ) → Scene = λ m cs. record b { machine = m; cards = cs } in
@@ -279,7 +279,7 @@ reader_moved k l b d (Some order) t card rest h some read first after depth stat
       states = ap (states_before l.kept) machine ∙ states;
     }
 
-pub printer_moved : (k : Steps) (b d : Scene) (o : Option Order) → IsReady (b, k) → IsMachine b.machine → is_none o ≡ false → d ≡ record b { machine = printed_out b.machine } → IsMoved (b, k) (d, k) (with_printer o b).scene
+pub printer_moved : (k : Steps) (b d : Scene) (o : Option Order) → IsBesideReady (b, k) → IsMachine b.machine → is_none o ≡ false → d ≡ record b { machine = printed_out b.machine } → IsMoved (b, k) (d, k) (with_printer o b).scene
 printer_moved k b d None h m some same = absurd (cc)
 printer_moved k b d (Some order) h m some same =
     moved_alike k b d (record b { machine = printed_out b.machine }) h m (alike-turned b.machine b.machine.reader None _) refl same

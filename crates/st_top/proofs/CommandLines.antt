@@ -7,7 +7,7 @@ use Rattle.std.specs.List.{list_all}
 use Rattle.clap.specs.Words.{matches_of, takes, first_of}
 use Rattle.clap.proofs.OnLiterals.{clap_on_literals}
 use Rattle.std.specs.Char.{is_ascii_digit}
-use Rattle.st_text.specs.Number.{is_filled, is_number, value}
+use Rattle.st_text.specs.Number.{is_filled, is_number, digits_value}
 use Rattle.st_top.specs.Command.{command_named, command_with, command_of, number_between, soak_of, IsWithinCards}
 use Rattle.st_top.specs.CommandLine.{is_plain, three_words, command_by}
 use Rattle.st_top.specs.declared.command.Command.{Command}
@@ -142,7 +142,7 @@ none_unless false x y z n h = refl
 
 not_number : (least most : ℕ) (w : List ℕ) → is_plain w ≡ false → number_between least most w ≡ None
 unfolding number_between
-not_number least most w h = none_unless (is_number w) (nat_le (length w) 20) (nat_le least (value w)) (nat_le (value w) most) (Some (value w)) (not_digits w h)
+not_number least most w h = none_unless (is_number w) (nat_le (length w) 20) (nat_le least (digits_value w)) (nat_le (digits_value w) most) (Some (digits_value w)) (not_digits w h)
 
 none_by : (b : Bool) (x : Option Command) → x ≡ None → (if b then x else None) ≡ None
 none_by true x e = e
@@ -212,7 +212,7 @@ number_test false n most h = tt
 number_within : (least most : ℕ) (w : List ℕ) → MatchOption (number_between least most w) (Unit {0}) (λ n. n ≤ most)
 unfolding number_between
 number_within least most w =
-    number_test _ (value w) most (λ is. leb-true (value w) most (and_parts (is_number w && nat_le (length w) 20 && nat_le least (value w)) (nat_le (value w) most) is).1)
+    number_test _ (digits_value w) most (λ is. leb-true (digits_value w) most (and_parts (is_number w && nat_le (length w) 20 && nat_le least (digits_value w)) (nat_le (digits_value w) most) is).1)
 
 soak_within : (number cards : Option ℕ) → MatchOption cards (Unit {0}) (λ n. n ≤ 4000) → AllowsCards (soak_of number cards)
 soak_within None cards h = tt

@@ -9,11 +9,11 @@ use Rattle.st_dis.specs.declared.disassembling.DisError.{DisError}
 use Rattle.st_dis.specs.declared.disassembling.DisError.TheVariants.{TooManyCards as DeckTooLong, NoMemory}
 use Rattle.st_top.specs.Layers.{Halts, of_disassembly}
 use Rattle.st_top.specs.ObjectText.{deck_lines}
-use Rattle.st_top.specs.Output.{Output, lines_alone, refused, deck_by}
+use Rattle.st_top.specs.Output.{Output, lines_alone, refusal_output, deck_by}
 use Rattle.st_top.specs.declared.answer.Status.TheVariants.{Done}
 
 abbrev by_count : Program → Bool → Output
-by_count p few = if few then lines_alone Done (deck_lines p) else refused (record { card = 20001; fault = TooManyCards })
+by_count p few = if few then lines_alone Done (deck_lines p) else refusal_output (record { card = 20001; fault = TooManyCards })
 
 pub deck_few : (p : Program) → card_count p ≤ 20000 → lines_alone Done (deck_lines p) ≡ deck_by p
 deck_few p few = let fits : nat_le (card_count p) 20000 ≡ true = grind (arith, nat_tests) in sym (ap (by_count p) fits)

@@ -8,7 +8,7 @@ use Rattle.st_text.specs.Tables.{row_of}
 use Rattle.st_bits.specs.declared.limits.TheConstants.{LONGEST_LIST}
 use Rattle.st_card.specs.declared.limits.TheConstants.{MOST_DELAY}
 use Rattle.st_card.specs.Cards.{kind_of, columns}
-use Rattle.st_card.specs.Controls.{Asked, keywords, card_numbers, is_in_range, with_delays, with_keyword, with_card, with_words, added}
+use Rattle.st_card.specs.Controls.{Asked, keywords, card_numbers, is_in_range, with_delays, with_keyword, with_card, with_words, asked_with_card}
 use Rattle.st_card.specs.declared.cards.CardKind.{CardKind}
 use Rattle.st_card.specs.declared.cards.CardKind.TheVariants.{Comment, Control, Statement}
 use Rattle.st_card.specs.declared.keywords.Keyword.{Keyword}
@@ -69,7 +69,7 @@ words-still : (a : Asked) (ws : List (List ℕ)) → begins_delays ws ≡ false 
 words-still a [] h = refl
 words-still a (word ∷ more) h = card-still (row_of word keywords) a (card_numbers more) h
 
-pub other-still : (a : Asked) (text : List ℕ) → begins_delays (words (columns text)) ≡ false → added (still a) text ≡ stills (added a text)
+pub other-still : (a : Asked) (text : List ℕ) → begins_delays (words (columns text)) ≡ false → asked_with_card (still a) text ≡ stills (asked_with_card a text)
 other-still a text h = words-still a (words (columns text)) h
 
 -- a card of delays leaves all else
@@ -104,7 +104,7 @@ words-keep : (a b : Asked) (ws : List (List ℕ)) → begins_delays ws ≡ true 
 words-keep a b [] h is = let no : ⊥ = cc in absurd no
 words-keep a b (word ∷ more) h is = card-keeps (row_of word keywords) a b (card_numbers more) h is
 
-pub delays-still : (a b : Asked) (text : List ℕ) → begins_delays (words (columns text)) ≡ true → added a text ≡ Some b → still b ≡ still a
+pub delays-still : (a b : Asked) (text : List ℕ) → begins_delays (words (columns text)) ≡ true → asked_with_card a text ≡ Some b → still b ≡ still a
 delays-still a b text h is = words-keep a b (words (columns text)) h is
 
 -- ---- the cards behind END
@@ -112,7 +112,7 @@ delays-still a b text h is = words-keep a b (words (columns text)) h is
 -- what is asked for with a card that is no statement card
 abbrev pub asked_by : CardKind → Asked → List ℕ → Option Asked
 asked_by Comment a text = Some a
-asked_by Control a text = added a text
+asked_by Control a text = asked_with_card a text
 asked_by Statement a text = None
 
 -- what is asked for with cards of these texts
@@ -154,7 +154,7 @@ asks-comment a to text texts kind rest =
     ∙ rest
 
 -- a control card
-pub asks-control : (a b : Asked) (to : Option Asked) (text : List ℕ) (texts : List (List ℕ)) → kind_of text ≡ Control → added a text ≡ Some b
+pub asks-control : (a b : Asked) (to : Option Asked) (text : List ℕ) (texts : List (List ℕ)) → kind_of text ≡ Control → asked_with_card a text ≡ Some b
     → asked_with (still b) (others texts) ≡ to → asked_with (still a) (others (text ∷ texts)) ≡ to
 unfolding asked_with is_delays_card
 asks-control a b to text texts kind is rest = by (begins_delays (words (columns text))) refl where

@@ -3,11 +3,11 @@ use Rattle.std.proofs.Common.{◌≡◌, ℕ, Bool, List, ◌++◌, sym, ◌∙�
 use Rattle.std.specs.List.{flat_map}
 use Rattle.st_card.specs.Controls.{Asked}
 use Rattle.st_run.specs.Run.{Scene, run}
-use Rattle.st_run.specs.Moments.{start}
-use Rattle.st_run.specs.Told.{told}
+use Rattle.st_run.specs.Moments.{moment_at_start}
+use Rattle.st_run.specs.Told.{told_of_events}
 use Rattle.st_run.proofs.Untimed.{timed-plain}
-use Rattle.st_top.specs.Marks.{plain, unmarked, marked_report, marked_run}
-use Rattle.st_top.specs.StepsBack.{timed, last_state, states, back_lines}
+use Rattle.st_top.specs.Marks.{without_marks, lines_unmarked, marked_report, marked_run}
+use Rattle.st_top.specs.StepsBack.{events_of_run, last_state, states, lines_of_steps_back}
 use Rattle.st_top.specs.declared.reporting.TheConstants.{LEVELS}
 use Rattle.st_top.proofs.PlainEventLemmas.{unmarked-append, unmarked-plain, happening_lines, report-lines, counted-run}
 
@@ -15,23 +15,23 @@ use Rattle.st_top.proofs.PlainEventLemmas.{unmarked-append, unmarked-plain, happ
 abbrev pub run_lines : Asked → Scene → List (List ℕ)
 run_lines asked c =
     flat_map (happening_lines asked.trace asked.dumps) (run asked.budget c).happened
-    ++ back_lines asked (states asked.budget c) (last_state asked c)
+    ++ lines_of_steps_back asked (states asked.budget c) (last_state asked c)
 
-pub run-unmarked : (asked : Asked) (c : Scene) → unmarked (marked_run asked c) ≡ run_lines asked c
+pub run-unmarked : (asked : Asked) (c : Scene) → lines_unmarked (marked_run asked c) ≡ run_lines asked c
 unfolding marked_run
 run-unmarked asked c =
-    let xs = timed asked c in
+    let xs = events_of_run asked c in
     let lines = happening_lines asked.trace asked.dumps in
-    let back = back_lines asked (states asked.budget c) (last_state asked c) in
-    unmarked-append (marked_report asked (told xs)) (plain back)
-    ∙ ap (λ front. front ++ unmarked (plain back))
-    (report-lines asked xs (counted-run asked.delays LEVELS asked.budget (start c) asked.snaps)
-    ∙ ap (flat_map lines) (timed-plain asked.delays LEVELS asked.budget (start c) asked.snaps))
+    let back = lines_of_steps_back asked (states asked.budget c) (last_state asked c) in
+    unmarked-append (marked_report asked (told_of_events xs)) (without_marks back)
+    ∙ ap (λ front. front ++ lines_unmarked (without_marks back))
+    (report-lines asked xs (counted-run asked.delays LEVELS asked.budget (moment_at_start c) asked.snaps)
+    ∙ ap (flat_map lines) (timed-plain asked.delays LEVELS asked.budget (moment_at_start c) asked.snaps))
     ∙ ap (λ rest. flat_map lines (run asked.budget c).happened ++ rest) (unmarked-plain back)
 
 -- other delays, snapshots and marks leave them as they are
 pub run-same : (asked : Asked) (ds snaps : List ℕ) (time chart : Bool) (c : Scene)
-    → unmarked (marked_run (record asked { delays = ds; snaps = snaps; time = time; chart = chart }) c)
-    ≡ unmarked (marked_run asked c)
+    → lines_unmarked (marked_run (record asked { delays = ds; snaps = snaps; time = time; chart = chart }) c)
+    ≡ lines_unmarked (marked_run asked c)
 run-same asked ds snaps time chart c =
     run-unmarked (record asked { delays = ds; snaps = snaps; time = time; chart = chart }) c ∙ sym (run-unmarked asked c)

@@ -11,10 +11,10 @@ use Rattle.st_exch.specs.Reader.{behind_statements, reader_cards}
 use Rattle.st_run.specs.Run.{Scene}
 use Rattle.st_object.specs.Object.{Program, read_text}
 use Rattle.st_report.specs.Listing.{listed_line}
-use Rattle.st_state.specs.Machine.{opening}
+use Rattle.st_state.specs.Machine.{opening_state}
 use Rattle.st_top.specs.Listing.{rows_lines, symbols_lines}
-use Rattle.st_top.specs.Marks.{Marked, unmarked, marked_run, up_to_end, texts_up_to_end, end_card, listed_lines, marked_listing, marked_by, marked_load, marked_output, DifferInDelays}
-use Rattle.st_top.specs.Output.{start_of, loaded_start}
+use Rattle.st_top.specs.Marks.{Marked, lines_unmarked, marked_run, up_to_end, texts_up_to_end, end_card, listed_lines, marked_listing, marked_by, marked_load, marked_output, DifferInDelays}
+use Rattle.st_top.specs.Output.{scene_of_assembly, loaded_start}
 use Rattle.st_top.specs.declared.command.Command.TheVariants.{Run, Load}
 use Rattle.st_top.proofs.DelayLemmas.{run-same}
 use Rattle.st_top.proofs.PlainEventLemmas.{unmarked-append, unmarked-between}
@@ -37,7 +37,7 @@ rows-texts job (row ∷ rows) (card ∷ cards) =
     ap (λ rest. listed_line row.card row.location row.bits row.length (text_in job card) ∷ rest) (rows-texts job rows cards)
 
 listed-unmarked : (job : List ℕ) (a : Assembly)
-    → unmarked (listed_lines job a) ≡ text_lines (take (end_card job) a.rows) (texts_up_to_end job) ++ symbols_lines a.symbols
+    → lines_unmarked (listed_lines job a) ≡ text_lines (take (end_card job) a.rows) (texts_up_to_end job) ++ symbols_lines a.symbols
 listed-unmarked job a =
     let front = up_to_end (cards_of job) in
     unmarked-between (rows_lines job a.rows front) (rows_lines job (drop (end_card job) a.rows) (behind_statements (cards_of job)))
@@ -45,7 +45,7 @@ listed-unmarked job a =
     ∙ ap (λ lines. lines ++ symbols_lines a.symbols) (rows-texts job a.rows front)
 
 listed-same : (job other : List ℕ) (a b : Assembly) → DifferInDelays job other a b
-    → unmarked (listed_lines job a) ≡ unmarked (listed_lines other b)
+    → lines_unmarked (listed_lines job a) ≡ lines_unmarked (listed_lines other b)
 listed-same job other a b h =
     listed-unmarked job a
     ∙ ap (λ rows. text_lines rows (texts_up_to_end job) ++ symbols_lines a.symbols) h.rows
@@ -54,13 +54,13 @@ listed-same job other a b h =
     ∙ sym (listed-unmarked other b)
 
 listing-same : (job other : List ℕ) (a b : Assembly) → DifferInDelays job other a b
-    → unmarked (marked_listing job a) ≡ unmarked (marked_listing other b)
+    → lines_unmarked (marked_listing job a) ≡ lines_unmarked (marked_listing other b)
 unfolding marked_listing
 listing-same job other a b h =
     asked-same a.asked.list (listed_lines job a) (listed_lines other b) (listed-same job other a b h)
-    ∙ ap (λ (asked : Asked). unmarked (if asked.list then listed_lines other b else [])) h.asked where
-      asked-same : (test : Bool) (xs ys : List Marked) → unmarked xs ≡ unmarked ys
-          → unmarked (if test then xs else []) ≡ unmarked (if test then ys else [])
+    ∙ ap (λ (asked : Asked). lines_unmarked (if asked.list then listed_lines other b else [])) h.asked where
+      asked-same : (test : Bool) (xs ys : List Marked) → lines_unmarked xs ≡ lines_unmarked ys
+          → lines_unmarked (if test then xs else []) ≡ lines_unmarked (if test then ys else [])
       asked-same true xs ys same = same
       asked-same false xs ys same = refl
 
@@ -69,10 +69,10 @@ listing-same job other a b h =
 -- the start of a run of an image, with the signals that are asked for and these cards
 abbrev scene_with : Asked → List ℕ → ℕ → List (List ℕ) → Scene
 scene_with asked image start cards =
-    record { machine = opening image start; signals = asked.signals; cards = cards }
+    record { machine = opening_state image start; signals = asked.signals; cards = cards }
 
 abbrev lines_with : Asked → List ℕ → ℕ → List (List ℕ) → List (List ℕ)
-lines_with asked image start cards = unmarked (marked_run asked (scene_with asked image start cards))
+lines_with asked image start cards = lines_unmarked (marked_run asked (scene_with asked image start cards))
 
 delays-same : (asked : Asked) (ds : List ℕ) (image : List ℕ) (start : ℕ) (cards : List (List ℕ))
     → lines_with (record asked { delays = ds }) image start cards ≡ lines_with asked image start cards
@@ -80,7 +80,7 @@ delays-same asked ds image start cards =
     run-same asked ds asked.snaps asked.time asked.chart (scene_with asked image start cards)
 
 started-same : (job other : List ℕ) (a b : Assembly) → DifferInDelays job other a b
-    → unmarked (marked_run a.asked (start_of job a)) ≡ unmarked (marked_run b.asked (start_of other b))
+    → lines_unmarked (marked_run a.asked (scene_of_assembly job a)) ≡ lines_unmarked (marked_run b.asked (scene_of_assembly other b))
 started-same job other a b h =
     sym (delays-same a.asked b.asked.delays a.image a.start (reader_cards job))
     ∙ ap (λ asked. lines_with asked a.image a.start (reader_cards job)) h.asked
@@ -89,30 +89,30 @@ started-same job other a b h =
     ∙ ap (λ cards. lines_with b.asked b.image b.start cards) h.reader
 
 by-same : (job other : List ℕ) (a b : Assembly) → DifferInDelays job other a b
-    → unmarked (marked_by job (Ok a)) ≡ unmarked (marked_by other (Ok b))
+    → lines_unmarked (marked_by job (Ok a)) ≡ lines_unmarked (marked_by other (Ok b))
 by-same job other a b h =
-    unmarked-append (marked_listing job a) (marked_run a.asked (start_of job a))
-    ∙ ap (λ listed. listed ++ unmarked (marked_run a.asked (start_of job a))) (listing-same job other a b h)
-    ∙ ap (λ ran. unmarked (marked_listing other b) ++ ran) (started-same job other a b h)
-    ∙ sym (unmarked-append (marked_listing other b) (marked_run b.asked (start_of other b)))
+    unmarked-append (marked_listing job a) (marked_run a.asked (scene_of_assembly job a))
+    ∙ ap (λ listed. listed ++ lines_unmarked (marked_run a.asked (scene_of_assembly job a))) (listing-same job other a b h)
+    ∙ ap (λ ran. lines_unmarked (marked_listing other b) ++ ran) (started-same job other a b h)
+    ∙ sym (unmarked-append (marked_listing other b) (marked_run b.asked (scene_of_assembly other b)))
 
 pub jobs-same : (job other : List ℕ) (a b : Assembly) → assembly job ≡ Ok a → assembly other ≡ Ok b → DifferInDelays job other a b
-    → unmarked (marked_output Run job) ≡ unmarked (marked_output Run other)
+    → lines_unmarked (marked_output Run job) ≡ lines_unmarked (marked_output Run other)
 unfolding marked_output
 jobs-same job other a b is also h =
-    ap (λ r. unmarked (marked_by job r)) is ∙ by-same job other a b h ∙ sym (ap (λ r. unmarked (marked_by other r)) also)
+    ap (λ r. lines_unmarked (marked_by job r)) is ∙ by-same job other a b h ∙ sym (ap (λ r. lines_unmarked (marked_by other r)) also)
 
 -- ---- a program that is loaded
 
 loads-same : (p q : Program) → record p { controls = record p.controls { delays = q.controls.delays } } ≡ q
-    → unmarked (marked_run p.controls (loaded_start p)) ≡ unmarked (marked_run q.controls (loaded_start q))
+    → lines_unmarked (marked_run p.controls (loaded_start p)) ≡ lines_unmarked (marked_run q.controls (loaded_start q))
 loads-same p q h =
     sym (delays-same p.controls q.controls.delays p.words p.start [])
-    ∙ ap (λ (r : Program). unmarked (marked_run r.controls (loaded_start r))) h
+    ∙ ap (λ (r : Program). lines_unmarked (marked_run r.controls (loaded_start r))) h
 
 pub texts-same : (text other : List ℕ) (p q : Program) → read_text text ≡ Ok p → read_text other ≡ Ok q
     → record p { controls = record p.controls { delays = q.controls.delays } } ≡ q
-    → unmarked (marked_output Load text) ≡ unmarked (marked_output Load other)
+    → lines_unmarked (marked_output Load text) ≡ lines_unmarked (marked_output Load other)
 unfolding marked_output
 texts-same text other p q is also h =
-    ap (λ r. unmarked (marked_load text r)) is ∙ loads-same p q h ∙ sym (ap (λ r. unmarked (marked_load other r)) also)
+    ap (λ r. lines_unmarked (marked_load text r)) is ∙ loads-same p q h ∙ sym (ap (λ r. lines_unmarked (marked_load other r)) also)

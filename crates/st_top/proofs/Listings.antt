@@ -12,7 +12,7 @@ use Rattle.st_io.specs.Output.{OutputState}
 use Rattle.st_io.specs.declared.Failed.{Failed}
 use Rattle.st_io.specs.Lines.{WritesLines}
 use Rattle.st_io.proofs.Progress.{LinesSoFar, lines_more, lines_failed}
-use Rattle.st_top.specs.Listing.{HasCards, row_line, rows_lines, symbols_lines, listing}
+use Rattle.st_top.specs.Listing.{HasCards, listing_row_line, rows_lines, symbols_lines, listing}
 
 -- the cards of a job that is assembled
 pub has_cards : (job : List ℕ) (rows : List Listed) (cards : List Card) → cards ≡ cards_of job → All (IsCardOf job) (cards_of job)
@@ -26,18 +26,18 @@ has_cards job rows cards are texts good fit same = record {
 }
 
 -- where the rows from the k-th on are left, the k-th comes next
-rows_next : (s t : OutputState) (all : List (List ℕ)) (job : List ℕ) (rows : List Listed) (cards : List Card) (k : ℕ) (d : Listed) (e : Card) → k < length rows → length rows ≡ length cards → LinesSoFar s t all (rows_lines job (drop k rows) (drop k cards)) → LinesSoFar s t all ((row_line job (get_or rows k d) (get_or cards k e) ∷ []) ++ rows_lines job (drop (k + 1) rows) (drop (k + 1) cards))
+rows_next : (s t : OutputState) (all : List (List ℕ)) (job : List ℕ) (rows : List Listed) (cards : List Card) (k : ℕ) (d : Listed) (e : Card) → k < length rows → length rows ≡ length cards → LinesSoFar s t all (rows_lines job (drop k rows) (drop k cards)) → LinesSoFar s t all ((listing_row_line job (get_or rows k d) (get_or cards k e) ∷ []) ++ rows_lines job (drop (k + 1) rows) (drop (k + 1) cards))
 rows_next s t all job rows cards k d e lt same h =
     subst (λ xs. LinesSoFar s t all (rows_lines job (get_or rows k d ∷ drop (k + 1) rows) xs)) (drop_more cards k e (omega arith))
     (subst (λ xs. LinesSoFar s t all (rows_lines job xs (drop k cards))) (drop_more rows k d lt) h)
 
-pub rows_more : (s t u : OutputState) (all : List (List ℕ)) (job : List ℕ) (rows : List Listed) (cards : List Card) (k : ℕ) (d : Listed) (e : Card) (x : Unit {0}) → k < length rows → length rows ≡ length cards → LinesSoFar s t all (rows_lines job (drop k rows) (drop k cards)) → WritesLines t u (row_line job (get_or rows k d) (get_or cards k e) ∷ []) (Ok x) → LinesSoFar s u all (rows_lines job (drop (k + 1) rows) (drop (k + 1) cards))
+pub rows_more : (s t u : OutputState) (all : List (List ℕ)) (job : List ℕ) (rows : List Listed) (cards : List Card) (k : ℕ) (d : Listed) (e : Card) (x : Unit {0}) → k < length rows → length rows ≡ length cards → LinesSoFar s t all (rows_lines job (drop k rows) (drop k cards)) → WritesLines t u (listing_row_line job (get_or rows k d) (get_or cards k e) ∷ []) (Ok x) → LinesSoFar s u all (rows_lines job (drop (k + 1) rows) (drop (k + 1) cards))
 rows_more s t u all job rows cards k d e x lt same h w =
-    lines_more s t u all (row_line job (get_or rows k d) (get_or cards k e) ∷ []) (rows_lines job (drop (k + 1) rows) (drop (k + 1) cards)) (rows_next s t all job rows cards k d e lt same h) w.ok
+    lines_more s t u all (listing_row_line job (get_or rows k d) (get_or cards k e) ∷ []) (rows_lines job (drop (k + 1) rows) (drop (k + 1) cards)) (rows_next s t all job rows cards k d e lt same h) w.ok
 
-pub rows_failed : (s t u : OutputState) (all : List (List ℕ)) (job : List ℕ) (rows : List Listed) (cards : List Card) (k : ℕ) (d : Listed) (e : Card) (x : Failed) (r : Result (Unit {0}) Failed) → IsErr r → k < length rows → length rows ≡ length cards → LinesSoFar s t all (rows_lines job (drop k rows) (drop k cards)) → WritesLines t u (row_line job (get_or rows k d) (get_or cards k e) ∷ []) (Err x) → WritesLines s u all r
+pub rows_failed : (s t u : OutputState) (all : List (List ℕ)) (job : List ℕ) (rows : List Listed) (cards : List Card) (k : ℕ) (d : Listed) (e : Card) (x : Failed) (r : Result (Unit {0}) Failed) → IsErr r → k < length rows → length rows ≡ length cards → LinesSoFar s t all (rows_lines job (drop k rows) (drop k cards)) → WritesLines t u (listing_row_line job (get_or rows k d) (get_or cards k e) ∷ []) (Err x) → WritesLines s u all r
 rows_failed s t u all job rows cards k d e x r f lt same h w =
-    lines_failed s t u all (row_line job (get_or rows k d) (get_or cards k e) ∷ []) (rows_lines job (drop (k + 1) rows) (drop (k + 1) cards)) r f (rows_next s t all job rows cards k d e lt same h) w.err
+    lines_failed s t u all (listing_row_line job (get_or rows k d) (get_or cards k e) ∷ []) (rows_lines job (drop (k + 1) rows) (drop (k + 1) cards)) r f (rows_next s t all job rows cards k d e lt same h) w.err
 
 symbols_next : (s t : OutputState) (all : List (List ℕ)) (ss : List Symbol) (k : ℕ) (d : Symbol) → k < length ss → LinesSoFar s t all (symbols_lines (drop k ss)) → LinesSoFar s t all (symbols_lines (get_or ss k d ∷ []) ++ symbols_lines (drop (k + 1) ss))
 symbols_next s t all ss k d lt h = subst (λ xs. LinesSoFar s t all (symbols_lines xs)) (drop_more ss k d lt) h

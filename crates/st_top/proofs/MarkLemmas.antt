@@ -14,12 +14,12 @@ use Rattle.st_io.specs.Event.{lines_of, at_moment}
 use Rattle.st_io.proofs.Writing.{lines_of-append, lines_of-at_moment}
 use Rattle.st_object.specs.Object.{Program, read_text}
 use Rattle.st_report.specs.Line.{trc_line, row_line, drop_line, int_line, time_line, end_line, done_line, ticks_line}
-use Rattle.st_run.specs.Told.{What, Done, Dropped, Printed, Interrupted, Shown, Ended, Told, told}
-use Rattle.st_top.specs.Listing.{rows_lines, row_line as card_line, symbols_lines, listing}
-use Rattle.st_top.specs.Marks.{Marked, marked, plain, all_lines, marked_at, marked_lines, marked_report, marked_run, up_to_end, end_card, listed_lines, marked_listing, marked_by, marked_load, marked_output}
-use Rattle.st_top.specs.Output.{output_of, start_of, loaded_start}
+use Rattle.st_run.specs.Told.{What, Done, Dropped, Printed, Interrupted, Shown, Ended, Told, told_of_events}
+use Rattle.st_top.specs.Listing.{rows_lines, listing_row_line as card_line, symbols_lines, listing}
+use Rattle.st_top.specs.Marks.{Marked, with_marks, without_marks, all_lines, marked_at, marked_lines, marked_report, marked_run, up_to_end, end_card, listed_lines, marked_listing, marked_by, marked_load, marked_output}
+use Rattle.st_top.specs.Output.{output_of, scene_of_assembly, loaded_start}
 use Rattle.st_top.specs.Report.{line_if, block, snapshot_lines, lines_at, lines_told, report}
-use Rattle.st_top.specs.StepsBack.{timed, end_of, last_state, states, back_lines, run_report}
+use Rattle.st_top.specs.StepsBack.{events_of_run, moment_at_end, last_state, states, lines_of_steps_back, run_report}
 use Rattle.st_top.specs.declared.command.Command.{Command}
 use Rattle.st_top.specs.declared.command.Command.TheVariants.{Run, Assemble, Load, Disassemble, Sweep, Soak}
 
@@ -28,27 +28,27 @@ use Rattle.st_top.specs.declared.command.Command.TheVariants.{Run, Assemble, Loa
 pub lines-append : (xs ys : List Marked) → all_lines (xs ++ ys) ≡ all_lines xs ++ all_lines ys
 lines-append xs ys = map-append (λ m. m.line) xs ys
 
-pub lines-plain : (lines : List (List ℕ)) → all_lines (plain lines) ≡ lines
+pub lines-plain : (lines : List (List ℕ)) → all_lines (without_marks lines) ≡ lines
 lines-plain [] = refl
 lines-plain (x ∷ xs) = ap (λ rest. x ∷ rest) (lines-plain xs)
 
-pub lines-marked : (lines : List (List ℕ)) → all_lines (marked lines) ≡ lines
+pub lines-marked : (lines : List (List ℕ)) → all_lines (with_marks lines) ≡ lines
 lines-marked [] = refl
 lines-marked (x ∷ xs) = ap (λ rest. x ∷ rest) (lines-marked xs)
 
 -- lines that are not marked, some that are, and again some that are not
-lines-between : (xs ys zs : List (List ℕ)) → all_lines (plain xs ++ marked ys ++ plain zs) ≡ xs ++ ys ++ zs
+lines-between : (xs ys zs : List (List ℕ)) → all_lines (without_marks xs ++ with_marks ys ++ without_marks zs) ≡ xs ++ ys ++ zs
 lines-between xs ys zs =
-    lines-append (plain xs ++ marked ys) (plain zs)
-    ∙ ap (λ rest. rest ++ all_lines (plain zs)) (lines-append (plain xs) (marked ys))
-    ∙ ap (λ front. front ++ all_lines (marked ys) ++ all_lines (plain zs)) (lines-plain xs)
-    ∙ ap (λ middle. xs ++ middle ++ all_lines (plain zs)) (lines-marked ys)
+    lines-append (without_marks xs ++ with_marks ys) (without_marks zs)
+    ∙ ap (λ rest. rest ++ all_lines (without_marks zs)) (lines-append (without_marks xs) (with_marks ys))
+    ∙ ap (λ front. front ++ all_lines (with_marks ys) ++ all_lines (without_marks zs)) (lines-plain xs)
+    ∙ ap (λ middle. xs ++ middle ++ all_lines (without_marks zs)) (lines-marked ys)
     ∙ ap (λ rest. xs ++ ys ++ rest) (lines-plain zs)
 
-lines-before : (xs ys : List (List ℕ)) → all_lines (plain xs ++ marked ys) ≡ xs ++ ys
+lines-before : (xs ys : List (List ℕ)) → all_lines (without_marks xs ++ with_marks ys) ≡ xs ++ ys
 lines-before xs ys =
-    lines-append (plain xs) (marked ys)
-    ∙ ap (λ front. front ++ all_lines (marked ys)) (lines-plain xs)
+    lines-append (without_marks xs) (with_marks ys)
+    ∙ ap (λ front. front ++ all_lines (with_marks ys)) (lines-plain xs)
     ∙ ap (λ rest. xs ++ rest) (lines-marked ys)
 
 -- ---- the lines of a report
@@ -77,11 +77,11 @@ lines-report asked (t ∷ ts) =
 pub lines-run : (asked : Asked) (start : Scene) → all_lines (marked_run asked start) ≡ lines_of (run_report asked start)
 unfolding marked_run run_report
 lines-run asked start =
-    let ts = told (timed asked start) in
-    let back = back_lines asked (states asked.budget start) (last_state asked start) in
-    let e = end_of asked start in
-    lines-append (marked_report asked ts) (plain back)
-    ∙ ap (λ front. front ++ all_lines (plain back)) (lines-report asked ts)
+    let ts = told_of_events (events_of_run asked start) in
+    let back = lines_of_steps_back asked (states asked.budget start) (last_state asked start) in
+    let e = moment_at_end asked start in
+    lines-append (marked_report asked ts) (without_marks back)
+    ∙ ap (λ front. front ++ all_lines (without_marks back)) (lines-report asked ts)
     ∙ ap (λ rest. lines_of (report asked ts) ++ rest) (lines-plain back ∙ sym (lines_of-at_moment e.done e.tick back))
     ∙ sym (lines_of-append (report asked ts) (at_moment e.done e.tick back))
 
@@ -127,7 +127,7 @@ lines-listing job a = listing-if a.asked.list (listed_lines job a) _ (lines-list
 lines-by : (job : List ℕ) (r : Result Assembly Refusal) → assembly job ≡ r → all_lines (marked_by job r) ≡ lines_of (output_of Run job).events
 unfolding output_of
 lines-by job (Ok a) is =
-    let start = start_of job a in
+    let start = scene_of_assembly job a in
     lines-append (marked_listing job a) (marked_run a.asked start)
     ∙ ap (λ front. front ++ all_lines (marked_run a.asked start)) (lines-listing job a ∙ sym (lines_of-at_moment 0 0 (listing job a)))
     ∙ ap (λ rest. lines_of (at_moment 0 0 (listing job a)) ++ rest) (lines-run a.asked start)

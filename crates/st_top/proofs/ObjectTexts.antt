@@ -7,29 +7,29 @@ use Rattle.st_io.specs.Output.{OutputState}
 use Rattle.st_io.specs.Lines.{text}
 use Rattle.st_io.proofs.Progress.{LinesSoFar}
 use Rattle.st_text.specs.Bytes.{lf}
-use Rattle.st_text.specs.Pieces.{parted, onto_first}
-use Rattle.st_object.specs.Lines.{spelled}
-use Rattle.st_object.specs.Draft.{blank}
+use Rattle.st_text.specs.Pieces.{pieces_of, onto_first}
+use Rattle.st_object.specs.Lines.{line_text}
+use Rattle.st_object.specs.Draft.{draft_at_start}
 use Rattle.st_object.specs.Object.{Program, IsProgram, object_lines as lines_of, object_text, read_text}
 use Rattle.st_object.proofs.ProgramLines.{made_again}
 use Rattle.st_object.proofs.AcceptedTexts.{accepted}
 use Rattle.st_object.proofs.ReadBack.{parted-text_of}
 use Rattle.st_dis.specs.Deck.{deck_cards, deck_text}
 use Rattle.st_dis.proofs.Printable.{deck_pieces}
-use Rattle.st_top.specs.ObjectText.{object_lines, deck_lines, ended_lines}
+use Rattle.st_top.specs.ObjectText.{object_text_lines, deck_lines, whole_lines}
 
 -- a line with a line end comes first, and then those of what stands behind it
-ended-onto : (line : List ℕ) (c : ℕ) (pieces : List (List ℕ)) → ended_lines (line ∷ onto_first c pieces) ≡ (line ++ lf) ∷ ended_lines (onto_first c pieces)
+ended-onto : (line : List ℕ) (c : ℕ) (pieces : List (List ℕ)) → whole_lines (line ∷ onto_first c pieces) ≡ (line ++ lf) ∷ whole_lines (onto_first c pieces)
 ended-onto line c [] = refl
 ended-onto line c (piece ∷ pieces) = refl
 
-pub ended-line : (line after : List ℕ) → ended_lines (line ∷ parted 10 after) ≡ (line ++ lf) ∷ ended_lines (parted 10 after)
+pub ended-line : (line after : List ℕ) → whole_lines (line ∷ pieces_of 10 after) ≡ (line ++ lf) ∷ whole_lines (pieces_of 10 after)
 ended-line line [] = refl
 ended-line line (c ∷ cs) =
-    elim (c == 10) as (λ v. ended_lines (line ∷ (if v then [] ∷ parted 10 cs else onto_first c (parted 10 cs)))
-    ≡ (line ++ lf) ∷ ended_lines (if v then [] ∷ parted 10 cs else onto_first c (parted 10 cs))) [
+    elim (c == 10) as (λ v. whole_lines (line ∷ (if v then [] ∷ pieces_of 10 cs else onto_first c (pieces_of 10 cs)))
+    ≡ (line ++ lf) ∷ whole_lines (if v then [] ∷ pieces_of 10 cs else onto_first c (pieces_of 10 cs))) [
       | true ↦ refl
-      | false ↦ ended-onto line c (parted 10 cs)
+      | false ↦ ended-onto line c (pieces_of 10 cs)
     ]
 
 -- what a text begins with, up to its first line end
@@ -39,12 +39,12 @@ first_ended line after rest e =
     ap (λ (s : List ℕ). take (length line + 1) s) whole ∙ take_at (line ++ lf) after (length line + 1) (length_push line 10)
 
 -- where the lines of a text are left, its first line comes next
-pub ended_next : (s t : OutputState) (all : List (List ℕ)) (rest line after whole : List ℕ) → parted 10 rest ≡ line ∷ parted 10 after → rest ≡ line ++ 10 ∷ after → whole ≡ take (length line + 1) rest → LinesSoFar s t all (ended_lines (parted 10 rest)) → LinesSoFar s t all ((whole ∷ []) ++ ended_lines (parted 10 after))
+pub ended_next : (s t : OutputState) (all : List (List ℕ)) (rest line after whole : List ℕ) → pieces_of 10 rest ≡ line ∷ pieces_of 10 after → rest ≡ line ++ 10 ∷ after → whole ≡ take (length line + 1) rest → LinesSoFar s t all (whole_lines (pieces_of 10 rest)) → LinesSoFar s t all ((whole ∷ []) ++ whole_lines (pieces_of 10 after))
 ended_next s t all rest line after whole pieces same cut h =
     let first : line ++ lf ≡ whole = sym (cut ∙ first_ended line after rest same) in
-    subst (LinesSoFar s t all) (ap ended_lines pieces ∙ (ended-line line after ∙ ap (λ w. w ∷ ended_lines (parted 10 after)) first)) h
+    subst (LinesSoFar s t all) (ap whole_lines pieces ∙ (ended-line line after ∙ ap (λ w. w ∷ whole_lines (pieces_of 10 after)) first)) h
 
-ended-map : {X : Type 0} (f : X → List ℕ) (items : List X) → ended_lines (map f items ++ [] ∷ []) ≡ map (λ item. f item ++ lf) items
+ended-map : {X : Type 0} (f : X → List ℕ) (items : List X) → whole_lines (map f items ++ [] ∷ []) ≡ map (λ item. f item ++ lf) items
 ended-map f [] = refl
 ended-map f (item ∷ []) = refl
 ended-map f (item ∷ next ∷ more) = ap (λ ls. (f item ++ lf) ∷ ls) (ended-map f (next ∷ more))
@@ -54,27 +54,27 @@ text-map f [] = refl
 text-map f (item ∷ more) = ap (λ (s : List ℕ). f item ++ s) (text-map f more)
 
 -- the lines one after another are the text
-pub text-object_lines : (p : Program) → text (object_lines p) ≡ object_text p
-unfolding object_lines
-text-object_lines p = text-map (λ item. spelled item ++ lf) (lines_of p)
+pub text-object_lines : (p : Program) → text (object_text_lines p) ≡ object_text p
+unfolding object_text_lines
+text-object_lines p = text-map (λ item. line_text item ++ lf) (lines_of p)
 
 -- the lines of an object text are those of its program
-pub object_text-lines : (p : Program) (written : List ℕ) → written ≡ object_text p → IsProgram p → read_text written ≡ Ok p → ended_lines (parted 10 written) ≡ object_lines p
-unfolding object_lines
+pub object_text-lines : (p : Program) (written : List ℕ) → written ≡ object_text p → IsProgram p → read_text written ≡ Ok p → whole_lines (pieces_of 10 written) ≡ object_text_lines p
+unfolding object_text_lines
 object_text-lines p written e is read =
     let makes = made_again p is (accepted written p read).words in
-    ap (λ (s : List ℕ). ended_lines (parted 10 s)) e
-    ∙ (ap ended_lines (parted-text_of (lines_of p) blank makes.last makes.steps) ∙ ended-map spelled (lines_of p))
+    ap (λ (s : List ℕ). whole_lines (pieces_of 10 s)) e
+    ∙ (ap whole_lines (parted-text_of (lines_of p) draft_at_start makes.last makes.steps) ∙ ended-map line_text (lines_of p))
 
-ended-pieces : (pieces : List (List ℕ)) → ended_lines (pieces ++ [] ∷ []) ≡ map (λ piece. piece ++ lf) pieces
+ended-pieces : (pieces : List (List ℕ)) → whole_lines (pieces ++ [] ∷ []) ≡ map (λ piece. piece ++ lf) pieces
 ended-pieces [] = refl
 ended-pieces (piece ∷ []) = refl
 ended-pieces (piece ∷ next ∷ more) = ap (λ ls. (piece ++ lf) ∷ ls) (ended-pieces (next ∷ more))
 
 -- the lines of a deck are its cards
-pub deck_text-lines : (p : Program) → ended_lines (parted 10 (deck_text p)) ≡ deck_lines p
+pub deck_text-lines : (p : Program) → whole_lines (pieces_of 10 (deck_text p)) ≡ deck_lines p
 unfolding deck_lines
-deck_text-lines p = ap ended_lines (deck_pieces p) ∙ ended-pieces (deck_cards p)
+deck_text-lines p = ap whole_lines (deck_pieces p) ∙ ended-pieces (deck_cards p)
 
 -- and one after another they are the deck
 pub text-deck_lines : (p : Program) → text (deck_lines p) ≡ deck_text p

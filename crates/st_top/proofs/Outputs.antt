@@ -6,11 +6,11 @@ use Rattle.st_io.specs.declared.Failed.{Failed}
 use Rattle.st_io.specs.Lines.{text}
 use Rattle.st_io.specs.Event.{StoppedAt}
 use Rattle.st_io.proofs.Writing.{wrote_at_moment}
-use Rattle.st_state.specs.Machine.{opening}
+use Rattle.st_state.specs.Machine.{opening_state}
 use Rattle.st_top.specs.declared.moment.Moment.{Moment}
 use Rattle.st_run.specs.Run.{Scene}
 use Rattle.st_object.specs.Object.{Program}
-use Rattle.st_top.specs.Output.{Output, lines_alone, output_of_run, scene_of, loaded_by, loaded_start}
+use Rattle.st_top.specs.Output.{Output, lines_alone, output_of_run, scene_at_start, loaded_by, loaded_start}
 use Rattle.st_top.proofs.Besides.{no_cards}
 use Rattle.st_top.specs.Answers.{WroteAll, Writes}
 use Rattle.st_top.specs.Running.{WritesEvents}
@@ -41,10 +41,10 @@ wrote_alone s t ls answer w good done ticks =
     subst (λ st. Writes st s t (lines_alone Done ls) answer) (sym good) all
 
 -- so it is with a program that is loaded, whose reader is empty
-pub loaded_scene : (p : Program) → scene_of p.words p.start p.controls [] ≡ loaded_start p
+pub loaded_scene : (p : Program) → scene_at_start p.words p.start p.controls [] ≡ loaded_start p
 loaded_scene p =
-    let with_cards : List (List ℕ) → Scene = λ cards. record { machine = opening p.words p.start; signals = p.controls.signals; cards = cards } in
+    let with_cards : List (List ℕ) → Scene = λ cards. record { machine = opening_state p.words p.start; signals = p.controls.signals; cards = cards } in
     ap with_cards no_cards
 
-pub loaded_is : (p : Program) → output_of_run [] p.controls (scene_of p.words p.start p.controls []) ≡ loaded_by (Ok p)
+pub loaded_is : (p : Program) → output_of_run [] p.controls (scene_at_start p.words p.start p.controls []) ≡ loaded_by (Ok p)
 loaded_is p = ap (output_of_run [] p.controls) (loaded_scene p)

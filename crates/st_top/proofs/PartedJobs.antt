@@ -5,20 +5,20 @@ use Rattle.std.proofs.lemmas.List.{length-map}
 use Rattle.std.proofs.lemmas.List.Elements.{All-head, All-tail}
 use Rattle.std.specs.Str.Lines.{strip_carriage_return}
 use Rattle.st_text.specs.Bytes.{line_end}
-use Rattle.st_text.specs.Pieces.{words, parted}
+use Rattle.st_text.specs.Pieces.{words, pieces_of}
 use Rattle.st_card.specs.Cards.{columns, kind_of, card_at, cards_from, cards_of, text_in, IsCardOf}
-use Rattle.st_card.specs.Controls.{Asked, nothing_asked, added}
+use Rattle.st_card.specs.Controls.{Asked, nothing_asked, asked_with_card}
 use Rattle.st_card.specs.declared.cards.Card.{Card}
 use Rattle.st_card.specs.declared.cards.CardKind.{CardKind}
 use Rattle.st_card.specs.declared.cards.CardKind.TheVariants.{Comment, Control, Statement}
 use Rattle.st_card.specs.declared.faults.Fault.{Fault}
 use Rattle.st_card.specs.declared.faults.Fault.TheVariants.{BadControlCard, CardAfterEnd, NoEnd}
 use Rattle.st_card.proofs.StandingLemmas.{cards_stand}
-use Rattle.st_strap.specs.Order.{judged, mapped}
+use Rattle.st_strap.specs.Order.{next_reading, reading_map}
 use Rattle.st_strap.specs.Saying.{statement_of}
-use Rattle.st_asm.specs.Pass.{Refusal, onward, pass, unless_faulty, and_then}
-use Rattle.st_asm.specs.Lines.{name_field, statement_field, silent}
-use Rattle.st_asm.specs.Forming.{Found, unread, first_fault_of, with_line, with_control, with_statement, with_end, form_control, form_statement, form_kind, form_card, form_pass}
+use Rattle.st_asm.specs.Pass.{Refusal, onward, pass, unless_faulty, pass_then}
+use Rattle.st_asm.specs.Lines.{name_field, statement_field, is_silent}
+use Rattle.st_asm.specs.Forming.{Found, found_at_start, first_fault_of, with_line, with_control, with_statement, with_end, form_control, form_statement, form_kind, form_card, form_pass}
 use Rattle.st_asm.specs.Symbols.{table}
 use Rattle.st_asm.specs.Naming.{Named, name_pass}
 use Rattle.st_asm.specs.Valuing.{Laid, value_pass}
@@ -133,7 +133,7 @@ record Went (from to : Found) (numbers : List ℕ) (texts : List (List ℕ)) : T
   asked : asked_with (still from.asked) (others texts) ≡ Some (still to.asked)
 
 control-ok : (from to : Found) (n : ℕ) (ended : Bool) (o : Option Asked)
-    → (if ended then judged BadControlCard o (λ asked. Ok (with_control from n asked)) else Err BadControlCard) ≡ Ok to
+    → (if ended then next_reading BadControlCard o (λ asked. Ok (with_control from n asked)) else Err BadControlCard) ≡ Ok to
     → (b : Asked) × (o ≡ Some b) × (with_control from n b ≡ to)
 control-ok from to n false o h = let no : ⊥ = cc in absurd no
 control-ok from to n true None h = let no : ⊥ = cc in absurd no
@@ -143,16 +143,16 @@ went-on : (k : CardKind) (from state to : Found) (n : ℕ) (text : List ℕ) (ns
     → form_kind k from n None text ≡ Ok state → Went state to ns texts → Went from to (n ∷ ns) (text ∷ texts)
 unfolding form_control
 went-on Comment from state to n text ns texts kind none h rest =
-    let is : with_line from (silent n) ≡ state = cc in record {
+    let is : with_line from (is_silent n) ≡ state = cc in record {
       ended = rest.ended ∙ ap (λ (s : Found). s.ended) (sym is);
-      lines = rest.lines ∙ ap (λ (s : Found). s.lines ++ quiet ns) (sym is) ∙ append_assoc from.lines (silent n ∷ []) (quiet ns);
+      lines = rest.lines ∙ ap (λ (s : Found). s.lines ++ quiet ns) (sym is) ∙ append_assoc from.lines (is_silent n ∷ []) (quiet ns);
       asked = asks-comment (still from.asked) (Some (still to.asked)) text texts kind
           (ap (λ (s : Found). asked_with (still s.asked) (others texts)) is ∙ rest.asked);
     }
 went-on Control from state to n text ns texts kind none h rest =
-    let (b, asks, is) = control-ok from state n from.ended (added from.asked text) h in record {
+    let (b, asks, is) = control-ok from state n from.ended (asked_with_card from.asked text) h in record {
       ended = rest.ended ∙ ap (λ (s : Found). s.ended) (sym is);
-      lines = rest.lines ∙ ap (λ (s : Found). s.lines ++ quiet ns) (sym is) ∙ append_assoc from.lines (silent n ∷ []) (quiet ns);
+      lines = rest.lines ∙ ap (λ (s : Found). s.lines ++ quiet ns) (sym is) ∙ append_assoc from.lines (is_silent n ∷ []) (quiet ns);
       asked = asks-control from.asked b (Some (still to.asked)) text texts kind asks
           (ap (λ (s : Found). asked_with (still s.asked) (others texts)) is ∙ rest.asked);
     }
@@ -216,13 +216,13 @@ if-control true r s e h = cc
 if-control false r s e h = cc
 
 mapped-asks : {S : Type 0} (from state : Found) (f : S → Found) (o : Result S Fault) → ((s : S) → (f s).asked ≡ from.asked)
-    → mapped f o ≡ Ok state → state.asked ≡ from.asked
+    → reading_map f o ≡ Ok state → state.asked ≡ from.asked
 mapped-asks from state f (Ok s) same h = let is : f s ≡ state = cc in ap (λ (t : Found). t.asked) (sym is) ∙ same s
 mapped-asks from state f (Err e) same h = let no : ⊥ = cc in absurd no
 
 kind-asks : (k : CardKind) (from state : Found) (n : ℕ) (text : List ℕ) → from.ended ≡ false → form_kind k from n None text ≡ Ok state → state.asked ≡ from.asked
 unfolding form_control form_statement
-kind-asks Comment from state n text e h = let is : with_line from (silent n) ≡ state = cc in ap (λ (t : Found). t.asked) (sym is)
+kind-asks Comment from state n text e h = let is : with_line from (is_silent n) ≡ state = cc in ap (λ (t : Found). t.asked) (sym is)
 kind-asks Control from state n text e h = absurd (if-control from.ended _ state e h)
 kind-asks Statement from state n text e h =
     mapped-asks from state (λ s. with_statement from n (name_field text) s) (statement_of (name_field text) (statement_field text)) (λ s. refl)
@@ -231,9 +231,9 @@ kind-asks Statement from state n text e h =
 kind-ended : (k : CardKind) (from state : Found) (n : ℕ) (text : List ℕ) → from.ended ≡ true → form_kind k from n None text ≡ Ok state
     → (state.ended ≡ true) × (is_statement k ≡ false)
 unfolding form_control form_statement
-kind-ended Comment from state n text e h = let is : with_line from (silent n) ≡ state = cc in (ap (λ (t : Found). t.ended) (sym is) ∙ e, refl)
+kind-ended Comment from state n text e h = let is : with_line from (is_silent n) ≡ state = cc in (ap (λ (t : Found). t.ended) (sym is) ∙ e, refl)
 kind-ended Control from state n text e h =
-    let (b, asks, is) = control-ok from state n from.ended (added from.asked text) h in (ap (λ (t : Found). t.ended) (sym is) ∙ e, refl)
+    let (b, asks, is) = control-ok from state n from.ended (asked_with_card from.asked text) h in (ap (λ (t : Found). t.ended) (sym is) ∙ e, refl)
 kind-ended Statement from state n text e h = absurd (if-ended from.ended _ state e h)
 
 or-right : (a b : Bool) → (a || b) ≡ true → a ≡ false → b ≡ true
@@ -271,15 +271,15 @@ open-front job from to (card ∷ cards) before good e h =
 -- ---- cards behind END that are good
 
 kind-goes : (k : CardKind) (from : Found) (b : Asked) (n : ℕ) (text : List ℕ) → from.ended ≡ true → asked_by k from.asked text ≡ Some b
-    → form_kind k from n None text ≡ Ok (record { ended = true; asked = b; lines = from.lines ++ silent n ∷ [] })
+    → form_kind k from n None text ≡ Ok (record { ended = true; asked = b; lines = from.lines ++ is_silent n ∷ [] })
 unfolding form_control
 kind-goes Comment from b n text e is =
     let same : from.asked ≡ b = cc in
-    ap (λ (v : Bool). Ok (record { ended = v; asked = from.asked; lines = from.lines ++ silent n ∷ [] })) e
-    ∙ ap (λ (a : Asked). Ok (record { ended = true; asked = a; lines = from.lines ++ silent n ∷ [] })) same
+    ap (λ (v : Bool). Ok (record { ended = v; asked = from.asked; lines = from.lines ++ is_silent n ∷ [] })) e
+    ∙ ap (λ (a : Asked). Ok (record { ended = true; asked = a; lines = from.lines ++ is_silent n ∷ [] })) same
 kind-goes Control from b n text e is =
-    ap (λ (v : Bool). if v then judged BadControlCard (added from.asked text) (λ asked. Ok (record { ended = v; asked = asked; lines = from.lines ++ silent n ∷ [] })) else Err BadControlCard) e
-    ∙ ap (λ (o : Option Asked). judged BadControlCard o (λ asked. Ok (record { ended = true; asked = asked; lines = from.lines ++ silent n ∷ [] }))) is
+    ap (λ (v : Bool). if v then next_reading BadControlCard (asked_with_card from.asked text) (λ asked. Ok (record { ended = v; asked = asked; lines = from.lines ++ is_silent n ∷ [] })) else Err BadControlCard) e
+    ∙ ap (λ (o : Option Asked). next_reading BadControlCard o (λ asked. Ok (record { ended = true; asked = asked; lines = from.lines ++ is_silent n ∷ [] }))) is
 kind-goes Statement from b n text e is = let no : ⊥ = cc in absurd no
 
 all-go : (job : List ℕ) (from : Found) (z : Asked) (cards : List Card) → AreGood job cards → from.ended ≡ true
@@ -295,11 +295,11 @@ all-go job from z (card ∷ cards) good e h =
     let text = text_in job card in
     let ns = map (λ (c : Card). c.number) cards in
     let (b, is, more) = asks-some from.asked z text (map (text_in job) cards) h in
-    let state : Found = record { ended = true; asked = b; lines = from.lines ++ silent card.number ∷ [] } in
+    let state : Found = record { ended = true; asked = b; lines = from.lines ++ is_silent card.number ∷ [] } in
     ap (onward (λ f. pass (form_card job) (λ c. c.number) f cards) card.number)
     (card-text job from card.number card refl good.0 good.1 ∙ kind-goes (kind_of text) from b card.number text e is)
     ∙ all-go job state z cards good.2 refl more
-    ∙ ap (λ (ls : List Line). Ok (record { ended = true; asked = z; lines = ls })) (append_assoc from.lines (silent card.number ∷ []) (quiet ns))
+    ∙ ap (λ (ls : List Line). Ok (record { ended = true; asked = z; lines = ls })) (append_assoc from.lines (is_silent card.number ∷ []) (quiet ns))
 
 -- ---- the reader
 
@@ -351,7 +351,7 @@ reader-others job good =
 -- what the form pass leaves of a job, by what it leaves of the cards up to END
 record Read (job : List ℕ) (all : Found) : Type 0 where
   found : Found
-  read : form_texts unread 1 (texts_up_to_end job) ≡ Ok found
+  read : form_texts found_at_start 1 (texts_up_to_end job) ≡ Ok found
   ended : found.ended ≡ true
   opened : found.asked ≡ nothing_asked
   went : Went found all (map (λ card. card.number) (behind_statements (cards_of job))) (texts_behind_end job)
@@ -377,7 +377,7 @@ counted job found all is lines =
     sym (length-map all.lines (λ (line : Line). line.card)) ∙ ap length (form_pass-numbers job cards all is)
     ∙ length-map cards (λ (card : Card). card.number) in
     let split = ap length lines ∙ length-append found.lines (quiet ns) in
-    let few = length-map ns silent ∙ length-map behind (λ (card : Card). card.number) in
+    let few = length-map ns is_silent ∙ length-map behind (λ (card : Card). card.number) in
     let both = sym (length-append (up_to_end cards) behind) ∙ ap length (cards-split cards) in
     omega (arith, whole, split, few, both)
 
@@ -388,21 +388,21 @@ job-read job all is =
     let front = up_to_end cards in
     let behind = behind_statements cards in
     let next = λ (from : Found) (cs : List Card). pass (form_card job) (λ card. card.number) from cs in
-    let formed = and_then-ok (with_end (length cards)) (next unread cards) all is in
+    let formed = and_then-ok (with_end (length cards)) (next found_at_start cards) all is in
     let same : formed.first ≡ all = ended-same formed.first.ended formed.first all _ formed.last in
     let good = are-good job cards (cards_stand job) (form_pass-faultless job cards all is) in
     let split_good : AreGood job (front ++ behind) = subst (AreGood job) (sym (cards-split cards)) good in
     let numbered : AreNumbered 1 (front ++ behind) =
-    subst (AreNumbered 1) (sym (cards-split cards)) (take-numbered 20001 1 (cards_from 1 0 (parted line_end job)) (from-numbered 1 0 (parted line_end job))) in
-    let two = and_then-ok (λ s. next s behind) (next unread front) all
-    (sym (pass-append (form_card job) (λ card. card.number) unread front behind)
-    ∙ ap (next unread) (cards-split cards) ∙ formed.is ∙ ap (λ (f : Found). Ok f) same) in
+    subst (AreNumbered 1) (sym (cards-split cards)) (take-numbered 20001 1 (cards_from 1 0 (pieces_of line_end job)) (from-numbered 1 0 (pieces_of line_end job))) in
+    let two = and_then-ok (λ s. next s behind) (next found_at_start front) all
+    (sym (pass-append (form_card job) (λ card. card.number) found_at_start front behind)
+    ∙ ap (next found_at_start) (cards-split cards) ∙ formed.is ∙ ap (λ (f : Found). Ok f) same) in
     let on = went job two.first all behind (behind-good job front behind split_good) (no-statements cards) two.last in
     record {
       found = two.first;
-      read = sym (pass-texts job unread 1 front (front-numbered 1 front behind numbered) (front-good job front behind split_good)) ∙ two.is;
+      read = sym (pass-texts job found_at_start 1 front (front-numbered 1 front behind numbered) (front-good job front behind split_good)) ∙ two.is;
       ended = sym on.ended ∙ ap (λ (f : Found). f.ended) (sym same) ∙ ended-true formed.first.ended formed.first all _ formed.last;
-      opened = open-front job unread two.first front (front-before cards) (front-good job front behind split_good) refl two.is;
+      opened = open-front job found_at_start two.first front (front-before cards) (front-good job front behind split_good) refl two.is;
       went = on;
       count = counted job two.first all is on.lines;
       reader = reader-others job (behind-good job front behind split_good);
@@ -414,7 +414,7 @@ record FromFront (job : List ℕ) (a : Assembly) : Type 0 where
   named : Named
   laid : Laid
   asked : Asked
-  read : form_texts unread 1 (texts_up_to_end job) ≡ Ok found
+  read : form_texts found_at_start 1 (texts_up_to_end job) ≡ Ok found
   ended : found.ended ≡ true
   opened : found.asked ≡ nothing_asked
   names : name_pass found.lines ≡ Ok named
@@ -459,8 +459,8 @@ from-parts job all named laid read parts = record {
 from-front : (job : List ℕ) (a : Assembly) → assembly job ≡ Ok a → FromFront job a
 unfolding assembly
 from-front job a is =
-    let laying = λ (all : Found) (named : Named). and_then (value_pass (table named.symbols) all.lines named.places) (λ laid. Ok (together all named laid)) in
-    let f = and_then-ok (λ all. and_then (name_pass all.lines) (laying all)) (form_pass job (cards_of job)) a is in
+    let laying = λ (all : Found) (named : Named). pass_then (value_pass (table named.symbols) all.lines named.places) (λ laid. Ok (together all named laid)) in
+    let f = and_then-ok (λ all. pass_then (name_pass all.lines) (laying all)) (form_pass job (cards_of job)) a is in
     let n = and_then-ok (laying f.first) (name_pass f.first.lines) a f.last in
     let v = and_then-ok (λ laid. Ok (together f.first n.first laid)) (value_pass (table n.first.symbols) f.first.lines n.first.places) a n.last in
     let same : together f.first n.first v.first ≡ a = cc in
@@ -487,7 +487,7 @@ cards-differ job other a b is also h =
     let x = from-front job a is in
     let y = from-front other b also in
     let found : x.found ≡ y.found =
-    ok-same x.found y.found (form_texts unread 1 (texts_up_to_end job)) x.read (ap (form_texts unread 1) h.up_to_end ∙ y.read) in
+    ok-same x.found y.found (form_texts found_at_start 1 (texts_up_to_end job)) x.read (ap (form_texts found_at_start 1) h.up_to_end ∙ y.read) in
     let named : x.named ≡ y.named =
     ok-same x.named y.named (name_pass x.found.lines) x.names (ap (λ (f : Found). name_pass f.lines) found ∙ y.names) in
     let laid : x.laid ≡ y.laid = ok-same x.laid y.laid (value_pass (table x.named.symbols) x.found.lines x.named.places) x.values
@@ -522,7 +522,7 @@ with-true : (n : ℕ) (all : Found) → all.ended ≡ true → with_end n all �
 with-true n all e = ap (λ (b : Bool). if b then Ok all else Err (record { card = n + 1; fault = NoEnd })) e
 
 -- the form pass, where the cards up to END lead to a state and those behind it are good
-form-again : (job : List ℕ) (found : Found) (z : Asked) → form_texts unread 1 (texts_up_to_end job) ≡ Ok found → found.ended ≡ true
+form-again : (job : List ℕ) (found : Found) (z : Asked) → form_texts found_at_start 1 (texts_up_to_end job) ≡ Ok found → found.ended ≡ true
     → All (λ (card : Card). card.fault ≡ None) (cards_of job) → asked_with found.asked (texts_behind_end job) ≡ Some z
     → form_pass job (cards_of job)
     ≡ Ok (record { ended = true; asked = z; lines = found.lines ++ quiet (map (λ card. card.number) (behind_statements (cards_of job))) })
@@ -534,13 +534,13 @@ form-again job found z read e no_faults asks =
     let next = λ (from : Found) (cs : List Card). pass (form_card job) (λ card. card.number) from cs in
     let split_good : AreGood job (front ++ behind) = subst (AreGood job) (sym (cards-split cards)) (are-good job cards (cards_stand job) no_faults) in
     let numbered : AreNumbered 1 (front ++ behind) =
-    subst (AreNumbered 1) (sym (cards-split cards)) (take-numbered 20001 1 (cards_from 1 0 (parted line_end job)) (from-numbered 1 0 (parted line_end job))) in
-    let first : next unread front ≡ Ok found =
-    pass-texts job unread 1 front (front-numbered 1 front behind numbered) (front-good job front behind split_good) ∙ read in
+    subst (AreNumbered 1) (sym (cards-split cards)) (take-numbered 20001 1 (cards_from 1 0 (pieces_of line_end job)) (from-numbered 1 0 (pieces_of line_end job))) in
+    let first : next found_at_start front ≡ Ok found =
+    pass-texts job found_at_start 1 front (front-numbered 1 front behind numbered) (front-good job front behind split_good) ∙ read in
     let last = all-go job found z behind (behind-good job front behind split_good) e asks in
-    let whole = ap (next unread) (sym (cards-split cards)) ∙ pass-append (form_card job) (λ card. card.number) unread front behind
-    ∙ ap (λ r. and_then r (λ s. next s behind)) first ∙ last in
-    ap (λ r. and_then r (with_end (length cards))) whole
+    let whole = ap (next found_at_start) (sym (cards-split cards)) ∙ pass-append (form_card job) (λ card. card.number) found_at_start front behind
+    ∙ ap (λ r. pass_then r (λ s. next s behind)) first ∙ last in
+    ap (λ r. pass_then r (with_end (length cards))) whole
 
 -- the later passes over lines with cards that say nothing behind them
 again : (job : List ℕ) (all found : Found) (named : Named) (laid : Laid) (ns : List ℕ) → form_pass job (cards_of job) ≡ Ok all
@@ -548,15 +548,15 @@ again : (job : List ℕ) (all found : Found) (named : Named) (laid : Laid) (ns :
     → assembly job ≡ Ok (together all (with_places named (no_places ns)) (with_rows laid (quiet_rows ns)))
 unfolding assembly
 again job all found named laid ns formed lines names values =
-    let laying = λ (whole : Found) (n : Named). and_then (value_pass (table n.symbols) whole.lines n.places) (λ l. Ok (together whole n l)) in
+    let laying = λ (whole : Found) (n : Named). pass_then (value_pass (table n.symbols) whole.lines n.places) (λ l. Ok (together whole n l)) in
     let more = with_places named (no_places ns) in
-    let has_names = ap name_pass lines ∙ names-parted found.lines ns ∙ ap (λ r. and_then r (λ n. Ok (with_places n (no_places ns)))) names in
+    let has_names = ap name_pass lines ∙ names-parted found.lines ns ∙ ap (λ r. pass_then r (λ n. Ok (with_places n (no_places ns)))) names in
     let has_values = ap (λ ls. value_pass (table named.symbols) ls (named.places ++ no_places ns)) lines
     ∙ values-parted (table named.symbols) found.lines named.places ns (name_pass-counts found.lines named names)
-    ∙ ap (λ r. and_then r (λ l. Ok (with_rows l (quiet_rows ns)))) values in
-    ap (λ r. and_then r (λ whole. and_then (name_pass whole.lines) (laying whole))) formed
-    ∙ ap (λ r. and_then r (laying all)) has_names
-    ∙ ap (λ r. and_then r (λ l. Ok (together all more l))) has_values
+    ∙ ap (λ r. pass_then r (λ l. Ok (with_rows l (quiet_rows ns)))) values in
+    ap (λ r. pass_then r (λ whole. pass_then (name_pass whole.lines) (laying whole))) formed
+    ∙ ap (λ r. pass_then r (laying all)) has_names
+    ∙ ap (λ r. pass_then r (λ l. Ok (together all more l))) has_values
 
 -- a job with the same cards but for its delays cards is not refused, where these are good
 pub again-accepted : (job other : List ℕ) (a : Assembly) → assembly job ≡ Ok a → DifferInDelaysCards job other → HasGoodDelays other
@@ -567,5 +567,5 @@ again-accepted job other a is h g =
     let (z, asks) = mixed (texts_behind_end other) x.found.asked nothing_asked (still x.asked) e (ap (λ (a : Asked). a.delays) x.opened)
     (ap (asked_with (still x.found.asked)) (sym h.others) ∙ x.asks) good in
     let ns = map (λ (card : Card). card.number) (behind_statements (cards_of other)) in
-    let formed = form-again other x.found z (ap (form_texts unread 1) (sym h.up_to_end) ∙ x.read) x.ended g.cards asks in
+    let formed = form-again other x.found z (ap (form_texts found_at_start 1) (sym h.up_to_end) ∙ x.read) x.ended g.cards asks in
     (_, again other (record { ended = true; asked = z; lines = x.found.lines ++ quiet ns }) x.found x.named x.laid ns formed refl x.names x.values)

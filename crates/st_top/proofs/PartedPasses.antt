@@ -4,11 +4,11 @@ use Rattle.std.specs.List.{zip, filter_map}
 use Rattle.std.proofs.lemmas.List.{length-map}
 use Rattle.std.proofs.lemmas.List.Elements.{filter_map-append}
 use Rattle.st_card.specs.declared.faults.Fault.{Fault}
-use Rattle.st_asm.specs.Pass.{Refusal, onward, pass, unless_faulty, and_then}
-use Rattle.st_asm.specs.Lines.{silent}
+use Rattle.st_asm.specs.Pass.{Refusal, onward, pass, unless_faulty, pass_then}
+use Rattle.st_asm.specs.Lines.{is_silent}
 use Rattle.st_asm.specs.Symbols.{table, has_name, names_of}
-use Rattle.st_asm.specs.Naming.{Named, unnamed, name_fault, name_step, name_card, name_pass}
-use Rattle.st_asm.specs.Valuing.{Laid, unlaid, value_card, value_pass}
+use Rattle.st_asm.specs.Naming.{Named, naming_at_start, name_fault, name_step, name_card, name_pass}
+use Rattle.st_asm.specs.Valuing.{Laid, laying_at_start, value_card, value_pass}
 use Rattle.st_asm.specs.declared.naming.Symbol.{Symbol}
 use Rattle.st_asm.specs.declared.valuing.Listed.{Listed}
 use Rattle.st_asm.proofs.KeptLemmas.{name_pass-counts, value_pass-numbers}
@@ -19,7 +19,7 @@ type_of {X} x = X
 
 -- what a card is to the passes behind the first one
 abbrev pub Line : Type 0
-Line = type_of (silent 0)
+Line = type_of (is_silent 0)
 
 -- ---- passes
 
@@ -29,7 +29,7 @@ pub record ComesNext {A B : Type 0} (next : A → Result B Refusal) (r : Result 
   pub is : r ≡ Ok first
   pub last : next first ≡ Ok b
 
-pub and_then-ok : {A B : Type 0} (next : A → Result B Refusal) (r : Result A Refusal) (b : B) → and_then r next ≡ Ok b → ComesNext next r b
+pub and_then-ok : {A B : Type 0} (next : A → Result B Refusal) (r : Result A Refusal) (b : B) → pass_then r next ≡ Ok b → ComesNext next r b
 and_then-ok next (Ok a) b h = record { first = a; is = refl; last = h }
 and_then-ok next (Err e) b h = let no : ⊥ = cc in absurd no
 
@@ -48,13 +48,13 @@ onward-same f g n (Ok s) same = same s
 onward-same f g n (Err e) same = refl
 
 onward-then : {S T U : Type 0} (f : S → Result U Refusal) (g : S → Result T Refusal) (k : T → Result U Refusal) (n : ℕ) (r : Result S Fault)
-    → ((s : S) → f s ≡ and_then (g s) k) → onward f n r ≡ and_then (onward g n r) k
+    → ((s : S) → f s ≡ pass_then (g s) k) → onward f n r ≡ pass_then (onward g n r) k
 onward-then f g k n (Ok s) same = same s
 onward-then f g k n (Err e) same = refl
 
 -- a pass over a list and one behind it
 pub pass-append : {S X : Type 0} (next : S → X → Result S Fault) (number : X → ℕ) (from : S) (xs ys : List X)
-    → pass next number from (xs ++ ys) ≡ and_then (pass next number from xs) (λ s. pass next number s ys)
+    → pass next number from (xs ++ ys) ≡ pass_then (pass next number from xs) (λ s. pass next number s ys)
 pass-append next number from [] ys = refl
 pass-append next number from (x ∷ xs) ys =
     onward-then (λ s. pass next number s (xs ++ ys)) (λ s. pass next number s xs) (λ s. pass next number s ys) (number x) (next from x)
@@ -64,7 +64,7 @@ pass-append next number from (x ∷ xs) ys =
 
 -- the lines of cards that say nothing, by their numbers
 abbrev pub quiet : List ℕ → List Line
-quiet ns = map silent ns
+quiet ns = map is_silent ns
 
 no-names : (ns : List ℕ) → names_of (quiet ns) ≡ []
 unfolding names_of
@@ -86,7 +86,7 @@ no_places ns = map (λ n. None) ns
 abbrev pub with_places : Named → List (Option ℕ) → Named
 with_places named places = record { location = named.location; symbols = named.symbols; places = named.places ++ places }
 
-name-silent : (on_cards : List ℕ → Bool) (named : Named) (n : ℕ) → name_card on_cards named (silent n) ≡ Ok (with_places named (None ∷ []))
+name-silent : (on_cards : List ℕ → Bool) (named : Named) (n : ℕ) → name_card on_cards named (is_silent n) ≡ Ok (with_places named (None ∷ []))
 unfolding name_card name_fault name_step
 name-silent on_cards named n = ap (λ (ss : List Symbol). Ok (record { location = named.location; symbols = ss; places = named.places ++ None ∷ [] })) (append-nil named.symbols)
 
@@ -99,14 +99,14 @@ name-quiet on_cards named (n ∷ ns) =
     ∙ ap (λ ps. Ok (record { location = named.location; symbols = named.symbols; places = ps })) (append_assoc named.places (None ∷ []) (no_places ns))
 
 pub names-parted : (lines : List Line) (ns : List ℕ)
-    → name_pass (lines ++ quiet ns) ≡ and_then (name_pass lines) (λ named. Ok (with_places named (no_places ns)))
+    → name_pass (lines ++ quiet ns) ≡ pass_then (name_pass lines) (λ named. Ok (with_places named (no_places ns)))
 unfolding name_pass
 names-parted lines ns =
-    ap (λ names. pass (name_card (has_name names)) (λ line. line.card) unnamed (lines ++ quiet ns)) (names-same lines ns)
-    ∙ pass-append (name_card (has_name (names_of lines))) (λ line. line.card) unnamed lines (quiet ns)
-    ∙ then-same (pass (name_card (has_name (names_of lines))) (λ line. line.card) unnamed lines) where
-      then-same : (r : Result Named Refusal) → and_then r (λ s. pass (name_card (has_name (names_of lines))) (λ line. line.card) s (quiet ns))
-          ≡ and_then r (λ named. Ok (with_places named (no_places ns)))
+    ap (λ names. pass (name_card (has_name names)) (λ line. line.card) naming_at_start (lines ++ quiet ns)) (names-same lines ns)
+    ∙ pass-append (name_card (has_name (names_of lines))) (λ line. line.card) naming_at_start lines (quiet ns)
+    ∙ then-same (pass (name_card (has_name (names_of lines))) (λ line. line.card) naming_at_start lines) where
+      then-same : (r : Result Named Refusal) → pass_then r (λ s. pass (name_card (has_name (names_of lines))) (λ line. line.card) s (quiet ns))
+          ≡ pass_then r (λ named. Ok (with_places named (no_places ns)))
       then-same (Ok named) = name-quiet (has_name (names_of lines)) named ns
       then-same (Err e) = refl
 
@@ -123,9 +123,9 @@ with_rows laid rows = record { image = laid.image; start = laid.start; rows = la
 
 -- cards that say nothing, with their places
 abbrev quiet_pairs : List ℕ → List (Line × Option ℕ)
-quiet_pairs ns = map (λ n. (silent n, None)) ns
+quiet_pairs ns = map (λ n. (is_silent n, None)) ns
 
-value-silent : (symbols : List (List ℕ × ℕ)) (laid : Laid) (n : ℕ) → value_card symbols laid (silent n, None) ≡ Ok (with_rows laid (quiet_row n ∷ []))
+value-silent : (symbols : List (List ℕ × ℕ)) (laid : Laid) (n : ℕ) → value_card symbols laid (is_silent n, None) ≡ Ok (with_rows laid (quiet_row n ∷ []))
 unfolding value_card
 value-silent symbols laid n = refl
 
@@ -139,7 +139,7 @@ value-quiet symbols laid (n ∷ ns) =
 
 quiet-zipped : (ns : List ℕ) → zip (quiet ns) (no_places ns) ≡ quiet_pairs ns
 quiet-zipped [] = refl
-quiet-zipped (n ∷ ns) = ap (λ rest. (silent n, None) ∷ rest) (quiet-zipped ns)
+quiet-zipped (n ∷ ns) = ap (λ rest. (is_silent n, None) ∷ rest) (quiet-zipped ns)
 
 zipped-apart : (lines : List Line) (places : List (Option ℕ)) (ns : List ℕ) → length places ≡ length lines
     → zip (lines ++ quiet ns) (places ++ no_places ns) ≡ zip lines places ++ quiet_pairs ns
@@ -150,14 +150,14 @@ zipped-apart (l ∷ ls) (p ∷ ps) ns same = ap (λ rest. (l, p) ∷ rest) (zipp
 
 pub values-parted : (symbols : List (List ℕ × ℕ)) (lines : List Line) (places : List (Option ℕ)) (ns : List ℕ) → length places ≡ length lines
     → value_pass symbols (lines ++ quiet ns) (places ++ no_places ns)
-    ≡ and_then (value_pass symbols lines places) (λ laid. Ok (with_rows laid (quiet_rows ns)))
+    ≡ pass_then (value_pass symbols lines places) (λ laid. Ok (with_rows laid (quiet_rows ns)))
 unfolding value_pass
 values-parted symbols lines places ns same =
-    ap (λ ps. pass (value_card symbols) (λ p. p.0.card) unlaid ps) (zipped-apart lines places ns same)
-    ∙ pass-append (value_card symbols) (λ p. p.0.card) unlaid (zip lines places) (quiet_pairs ns)
-    ∙ then-same (pass (value_card symbols) (λ p. p.0.card) unlaid (zip lines places)) where
-      then-same : (r : Result Laid Refusal) → and_then r (λ s. pass (value_card symbols) (λ p. p.0.card) s (quiet_pairs ns))
-          ≡ and_then r (λ laid. Ok (with_rows laid (quiet_rows ns)))
+    ap (λ ps. pass (value_card symbols) (λ p. p.0.card) laying_at_start ps) (zipped-apart lines places ns same)
+    ∙ pass-append (value_card symbols) (λ p. p.0.card) laying_at_start (zip lines places) (quiet_pairs ns)
+    ∙ then-same (pass (value_card symbols) (λ p. p.0.card) laying_at_start (zip lines places)) where
+      then-same : (r : Result Laid Refusal) → pass_then r (λ s. pass (value_card symbols) (λ p. p.0.card) s (quiet_pairs ns))
+          ≡ pass_then r (λ laid. Ok (with_rows laid (quiet_rows ns)))
       then-same (Ok laid) = value-quiet symbols laid ns
       then-same (Err e) = refl
 

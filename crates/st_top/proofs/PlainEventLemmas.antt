@@ -8,16 +8,16 @@ use Rattle.st_state.specs.Orders.{next_device}
 use Rattle.st_state.specs.declared.devices.Order.{Order}
 use Rattle.st_state.specs.declared.devices.Device.{Device}
 use Rattle.st_state.specs.declared.devices.Device.TheVariants.{Reader, Printer}
-use Rattle.st_exch.specs.Printer.{printed}
+use Rattle.st_exch.specs.Printer.{line_of_words}
 use Rattle.st_exec.specs.Step.{rests, interrupt}
 use Rattle.st_run.specs.Run.{Scene, PlainEvent, Prints, Interrupts, Executes, Ends, interlude, with_due_signals, with_due_orders, with_reader, with_printer, if_due, with_device, with_order_at_rest, with_wait, interrupts_by, uneventful}
 use Rattle.st_report.specs.Line.{prt_line, trc_line, row_line, drop_line, int_line, time_line, end_line, done_line, ticks_line}
-use Rattle.st_run.specs.Events.{Event, Timed, Completes, Drops, Shows, Happens, plain as plain_event, untimed, drop_of, snapshot}
-use Rattle.st_run.specs.Moments.{Moment, Standing, next_state, standing, next_moment, ends_segment}
-use Rattle.st_run.specs.TimedRun.{at, ticks_before, ticks_from, drops, drops_if_ends, happening_at, between, snapshot_at, completion, until_done, last_snapshot_at, last_events, timed_from}
-use Rattle.st_run.specs.Told.{told, told_of, what_of}
+use Rattle.st_run.specs.Events.{Event, Timed, Completes, Drops, Shows, Happens, plain_events_of as plain_event, plain_run, drop_of, snapshot}
+use Rattle.st_run.specs.Moments.{Moment, Standing, next_state, standing_at, next_moment, ends_segment}
+use Rattle.st_run.specs.TimedRun.{event_at, ticks_before, snapshots_from, drops, drops_if_ends, happening_at, events_between, snapshot_at, completion, until_done, last_snapshot_at, last_events, timed_from}
+use Rattle.st_run.specs.Told.{told_of_events, told_of, what_of}
 use Rattle.st_run.proofs.DoneLemmas.{settled-done}
-use Rattle.st_top.specs.Marks.{Marked, marked, plain, unmarked, marked_lines, marked_report}
+use Rattle.st_top.specs.Marks.{Marked, with_marks, without_marks, lines_unmarked, marked_lines, marked_report}
 use Rattle.st_top.specs.Report.{line_if, block, snapshot_lines}
 
 -- what holds both ways holds of what is chosen
@@ -27,42 +27,42 @@ of_choice P false x y p q = q
 
 -- ---- lines that are not marked
 
-pub unmarked-append : (xs ys : List Marked) → unmarked (xs ++ ys) ≡ unmarked xs ++ unmarked ys
-unfolding unmarked
+pub unmarked-append : (xs ys : List Marked) → lines_unmarked (xs ++ ys) ≡ lines_unmarked xs ++ lines_unmarked ys
+unfolding lines_unmarked
 unmarked-append [] ys = refl
-unmarked-append (x ∷ xs) ys = append-if (unmarked xs) (unmarked ys) (unmarked (xs ++ ys)) x.varies x.line (unmarked-append xs ys) where
+unmarked-append (x ∷ xs) ys = append-if (lines_unmarked xs) (lines_unmarked ys) (lines_unmarked (xs ++ ys)) x.varies x.line (unmarked-append xs ys) where
   append-if : (fs bs cs : List (List ℕ)) (b : Bool) (line : List ℕ) → cs ≡ fs ++ bs
       → (if b then cs else line ∷ cs) ≡ (if b then fs else line ∷ fs) ++ bs
   append-if fs bs cs true line same = same
   append-if fs bs cs false line same = ap (λ rest. line ∷ rest) same
 
-pub unmarked-plain : (lines : List (List ℕ)) → unmarked (plain lines) ≡ lines
-unfolding unmarked
+pub unmarked-plain : (lines : List (List ℕ)) → lines_unmarked (without_marks lines) ≡ lines
+unfolding lines_unmarked
 unmarked-plain [] = refl
 unmarked-plain (x ∷ xs) = ap (λ rest. x ∷ rest) (unmarked-plain xs)
 
-pub unmarked-marked : (lines : List (List ℕ)) → unmarked (marked lines) ≡ []
-unfolding unmarked
+pub unmarked-marked : (lines : List (List ℕ)) → lines_unmarked (with_marks lines) ≡ []
+unfolding lines_unmarked
 unmarked-marked [] = refl
 unmarked-marked (x ∷ xs) = unmarked-marked xs
 
-pub unmarked-before : (xs ys : List (List ℕ)) → unmarked (plain xs ++ marked ys) ≡ xs
+pub unmarked-before : (xs ys : List (List ℕ)) → lines_unmarked (without_marks xs ++ with_marks ys) ≡ xs
 unmarked-before xs ys =
-    unmarked-append (plain xs) (marked ys)
-    ∙ ap (λ rest. unmarked (plain xs) ++ rest) (unmarked-marked ys)
-    ∙ append-nil (unmarked (plain xs))
+    unmarked-append (without_marks xs) (with_marks ys)
+    ∙ ap (λ rest. lines_unmarked (without_marks xs) ++ rest) (unmarked-marked ys)
+    ∙ append-nil (lines_unmarked (without_marks xs))
     ∙ unmarked-plain xs
 
-pub unmarked-between : (xs ys zs : List (List ℕ)) → unmarked (plain xs ++ marked ys ++ plain zs) ≡ xs ++ zs
+pub unmarked-between : (xs ys zs : List (List ℕ)) → lines_unmarked (without_marks xs ++ with_marks ys ++ without_marks zs) ≡ xs ++ zs
 unmarked-between xs ys zs =
-    unmarked-append (plain xs ++ marked ys) (plain zs)
-    ∙ ap (λ front. front ++ unmarked (plain zs)) (unmarked-before xs ys)
+    unmarked-append (without_marks xs ++ with_marks ys) (without_marks zs)
+    ∙ ap (λ front. front ++ lines_unmarked (without_marks zs)) (unmarked-before xs ys)
     ∙ ap (λ rest. xs ++ rest) (unmarked-plain zs)
 
 -- ---- what happens in the plain run, as lines
 
 pub happening_lines : Bool → List (ℕ × ℕ) → PlainEvent → List (List ℕ)
-happening_lines trace dumps (Prints s words) = prt_line (printed words) ∷ []
+happening_lines trace dumps (Prints s words) = prt_line (line_of_words words) ∷ []
 happening_lines trace dumps (Interrupts s i) = int_line i s.done ∷ block dumps s
 happening_lines trace dumps (Executes s address) = line_if trace (trc_line s.done address)
 happening_lines trace dumps (Ends s rests) = end_line rests ∷ done_line s.done ∷ block dumps s
@@ -85,9 +85,9 @@ AreCounted [] = Unit {0}
 AreCounted (x ∷ xs) = ComesAt x.done x.event × AreCounted xs
 
 happens-lines : (asked : Asked) (done tick : ℕ) (h : PlainEvent) → HappensAt done h
-    → unmarked (marked_lines asked (record { done = done; tick = tick; what = what_of (Happens h) }))
+    → lines_unmarked (marked_lines asked (record { done = done; tick = tick; what = what_of (Happens h) }))
     ≡ happening_lines asked.trace asked.dumps h
-unfolding unmarked happening_lines HappensAt
+unfolding lines_unmarked happening_lines HappensAt
 happens-lines asked done tick (Prints s words) is = refl
 happens-lines asked done tick (Interrupts s i) is =
     unmarked-between (int_line i done ∷ []) (line_if asked.time (time_line tick)) (block asked.dumps s)
@@ -100,7 +100,7 @@ happens-lines asked done tick (Ends s rests) is =
     ∙ ap (λ (d : ℕ). end_line rests ∷ done_line d ∷ block asked.dumps s) is
 
 event-lines : (asked : Asked) (done tick : ℕ) (e : Event) → ComesAt done e
-    → unmarked (marked_lines asked (record { done = done; tick = tick; what = what_of e }))
+    → lines_unmarked (marked_lines asked (record { done = done; tick = tick; what = what_of e }))
     ≡ flat_map (happening_lines asked.trace asked.dumps) (plain_event e)
 unfolding ComesAt happening_lines
 event-lines asked done tick (Completes s address row) is =
@@ -113,15 +113,15 @@ event-lines asked done tick (Happens h) is =
     happens-lines asked done tick h is ∙ sym (append-nil (happening_lines asked.trace asked.dumps h))
 
 pub report-lines : (asked : Asked) (xs : List Timed) → AreCounted xs
-    → unmarked (marked_report asked (told xs)) ≡ flat_map (happening_lines asked.trace asked.dumps) (untimed xs)
-unfolding AreCounted marked_report told untimed unmarked
+    → lines_unmarked (marked_report asked (told_of_events xs)) ≡ flat_map (happening_lines asked.trace asked.dumps) (plain_run xs)
+unfolding AreCounted marked_report told_of_events plain_run lines_unmarked
 report-lines asked [] are = refl
 report-lines asked (x ∷ xs) are =
     let lines = happening_lines asked.trace asked.dumps in
-    unmarked-append (marked_lines asked (told_of x)) (marked_report asked (told xs))
-    ∙ ap (λ front. front ++ unmarked (marked_report asked (told xs))) (event-lines asked x.done x.tick x.event are.0)
+    unmarked-append (marked_lines asked (told_of x)) (marked_report asked (told_of_events xs))
+    ∙ ap (λ front. front ++ lines_unmarked (marked_report asked (told_of_events xs))) (event-lines asked x.done x.tick x.event are.0)
     ∙ ap (λ rest. flat_map lines (plain_event x.event) ++ rest) (report-lines asked xs are.1)
-    ∙ sym (flat_map-append lines (plain_event x.event) (untimed xs))
+    ∙ sym (flat_map-append lines (plain_event x.event) (plain_run xs))
 
 -- ---- what comes between two steps is prints alone
 
@@ -209,15 +209,15 @@ counted-interrupt m (Some i) = (sym (settled-done m.scene), tt)
 
 counted-drops : (m : Moment) → AreCounted (drops m)
 unfolding drops ComesAt
-counted-drops m = counted-map (λ a. at m.tick m.scene.machine (drop_of a)) (reverse m.dropped) (λ a. tt)
+counted-drops m = counted-map (λ a. event_at m.tick m.scene.machine (drop_of a)) (reverse m.dropped) (λ a. tt)
 
 counted-drops_if : (b : Bool) (m : Moment) → AreCounted (if b then drops m else [])
 unfolding AreCounted
 counted-drops_if true m = counted-drops m
 counted-drops_if false m = tt
 
-counted-between : (m : Moment) → AreCounted (between m)
-unfolding between
+counted-between : (m : Moment) → AreCounted (events_between m)
+unfolding events_between
 counted-between m =
     let hs = (interlude m.scene).happened in
     let is = interrupts_by (interrupt (next_state m)) (next_state m) in
@@ -249,11 +249,11 @@ pub counted-run : (ds : List ℕ) (n left : ℕ) (m : Moment) (snaps : List ℕ)
 unfolding timed_from
 counted-run ds n zero m snaps = counted-last m snaps
 counted-run ds n (suc left) m snaps =
-    let p = standing m in
+    let p = standing_at m in
     let next = next_moment ds n p in
-    let rest = timed_from ds n left next (ticks_from next.tick snaps) in
-    of_choice AreCounted (rests (next_state m)) (last_events m snaps) (between m ++ until_done ds n p snaps ++ rest)
+    let rest = timed_from ds n left next (snapshots_from next.tick snaps) in
+    of_choice AreCounted (rests (next_state m)) (last_events m snaps) (events_between m ++ until_done ds n p snaps ++ rest)
     (counted-last m snaps)
-    (counted-append (between m ++ until_done ds n p snaps) rest
-    (counted-append (between m) (until_done ds n p snaps) (counted-between m) (counted-until_done ds n p snaps))
-    (counted-run ds n left next (ticks_from next.tick snaps)))
+    (counted-append (events_between m ++ until_done ds n p snaps) rest
+    (counted-append (events_between m) (until_done ds n p snaps) (counted-between m) (counted-until_done ds n p snaps))
+    (counted-run ds n left next (snapshots_from next.tick snaps)))

@@ -5,7 +5,7 @@ use Rattle.std.proofs.lemmas.Bool.Decides.{nat_tests}
 use Rattle.st_card.specs.Controls.{Asked}
 use Rattle.st_state.specs.Machine.{Machine}
 use Rattle.st_exec.specs.Step.{rests}
-use Rattle.st_run.specs.Run.{Scene, Execution, interlude, stepped, ended, run}
+use Rattle.st_run.specs.Run.{Scene, Execution, interlude, scene_after_step, execution_at_end, run}
 use Rattle.st_exec.proofs.StepLemmas.{step-done}
 use Rattle.st_run.proofs.Runs.{run-rests, run-budget, run-goes_on}
 use Rattle.st_back.specs.declared.kept.Kept.{Kept}
@@ -14,8 +14,8 @@ use Rattle.st_back.proofs.ManyLemmas.{back-states}
 use Rattle.st_report.specs.Line.{back_line}
 use Rattle.st_run.proofs.DoneLemmas.{settled-done}
 use Rattle.st_top.specs.Report.{block}
-use Rattle.st_top.specs.StepsBack.{states, block_before, back_lines, last_state}
-use Rattle.st_top.specs.Beside.{Beside, IsMoved, IsStepped, IsBeside, HasRun}
+use Rattle.st_top.specs.StepsBack.{states, block_before, lines_of_steps_back, last_state}
+use Rattle.st_top.specs.Beside.{Beside, IsMoved, IsStepped, IsBeside, HasMadeRun}
 use Rattle.st_top.proofs.Besides.{beside_settled, beside_stepped}
 
 -- ---- the states of a run
@@ -24,22 +24,22 @@ pub states-rests : (left : ℕ) (c : Scene) → rests (interlude c).scene.machin
 unfolding states
 states-rests zero c h = refl
 states-rests (suc left) c h =
-    let s = (interlude c).scene in ap (λ b. if b then s.machine ∷ [] else s.machine ∷ states left (stepped s)) h
+    let s = (interlude c).scene in ap (λ b. if b then s.machine ∷ [] else s.machine ∷ states left (scene_after_step s)) h
 
 pub states-budget : (left : ℕ) (c : Scene) → left ≡ 0 → states left c ≡ (interlude c).scene.machine ∷ []
 unfolding states
 states-budget zero c h = refl
 states-budget (suc left) c h = absurd (omega arith)
 
-states-some : (k : ℕ) (c : Scene) → rests (interlude c).scene.machine ≡ false → states (suc k) c ≡ (interlude c).scene.machine ∷ states k (stepped (interlude c).scene)
+states-some : (k : ℕ) (c : Scene) → rests (interlude c).scene.machine ≡ false → states (suc k) c ≡ (interlude c).scene.machine ∷ states k (scene_after_step (interlude c).scene)
 unfolding states
-states-some k c h = let s = (interlude c).scene in ap (λ b. if b then s.machine ∷ [] else s.machine ∷ states k (stepped s)) h
+states-some k c h = let s = (interlude c).scene in ap (λ b. if b then s.machine ∷ [] else s.machine ∷ states k (scene_after_step s)) h
 
-pub states-goes_on : (left : ℕ) (c : Scene) → left ≢ 0 → rests (interlude c).scene.machine ≡ false → states left c ≡ (interlude c).scene.machine ∷ states (left - 1) (stepped (interlude c).scene)
+pub states-goes_on : (left : ℕ) (c : Scene) → left ≢ 0 → rests (interlude c).scene.machine ≡ false → states left c ≡ (interlude c).scene.machine ∷ states (left - 1) (scene_after_step (interlude c).scene)
 states-goes_on zero c some h = absurd (some refl)
 states-goes_on (suc k) c some h =
     let same : k ≡ suc k - 1 = omega arith in
-    states-some k c h ∙ ap (λ n. (interlude c).scene.machine ∷ states n (stepped (interlude c).scene)) same
+    states-some k c h ∙ ap (λ n. (interlude c).scene.machine ∷ states n (scene_after_step (interlude c).scene)) same
 
 -- ---- how far the run has come
 
@@ -56,8 +56,8 @@ states_begin back budget b none h = record { before = []; all = refl; last = ref
 
 -- the run ends
 states_end : (back budget : ℕ) (start : Scene) (left : ℕ) (b d : Beside) → IsMoved b d (interlude b.0).scene
-    → states left b.0 ≡ (interlude b.0).scene.machine ∷ [] → run left b.0 ≡ ended (interlude b.0)
-    → StatesSoFar back budget start left b → HasRun back budget start d
+    → states left b.0 ≡ (interlude b.0).scene.machine ∷ [] → run left b.0 ≡ execution_at_end (interlude b.0)
+    → StatesSoFar back budget start left b → HasMadeRun back budget start d
 states_end back budget start left b d moved ends over h =
     let same : d.0 ≡ (interlude b.0).scene = moved.scene in
     record {
@@ -69,13 +69,13 @@ states_end back budget start left b d moved ends over h =
     }
 
 pub states_rest : (back budget : ℕ) (start : Scene) (left : ℕ) (b d : Beside) → IsMoved b d (interlude b.0).scene
-    → rests d.0.machine ≡ true → StatesSoFar back budget start left b → HasRun back budget start d
+    → rests d.0.machine ≡ true → StatesSoFar back budget start left b → HasMadeRun back budget start d
 states_rest back budget start left b d moved at_rest h =
     let there : rests (interlude b.0).scene.machine ≡ true = ap (λ (k : Scene). rests k.machine) (sym moved.scene) ∙ at_rest in
     states_end back budget start left b d moved (states-rests left b.0 there) (run-rests left b.0 there) h
 
 pub states_used : (back budget : ℕ) (start : Scene) (left : ℕ) (b d : Beside) → IsMoved b d (interlude b.0).scene
-    → left ≡ 0 → StatesSoFar back budget start left b → HasRun back budget start d
+    → left ≡ 0 → StatesSoFar back budget start left b → HasMadeRun back budget start d
 states_used back budget start left b d moved none h =
     states_end back budget start left b d moved (states-budget left b.0 none) (run-budget left b.0 none) h
 
@@ -87,17 +87,17 @@ states_next back budget start left b d e some going moved step h =
     let s = (interlude c).scene in
     let same : d.0 ≡ s = moved.scene in
     let going_on : rests s.machine ≡ false = ap (λ (g : Scene). rests g.machine) (sym same) ∙ going in
-    let here : e.0 ≡ stepped s = step.scene ∙ ap stepped same in
+    let here : e.0 ≡ scene_after_step s = step.scene ∙ ap scene_after_step same in
     let beside = beside_stepped back d e h.before step (beside_settled back b d s h.before moved h.beside) in
     let grown = length-append h.before (s.machine ∷ []) in
     let counted = h.counted in
     let was = settled-done c in
     let now = step-done s.machine in
-    let more : length (h.before ++ s.machine ∷ []) ≡ (stepped s).machine.done = omega (arith, grown, counted, was, now) in
+    let more : length (h.before ++ s.machine ∷ []) ≡ (scene_after_step s).machine.done = omega (arith, grown, counted, was, now) in
     record {
       before = h.before ++ s.machine ∷ [];
       all = h.all ∙ (ap (λ (ss : List Machine). h.before ++ ss) (states-goes_on left c some going_on)
-          ∙ (sym (append_assoc h.before (s.machine ∷ []) (states (left - 1) (stepped s)))
+          ∙ (sym (append_assoc h.before (s.machine ∷ []) (states (left - 1) (scene_after_step s)))
           ∙ ap (λ (g : Scene). (h.before ++ s.machine ∷ []) ++ states (left - 1) g) (sym here)));
       last = ap (λ (g : Scene). (run (left - 1) g).last) here
           ∙ (sym (ap (λ (r : Execution). r.last) (run-goes_on left c some going_on)) ∙ h.last);
@@ -181,7 +181,7 @@ asked_for : (asked : Asked) (lines : List (List ℕ)) → 1 ≤ asked.back → l
 asked_for asked lines some =
     let test : (asked.back == 0) ≡ false = grind (arith, nat_tests) in sym (ap (λ b. if b then [] else lines) test)
 
-pub lines_before : (asked : Asked) (j : ℕ) (start : Scene) (b : Beside) (t : Machine) → HasRun asked.back asked.budget start b → j ≡ length b.1.kept → t ∷ [] ≡ take 1 (states_before b.1.kept b.0.machine ++ b.0.machine ∷ []) → back_line j ∷ block asked.dumps t ≡ back_lines asked (states asked.budget start) (last_state asked start)
+pub lines_before : (asked : Asked) (j : ℕ) (start : Scene) (b : Beside) (t : Machine) → HasMadeRun asked.back asked.budget start b → j ≡ length b.1.kept → t ∷ [] ≡ take 1 (states_before b.1.kept b.0.machine ++ b.0.machine ∷ []) → back_line j ∷ block asked.dumps t ≡ lines_of_steps_back asked (states asked.budget start) (last_state asked start)
 lines_before asked j start b t h count oldest =
     let f : IsBeside asked.back b h.before = h.beside in
     let k = asked.back in
@@ -203,9 +203,9 @@ lines_before asked j start b t h count oldest =
     ap (λ i. back_line i ∷ block asked.dumps t) steps
     ∙ (ap (λ (m : Machine). back_line (min k last.done) ∷ block asked.dumps m) state
     ∙ (asked_for asked (block_before asked.dumps (min k last.done) all last) f.some
-    ∙ ap (back_lines asked all) h.last))
+    ∙ ap (lines_of_steps_back asked all) h.last))
 
-pub no_lines : (asked : Asked) (start : Scene) → asked.back ≡ 0 → [] ≡ back_lines asked (states asked.budget start) (last_state asked start)
+pub no_lines : (asked : Asked) (start : Scene) → asked.back ≡ 0 → [] ≡ lines_of_steps_back asked (states asked.budget start) (last_state asked start)
 no_lines asked start none =
     let last = last_state asked start in
     let test : (asked.back == 0) ≡ true = grind (arith, nat_tests, none) in

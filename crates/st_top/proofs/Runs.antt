@@ -12,7 +12,7 @@ use Rattle.st_io.proofs.Progress.{EventsSoFar, events_none, events_more, events_
 use Rattle.st_run.specs.Told.{What, Done, Dropped, Printed, Interrupted, Shown, Ended, Told}
 use Rattle.st_run.specs.Telling.{IsDone, AreLeftOut}
 use Rattle.st_top.specs.Report.{report, lines_at, lines_told}
-use Rattle.st_top.specs.Running.{WritesEvents, WritesNothing, moment_of, last_moment}
+use Rattle.st_top.specs.Running.{WritesEvents, WritesNothing, moment_told, last_moment}
 use Rattle.st_top.specs.declared.moment.Moment.{Moment}
 
 -- ---- one thing told after another
@@ -55,10 +55,10 @@ rows-report asked (x ∷ rows) new trace chart are =
     row-report asked x (rows ++ new) trace chart (All-head (λ (y : Told). IsDone y.what) x rows are)
     ∙ rows-report asked rows new trace chart (All-tail (λ (y : Told). IsDone y.what) x rows are)
 
-rows-moment : (m : Moment) (rows new : List Told) (last : Told) → last_moment m (rows ++ last ∷ new) ≡ last_moment (moment_of last) new
+rows-moment : (m : Moment) (rows new : List Told) (last : Told) → last_moment m (rows ++ last ∷ new) ≡ last_moment (moment_told last) new
 unfolding last_moment
 rows-moment m [] new last = refl
-rows-moment m (x ∷ rows) new last = rows-moment (moment_of x) rows new last
+rows-moment m (x ∷ rows) new last = rows-moment (moment_told x) rows new last
 
 rows-fewer : (rows new : List Told) (last : Told) → length new ≤ length (rows ++ last ∷ new)
 rows-fewer [] new last = omega arith
@@ -66,7 +66,7 @@ rows-fewer (x ∷ rows) new last = let fewer = rows-fewer rows new last in omega
 
 -- rows that are only counted
 pub counted_skips : (asked : Asked) (m n : Moment) (last : Told) (old new : List Told) → asked.trace ≡ false → asked.chart ≡ false
-    → AreLeftOut last old new → n ≡ moment_of last → WritesNothing asked m old n new
+    → AreLeftOut last old new → n ≡ moment_told last → WritesNothing asked m old n new
 counted_skips asked m n last old new trace chart is same = record {
   lines =
       ap (report asked) is.rest ∙ rows-report asked is.rows (last ∷ new) trace chart is.are ∙ row-report asked last new trace chart is.is;
@@ -88,12 +88,12 @@ skips_then asked m n old rest more same skips = subst (λ xs. WritesNothing aske
 
 -- the next part is written
 pub told_more : (s t u : OutputState) (asked : Asked) (m now n : Moment) (all rest more : List Told) (x : Told) (y : Unit {0})
-    → rest ≡ x ∷ more → n ≡ moment_of x → ToldSoFar s t asked m now all rest → WritesLines t u (lines_at asked n.done n.tick x.what) (Ok y)
+    → rest ≡ x ∷ more → n ≡ moment_told x → ToldSoFar s t asked m now all rest → WritesLines t u (lines_at asked n.done n.tick x.what) (Ok y)
     → ToldSoFar s u asked m n all more
 unfolding report last_moment
 told_more s t u asked m now n all rest more x y is same h w =
     let lines : WritesLines t u (lines_told asked x) (Ok y) = subst (λ (k : Moment). WritesLines t u (lines_at asked k.done k.tick x.what) (Ok y)) same w in
-    let next : ToldSoFar s u asked m (moment_of x) all more = record {
+    let next : ToldSoFar s u asked m (moment_told x) all more = record {
       so_far = events_more s t u (report asked all) (at_moment x.done x.tick (lines_told asked x)) (report asked more)
           (subst (λ r. EventsSoFar s t (report asked all) (report asked r)) is h.so_far)
           (wrote_at_moment t u x.done x.tick (lines_told asked x) lines.ok);
@@ -103,13 +103,13 @@ told_more s t u asked m now n all rest more x y is same h w =
 
 -- the writing stops in it
 pub told_stops : (s t u : OutputState) (asked : Asked) (m now n : Moment) (all rest more : List Told) (x : Told) (e : Failed) (r : Result (Unit {0}) Failed)
-    → IsErr r → rest ≡ x ∷ more → n ≡ moment_of x → ToldSoFar s t asked m now all rest → WritesLines t u (lines_at asked n.done n.tick x.what) (Err e)
+    → IsErr r → rest ≡ x ∷ more → n ≡ moment_told x → ToldSoFar s t asked m now all rest → WritesLines t u (lines_at asked n.done n.tick x.what) (Err e)
     → WritesEvents s u (report asked all) (last_moment m all) n r
 unfolding report
 told_stops s t u asked m now n all rest more x e (Ok y) f is same h w = absurd (cc)
 told_stops s t u asked m now n all rest more x e (Err y) f is same h w =
     let lines : WritesLines t u (lines_told asked x) (Err e) = subst (λ (k : Moment). WritesLines t u (lines_at asked k.done k.tick x.what) (Err e)) same w in
-    let next : WritesEvents s u (report asked all) (last_moment m all) (moment_of x) (Err y) = record {
+    let next : WritesEvents s u (report asked all) (last_moment m all) (moment_told x) (Err y) = record {
       whole = tt;
       ended = tt;
       stopped = events_stopped s t u (report asked all) (at_moment x.done x.tick (lines_told asked x)) (report asked more) x.done x.tick

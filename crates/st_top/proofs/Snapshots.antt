@@ -10,9 +10,9 @@ use Rattle.st_io.specs.Lines.{WritesLines}
 use Rattle.st_io.proofs.Progress.{lines_then, lines_cut}
 use Rattle.st_report.specs.Line.{lev_line, snap_line}
 use Rattle.st_ahead.specs.declared.events.LevelView.{LevelView}
-use Rattle.st_time.specs.Shown.{standing, change_of}
+use Rattle.st_time.specs.Shown.{levels_standing, change_shown}
 use Rattle.st_run.specs.Events.{Changed, Level}
-use Rattle.st_run.specs.Telling.{IsLevel, AreLevels}
+use Rattle.st_run.specs.Telling.{IsLevelShown, AreLevelsShown}
 use Rattle.st_top.specs.Report.{block, level_line, snapshot_lines}
 use Rattle.st_top.specs.Running.{views_lines}
 
@@ -25,18 +25,18 @@ unfolding shown_change
 change_is None kept = refl
 change_is (Some number) kept = refl
 
-line_is : (v : LevelView) (level : Level) → IsLevel v level → lev_line v.address (change_of v) v.ready ≡ level_line level
+line_is : (v : LevelView) (level : Level) → IsLevelShown v level → lev_line v.address (change_shown v) v.ready ≡ level_line level
 unfolding shown_change
 line_is v level is =
-    ap (λ a. lev_line a (change_of v) v.ready) is.address
+    ap (λ a. lev_line a (change_shown v) v.ready) is.address
     ∙ (ap (λ c. lev_line level.address c v.ready) (change_is v.index v.kept ∙ ap shown_change is.changed)
     ∙ ap (λ r. lev_line level.address (shown_change level.changed) r) is.ready)
 
 slots : List LevelView → ℕ → List (Option LevelView)
 slots views k = map (λ v. Some v) views ++ replicate k None
 
-none-standing : (k : ℕ) → standing (replicate k None) ≡ 0
-unfolding standing
+none-standing : (k : ℕ) → levels_standing (replicate k None) ≡ 0
+unfolding levels_standing
 none-standing zero = refl
 none-standing (suc k) = refl
 
@@ -45,14 +45,14 @@ unfolding views_lines
 none-lines zero = refl
 none-lines (suc k) = refl
 
-levels-standing : (views : List LevelView) (levels : List Level) (k : ℕ) → AllZip IsLevel views levels → standing (slots views k) ≡ length levels
-unfolding slots standing
+levels-standing : (views : List LevelView) (levels : List Level) (k : ℕ) → AllZip IsLevelShown views levels → levels_standing (slots views k) ≡ length levels
+unfolding slots levels_standing
 levels-standing [] [] k all = none-standing k
 levels-standing [] (l ∷ ls) k all = absurd all
 levels-standing (v ∷ vs) [] k all = absurd all
 levels-standing (v ∷ vs) (l ∷ ls) k all = ap suc (levels-standing vs ls k all.1)
 
-levels-lines : (views : List LevelView) (levels : List Level) (k : ℕ) → AllZip IsLevel views levels → views_lines (slots views k) ≡ map level_line levels
+levels-lines : (views : List LevelView) (levels : List Level) (k : ℕ) → AllZip IsLevelShown views levels → views_lines (slots views k) ≡ map level_line levels
 unfolding slots views_lines
 levels-lines [] [] k all = none-lines k
 levels-lines [] (l ∷ ls) k all = absurd all
@@ -62,18 +62,18 @@ levels-lines (v ∷ vs) (l ∷ ls) k all =
 
 -- lines of a snapshot as they are written
 abbrev pub lines_of_views : Asked → ℕ → ℕ → Machine → List (Option LevelView) → List (List ℕ)
-lines_of_views asked done at s shown = (snap_line at done (standing shown) ∷ []) ++ (block asked.dumps s ++ views_lines shown)
+lines_of_views asked done at s shown = (snap_line at done (levels_standing shown) ∷ []) ++ (block asked.dumps s ++ views_lines shown)
 
-pub views_are : (asked : Asked) (done at : ℕ) (s : Machine) (shown : List (Option LevelView)) (levels : List Level) → AreLevels shown levels → lines_of_views asked done at s shown ≡ snapshot_lines asked done at s levels
+pub views_are : (asked : Asked) (done at : ℕ) (s : Machine) (shown : List (Option LevelView)) (levels : List Level) → AreLevelsShown shown levels → lines_of_views asked done at s shown ≡ snapshot_lines asked done at s levels
 unfolding slots
 views_are asked done at s shown levels are =
     let k = 8 - length are.views in
-    let count : standing shown ≡ length levels = ap standing are.room ∙ levels-standing are.views levels k are.same in
+    let count : levels_standing shown ≡ length levels = ap levels_standing are.room ∙ levels-standing are.views levels k are.same in
     let lines : views_lines shown ≡ map level_line levels = ap views_lines are.room ∙ levels-lines are.views levels k are.same in
     ap (λ n. (snap_line at done n ∷ []) ++ (block asked.dumps s ++ views_lines shown)) count
     ∙ ap (λ ls. (snap_line at done (length levels) ∷ []) ++ (block asked.dumps s ++ ls)) lines
 
-pub writes_views : (t u : OutputState) (asked : Asked) (done at : ℕ) (s : Machine) (shown : List (Option LevelView)) (levels : List Level) (r : Result (Unit {0}) Failed) → AreLevels shown levels → WritesLines t u (lines_of_views asked done at s shown) r → WritesLines t u (snapshot_lines asked done at s levels) r
+pub writes_views : (t u : OutputState) (asked : Asked) (done at : ℕ) (s : Machine) (shown : List (Option LevelView)) (levels : List Level) (r : Result (Unit {0}) Failed) → AreLevelsShown shown levels → WritesLines t u (lines_of_views asked done at s shown) r → WritesLines t u (snapshot_lines asked done at s levels) r
 writes_views t u asked done at s shown levels r are w = subst (λ ls. WritesLines t u ls r) (views_are asked done at s shown levels are) w
 
 -- ---- the levels, one after another

@@ -3,7 +3,7 @@ use Rattle.std.proofs.Common.{◌≡◌, ℕ, List, [], ◌∷◌, true, false, 
 use Rattle.std.specs.Prelude.{Option, None, Some, MatchOption}
 use Rattle.st_card.specs.declared.control_cards.Signal.{Signal}
 use Rattle.st_state.specs.Machine.{Machine}
-use Rattle.st_state.specs.Interrupts.{signalled}
+use Rattle.st_state.specs.Interrupts.{state_with_signal}
 use Rattle.st_exec.specs.Step.{rests}
 use Rattle.st_run.specs.Run.{Scene, with_due_signals, with_signals_at_rest, first_card, cards_after}
 
@@ -20,13 +20,13 @@ due-none m (x ∷ xs) cards h = absurd (omega arith)
 pub due-stops : (m : Machine) (rest xs : List Signal) (x : Signal) (cards : List (List ℕ)) → rest ≡ x ∷ xs → nat_le x.count m.done ≡ false → with_due_signals m rest cards ≡ left_with m rest cards
 due-stops m rest xs x cards e h =
     ap (λ zs. with_due_signals m zs cards) e
-    ∙ (ap (λ b. if b then with_due_signals (signalled m x.indicator) xs cards else left_with m (x ∷ xs) cards) h
+    ∙ (ap (λ b. if b then with_due_signals (state_with_signal m x.indicator) xs cards else left_with m (x ∷ xs) cards) h
     ∙ ap (λ zs. left_with m zs cards) (sym e))
 
-pub due-goes : (m : Machine) (rest xs : List Signal) (x : Signal) (cards : List (List ℕ)) → rest ≡ x ∷ xs → nat_le x.count m.done ≡ true → with_due_signals m rest cards ≡ with_due_signals (signalled m x.indicator) xs cards
+pub due-goes : (m : Machine) (rest xs : List Signal) (x : Signal) (cards : List (List ℕ)) → rest ≡ x ∷ xs → nat_le x.count m.done ≡ true → with_due_signals m rest cards ≡ with_due_signals (state_with_signal m x.indicator) xs cards
 due-goes m rest xs x cards e h =
     ap (λ zs. with_due_signals m zs cards) e
-    ∙ ap (λ b. if b then with_due_signals (signalled m x.indicator) xs cards else left_with m (x ∷ xs) cards) h
+    ∙ ap (λ b. if b then with_due_signals (state_with_signal m x.indicator) xs cards else left_with m (x ∷ xs) cards) h
 
 pub rest-none : (m : Machine) (rest : List Signal) (cards : List (List ℕ)) → length rest ≡ 0 → with_signals_at_rest m rest cards ≡ left_with m rest cards
 rest-none m [] cards h = refl
@@ -35,13 +35,13 @@ rest-none m (x ∷ xs) cards h = absurd (omega arith)
 pub rest-stops : (m : Machine) (rest xs : List Signal) (x : Signal) (cards : List (List ℕ)) → rest ≡ x ∷ xs → rests m ≡ false → with_signals_at_rest m rest cards ≡ left_with m rest cards
 rest-stops m rest xs x cards e h =
     ap (λ zs. with_signals_at_rest m zs cards) e
-    ∙ (ap (λ b. if b then with_signals_at_rest (signalled m x.indicator) xs cards else left_with m (x ∷ xs) cards) h
+    ∙ (ap (λ b. if b then with_signals_at_rest (state_with_signal m x.indicator) xs cards else left_with m (x ∷ xs) cards) h
     ∙ ap (λ zs. left_with m zs cards) (sym e))
 
-pub rest-goes : (m : Machine) (rest xs : List Signal) (x : Signal) (cards : List (List ℕ)) → rest ≡ x ∷ xs → rests m ≡ true → with_signals_at_rest m rest cards ≡ with_signals_at_rest (signalled m x.indicator) xs cards
+pub rest-goes : (m : Machine) (rest xs : List Signal) (x : Signal) (cards : List (List ℕ)) → rest ≡ x ∷ xs → rests m ≡ true → with_signals_at_rest m rest cards ≡ with_signals_at_rest (state_with_signal m x.indicator) xs cards
 rest-goes m rest xs x cards e h =
     ap (λ zs. with_signals_at_rest m zs cards) e
-    ∙ ap (λ b. if b then with_signals_at_rest (signalled m x.indicator) xs cards else left_with m (x ∷ xs) cards) h
+    ∙ ap (λ b. if b then with_signals_at_rest (state_with_signal m x.indicator) xs cards else left_with m (x ∷ xs) cards) h
 
 -- ---- cards
 

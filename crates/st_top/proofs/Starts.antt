@@ -3,16 +3,16 @@ use Rattle.std.proofs.Common.{◌≡◌, ◌<◌, ℕ, List, All, sym, ◌∙◌
 use Rattle.std.specs.Prelude.{Result, Ok, Err, IfOk}
 use Rattle.st_exch.proofs.CardLemmas.{cards-size, cards-below}
 use Rattle.st_card.specs.Controls.{Asked}
-use Rattle.st_state.specs.Machine.{Machine, IsMachine, opening}
+use Rattle.st_state.specs.Machine.{Machine, IsMachine, opening_state}
 use Rattle.st_card.specs.declared.control_cards.Signal.{Signal}
 use Rattle.st_run.specs.Run.{Scene}
 use Rattle.st_exch.specs.Reader.{reader_cards}
 use Rattle.st_run.specs.Reached.{IsCard}
 use Rattle.st_run.specs.Scenes.{IsScene}
 use Rattle.st_run.specs.TimedRun.{timed_run}
-use Rattle.st_run.specs.Told.{Told, told}
-use Rattle.st_top.specs.StepsBack.{timed}
-use Rattle.st_top.specs.Output.{scene_of}
+use Rattle.st_run.specs.Told.{Told, told_of_events}
+use Rattle.st_top.specs.StepsBack.{events_of_run}
+use Rattle.st_top.specs.Output.{scene_at_start}
 use Rattle.st_top.specs.declared.reporting.TheConstants.{LEVELS}
 
 pub scene_is : (c : Scene) (m n : Machine) (xs ys : List Signal) (cs ds : List (List ℕ)) → c ≡ record { machine = m; signals = xs; cards = cs } → m ≡ n → xs ≡ ys → cs ≡ ds → c ≡ record { machine = n; signals = ys; cards = ds }
@@ -24,16 +24,16 @@ scene_is c m n xs ys cs ds e p q r =
 
 -- what is still to be told, by what the run was made from
 pub rest_is : (rest : List Told) (asked : Asked) (ds snaps : List ℕ) (budget : ℕ) (c start : Scene)
-    → rest ≡ told (timed_run ds LEVELS budget c snaps) → ds ≡ asked.delays → budget ≡ asked.budget → c ≡ start → snaps ≡ asked.snaps
-    → rest ≡ told (timed asked start)
+    → rest ≡ told_of_events (timed_run ds LEVELS budget c snaps) → ds ≡ asked.delays → budget ≡ asked.budget → c ≡ start → snaps ≡ asked.snaps
+    → rest ≡ told_of_events (events_of_run asked start)
 rest_is rest asked ds snaps budget c start e delays many scene shots =
-    e ∙ (ap (λ (xs : List ℕ). told (timed_run xs LEVELS budget c snaps)) delays
-    ∙ (ap (λ (n : ℕ). told (timed_run asked.delays LEVELS n c snaps)) many
-    ∙ (ap (λ (k : Scene). told (timed_run asked.delays LEVELS asked.budget k snaps)) scene
-    ∙ ap (λ (xs : List ℕ). told (timed_run asked.delays LEVELS asked.budget start xs)) shots)))
+    e ∙ (ap (λ (xs : List ℕ). told_of_events (timed_run xs LEVELS budget c snaps)) delays
+    ∙ (ap (λ (n : ℕ). told_of_events (timed_run asked.delays LEVELS n c snaps)) many
+    ∙ (ap (λ (k : Scene). told_of_events (timed_run asked.delays LEVELS asked.budget k snaps)) scene
+    ∙ ap (λ (xs : List ℕ). told_of_events (timed_run asked.delays LEVELS asked.budget start xs)) shots)))
 
 pub is_scene : (image : List ℕ) (start : ℕ) (asked : Asked) (job : List ℕ) (m : Machine) (cards : List (List ℕ))
-    → m ≡ opening image start → IsMachine m → cards ≡ reader_cards job → All IsCard cards → IsScene (scene_of image start asked job)
+    → m ≡ opening_state image start → IsMachine m → cards ≡ reader_cards job → All IsCard cards → IsScene (scene_at_start image start asked job)
 is_scene image start asked job m cards e is f all = record {
   machine = subst IsMachine e is;
   cards = subst (All IsCard) f all;

@@ -11,13 +11,13 @@ use Rattle.st_io.proofs.Writing.{wrote_at_moment}
 use Rattle.st_card.specs.Controls.{Asked, is_in_range}
 use Rattle.st_card.specs.declared.limits.TheConstants.{MOST_DELAY}
 use Rattle.st_card.specs.declared.control_cards.Signal.{Signal}
-use Rattle.st_state.specs.Machine.{opening}
+use Rattle.st_state.specs.Machine.{opening_state}
 use Rattle.st_state.proofs.Kept.{is_machine-opening}
 use Rattle.st_report.specs.Line.{levels_line}
 use Rattle.st_run.specs.Reached.{IsCard}
 use Rattle.st_run.specs.Scenes.{IsScene}
 use Rattle.st_sweep.specs.Sweep.{without_cards}
-use Rattle.st_sweep.specs.SideBySide.{swept}
+use Rattle.st_sweep.specs.SideBySide.{side_by_side}
 use Rattle.st_sweep.specs.declared.sweeping.Swept.{Swept}
 use Rattle.st_top.specs.Sweep.{levels_lines, sweep_lines, sweep_start, sweep_of}
 use Rattle.st_top.specs.Output.{output_of_sweep}
@@ -42,13 +42,13 @@ delays_last ds es limits same =
 
 -- what is swept is what is asked for
 pub swept_is : {E : Type 0} (r : Result Swept E) (image : List ℕ) (start : ℕ) (asked : Asked) (ds : List ℕ) (budget : ℕ) (xs : List Signal)
-    → IfOk r (λ s. s ≡ swept ds budget (without_cards (opening image start) xs))
+    → IfOk r (λ s. s ≡ side_by_side ds budget (without_cards (opening_state image start) xs))
     → ds ≡ asked.delays → budget ≡ asked.budget → xs ≡ asked.signals → IfOk r (λ s. s ≡ sweep_of image start asked)
 unfolding sweep_of
 swept_is (Ok s) image start asked ds budget xs e delays many signals =
-    e ∙ (ap (λ (es : List ℕ). swept es budget (without_cards (opening image start) xs)) delays
-    ∙ (ap (λ (n : ℕ). swept asked.delays n (without_cards (opening image start) xs)) many
-    ∙ ap (λ (ys : List Signal). swept asked.delays asked.budget (without_cards (opening image start) ys)) signals))
+    e ∙ (ap (λ (es : List ℕ). side_by_side es budget (without_cards (opening_state image start) xs)) delays
+    ∙ (ap (λ (n : ℕ). side_by_side asked.delays n (without_cards (opening_state image start) xs)) many
+    ∙ ap (λ (ys : List Signal). side_by_side asked.delays asked.budget (without_cards (opening_state image start) ys)) signals))
 swept_is (Err x) image start asked ds budget xs e delays many signals = tt
 
 -- its start is a scene

@@ -9,14 +9,14 @@ use Rattle.st_io.specs.Event.{Event, at_moment, StoppedAt}
 use Rattle.st_card.specs.Controls.{Asked, is_in_range}
 use Rattle.st_card.specs.declared.limits.TheConstants.{MOST_DELAY}
 use Rattle.st_run.specs.Run.{Scene}
-use Rattle.st_rows.specs.Ranges.{AreDelays}
+use Rattle.st_rows.specs.Ranges.{AreDelaysUpTo}
 use Rattle.st_run.specs.Events.{Timed}
-use Rattle.st_run.specs.Told.{told, told_of}
+use Rattle.st_run.specs.Told.{told_of_events, told_of}
 use Rattle.st_run.specs.Scenes.{IsScene}
 use Rattle.st_run.proofs.Bounds.{run-time}
 use Rattle.st_run.proofs.EndLemmas.{run-ends}
 use Rattle.st_top.specs.Report.{report, lines_told}
-use Rattle.st_top.specs.StepsBack.{states, back_lines, last_state, timed, end_of, run_report}
+use Rattle.st_top.specs.StepsBack.{states, lines_of_steps_back, last_state, events_of_run, moment_at_end, run_report}
 use Rattle.st_sweep.specs.Sweep.{ticks}
 use Rattle.st_top.specs.Sweep.{sweep_lines, sweep_start, sweep_of}
 use Rattle.st_top.specs.Output.{output_of_run, output_of_sweep}
@@ -40,11 +40,11 @@ moment-time b done tick (l ∷ ls) le =
     let first : InTime b (record { line = l; done = done; ticks = tick }) = le in
     All-cons (InTime b) (record { line = l; done = done; ticks = tick }) (at_moment done tick ls) first (moment-time b done tick ls le)
 
-report-time : (b : ℕ) (asked : Asked) (xs : List Timed) → All (TimedInTime b) xs → All (InTime b) (report asked (told xs))
-unfolding report told
+report-time : (b : ℕ) (asked : Asked) (xs : List Timed) → All (TimedInTime b) xs → All (InTime b) (report asked (told_of_events xs))
+unfolding report told_of_events
 report-time b asked [] all = All-nil (InTime b)
 report-time b asked (x ∷ xs) all =
-    All-append (InTime b) (at_moment x.done x.tick (lines_told asked (told_of x))) (report asked (told xs))
+    All-append (InTime b) (at_moment x.done x.tick (lines_told asked (told_of x))) (report asked (told_of_events xs))
     (moment-time b x.done x.tick (lines_told asked (told_of x)) (All-head (TimedInTime b) x xs all))
     (report-time b asked xs (All-tail (TimedInTime b) x xs all))
 
@@ -63,9 +63,9 @@ abbrev IsIn : ℕ → Answer → Type 0
 IsIn most answer = answer.ticks ≤ 64 * (most + 4) * (answer.done + 1)
 
 -- a run is in time
-module _ (most : ℕ) (asked : Asked) (start : Scene) (are : AreDelays most asked.delays) (is : IsScene start) where
-  end-time : (end_of asked start).tick ≤ 64 * (most + 4) * ((end_of asked start).done + 1)
-  unfolding end_of
+module _ (most : ℕ) (asked : Asked) (start : Scene) (are : AreDelaysUpTo most asked.delays) (is : IsScene start) where
+  end-time : (moment_at_end asked start).tick ≤ 64 * (most + 4) * ((moment_at_end asked start).done + 1)
+  unfolding moment_at_end
   end-time =
       let few : LEVELS ≤ 8 = omega arith in
       run-ends most LEVELS asked.delays are few asked.budget start asked.snaps 0 is
@@ -75,18 +75,18 @@ module _ (most : ℕ) (asked : Asked) (start : Scene) (are : AreDelays most aske
   events-time listed =
       let b = 64 * (most + 4) in
       let few : LEVELS ≤ 8 = omega arith in
-      let each : All (TimedInTime b) (timed asked start) = run-time most LEVELS asked.delays are few asked.budget start asked.snaps is in
-      let back = back_lines asked (states asked.budget start) (last_state asked start) in
-      let behind = at_moment (end_of asked start).done (end_of asked start).tick back in
-      All-append (InTime b) (at_moment 0 0 listed) (report asked (told (timed asked start)) ++ behind)
+      let each : All (TimedInTime b) (events_of_run asked start) = run-time most LEVELS asked.delays are few asked.budget start asked.snaps is in
+      let back = lines_of_steps_back asked (states asked.budget start) (last_state asked start) in
+      let behind = at_moment (moment_at_end asked start).done (moment_at_end asked start).tick back in
+      All-append (InTime b) (at_moment 0 0 listed) (report asked (told_of_events (events_of_run asked start)) ++ behind)
       (moment-time b 0 0 listed (omega arith))
-      (All-append (InTime b) (report asked (told (timed asked start))) behind (report-time b asked (timed asked start) each)
-      (moment-time b (end_of asked start).done (end_of asked start).tick back end-time))
+      (All-append (InTime b) (report asked (told_of_events (events_of_run asked start))) behind (report-time b asked (events_of_run asked start) each)
+      (moment-time b (moment_at_end asked start).done (moment_at_end asked start).tick back end-time))
 
-  whole-time : (answer : Answer) → answer.done ≡ (end_of asked start).done → answer.ticks ≡ (end_of asked start).tick → IsIn most answer
+  whole-time : (answer : Answer) → answer.done ≡ (moment_at_end asked start).done → answer.ticks ≡ (moment_at_end asked start).tick → IsIn most answer
   whole-time answer done ticks =
       subst (λ k. k ≤ 64 * (most + 4) * (answer.done + 1)) (sym ticks)
-      (subst (λ n. (end_of asked start).tick ≤ 64 * (most + 4) * (n + 1)) (sym done) end-time)
+      (subst (λ n. (moment_at_end asked start).tick ≤ 64 * (most + 4) * (n + 1)) (sym done) end-time)
 
   by-status : (status : Status) (s t : OutputState) (listed : List (List ℕ)) (answer : Answer)
       → Writes status s t (output_of_run listed asked start) answer → IsIn most answer
@@ -105,7 +105,7 @@ module _ (most : ℕ) (asked : Asked) (start : Scene) (are : AreDelays most aske
   writes_time s t listed answer w = by-status answer.status s t listed answer w
 
 -- a sweep is in time
-module _ (most : ℕ) (image : List ℕ) (first : ℕ) (asked : Asked) (are : AreDelays most asked.delays) (is : IsScene (sweep_start image first asked)) where
+module _ (most : ℕ) (image : List ℕ) (first : ℕ) (asked : Asked) (are : AreDelaysUpTo most asked.delays) (is : IsScene (sweep_start image first asked)) where
   eight-time : slice_index (sweep_of image first asked).ticks 7 ≤ 64 * (most + 4) * ((sweep_of image first asked).done + 1)
   unfolding sweep_of ticks
   eight-time =
@@ -136,7 +136,7 @@ module _ (most : ℕ) (image : List ℕ) (first : ℕ) (asked : Asked) (are : Ar
   swept_time s t answer w = swept-status answer.status s t answer w
 
 -- delays that keep the limits of control cards, none of which exceeds a number
-pub delays_within : (most : ℕ) (ds : List ℕ) → 1 ≤ length ds → AllPass (is_in_range 1 MOST_DELAY) ds → All (λ d. d ≤ most) ds → AreDelays most ds
+pub delays_within : (most : ℕ) (ds : List ℕ) → 1 ≤ length ds → AllPass (is_in_range 1 MOST_DELAY) ds → All (λ d. d ≤ most) ds → AreDelaysUpTo most ds
 delays_within most ds some limits below = record {
   some = some;
   each = λ k d lt.

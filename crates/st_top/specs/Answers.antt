@@ -5,7 +5,7 @@ use Rattle.st_io.specs.Input.{InputState, CameWhole, CameWithin, CamePast}
 use Rattle.st_io.specs.Output.{OutputState, Wrote}
 use Rattle.st_io.specs.Lines.{text}
 use Rattle.st_io.specs.Event.{lines_of, StoppedAt}
-use Rattle.st_top.specs.Output.{Output, output_of, delays_of, soaked, soaked_delays}
+use Rattle.st_top.specs.Output.{Output, output_of, delays_of, soak_output, soaked_delays}
 use Rattle.st_top.specs.declared.answer.Answer.{Answer}
 use Rattle.st_top.specs.declared.answer.Status.{Status}
 use Rattle.st_top.specs.declared.answer.Status.TheVariants.{Done, Refused, Usage, JobTooLong, ReadFault, WriteFault, NoMemory}
@@ -28,24 +28,28 @@ pub record WroteAll (before after : OutputState) (output : Output) (answer : Ans
   pub done : answer.done ≡ output.done
   pub ticks : answer.ticks ≡ output.ticks
 
--- how an output was written, by the status: wholly; or up to a write that failed; or not at all, for want of memory
+-- how an output was written, by the status: wholly; or up to a write that failed; or not at all,
+-- for want of memory
 abbrev pub Writes : Status → OutputState → OutputState → Output → Answer → Type 0
 Writes Done before after output answer = WroteAll before after output answer
 Writes Refused before after output answer = WroteAll before after output answer
-Writes WriteFault before after output answer = StoppedAt before after output.events answer.done answer.ticks
+Writes WriteFault before after output answer =
+    StoppedAt before after output.events answer.done answer.ticks
 Writes NoMemory before after output answer = (after ≡ before) × NothingRan answer
 Writes Usage before after output answer = ⊥
 Writes JobTooLong before after output answer = ⊥
 Writes ReadFault before after output answer = ⊥
 
--- where none of the delays exceeds a number, each instruction that is done, and one more, takes 64 times (that number
--- and four) ticks at most
+-- where none of the delays exceeds a number, each instruction that is done, and one more, takes 64
+-- times (that number and four) ticks at most
 abbrev pub KeepsTime : List ℕ → Answer → Type 0
 KeepsTime delays answer =
-    (most : ℕ) → All (λ delay. delay ≤ most) delays → answer.ticks ≤ 64 * (most + 4) * (answer.done + 1)
+    (most : ℕ) → All (λ delay. delay ≤ most) delays → answer.ticks
+    ≤ 64 * (most + 4) * (answer.done + 1)
 
 -- a job was read whole, and its output written, in time
-pub record WroteOutput (command : Command) (status : Status) (input input' : InputState) (before after : OutputState)
+pub record WroteOutput (command : Command) (status : Status) (input input' : InputState)
+    (before after : OutputState)
     (answer : Answer) : Type 0 where
   pub job : List ℕ
   pub read : CameWhole input input' job_limit job
@@ -53,42 +57,56 @@ pub record WroteOutput (command : Command) (status : Status) (input input' : Inp
   pub in_time : KeepsTime (delays_of command job) answer
 
 -- what a command that reads a job did to its source and its sink, by the status
-abbrev pub Did : Command → Status → InputState → InputState → OutputState → OutputState → Answer → Type 0
-Did command Done input input' before after answer = WroteOutput command Done input input' before after answer
-Did command Refused input input' before after answer = WroteOutput command Refused input input' before after answer
+abbrev pub Did : Command → Status → InputState → InputState → OutputState → OutputState → Answer →
+    Type 0
+Did command Done input input' before after answer =
+    WroteOutput command Done input input' before after answer
+Did command Refused input input' before after answer =
+    WroteOutput command Refused input input' before after answer
 Did command WriteFault input input' before after answer =
     WroteOutput command WriteFault input input' before after answer
 Did command JobTooLong input input' before after answer =
-    CamePast input input' job_limit × (input'.faults ≡ input.faults) × (after ≡ before) × NothingRan answer
+    CamePast input input' job_limit × (input'.faults ≡ input.faults) × (after ≡ before)
+    × NothingRan answer
 Did command ReadFault input input' before after answer =
-    CameWithin input input' job_limit × HasRisen input.faults input'.faults × (after ≡ before) × NothingRan answer
+    CameWithin input input' job_limit × HasRisen input.faults input'.faults × (after ≡ before)
+    × NothingRan answer
 Did command NoMemory input input' before after answer =
-    CameWithin input input' job_limit × (input'.faults ≡ input.faults) × (after ≡ before) × NothingRan answer
+    CameWithin input input' job_limit × (input'.faults ≡ input.faults) × (after ≡ before)
+    × NothingRan answer
 Did command Usage input input' before after answer = ⊥
 
 -- how a call with words that mean nothing ends: as a bad command line, or for want of memory
-abbrev pub IsRefusal : Status → Type 0
-IsRefusal Usage = Unit {0}
-IsRefusal NoMemory = Unit {0}
-IsRefusal Done = ⊥
-IsRefusal Refused = ⊥
-IsRefusal JobTooLong = ⊥
-IsRefusal ReadFault = ⊥
-IsRefusal WriteFault = ⊥
+abbrev pub IsWordRefusal : Status → Type 0
+IsWordRefusal Usage = Unit {0}
+IsWordRefusal NoMemory = Unit {0}
+IsWordRefusal Done = ⊥
+IsWordRefusal Refused = ⊥
+IsWordRefusal JobTooLong = ⊥
+IsWordRefusal ReadFault = ⊥
+IsWordRefusal WriteFault = ⊥
 
 -- what a command did, by the status: `soak` reads no job
-abbrev pub Acted : Command → Status → InputState → InputState → OutputState → OutputState → Answer → Type 0
+abbrev pub Acted : Command → Status → InputState → InputState → OutputState → OutputState → Answer →
+    Type 0
 Acted Run status input input' before after answer = Did Run status input input' before after answer
-Acted Assemble status input input' before after answer = Did Assemble status input input' before after answer
-Acted Load status input input' before after answer = Did Load status input input' before after answer
-Acted Disassemble status input input' before after answer = Did Disassemble status input input' before after answer
-Acted Sweep status input input' before after answer = Did Sweep status input input' before after answer
+Acted Assemble status input input' before after answer =
+    Did Assemble status input input' before after answer
+Acted Load status input input' before after answer =
+    Did Load status input input' before after answer
+Acted Disassemble status input input' before after answer =
+    Did Disassemble status input input' before after answer
+Acted Sweep status input input' before after answer =
+    Did Sweep status input input' before after answer
 Acted (Soak number cards) status input input' before after answer =
-    (input' ≡ input) × Writes status before after (soaked number cards) answer
+    (input' ≡ input) × Writes status before after (soak_output number cards) answer
     × KeepsTime (soaked_delays number cards) answer
 
--- what a call did, by the meaning of its words: words that mean nothing touch neither source nor sink
-abbrev pub IsAnswer : Option Command → InputState → InputState → OutputState → OutputState → Answer → Type 0
+-- what a call did, by the meaning of its words: words that mean nothing touch neither source nor
+-- sink
+abbrev pub IsAnswer : Option Command → InputState → InputState → OutputState → OutputState →
+    Answer → Type 0
 IsAnswer None input input' before after answer =
-    IsRefusal answer.status × (input' ≡ input) × (after ≡ before) × NothingRan answer
-IsAnswer (Some command) input input' before after answer = Acted command answer.status input input' before after answer
+    IsWordRefusal answer.status × (input' ≡ input) × (after ≡ before) × NothingRan answer
+IsAnswer (Some command) input input' before after answer =
+    Acted command answer.status input input' before after answer

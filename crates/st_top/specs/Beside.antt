@@ -3,9 +3,9 @@ use Rattle.std.specs.Prelude.{◌≡◌, ◌≤◌, ℕ, List, [], ◌∷◌, �
 use Rattle.circular_buffer.specs.Buffer.{keep_last}
 use Rattle.st_state.specs.Machine.{Machine}
 use Rattle.st_state.specs.declared.devices.Order.{Order}
-use Rattle.st_run.specs.Run.{Scene, stepped, run}
+use Rattle.st_run.specs.Run.{Scene, scene_after_step, run}
 use Rattle.st_back.specs.declared.kept.Kept.{Kept}
-use Rattle.st_back.specs.Steps.{Steps, newest, states_before}
+use Rattle.st_back.specs.Steps.{Steps, newest_step, states_before}
 use Rattle.st_top.specs.StepsBack.{states}
 
 -- where it stands, and the steps that can be undone
@@ -13,31 +13,33 @@ abbrev pub Beside : Type 0
 Beside = Scene × Steps
 
 -- no word was put since the newest step
-abbrev pub IsFresh : List Kept → Type 0
-IsFresh kept = MatchOption (newest kept) ⊥ (λ k. k.puts ≡ 0)
+abbrev pub IsFreshStep : List Kept → Type 0
+IsFreshStep kept = MatchOption (newest_step kept) ⊥ (λ k. k.puts ≡ 0)
 
--- a card that comes can be put: as long as the reader has an order, no word was put since the newest step
-abbrev pub HasRoom : Option Order → List Kept → Type 0
-HasRoom None kept = Unit {0}
-HasRoom (Some order) kept = IsFresh kept
+-- a card that comes can be put: as long as the reader has an order, no word was put since the
+-- newest step
+abbrev pub HasRoomForCard : Option Order → List Kept → Type 0
+HasRoomForCard None kept = Unit {0}
+HasRoomForCard (Some order) kept = IsFreshStep kept
 
 -- what it always keeps
-pub record IsReady (b : Beside) : Type 0 where
+pub record IsBesideReady (b : Beside) : Type 0 where
   pub some : 1 ≤ b.1.depth
   pub few : b.1.depth ≤ 64
-  pub room : HasRoom b.0.machine.reader b.1.kept
+  pub room : HasRoomForCard b.0.machine.reader b.1.kept
 
 -- it moves to a scene without a step, and steps back give the same states
 pub record IsMoved (old new : Beside) (c : Scene) : Type 0 where
-  pub ready : IsReady new
+  pub ready : IsBesideReady new
   pub scene : new.0 ≡ c
   pub depth : new.1.depth ≡ old.1.depth
   pub states : states_before new.1.kept new.0.machine ≡ states_before old.1.kept old.0.machine
 
--- it makes a step, and steps back give the state before it as well, but no more states than it is deep
+-- it makes a step, and steps back give the state before it as well, but no more states than it is
+-- deep
 pub record IsStepped (old new : Beside) : Type 0 where
-  pub ready : IsReady new
-  pub scene : new.0 ≡ stepped old.0
+  pub ready : IsBesideReady new
+  pub scene : new.0 ≡ scene_after_step old.0
   pub depth : new.1.depth ≡ old.1.depth
   pub states : states_before new.1.kept new.0.machine
       ≡ keep_last old.1.depth (states_before old.1.kept old.0.machine ++ old.0.machine ∷ [])
@@ -45,12 +47,12 @@ pub record IsStepped (old new : Beside) : Type 0 where
 -- steps back give the states before, as many of the last ones as it is deep
 pub record IsBeside (depth : ℕ) (b : Beside) (before : List Machine) : Type 0 where
   pub some : 1 ≤ depth
-  pub ready : IsReady b
+  pub ready : IsBesideReady b
   pub deep : b.1.depth ≡ depth
   pub states : states_before b.1.kept b.0.machine ≡ keep_last depth before
 
 -- it has made the whole run
-pub record HasRun (depth budget : ℕ) (start : Scene) (b : Beside) : Type 0 where
+pub record HasMadeRun (depth budget : ℕ) (start : Scene) (b : Beside) : Type 0 where
   pub before : List Machine
   pub all : states budget start ≡ before ++ b.0.machine ∷ []
   pub last : b.0.machine ≡ (run budget start).last
@@ -65,4 +67,4 @@ StandsAtStart back start (Some b) = IsBeside back b [] × (b.0 ≡ start)
 -- and at its end
 abbrev pub StandsAtEnd : ℕ → ℕ → Scene → Option Beside → Type 0
 StandsAtEnd back budget start None = back ≡ 0
-StandsAtEnd back budget start (Some b) = HasRun back budget start b
+StandsAtEnd back budget start (Some b) = HasMadeRun back budget start b

@@ -1,7 +1,7 @@
 -- What the words of a command line mean.
 use Rattle.std.specs.Prelude.{ℕ, ◌-◌, ◌^◌, ◌&&◌, ◌≤◌, nat_eq, nat_le, codes, if◌then◌else◌, List, [], ◌∷◌, length, Option, None, Some}
 use Rattle.std.specs.Cmp.Lexicographic.{pointwise}
-use Rattle.st_text.specs.Number.{is_number, value}
+use Rattle.st_text.specs.Number.{is_number, digits_value}
 use Rattle.st_top.specs.declared.command.Command.{Command}
 use Rattle.st_top.specs.declared.command.Command.TheVariants.{Run, Assemble, Load, Disassemble, Sweep, Soak}
 
@@ -18,8 +18,9 @@ command_named word =
 -- the number that a word of 1 to 20 decimal digits is, where it is from `least` to `most`
 unfoldable pub number_between : ℕ → ℕ → List ℕ → Option ℕ
 number_between least most word =
-    let n = value word in
-    if is_number word && nat_le (length word) 20 && nat_le least n && nat_le n most then Some n else None
+    let n = digits_value word in
+    if is_number word && nat_le (length word) 20 && nat_le least n && nat_le n most then Some n
+    else None
 
 -- the run of a made deck, by its seed and its number of cards
 abbrev pub soak_of : Option ℕ → Option ℕ → Option Command
@@ -39,7 +40,8 @@ IsWithinCards Sweep = Unit {0}
 -- the command that a word is with a seed and a number of cards
 abbrev pub command_with : List ℕ → List ℕ → List ℕ → Option Command
 command_with word number cards =
-    if pointwise nat_eq word (codes "soak") then soak_of (number_between 0 (2 ^ 64 - 1) number) (number_between 1 4000 cards)
+    if pointwise nat_eq word (codes "soak") then soak_of (number_between 0 (2 ^ 64 - 1) number)
+    (number_between 1 4000 cards)
     else None
 
 -- the command that the words are, or none

@@ -14,10 +14,12 @@ is_plain (c ∷ cs) = not (c == minus_sign)
 -- a program that takes three words; the first of a command line is one of them, and not its name
 abbrev pub three_words : App
 three_words =
-    with_rule (with_rule (with_rule (on_top (λ shape. record shape { no_binary_name = true }) (new_app (codes "stretch")))
+    with_rule (with_rule (with_rule (on_top (λ shape. record shape { no_binary_name = true })
+    (new_app (codes "stretch")))
     (new_rule (codes "command"))) (new_rule (codes "number"))) (new_rule (codes "cards"))
 
--- the command that three arguments are: none of them has to be there, but a seed comes with a number of cards
+-- the command that three arguments are: none of them has to be there, but a seed comes with a
+-- number of cards
 abbrev pub command_by : Option (List ℕ) → Option (List ℕ) → Option (List ℕ) → Option Command
 command_by command None None = option_and_then command_named command
 command_by command None (Some cards) = None

@@ -1,10 +1,10 @@
--- Jobs whose texts differ in their delays cards alone, and object texts that differ in their lines of delays alone. They write
--- the same, but for the lines that are marked.
+-- Jobs whose texts differ in their delays cards alone, and object texts that differ in their lines
+-- of delays alone. They write the same, but for the lines that are marked.
 use Rattle.std.specs.Prelude.{◌≡◌, ℕ, ◌&&◌, Bool, true, false, not, List, [], ◌∷◌, map, filter, All, Option, Some, None, IsSome, Ok}
 use Rattle.st_text.specs.Pieces.{words}
 use Rattle.st_text.specs.Tables.{row_of}
 use Rattle.st_card.specs.Cards.{cards_of, text_in, kind_of, columns}
-use Rattle.st_card.specs.Controls.{Asked, nothing_asked, keywords, added}
+use Rattle.st_card.specs.Controls.{Asked, nothing_asked, keywords, asked_with_card}
 use Rattle.st_card.specs.declared.cards.Card.{Card}
 use Rattle.st_card.specs.declared.cards.CardKind.{CardKind}
 use Rattle.st_card.specs.declared.cards.CardKind.TheVariants.{Comment, Control, Statement}
@@ -16,7 +16,7 @@ use Rattle.st_run.specs.Run.{Scene}
 use Rattle.st_io.specs.Event.{lines_of}
 use Rattle.st_object.specs.DelayLines.{DifferInDelayLines, HasDelayLines}
 use Rattle.st_object.specs.Object.{Program, read_text}
-use Rattle.st_top.specs.Marks.{all_lines, unmarked, marked_run, marked_output, texts_up_to_end, DifferInDelays}
+use Rattle.st_top.specs.Marks.{all_lines, lines_unmarked, marked_run, marked_output, texts_up_to_end, DifferInDelays}
 use Rattle.st_top.specs.Output.{output_of}
 use Rattle.st_top.specs.StepsBack.{run_report}
 use Rattle.st_top.specs.declared.command.Command.{Command}
@@ -72,51 +72,71 @@ asked_on (Some asked) next = next asked
 -- what control cards of these texts ask for, one after the other, where each is good
 unfoldable pub asked_in : Asked → List (List ℕ) → Option Asked
 asked_in kept [] = Some kept
-asked_in kept (text ∷ texts) = asked_on (added kept text) (λ more. asked_in more texts)
+asked_in kept (text ∷ texts) = asked_on (asked_with_card kept text) (λ more. asked_in more texts)
 
 -- the texts of a job's delays cards behind END
 abbrev pub delays_behind_end : List ℕ → List (List ℕ)
 delays_behind_end job = filter is_delays_card (texts_behind_end job)
 
--- no card of a job has a fault by itself, and its delays cards alone are good, one after the other: each has numbers from
--- 1 to 255, and all of them together at most 4,096
+-- no card of a job has a fault by itself, and its delays cards alone are good, one after the other:
+-- each has numbers from 1 to 255, and all of them together at most 4,096
 pub record HasGoodDelays (job : List ℕ) : Type 0 where
   pub cards : All (λ (card : Card). card.fault ≡ None) (cards_of job)
   pub delays : IsSome (asked_in nothing_asked (delays_behind_end job))
 
--- the lines with their marks are those of the report of a run, one by one, and those that a command writes
+-- the lines with their marks are those of the report of a run, one by one, and those that a command
+-- writes
 pub record MarksAreTheReport : Type 0 where
-  pub run : (asked : Asked) (start : Scene) → all_lines (marked_run asked start) ≡ lines_of (run_report asked start)
-  pub output : (command : Command) (job : List ℕ) → all_lines (marked_output command job) ≡ lines_of (output_of command job).events
+  pub run : (asked : Asked) (start : Scene) → all_lines (marked_run asked start)
+      ≡ lines_of (run_report asked start)
+  pub output : (command : Command) (job : List ℕ) → all_lines (marked_output command job)
+      ≡ lines_of (output_of command job).events
 
--- with other delays, and other cards `/SNAP`, `/TIME` and `/CHART`, a run has the same lines that are not marked
+-- with other delays, and other cards `/SNAP`, `/TIME` and `/CHART`, a run has the same lines that
+-- are not marked
 abbrev pub DelaysChangeNothingButTheTimetable : Type 0
-DelaysChangeNothingButTheTimetable = (asked : Asked) (ds snaps : List ℕ) (time chart : Bool) (start : Scene) →
-    unmarked (marked_run (record asked { delays = ds; snaps = snaps; time = time; chart = chart }) start)
-    ≡ unmarked (marked_run asked start)
+DelaysChangeNothingButTheTimetable = (asked : Asked) (ds snaps : List ℕ) (time chart : Bool)
+    (start : Scene) →
+    lines_unmarked (marked_run (record asked {
+      delays = ds;
+      snaps = snaps;
+      time = time;
+      chart = chart;
+    }) start)
+    ≡ lines_unmarked (marked_run asked start)
 
--- two jobs that are not refused, and whose texts differ in their delays cards alone, write the same lines that are not
--- marked; and where one of the two is not refused and the other's delays cards are good, that is not refused either. So do all jobs that give the same but for the delays, and object texts of programs that differ in their delays alone
+-- two jobs that are not refused, and whose texts differ in their delays cards alone, write the same
+-- lines that are not marked; and where one of the two is not refused and the other's delays cards
+-- are good, that is not refused either. So do all jobs that give the same but for the delays, and
+-- object texts of programs that differ in their delays alone
 pub record JobsThatDifferInDelaysAlone : Type 0 where
   pub texts : (job other : List ℕ) (a b : Assembly) → assembly job ≡ Ok a → assembly other ≡ Ok b
-      → DifferInDelaysCards job other → unmarked (marked_output Run job) ≡ unmarked (marked_output Run other)
-  pub accepted : (job other : List ℕ) (a : Assembly) → assembly job ≡ Ok a → DifferInDelaysCards job other → HasGoodDelays other
+      → DifferInDelaysCards job other → lines_unmarked (marked_output Run job)
+      ≡ lines_unmarked (marked_output Run other)
+  pub accepted : (job other : List ℕ) (a : Assembly) → assembly job ≡ Ok a →
+      DifferInDelaysCards job other → HasGoodDelays other
       → (b : Assembly) × (assembly other ≡ Ok b)
   pub run : (job other : List ℕ) (a b : Assembly) → assembly job ≡ Ok a → assembly other ≡ Ok b
-      → DifferInDelays job other a b → unmarked (marked_output Run job) ≡ unmarked (marked_output Run other)
+      → DifferInDelays job other a b → lines_unmarked (marked_output Run job)
+      ≡ lines_unmarked (marked_output Run other)
   pub load : (text other : List ℕ) (p q : Program) → read_text text ≡ Ok p → read_text other ≡ Ok q
       → record p { controls = record p.controls { delays = q.controls.delays } } ≡ q
-      → unmarked (marked_output Load text) ≡ unmarked (marked_output Load other)
+      → lines_unmarked (marked_output Load text) ≡ lines_unmarked (marked_output Load other)
 
--- two texts that are object texts, and differ in their lines of delays alone, write the same lines that are not marked. Where one
--- of the two is an object text, and the other has lines of these delays, that is the object text of the same program with
--- these delays. The lines of each object text are those of its program's delays
+-- two texts that are object texts, and differ in their lines of delays alone, write the same lines
+-- that are not marked. Where one of the two is an object text, and the other has lines of these
+-- delays, that is the object text of the same program with these delays. The lines of each object
+-- text are those of its program's delays
 pub record ObjectTextsThatDifferInDelaysAlone : Type 0 where
   pub texts : (text other : List ℕ) (p q : Program) → read_text text ≡ Ok p → read_text other ≡ Ok q
-      → DifferInDelayLines text other → unmarked (marked_output Load text) ≡ unmarked (marked_output Load other)
-  pub accepted : (text other delays : List ℕ) (p : Program) → read_text text ≡ Ok p → DifferInDelayLines text other
-      → HasDelayLines other delays → read_text other ≡ Ok (record p { controls = record p.controls { delays = delays } })
-  pub good : (text : List ℕ) (p : Program) → read_text text ≡ Ok p → HasDelayLines text p.controls.delays
+      → DifferInDelayLines text other → lines_unmarked (marked_output Load text)
+      ≡ lines_unmarked (marked_output Load other)
+  pub accepted : (text other delays : List ℕ) (p : Program) → read_text text ≡ Ok p →
+      DifferInDelayLines text other
+      → HasDelayLines other delays → read_text other ≡ Ok
+      (record p { controls = record p.controls { delays = delays } })
+  pub good : (text : List ℕ) (p : Program) → read_text text ≡ Ok p →
+      HasDelayLines text p.controls.delays
 
 -- delays show in marked lines alone
 pub record DelaysShowInMarksAlone : Type 0 where

@@ -13,7 +13,7 @@ use Rattle.st_io.specs.Output.{OutputState}
 use Rattle.st_io.specs.declared.source.ReadError.{ReadError}
 use Rattle.st_io.specs.declared.source.ReadError.TheVariants.{TooLong as ReadTooLong, Failed, NoMemory as ReadNoMemory}
 use Rattle.st_top.specs.Answers.{Writes, KeepsTime, job_limit}
-use Rattle.st_top.specs.Output.{Output, output_of, delays_of, refused}
+use Rattle.st_top.specs.Output.{Output, output_of, delays_of, refusal_output}
 use Rattle.st_top.specs.declared.answer.Answer.{Answer}
 use Rattle.st_top.specs.declared.command.Command.{Command}
 use Rattle.st_top.specs.declared.layer_error.LayerError.{LayerError}
@@ -40,16 +40,19 @@ abbrev pub of_disassembly : DisError → LayerError
 of_disassembly (DeckTooLong cards) = Refused 20001 TooManyCards
 of_disassembly DisNoMemory = NoMemory
 
--- what an error says of the output that is wanted: it is that of the refused card, or memory ran out
+-- what an error says of the output that is wanted: it is that of the refused card, or memory ran
+-- out
 abbrev pub Halts : Output → LayerError → Type 0
-Halts output (Refused card fault) = output ≡ refused (record { card = card; fault = fault })
+Halts output (Refused card fault) = output ≡ refusal_output (record { card = card; fault = fault })
 Halts output NoMemory = Unit {0}
 Halts output TooLong = ⊥
 Halts output Unread = ⊥
 
--- how a command ends on a job that was read and says these delays: with an answer, or with an error and nothing written
+-- how a command ends on a job that was read and says these delays: with an answer, or with an error
+-- and nothing written
 abbrev pub Ends : OutputState → OutputState → Output → List ℕ → Result Answer LayerError → Type 0
-Ends before after output delays (Ok answer) = Writes answer.status before after output answer × KeepsTime delays answer
+Ends before after output delays (Ok answer) = Writes answer.status before after output answer
+    × KeepsTime delays answer
 Ends before after output delays (Err e) = (after ≡ before) × Halts output e
 
 -- a job was read whole, and the command ended so on it
@@ -60,8 +63,10 @@ pub record EndsOnJob (command : Command) (input input' : InputState) (before aft
   pub ends : Ends before after (output_of command job) (delays_of command job) result
 
 -- how a command ends that reads a job
-abbrev pub Tries : Command → InputState → InputState → OutputState → OutputState → Result Answer LayerError → Type 0
-Tries command input input' before after (Ok answer) = EndsOnJob command input input' before after (Ok answer)
+abbrev pub Tries : Command → InputState → InputState → OutputState → OutputState →
+    Result Answer LayerError → Type 0
+Tries command input input' before after (Ok answer) = EndsOnJob command input input' before after
+    (Ok answer)
 Tries command input input' before after (Err (Refused card fault)) =
     EndsOnJob command input input' before after (Err (Refused card fault))
 Tries command input input' before after (Err TooLong) =

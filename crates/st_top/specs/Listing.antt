@@ -9,7 +9,8 @@ use Rattle.st_asm.specs.declared.valuing.Listed.{Listed}
 use Rattle.st_report.specs.Line.{soak_line}
 use Rattle.st_report.specs.Listing.{listed_line, symbol_line}
 
--- the cards of a job that is assembled: each has its text in the job and no fault, and its row of the listing
+-- the cards of a job that is assembled: each has its text in the job and no fault, and its row of
+-- the listing
 pub record HasCards (job : List ℕ) (rows : List Listed) (cards : List Card) : Type 0 where
   pub cards_are : cards ≡ cards_of job
   pub texts : All (IsCardOf job) cards
@@ -18,14 +19,16 @@ pub record HasCards (job : List ℕ) (rows : List Listed) (cards : List Card) : 
   pub same : length rows ≡ length cards
 
 -- the line of a card, by its row
-abbrev pub row_line : List ℕ → Listed → Card → List ℕ
-row_line job row card = listed_line row.card row.location row.bits row.length (text_in job card)
+abbrev pub listing_row_line : List ℕ → Listed → Card → List ℕ
+listing_row_line job row card = listed_line row.card row.location row.bits row.length
+    (text_in job card)
 
 -- the lines of cards, each by its row
 abbrev pub rows_lines : List ℕ → List Listed → List Card → List (List ℕ)
 rows_lines job [] cards = []
 rows_lines job (row ∷ rows) [] = []
-rows_lines job (row ∷ rows) (card ∷ cards) = row_line job row card ∷ rows_lines job rows cards
+rows_lines job (row ∷ rows) (card ∷ cards) = listing_row_line job row card
+    ∷ rows_lines job rows cards
 
 -- the lines of symbols
 abbrev pub symbols_lines : List Symbol → List (List ℕ)
@@ -34,7 +37,8 @@ symbols_lines (s ∷ ss) = symbol_line s.name s.value ∷ symbols_lines ss
 
 -- the listing of a job that is assembled, where it is asked for
 unfoldable pub listing : List ℕ → Assembly → List (List ℕ)
-listing job a = if a.asked.list then rows_lines job a.rows (cards_of job) ++ symbols_lines a.symbols else []
+listing job a = if a.asked.list then rows_lines job a.rows (cards_of job) ++ symbols_lines a.symbols
+    else []
 
 -- the line of a made deck, by its seed and its number of cards
 abbrev pub made_lines : Option (ℕ × ℕ) → List (List ℕ)
@@ -42,5 +46,5 @@ made_lines None = []
 made_lines (Some made) = soak_line made.0 made.1 ∷ []
 
 -- the lines in front of the report of a job that is assembled
-abbrev pub front : Option (ℕ × ℕ) → List ℕ → Assembly → List (List ℕ)
-front made job a = made_lines made ++ listing job a
+abbrev pub front_lines : Option (ℕ × ℕ) → List ℕ → Assembly → List (List ℕ)
+front_lines made job a = made_lines made ++ listing job a

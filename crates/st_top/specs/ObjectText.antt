@@ -1,24 +1,28 @@
 -- The object text of a job and the deck of a program, line by line.
 use Rattle.std.specs.Prelude.{ℕ, false, List, [], ◌∷◌, ◌++◌, map}
 use Rattle.st_asm.specs.Assembly.{Assembly}
-use Rattle.st_object.specs.Lines.{spelled}
+use Rattle.st_object.specs.Lines.{line_text}
 use Rattle.st_object.specs.Object.{Program, object_lines as lines_of}
 use Rattle.st_dis.specs.Deck.{deck_cards}
 use Rattle.st_text.specs.Bytes.{lf}
 
 -- what an object text keeps of a job that is assembled: all but whether it is listed
 abbrev pub program_in : Assembly → Program
-program_in a = record { words = a.image; start = a.start; controls = record a.asked { list = false } }
+program_in a = record {
+  words = a.image;
+  start = a.start;
+  controls = record a.asked { list = false };
+}
 
 -- the lines of the object text of a program, each with its line end
-unfoldable pub object_lines : Program → List (List ℕ)
-object_lines p = map (λ item. spelled item ++ lf) (lines_of p)
+unfoldable pub object_text_lines : Program → List (List ℕ)
+object_text_lines p = map (λ item. line_text item ++ lf) (lines_of p)
 
 -- the pieces of a text that have a line end behind them, each with it
-abbrev pub ended_lines : List (List ℕ) → List (List ℕ)
-ended_lines [] = []
-ended_lines (rest ∷ []) = []
-ended_lines (line ∷ next ∷ more) = (line ++ lf) ∷ ended_lines (next ∷ more)
+abbrev pub whole_lines : List (List ℕ) → List (List ℕ)
+whole_lines [] = []
+whole_lines (rest ∷ []) = []
+whole_lines (line ∷ next ∷ more) = (line ++ lf) ∷ whole_lines (next ∷ more)
 
 -- the cards of the deck of a program, each with its line end
 unfoldable pub deck_lines : Program → List (List ℕ)

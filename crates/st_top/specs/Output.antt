@@ -4,15 +4,15 @@ use Rattle.st_card.specs.Controls.{Asked}
 use Rattle.st_card.specs.Faults.{name_of}
 use Rattle.st_asm.specs.Pass.{Refusal}
 use Rattle.st_asm.specs.Assembly.{Assembly, assembly}
-use Rattle.st_state.specs.Machine.{opening}
+use Rattle.st_state.specs.Machine.{opening_state}
 use Rattle.st_exch.specs.Reader.{reader_cards}
 use Rattle.st_run.specs.Run.{Scene}
 use Rattle.st_io.specs.Event.{Event, at_moment}
 use Rattle.st_report.specs.Line.{fault_line}
-use Rattle.st_top.specs.Listing.{front}
-use Rattle.st_top.specs.StepsBack.{end_of, run_report}
+use Rattle.st_top.specs.Listing.{front_lines}
+use Rattle.st_top.specs.StepsBack.{moment_at_end, run_report}
 use Rattle.st_top.specs.Sweep.{sweep_lines, sweep_of}
-use Rattle.st_top.specs.ObjectText.{program_in, object_lines, deck_lines}
+use Rattle.st_top.specs.ObjectText.{program_in, object_text_lines, deck_lines}
 use Rattle.st_object.specs.Object.{Program, read_text}
 use Rattle.st_dis.specs.Deck.{card_count}
 use Rattle.st_gen.specs.Deck.{made_deck}
@@ -32,45 +32,52 @@ pub record Output : Type 0 where
 
 -- lines that belong to no moment of a run
 abbrev pub lines_alone : Status → List (List ℕ) → Output
-lines_alone status lines = record { status = status; events = at_moment 0 0 lines; done = 0; ticks = 0 }
+lines_alone status lines = record {
+  status = status;
+  events = at_moment 0 0 lines;
+  done = 0;
+  ticks = 0;
+}
 
 -- the output of a job that is refused at a card
-abbrev pub refused : Refusal → Output
-refused r = lines_alone Refused (fault_line r.card (name_of r.fault) ∷ [])
+abbrev pub refusal_output : Refusal → Output
+refusal_output r = lines_alone Refused (fault_line r.card (name_of r.fault) ∷ [])
 
--- the start of a run: the machine of an image and a start, the signals that are asked for, and the cards of a job's reader
-abbrev pub scene_of : List ℕ → ℕ → Asked → List ℕ → Scene
-scene_of image start asked job = record {
-  machine = opening image start;
+-- the start of a run: the machine of an image and a start, the signals that are asked for, and the
+-- cards of a job's reader
+abbrev pub scene_at_start : List ℕ → ℕ → Asked → List ℕ → Scene
+scene_at_start image start asked job = record {
+  machine = opening_state image start;
   signals = asked.signals;
   cards = reader_cards job;
 }
 
 -- that of a job that is assembled
-abbrev pub start_of : List ℕ → Assembly → Scene
-start_of job a = scene_of a.image a.start a.asked job
+abbrev pub scene_of_assembly : List ℕ → Assembly → Scene
+scene_of_assembly job a = scene_at_start a.image a.start a.asked job
 
 -- the output of a run from its start: the listing, and then the report
 abbrev pub output_of_run : List (List ℕ) → Asked → Scene → Output
 output_of_run listed asked start = record {
   status = Done;
   events = at_moment 0 0 listed ++ run_report asked start;
-  done = (end_of asked start).done;
-  ticks = (end_of asked start).tick;
+  done = (moment_at_end asked start).done;
+  ticks = (moment_at_end asked start).tick;
 }
 
 -- the output of the run of a job, made by a seed with a number of cards or not, by what it gives
 abbrev pub ran_by : Option (ℕ × ℕ) → List ℕ → Result Assembly Refusal → Output
-ran_by made job (Ok a) = output_of_run (front made job a) a.asked (start_of job a)
-ran_by made job (Err r) = refused r
+ran_by made job (Ok a) = output_of_run (front_lines made job a) a.asked (scene_of_assembly job a)
+ran_by made job (Err r) = refusal_output r
 
 -- the output of `soak`: that of the deck which a seed and a number of cards make
-abbrev pub soaked : ℕ → ℕ → Output
-soaked number cards =
+abbrev pub soak_output : ℕ → ℕ → Output
+soak_output number cards =
     let deck = made_deck number cards in
     ran_by (Some (number, cards)) deck (assembly deck)
 
--- the output of a sweep: its lines belong to no moment of a run, and what is done is that of the run on eight levels
+-- the output of a sweep: its lines belong to no moment of a run, and what is done is that of the
+-- run on eight levels
 abbrev pub output_of_sweep : Swept → Output
 output_of_sweep s = record {
   status = Done;
@@ -82,32 +89,38 @@ output_of_sweep s = record {
 -- the output of `sweep`, by what a job gives
 abbrev pub swept_by : Result Assembly Refusal → Output
 swept_by (Ok a) = output_of_sweep (sweep_of a.image a.start a.asked)
-swept_by (Err r) = refused r
+swept_by (Err r) = refusal_output r
 
 -- the output of `assemble`, by what a job gives: its object text, line by line
 abbrev pub assembled_by : Result Assembly Refusal → Output
-assembled_by (Ok a) = lines_alone Done (object_lines (program_in a))
-assembled_by (Err r) = refused r
+assembled_by (Ok a) = lines_alone Done (object_text_lines (program_in a))
+assembled_by (Err r) = refusal_output r
 
 -- the start of the run of a program that is loaded; the reader is empty
 abbrev pub loaded_start : Program → Scene
-loaded_start p = record { machine = opening p.words p.start; signals = p.controls.signals; cards = [] }
+loaded_start p = record {
+  machine = opening_state p.words p.start;
+  signals = p.controls.signals;
+  cards = [];
+}
 
--- the output of `load`, by what an object text gives: the program, or the number of the line that is refused
+-- the output of `load`, by what an object text gives: the program, or the number of the line that
+-- is refused
 abbrev pub loaded_by : Result Program ℕ → Output
 loaded_by (Ok p) = output_of_run [] p.controls (loaded_start p)
-loaded_by (Err n) = refused (record { card = n; fault = BadObjectCard })
+loaded_by (Err n) = refusal_output (record { card = n; fault = BadObjectCard })
 
 -- the deck of a program, line by line, or the refusal of the first card that is too many
 abbrev pub deck_by : Program → Output
 deck_by p =
     if nat_le (card_count p) 20000 then lines_alone Done (deck_lines p)
-    else refused (record { card = 20001; fault = TooManyCards })
+    else refusal_output (record { card = 20001; fault = TooManyCards })
 
--- the output of `disassemble`, by what an object text holds: its deck, or the number of its bad line
+-- the output of `disassemble`, by what an object text holds: its deck, or the number of its bad
+-- line
 abbrev pub disassembled_by : Result Program ℕ → Output
 disassembled_by (Ok p) = deck_by p
-disassembled_by (Err n) = refused (record { card = n; fault = BadObjectCard })
+disassembled_by (Err n) = refusal_output (record { card = n; fault = BadObjectCard })
 
 -- the output of a command on a job; that of `soak` is the same for any job
 unfoldable pub output_of : Command → List ℕ → Output
@@ -116,7 +129,7 @@ output_of Assemble job = assembled_by (assembly job)
 output_of Load text = loaded_by (read_text text)
 output_of Disassemble text = disassembled_by (read_text text)
 output_of Sweep job = swept_by (assembly job)
-output_of (Soak number cards) job = soaked number cards
+output_of (Soak number cards) job = soak_output number cards
 
 -- the delays of storage with which an assembled job runs
 abbrev pub assembled_delays : Result Assembly Refusal → List ℕ

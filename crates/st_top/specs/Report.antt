@@ -1,5 +1,5 @@
--- The report of a run: its lines, each with the number of instructions done and the tick of the last completion when it
--- is written.
+-- The report of a run: its lines, each with the number of instructions done and the tick of the
+-- last completion when it is written.
 use Rattle.std.specs.Prelude.{ℕ, ◌+◌, ◌-◌, ◌==◌, Bool, if◌then◌else◌, List, [], ◌∷◌, ◌++◌, length, map, option_map}
 use Rattle.st_card.specs.Controls.{Asked}
 use Rattle.st_state.specs.Machine.{Machine, word}
@@ -32,7 +32,8 @@ abbrev pub dumps_lines : Machine → List (ℕ × ℕ) → List (List ℕ)
 dumps_lines s [] = []
 dumps_lines s (p ∷ ps) = dump_lines s p.0 p.1 ++ dumps_lines s ps
 
--- the state block: the counter, whether interrupts are enabled, the registers 2 to 31 that are not zero, and the dumps
+-- the state block: the counter, whether interrupts are enabled, the registers 2 to 31 that are not
+-- zero, and the dumps
 unfoldable pub block : List (ℕ × ℕ) → Machine → List (List ℕ)
 block dumps s =
     ic_line s.ic ∷ en_line s.enabled ∷ lines_for (register_lines s) 30 2 ++ dumps_lines s dumps
@@ -52,7 +53,8 @@ interrupt_lines asked done tick i s =
 -- an entry ahead
 abbrev pub level_line : Level → List ℕ
 level_line level =
-    lev_line level.address (option_map (λ change. (change.number, change.before)) level.changed) level.ready
+    lev_line level.address
+    (option_map (λ change. (change.number, change.before)) level.changed) level.ready
 
 -- a snapshot: the state, and the entries ahead of it, the oldest first
 abbrev pub snapshot_lines : Asked → ℕ → ℕ → Machine → List Level → List (List ℕ)

@@ -3,50 +3,55 @@ use Rattle.std.specs.Prelude.{ℕ, zero, suc, ◌-◌, ◌==◌, min, if◌then�
 use Rattle.st_card.specs.Controls.{Asked}
 use Rattle.st_state.specs.Machine.{Machine}
 use Rattle.st_exec.specs.Step.{rests}
-use Rattle.st_run.specs.Run.{Scene, interlude, stepped, run}
+use Rattle.st_run.specs.Run.{Scene, interlude, scene_after_step, run}
 use Rattle.st_io.specs.Event.{Event, at_moment}
 use Rattle.st_report.specs.Line.{back_line}
 use Rattle.st_run.specs.Events.{Timed}
-use Rattle.st_run.specs.Order.{last_tick}
+use Rattle.st_run.specs.Order.{last_completion}
 use Rattle.st_run.specs.TimedRun.{timed_run}
-use Rattle.st_run.specs.Told.{told}
+use Rattle.st_run.specs.Told.{told_of_events}
 use Rattle.st_top.specs.Report.{block, report}
 use Rattle.st_top.specs.declared.moment.Moment.{Moment}
 use Rattle.st_top.specs.declared.reporting.TheConstants.{LEVELS}
 
--- the states of a run from a scene on, each after what comes before its step, up to the one in which the run ends
+-- the states of a run from a scene on, each after what comes before its step, up to the one in
+-- which the run ends
 unfoldable pub states : ℕ → Scene → List Machine
 states zero c = (interlude c).scene.machine ∷ []
 states (suc left) c =
     let s = (interlude c).scene in
-    if rests s.machine then s.machine ∷ [] else s.machine ∷ states left (stepped s)
+    if rests s.machine then s.machine ∷ [] else s.machine ∷ states left (scene_after_step s)
 
 -- the line and the block of the state so many steps before the last one, but no more than were made
 abbrev pub block_before : List (ℕ × ℕ) → ℕ → List Machine → Machine → List (List ℕ)
-block_before dumps j states last = back_line j ∷ block dumps (slice_index_or states (last.done - j) last)
+block_before dumps j states last = back_line j ∷ block dumps
+    (slice_index_or states (last.done - j) last)
 
 -- its lines, where steps back are asked for
-abbrev pub back_lines : Asked → List Machine → Machine → List (List ℕ)
-back_lines asked states last =
+abbrev pub lines_of_steps_back : Asked → List Machine → Machine → List (List ℕ)
+lines_of_steps_back asked states last =
     if asked.back == 0 then [] else block_before asked.dumps (min asked.back last.done) states last
 
 -- ---- the overlapped machine
 
 -- the run with its timetable
-abbrev pub timed : Asked → Scene → List Timed
-timed asked start = timed_run asked.delays LEVELS asked.budget start asked.snaps
+abbrev pub events_of_run : Asked → Scene → List Timed
+events_of_run asked start = timed_run asked.delays LEVELS asked.budget start asked.snaps
 
 -- the last state of a run
 abbrev pub last_state : Asked → Scene → Machine
 last_state asked start = (run asked.budget start).last
 
 -- its end: how many instructions are done, and the tick of the last completion
-unfoldable pub end_of : Asked → Scene → Moment
-end_of asked start = record { done = (last_state asked start).done; tick = last_tick 0 (timed asked start) }
+unfoldable pub moment_at_end : Asked → Scene → Moment
+moment_at_end asked start = record {
+  done = (last_state asked start).done;
+  tick = last_completion 0 (events_of_run asked start);
+}
 
 -- the report of a run: what is told, and at the moment of its end the state so many steps before it
 unfoldable pub run_report : Asked → Scene → List Event
 run_report asked start =
-    report asked (told (timed asked start))
-    ++ at_moment (end_of asked start).done (end_of asked start).tick
-    (back_lines asked (states asked.budget start) (last_state asked start))
+    report asked (told_of_events (events_of_run asked start))
+    ++ at_moment (moment_at_end asked start).done (moment_at_end asked start).tick
+    (lines_of_steps_back asked (states asked.budget start) (last_state asked start))

@@ -1,11 +1,12 @@
--- What a sweep writes of a job: its ticks on machines of one to eight levels, and whether its run is calm.
+-- What a sweep writes of a job: its ticks on machines of one to eight levels, and whether its run
+-- is hazard-free.
 use Rattle.std.specs.Prelude.{ℕ, ◌+◌, List, [], ◌∷◌, ◌++◌}
 use Rattle.st_card.specs.Controls.{Asked}
-use Rattle.st_state.specs.Machine.{opening}
+use Rattle.st_state.specs.Machine.{opening_state}
 use Rattle.st_run.specs.Run.{Scene}
 use Rattle.st_report.specs.Line.{levels_line, calm_line}
 use Rattle.st_sweep.specs.Sweep.{without_cards}
-use Rattle.st_sweep.specs.SideBySide.{swept}
+use Rattle.st_sweep.specs.SideBySide.{side_by_side}
 use Rattle.st_sweep.specs.declared.sweeping.Swept.{Swept}
 
 -- the lines of machines with n levels, n + 1 levels and so on, by their ticks
@@ -15,12 +16,12 @@ levels_lines n (t ∷ ts) = levels_line n t ∷ levels_lines (n + 1) ts
 
 -- the lines of a sweep
 abbrev pub sweep_lines : Swept → List (List ℕ)
-sweep_lines s = levels_lines 1 s.ticks ++ calm_line s.calm ∷ []
+sweep_lines s = levels_lines 1 s.ticks ++ calm_line s.hazard_free ∷ []
 
 -- the start of the runs of a sweep: the reader is empty
 abbrev pub sweep_start : List ℕ → ℕ → Asked → Scene
-sweep_start image start asked = without_cards (opening image start) asked.signals
+sweep_start image start asked = without_cards (opening_state image start) asked.signals
 
 -- what a sweep tells of an image, a start and what is asked for
 unfoldable pub sweep_of : List ℕ → ℕ → Asked → Swept
-sweep_of image start asked = swept asked.delays asked.budget (sweep_start image start asked)
+sweep_of image start asked = side_by_side asked.delays asked.budget (sweep_start image start asked)

@@ -25,9 +25,11 @@ pub enum Status {
 pub struct Answer {
     /// How the call ended.
     pub status: Status,
-    /// The number of instructions done; after a failed write, when the line that failed was written.
+    /// The number of instructions done; after a failed write, when the line that failed was
+    /// written.
     pub done: u64,
-    /// The tick of the last completion, 0 before the first; after a failed write, when the line that failed was written.
+    /// The tick of the last completion, 0 before the first; after a failed write, when the line
+    /// that failed was written.
     pub ticks: u64,
 }
 

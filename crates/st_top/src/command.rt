@@ -23,7 +23,8 @@ pub enum Command {
     Load,
     /// Read an object text and write the deck that assembles to it.
     Disassemble,
-    /// Assemble a deck, run it with an empty reader on machines of one to eight levels, and write the ticks of each run.
+    /// Assemble a deck, run it with an empty reader on machines of one to eight levels, and write
+    /// the ticks of each run.
     Sweep,
     /// Make the deck of a seed with 1 to 4,000 drawn cards, run it and write its report.
     Soak {
@@ -163,8 +164,9 @@ fn read_arguments(alloc: Global, words: &[String]) -> Result<Option<Command>, No
     }
 }
 
-/// The command that the words are; None where they mean nothing. The one error is that memory ran out, and it never
-/// comes where a word is empty or begins with `-`, nor where there are no words or more than three.
+/// The command that the words are; None where they mean nothing. The one error is that memory ran
+/// out, and it never comes where a word is empty or begins with `-`, nor where there are no words
+/// or more than three.
 pub fn read_words(alloc: Global, words: &[String]) -> Result<Option<Command>, NoMemory>
     ensures ok { IfOk result (λ command. command ≡ command_of (map string_bytes words.now)) }
     ensures plain { list_all is_plain_of (map string_bytes words.now) ≡ false → result ≡ Ok None }

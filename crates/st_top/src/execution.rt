@@ -21,23 +21,23 @@ ghost use Rattle.std.specs.List.{AllPass};
 ghost use Rattle.st_bits.specs.Storage.{words_of_storage};
 ghost use Rattle.st_bits.specs.declared.limits.TheConstants.{MOST_INSTRUCTIONS};
 ghost use Rattle.st_bits.specs.declared.register.TheConstants.{FIRST_STORAGE_WORD};
-ghost use Rattle.st_asm.specs.Assembly.{shown};
-ghost use Rattle.st_asm.specs.Sound.{IsSound, IsSymbol};
+ghost use Rattle.st_asm.specs.Assembly.{assembly_parts};
+ghost use Rattle.st_asm.specs.Sound.{IsAssemblySound, IsSymbol};
 ghost use Rattle.st_card.specs.Cards.{cards_of};
 ghost use Rattle.st_card.specs.Limits.{IsWithinLimits, is_part};
 ghost use Rattle.st_exch.specs.Reader.{reader_cards};
 ghost use Rattle.st_run.specs.Reached.{IsCard};
 ghost use Rattle.st_run.specs.Scenes.{IsScene};
-ghost use Rattle.st_state.specs.Machine.{IsMachine, opening};
+ghost use Rattle.st_state.specs.Machine.{IsMachine, opening_state};
 ghost use Rattle.st_run.specs.Run.{Scene as SceneOf};
 ghost use Rattle.st_io.specs.Event.{at_moment};
 ghost use Rattle.st_object.specs.Object.{IsProgram};
-ghost use Rattle.st_run.specs.Told.{told};
-ghost use Rattle.st_top.specs.Listing.{HasCards, front};
-ghost use Rattle.st_top.specs.StepsBack.{timed, end_of, run_report};
-ghost use Rattle.st_top.specs.Beside.{IsReady, StandsAtStart};
+ghost use Rattle.st_run.specs.Told.{told_of_events};
+ghost use Rattle.st_top.specs.Listing.{HasCards, front_lines};
+ghost use Rattle.st_top.specs.StepsBack.{events_of_run, moment_at_end, run_report};
+ghost use Rattle.st_top.specs.Beside.{IsBesideReady, StandsAtStart};
 ghost use Rattle.st_top.specs.Running.{WritesEvents};
-ghost use Rattle.st_top.specs.Output.{scene_of, ran_by, loaded_by, output_of_run};
+ghost use Rattle.st_top.specs.Output.{scene_at_start, ran_by, loaded_by, output_of_run};
 ghost use Rattle.st_top.specs.Answers.{Writes, KeepsTime};
 
 use crate::answer::{Answer, Status};
@@ -74,13 +74,15 @@ fn write_output<K: Sink>(
     requires limit { program.now.controls.budget ≤ MOST_INSTRUCTIONS }
     requires parts { AllPass is_part program.now.controls.dumps }
     requires fresh { IfSome past.old (λ b. b.0.machine.done ≡ 0) }
-    requires ready { IfSome past.old IsReady }
+    requires ready { IfSome past.old IsBesideReady }
     requires moment { moment.old ≡ record { done = 0; tick = 0 } }
-    ensures { (start : SceneOf) → run.old.rest ≡ told (timed program.now.controls start)
+
+    ensures { (start : SceneOf) → run.old.rest ≡ told_of_events
+        (events_of_run program.now.controls start)
         → StandsAtStart program.now.controls.back start past.old
         → WritesEvents (K.output out.old) (K.output out.new)
-        (at_moment 0 0 (front made job.now (shown program.now)) ++ run_report program.now.controls start)
-        (end_of program.now.controls start) moment.new result }
+        (at_moment 0 0 (front_lines made job.now (assembly_parts program.now)) ++ run_report program.now.controls start)
+        (moment_at_end program.now.controls start) moment.new result }
 {
     write_front(out, made, job, cards, program)?;
     write_report(out, run, past, moment, &program.controls)
@@ -135,7 +137,7 @@ fn opened(alloc: Global, image: &[u64], start: u32) -> Result<State, NoMemory>
     requires whole { length image.now ≡ words_of_storage }
     requires registers { (w : ℕ) → w < FIRST_STORAGE_WORD → slice_index image.now w ≡ 0 }
     requires counter { start < 2 ^ 19 }
-    ensures value { IfOk result (λ state. state ≡ opening image.now start) }
+    ensures value { IfOk result (λ state. state ≡ opening_state image.now start) }
     ensures shape { IfOk result IsMachine }
 {
     let state = State::new(alloc, image, start)?;
@@ -166,10 +168,11 @@ fn beside<'a>(
     requires registers { (w : ℕ) → w < FIRST_STORAGE_WORD → slice_index image.now w ≡ 0 }
     requires counter { start < 2 ^ 19 }
     requires limits { IsWithinLimits controls.now }
+
     ensures start { IfOk result (λ past. StandsAtStart controls.now.back
-        (scene_of image.now start controls.now job.now) past) }
+        (scene_at_start image.now start controls.now job.now) past) }
     ensures fresh { IfOk result (λ past. IfSome past (λ b. b.0.machine.done ≡ 0)) }
-    ensures ready { IfOk result (λ past. IfSome past IsReady) }
+    ensures ready { IfOk result (λ past. IfSome past IsBesideReady) }
 {
     let depth = controls.back;
     if depth == 0 {
@@ -184,7 +187,8 @@ fn beside<'a>(
 // A run that is ready to be told, and the machine beside it, where steps back are asked for.
 type Prepared<'a> = (Run<'a, LEVELS>, Option<Past<'a>>);
 
-// Takes all memory of a run: that of an image, a start and controls, with the reader's cards of a job, whose cards these are.
+// Takes all memory of a run: that of an image, a start and controls, with the reader's cards of a
+// job, whose cards these are.
 fn prepare<'a>(
     alloc: Global,
     job: &[u8],
@@ -200,13 +204,16 @@ fn prepare<'a>(
     requires limits { IsWithinLimits controls.now }
     requires budget { 1 ≤ controls.now.budget }
     requires delays { 1 ≤ length controls.now.delays }
+
     ensures rest { IfOk result (λ run. run.0.rest
-        ≡ told (timed controls.now (scene_of image.now start controls.now job.now))) }
+        ≡ told_of_events
+        (events_of_run controls.now (scene_at_start image.now start controls.now job.now))) }
     ensures beside { IfOk result (λ run. StandsAtStart controls.now.back
-        (scene_of image.now start controls.now job.now) run.1) }
+        (scene_at_start image.now start controls.now job.now) run.1) }
     ensures fresh { IfOk result (λ run. IfSome run.1 (λ b. b.0.machine.done ≡ 0)) }
-    ensures ready { IfOk result (λ run. IfSome run.1 IsReady) }
-    ensures scene { IfOk result (λ run. IsScene (scene_of image.now start controls.now job.now)) }
+    ensures ready { IfOk result (λ run. IfSome run.1 IsBesideReady) }
+    ensures scene { IfOk result
+        (λ run. IsScene (scene_at_start image.now start controls.now job.now)) }
 {
     let state = opened(alloc, image, start)?;
     let hopper = reader(alloc, job, cards)?;
@@ -238,19 +245,22 @@ fn answer_run<K: Sink>(
     requires limit { program.now.controls.budget ≤ MOST_INSTRUCTIONS }
     requires parts { AllPass is_part program.now.controls.dumps }
     requires fresh { IfSome past.old (λ b. b.0.machine.done ≡ 0) }
-    requires ready { IfSome past.old IsReady }
-    ensures { (start : SceneOf) → run.old.rest ≡ told (timed program.now.controls start)
+    requires ready { IfSome past.old IsBesideReady }
+
+    ensures { (start : SceneOf) → run.old.rest ≡ told_of_events
+        (events_of_run program.now.controls start)
         → StandsAtStart program.now.controls.back start past.old
         → Writes result.status (K.output out.old) (K.output out.new)
-        (output_of_run (front made job.now (shown program.now)) program.now.controls start) result }
+        (output_of_run (front_lines made job.now (assembly_parts program.now)) program.now.controls start) result }
 {
     let mut moment = Moment::start();
     let written = write_output(out, made, job, cards, program, run, past, &mut moment);
     answer_of(written, moment)
 }
 
-/// Runs a job that is assembled from its start, and writes its report. A deck that is made has its seed and its number of
-/// cards in `made`, and begins with their line. `cards` are the cards of the job.
+/// Runs a job that is assembled from its start, and writes its report. A deck that is made has its
+/// seed and its number of cards in `made`, and begins with their line. `cards` are the cards of the
+/// job.
 #[tactic(auto, using(st_bits::specs::Storage::words_of_storage_is, crate::proofs::Times::keeps_still))]
 pub fn execute<K: Sink>(
     alloc: Global,
@@ -261,10 +271,10 @@ pub fn execute<K: Sink>(
     out: &mut K,
 ) -> Answer
     requires cards { cards.now ≡ cards_of job.now }
-    requires sound { IsSound (length (cards_of job.now)) (shown program.now) }
+    requires sound { IsAssemblySound (length (cards_of job.now)) (assembly_parts program.now) }
     requires good { All (λ card. card.fault ≡ None) (cards_of job.now) }
     ensures writes { Writes result.status (K.output out.old) (K.output out.new)
-        (ran_by made job.now (Ok (shown program.now))) result }
+        (ran_by made job.now (Ok (assembly_parts program.now))) result }
     ensures in_time { KeepsTime program.now.controls.delays result }
 {
     let words = program.image.as_slice();
@@ -285,8 +295,8 @@ fn answer_loaded<K: Sink>(
     requires limit { controls.now.budget ≤ MOST_INSTRUCTIONS }
     requires parts { AllPass is_part controls.now.dumps }
     requires fresh { IfSome past.old (λ b. b.0.machine.done ≡ 0) }
-    requires ready { IfSome past.old IsReady }
-    ensures { (start : SceneOf) → run.old.rest ≡ told (timed controls.now start)
+    requires ready { IfSome past.old IsBesideReady }
+    ensures { (start : SceneOf) → run.old.rest ≡ told_of_events (events_of_run controls.now start)
         → StandsAtStart controls.now.back start past.old
         → Writes result.status (K.output out.old) (K.output out.new)
         (output_of_run [] controls.now start) result }

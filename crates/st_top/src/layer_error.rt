@@ -12,7 +12,8 @@ use thiserror::Error;
 /// Why a command stops before it writes anything.
 #[derive(Debug, Drop, Error)]
 pub enum LayerError {
-    /// A card of the job, a line of the object text or a card of its deck is refused. All are counted from 1.
+    /// A card of the job, a line of the object text or a card of its deck is refused. All are
+    /// counted from 1.
     #[error("card {card} is refused")]
     Refused { card: u32, fault: Fault },
     /// The job has more than 2,000,000 bytes.

@@ -1,10 +1,10 @@
 //! The listing of a job.
 ghost use Rattle.std.specs.Prelude.{◌≡◌, [], ◌∷◌, ◌++◌, All, None, length};
-ghost use Rattle.st_asm.specs.Assembly.{shown};
+ghost use Rattle.st_asm.specs.Assembly.{assembly_parts};
 ghost use Rattle.st_asm.specs.Sound.{IsRow, IsSymbol};
 ghost use Rattle.st_card.specs.Cards.{IsCardOf};
 ghost use Rattle.st_io.specs.Lines.{WritesLines};
-ghost use Rattle.st_top.specs.Listing.{HasCards, row_line, rows_lines, symbols_lines, listing, made_lines, front};
+ghost use Rattle.st_top.specs.Listing.{HasCards, listing_row_line, rows_lines, symbols_lines, listing, made_lines, front_lines};
 
 use crate::block::put;
 use st_asm::{Assembled, Listed, Symbol};
@@ -18,7 +18,7 @@ fn write_row<K: Sink>(out: &mut K, job: &[u8], row: Listed, card: Card) -> Resul
     requires text { IsCardOf job.now card }
     requires good { card.fault ≡ None }
     ensures { WritesLines (K.output out.old) (K.output out.new)
-        (row_line job.now row card ∷ []) result }
+        (listing_row_line job.now row card ∷ []) result }
 {
     let text = card.text(job);
     put(
@@ -112,7 +112,7 @@ pub fn write_front<K: Sink>(
     requires cards { HasCards job.now program.now.listing.items cards.now }
     requires symbols { All IsSymbol program.now.symbols.items }
     ensures { WritesLines (K.output out.old) (K.output out.new)
-        (front made job.now (shown program.now)) result }
+        (front_lines made job.now (assembly_parts program.now)) result }
 {
     write_made(out, made)?;
     write_listing(out, job, cards, program)
@@ -128,7 +128,7 @@ fn write_listing<K: Sink>(
     requires cards { HasCards job.now program.now.listing.items cards.now }
     requires symbols { All IsSymbol program.now.symbols.items }
     ensures { WritesLines (K.output out.old) (K.output out.new)
-        (listing job.now (shown program.now)) result }
+        (listing job.now (assembly_parts program.now)) result }
 {
     if !is_listed(&program.controls) {
         return Ok(());

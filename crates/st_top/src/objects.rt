@@ -1,11 +1,11 @@
 //! The object text of a job and the deck of a program, written line by line.
 ghost use Rattle.std.specs.Prelude.{◌≡◌, ◌+◌, ◌≤◌, [], Ok, length, take};
-ghost use Rattle.st_asm.specs.Assembly.{shown};
-ghost use Rattle.st_text.specs.Pieces.{parted};
+ghost use Rattle.st_asm.specs.Assembly.{assembly_parts};
+ghost use Rattle.st_text.specs.Pieces.{pieces_of};
 ghost use Rattle.st_io.specs.Lines.{WritesLines, text};
 ghost use Rattle.st_object.specs.Object.{IsProgram};
 ghost use Rattle.st_top.specs.Answers.{Writes};
-ghost use Rattle.st_top.specs.ObjectText.{program_in, object_lines, ended_lines};
+ghost use Rattle.st_top.specs.ObjectText.{program_in, object_text_lines, whole_lines};
 ghost use Rattle.st_top.specs.Layers.{Ends};
 ghost use Rattle.st_top.specs.Output.{lines_alone, disassembled_by};
 ghost use Rattle.st_top.specs.declared.answer.Status.TheVariants.{Done};
@@ -21,7 +21,7 @@ use std::alloc::Global;
 
 /// What an object text keeps of a job that is assembled: all but whether it is listed.
 pub fn image_of(program: Assembled) -> Image
-    ensures { result ≡ program_in (shown program) }
+    ensures { result ≡ program_in (assembly_parts program) }
 {
     let Assembled {
         image,
@@ -48,7 +48,7 @@ fn with_end<'a>(text: &'a [u8], line: &[u8]) -> &'a [u8]
 // Writes the lines of a text that have a line end, each with it.
 fn write_ended<K: Sink>(out: &mut K, text: &[u8]) -> Result<(), Failed>
     ensures { WritesLines (K.output out.old) (K.output out.new)
-        (ended_lines (parted 10 text.now)) result }
+        (whole_lines (pieces_of 10 text.now)) result }
 {
     let mut rest = text;
     'lines: while let Some((line, after)) = cut(rest, b'\n') {
@@ -61,7 +61,7 @@ fn write_ended<K: Sink>(out: &mut K, text: &[u8]) -> Result<(), Failed>
 // Writes a text line by line, and answers.
 fn answer_text<K: Sink>(out: &mut K, text: &[u8]) -> Answer
     ensures writes { Writes result.status (K.output out.old) (K.output out.new)
-        (lines_alone Done (ended_lines (parted 10 text.now))) result }
+        (lines_alone Done (whole_lines (pieces_of 10 text.now))) result }
     ensures ticks { result.ticks ≡ 0 }
 {
     match write_ended(out, text) {
@@ -78,7 +78,7 @@ fn answer_text<K: Sink>(out: &mut K, text: &[u8]) -> Answer
 pub fn answer_object<K: Sink>(alloc: Global, program: &Image, out: &mut K) -> Answer
     requires { IsProgram program.now }
     ensures writes { Writes result.status (K.output out.old) (K.output out.new)
-        (lines_alone Done (object_lines program.now)) result }
+        (lines_alone Done (object_text_lines program.now)) result }
     ensures ticks { result.ticks ≡ 0 }
 {
     match write_object(alloc, program) {
@@ -94,7 +94,8 @@ pub fn answer_deck<K: Sink>(
     out: &mut K,
 ) -> Result<Answer, LayerError>
     requires { IsProgram program.now }
-    ensures { Ends (K.output out.old) (K.output out.new) (disassembled_by (Ok program.now)) [] result }
+    ensures { Ends (K.output out.old) (K.output out.new)
+        (disassembled_by (Ok program.now)) [] result }
 {
     let deck = disassemble(
         alloc,

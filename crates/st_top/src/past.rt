@@ -1,4 +1,5 @@
-//! A second machine beside a run: it makes the same run by itself, and the last steps can be undone.
+//! A second machine beside a run: it makes the same run by itself, and the last steps can be
+//! undone.
 ghost use Rattle.std.specs.Prelude.{
   ◌≡◌,
   ◌+◌,
@@ -21,7 +22,7 @@ ghost use Rattle.st_run.specs.Run as run;
 ghost use Rattle.st_exec.specs.Transfer.{all_stored, read_in as read_in_of};
 ghost use Rattle.st_exec.specs.Step.{rests};
 ghost use Rattle.st_back.specs.Steps.{states_before};
-ghost use Rattle.st_top.specs.Beside.{IsFresh, IsReady, IsMoved, IsStepped, IsBeside, HasRun, StandsAtStart, StandsAtEnd};
+ghost use Rattle.st_top.specs.Beside.{IsFreshStep, IsBesideReady, IsMoved, IsStepped, IsBeside, HasMadeRun, StandsAtStart, StandsAtEnd};
 
 use crate::scene::{Scene, take_due_signals, take_signals_at_rest};
 use st_back::Back;
@@ -33,11 +34,13 @@ use st_state::{Device, State};
 /// A machine beside a run, and its last steps, which can be undone.
 pub type Past<'a> = (Scene<'a>, Back);
 
-// Puts the words of a card into the eight words from the word address `w` on, each noted with the newest step.
+// Puts the words of a card into the eight words from the word address `w` on, each noted with the
+// newest step.
 fn put_card(steps: &mut Back, machine: &mut State, w: u32, card: &[u64; 8])
     requires above { 32 ≤ w }
     requires inside { w + 8 ≤ words_of_storage }
-    requires fresh { IsFresh steps.old.kept }
+    requires fresh { IsFreshStep steps.old.kept }
+
     ensures state { machine.new ≡ all_stored machine.old w card.now }
     ensures depth { steps.new.depth ≡ steps.old.depth }
     ensures states { states_before steps.new.kept machine.new
@@ -48,10 +51,11 @@ fn put_card(steps: &mut Back, machine: &mut State, w: u32, card: &[u64; 8])
     }
 }
 
-// The order of the reader takes effect, as `st_exec::read_in` says, and the words of the card are noted.
+// The order of the reader takes effect, as `st_exec::read_in` says, and the words of the card are
+// noted.
 fn read_noted(steps: &mut Back, machine: &mut State, card: Option<[u64; 8]>)
     requires order { IsSome machine.old.reader }
-    requires fresh { IsFresh steps.old.kept }
+    requires fresh { IsFreshStep steps.old.kept }
     ensures state { IfSome machine.old.reader
         (λ order. machine.new ≡ read_in_of machine.old order.word card) }
     ensures depth { steps.new.depth ≡ steps.old.depth }
@@ -72,7 +76,7 @@ fn read_noted(steps: &mut Back, machine: &mut State, card: Option<[u64; 8]>)
 
 // The signals that are due come.
 fn move_by_due_signals(scene: &mut Scene, steps: &Back)
-    requires { IsReady (scene.old, steps.now) }
+    requires { IsBesideReady (scene.old, steps.now) }
     ensures { IsMoved (scene.old, steps.now) (scene.new, steps.now)
         (run.with_due_signals scene.old.machine scene.old.signals scene.old.cards) }
 {
@@ -82,7 +86,7 @@ fn move_by_due_signals(scene: &mut Scene, steps: &Back)
 
 // Signals come as long as the machine is at rest.
 fn move_by_signals_at_rest(scene: &mut Scene, steps: &Back)
-    requires { IsReady (scene.old, steps.now) }
+    requires { IsBesideReady (scene.old, steps.now) }
     ensures { IsMoved (scene.old, steps.now) (scene.new, steps.now)
         (run.with_signals_at_rest scene.old.machine scene.old.signals scene.old.cards) }
 {
@@ -92,7 +96,7 @@ fn move_by_signals_at_rest(scene: &mut Scene, steps: &Back)
 
 // The reader's order takes effect, if it has one.
 fn serve_reader(scene: &mut Scene, steps: &mut Back)
-    requires { IsReady (scene.old, steps.old) }
+    requires { IsBesideReady (scene.old, steps.old) }
     ensures { IsMoved (scene.old, steps.old) (scene.new, steps.new)
         (run.with_reader scene.old.machine.reader scene.old).scene }
 {
@@ -105,7 +109,7 @@ fn serve_reader(scene: &mut Scene, steps: &mut Back)
 
 // The printer's order takes effect, if it has one. Nothing is printed.
 fn serve_printer(scene: &mut Scene, steps: &Back)
-    requires { IsReady (scene.old, steps.now) }
+    requires { IsBesideReady (scene.old, steps.now) }
     ensures { IsMoved (scene.old, steps.now) (scene.new, steps.now)
         (run.with_printer scene.old.machine.printer scene.old).scene }
 {
@@ -118,7 +122,7 @@ fn serve_printer(scene: &mut Scene, steps: &Back)
 
 // The reader's order takes effect, if it is due.
 fn serve_due_reader(scene: &mut Scene, steps: &mut Back)
-    requires { IsReady (scene.old, steps.old) }
+    requires { IsBesideReady (scene.old, steps.old) }
     ensures { IsMoved (scene.old, steps.old) (scene.new, steps.new)
         (run.with_reader (run.if_due scene.old.machine.done scene.old.machine.reader)
         scene.old).scene }
@@ -130,7 +134,7 @@ fn serve_due_reader(scene: &mut Scene, steps: &mut Back)
 
 // The printer's order takes effect, if it is due.
 fn serve_due_printer(scene: &mut Scene, steps: &Back)
-    requires { IsReady (scene.old, steps.now) }
+    requires { IsBesideReady (scene.old, steps.now) }
     ensures { IsMoved (scene.old, steps.now) (scene.new, steps.now)
         (run.with_printer (run.if_due scene.old.machine.done scene.old.machine.printer)
         scene.old).scene }
@@ -142,7 +146,7 @@ fn serve_due_printer(scene: &mut Scene, steps: &Back)
 
 // The orders that are due take effect, the reader's first.
 fn serve_due(scene: &mut Scene, steps: &mut Back)
-    requires { IsReady (scene.old, steps.old) }
+    requires { IsBesideReady (scene.old, steps.old) }
     ensures { IsMoved (scene.old, steps.old) (scene.new, steps.new)
         (run.with_due_orders scene.old).scene }
 {
@@ -152,7 +156,7 @@ fn serve_due(scene: &mut Scene, steps: &mut Back)
 
 // The order that is due earliest takes effect, if the machine is at rest.
 fn serve_at_rest(scene: &mut Scene, steps: &mut Back)
-    requires { IsReady (scene.old, steps.old) }
+    requires { IsBesideReady (scene.old, steps.old) }
     ensures { IsMoved (scene.old, steps.old) (scene.new, steps.new)
         (run.with_order_at_rest scene.old).scene }
 {
@@ -168,7 +172,7 @@ fn serve_at_rest(scene: &mut Scene, steps: &mut Back)
 
 // What ends a wait comes: orders, then signals.
 fn end_wait(scene: &mut Scene, steps: &mut Back)
-    requires { IsReady (scene.old, steps.old) }
+    requires { IsBesideReady (scene.old, steps.old) }
     ensures { IsMoved (scene.old, steps.old) (scene.new, steps.new)
         (run.with_wait scene.old).scene }
 {
@@ -177,10 +181,12 @@ fn end_wait(scene: &mut Scene, steps: &mut Back)
     move_by_signals_at_rest(scene, steps);
 }
 
-// What comes between two steps: signals and orders that are due, and what ends a wait. Nothing is printed.
+// What comes between two steps: signals and orders that are due, and what ends a wait. Nothing is
+// printed.
 fn settle(scene: &mut Scene, steps: &mut Back)
-    requires { IsReady (scene.old, steps.old) }
-    ensures { IsMoved (scene.old, steps.old) (scene.new, steps.new) (run.interlude scene.old).scene }
+    requires { IsBesideReady (scene.old, steps.old) }
+    ensures { IsMoved (scene.old, steps.old) (scene.new, steps.new)
+        (run.interlude scene.old).scene }
 {
     move_by_due_signals(scene, steps);
     serve_due(scene, steps);
@@ -190,7 +196,7 @@ fn settle(scene: &mut Scene, steps: &mut Back)
 // Makes the next step of a machine that is not at rest.
 fn step(scene: &mut Scene, steps: &mut Back)
     requires few { scene.old.machine.done < 2 ^ 63 }
-    requires ready { IsReady (scene.old, steps.old) }
+    requires ready { IsBesideReady (scene.old, steps.old) }
     ensures { rests scene.old.machine ≡ false
         → IsStepped (scene.old, steps.old) (scene.new, steps.new) }
 {
@@ -208,10 +214,10 @@ fn is_resting(scene: &Scene) -> bool
 fn run_to_end(scene: &mut Scene, steps: &mut Back, budget: u64)
     requires fresh { scene.old.machine.done ≡ 0 }
     requires limit { budget ≤ MOST_INSTRUCTIONS }
-    requires ready { IsReady (scene.old, steps.old) }
+    requires ready { IsBesideReady (scene.old, steps.old) }
     ensures end { (depth : ℕ) → IsBeside depth (scene.old, steps.old) []
-        → HasRun depth budget scene.old (scene.new, steps.new) }
-    ensures ready { IsReady (scene.new, steps.new) }
+        → HasMadeRun depth budget scene.old (scene.new, steps.new) }
+    ensures ready { IsBesideReady (scene.new, steps.new) }
 {
     let mut left = budget;
     'running: loop {
@@ -231,10 +237,10 @@ fn run_to_end(scene: &mut Scene, steps: &mut Back, budget: u64)
 pub fn run_beside(past: &mut Option<Past>, budget: u64)
     requires fresh { IfSome past.old (λ b. b.0.machine.done ≡ 0) }
     requires limit { budget ≤ MOST_INSTRUCTIONS }
-    requires ready { IfSome past.old IsReady }
+    requires ready { IfSome past.old IsBesideReady }
     ensures end { (back : ℕ) (start : run.Scene) → StandsAtStart back start past.old
         → StandsAtEnd back budget start past.new }
-    ensures ready { IfSome past.new IsReady }
+    ensures ready { IfSome past.new IsBesideReady }
 {
     if let Some(past) = past.as_mut() {
         run_to_end(&mut past.0, &mut past.1, budget);
@@ -254,7 +260,7 @@ fn undo_all(steps: &mut Back, machine: &mut State)
 
 /// Undoes all steps that are kept, and tells how many they were.
 pub fn rewind(scene: &mut Scene, steps: &mut Back) -> u8
-    requires { IsReady (scene.old, steps.old) }
+    requires { IsBesideReady (scene.old, steps.old) }
     ensures count { result ≡ length steps.old.kept }
     ensures state { scene.new.machine ∷ [] ≡ take 1
         (states_before steps.old.kept scene.old.machine ++ scene.old.machine ∷ []) }

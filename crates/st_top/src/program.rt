@@ -6,7 +6,7 @@ ghost use Rattle.st_asm.specs.Assembly.{assembly};
 ghost use Rattle.st_top.specs.Command.{command_of, IsWithinCards};
 ghost use Rattle.st_top.specs.CommandLine.{is_plain};
 ghost use Rattle.st_top.specs.declared.command.Command.TheVariants.{Assemble, Load, Disassemble, Sweep};
-ghost use Rattle.st_top.specs.Output.{output_of, delays_of, ran_by, assembled_delays, soaked, soaked_delays};
+ghost use Rattle.st_top.specs.Output.{output_of, delays_of, ran_by, assembled_delays, soak_output, soaked_delays};
 ghost use Rattle.st_top.specs.Answers.{Did, Acted, IsAnswer, Writes, KeepsTime};
 ghost use Rattle.st_top.specs.Delays.{DelaysShowInMarksAlone};
 ghost use Rattle.st_top.specs.Layers.{Ends, Tries};
@@ -28,7 +28,8 @@ use std::alloc::Global;
 // The longest job, in bytes.
 const JOB_LIMIT: u32 = 2_000_000;
 
-// Assembles a job, made by a seed with a number of cards or not, and runs it. Its cards are cut once.
+// Assembles a job, made by a seed with a number of cards or not, and runs it. Its cards are cut
+// once.
 fn run_job<K: Sink>(
     alloc: Global,
     made: Option<(u64, u32)>,
@@ -51,7 +52,8 @@ fn run_job<K: Sink>(
 #[tactic(auto, using(crate::proofs::Times::keeps_still), unfolding(crate::specs::Output::output_of, crate::specs::Output::delays_of))]
 fn assemble_job<K: Sink>(alloc: Global, job: &[u8], out: &mut K) -> Result<Answer, LayerError>
     requires { length job.now < 2 ^ 32 }
-    ensures { Ends (K.output out.old) (K.output out.new) (output_of Assemble job.now) (delays_of Assemble job.now) result }
+    ensures { Ends (K.output out.old) (K.output out.new) (output_of Assemble job.now)
+        (delays_of Assemble job.now) result }
 {
     let program = assemble(alloc, job)?;
     Ok(answer_object(alloc, &image_of(program), out))
@@ -61,7 +63,8 @@ fn assemble_job<K: Sink>(alloc: Global, job: &[u8], out: &mut K) -> Result<Answe
 #[tactic(auto, unfolding(crate::specs::Output::output_of, crate::specs::Output::delays_of))]
 fn load_job<K: Sink>(alloc: Global, text: &[u8], out: &mut K) -> Result<Answer, LayerError>
     requires { length text.now ≤ 2000000 }
-    ensures { Ends (K.output out.old) (K.output out.new) (output_of Load text.now) (delays_of Load text.now) result }
+    ensures { Ends (K.output out.old) (K.output out.new) (output_of Load text.now)
+        (delays_of Load text.now) result }
 {
     let program = read_object(alloc, text)?;
     Ok(execute_loaded(alloc, &program, out))
@@ -71,7 +74,8 @@ fn load_job<K: Sink>(alloc: Global, text: &[u8], out: &mut K) -> Result<Answer, 
 #[tactic(auto, unfolding(crate::specs::Output::output_of, crate::specs::Output::delays_of))]
 fn disassemble_text<K: Sink>(alloc: Global, text: &[u8], out: &mut K) -> Result<Answer, LayerError>
     requires { length text.now ≤ 2000000 }
-    ensures { Ends (K.output out.old) (K.output out.new) (output_of Disassemble text.now) (delays_of Disassemble text.now) result }
+    ensures { Ends (K.output out.old) (K.output out.new) (output_of Disassemble text.now)
+        (delays_of Disassemble text.now) result }
 {
     let program = read_object(alloc, text)?;
     answer_deck(alloc, &program, out)
@@ -81,7 +85,8 @@ fn disassemble_text<K: Sink>(alloc: Global, text: &[u8], out: &mut K) -> Result<
 #[tactic(auto, unfolding(crate::specs::Output::output_of, crate::specs::Output::delays_of))]
 fn sweep_job<K: Sink>(alloc: Global, job: &[u8], out: &mut K) -> Result<Answer, LayerError>
     requires { length job.now < 2 ^ 32 }
-    ensures { Ends (K.output out.old) (K.output out.new) (output_of Sweep job.now) (delays_of Sweep job.now) result }
+    ensures { Ends (K.output out.old) (K.output out.new) (output_of Sweep job.now)
+        (delays_of Sweep job.now) result }
 {
     let program = assemble(alloc, job)?;
     Ok(execute_sweep(alloc, &program, out))
@@ -95,7 +100,7 @@ fn run_made<K: Sink>(
     out: &mut K,
 ) -> Result<Answer, LayerError>
     requires { cards ≤ 4000 }
-    ensures { Ends (K.output out.old) (K.output out.new) (soaked number cards)
+    ensures { Ends (K.output out.old) (K.output out.new) (soak_output number cards)
         (soaked_delays number cards) result }
 {
     let Ok(deck) = make_deck(alloc, number, cards) else {
@@ -105,7 +110,8 @@ fn run_made<K: Sink>(
     run_job(alloc, made, deck.as_slice(), out)
 }
 
-// Does what a command asks for on a job that was read, as far as no layer refuses it. `soak` does not look at the job.
+// Does what a command asks for on a job that was read, as far as no layer refuses it. `soak` does
+// not look at the job.
 #[tactic(auto, unfolding(crate::specs::Output::output_of, crate::specs::Output::delays_of))]
 fn try_job<K: Sink>(
     alloc: Global,
@@ -164,7 +170,7 @@ fn answer<S: Source, K: Sink>(alloc: Global, command: Command, job: &mut S, out:
 fn answer_made<K: Sink>(alloc: Global, number: u64, cards: u32, out: &mut K) -> Answer
     requires { cards ≤ 4000 }
     ensures writes { Writes result.status (K.output out.old) (K.output out.new)
-        (soaked number cards) result }
+        (soak_output number cards) result }
     ensures in_time { KeepsTime (soaked_delays number cards) result }
 {
     match run_made(alloc, number, cards, out) {
@@ -189,14 +195,15 @@ fn act<S: Source, K: Sink>(alloc: Global, command: Command, job: &mut S, out: &m
     }
 }
 
-/// Does what the words of the command line, after the program's name, ask for, on a job of at most 2,000,000
-/// bytes. `run` assembles it, runs it and writes its report; `assemble` assembles it and writes its object text;
-/// `load` takes it as an object text, runs that and writes its report; `disassemble` takes it as an object text and
-/// writes its deck; `sweep` assembles it, runs it with an empty reader on machines of one to eight levels, and writes the
-/// ticks of each run. `soak` reads no job: it makes the deck of a seed and a number of cards, and does with it what `run`
-/// does, behind a line that names them. Each line is written by itself, and all memory is taken before the first one.
-/// Lines that are not of the timetable are the same under every list of delays (`docs/report.md`, "What depends on the
-/// delays").
+/// Does what the words of the command line, after the program's name, ask for, on a job of at most
+/// 2,000,000 bytes. `run` assembles it, runs it and writes its report; `assemble` assembles it and
+/// writes its object text; `load` takes it as an object text, runs that and writes its report;
+/// `disassemble` takes it as an object text and writes its deck; `sweep` assembles it, runs it with
+/// an empty reader on machines of one to eight levels, and writes the ticks of each run. `soak`
+/// reads no job: it makes the deck of a seed and a number of cards, and does with it what `run`
+/// does, behind a line that names them. Each line is written by itself, and all memory is taken
+/// before the first one. Lines that are not of the timetable are the same under every list of
+/// delays (`docs/report.md`, "What depends on the delays").
 #[tactic(auto, using(st_bits::specs::Storage::words_of_storage_is, crate::proofs::Delayed::delays_show_in_marks_alone))]
 pub fn stretch<S: Source, K: Sink>(
     alloc: Global,
@@ -204,21 +211,22 @@ pub fn stretch<S: Source, K: Sink>(
     job: &mut S,
     out: &mut K,
 ) -> Answer
-    // By the meaning of the words and the status: what was read, exactly what was written, and how many ticks that took at
-    // most.
+    // By the meaning of the words and the status: what was read, exactly what was written, and how
+    // many ticks that took at most.
     ensures answer { IsAnswer (command_of (map string_bytes words.now))
         (S.input job.old) (S.input job.new) (K.output out.old) (K.output out.new) result }
 
-    // A bad command line is one of words that mean nothing. One with a word that is empty or begins with `-`, one
-    // without words and one of more than three words are always called so.
+    // A bad command line is one of words that mean nothing. One with a word that is empty or begins
+    // with `-`, one without words and one of more than three words are always called so.
     ensures usage { result.status ≡ Status.Usage → command_of (map string_bytes words.now) ≡ None }
     ensures plain { list_all is_plain (map string_bytes words.now) ≡ false
         → result.status ≡ Status.Usage }
     ensures some { length words.now ≡ 0 → result.status ≡ Status.Usage }
     ensures few { 3 < length words.now → result.status ≡ Status.Usage }
 
-    // Whatever was asked for: which of the lines that a command writes depend on the delays of storage, and that two jobs, or two
-    // object texts, that differ in their delays alone have all others in common.
+    // Whatever was asked for: which of the lines that a command writes depend on the delays of
+    // storage, and that two jobs, or two object texts, that differ in their delays alone have all
+    // others in common.
     ensures delays { DelaysShowInMarksAlone }
 {
     match read_words(alloc, words) {

@@ -4,7 +4,7 @@ ghost use Rattle.st_card.specs.Faults.{name_of};
 ghost use Rattle.st_io.specs.Lines.{WritesLines};
 ghost use Rattle.st_report.specs.Line.{fault_line};
 ghost use Rattle.st_top.specs.Answers.{Writes};
-ghost use Rattle.st_top.specs.Output.{refused};
+ghost use Rattle.st_top.specs.Output.{refusal_output};
 
 use crate::answer::{Answer, Status};
 use crate::block::put;
@@ -23,7 +23,7 @@ fn write_refusal<K: Sink>(out: &mut K, card: u32, fault: Fault) -> Result<(), Fa
 /// Refuses a job at a card.
 pub fn refuse<K: Sink>(out: &mut K, card: u32, fault: Fault) -> Answer
     ensures writes { Writes result.status (K.output out.old) (K.output out.new)
-        (refused (record { card = card; fault = fault })) result }
+        (refusal_output (record { card = card; fault = fault })) result }
     ensures ticks { result.ticks ≡ 0 }
 {
     match write_refusal(out, card, fault) {

@@ -6,10 +6,10 @@ ghost use Rattle.st_card.specs.Limits.{is_part};
 ghost use Rattle.st_run.specs.Run.{Scene as SceneOf};
 ghost use Rattle.st_io.specs.Lines.{WritesLines};
 ghost use Rattle.st_report.specs.Line.{back_line};
-ghost use Rattle.st_run.specs.Told.{told};
+ghost use Rattle.st_run.specs.Told.{told_of_events};
 ghost use Rattle.st_top.specs.Report.{block};
-ghost use Rattle.st_top.specs.StepsBack.{states, back_lines, last_state, timed, end_of, run_report};
-ghost use Rattle.st_top.specs.Beside.{IsReady, StandsAtStart, StandsAtEnd};
+ghost use Rattle.st_top.specs.StepsBack.{states, lines_of_steps_back, last_state, events_of_run, moment_at_end, run_report};
+ghost use Rattle.st_top.specs.Beside.{IsBesideReady, StandsAtStart, StandsAtEnd};
 ghost use Rattle.st_top.specs.Running.{WritesEvents};
 
 use crate::block::put;
@@ -55,11 +55,11 @@ fn write_back<K: Sink>(
     controls: &Controls,
 ) -> Result<(), Failed>
     requires parts { AllPass is_part controls.now.dumps }
-    requires ready { IfSome past.old IsReady }
+    requires ready { IfSome past.old IsBesideReady }
     ensures { (start : SceneOf)
         → StandsAtEnd controls.now.back controls.now.budget start past.old
         → WritesLines (K.output out.old) (K.output out.new)
-        (back_lines controls.now (states controls.now.budget start) (last_state controls.now start)) result }
+        (lines_of_steps_back controls.now (states controls.now.budget start) (last_state controls.now start)) result }
 {
     let Some(past) = past.as_mut() else {
         return Ok(());
@@ -85,17 +85,17 @@ fn write_past<K: Sink>(
     requires limit { controls.now.budget ≤ MOST_INSTRUCTIONS }
     requires parts { AllPass is_part controls.now.dumps }
     requires fresh { IfSome past.old (λ b. b.0.machine.done ≡ 0) }
-    requires ready { IfSome past.old IsReady }
+    requires ready { IfSome past.old IsBesideReady }
     ensures { (start : SceneOf) → StandsAtStart controls.now.back start past.old
         → WritesLines (K.output out.old) (K.output out.new)
-        (back_lines controls.now (states controls.now.budget start) (last_state controls.now start)) result }
+        (lines_of_steps_back controls.now (states controls.now.budget start) (last_state controls.now start)) result }
 {
     run_beside(past, budget(controls));
     write_back(out, past, controls)
 }
 
-/// Writes the report of a run from its start: what is told, and then the state before the end that is asked for. After a
-/// failed write `moment` is that of the line, else that of the end.
+/// Writes the report of a run from its start: what is told, and then the state before the end that
+/// is asked for. After a failed write `moment` is that of the line, else that of the end.
 pub fn write_report<K: Sink>(
     out: &mut K,
     run: &mut Run<'_, LEVELS>,
@@ -106,11 +106,11 @@ pub fn write_report<K: Sink>(
     requires limit { controls.now.budget ≤ MOST_INSTRUCTIONS }
     requires parts { AllPass is_part controls.now.dumps }
     requires fresh { IfSome past.old (λ b. b.0.machine.done ≡ 0) }
-    requires ready { IfSome past.old IsReady }
-    ensures { (start : SceneOf) → run.old.rest ≡ told (timed controls.now start)
+    requires ready { IfSome past.old IsBesideReady }
+    ensures { (start : SceneOf) → run.old.rest ≡ told_of_events (events_of_run controls.now start)
         → StandsAtStart controls.now.back start past.old
         → WritesEvents (K.output out.old) (K.output out.new) (run_report controls.now start)
-        (end_of controls.now start) moment.new result }
+        (moment_at_end controls.now start) moment.new result }
 {
     write_run(out, run, moment, controls)?;
     write_past(out, past, controls)

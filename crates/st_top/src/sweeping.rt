@@ -2,7 +2,7 @@
 ghost use Rattle.std.specs.Prelude.{◌≡◌, ◌+◌, ◌≤◌, ◌<◌, ◌^◌, ℕ, Ok, None, [], ◌∷◌, IfOk, IfSome, MatchOption, length, slice_index};
 ghost use Rattle.st_bits.specs.Storage.{words_of_storage};
 ghost use Rattle.st_bits.specs.declared.register.TheConstants.{FIRST_STORAGE_WORD};
-ghost use Rattle.st_asm.specs.Assembly.{shown};
+ghost use Rattle.st_asm.specs.Assembly.{assembly_parts};
 ghost use Rattle.st_asm.specs.Sound.{IsImage};
 ghost use Rattle.st_card.specs.Limits.{IsWithinLimits};
 ghost use Rattle.st_io.specs.Lines.{WritesLines};
@@ -48,11 +48,12 @@ fn write_levels<K: Sink>(out: &mut K, n: u8, ticks: &[u64]) -> Result<(), Failed
     write_levels(out, n + 1, more)
 }
 
-// Writes the line that says whether a run is calm.
-fn write_calm<K: Sink>(out: &mut K, calm: bool) -> Result<(), Failed>
-    ensures { WritesLines (K.output out.old) (K.output out.new) (calm_line calm ∷ []) result }
+// Writes the line that says whether a run is hazard-free.
+fn write_calm<K: Sink>(out: &mut K, hazard_free: bool) -> Result<(), Failed>
+    ensures { WritesLines (K.output out.old) (K.output out.new)
+        (calm_line hazard_free ∷ []) result }
 {
-    put(out, &line_calm(calm))
+    put(out, &line_calm(hazard_free))
 }
 
 // Writes the lines of a sweep.
@@ -60,7 +61,7 @@ fn write_sweep<K: Sink>(out: &mut K, swept: Swept) -> Result<(), Failed>
     ensures { WritesLines (K.output out.old) (K.output out.new) (sweep_lines swept) result }
 {
     write_levels(out, 1, &swept.ticks)?;
-    write_calm(out, swept.calm)
+    write_calm(out, swept.hazard_free)
 }
 
 // Writes the lines of a sweep, and answers by the run on eight levels.
@@ -102,6 +103,7 @@ fn sweep_image(
     requires limits { IsWithinLimits controls.now }
     requires budget { 1 ≤ controls.now.budget }
     requires delays { 1 ≤ length controls.now.delays }
+
     ensures value { IfOk result (λ swept. swept ≡ sweep_of image.now start controls.now) }
     ensures scene { IsScene (sweep_start image.now start controls.now) }
 {
@@ -115,7 +117,8 @@ fn sweep_image(
     )
 }
 
-/// Runs a job that is assembled on machines of one to eight levels, and writes the lines of the sweep.
+/// Runs a job that is assembled on machines of one to eight levels, and writes the lines of the
+/// sweep.
 #[tactic(auto, using(st_bits::specs::Storage::words_of_storage_is, crate::proofs::Times::keeps_still))]
 pub fn execute_sweep<K: Sink>(alloc: Global, program: &Assembled, out: &mut K) -> Answer
     requires image { IsImage program.now.image.items }
@@ -123,8 +126,9 @@ pub fn execute_sweep<K: Sink>(alloc: Global, program: &Assembled, out: &mut K) -
     requires limits { IsWithinLimits program.now.controls }
     requires budget { 1 ≤ program.now.controls.budget }
     requires delays { 1 ≤ length program.now.controls.delays }
+
     ensures writes { Writes result.status (K.output out.old) (K.output out.new)
-        (swept_by (Ok (shown program.now))) result }
+        (swept_by (Ok (assembly_parts program.now))) result }
     ensures in_time { KeepsTime program.now.controls.delays result }
 {
     let words = program.image.as_slice();

@@ -4,9 +4,9 @@ ghost use Rattle.std.specs.List.{AllPass};
 ghost use Rattle.st_card.specs.Limits.{is_part};
 ghost use Rattle.st_io.specs.Lines.{WritesLines};
 ghost use Rattle.st_report.specs.Line.{trc_line, row_line, drop_line, prt_line, int_line, time_line, snap_line as snap_line_of, lev_line, end_line, done_line, ticks_line};
-ghost use Rattle.st_time.specs.Shown.{standing, change_of};
+ghost use Rattle.st_time.specs.Shown.{levels_standing, change_shown};
 ghost use Rattle.st_run.specs.Events.{Level};
-ghost use Rattle.st_run.specs.Telling.{AreLevels, what_told};
+ghost use Rattle.st_run.specs.Telling.{AreLevelsShown, what_told};
 ghost use Rattle.st_top.specs.Report.{block, line_if, done_lines, interrupt_lines, snapshot_lines, end_lines, lines_told, report};
 ghost use Rattle.st_top.specs.Running.{WritesEvents, WritesNothing, last_moment, views_lines};
 
@@ -20,7 +20,7 @@ use st_report::{
     LineFromEnd, fill_trc, line_done, line_drop, line_end, line_int, line_prt, line_ticks,
     line_time,
 };
-use st_run::{Run, Seen, Told, What};
+use st_run::{Run, RunEvent, Seen, TimedRunEvent};
 use st_time::{fill_chart, level_line, snap_line};
 
 /// Writes the state block, with the dumps that are asked for.
@@ -53,7 +53,8 @@ fn is_timed(controls: &Controls) -> bool
     controls.time
 }
 
-// Writes the line of an instruction that is done, where a trace is asked for. It is put together in `line`.
+// Writes the line of an instruction that is done, where a trace is asked for. It is put together in
+// `line`.
 #[tactic(auto, using(st_io::proofs::Progress::wrote_nothing))]
 fn write_trace<K: Sink>(
     out: &mut K,
@@ -168,7 +169,7 @@ fn write_interrupt<K: Sink>(
 // Writes the line of a snapshot.
 fn write_snap<K: Sink>(out: &mut K, at: u64, done: u64, view: &View) -> Result<(), Failed>
     ensures { WritesLines (K.output out.old) (K.output out.new)
-        (snap_line_of at done (standing view.now.levels) ∷ []) result }
+        (snap_line_of at done (levels_standing view.now.levels) ∷ []) result }
 {
     let view = View {
         tick: at,
@@ -182,7 +183,7 @@ fn write_snap<K: Sink>(out: &mut K, at: u64, done: u64, view: &View) -> Result<(
 #[tactic(auto, unfolding(crate::specs::Running::views_lines))]
 fn first_level(levels: &[Option<LevelView>]) -> Option<(LevelView, &[Option<LevelView>])>
     ensures lines { MatchOption result (views_lines levels.now ≡ []) (λ r. views_lines levels.now
-        ≡ lev_line r.0.address (change_of r.0) r.0.ready ∷ views_lines r.1.now) }
+        ≡ lev_line r.0.address (change_shown r.0) r.0.ready ∷ views_lines r.1.now) }
     ensures fewer { IfSome result (λ r. length r.1.now < length levels.now) }
 {
     match levels {
@@ -213,7 +214,7 @@ fn write_snapshot<K: Sink>(
     controls: &Controls,
 ) -> Result<(), Failed>
     requires { AllPass is_part controls.now.dumps }
-    ensures { (ahead : List Level) → AreLevels view.now.levels ahead
+    ensures { (ahead : List Level) → AreLevelsShown view.now.levels ahead
         → WritesLines (K.output out.old) (K.output out.new)
         (snapshot_lines controls.now done at seen.now ahead) result }
 {
@@ -222,7 +223,8 @@ fn write_snapshot<K: Sink>(
     write_levels(out, &view.levels)
 }
 
-// Writes the snapshot that a run shows. It is apart, so that what is told without one makes no room for a view.
+// Writes the snapshot that a run shows. It is apart, so that what is told without one makes no room
+// for a view.
 #[inline(never)]
 fn write_shown<K: Sink, const N: usize>(
     out: &mut K,
@@ -283,7 +285,7 @@ fn write_end<K: Sink>(
 }
 
 // The moment of what is told.
-fn moment_of(told: &Told) -> Moment
+fn moment_of(told: &TimedRunEvent) -> Moment
     ensures { result ≡ record { done = told.now.done; tick = told.now.tick } }
 {
     Moment {
@@ -292,14 +294,15 @@ fn moment_of(told: &Told) -> Moment
     }
 }
 
-// Writes the lines of what a run has just told. Those of an entry that is done are put together in `line`.
+// Writes the lines of what a run has just told. Those of an entry that is done are put together in
+// `line`.
 #[tactic(auto, using(st_io::proofs::Progress::wrote_nothing))]
 fn write_told<K: Sink, const N: usize>(
     out: &mut K,
     line: &mut LineFromEnd,
     run: &Run<'_, N>,
     moment: Moment,
-    what: What,
+    what: RunEvent,
     controls: &Controls,
 ) -> Result<(), Failed>
     requires { AllPass is_part controls.now.dumps }
@@ -311,7 +314,7 @@ fn write_told<K: Sink, const N: usize>(
         })) result }
 {
     // Of an entry that is only counted nothing is written.
-    if let What::Done { .. } = what {
+    if let RunEvent::Done { .. } = what {
         if !is_traced(controls) {
             if !is_charted(controls) {
                 return Ok(());
@@ -319,7 +322,7 @@ fn write_told<K: Sink, const N: usize>(
         }
     }
     match what {
-        What::Done { address, p, r } => {
+        RunEvent::Done { address, p, r } => {
             let row = Row {
                 number: moment.done,
                 address,
@@ -329,15 +332,16 @@ fn write_told<K: Sink, const N: usize>(
             };
             write_done(out, line, row, controls)
         }
-        What::Dropped { address, p } => write_dropped(out, address, p, controls),
-        What::Printed => write_printed(out, run.printed()),
-        What::Interrupted(i) => write_interrupt(out, moment, i, &run.seen(), controls),
-        What::Shown(at) => write_shown(out, run, at, moment.done, controls),
-        What::Ended(rests) => write_end(out, moment, rests, &run.seen(), controls),
+        RunEvent::Dropped { address, p } => write_dropped(out, address, p, controls),
+        RunEvent::Printed => write_printed(out, run.printed()),
+        RunEvent::Interrupted(i) => write_interrupt(out, moment, i, &run.seen(), controls),
+        RunEvent::Shown(at) => write_shown(out, run, at, moment.done, controls),
+        RunEvent::Ended(rests) => write_end(out, moment, rests, &run.seen(), controls),
     }
 }
 
-// Passes over entries that are done and of which nothing is written. The moment is that of the last one.
+// Passes over entries that are done and of which nothing is written. The moment is that of the last
+// one.
 fn pass_counted<const N: usize>(run: &mut Run<'_, N>, moment: &mut Moment, controls: &Controls)
     ensures { WritesNothing controls.now moment.old run.old.rest moment.new run.new.rest }
 {
@@ -357,7 +361,7 @@ fn next_told<const N: usize>(
     run: &mut Run<'_, N>,
     moment: &mut Moment,
     controls: &Controls,
-) -> Option<Told>
+) -> Option<TimedRunEvent>
     ensures { MatchOption result (WritesNothing controls.now moment.old run.old.rest moment.new [])
         (λ t. WritesNothing controls.now moment.old run.old.rest moment.new (record {
           done = t.done;
@@ -369,8 +373,8 @@ fn next_told<const N: usize>(
     run.next()
 }
 
-/// Writes the report of all that a run still has to tell. After a failed write `moment` is that of the line, else that of
-/// the end.
+/// Writes the report of all that a run still has to tell. After a failed write `moment` is that of
+/// the line, else that of the end.
 pub fn write_run<K: Sink, const N: usize>(
     out: &mut K,
     run: &mut Run<'_, N>,

@@ -1,4 +1,5 @@
-//! The whole program over sources and sinks in memory that fail. What it answers and writes where none fails is compared in `vectors`.
+//! The whole program over sources and sinks in memory that fail. What it answers and writes where
+//! none fails is compared in `vectors`.
 use st_io::{MemSink, MemSource, Sink, Source};
 use st_top::{Answer, stretch};
 use std::alloc::Global;
@@ -7,7 +8,8 @@ use std::test::Fail;
 mod decks;
 mod devices;
 
-// Gives a word of the command line and a job to the program. It has no contract, so the tests do not carry that of the program.
+// Gives a word of the command line and a job to the program. It has no contract, so the tests do
+// not carry that of the program.
 fn answered<S: Source, K: Sink>(
     alloc: Global,
     word: &str,
@@ -18,7 +20,8 @@ fn answered<S: Source, K: Sink>(
     Ok(stretch(alloc, &words, job, out))
 }
 
-// Answers a job where the read and the write with these numbers fail, from 1 on (0 is none), and the sink has so much room.
+// Answers a job where the read and the write with these numbers fail, from 1 on (0 is none), and
+// the sink has so much room.
 fn answer_failing(
     alloc: Global,
     word: &str,

@@ -1,4 +1,5 @@
-//! The program: standard input, standard output and the words of the command line, handed to `stretch`.
+//! The program: standard input, standard output and the words of the command line, handed to
+//! `stretch`.
 #![tactic(auto)]
 
 use st_io::{NoWords, StdSink, StdSource, words};

@@ -48,8 +48,8 @@ fn each_read_that_fails_leaves_nothing_written(rt: HostRuntime) -> Result<(), Fa
     Ok(())
 }
 
-// A command, its job and what is written, and for groups of lines the number of instructions done when they are written: each
-// group ends before the line that it names, counted from 0.
+// A command, its job and what is written, and for groups of lines the number of instructions done
+// when they are written: each group ends before the line that it names, counted from 0.
 #[derive(Clone, Copy)]
 struct Written {
     word: &'static str,
@@ -107,7 +107,8 @@ const WRITTEN: [Written; 7] = [
     },
 ];
 
-// How many instructions are done when this line is written, counted from 0; None behind the last line.
+// How many instructions are done when this line is written, counted from 0; None behind the last
+// line.
 fn done_at(groups: &[(u32, u64)], line: u32) -> Option<u64> {
     for (end, done) in groups {
         if line < *end {
@@ -133,8 +134,8 @@ fn first_lines(alloc: Global, report: &str, lines: u32) -> Result<Vec<u8>, Fail>
     Ok(front)
 }
 
-// Lets the write of this line fail, counted from 0: the lines before it are written, or where there is none the whole
-// report. Says whether there is such a line.
+// Lets the write of this line fail, counted from 0: the lines before it are written, or where there
+// is none the whole report. Says whether there is such a line.
 fn fails_at_line(alloc: Global, run: &Written, line: u32) -> Result<bool, Fail>
     requires { line < 100 }
 {

@@ -1,6 +1,6 @@
 use Rattle.std.proofs.Common.{List, [], ◌∙◌, ap}
-use Rattle.st_rows.specs.Asked.{asked}
-use Rattle.st_rows.specs.Notes.{noted}
+use Rattle.st_rows.specs.Asked.{reads_of_entry}
+use Rattle.st_rows.specs.Notes.{log_after_reads}
 use Rattle.st_rows.specs.declared.entry.Entry.{Entry}
 use Rattle.st_rows.specs.declared.log.Made.{Made}
 use Rattle.st_segment.proofs.EntryRanges.{entry-ranges}
@@ -20,5 +20,5 @@ returns-clause-log c =
     let ds = c.args.delays.now in
     let f = c.args.last.now.front in
     c.next_row-row.ensures.log
-    ∙ ap (λ (l : List Made). noted ds (asked ds c.args.levels f c.plan_entry-planned.result.entry) f.bus l) c.clear.ensures
-    ∙ ap (λ (e : Entry). noted ds (asked ds c.args.levels f e) f.bus []) c.plan_entry-planned.ensures.entry
+    ∙ ap (λ (l : List Made). log_after_reads ds (reads_of_entry ds c.args.levels f c.plan_entry-planned.result.entry) f.bus l) c.clear.ensures
+    ∙ ap (λ (e : Entry). log_after_reads ds (reads_of_entry ds c.args.levels f e) f.bus []) c.plan_entry-planned.ensures.entry

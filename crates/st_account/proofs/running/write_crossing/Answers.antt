@@ -1,8 +1,8 @@
 use Rattle.std.proofs.Common.{ℕ, ◌+◌, [], ◌∷◌, ◌++◌, if◌then◌else◌, ◌∙◌, ap}
-use Rattle.st_rows.specs.Rows.{opening}
+use Rattle.st_rows.specs.Rows.{opening_front}
 use Rattle.st_rows.specs.declared.front.Front.{Front}
 use Rattle.st_account.specs.Lines.{start_line}
-use Rattle.st_account.specs.Text.{end_lines, state_lines}
+use Rattle.st_account.specs.Text.{segment_end_lines, state_lines}
 use Rattle.st_account.proofs.LineLemmas.{same_lines, cut_without, made_without, no_number}
 use Rattle.st_account.proofs.BorderLemmas.{front-is, after-is, border-lines}
 use Rattle.st_account.proofs.running.write_crossing.Goals as goal
@@ -13,14 +13,14 @@ pub returns-in_err-write_border-clause-lines : goal.returns-in_err-write_border-
 returns-in_err-write_border-clause-lines g c b m is_was is_printed is =
     let front = front-is m c.args.state.now c.args.last.now c.args.found.now.items c.args.banks c.args.card c.args.waited is c.interrupt-taken.result c.is_end-ends.result
     c.interrupt-taken.ensures.value c.is_end-ends.ensures c.open_if.new.last.front (c.open_if.ensures.front
-    ∙ ap (λ (d : ℕ). if c.is_end-ends.result then opening c.args.banks (c.args.last.now.tick + 1 + d) else c.args.last.now.front) c.len.ensures.value) in
+    ∙ ap (λ (d : ℕ). if c.is_end-ends.result then opening_front c.args.banks (c.args.last.now.tick + 1 + d) else c.args.last.now.front) c.len.ensures.value) in
     cut_without _ _ _ _ c.from_residual.result c.from_residual.ensures.0
     (same_lines _ _ _ _ _
-    (ap (λ xs. ((if c.is_end-ends.result then end_lines c.args.k c.args.last.now.tick c.row_number.result xs else [])
+    (ap (λ xs. ((if c.is_end-ends.result then segment_end_lines c.args.k c.args.last.now.tick c.row_number.result xs else [])
     ++ state_lines c.args.printed.now.items c.args.k c.args.last.now.enabled c.args.state.now c.interrupt-taken.result c.done_of.result)
     ++ (if c.either-begins.result then start_line (c.args.k + 1) c.open_if.new.last.front.c c.args.waited c.why_of-why.result ∷ [] else []))
     c.as_slice.ensures.value
-    ∙ ap (λ d. ((if c.is_end-ends.result then end_lines c.args.k c.args.last.now.tick c.row_number.result c.args.found.now.items else [])
+    ∙ ap (λ d. ((if c.is_end-ends.result then segment_end_lines c.args.k c.args.last.now.tick c.row_number.result c.args.found.now.items else [])
     ++ state_lines c.args.printed.now.items c.args.k c.args.last.now.enabled c.args.state.now c.interrupt-taken.result d)
     ++ (if c.either-begins.result then start_line (c.args.k + 1) c.open_if.new.last.front.c c.args.waited c.why_of-why.result ∷ [] else []))
     c.done_of.ensures
@@ -36,7 +36,7 @@ pub returns-in_err-write_border-clause-front : goal.returns-in_err-write_border-
 returns-in_err-write_border-clause-front g c m is =
     front-is m c.args.state.now c.args.last.now c.args.found.now.items c.args.banks c.args.card c.args.waited is c.interrupt-taken.result c.is_end-ends.result
     c.interrupt-taken.ensures.value c.is_end-ends.ensures c.open_if.new.last.front (c.open_if.ensures.front
-    ∙ ap (λ (d : ℕ). if c.is_end-ends.result then opening c.args.banks (c.args.last.now.tick + 1 + d) else c.args.last.now.front) c.len.ensures.value)
+    ∙ ap (λ (d : ℕ). if c.is_end-ends.result then opening_front c.args.banks (c.args.last.now.tick + 1 + d) else c.args.last.now.front) c.len.ensures.value)
 
 -- none fails
 
@@ -44,14 +44,14 @@ pub returns-clause-lines : goal.returns-clause-lines
 returns-clause-lines g c b m is_was is_printed is =
     let front = front-is m c.args.state.now c.args.last.now c.args.found.now.items c.args.banks c.args.card c.args.waited is c.interrupt-taken.result c.is_end-ends.result
     c.interrupt-taken.ensures.value c.is_end-ends.ensures c.open_if.new.last.front (c.open_if.ensures.front
-    ∙ ap (λ (d : ℕ). if c.is_end-ends.result then opening c.args.banks (c.args.last.now.tick + 1 + d) else c.args.last.now.front) c.len.ensures.value) in
+    ∙ ap (λ (d : ℕ). if c.is_end-ends.result then opening_front c.args.banks (c.args.last.now.tick + 1 + d) else c.args.last.now.front) c.len.ensures.value) in
     made_without {X = ℕ} _ _ _ _ c.next_number.result
     (same_lines _ _ _ _ _
-    (ap (λ xs. ((if c.is_end-ends.result then end_lines c.args.k c.args.last.now.tick c.row_number.result xs else [])
+    (ap (λ xs. ((if c.is_end-ends.result then segment_end_lines c.args.k c.args.last.now.tick c.row_number.result xs else [])
     ++ state_lines c.args.printed.now.items c.args.k c.args.last.now.enabled c.args.state.now c.interrupt-taken.result c.done_of.result)
     ++ (if c.either-begins.result then start_line (c.args.k + 1) c.open_if.new.last.front.c c.args.waited c.why_of-why.result ∷ [] else []))
     c.as_slice.ensures.value
-    ∙ ap (λ d. ((if c.is_end-ends.result then end_lines c.args.k c.args.last.now.tick c.row_number.result c.args.found.now.items else [])
+    ∙ ap (λ d. ((if c.is_end-ends.result then segment_end_lines c.args.k c.args.last.now.tick c.row_number.result c.args.found.now.items else [])
     ++ state_lines c.args.printed.now.items c.args.k c.args.last.now.enabled c.args.state.now c.interrupt-taken.result d)
     ++ (if c.either-begins.result then start_line (c.args.k + 1) c.open_if.new.last.front.c c.args.waited c.why_of-why.result ∷ [] else []))
     c.done_of.ensures
@@ -70,4 +70,4 @@ pub returns-clause-front : goal.returns-clause-front
 returns-clause-front g c m is =
     front-is m c.args.state.now c.args.last.now c.args.found.now.items c.args.banks c.args.card c.args.waited is c.interrupt-taken.result c.is_end-ends.result
     c.interrupt-taken.ensures.value c.is_end-ends.ensures c.open_if.new.last.front (c.open_if.ensures.front
-    ∙ ap (λ (d : ℕ). if c.is_end-ends.result then opening c.args.banks (c.args.last.now.tick + 1 + d) else c.args.last.now.front) c.len.ensures.value)
+    ∙ ap (λ (d : ℕ). if c.is_end-ends.result then opening_front c.args.banks (c.args.last.now.tick + 1 + d) else c.args.last.now.front) c.len.ensures.value)

@@ -9,7 +9,7 @@ use Rattle.st_asm.specs.Assembly.{Assembly}
 use Rattle.st_asm.specs.Forming.{form_pass, found_in}
 use Rattle.st_asm.specs.Naming.{name_pass, named_in}
 use Rattle.st_asm.specs.Valuing.{value_pass, laid_in}
-use Rattle.st_asm.specs.Sound.{IsLocation, IsSound}
+use Rattle.st_asm.specs.Sound.{IsLocation, IsAssemblySound}
 use Rattle.st_asm.specs.Kept.{IsLine}
 use Rattle.st_asm.specs.declared.line.Line.{Line}
 use Rattle.st_asm.proofs.KeptLemmas.{few-cards, form_pass-deck, name_pass-named, together-sound}
@@ -68,7 +68,7 @@ returns-clause-sound c =
       symbols = c.in_ok-names.names.symbols.items;
       asked = asked;
     } in
-    subst (λ (asked : Asked). IsSound (length (cards_of c.args.job.now)) (assembled asked))
+    subst (λ (asked : Asked). IsAssemblySound (length (cards_of c.args.job.now)) (assembled asked))
     (sym c.in_ok-controls.ensures.defaults) sound
 
 pub returns-clause-faultless : goal.returns-clause-faultless

@@ -1,13 +1,13 @@
 use Rattle.std.proofs.Common.{◌≡◌, length, All}
 use Rattle.st_card.specs.Cards.{IsCardOf}
 use Rattle.st_asm.specs.Pass.{pass}
-use Rattle.st_asm.specs.Forming.{form_card, found_in, unread}
+use Rattle.st_asm.specs.Forming.{form_card, found_in, found_at_start}
 use Rattle.st_asm.proofs.forming.read_cards.Given as goal
 
 abbrev pub invariant-cards : goal.invariant-cards
 invariant-cards l = record {
   same : pass (form_card l.job) (λ card. card.number) (found_in l.deck) l.rest
-      ≡ pass (form_card l.job) (λ card. card.number) unread l.cards;
+      ≡ pass (form_card l.job) (λ card. card.number) found_at_start l.cards;
   texts : All (IsCardOf l.job) l.rest;
 }
 

@@ -1,16 +1,16 @@
 use Rattle.std.proofs.Common.{◌≡◌, length, All}
 use Rattle.st_asm.specs.Pass.{pass}
 use Rattle.st_asm.specs.Symbols.{is_defined}
-use Rattle.st_asm.specs.Naming.{name_card, named_in, unnamed, IsKept}
+use Rattle.st_asm.specs.Naming.{name_card, named_in, naming_at_start, AreNamesKept}
 use Rattle.st_strap.specs.WellFormed.{IsWellFormedIfAny}
 use Rattle.st_asm.proofs.naming.name_lines.Given as goal
 
 abbrev pub invariant-lines : goal.invariant-lines
 invariant-lines l = record {
   same : pass (name_card (is_defined l.all)) (λ line. line.card) (named_in l.names) l.rest
-      ≡ pass (name_card (is_defined l.all)) (λ line. line.card) unnamed l.lines;
+      ≡ pass (name_card (is_defined l.all)) (λ line. line.card) naming_at_start l.lines;
   well : All (λ line. IsWellFormedIfAny line.statement) l.rest;
-  kept : IsKept l.names;
+  kept : AreNamesKept l.names;
 }
 
 abbrev pub decreases-lines : goal.decreases-lines

@@ -1,7 +1,7 @@
 use Rattle.std.proofs.Common.{◌≡◌, List, ℕ, Bool, subst}
 use Rattle.std.specs.Result.{IfErr}
 use Rattle.st_asm.specs.Answers.{Explains}
-use Rattle.st_asm.specs.Naming.{name_pass, name_card, unnamed}
+use Rattle.st_asm.specs.Naming.{name_pass, name_card, naming_at_start}
 use Rattle.st_asm.specs.Pass.{pass}
 use Rattle.st_asm.specs.Symbols.{has_name, is_defined, names_of}
 use Rattle.st_asm.proofs.naming.name_pass.Goals as goal
@@ -12,5 +12,5 @@ returns-clause-err c =
     let same : is_defined c.in-Ok.all ≡ has_name (names_of c.args.lines.now) = λ i name. c.in-Ok.ensures name i in
     subst
     (λ (test : List ℕ → Bool). IfErr c.name_lines.result
-    (Explains (pass (name_card test) (λ line. line.card) unnamed c.args.lines.now)))
+    (Explains (pass (name_card test) (λ line. line.card) naming_at_start c.args.lines.now)))
     same c.name_lines.ensures.err

@@ -1,5 +1,5 @@
 use Rattle.std.proofs.Common.{◌+◌, ◌*◌, ◌^◌, Bool, ap, sym, ◌∙◌, arith, if◌then◌else◌}
-use Rattle.st_asm.specs.Numbers.{field_of, magnitude, sign_byte}
+use Rattle.st_asm.specs.Numbers.{field_bits_of, magnitude, sign_byte_of}
 use Rattle.st_asm.proofs.FieldLemmas.{signed-parts}
 use Rattle.st_asm.proofs.numbers.field_of.Goals as goal
 
@@ -10,7 +10,7 @@ overflow_add-result c =
     omega (arith, parts.0, parts.2)
 
 pub returns-else-form-clause-bits : goal.returns-else-form-clause-bits
-unfolding field_of
+unfolding field_bits_of
 returns-else-form-clause-bits c =
     let parts = signed-parts c.args.form c.magnitude-magnitude.result c.sign_byte.result c.requires.form c.if-form.false
     c.magnitude-magnitude.ensures.below c.sign_byte.ensures.below in
@@ -18,7 +18,7 @@ returns-else-form-clause-bits c =
     ∙ (ap (λ m. m * 2 ^ c.args.form.byte + c.sign_byte.result) c.magnitude-magnitude.ensures.value
     ∙ (ap (λ s. magnitude c.args.form c.args.number * 2 ^ c.args.form.byte + s) c.sign_byte.ensures.value
     ∙ sym (ap (λ (b : Bool). if b then magnitude c.args.form c.args.number
-    else magnitude c.args.form c.args.number * 2 ^ c.args.form.byte + sign_byte c.args.form.byte c.args.minus) c.if-form.false)))
+    else magnitude c.args.form c.args.number * 2 ^ c.args.form.byte + sign_byte_of c.args.form.byte c.args.minus) c.if-form.false)))
 
 pub returns-else-form-clause-below : goal.returns-else-form-clause-below
 returns-else-form-clause-below c =

@@ -1,5 +1,5 @@
 use Rattle.std.proofs.Common.{refl, ◌∙◌, ap}
-use Rattle.st_back.specs.Undone.{undone}
+use Rattle.st_back.specs.Undone.{state_undone}
 use Rattle.st_back.proofs.StepLemmas.{entry-undone}
 use Rattle.st_back.proofs.RingLemmas.{fresh-sound}
 use Rattle.st_back.proofs.undoing.keep.Goals as goal
@@ -9,6 +9,6 @@ returns-clause-sound c = fresh-sound c.trail_of.result c.trail_of.ensures.fits
 
 pub returns-clause-undone : goal.returns-clause-undone
 returns-clause-undone c s ic is =
-    ap (undone _) is
+    ap (state_undone _) is
     ∙ entry-undone c.args.p.now c.args.state.now ic _ c.requires.prepared c.shape.ensures c.trail_of.ensures.keeps c.trail_of.ensures.fits refl
     c.trail_of.ensures.writes

@@ -1,6 +1,6 @@
 use Rattle.std.proofs.Common.{◌≡◌, ◌-◌, ◌++◌, List, length, ap, ◌∙◌, arith, length-append}
 use Rattle.st_card.specs.Cards.{cards_from}
-use Rattle.st_text.specs.Pieces.{parted}
+use Rattle.st_text.specs.Pieces.{pieces_of}
 use Rattle.st_card.specs.declared.cards.Card.{Card}
 use Rattle.st_card.proofs.CardLemmas.{cards_further, cards_done, cards_full, texts_further}
 use Rattle.st_text.proofs.FrontLemmas.{behind_behind, behind_itself}
@@ -11,8 +11,8 @@ lines-init c =
     let none : length c.args.job.now - length c.args.job.now ≡ 0 = omega arith in
     let nothing = ap (λ (x : List Card). length x) c.new-cards.ensures.items in
     record {
-      so_far = ap (λ (x : List Card). x ++ cards_from 1 (length c.args.job.now - length c.args.job.now) (parted 10 c.args.job.now)) c.new-cards.ensures.items
-          ∙ ap (λ k. cards_from 1 k (parted 10 c.args.job.now)) none;
+      so_far = ap (λ (x : List Card). x ++ cards_from 1 (length c.args.job.now - length c.args.job.now) (pieces_of 10 c.args.job.now)) c.new-cards.ensures.items
+          ∙ ap (λ k. cards_from 1 k (pieces_of 10 c.args.job.now)) none;
       counted = omega (arith, nothing);
       few = omega arith;
       behind = behind_itself c.args.job.now;

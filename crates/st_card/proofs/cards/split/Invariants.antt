@@ -1,12 +1,12 @@
 use Rattle.std.proofs.Common.{◌≡◌, ◌+◌, ◌-◌, ◌≤◌, ◌++◌, length, All}
 use Rattle.st_card.specs.Cards.{cards_from, IsCardOf}
-use Rattle.st_text.specs.Pieces.{parted, IsBehind}
+use Rattle.st_text.specs.Pieces.{pieces_of, IsBehind}
 use Rattle.st_card.proofs.cards.split.Given as goal
 
 abbrev pub invariant-lines : goal.invariant-lines
 invariant-lines l = record {
-  so_far : l.cards.items ++ cards_from l.number (length l.job - length l.rest) (parted 10 l.rest)
-      ≡ cards_from 1 0 (parted 10 l.job);
+  so_far : l.cards.items ++ cards_from l.number (length l.job - length l.rest) (pieces_of 10 l.rest)
+      ≡ cards_from 1 0 (pieces_of 10 l.job);
   counted : length l.cards.items + 1 ≡ l.number;
   few : l.number ≤ 20001;
   behind : IsBehind l.rest l.job;

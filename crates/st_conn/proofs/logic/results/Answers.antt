@@ -1,12 +1,12 @@
 use Rattle.std.proofs.Common.{sym, ◌∙◌, ap, arith}
 use Rattle.std.specs.Int.{bit_at}
-use Rattle.st_conn.specs.Connective.{connected, entry, result_at}
+use Rattle.st_conn.specs.Connective.{connective_bits, truth_bit, result_at}
 use Rattle.st_conn.proofs.TableRows.{bit_at-mod}
 use Rattle.st_conn.proofs.Weights.{by_weight-bits}
 use Rattle.st_conn.proofs.logic.results.Goals as goal
 
 pub returns-clause-each : goal.returns-clause-each
-unfolding connected
+unfolding connective_bits
 returns-clause-each c =
     sym
     (by_weight-bits
@@ -14,7 +14,7 @@ returns-clause-each c =
     c.low_bits.result
     c.args.n
     (λ j h.
-    ap (λ a. entry c.args.table (bit_at c.args.field j) a) (sym (c.bits_from.ensures j (omega arith)))
+    ap (λ a. truth_bit c.args.table (bit_at c.args.field j) a) (sym (c.bits_from.ensures j (omega arith)))
     ∙ sym (c.combined.ensures j (omega arith))
     ∙ sym (bit_at-mod c.combined.result c.args.n j h)
     ∙ ap (λ y. bit_at y j) (sym c.low_bits.ensures.value)))

@@ -3,13 +3,13 @@ use Rattle.std.proofs.lemmas.Nat.{or_lt, and_le_l, mod_below, pow_pos}
 use Rattle.std.proofs.Math.Nat.{mod-eq_of_lt}
 use Rattle.st_bits.specs.Bits.{num}
 use Rattle.st_bits.proofs.BitLists.{num-bits}
-use Rattle.st_conn.specs.Connective.{inserted, inserted_at}
+use Rattle.st_conn.specs.Connective.{accumulator_bits, inserted_at}
 use Rattle.st_conn.proofs.Weights.{by_weight-bits}
 use Rattle.st_conn.proofs.Places.{bit_at-put}
 use Rattle.st_conn.proofs.placement.put_acc.Goals as goal
 
 pub returns-clause-acc : goal.returns-clause-acc
-unfolding inserted
+unfolding accumulator_bits
 returns-clause-acc c =
     let kept = bit_and c.args.acc (2 ^ 128 - 1 - c.places.result) in
     let y = bit_or kept (c.args.bits * 2 ^ c.args.offset % 2 ^ 128) in

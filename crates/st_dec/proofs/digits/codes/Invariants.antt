@@ -1,11 +1,11 @@
 use Rattle.std.proofs.Common.{◌≡◌, ◌+◌, ◌-◌, ◌*◌, ◌^◌, ◌<◌}
-use Rattle.st_dec.specs.DigitLists.{joined}
+use Rattle.st_dec.specs.DigitLists.{number_of_bytes}
 use Rattle.st_dec.specs.DecimalOperand.{codes}
 use Rattle.st_dec.proofs.LoopLemmas.{codes_left}
 use Rattle.st_dec.proofs.digits.codes.Given as goal
 
 abbrev pub invariant-loop-place : goal.invariant-loop-place
 invariant-loop-place l = record {
-  left : l.codes + 2 ^ (4 * l.place) * codes_left l.shape.byte (l.place-end - l.place) l.rest ≡ joined 4 (codes l.f l.shape);
+  left : l.codes + 2 ^ (4 * l.place) * codes_left l.shape.byte (l.place-end - l.place) l.rest ≡ number_of_bytes 4 (codes l.f l.shape);
   below : l.codes < 2 ^ (4 * l.place);
 }

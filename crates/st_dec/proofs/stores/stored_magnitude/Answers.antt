@@ -1,4 +1,4 @@
-use Rattle.st_dec.specs.DecimalOperand.{digit_count, place, field_codes}
+use Rattle.st_dec.specs.DecimalOperand.{digit_count, last_digit_place, field_codes}
 use Rattle.st_dec.proofs.PartLemmas.{field-below, length-padded}
 use Rattle.st_dec.proofs.RecodeLemmas.{spread-joined}
 use Rattle.st_dec.proofs.stores.stored_magnitude.Goals as goal
@@ -6,4 +6,4 @@ use Rattle.st_dec.proofs.stores.stored_magnitude.Goals as goal
 pub returns-clause-value : goal.returns-clause-value
 returns-clause-value c =
     rw (c.spread.ensures.value, c.stored_zone.ensures.value)
-    (spread-joined _ _ _ _ (field_codes c.args.acc.now c.args.shape.now) (field-below (digit_count c.args.shape.now) (place c.args.shape.now) c.args.acc.now.mag) (length-padded (digit_count c.args.shape.now) _) c.field_codes.ensures)
+    (spread-joined _ _ _ _ (field_codes c.args.acc.now c.args.shape.now) (field-below (digit_count c.args.shape.now) (last_digit_place c.args.shape.now) c.args.acc.now.mag) (length-padded (digit_count c.args.shape.now) _) c.field_codes.ensures)

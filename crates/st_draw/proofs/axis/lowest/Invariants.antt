@@ -1,11 +1,11 @@
 -- The entries that are left decide with those before them.
 use Rattle.std.proofs.Common.{◌≡◌, ◌≤◌, ◌-◌, ◌^◌, min, length}
-use Rattle.st_draw.specs.Axis.{lowest}
+use Rattle.st_draw.specs.Axis.{lowest_tick}
 use Rattle.st_draw.proofs.axis.lowest.Given as goal
 
 abbrev pub invariant-entries : goal.invariant-entries
 invariant-entries l = record {
-  least : min l.low (lowest l.rest) ≡ lowest l.entries;
+  least : min l.low (lowest_tick l.rest) ≡ lowest_tick l.entries;
   fits : l.low ≤ 2 ^ 64 - 1;
 }
 

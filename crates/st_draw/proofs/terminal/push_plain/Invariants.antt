@@ -1,10 +1,10 @@
 -- The bytes that are left go behind those that stand.
 use Rattle.std.proofs.Common.{◌≡◌, ◌++◌, length}
-use Rattle.st_draw.specs.Terminal.{plain}
+use Rattle.st_draw.specs.Terminal.{plain_text}
 use Rattle.st_draw.proofs.terminal.push_plain.Given as goal
 
 abbrev pub invariant-bytes : goal.invariant-bytes
-invariant-bytes l = l.out.items ++ plain l.rest ≡ l.fn.out.items ++ plain l.text
+invariant-bytes l = l.out.items ++ plain_text l.rest ≡ l.fn.out.items ++ plain_text l.text
 
 abbrev pub decreases-bytes : goal.decreases-bytes
 decreases-bytes l = length l.rest

@@ -3,12 +3,12 @@ use Rattle.std.specs.List.{flat_map}
 use Rattle.std.proofs.lemmas.List.{take_all}
 use Rattle.st_text.specs.Bytes.{is_printable}
 use Rattle.st_text.specs.Blanks.{without_end_blanks}
-use Rattle.st_exch.specs.Printer.{characters_of, printed}
+use Rattle.st_exch.specs.Printer.{characters_of, line_of_words}
 use Rattle.st_exch.proofs.PrinterLemmas.{printed-printable}
 use Rattle.st_exch.proofs.printer.print_text.Goals as goal
 
 text_is : goal.returns-clause-text
-unfolding printed
+unfolding line_of_words
 text_is c =
     let whole = take_all c.loop-word.word-index c.args.words.now (omega arith) in
     c.drop_end_blanks.ensures.bytes

@@ -6,5 +6,5 @@ use Rattle.st_exec.proofs.completing.finish.Goals as goal
 pub count-requires-2-clause-few : goal.count-requires-2-clause-few
 count-requires-2-clause-few c =
     let same : c.carry_out.new.state.done ≡ c.args.state.now.done =
-    ap (λ (t : Machine). t.done) c.carry_out.ensures ∙ done-done c.deed_by-deed.result c.args.state.now in
+    ap (λ (t : Machine). t.done) c.carry_out.ensures ∙ done-done c.effect_by-effect.result c.args.state.now in
     omega arith

@@ -1,7 +1,7 @@
 use Rattle.std.proofs.Common.{◌≡◌}
-use Rattle.st_exec.specs.Deed.{exchanged}
+use Rattle.st_exec.specs.Effect.{state_with_exchange}
 use Rattle.st_exec.proofs.MoveLemmas.{rest}
 use Rattle.st_exec.proofs.transmission.exchange.Given as goal
 
 abbrev pub invariant-loop-k : goal.invariant-loop-k
-invariant-loop-k l = rest exchanged l.from l.to l.count l.k l.state ≡ exchanged l.from l.to l.count l.initial.state
+invariant-loop-k l = rest state_with_exchange l.from l.to l.count l.k l.state ≡ state_with_exchange l.from l.to l.count l.initial.state

@@ -1,15 +1,15 @@
 use Rattle.std.proofs.Common.{lit<, ℕ, ◌≡◌, ◌<◌, ◌≤◌, ◌+◌, ◌*◌, ◌%◌, ◌^◌, arith, refl, sym, ◌∙◌}
 use Rattle.std.proofs.Math.Nat.{pow-le-pow_right, mul-le-mul_right}
-use Rattle.st_field.specs.Digits.{value_of}
+use Rattle.st_field.specs.Digits.{value_of_digits}
 use Rattle.st_field.proofs.DigitLemmas.{value_of-next, rest-next, power_suc, value_of-bound, value_of-stop}
 use Rattle.st_field.proofs.digits.digits_value.Goals as goal
 
 pub loop-place-init : goal.loop-place-init
-unfolding value_of
+unfolding value_of_digits
 loop-place-init c = record { so_far = refl; left = omega arith; weight = refl }
 
 -- the sum of the digits so far and one more
-sum_fits : (d n v w rest : ℕ) → n < 32 → v ≡ value_of n d → w ≡ 10 ^ n → v + rest % 16 * w < 2 ^ 128
+sum_fits : (d n v w rest : ℕ) → n < 32 → v ≡ value_of_digits n d → w ≡ 10 ^ n → v + rest % 16 * w < 2 ^ 128
 sum_fits d n v w rest few is weight =
     let bound : 3 * v + 5 ≤ 5 * w = rw (is, weight) (value_of-bound n d) in
     let place : n ≤ 31 = omega arith in

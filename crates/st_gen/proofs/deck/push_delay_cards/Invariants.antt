@@ -1,10 +1,10 @@
 -- As many delays are drawn and appended as rounds are done.
 use Rattle.std.proofs.Common.{◌≡◌, ◌++◌}
-use Rattle.st_gen.specs.Deck.{after, delay_cards}
+use Rattle.st_gen.specs.Deck.{number_after, delay_cards}
 use Rattle.st_gen.proofs.deck.push_delay_cards.Given as goal
 
 abbrev pub invariant-delays : goal.invariant-delays
 invariant-delays l = record {
-  drawn : l.generator.x ≡ after l.counter l.initial.generator.x;
+  drawn : l.generator.x ≡ number_after l.counter l.initial.generator.x;
   appended : l.deck.items ≡ l.initial.deck.items ++ delay_cards l.counter l.initial.generator.x;
 }

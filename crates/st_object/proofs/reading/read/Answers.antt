@@ -1,6 +1,6 @@
 use Rattle.std.proofs.Common.{refl, sym, subst, arith}
-use Rattle.st_text.specs.Pieces.{parted}
-use Rattle.st_object.specs.Draft.{blank}
+use Rattle.st_text.specs.Pieces.{pieces_of}
+use Rattle.st_object.specs.Draft.{draft_at_start}
 use Rattle.st_object.specs.Object.{read_from, read_text}
 use Rattle.st_object.specs.Answers.{Explains}
 use Rattle.st_object.specs.declared.reading.ObjectError.{ObjectError}
@@ -12,7 +12,7 @@ pub returns-in-Refused : goal.returns-in-Refused
 unfolding read_text
 returns-in-Refused c =
     let bad = line_refused c.lines.draft c.lines.card c.in-Some.line.now c.lines.rest.now c.in-Some.after.now
-    (read_from blank 1 (parted 10 c.args.text.now)) c.in-Some.ensures.pieces c.in-Refused.ensures c.lines.invariant.same in
+    (read_from draft_at_start 1 (pieces_of 10 c.args.text.now)) c.in-Some.ensures.pieces c.in-Refused.ensures c.lines.invariant.same in
     subst (λ (r : ObjectError). Explains (read_text c.args.text.now) r) (sym c.refused.ensures) (bad, refl)
 
 pub lines-preserved : goal.lines-preserved
@@ -24,5 +24,5 @@ lines-preserved c =
       counted = omega (arith, good.more, c.lines.invariant.counted);
       few = omega (arith, good.more, c.lines.invariant.counted, few_lines c.add_line.new.draft draft);
       same = line_added c.lines.draft c.add_line.new.draft c.lines.card c.in-Some.line.now c.lines.rest.now c.in-Some.after.now
-          (read_from blank 1 (parted 10 c.args.text.now)) c.in-Some.ensures.pieces c.in-Added.ensures c.lines.invariant.same;
+          (read_from draft_at_start 1 (pieces_of 10 c.args.text.now)) c.in-Some.ensures.pieces c.in-Added.ensures c.lines.invariant.same;
     }

@@ -5,4 +5,4 @@ use Rattle.st_object.proofs.writing.push_delays.Given as goal
 
 abbrev pub invariant-delays : goal.invariant-delays
 invariant-delays l =
-    l.text.items ≡ l.fn.text.items ++ lines.text_of (map (λ n. items.Delay n) (take l.ticks-index l.delays))
+    l.text.items ≡ l.fn.text.items ++ lines.object_text_of (map (λ n. items.Delay n) (take l.ticks-index l.delays))

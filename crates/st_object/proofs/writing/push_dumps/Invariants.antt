@@ -5,4 +5,4 @@ use Rattle.st_object.proofs.writing.push_dumps.Given as goal
 
 abbrev pub invariant-dumps : goal.invariant-dumps
 invariant-dumps l =
-    l.text.items ≡ l.fn.text.items ++ lines.text_of (map (λ p. items.Dump p.0 p.1) (take l.part-index l.dumps))
+    l.text.items ≡ l.fn.text.items ++ lines.object_text_of (map (λ p. items.Dump p.0 p.1) (take l.part-index l.dumps))

@@ -5,4 +5,4 @@ use Rattle.st_object.proofs.writing.push_signals.Given as goal
 
 abbrev pub invariant-signals : goal.invariant-signals
 invariant-signals l =
-    l.text.items ≡ l.fn.text.items ++ lines.text_of (map (λ s. items.Signal s.count s.indicator) (take l.signal-index l.signals))
+    l.text.items ≡ l.fn.text.items ++ lines.object_text_of (map (λ s. items.Signal s.count s.indicator) (take l.signal-index l.signals))

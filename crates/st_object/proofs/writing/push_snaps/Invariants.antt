@@ -5,4 +5,4 @@ use Rattle.st_object.proofs.writing.push_snaps.Given as goal
 
 abbrev pub invariant-snaps : goal.invariant-snaps
 invariant-snaps l =
-    l.text.items ≡ l.fn.text.items ++ lines.text_of (map (λ t. items.Snap t) (take l.tick-index l.snaps))
+    l.text.items ≡ l.fn.text.items ++ lines.object_text_of (map (λ t. items.Snap t) (take l.tick-index l.snaps))

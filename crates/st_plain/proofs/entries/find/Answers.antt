@@ -2,8 +2,8 @@ use Rattle.std.proofs.Common.{◌+◌, [], ◌∷◌, ◌++◌, take, drop, refl
 use Rattle.std.proofs.lemmas.Grind.{take-set_at}
 use Rattle.std.proofs.lemmas.List.{length-set}
 use Rattle.st_state.specs.Machine.{word}
-use Rattle.st_prep.specs.Fetch.{fetched}
-use Rattle.st_prep.specs.Reading.{outcome, reading, words_read, own_words}
+use Rattle.st_prep.specs.Fetch.{words_fetched}
+use Rattle.st_prep.specs.Reading.{outcome, reading_at_place, words_read, own_words}
 use Rattle.st_prep.proofs.ReadingLemmas.{left_after-none, whole-left, next-left, more-left, found-left}
 use Rattle.st_segment.specs.Entries.{run_of as run_by}
 use Rattle.st_plain.proofs.Words.{words-step, own-step, one_own-few, own-run, target-run}
@@ -12,7 +12,7 @@ use Rattle.st_plain.proofs.entries.find.Goals as goal
 pub reads-init : goal.reads-init
 reads-init c =
     let s = c.args.state.now in
-    let r = reading c.args.x.now (word s 3) s.enabled c.args.place.now in
+    let r = reading_at_place c.args.x.now (word s 3) s.enabled c.args.place.now in
     let all = sym (left_after-none r) in
     record {
       size = refl;
@@ -40,7 +40,7 @@ pub reads-preserved : goal.reads-preserved
 reads-preserved c =
     let i = c.reads.invariant in
     let s = c.args.state.now in
-    let r = reading c.args.x.now (word s 3) s.enabled c.args.place.now in
+    let r = reading_at_place c.args.x.now (word s 3) s.enabled c.args.place.now in
     let n = c.reads.n in
     let next = next-left _ _ _ _ _ _ (sym c.in-Next.ensures.value) i.left in
     let content = take-set_at c.reads.contents n (n + 1) c.word.result refl (omega (arith, i.size, next.0)) in
@@ -63,31 +63,31 @@ pub returns-in-Found-clause-own : goal.returns-in-Found-clause-own
 returns-in-Found-clause-own c =
     let i = c.reads.invariant in
     let s = c.args.state.now in
-    let r = reading c.args.x.now (word s 3) s.enabled c.args.place.now in
+    let r = reading_at_place c.args.x.now (word s 3) s.enabled c.args.place.now in
     c.run_of.ensures
     ∙ ap run_by (own-run r (word s) (take c.reads.n c.reads.contents) c.reads.read c.reads.n c.reads.own _ i.own_few
     (sym c.in-Found.ensures.value) i.so_far i.own_so_far)
     ∙ ap
     (λ x.
-    let q = reading x (word s 3) s.enabled c.args.place.now in run_by (take (own_words q (word s)) (words_read q (word s))))
+    let q = reading_at_place x (word s 3) s.enabled c.args.place.now in run_by (take (own_words q (word s)) (words_read q (word s))))
     c.requires.words
 
 pub returns-in-Found-clause-target : goal.returns-in-Found-clause-target
 returns-in-Found-clause-target c =
     let i = c.reads.invariant in
     let s = c.args.state.now in
-    let r = reading c.args.x.now (word s 3) s.enabled c.args.place.now in
+    let r = reading_at_place c.args.x.now (word s 3) s.enabled c.args.place.now in
     c.run_of-in-Found.ensures
     ∙ ap run_by (target-run r (word s) (take c.reads.n c.reads.contents) c.reads.read c.reads.n c.reads.own _ i.own_few
     (sym c.in-Found.ensures.value) i.so_far i.own_so_far)
     ∙ ap
     (λ x.
-    let q = reading x (word s 3) s.enabled c.args.place.now in run_by (drop (own_words q (word s)) (words_read q (word s))))
+    let q = reading_at_place x (word s 3) s.enabled c.args.place.now in run_by (drop (own_words q (word s)) (words_read q (word s))))
     c.requires.words
 
 pub returns-in-Found-clause-fetched : goal.returns-in-Found-clause-fetched
-unfolding fetched
+unfolding words_fetched
 returns-in-Found-clause-fetched c =
     let s = c.args.state.now in
     found-left _ _ _ _ _ (sym c.in-Found.ensures.value) c.reads.invariant.left
-    ∙ ap (λ x. outcome (reading x (word s 3) s.enabled c.args.place.now) (word s)) c.requires.words
+    ∙ ap (λ x. outcome (reading_at_place x (word s 3) s.enabled c.args.place.now) (word s)) c.requires.words

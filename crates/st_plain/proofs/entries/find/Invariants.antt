@@ -1,13 +1,13 @@
 use Rattle.std.proofs.Common.{◌≡◌, ◌+◌, ◌-◌, ◌≤◌, ◌++◌, length, take}
 use Rattle.st_state.specs.Machine.{word}
-use Rattle.st_prep.specs.Reading.{reading, left_after, words_read, own_words}
+use Rattle.st_prep.specs.Reading.{reading_at_place, left_after, words_read, own_words}
 use Rattle.st_prep.proofs.ReadingLemmas.{IsLeft}
 use Rattle.st_plain.proofs.entries.find.Given as goal
 
 -- the words so far are the first ones that the reading reads, and what is left of it reads the others
 abbrev pub invariant-reads : goal.invariant-reads
 invariant-reads l =
-    let r = reading l.x (word l.state 3) l.state.enabled l.place in
+    let r = reading_at_place l.x (word l.state 3) l.state.enabled l.place in
     let c = word l.state in
     let rest = left_after r (take l.n l.contents) in
     record {

@@ -1,16 +1,16 @@
 use Rattle.std.proofs.Common.{ℕ, ◌<◌, Bool, length, Option, None, ◌∙◌, ap, arith}
 use Rattle.std.proofs.lemmas.List.{length_push}
-use Rattle.st_exec.specs.Completion.{guessed}
+use Rattle.st_exec.specs.Completion.{guessed_state}
 use Rattle.st_state.specs.Machine.{Machine}
 use Rattle.st_prep.specs.Plan.{plan}
 use Rattle.st_prep.specs.declared.entries.Prepared.{Prepared}
-use Rattle.st_rows.specs.Asked.{formed_asked, asked}
-use Rattle.st_rows.specs.Notes.{noted}
-use Rattle.st_rows.specs.Ranges.{IsEntry}
-use Rattle.st_rows.specs.Rows.{row, after, bus_a, tick_p}
+use Rattle.st_rows.specs.Asked.{formed_asked, reads_of_entry}
+use Rattle.st_rows.specs.Notes.{log_after_reads}
+use Rattle.st_rows.specs.Ranges.{IsEntryInTime}
+use Rattle.st_rows.specs.Rows.{row_of_entry, front_after_entry, bus_a, tick_p}
 use Rattle.st_rows.specs.declared.entry.Entry.{Entry}
 use Rattle.st_rows.specs.declared.front.Front.{Front}
-use Rattle.st_rows.specs.declared.front.Row.{Row}
+use Rattle.st_rows.specs.declared.front.EntryTicks.{EntryTicks}
 use Rattle.st_rows.proofs.Tight.{later-c}
 use Rattle.st_rows.proofs.Within.{AreDelays-list}
 use Rattle.st_segment.specs.Entries.{entry}
@@ -47,7 +47,7 @@ returns-then-begun-tick-clause-log t c =
     let p = ap (tick_p ds n f) c.plan_entry-planned.ensures.entry in
     log-late ds n c.args.tick s f c.args.more c.args.log.now c.begin-begun.new.log
     (omega (arith, row-p ds n f (entry None s), p, c.begin-begun.ensures.tick, c.if-begun-tick.true))
-    (c.begin-begun.ensures.log ∙ ap (λ (e : Entry). noted ds (formed_asked ds f e) f.bus c.args.log.now) c.plan_entry-planned.ensures.entry)
+    (c.begin-begun.ensures.log ∙ ap (λ (e : Entry). log_after_reads ds (formed_asked ds f e) f.bus c.args.log.now) c.plan_entry-planned.ensures.entry)
 
 pub returns-then-begun-tick-clause-bus : goal.returns-then-begun-tick-clause-bus
 returns-then-begun-tick-clause-bus t c =
@@ -84,7 +84,7 @@ look-requires t c =
     (omega (arith, c.begin-begun.ensures.tick, c.if-begun-tick.false)) in
     let done = ap (λ (s : Machine). s.done) c.guess.ensures ∙ guess-done c.plan_entry-planned.new.p c.args.state.now in
     let more = ap length c.push.ensures.items ∙ length_push c.args.found.now.items _ in
-    let range : IsEntry e = rw c.plan_entry-planned.ensures.entry (entry-ranges None c.args.state.now c.shape-2.ensures tt) in
+    let range : IsEntryInTime e = rw c.plan_entry-planned.ensures.entry (entry-ranges None c.args.state.now c.shape-2.ensures tt) in
     let rises : f.c < c.finish-row.new.front.c =
     omega (
       arith,
@@ -132,16 +132,16 @@ returns-clause-found t c =
     let some = some-more ds n c.args.more c.args.tick f c.plan_entry-planned.result.entry c.requires.levels.0 c.requires.first
     (omega (arith, c.begin-begun.ensures.tick, c.if-begun-tick.false)) in
     let p = ap (tick_p ds n f) c.plan_entry-planned.ensures.entry in
-    let is = c.finish-row.ensures.value ∙ ap (row ds n f) c.plan_entry-planned.ensures.entry in
-    let at : Prepared → Row → Option ℕ → Bool → Seen = λ q r side execute. record { plan = q; row = r; side = side; execute = execute } in
+    let is = c.finish-row.ensures.value ∙ ap (row_of_entry ds n f) c.plan_entry-planned.ensures.entry in
+    let at : Prepared → EntryTicks → Option ℕ → Bool → Seen = λ q r side execute. record { plan = q; row = r; side = side; execute = execute } in
     found-look ds n c.args.tick s f _ _ c.args.more _ _ _ _ some
     (omega (arith, row-p ds n f (entry None s), p, c.begin-begun.ensures.tick, c.if-begun-tick.false))
     (ap (λ q. at q c.finish-row.result c.plan_entry-planned.result.side c.plan_entry-planned.result.execute) c.plan_entry-planned.ensures.plan
     ∙ ap (λ r. at (plan s None) r c.plan_entry-planned.result.side c.plan_entry-planned.result.execute) is
-    ∙ ap (λ w. at (plan s None) (row ds n f (entry None s)) w c.plan_entry-planned.result.execute) c.plan_entry-planned.ensures.side
-    ∙ ap (at (plan s None) (row ds n f (entry None s)) (side_at None s)) c.plan_entry-planned.ensures.execute)
-    (c.guess.ensures ∙ ap (λ q. guessed q s) c.plan_entry-planned.ensures.plan)
-    (c.finish-row.ensures.after ∙ ap (after ds n f) c.plan_entry-planned.ensures.entry)
+    ∙ ap (λ w. at (plan s None) (row_of_entry ds n f (entry None s)) w c.plan_entry-planned.result.execute) c.plan_entry-planned.ensures.side
+    ∙ ap (at (plan s None) (row_of_entry ds n f (entry None s)) (side_at None s)) c.plan_entry-planned.ensures.execute)
+    (c.guess.ensures ∙ ap (λ q. guessed_state q s) c.plan_entry-planned.ensures.plan)
+    (c.finish-row.ensures.after ∙ ap (front_after_entry ds n f) c.plan_entry-planned.ensures.entry)
     c.push.ensures.items c.look.ensures.found
 
 pub returns-clause-log : goal.returns-clause-log
@@ -155,9 +155,9 @@ returns-clause-log t c =
     let p = ap (tick_p ds n f) c.plan_entry-planned.ensures.entry in
     log-look ds n c.args.tick s f c.guess.new.state c.finish-row.new.front c.args.more some
     (omega (arith, row-p ds n f (entry None s), p, c.begin-begun.ensures.tick, c.if-begun-tick.false))
-    (c.guess.ensures ∙ ap (λ q. guessed q s) c.plan_entry-planned.ensures.plan)
-    (c.finish-row.ensures.after ∙ ap (after ds n f) c.plan_entry-planned.ensures.entry) c.args.log.now c.finish-row.new.log c.look.new.log
-    (c.finish-row.ensures.log c.args.log.now c.begin-begun.ensures.log ∙ ap (λ (e : Entry). noted ds (asked ds n f e) f.bus c.args.log.now) c.plan_entry-planned.ensures.entry)
+    (c.guess.ensures ∙ ap (λ q. guessed_state q s) c.plan_entry-planned.ensures.plan)
+    (c.finish-row.ensures.after ∙ ap (front_after_entry ds n f) c.plan_entry-planned.ensures.entry) c.args.log.now c.finish-row.new.log c.look.new.log
+    (c.finish-row.ensures.log c.args.log.now c.begin-begun.ensures.log ∙ ap (λ (e : Entry). log_after_reads ds (reads_of_entry ds n f e) f.bus c.args.log.now) c.plan_entry-planned.ensures.entry)
     c.look.ensures.log
 
 pub returns-clause-bus : goal.returns-clause-bus
@@ -171,5 +171,5 @@ returns-clause-bus t c =
     let p = ap (tick_p ds n f) c.plan_entry-planned.ensures.entry in
     bus-look ds n c.args.tick s f c.guess.new.state c.finish-row.new.front c.args.more some
     (omega (arith, row-p ds n f (entry None s), p, c.begin-begun.ensures.tick, c.if-begun-tick.false))
-    (c.guess.ensures ∙ ap (λ q. guessed q s) c.plan_entry-planned.ensures.plan)
-    (c.finish-row.ensures.after ∙ ap (after ds n f) c.plan_entry-planned.ensures.entry) c.look.new.front.bus c.look.ensures.bus
+    (c.guess.ensures ∙ ap (λ q. guessed_state q s) c.plan_entry-planned.ensures.plan)
+    (c.finish-row.ensures.after ∙ ap (front_after_entry ds n f) c.plan_entry-planned.ensures.entry) c.look.new.front.bus c.look.ensures.bus

@@ -1,7 +1,7 @@
 use Rattle.std.proofs.Common.{◌≡◌, ◌+◌, ◌-◌, ◌*◌, ◌^◌, ◌≤◌}
 use Rattle.st_bits.specs.Storage.{words_of_storage}
 use Rattle.st_rows.specs.Asked.{words_asked}
-use Rattle.st_rows.specs.Notes.{noted}
+use Rattle.st_rows.specs.Notes.{log_after_reads}
 use Rattle.st_rows.specs.Ranges.{IsFetchingWithin}
 use Rattle.st_rows.specs.Rows.{fetch_words}
 use Rattle.st_plain.proofs.rows.fetch_run.Given as goal
@@ -11,8 +11,8 @@ abbrev pub invariant-words : goal.invariant-words
 invariant-words l = record {
   value : fetch_words l.delays l.past l.words l.from l.w l.left
       ≡ fetch_words l.delays l.past l.fn.words l.from l.fn.run.first l.fn.run.len;
-  log : noted l.delays (words_asked l.delays l.past l.words l.from l.w l.left) l.words.bus l.log
-      ≡ noted l.delays (words_asked l.delays l.past l.fn.words l.from l.fn.run.first l.fn.run.len) l.fn.words.bus l.fn.log;
+  log : log_after_reads l.delays (words_asked l.delays l.past l.words l.from l.w l.left) l.words.bus l.log
+      ≡ log_after_reads l.delays (words_asked l.delays l.past l.fn.words l.from l.fn.run.first l.fn.run.len) l.fn.words.bus l.fn.log;
   room : IsFetchingWithin (2 ^ 64 - 512 - 256 * l.left) l.words;
   few : l.left ≤ 16;
   above : 1 ≤ l.left → 32 ≤ l.w;

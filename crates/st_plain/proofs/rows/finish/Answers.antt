@@ -1,5 +1,5 @@
 use Rattle.std.proofs.Common.{arith}
-use Rattle.st_rows.specs.Rows.{after}
+use Rattle.st_rows.specs.Rows.{front_after_entry}
 use Rattle.st_rows.proofs.Within.{AreDelays-list}
 use Rattle.st_rows.proofs.Stages.{c-within}
 use Rattle.st_rows.proofs.Tight.{tight-after}
@@ -18,7 +18,7 @@ returns-clause-tight c =
     (tight-after 255 c.args.delays.now are c.args.levels c.args.front.now c.args.entry.now c.requires.entry c.requires.tight)
 
 pub returns-clause-bound : goal.returns-clause-bound
-unfolding after
+unfolding front_after_entry
 returns-clause-bound c =
     let are = AreDelays-list c.args.delays.now c.shape.ensures in
     rw (c.pass.ensures c.args.delays.now c.args.levels c.fill-filled.ensures.value c.fill-filled.ensures.bus)

@@ -1,13 +1,13 @@
 use Rattle.std.proofs.Common.{◌≡◌, ◌-◌, ◌≤◌, length, take}
 use Rattle.st_state.specs.Machine.{word}
-use Rattle.st_prep.specs.Reading.{reading, left_after}
+use Rattle.st_prep.specs.Reading.{reading_at_place, left_after}
 use Rattle.st_prep.proofs.ReadingLemmas.{IsLeft}
 use Rattle.st_prep.proofs.fetching.fetch_all.Given as goal
 
 -- what is left of the reading finds the same, by four words at most
 abbrev pub invariant-loop-word : goal.invariant-loop-word
 invariant-loop-word l =
-    let r = reading l.x (word l.state 3) l.state.enabled l.place in
+    let r = reading_at_place l.x (word l.state 3) l.state.enabled l.place in
     record {
       size : length l.contents ≡ 4;
       few : l.n ≤ 4;

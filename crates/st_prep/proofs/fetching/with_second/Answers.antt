@@ -1,6 +1,6 @@
 use Rattle.std.proofs.Common.{◌+◌, ◌/◌, None, sym, ◌∙◌, ap, arith}
 use Rattle.std.proofs.lemmas.List.{length-drop}
-use Rattle.st_format.specs.Formats.{decoded}
+use Rattle.st_format.specs.Formats.{decoded_entry}
 use Rattle.st_prep.specs.declared.fetching.Part.TheVariants.{Has}
 use Rattle.st_prep.specs.Reading.{given_by}
 use Rattle.st_prep.proofs.GivenLemmas.{differs, second-wants, second-has}
@@ -19,6 +19,6 @@ returns-clause-value c = λ t k.
     second-has _ t _ _ _ _ k cs (sym c.may.ensures.value ∙ c.in_default.is)
     (differs ((c.args.h + 1) / 2) (c.args.h / 2) c.if-word-h.false)
     (omega (arith, c.if-contents-lt2.false, length-drop 1 cs))
-    ∙ ap (λ x. given_by t (Has (record { decoded = decoded c.args.first x; fault = None }) 2) cs k) (sym c.half_of-2.ensures)
+    ∙ ap (λ x. given_by t (Has (record { decoded = decoded_entry c.args.first x; fault = None }) 2) cs k) (sym c.half_of-2.ensures)
     ∙ ap (λ d. given_by t (Has (record { decoded = d; fault = None }) 2) cs k) (sym c.decode-2.ensures.value)
     ∙ ap (λ r. given_by t r cs k) (sym c.has-2.ensures)

@@ -1,7 +1,7 @@
 use Rattle.std.proofs.Common.{◌+◌, ◌-◌, ◌*◌, ◌^◌, sym, subst, arith}
 use Rattle.st_rows.specs.BusTimes.{Reading}
 use Rattle.st_rows.specs.Ranges.{IsReadingWithin}
-use Rattle.st_rows.specs.Rows.{reading_of}
+use Rattle.st_rows.specs.Rows.{reading_of_fetch}
 use Rattle.st_rows.proofs.Noted.{runs-noted}
 use Rattle.st_rows.proofs.Within.{AreDelays-list, reading-weaker}
 use Rattle.st_rows.proofs.Stages.{read_sixteen-within}
@@ -11,7 +11,7 @@ use Rattle.st_rows.proofs.front.read_operands.Goals as goal
 pub read_on-requires-clause-room : goal.read_on-requires-clause-room
 read_on-requires-clause-room c =
     let m = 2 ^ 64 - 2 ^ 17 in
-    let start : IsReadingWithin m (reading_of c.args.operands.now) = record { bus = c.requires.room; answered = omega (arith, c.requires.start, c.requires.early) } in
+    let start : IsReadingWithin m (reading_of_fetch c.args.operands.now) = record { bus = c.requires.room; answered = omega (arith, c.requires.start, c.requires.early) } in
     subst (λ (s : Reading). IsReadingWithin (2 ^ 64 - 2 ^ 16) s) (sym c.read_run-fills.ensures.value)
     (reading-weaker (m + 16 * 256) (2 ^ 64 - 2 ^ 16) _ (omega arith)
     (read_sixteen-within 255 c.args.delays.now (AreDelays-list c.args.delays.now c.shape.ensures) c.args.past.now c.args.p
@@ -19,5 +19,5 @@ read_on-requires-clause-room c =
 
 pub returns-clause-log : goal.returns-clause-log
 returns-clause-log c =
-    runs-noted c.args.delays.now c.args.past.now c.args.p c.args.entry.now.reads (reading_of c.args.operands.now) (reading_of c.read_run-fills.new.operands) c.args.log.now
+    runs-noted c.args.delays.now c.args.past.now c.args.p c.args.entry.now.reads (reading_of_fetch c.args.operands.now) (reading_of_fetch c.read_run-fills.new.operands) c.args.log.now
     c.read_run-fills.new.log c.read_on.new.log c.read_run-fills.ensures.value c.read_run-fills.ensures.log c.read_on.ensures.log

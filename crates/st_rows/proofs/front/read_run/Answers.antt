@@ -2,9 +2,9 @@ use Rattle.std.proofs.Common.{◌≡◌, ◌+◌, ◌-◌, ◌^◌, ◌∙◌, a
 use Rattle.st_bits.specs.Storage.{words_of_storage_is}
 use Rattle.st_rows.specs.Asked.{operands_asked}
 use Rattle.st_rows.specs.BusTimes.{Reading}
-use Rattle.st_rows.specs.Notes.{noted}
+use Rattle.st_rows.specs.Notes.{log_after_reads}
 use Rattle.st_rows.specs.Ranges.{IsReadingWithin}
-use Rattle.st_rows.specs.Rows.{reading_of, read_word, read_words}
+use Rattle.st_rows.specs.Rows.{reading_of_fetch, read_word, read_words}
 use Rattle.st_rows.proofs.Noted.{operand-one, operands-two}
 use Rattle.st_rows.proofs.Turns.{read-turn, read-two}
 use Rattle.st_rows.proofs.Within.{AreDelays-list, reading-weaker, read_word-within}
@@ -18,7 +18,7 @@ pub returns-then-run-eq1-clause-value : goal.returns-then-run-eq1-clause-value
 unfolding read_words
 returns-then-run-eq1-clause-value c =
     let one : c.args.run.len ≡ 1 = omega arith in
-    read-turn c.args.delays.now c.args.past.now c.args.run.first c.args.p (reading_of c.args.operands.now) (reading_of c.read-first.new.self) 1 c.read-first.ensures.after (omega arith)
+    read-turn c.args.delays.now c.args.past.now c.args.run.first c.args.p (reading_of_fetch c.args.operands.now) (reading_of_fetch c.read-first.new.self) 1 c.read-first.ensures.after (omega arith)
     ∙ rw one refl
 
 pub read-first-requires-clause-storage : goal.read-first-requires-clause-storage
@@ -56,21 +56,21 @@ read_on-requires-clause-room c =
 pub returns-clause-value : goal.returns-clause-value
 returns-clause-value c =
     c.read_on.ensures.value
-    ∙ read-two c.args.delays.now c.args.past.now c.args.run.first c.args.p (reading_of c.args.operands.now) (reading_of c.read-first.new.self)
-    (reading_of c.read-second.new.self) c.args.run.len c.read-first.ensures.after c.read-second.ensures.after (omega arith)
+    ∙ read-two c.args.delays.now c.args.past.now c.args.run.first c.args.p (reading_of_fetch c.args.operands.now) (reading_of_fetch c.read-first.new.self)
+    (reading_of_fetch c.read-second.new.self) c.args.run.len c.read-first.ensures.after c.read-second.ensures.after (omega arith)
 
 pub returns-then-run-eq0-clause-log : goal.returns-then-run-eq0-clause-log
-unfolding operands_asked noted
+unfolding operands_asked log_after_reads
 returns-then-run-eq0-clause-log c = let none : c.args.run.len ≡ 0 = omega arith in rw none refl
 
 pub returns-then-run-eq1-clause-log : goal.returns-then-run-eq1-clause-log
 returns-then-run-eq1-clause-log c =
-    operand-one c.args.delays.now c.args.past.now c.args.p c.args.run.first (reading_of c.args.operands.now) (reading_of c.read-first.new.self) c.args.run.len c.args.log.now
+    operand-one c.args.delays.now c.args.past.now c.args.p c.args.run.first (reading_of_fetch c.args.operands.now) (reading_of_fetch c.read-first.new.self) c.args.run.len c.args.log.now
     c.read-first.new.log c.read-first.ensures.after c.read-first.ensures.log (omega arith)
 
 pub returns-clause-log : goal.returns-clause-log
 returns-clause-log c =
     c.read_on.ensures.log
-    ∙ operands-two c.args.delays.now c.args.past.now c.args.p c.args.run.first (reading_of c.args.operands.now) (reading_of c.read-first.new.self)
-    (reading_of c.read-second.new.self) c.args.run.len c.args.log.now c.read-first.new.log c.read-second.new.log c.read-first.ensures.after c.read-second.ensures.after
+    ∙ operands-two c.args.delays.now c.args.past.now c.args.p c.args.run.first (reading_of_fetch c.args.operands.now) (reading_of_fetch c.read-first.new.self)
+    (reading_of_fetch c.read-second.new.self) c.args.run.len c.args.log.now c.read-first.new.log c.read-second.new.log c.read-first.ensures.after c.read-second.ensures.after
     c.read-first.ensures.log c.read-second.ensures.log (omega arith)

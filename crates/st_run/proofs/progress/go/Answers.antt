@@ -2,7 +2,7 @@ use Rattle.std.specs.Prelude.{IfSome}
 use Rattle.std.proofs.Common.{◌≤◌, ◌-◌, ◌∷◌, ◌∙◌, ap, ℕ, Option, List, sym, subst, arith}
 use Rattle.st_run.specs.Told.{Told}
 use Rattle.st_run.specs.Telling.{rest_of, told_with, AreInTime}
-use Rattle.st_run.specs.declared.told.Told.{Told as ToldNext}
+use Rattle.st_run.specs.declared.told.TimedRunEvent.{TimedRunEvent as ToldNext}
 use Rattle.st_run.specs.declared.turn.Turn.TheVariants as turns
 use Rattle.st_run.proofs.ProgressLemmas.{rest-quiet}
 use Rattle.st_run.proofs.LeftLemmas.{oldest-in_time, done-in_time}

@@ -2,10 +2,10 @@ use Rattle.std.proofs.Common.{◌≡◌, ℕ, ◌+◌, ◌-◌, ◌<◌, ◌≤�
 use Rattle.st_ahead.specs.declared.events.Row.{Row}
 use Rattle.st_run.specs.Together.{Together, standing_of}
 use Rattle.st_run.specs.TimedRun.{timed_behind}
-use Rattle.st_run.specs.Told.{Told, told}
+use Rattle.st_run.specs.Told.{Told, told_of_events}
 use Rattle.st_run.specs.Ticking.{AreMadeUpTo}
 use Rattle.st_run.specs.Telling.{AreInTime, IsLeft, AreLeftOut, rest_of, told_with}
-use Rattle.st_run.specs.declared.told.Told.{Told as ToldNext}
+use Rattle.st_run.specs.declared.told.TimedRunEvent.{TimedRunEvent as ToldNext}
 use Rattle.st_run.specs.declared.turn.Turn.TheVariants as turns
 use Rattle.st_run.proofs.LeftLemmas.{done-in_time}
 use Rattle.st_run.proofs.PassLemmas.{AreAhead, ahead-is, far-row, far-none, far-left, far-told}
@@ -88,6 +88,6 @@ returns-clause-told g c =
     let after = c.leave_entry.new.run in
     let rest = rest_of after.turn after.left after.tick after.snaps.now after.waiting after.driven in
     subst {A = ToldNext} (λ t. AreLeftOut (told_with t after.driven.machine after.printed.bytes)
-    (told (timed_behind run.driven.machine.delays run.driven.machine.levels run.left (standing_of run.tick run.driven) run.snaps.now)) rest)
+    (told_of_events (timed_behind run.driven.machine.delays run.driven.machine.levels run.left (standing_of run.tick run.driven) run.snaps.now)) rest)
     (sym c.told_of.ensures)
     (far-told run.left run.tick run.snaps.now run.driven c.run_many.new.driven c.in-Some.row far _ left c.requires.snaps rest c.leave_entry.ensures.told)

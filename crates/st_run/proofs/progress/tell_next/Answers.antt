@@ -1,6 +1,6 @@
 use Rattle.std.proofs.Common.{◌∷◌, sym, ◌∙◌, ap, arith}
-use Rattle.st_run.specs.Telling.{what_told, seen_of, ahead_of, rest_of, told_with}
-use Rattle.st_run.specs.declared.told.Told.{Told}
+use Rattle.st_run.specs.Telling.{what_told, state_told, ahead_of, rest_of, told_with}
+use Rattle.st_run.specs.declared.told.TimedRunEvent.{TimedRunEvent}
 use Rattle.st_run.specs.declared.turn.Turn.TheVariants as turns
 use Rattle.st_run.proofs.ProgressLemmas.{seen-none}
 use Rattle.st_run.proofs.NextLemmas.{next-tells, next-keeps, still-quiet, still-run, turn-run, turn-rest, end-levels, end-in_time}
@@ -11,8 +11,8 @@ returns-in-Some-clause-kept g c =
     let run = c.args.run.now in
     let m = run.driven.machine in
     next-keeps run.turn run.left run.tick run.snaps.now run.waiting c.next.new.self run.driven _
-    (what_told c.in-Some.what run.tick (seen_of m) (ahead_of m) c.next.new.printed.bytes) (c.in-Some.ensures.told m.state)
-    (c.in-Some.ensures.shown m.state (seen_of m) run.tick (ahead_of m) c.next.new.printed.bytes (λ some. sym (seen-none m (c.requires.taken some))))
+    (what_told c.in-Some.what run.tick (state_told m) (ahead_of m) c.next.new.printed.bytes) (c.in-Some.ensures.told m.state)
+    (c.in-Some.ensures.shown m.state (state_told m) run.tick (ahead_of m) c.next.new.printed.bytes (λ some. sym (seen-none m (c.requires.taken some))))
     c.requires c.in-Some.ensures.taken
 
 pub returns-in-Some-clause-told : goal.returns-in-Some-clause-told
@@ -20,9 +20,9 @@ returns-in-Some-clause-told g c =
     let run = c.args.run.now in
     let m = run.driven.machine in
     next-tells run.turn run.left run.tick run.snaps.now run.waiting c.next.new.self run.driven _
-    (what_told c.in-Some.what run.tick (seen_of m) (ahead_of m) c.next.new.printed.bytes) (c.in-Some.ensures.told m.state)
-    (c.in-Some.ensures.shown m.state (seen_of m) run.tick (ahead_of m) c.next.new.printed.bytes (λ some. sym (seen-none m (c.requires.taken some))))
-    ∙ ap {A = Told} (λ t. told_with t m c.next.new.printed.bytes ∷ rest_of run.turn run.left run.tick run.snaps.now c.next.new.self run.driven) (sym c.at_once.ensures)
+    (what_told c.in-Some.what run.tick (state_told m) (ahead_of m) c.next.new.printed.bytes) (c.in-Some.ensures.told m.state)
+    (c.in-Some.ensures.shown m.state (state_told m) run.tick (ahead_of m) c.next.new.printed.bytes (λ some. sym (seen-none m (c.requires.taken some))))
+    ∙ ap {A = TimedRunEvent} (λ t. told_with t m c.next.new.printed.bytes ∷ rest_of run.turn run.left run.tick run.snaps.now c.next.new.self run.driven) (sym c.at_once.ensures)
 
 pub go-requires : goal.go-requires
 go-requires g c =

@@ -1,12 +1,12 @@
 use Rattle.std.proofs.Common.{refl, arith}
-use Rattle.st_bits.specs.Registers.{fixed}
+use Rattle.st_bits.specs.Registers.{register_word}
 use Rattle.st_bits.specs.Storage.{words_of_storage}
 use Rattle.st_state.specs.View.{machine}
 use Rattle.st_state.proofs.Kept.{is_machine-with_word}
 use Rattle.st_state.proofs.State.apply.Goals as goal
 
 pub invariant_of-self : goal.invariant_of-self
-unfolding fixed words_of_storage
+unfolding register_word words_of_storage
 invariant_of-self c =
     is_machine-with_word
     (machine c.self.inside) 11 c.turned.result c.self.invariant (omega arith)

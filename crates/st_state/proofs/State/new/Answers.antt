@@ -1,11 +1,11 @@
 use Rattle.std.proofs.Common.{ℕ, List, sym, subst}
-use Rattle.st_state.specs.Machine.{IsMachine, opening}
+use Rattle.st_state.specs.Machine.{IsMachine, opening_state}
 use Rattle.st_state.proofs.Kept.{is_machine-opening}
 use Rattle.st_state.proofs.State.new.Goals as goal
 
 pub invariant_of-result : goal.invariant_of-result
 invariant_of-result c =
-    let P : List ℕ → Type 0 = λ xs. IsMachine (opening xs c.args.start) in
+    let P : List ℕ → Type 0 = λ xs. IsMachine (opening_state xs c.args.start) in
     rw c.fix_register.ensures
     (subst P (sym c.in-Ok.ensures.items)
     (is_machine-opening

@@ -1,4 +1,4 @@
-use Rattle.st_bits.specs.Registers.{fixed}
+use Rattle.st_bits.specs.Registers.{register_word}
 use Rattle.st_bits.proofs.RegisterLaws.{fixed-twice, fixed_below}
 use Rattle.st_state.specs.View.{machine}
 use Rattle.st_state.proofs.Kept.{is_machine-with_word}
@@ -8,5 +8,5 @@ pub invariant_of-self : goal.invariant_of-self
 invariant_of-self c =
     rw c.fixed_word.ensures
     (is_machine-with_word
-    (machine c.self.inside) c.args.w (fixed c.args.w c.args.value) c.self.invariant c.requires
+    (machine c.self.inside) c.args.w (register_word c.args.w c.args.value) c.self.invariant c.requires
     (fixed_below c.args.w c.args.value c.ranges.value.fits) (fixed-twice c.args.w c.args.value))

@@ -1,5 +1,5 @@
 use Rattle.std.proofs.Common.{◌∙◌, ℕ, List, ap}
-use Rattle.st_text.specs.Pieces.{parted}
+use Rattle.st_text.specs.Pieces.{pieces_of}
 use Rattle.st_strap.specs.Describing.{in_pieces}
 use Rattle.st_strap.specs.Fields.{texts}
 use Rattle.st_strap.specs.declared.field.Field.{Field}
@@ -10,4 +10,4 @@ pub returns : goal.returns
 returns c =
     c.in_fields.ensures
     ∙ (ap (λ (fs : List Field). in_pieces (texts fs)) c.as_slice.ensures.value
-    ∙ (ap (λ (ps : List (List ℕ)). in_pieces ps) c.pieces.ensures ∙ enough_pieces (parted 44 c.args.text.now)))
+    ∙ (ap (λ (ps : List (List ℕ)). in_pieces ps) c.pieces.ensures ∙ enough_pieces (pieces_of 44 c.args.text.now)))

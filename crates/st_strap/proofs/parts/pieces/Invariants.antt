@@ -1,11 +1,11 @@
 use Rattle.std.proofs.Common.{◌≡◌, ◌≤◌, ◌++◌, length}
-use Rattle.st_text.specs.Pieces.{parted}
+use Rattle.st_text.specs.Pieces.{pieces_of}
 use Rattle.st_strap.specs.Fields.{texts}
 use Rattle.st_strap.proofs.parts.pieces.Given as goal
 
 abbrev pub invariant-pieces : goal.invariant-pieces
 invariant-pieces l = record {
-  so_far : texts l.fields.items ++ parted 44 l.rest ≡ parted 44 l.text;
+  so_far : texts l.fields.items ++ pieces_of 44 l.rest ≡ pieces_of 44 l.text;
   room : length l.fields.items ≤ 16;
   short : length l.rest ≤ 63;
 }

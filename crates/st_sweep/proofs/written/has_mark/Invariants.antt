@@ -1,13 +1,13 @@
 use Rattle.std.proofs.Common.{◌≡◌, ◌+◌, List}
-use Rattle.st_rows.specs.declared.entry.Runs.{Runs}
-use Rattle.st_sweep.specs.Calm.{are_written}
+use Rattle.st_rows.specs.declared.entry.WordRuns.{WordRuns}
+use Rattle.st_sweep.specs.HazardFree.{are_written}
 use Rattle.st_sweep.specs.Marks.{AreMarks}
 use Rattle.st_sweep.proofs.written.has_mark.Given as goal
 
 abbrev pub invariant-words : goal.invariant-words
 invariant-words l = record {
   place : l.w + l.left ≡ l.first + l.len;
-  same : (earlier : List Runs) → AreMarks earlier l.marks → are_written earlier l.w l.left ≡ are_written earlier l.first l.len;
+  same : (earlier : List WordRuns) → AreMarks earlier l.marks → are_written earlier l.w l.left ≡ are_written earlier l.first l.len;
 }
 
 abbrev pub decreases-words : goal.decreases-words

@@ -1,5 +1,5 @@
 use Rattle.std.proofs.Common.{◌≡◌, ◌+◌, ◌≤◌, length}
-use Rattle.st_sweep.specs.Marks.{marked}
+use Rattle.st_sweep.specs.Marks.{marks_with}
 use Rattle.st_sweep.proofs.written.mark.Given as goal
 
 abbrev pub invariant-words : goal.invariant-words
@@ -7,7 +7,7 @@ invariant-words l = record {
   place : l.w + l.left ≡ l.first + l.len;
   few : l.left ≤ l.len;
   long : length l.marks.items ≡ length l.fn.marks.items;
-  same : marked l.marks.items l.w l.left ≡ marked l.fn.marks.items l.first l.len;
+  same : marks_with l.marks.items l.w l.left ≡ marks_with l.fn.marks.items l.first l.len;
 }
 
 abbrev pub decreases-words : goal.decreases-words

@@ -1,14 +1,14 @@
 use Rattle.std.proofs.Common.{◌≡◌, ◌≤◌, min, length}
 use Rattle.std.specs.Char.{is_ascii_digit}
 use Rattle.std.specs.List.{list_all}
-use Rattle.st_text.specs.Number.{value, value_after}
+use Rattle.st_text.specs.Number.{digits_value, value_after}
 use Rattle.st_text.proofs.numbers.read_digits.Given as goal
 
 abbrev pub invariant-digits : goal.invariant-digits
 invariant-digits l = record {
   capped : l.number ≤ l.cap;
   same_test : list_all is_ascii_digit l.rest ≡ list_all is_ascii_digit l.text;
-  same_value : min (value_after l.number l.rest) l.cap ≡ min (value l.text) l.cap;
+  same_value : min (value_after l.number l.rest) l.cap ≡ min (digits_value l.text) l.cap;
 }
 
 abbrev pub decreases-digits : goal.decreases-digits

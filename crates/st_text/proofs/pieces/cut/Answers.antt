@@ -1,5 +1,5 @@
 use Rattle.std.proofs.Common.{ℕ, List, ◌∷◌, length, drop, refl, sym, ap, subst, ◌∙◌, IsTrue, arith}
-use Rattle.st_text.specs.Pieces.{parted, lacks}
+use Rattle.st_text.specs.Pieces.{pieces_of, lacks}
 use Rattle.st_text.proofs.PieceLemmas.{parted_at, parted_nowhere, lacks_before, lacks_all}
 use Rattle.st_text.proofs.pieces.cut.Goals as goal
 
@@ -15,8 +15,8 @@ pub returns-clause-pieces : goal.returns-clause-pieces
 returns-clause-pieces c =
     let found = c.in-Some.ensures in
     parted_at c.args.at c.in-Some.place c.args.text.now found.0.high found.1 found.0.before
-    ∙ (ap (λ (front : List ℕ). front ∷ parted c.args.at (drop 1 (drop c.in-Some.place c.args.text.now))) (sym c.split_at.ensures.front)
-    ∙ ap (λ (behind : List ℕ). c.split_at.result.0.now ∷ parted c.args.at behind)
+    ∙ (ap (λ (front : List ℕ). front ∷ pieces_of c.args.at (drop 1 (drop c.in-Some.place c.args.text.now))) (sym c.split_at.ensures.front)
+    ∙ ap (λ (behind : List ℕ). c.split_at.result.0.now ∷ pieces_of c.args.at behind)
     (ap (λ (rest : List ℕ). drop 1 rest) (sym c.split_at.ensures.back) ∙ sym c.split_at-2.ensures.back))
 
 pub returns-clause-first : goal.returns-clause-first

@@ -1,5 +1,5 @@
 use Rattle.std.proofs.Common.{[], refl}
-use Rattle.st_top.specs.StepsBack.{end_of}
+use Rattle.st_top.specs.StepsBack.{moment_at_end}
 use Rattle.st_top.specs.Output.{output_of_run}
 use Rattle.st_top.proofs.Outputs.{writes_run}
 use Rattle.st_top.proofs.execution.answer_loaded.Goals as goal
@@ -7,5 +7,5 @@ use Rattle.st_top.proofs.execution.answer_loaded.Goals as goal
 pub returns : goal.returns
 returns g c = λ start is stands.
     let asked = c.args.controls.now in
-    writes_run _ _ (output_of_run [] asked start) (end_of asked start) _ _ _ refl refl refl
+    writes_run _ _ (output_of_run [] asked start) (moment_at_end asked start) _ _ _ refl refl refl
     (c.write_report-written.ensures start is stands) c.answer_of.ensures.done c.answer_of.ensures.ticks c.answer_of.ensures.ok c.answer_of.ensures.err

@@ -1,7 +1,7 @@
 use Rattle.std.proofs.Common.{refl}
-use Rattle.st_asm.specs.Assembly.{shown}
-use Rattle.st_top.specs.Listing.{front}
-use Rattle.st_top.specs.StepsBack.{end_of}
+use Rattle.st_asm.specs.Assembly.{assembly_parts}
+use Rattle.st_top.specs.Listing.{front_lines}
+use Rattle.st_top.specs.StepsBack.{moment_at_end}
 use Rattle.st_top.specs.Output.{output_of_run}
 use Rattle.st_top.proofs.Outputs.{writes_run}
 use Rattle.st_top.proofs.execution.answer_run.Goals as goal
@@ -9,5 +9,5 @@ use Rattle.st_top.proofs.execution.answer_run.Goals as goal
 pub returns : goal.returns
 returns g c = λ start is stands.
     let asked = c.args.program.now.controls in
-    writes_run _ _ (output_of_run (front c.args.made c.args.job.now (shown c.args.program.now)) asked start) (end_of asked start) _ _ _ refl refl refl
+    writes_run _ _ (output_of_run (front_lines c.args.made c.args.job.now (assembly_parts c.args.program.now)) asked start) (moment_at_end asked start) _ _ _ refl refl refl
     (c.write_output-written.ensures start is stands) c.answer_of.ensures.done c.answer_of.ensures.ticks c.answer_of.ensures.ok c.answer_of.ensures.err

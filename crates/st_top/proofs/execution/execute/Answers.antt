@@ -1,7 +1,7 @@
 use Rattle.std.proofs.Common.{List, ℕ, ap}
-use Rattle.st_asm.specs.Assembly.{shown}
-use Rattle.st_top.specs.Listing.{front}
-use Rattle.st_top.specs.Output.{scene_of, output_of_run}
+use Rattle.st_asm.specs.Assembly.{assembly_parts}
+use Rattle.st_top.specs.Listing.{front_lines}
+use Rattle.st_top.specs.Output.{scene_at_start, output_of_run}
 use Rattle.st_top.proofs.Listings.{has_cards}
 use Rattle.st_top.proofs.Outputs.{writes_output}
 use Rattle.st_top.proofs.Times.{keeps_time}
@@ -16,17 +16,17 @@ answer_run-requires-clause-cards g c =
 pub returns-clause-writes : goal.returns-clause-writes
 returns-clause-writes g c =
     let job = c.args.job.now in
-    let a = shown c.args.program.now in
-    let start = scene_of c.as_slice-words.result.now a.start a.asked job in
+    let a = assembly_parts c.args.program.now in
+    let start = scene_at_start c.as_slice-words.result.now a.start a.asked job in
     let ready = c.in-Ok.ensures in
-    writes_output _ _ _ _ _ (ap (λ (image : List ℕ). output_of_run (front c.args.made job a) a.asked (scene_of image a.start a.asked job)) c.as_slice-words.ensures.value)
+    writes_output _ _ _ _ _ (ap (λ (image : List ℕ). output_of_run (front_lines c.args.made job a) a.asked (scene_at_start image a.start a.asked job)) c.as_slice-words.ensures.value)
     (c.answer_run.ensures start ready.rest ready.beside)
 
 pub returns-clause-in_time : goal.returns-clause-in_time
 returns-clause-in_time g c =
     let job = c.args.job.now in
-    let a = shown c.args.program.now in
-    let start = scene_of c.as_slice-words.result.now a.start a.asked job in
+    let a = assembly_parts c.args.program.now in
+    let start = scene_at_start c.as_slice-words.result.now a.start a.asked job in
     let ready = c.in-Ok.ensures in
-    keeps_time a.asked start _ _ (front c.args.made job a) _ c.requires.sound.delays c.requires.sound.limits.delays.each ready.scene
+    keeps_time a.asked start _ _ (front_lines c.args.made job a) _ c.requires.sound.delays c.requires.sound.limits.delays.each ready.scene
     (c.answer_run.ensures start ready.rest ready.beside)

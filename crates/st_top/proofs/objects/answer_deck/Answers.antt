@@ -1,8 +1,8 @@
 use Rattle.std.proofs.Common.{◌≡◌, ◌≤◌, ℕ, List, [], ◌∙◌, ap, subst}
-use Rattle.st_text.specs.Pieces.{parted}
+use Rattle.st_text.specs.Pieces.{pieces_of}
 use Rattle.st_object.specs.Object.{Program}
 use Rattle.st_dis.specs.Deck.{card_count, deck_text}
-use Rattle.st_top.specs.ObjectText.{deck_lines, ended_lines}
+use Rattle.st_top.specs.ObjectText.{deck_lines, whole_lines}
 use Rattle.st_top.specs.Output.{lines_alone}
 use Rattle.st_top.specs.declared.answer.Status.TheVariants.{Done}
 use Rattle.st_top.proofs.Decks.{deck_few}
@@ -18,8 +18,8 @@ returns g c =
     let with_words : List ℕ → Program = λ words. record { words = words; start = c.program.inside.start; controls = c.program.inside.controls } in
     let same : with_words c.as_slice.result.now ≡ p = ap with_words c.as_slice.ensures.value ∙ c.program.view_is in
     let written : c.as_slice-2.result.now ≡ deck_text p = c.as_slice-2.ensures.value ∙ (c.in_ok-deck.ensures.deck ∙ ap deck_text same) in
-    let lines : ended_lines (parted 10 c.as_slice-2.result.now) ≡ deck_lines p =
-    ap (λ (s : List ℕ). ended_lines (parted 10 s)) written ∙ deck_text-lines p in
+    let lines : whole_lines (pieces_of 10 c.as_slice-2.result.now) ≡ deck_lines p =
+    ap (λ (s : List ℕ). whole_lines (pieces_of 10 s)) written ∙ deck_text-lines p in
     let few : card_count p ≤ 20000 = subst (λ (q : Program). card_count q ≤ 20000) same c.in_ok-deck.ensures.few in (
       writes_output _ _ _ _ _ (ap (lines_alone Done) lines ∙ deck_few p few) c.answer_text.ensures.writes,
       keeps_still [] c.answer_text.result c.answer_text.ensures.ticks,

@@ -1,12 +1,12 @@
 use Rattle.std.proofs.Common.{length}
-use Rattle.st_text.specs.Pieces.{parted}
+use Rattle.st_text.specs.Pieces.{pieces_of}
 use Rattle.st_io.proofs.Progress.{LinesSoFar}
-use Rattle.st_top.specs.ObjectText.{ended_lines}
+use Rattle.st_top.specs.ObjectText.{whole_lines}
 use Rattle.st_top.proofs.objects.write_ended.Given as goal
 
 abbrev pub invariant-lines : goal.invariant-lines
 invariant-lines g l =
-    LinesSoFar (g.K.Sink.output l.fn.out) (g.K.Sink.output l.out) (ended_lines (parted 10 l.text)) (ended_lines (parted 10 l.rest))
+    LinesSoFar (g.K.Sink.output l.fn.out) (g.K.Sink.output l.out) (whole_lines (pieces_of 10 l.text)) (whole_lines (pieces_of 10 l.rest))
 
 abbrev pub decreases-lines : goal.decreases-lines
 decreases-lines g l = length l.rest

@@ -2,14 +2,14 @@ use Rattle.std.proofs.Common.{◌+◌, drop, sym, ◌∙◌, ap, arith}
 use Rattle.st_state.specs.Machine.{Machine}
 use Rattle.st_exec.specs.Transfer.{all_stored}
 use Rattle.st_exec.proofs.TransferLemmas.{all_stored-next, all_stored-all}
-use Rattle.st_back.specs.Steps.{newest}
+use Rattle.st_back.specs.Steps.{newest_step}
 use Rattle.st_back.proofs.ManyLemmas.{put-states}
 use Rattle.st_top.proofs.Besides.{put-fresh, room_at}
 use Rattle.st_top.proofs.past.put_card.Goals as goal
 
 pub put-requires-clause-room : goal.put-requires-clause-room
 put-requires-clause-room c =
-    room_at (newest c.loop-k.steps.kept) c.loop-k.k c.loop-k.invariant.fresh c.loop-k-test.true
+    room_at (newest_step c.loop-k.steps.kept) c.loop-k.k c.loop-k.invariant.fresh c.loop-k-test.true
 
 pub loop-k-preserved : goal.loop-k-preserved
 loop-k-preserved c =

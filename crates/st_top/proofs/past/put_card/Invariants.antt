@@ -1,7 +1,7 @@
 use Rattle.std.proofs.Common.{◌≡◌, ◌+◌, drop}
 use Rattle.std.specs.Prelude.{MatchOption}
 use Rattle.st_exec.specs.Transfer.{all_stored}
-use Rattle.st_back.specs.Steps.{newest, states_before}
+use Rattle.st_back.specs.Steps.{newest_step, states_before}
 use Rattle.st_top.proofs.past.put_card.Given as goal
 
 abbrev pub invariant-loop-k : goal.invariant-loop-k
@@ -9,5 +9,5 @@ invariant-loop-k l = record {
   state : all_stored l.machine (l.w + l.k) (drop l.k l.card) ≡ all_stored l.fn.machine l.w l.card;
   depth : l.steps.depth ≡ l.fn.steps.depth;
   states : states_before l.steps.kept l.machine ≡ states_before l.fn.steps.kept l.fn.machine;
-  fresh : MatchOption (newest l.steps.kept) ⊥ (λ kept. kept.puts ≡ l.k);
+  fresh : MatchOption (newest_step l.steps.kept) ⊥ (λ kept. kept.puts ≡ l.k);
 }

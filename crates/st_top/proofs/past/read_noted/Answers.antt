@@ -1,7 +1,7 @@
 use Rattle.std.proofs.Common.{◌≡◌, ◌∙◌, ap}
 use Rattle.std.specs.Prelude.{None}
 use Rattle.st_state.specs.Machine.{Machine}
-use Rattle.st_state.specs.Interrupts.{signalled}
+use Rattle.st_state.specs.Interrupts.{state_with_signal}
 use Rattle.st_back.specs.Steps.{states_before}
 use Rattle.st_top.proofs.Besides.{states_beside, states_unread}
 use Rattle.st_top.proofs.past.read_noted.Goals as goal
@@ -10,8 +10,8 @@ pub returns-in_default-card-clause-states : goal.returns-in_default-card-clause-
 returns-in_default-card-clause-states c =
     let m = c.args.machine.now in
     let kept = c.args.steps.now.kept in
-    let taken : c.signal.new.self ≡ signalled (record m { reader = None }) 11 =
-    c.signal.ensures ∙ ap (λ (k : Machine). signalled (record k { reader = None }) 11) c.machine.view_is in
+    let taken : c.signal.new.self ≡ state_with_signal (record m { reader = None }) 11 =
+    c.signal.ensures ∙ ap (λ (k : Machine). state_with_signal (record k { reader = None }) 11) c.machine.view_is in
     ap (states_before kept) taken ∙ states_beside kept m None m.printer _ c.shape.ensures
 
 pub returns-clause-states : goal.returns-clause-states

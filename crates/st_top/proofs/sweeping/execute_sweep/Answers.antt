@@ -1,5 +1,5 @@
 use Rattle.std.proofs.Common.{List, ℕ, ◌∙◌, ap}
-use Rattle.st_asm.specs.Assembly.{shown}
+use Rattle.st_asm.specs.Assembly.{assembly_parts}
 use Rattle.st_top.specs.Sweep.{sweep_of}
 use Rattle.st_top.specs.Output.{output_of_sweep}
 use Rattle.st_top.proofs.Outputs.{writes_output}
@@ -8,13 +8,13 @@ use Rattle.st_top.proofs.sweeping.execute_sweep.Goals as goal
 
 pub returns-clause-writes : goal.returns-clause-writes
 returns-clause-writes g c =
-    let a = shown c.args.program.now in
+    let a = assembly_parts c.args.program.now in
     writes_output _ _ _ _ _
     (ap output_of_sweep (c.in-Ok.ensures.value ∙ ap (λ (image : List ℕ). sweep_of image a.start a.asked) c.as_slice-words.ensures.value))
     c.answer_swept.ensures
 
 pub returns-clause-in_time : goal.returns-clause-in_time
 returns-clause-in_time g c =
-    let a = shown c.args.program.now in
+    let a = assembly_parts c.args.program.now in
     keeps_sweep c.as_slice-words.result.now a.start a.asked _ _ _ c.requires.delays c.requires.limits.delays.each c.sweep_image.ensures.scene
     (writes_output _ _ _ _ _ (ap output_of_sweep c.in-Ok.ensures.value) c.answer_swept.ensures)

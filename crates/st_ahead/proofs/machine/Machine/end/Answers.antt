@@ -3,9 +3,9 @@ use Rattle.std.proofs.Common.{◌≡◌, ◌<◌, ◌≤◌, ◌^◌, true, sym,
 use Rattle.st_rows.proofs.Within.{AreDelays-list}
 use Rattle.st_levels.specs.Levels.{oldest_front}
 use Rattle.st_ahead.specs.Overlap.{Overlap, with_counter}
-use Rattle.st_ahead.specs.Calls.{dropped, ended}
+use Rattle.st_ahead.specs.Calls.{drop_count, machine_after_segment}
 use Rattle.st_ahead.specs.Look.{count}
-use Rattle.st_ahead.specs.Inside.{standing}
+use Rattle.st_ahead.specs.Inside.{overlap_of}
 use Rattle.st_ahead.proofs.Settling.{end-again, end-first, ending, fresh-closing, counted-index}
 use Rattle.st_ahead.proofs.machine.Machine.end.Goals as goal
 use Rattle.st_ahead.proofs.Laws.{looks_are_levels}
@@ -13,13 +13,13 @@ use Rattle.st_ahead.proofs.Laws.{looks_are_levels}
 pub returns-then-self-clause-dropped : goal.returns-then-self-clause-dropped
 returns-then-self-clause-dropped g c =
     let i = c.self.inside in
-    subst (λ (m : Overlap). 0 ≡ dropped m) c.self.view_is
+    subst (λ (m : Overlap). 0 ≡ drop_count m) c.self.view_is
     (end-again i.stopped g.row.N i.delays i.state i.taken i.behind i.now i.owed i.ended i.fresh i.look c.if-self.true).0
 
 pub returns-then-self-clause-after : goal.returns-then-self-clause-after
 returns-then-self-clause-after g c =
     let i = c.self.inside in
-    subst (λ (m : Overlap). m ≡ ended m) c.self.view_is
+    subst (λ (m : Overlap). m ≡ machine_after_segment m) c.self.view_is
     (end-again i.stopped g.row.N i.delays i.state i.taken i.behind i.now i.owed i.ended i.fresh i.look c.if-self.true).1
 
 pub end-dropped-requires : goal.end-dropped-requires
@@ -63,7 +63,7 @@ returns-clause-dropped g c =
     let done = subst (λ (m : Overlap). IsSome m.closing) (sym c.self.view_is) c.requires.done in
     let fresh = fresh-closing i.stopped n i.delays i.state i.taken i.behind i.now i.owed i.ended i.fresh i.look done in
     let most : count i.look ≤ n = c.shape-2.ensures in
-    subst (λ (m : Overlap). c.end-dropped.result ≡ dropped m) c.self.view_is
+    subst (λ (m : Overlap). c.end-dropped.result ≡ drop_count m) c.self.view_is
     (c.end-dropped.ensures.dropped ∙
     (end-first i.stopped n i.delays i.state i.taken i.behind i.now i.owed i.ended i.fresh i.look c.end-dropped.new.self c.self.invariant owes c.if-self.false fresh most
     (λ look. looks_are_levels i.delays n i.now i.now i.taken (with_counter i.behind i.state) (oldest_front i.look.levels.plans i.look.front) i.look
@@ -81,7 +81,7 @@ returns-clause-after g c =
     let fresh = fresh-closing i.stopped n i.delays i.state i.taken i.behind i.now i.owed i.ended i.fresh i.look done in
     let most : count i.look ≤ n = c.shape-2.ensures in
     let w = c.end-dropped.new.self in
-    subst (λ (m : Overlap). standing n i.delays i.state i.taken i.behind i.now i.owed true i.stopped i.fresh w ≡ ended m) c.self.view_is
+    subst (λ (m : Overlap). overlap_of n i.delays i.state i.taken i.behind i.now i.owed true i.stopped i.fresh w ≡ machine_after_segment m) c.self.view_is
     (end-first i.stopped n i.delays i.state i.taken i.behind i.now i.owed i.ended i.fresh i.look w c.self.invariant owes c.if-self.false fresh most
     (λ look. looks_are_levels i.delays n i.now i.now i.taken (with_counter i.behind i.state) (oldest_front i.look.levels.plans i.look.front) i.look
     c.self.invariant.some c.self.invariant.few (AreDelays-list i.delays c.shape.ensures) (omega arith) most look)

@@ -2,9 +2,9 @@ use Rattle.std.proofs.Common.{◌≡◌, ◌<◌, ◌≤◌, ◌^◌, None, true
 use Rattle.st_rows.proofs.Within.{AreDelays-list}
 use Rattle.st_levels.specs.Levels.{oldest_front}
 use Rattle.st_ahead.specs.Overlap.{Overlap, with_counter}
-use Rattle.st_ahead.specs.Calls.{dropped, ended}
+use Rattle.st_ahead.specs.Calls.{drop_count, machine_after_segment}
 use Rattle.st_ahead.specs.Look.{count}
-use Rattle.st_ahead.specs.Inside.{standing}
+use Rattle.st_ahead.specs.Inside.{overlap_of}
 use Rattle.st_ahead.proofs.Settling.{end-again, given-up, giving-up, counted-index}
 use Rattle.st_ahead.proofs.machine.Machine.give_up.Goals as goal
 use Rattle.st_ahead.proofs.Laws.{looks_are_levels}
@@ -12,13 +12,13 @@ use Rattle.st_ahead.proofs.Laws.{looks_are_levels}
 pub returns-then-self-clause-dropped : goal.returns-then-self-clause-dropped
 returns-then-self-clause-dropped g c =
     let i = c.self.inside in
-    subst (λ (m : Overlap). 0 ≡ dropped m) c.self.view_is
+    subst (λ (m : Overlap). 0 ≡ drop_count m) c.self.view_is
     (end-again i.stopped g.row.N i.delays i.state i.taken i.behind i.now i.owed i.ended i.fresh i.look c.if-self.true).0
 
 pub returns-then-self-clause-after : goal.returns-then-self-clause-after
 returns-then-self-clause-after g c =
     let i = c.self.inside in
-    subst (λ (m : Overlap). m ≡ ended m) c.self.view_is
+    subst (λ (m : Overlap). m ≡ machine_after_segment m) c.self.view_is
     (end-again i.stopped g.row.N i.delays i.state i.taken i.behind i.now i.owed i.ended i.fresh i.look c.if-self.true).1
 
 pub give_up-dropped-requires : goal.give_up-dropped-requires
@@ -49,7 +49,7 @@ returns-clause-dropped g c =
     let owes = subst (λ (m : Overlap). m.owed ≡ true) (sym c.self.view_is) c.requires.owed in
     let none = subst (λ (m : Overlap). m.closing ≡ None) (sym c.self.view_is) c.requires.none in
     let most : count i.look ≤ n = c.shape-2.ensures in
-    subst (λ (m : Overlap). c.give_up-dropped.result ≡ dropped m) c.self.view_is
+    subst (λ (m : Overlap). c.give_up-dropped.result ≡ drop_count m) c.self.view_is
     (c.give_up-dropped.ensures.dropped ∙
     (given-up i.stopped n i.delays i.state i.taken i.behind i.now i.owed i.ended i.fresh i.look c.give_up-dropped.new.self c.self.invariant owes c.if-self.false none most
     (λ look. looks_are_levels i.delays n i.now i.now i.taken (with_counter i.behind i.state) (oldest_front i.look.levels.plans i.look.front) i.look
@@ -65,7 +65,7 @@ returns-clause-after g c =
     let none = subst (λ (m : Overlap). m.closing ≡ None) (sym c.self.view_is) c.requires.none in
     let most : count i.look ≤ n = c.shape-2.ensures in
     let w = c.give_up-dropped.new.self in
-    subst (λ (m : Overlap). standing n i.delays i.state i.taken i.behind i.now i.owed true i.stopped i.fresh w ≡ ended m) c.self.view_is
+    subst (λ (m : Overlap). overlap_of n i.delays i.state i.taken i.behind i.now i.owed true i.stopped i.fresh w ≡ machine_after_segment m) c.self.view_is
     (given-up i.stopped n i.delays i.state i.taken i.behind i.now i.owed i.ended i.fresh i.look w c.self.invariant owes c.if-self.false none most
     (λ look. looks_are_levels i.delays n i.now i.now i.taken (with_counter i.behind i.state) (oldest_front i.look.levels.plans i.look.front) i.look
     c.self.invariant.some c.self.invariant.few (AreDelays-list i.delays c.shape.ensures) (omega arith) most look)

@@ -2,8 +2,8 @@ use Rattle.std.proofs.Common.{◌≡◌, ◌+◌, ◌<◌, ◌^◌, true, false,
 use Rattle.st_exec.specs.Step.{rests}
 use Rattle.st_levels.specs.Levels.{oldest_front}
 use Rattle.st_ahead.specs.Overlap.{Overlap, interrupt_due}
-use Rattle.st_ahead.specs.Calls.{passed}
-use Rattle.st_ahead.specs.Inside.{standing}
+use Rattle.st_ahead.specs.Calls.{machine_after_pass}
+use Rattle.st_ahead.specs.Inside.{overlap_of}
 use Rattle.st_ahead.proofs.Settling.{go-inside, going-look, look-goes}
 use Rattle.st_ahead.proofs.machine.Machine.go_on.Goals as goal
 use Rattle.st_levels.proofs.Laws.{levels_are_the_entries_ahead}
@@ -72,7 +72,7 @@ returns g c =
     let both = going-look i.stopped n i.delays i.state i.taken i.behind i.now i.owed i.ended i.fresh i.look c.self.invariant owes c.if-self.false right in
     let f = oldest_front i.look.levels.plans i.look.front in
     let look = c.go_on.ensures i.taken f both.0 in
-    subst (λ (m : Overlap). standing n i.delays i.state i.taken i.behind (i.now + 1) false i.ended i.stopped false w ≡ passed m) c.self.view_is
+    subst (λ (m : Overlap). overlap_of n i.delays i.state i.taken i.behind (i.now + 1) false i.ended i.stopped false w ≡ machine_after_pass m) c.self.view_is
     (go-inside i.stopped n i.delays i.state i.taken i.behind i.now i.owed i.ended i.fresh i.look w c.self.invariant
     (subst (λ (m : Overlap). m.stopped ≡ false) (sym c.self.view_is) c.requires.stands) owes c.if-self.false right
     (subst (λ (m : Overlap). interrupt_due m ≡ None) (sym c.self.view_is) c.requires.due)

@@ -1,10 +1,10 @@
 use Rattle.std.specs.Prelude.{get_or}
 use Rattle.std.proofs.Common.{◌≡◌, ◌≤◌, length, None, ap, subst, ◌∙◌, sym, arith}
 use Rattle.st_rows.proofs.Within.{AreDelays-list}
-use Rattle.st_ahead.specs.Overlap.{Overlap, seen, last_tick}
+use Rattle.st_ahead.specs.Overlap.{Overlap, state_ahead, last_tick_made}
 use Rattle.st_ahead.specs.Look.{count}
-use Rattle.st_ahead.specs.Shown.{shown}
-use Rattle.st_ahead.specs.Inside.{standing, kept_at}
+use Rattle.st_ahead.specs.Shown.{view_at_tick}
+use Rattle.st_ahead.specs.Inside.{overlap_of, kept_at}
 use Rattle.st_ahead.proofs.Showing.{look-inside, soon-last, showing}
 use Rattle.st_ahead.proofs.Views.{showing-level, showing-eight}
 use Rattle.st_ahead.proofs.machine.Machine.level.Goals as goal
@@ -14,22 +14,22 @@ pub returns-clause-value : goal.returns-clause-value
 returns-clause-value g c =
     let n = g.row.N in
     let i = c.self.inside in
-    let m = standing n i.delays i.state i.taken i.behind i.now i.owed i.ended i.stopped i.fresh i.look in
+    let m = overlap_of n i.delays i.state i.taken i.behind i.now i.owed i.ended i.stopped i.fresh i.look in
     let look = look-inside i.stopped n i.delays i.state i.taken i.behind i.now i.owed i.ended i.fresh i.look c.self.invariant c.shape-3.ensures in
-    let is = showing m i.look look (looks_are_levels i.delays n (last_tick m) i.now i.taken (seen m) m.front i.look
+    let is = showing m i.look look (looks_are_levels i.delays n (last_tick_made m) i.now i.taken (state_ahead m) m.front i.look
     c.self.invariant.some c.self.invariant.few (AreDelays-list i.delays c.shape.ensures) (soon-last i.owed i.now) c.shape-2.ensures look) in
-    let tick = c.last_tick-tick.ensures ∙ ap (λ (x : Overlap). last_tick x) (sym c.self.view_is) in
-    subst (λ (x : Overlap). c.level.result ≡ get_or (shown x).levels c.args.k None) c.self.view_is
+    let tick = c.last_tick-tick.ensures ∙ ap (λ (x : Overlap). last_tick_made x) (sym c.self.view_is) in
+    subst (λ (x : Overlap). c.level.result ≡ get_or (view_at_tick x).levels c.args.k None) c.self.view_is
     (c.level.ensures ∙ ap (λ t. kept_at t i.look.levels.ring i.look.levels.plans c.args.k) tick ∙ showing-level m i.look c.args.k is)
 
 pub returns-clause-eight : goal.returns-clause-eight
 returns-clause-eight g c =
     let n = g.row.N in
     let i = c.self.inside in
-    let m = standing n i.delays i.state i.taken i.behind i.now i.owed i.ended i.stopped i.fresh i.look in
+    let m = overlap_of n i.delays i.state i.taken i.behind i.now i.owed i.ended i.stopped i.fresh i.look in
     let look = look-inside i.stopped n i.delays i.state i.taken i.behind i.now i.owed i.ended i.fresh i.look c.self.invariant c.shape-3.ensures in
-    let is = showing m i.look look (looks_are_levels i.delays n (last_tick m) i.now i.taken (seen m) m.front i.look
+    let is = showing m i.look look (looks_are_levels i.delays n (last_tick_made m) i.now i.taken (state_ahead m) m.front i.look
     c.self.invariant.some c.self.invariant.few (AreDelays-list i.delays c.shape.ensures) (soon-last i.owed i.now) c.shape-2.ensures look) in
     let most : count i.look ≤ n = c.shape-2.ensures in
     let few : n ≤ 8 = c.self.invariant.few in
-    subst (λ (x : Overlap). length (shown x).levels ≡ 8) c.self.view_is (showing-eight m i.look is (omega (arith, most, few)))
+    subst (λ (x : Overlap). length (view_at_tick x).levels ≡ 8) c.self.view_is (showing-eight m i.look is (omega (arith, most, few)))

@@ -1,5 +1,5 @@
 use Rattle.std.proofs.Common.{ℕ, List, None, subst}
-use Rattle.st_rows.specs.Rows.{opening}
+use Rattle.st_rows.specs.Rows.{opening_front}
 use Rattle.st_ahead.specs.Look.{IsOpened}
 use Rattle.st_ahead.proofs.Standing.{started-inside}
 use Rattle.st_ahead.proofs.machine.Machine.new.Goals as goal
@@ -7,9 +7,9 @@ use Rattle.st_ahead.proofs.machine.Machine.new.Goals as goal
 pub invariant_of-result : goal.invariant_of-result
 invariant_of-result g c = (started-inside g.row.N c.args.delays c.args.state c.new-look.result c.requires.some c.requires.few c.shape.ensures
     c.requires.enabled c.requires.waiting
-    (subst (λ (ticks : List ℕ). IsOpened None c.args.state (opening (record { ticks = ticks }) 0) c.new-look.result) c.new.ensures c.new-look.ensures)).0
+    (subst (λ (ticks : List ℕ). IsOpened None c.args.state (opening_front (record { ticks = ticks }) 0) c.new-look.result) c.new.ensures c.new-look.ensures)).0
 
 pub returns : goal.returns
 returns g c = (started-inside g.row.N c.args.delays c.args.state c.new-look.result c.requires.some c.requires.few c.shape.ensures
     c.requires.enabled c.requires.waiting
-    (subst (λ (ticks : List ℕ). IsOpened None c.args.state (opening (record { ticks = ticks }) 0) c.new-look.result) c.new.ensures c.new-look.ensures)).1
+    (subst (λ (ticks : List ℕ). IsOpened None c.args.state (opening_front (record { ticks = ticks }) 0) c.new-look.result) c.new.ensures c.new-look.ensures)).1

@@ -1,8 +1,8 @@
 use Rattle.std.proofs.Common.{◌≡◌, ◌+◌, ◌<◌, ◌^◌, true, false, None, sym, subst, arith}
 use Rattle.st_exec.specs.Step.{rests}
 use Rattle.st_ahead.specs.Overlap.{Overlap, interrupt_due}
-use Rattle.st_ahead.specs.Calls.{passed}
-use Rattle.st_ahead.specs.Inside.{standing}
+use Rattle.st_ahead.specs.Calls.{machine_after_pass}
+use Rattle.st_ahead.specs.Inside.{overlap_of}
 use Rattle.st_ahead.proofs.Settling.{pass-inside, owed-early}
 use Rattle.st_ahead.proofs.machine.Machine.pass.Goals as goal
 
@@ -26,7 +26,7 @@ invariant_of-self g c =
 pub returns : goal.returns
 returns g c =
     let i = c.self.inside in
-    subst (λ (m : Overlap). standing g.row.N i.delays i.state i.taken None (i.now + 1) false false i.stopped false i.look ≡ passed m) c.self.view_is
+    subst (λ (m : Overlap). overlap_of g.row.N i.delays i.state i.taken None (i.now + 1) false false i.stopped false i.look ≡ machine_after_pass m) c.self.view_is
     (pass-inside i.stopped g.row.N i.delays i.state i.taken i.behind i.now i.owed i.ended i.fresh i.look c.self.invariant
     (subst (λ (m : Overlap). m.stopped ≡ false) (sym c.self.view_is) c.requires.stands) c.shape.ensures
     (subst (λ (m : Overlap). m.owed ≡ true) (sym c.self.view_is) c.requires.owed)

@@ -6,7 +6,7 @@ use Rattle.st_exec.specs.Transfer.{words_from}
 use Rattle.st_rows.proofs.Within.{AreDelays-list}
 use Rattle.st_ahead.specs.Overlap.{Overlap}
 use Rattle.st_ahead.specs.Calls.{MayServe, printed_by}
-use Rattle.st_ahead.specs.Inside.{standing}
+use Rattle.st_ahead.specs.Inside.{overlap_of}
 use Rattle.st_ahead.proofs.Signals.{signal-inside}
 use Rattle.st_ahead.proofs.machine.Machine.print_out.Goals as goal
 use Rattle.st_exec.proofs.Laws.{orders_are_passed_over}
@@ -31,5 +31,5 @@ pub returns-clause-after : goal.returns-clause-after
 returns-clause-after g c =
     let n = g.row.N in
     let i = c.self.inside in
-    subst (λ (m : Overlap). standing n i.delays c.print_out-words.new.state i.taken i.behind i.now i.owed i.ended i.stopped i.fresh i.look ≡ printed_by m) c.self.view_is
-    (ap (λ (u : Machine). standing n i.delays u i.taken i.behind i.now i.owed i.ended i.stopped i.fresh i.look) c.print_out-words.ensures.state)
+    subst (λ (m : Overlap). overlap_of n i.delays c.print_out-words.new.state i.taken i.behind i.now i.owed i.ended i.stopped i.fresh i.look ≡ printed_by m) c.self.view_is
+    (ap (λ (u : Machine). overlap_of n i.delays u i.taken i.behind i.now i.owed i.ended i.stopped i.fresh i.look) c.print_out-words.ensures.state)

@@ -4,7 +4,7 @@ use Rattle.st_state.specs.Machine.{Machine}
 use Rattle.st_rows.proofs.Within.{AreDelays-list}
 use Rattle.st_ahead.specs.Overlap.{Overlap}
 use Rattle.st_ahead.specs.Calls.{MayServe, read_in_by}
-use Rattle.st_ahead.specs.Inside.{standing}
+use Rattle.st_ahead.specs.Inside.{overlap_of}
 use Rattle.st_ahead.proofs.Signals.{signal-inside}
 use Rattle.st_ahead.proofs.Cards.{no_card-alike, with-read}
 use Rattle.st_ahead.proofs.machine.Machine.read_nothing.Goals as goal
@@ -27,6 +27,6 @@ pub returns : goal.returns
 returns g c =
     let n = g.row.N in
     let i = c.self.inside in
-    subst (λ (m : Overlap). IfSome m.state.reader (λ order. standing n i.delays c.read_in.new.state i.taken i.behind i.now i.owed i.ended i.stopped i.fresh i.look ≡ read_in_by order.word None m))
+    subst (λ (m : Overlap). IfSome m.state.reader (λ order. overlap_of n i.delays c.read_in.new.state i.taken i.behind i.now i.owed i.ended i.stopped i.fresh i.look ≡ read_in_by order.word None m))
     c.self.view_is
-    (with-read i.state.reader None i.state c.read_in.new.state (λ (u : Machine). standing n i.delays u i.taken i.behind i.now i.owed i.ended i.stopped i.fresh i.look) c.read_in.ensures)
+    (with-read i.state.reader None i.state c.read_in.new.state (λ (u : Machine). overlap_of n i.delays u i.taken i.behind i.now i.owed i.ended i.stopped i.fresh i.look) c.read_in.ensures)

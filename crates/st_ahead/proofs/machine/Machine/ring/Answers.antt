@@ -2,9 +2,9 @@ use Rattle.std.proofs.Common.{length, subst, sym, ap, arith}
 use Rattle.st_rows.proofs.Within.{AreDelays-list}
 use Rattle.st_ring.specs.declared.level.Level.{Level}
 use Rattle.std.specs.Prelude.{List}
-use Rattle.st_ahead.specs.Overlap.{Overlap, seen, last_tick}
+use Rattle.st_ahead.specs.Overlap.{Overlap, state_ahead, last_tick_made}
 use Rattle.st_ahead.specs.Shown.{AreLevelsOf}
-use Rattle.st_ahead.specs.Inside.{standing}
+use Rattle.st_ahead.specs.Inside.{overlap_of}
 use Rattle.st_ahead.proofs.Showing.{look-inside, soon-last, showing, showing-ring}
 use Rattle.st_ahead.proofs.machine.Machine.ring.Goals as goal
 use Rattle.st_ahead.proofs.Laws.{looks_are_levels}
@@ -13,9 +13,9 @@ pub returns-clause-levels : goal.returns-clause-levels
 returns-clause-levels g c =
     let n = g.row.N in
     let i = c.self.inside in
-    let m = standing n i.delays i.state i.taken i.behind i.now i.owed i.ended i.stopped i.fresh i.look in
+    let m = overlap_of n i.delays i.state i.taken i.behind i.now i.owed i.ended i.stopped i.fresh i.look in
     let look = look-inside i.stopped n i.delays i.state i.taken i.behind i.now i.owed i.ended i.fresh i.look c.self.invariant c.shape-3.ensures in
-    let is = showing m i.look look (looks_are_levels i.delays n (last_tick m) i.now i.taken (seen m) m.front i.look
+    let is = showing m i.look look (looks_are_levels i.delays n (last_tick_made m) i.now i.taken (state_ahead m) m.front i.look
     c.self.invariant.some c.self.invariant.few (AreDelays-list i.delays c.shape.ensures) (soon-last i.owed i.now) c.shape-2.ensures look) in
     subst (λ (x : Overlap). AreLevelsOf x c.ring.result.now) c.self.view_is
     (subst (λ (levels : List Level). AreLevelsOf m levels) (sym c.ring.ensures) (showing-ring m i.look is))

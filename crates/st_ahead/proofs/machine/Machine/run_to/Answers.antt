@@ -2,13 +2,13 @@ use Rattle.std.proofs.Common.{◌≡◌, ◌+◌, ◌-◌, ◌<◌, ◌^◌, tru
 use Rattle.st_state.specs.Machine.{Machine}
 use Rattle.st_prep.specs.Plan.{plan}
 use Rattle.st_exec.specs.Completion.{guess, is_missed}
-use Rattle.st_rows.specs.Rows.{after}
+use Rattle.st_rows.specs.Rows.{front_after_entry}
 use Rattle.st_segment.specs.Entries.{entry}
 use Rattle.st_levels.specs.Levels.{oldest_front}
 use Rattle.st_ahead.specs.Overlap.{Overlap}
 use Rattle.st_ahead.specs.RunTo.{ArePassed, StopsAt}
-use Rattle.st_ahead.specs.Running.{HasRun}
-use Rattle.st_ahead.specs.Inside.{standing}
+use Rattle.st_ahead.specs.Running.{HasRunTo}
+use Rattle.st_ahead.specs.Inside.{overlap_of}
 use Rattle.st_ahead.specs.declared.look_run.Stop.{Stop}
 use Rattle.st_ahead.proofs.Idling.{passed-none}
 use Rattle.st_ahead.proofs.Standing.{idle, guess-seen, told as told_row}
@@ -66,7 +66,7 @@ invariant_of-self g c =
     let owes = subst (λ (m : Overlap). m.owed ≡ false) (sym c.self.view_is) c.requires.settled in
     let at = idle i.stopped n i.delays i.state i.taken i.behind i.now i.owed i.ended i.fresh v c.self.invariant owes in
     let awake = awake-inside i.stopped n i.delays i.state i.taken i.behind i.now i.owed i.ended i.fresh v c.self.invariant owes in
-    let by = subst (λ (x : Option Stop). HasRun i.delays n c.args.count c.args.last i.now i.taken i.state f c.run_to-stop.new.taken c.run_to-stop.new.state w x) c.in_default.is
+    let by = subst (λ (x : Option Stop). HasRunTo i.delays n c.args.count c.args.last i.now i.taken i.state f c.run_to-stop.new.taken c.run_to-stop.new.state w x) c.in_default.is
     (c.run_to-stop.ensures f i.now at.look (omega (arith, c.if-now-last.false)) awake) in
     let front = levels_are_the_entries_ahead.oldest i.delays n c.args.last c.run_to-stop.new.taken c.run_to-stop.new.state by.front w.front w.levels by.look.ahead in
     let all = passed-machine i.stopped n i.delays i.state c.run_to-stop.new.state i.taken c.run_to-stop.new.taken i.behind i.now c.args.last c.args.count i.owed i.ended i.fresh v w
@@ -83,12 +83,12 @@ returns-in_default g c =
     let owes = subst (λ (m : Overlap). m.owed ≡ false) (sym c.self.view_is) c.requires.settled in
     let at = idle i.stopped n i.delays i.state i.taken i.behind i.now i.owed i.ended i.fresh v c.self.invariant owes in
     let awake = awake-inside i.stopped n i.delays i.state i.taken i.behind i.now i.owed i.ended i.fresh v c.self.invariant owes in
-    let by = subst (λ (x : Option Stop). HasRun i.delays n c.args.count c.args.last i.now i.taken i.state f c.run_to-stop.new.taken c.run_to-stop.new.state w x) c.in_default.is
+    let by = subst (λ (x : Option Stop). HasRunTo i.delays n c.args.count c.args.last i.now i.taken i.state f c.run_to-stop.new.taken c.run_to-stop.new.state w x) c.in_default.is
     (c.run_to-stop.ensures f i.now at.look (omega (arith, c.if-now-last.false)) awake) in
     let front = levels_are_the_entries_ahead.oldest i.delays n c.args.last c.run_to-stop.new.taken c.run_to-stop.new.state by.front w.front w.levels by.look.ahead in
     let all = passed-machine i.stopped n i.delays i.state c.run_to-stop.new.state i.taken c.run_to-stop.new.taken i.behind i.now c.args.last c.args.count i.owed i.ended i.fresh v w
     c.self.invariant owes c.requires.last by front in
-    subst (λ (m : Overlap). ArePassed c.args.count (c.args.last + 1 - m.now) m (standing n i.delays c.run_to-stop.new.state c.run_to-stop.new.taken i.behind (c.args.last + 1) i.owed i.ended i.stopped i.fresh w))
+    subst (λ (m : Overlap). ArePassed c.args.count (c.args.last + 1 - m.now) m (overlap_of n i.delays c.run_to-stop.new.state c.run_to-stop.new.taken i.behind (c.args.last + 1) i.owed i.ended i.stopped i.fresh w))
     c.self.view_is all.1
 
 pub invariant_of-self-2 : goal.invariant_of-self-2
@@ -101,11 +101,11 @@ invariant_of-self-2 g c =
     let owes = subst (λ (m : Overlap). m.owed ≡ false) (sym c.self.view_is) c.requires.settled in
     let at = idle i.stopped n i.delays i.state i.taken i.behind i.now i.owed i.ended i.fresh v c.self.invariant owes in
     let awake = awake-inside i.stopped n i.delays i.state i.taken i.behind i.now i.owed i.ended i.fresh v c.self.invariant owes in
-    let by = subst (λ (x : Option Stop). HasRun i.delays n c.args.count c.args.last i.now i.taken i.state f c.run_to-stop.new.taken c.run_to-stop.new.state w x) c.in-Some.is
+    let by = subst (λ (x : Option Stop). HasRunTo i.delays n c.args.count c.args.last i.now i.taken i.state f c.run_to-stop.new.taken c.run_to-stop.new.state w x) c.in-Some.is
     (c.run_to-stop.ensures f i.now at.look (omega (arith, c.if-now-last.false)) awake) in
     let stop = c.in-Some.stop in
     let told = by.done_at in
-    let front = levels_are_the_entries_ahead.oldest i.delays n stop.tick None (guess by.table by.state) (after i.delays n by.front (entry by.table by.state)) w.front w.levels
+    let front = levels_are_the_entries_ahead.oldest i.delays n stop.tick None (guess by.table by.state) (front_after_entry i.delays n by.front (entry by.table by.state)) w.front w.levels
     told.look.ahead in
     let guessed = guess-seen by.table by.state c.run_to-stop.new.state (is_missed (plan by.state by.table) by.state) stop.done.missed refl told.state told.told.missed
     (steps_are_guesses.right by.table by.state by.machine by.indicator) (steps_are_guesses.missed by.table by.state by.machine by.indicator) in
@@ -124,11 +124,11 @@ returns g c =
     let owes = subst (λ (m : Overlap). m.owed ≡ false) (sym c.self.view_is) c.requires.settled in
     let at = idle i.stopped n i.delays i.state i.taken i.behind i.now i.owed i.ended i.fresh v c.self.invariant owes in
     let awake = awake-inside i.stopped n i.delays i.state i.taken i.behind i.now i.owed i.ended i.fresh v c.self.invariant owes in
-    let by = subst (λ (x : Option Stop). HasRun i.delays n c.args.count c.args.last i.now i.taken i.state f c.run_to-stop.new.taken c.run_to-stop.new.state w x) c.in-Some.is
+    let by = subst (λ (x : Option Stop). HasRunTo i.delays n c.args.count c.args.last i.now i.taken i.state f c.run_to-stop.new.taken c.run_to-stop.new.state w x) c.in-Some.is
     (c.run_to-stop.ensures f i.now at.look (omega (arith, c.if-now-last.false)) awake) in
     let stop = c.in-Some.stop in
     let told = by.done_at in
-    let front = levels_are_the_entries_ahead.oldest i.delays n stop.tick None (guess by.table by.state) (after i.delays n by.front (entry by.table by.state)) w.front w.levels
+    let front = levels_are_the_entries_ahead.oldest i.delays n stop.tick None (guess by.table by.state) (front_after_entry i.delays n by.front (entry by.table by.state)) w.front w.levels
     told.look.ahead in
     let guessed = guess-seen by.table by.state c.run_to-stop.new.state (is_missed (plan by.state by.table) by.state) stop.done.missed refl told.state told.told.missed
     (steps_are_guesses.right by.table by.state by.machine by.indicator) (steps_are_guesses.missed by.table by.state by.machine by.indicator) in
@@ -136,4 +136,4 @@ returns g c =
     let all = stopped-machine i.stopped n i.delays i.state c.run_to-stop.new.state i.taken c.run_to-stop.new.taken i.behind i.now c.args.last c.args.count stop.tick c.done_in-number.result
     i.owed i.ended i.fresh v w stop.done c.self.invariant owes c.requires.last by front guessed counted in
     subst (λ (m : Overlap). StopsAt c.args.count c.args.last (told_row c.done_in-number.result stop.done.address stop.done.p stop.done.r stop.tick) m
-    (standing n i.delays c.run_to-stop.new.state c.run_to-stop.new.taken stop.done.missed stop.tick true i.ended i.stopped true w)) c.self.view_is all.1
+    (overlap_of n i.delays c.run_to-stop.new.state c.run_to-stop.new.taken stop.done.missed stop.tick true i.ended i.stopped true w)) c.self.view_is all.1

@@ -1,7 +1,7 @@
 use Rattle.std.specs.Prelude.{is_none, if◌then◌else◌}
 use Rattle.std.proofs.Common.{None, refl, ap, sym, ◌∙◌, arith}
 use Rattle.st_exec.specs.Step.{interrupt, rests}
-use Rattle.st_ahead.specs.Calls.{passed}
+use Rattle.st_ahead.specs.Calls.{machine_after_pass}
 use Rattle.st_ahead.proofs.Settling.{ended-rest, answer-waits, settled-waits, answer-missed, settled-missed, answer-goes, settled-goes, misled}
 use Rattle.st_ahead.proofs.machine.Machine.settle.Goals as goal
 
@@ -51,4 +51,4 @@ returns-clause-after g c =
     let goes = sym c.is_resting.ensures ∙ c.if-is_resting.false in
     settled-missed c.args.self.now c.pass.new.self due goes
     (misled c.args.self.now due goes (c.goes_on.ensures.no c.if-goes_on.false))
-    (c.pass.ensures ∙ ap (λ m. passed m) c.end-dropped.ensures.after)
+    (c.pass.ensures ∙ ap (λ m. machine_after_pass m) c.end-dropped.ensures.after)

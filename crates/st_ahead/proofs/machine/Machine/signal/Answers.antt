@@ -3,7 +3,7 @@ use Rattle.st_prep.specs.BesideOrders.{AreAlikeBesideOrders}
 use Rattle.st_rows.proofs.Within.{AreDelays-list}
 use Rattle.st_ahead.specs.Overlap.{Overlap}
 use Rattle.st_ahead.specs.Calls.{MaySignal, signalled_by}
-use Rattle.st_ahead.specs.Inside.{standing}
+use Rattle.st_ahead.specs.Inside.{overlap_of}
 use Rattle.st_ahead.proofs.Signals.{signal-inside}
 use Rattle.st_ahead.proofs.machine.Machine.signal.Goals as goal
 use Rattle.st_exec.proofs.Laws.{orders_are_passed_over}
@@ -24,5 +24,5 @@ pub returns : goal.returns
 returns g c =
     let i = c.self.inside in
     let u = c.signal.new.self in
-    subst (λ (m : Overlap). standing g.row.N i.delays u i.taken i.behind i.now i.owed i.ended i.stopped i.fresh i.look ≡ signalled_by c.args.i m) c.self.view_is
-    (ap (λ x. standing g.row.N i.delays x i.taken i.behind i.now i.owed i.ended i.stopped i.fresh i.look) c.signal.ensures)
+    subst (λ (m : Overlap). overlap_of g.row.N i.delays u i.taken i.behind i.now i.owed i.ended i.stopped i.fresh i.look ≡ signalled_by c.args.i m) c.self.view_is
+    (ap (λ x. overlap_of g.row.N i.delays x i.taken i.behind i.now i.owed i.ended i.stopped i.fresh i.look) c.signal.ensures)

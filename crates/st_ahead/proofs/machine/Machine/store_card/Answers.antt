@@ -3,7 +3,7 @@ use Rattle.std.proofs.Common.{◌≡◌, true, Some, sym, subst}
 use Rattle.st_state.specs.Machine.{Machine}
 use Rattle.st_exec.specs.Transfer.{read_in}
 use Rattle.st_ahead.specs.Overlap.{Overlap}
-use Rattle.st_ahead.specs.Inside.{standing}
+use Rattle.st_ahead.specs.Inside.{overlap_of}
 use Rattle.st_ahead.proofs.Cards.{card-inside, with-read}
 use Rattle.st_ahead.proofs.Settling.{fresh-closing}
 use Rattle.st_ahead.proofs.machine.Machine.store_card.Goals as goal
@@ -23,7 +23,7 @@ pub returns : goal.returns
 returns g c =
     let n = g.row.N in
     let i = c.self.inside in
-    subst (λ (m : Overlap). IfSome m.state.reader (λ order. standing n i.delays c.read_in.new.state i.taken i.behind i.now i.owed i.ended i.stopped i.fresh i.look
+    subst (λ (m : Overlap). IfSome m.state.reader (λ order. overlap_of n i.delays c.read_in.new.state i.taken i.behind i.now i.owed i.ended i.stopped i.fresh i.look
     ≡ record m { state = read_in m.state order.word (Some c.args.card) }))
     c.self.view_is
-    (with-read i.state.reader (Some c.args.card) i.state c.read_in.new.state (λ (u : Machine). standing n i.delays u i.taken i.behind i.now i.owed i.ended i.stopped i.fresh i.look) c.read_in.ensures)
+    (with-read i.state.reader (Some c.args.card) i.state c.read_in.new.state (λ (u : Machine). overlap_of n i.delays u i.taken i.behind i.now i.owed i.ended i.stopped i.fresh i.look) c.read_in.ensures)

@@ -1,16 +1,16 @@
 use Rattle.std.proofs.Common.{◌≡◌, ◌+◌, ◌-◌, ◌<◌, ◌≤◌, ◌^◌, true, false, Option, None, refl, ap, sym, subst, ◌∙◌, arith}
 use Rattle.st_prep.specs.Plan.{plan}
 use Rattle.st_exec.specs.Completion.{guess, is_missed}
-use Rattle.st_rows.specs.Rows.{after}
+use Rattle.st_rows.specs.Rows.{front_after_entry}
 use Rattle.st_rows.proofs.Within.{AreDelays-list}
 use Rattle.st_segment.specs.Entries.{entry}
 use Rattle.st_levels.specs.Levels.{oldest_front}
 use Rattle.st_levels.specs.declared.levels.Completed.{Completed}
 use Rattle.st_ahead.specs.Overlap.{Overlap}
-use Rattle.st_ahead.specs.Calls.{is_done, row_done, ticked}
+use Rattle.st_ahead.specs.Calls.{is_done, row_done, machine_after_tick}
 use Rattle.st_ahead.specs.Look.{count}
 use Rattle.st_ahead.specs.Ticked.{IsTicked}
-use Rattle.st_ahead.specs.Inside.{standing}
+use Rattle.st_ahead.specs.Inside.{overlap_of}
 use Rattle.st_ahead.proofs.Gone.{outlook-of}
 use Rattle.st_ahead.proofs.Standing.{idle, not-first, passed-tick, done-tick, guess-seen, row-tick, banks-at, some-due, told}
 use Rattle.st_ahead.proofs.TickCases.{unprepared}
@@ -76,7 +76,7 @@ returns-in_default-clause-after g c =
     (c.tick-done.ensures i.delays (i.now - 1) i.taken f c.self.invariant.some c.self.invariant.few are at.look (not-first i.now v.levels.ring at.look.prepared)) in
     let all = passed-tick i.stopped n i.delays i.state u i.taken i.behind i.now i.owed i.ended i.fresh v w c.self.invariant owes early by
     (levels_are_the_entries_ahead.oldest i.delays n i.now i.taken i.state f w.front w.levels by.look.ahead) in
-    subst (λ (m : Overlap). standing n i.delays u i.taken i.behind i.now true i.ended i.stopped i.fresh w ≡ ticked m) c.self.view_is all.2
+    subst (λ (m : Overlap). overlap_of n i.delays u i.taken i.behind i.now true i.ended i.stopped i.fresh w ≡ machine_after_tick m) c.self.view_is all.2
 
 pub invariant_of-self-2 : goal.invariant_of-self-2
 invariant_of-self-2 g c =
@@ -106,7 +106,7 @@ invariant_of-self-2 g c =
     let banks = banks-at i.stopped n i.delays i.state i.taken i.now v left.0 in
     let guessed = guess-seen i.taken i.state u (is_missed (plan i.state i.taken) i.state) done.missed refl by.state by.told.missed
     (steps_are_guesses.right i.taken i.state m t) (steps_are_guesses.missed i.taken i.state m t) in
-    let front = levels_are_the_entries_ahead.oldest i.delays n i.now None (guess i.taken i.state) (after i.delays n f (entry i.taken i.state)) w.front w.levels by.look.ahead in
+    let front = levels_are_the_entries_ahead.oldest i.delays n i.now None (guess i.taken i.state) (front_after_entry i.delays n f (entry i.taken i.state)) w.front w.levels by.look.ahead in
     let all = done-tick i.stopped n i.delays i.state u i.taken i.behind i.now i.owed i.ended i.fresh v w done c.self.invariant owes early by front banks left.1 guessed in
     all.0
 
@@ -138,7 +138,7 @@ returns-clause-event g c =
     let banks = banks-at i.stopped n i.delays i.state i.taken i.now v left.0 in
     let guessed = guess-seen i.taken i.state u (is_missed (plan i.state i.taken) i.state) done.missed refl by.state by.told.missed
     (steps_are_guesses.right i.taken i.state m t) (steps_are_guesses.missed i.taken i.state m t) in
-    let front = levels_are_the_entries_ahead.oldest i.delays n i.now None (guess i.taken i.state) (after i.delays n f (entry i.taken i.state)) w.front w.levels by.look.ahead in
+    let front = levels_are_the_entries_ahead.oldest i.delays n i.now None (guess i.taken i.state) (front_after_entry i.delays n f (entry i.taken i.state)) w.front w.levels by.look.ahead in
     let all = done-tick i.stopped n i.delays i.state u i.taken i.behind i.now i.owed i.ended i.fresh v w done c.self.invariant owes early by front banks left.1 guessed in
     let row = row-tick i.stopped n i.delays i.state u i.taken i.behind i.now i.owed i.ended i.fresh v w done c.self.invariant owes by
     (entries_count_as_one (plan i.state i.taken) i.state) in
@@ -172,6 +172,6 @@ returns-clause-after g c =
     let banks = banks-at i.stopped n i.delays i.state i.taken i.now v left.0 in
     let guessed = guess-seen i.taken i.state u (is_missed (plan i.state i.taken) i.state) done.missed refl by.state by.told.missed
     (steps_are_guesses.right i.taken i.state m t) (steps_are_guesses.missed i.taken i.state m t) in
-    let front = levels_are_the_entries_ahead.oldest i.delays n i.now None (guess i.taken i.state) (after i.delays n f (entry i.taken i.state)) w.front w.levels by.look.ahead in
+    let front = levels_are_the_entries_ahead.oldest i.delays n i.now None (guess i.taken i.state) (front_after_entry i.delays n f (entry i.taken i.state)) w.front w.levels by.look.ahead in
     let all = done-tick i.stopped n i.delays i.state u i.taken i.behind i.now i.owed i.ended i.fresh v w done c.self.invariant owes early by front banks left.1 guessed in
-    subst (λ (m : Overlap). standing n i.delays u None done.missed i.now true i.ended i.stopped true w ≡ ticked m) c.self.view_is all.2
+    subst (λ (m : Overlap). overlap_of n i.delays u None done.missed i.now true i.ended i.stopped true w ≡ machine_after_tick m) c.self.view_is all.2

@@ -1,6 +1,6 @@
 use Rattle.std.proofs.Common.{◌≤◌, sym, ◌∙◌, ap, subst}
-use Rattle.st_back.specs.Undone.{noted}
-use Rattle.st_back.specs.Steps.{Steps, steps, newest, IsPut}
+use Rattle.st_back.specs.Undone.{step_with_word}
+use Rattle.st_back.specs.Steps.{Steps, steps, newest_step, IsPut}
 use Rattle.st_back.proofs.RingLemmas.{put-made, put-sound, room-of}
 use Rattle.st_back.proofs.back.Back.put.Goals as goal
 
@@ -9,7 +9,7 @@ invariant_of-self-2 c =
     let k = c.in-Some.kept in
     let e = sym c.in-Some.ensures.value in
     let few : k.puts ≤ 7 =
-    room-of (newest c.args.self.now.kept) k (ap (λ (b : Steps). newest b.kept) (sym c.self.view_is) ∙ e) c.requires.room in
+    room-of (newest_step c.args.self.now.kept) k (ap (λ (b : Steps). newest_step b.kept) (sym c.self.view_is) ∙ e) c.requires.room in
     put-sound c.self.inside.ring c.pop_back.new.self c.push_back.new.self k c.noted.result c.args.w c.word.result
     c.self.invariant e few c.noted.ensures c.requires.above c.requires.inside c.in-Some.ensures.items
     c.push_back.ensures.items
@@ -19,10 +19,10 @@ returns c =
     let k = c.in-Some.kept in
     let e = sym c.in-Some.ensures.value in
     let few : k.puts ≤ 7 =
-    room-of (newest c.args.self.now.kept) k (ap (λ (b : Steps). newest b.kept) (sym c.self.view_is) ∙ e) c.requires.room in
+    room-of (newest_step c.args.self.now.kept) k (ap (λ (b : Steps). newest_step b.kept) (sym c.self.view_is) ∙ e) c.requires.room in
     subst (λ (old : Steps). IsPut old (steps c.push_back.new.self) c.args.state.now c.store.new.self c.args.w c.args.word)
     c.self.view_is
     (put-made c.self.inside.ring c.pop_back.new.self c.push_back.new.self k c.noted.result c.args.state.now
     c.store.new.self c.args.w c.args.word c.self.invariant c.shape.ensures e few
-    (c.noted.ensures ∙ ap (noted k c.args.w) c.word.ensures) c.store.ensures c.in-Some.ensures.items
+    (c.noted.ensures ∙ ap (step_with_word k c.args.w) c.word.ensures) c.store.ensures c.in-Some.ensures.items
     c.push_back.ensures.items)

@@ -1,5 +1,5 @@
 use Rattle.std.proofs.Common.{List, ap, ◌∙◌}
-use Rattle.st_fetch.specs.HeldWords.{patched}
+use Rattle.st_fetch.specs.HeldWords.{words_after_store}
 use Rattle.st_fetch.specs.declared.held.Held.{Held}
 use Rattle.st_fetch.proofs.OldestFirst.{oldest_first-patched}
 use Rattle.st_fetch.proofs.held.Hold.patch.Goals as goal
@@ -10,4 +10,4 @@ returns c =
     let v = c.self.invariant in
     rw c.patched-self-inside.ensures
     (oldest_first-patched c.args.w c.args.word q.len q.words.words q.contents.of v.0 v.1 v.2
-    ∙ ap (λ (hold : List Held). patched hold c.args.w c.args.word) c.self.view_is)
+    ∙ ap (λ (hold : List Held). words_after_store hold c.args.w c.args.word) c.self.view_is)

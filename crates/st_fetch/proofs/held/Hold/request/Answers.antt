@@ -1,5 +1,5 @@
 use Rattle.std.proofs.Common.{List, ap, ◌∙◌}
-use Rattle.st_fetch.specs.HeldWords.{requested}
+use Rattle.st_fetch.specs.HeldWords.{words_after_request}
 use Rattle.st_fetch.specs.declared.held.Held.{Held}
 use Rattle.st_fetch.proofs.OldestFirst.{oldest_first-asked}
 use Rattle.st_fetch.proofs.held.Hold.request.Goals as goal
@@ -10,4 +10,4 @@ returns c =
     let v = c.self.invariant in
     rw (c.request.ensures, c.requested-self-inside.ensures, c.min-self-inside.ensures)
     (oldest_first-asked c.args.w 0 q.len q.words.words q.contents.of v.0 v.1 v.2
-    ∙ ap (λ (hold : List Held). requested hold c.args.w) c.self.view_is)
+    ∙ ap (λ (hold : List Held). words_after_request hold c.args.w) c.self.view_is)

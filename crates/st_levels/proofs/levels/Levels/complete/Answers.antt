@@ -6,9 +6,9 @@ use Rattle.st_prep.specs.declared.entries.Prepared.{Prepared}
 use Rattle.st_prep.specs.Fetch.{index_words}
 use Rattle.st_prep.specs.Plan.{plan}
 use Rattle.st_prep.specs.Ranges.{IsPrepared}
-use Rattle.st_exec.specs.Completion.{executed, guess, is_missed}
+use Rattle.st_exec.specs.Completion.{state_after_execution, guess, is_missed}
 use Rattle.st_exec.proofs.UnwrittenLemmas.{guessed-alone}
-use Rattle.st_rows.specs.Rows.{after}
+use Rattle.st_rows.specs.Rows.{front_after_entry}
 use Rattle.st_ring.specs.declared.level.Level.{Level}
 use Rattle.st_segment.specs.Entries.{entry}
 use Rattle.st_segment.specs.Guesses.{split_words}
@@ -44,8 +44,8 @@ returns g c = λ ds n tick t s f last m some h same.
     let first : slice_get v.plans 0 ≡ Some q = sym (ap (λ (w : LevelsView). slice_get w.plans 0) c.self.view_is) ∙ c.get.ensures in
     let is = first-is ds n tick t s f last level rest v.plans q levels first in
     let form : level.prepared ≡ plan s t = is.prepared in
-    let done : c.complete_in.new.state ≡ executed t s = c.complete_in.ensures.step t (form ∙ ap (λ (u : Machine). plan u t) same)
-    ∙ ap (λ (u : Machine). executed t u) (sym same) in
+    let done : c.complete_in.new.state ≡ state_after_execution t s = c.complete_in.ensures.step t (form ∙ ap (λ (u : Machine). plan u t) same)
+    ∙ ap (λ (u : Machine). state_after_execution t u) (sym same) in
     let count : length v.ring ≡ suc (length rest) = ap length ring in
     let before : v.x ≡ split_words (suc (length rest)) t s = h.index ∙ ap (λ k. split_words k t s) count in
     let fewer : length v.ring - 1 ≡ length rest = omega (arith, count) in
@@ -55,7 +55,7 @@ returns g c = λ ds n tick t s f last m some h same.
     let ahead = levels-behind ds n tick t s f last level rest v.plans v.x y m some levels before free
     (λ e. c.renew.ensures.stays (serial ∙ e) ∙ ap (λ (w : LevelsView). w.x) c.self.view_is)
     (λ e. c.renew.ensures.alone (serial ∙ e) ∙ ap index_words (done ∙ sym (guessed-alone (plan s t) s e))) in
-    let P : List Plan → Type 0 = λ rows. AreAhead ds n tick None (guess t s) (after ds n f (entry t s)) last (record { ring = rest; plans = rows; x = y }) in (
+    let P : List Plan → Type 0 = λ rows. AreAhead ds n tick None (guess t s) (front_after_entry ds n f (entry t s)) last (record { ring = rest; plans = rows; x = y }) in (
       done,
       record {
         address = ap (λ (p : Prepared). p.place.address) form;

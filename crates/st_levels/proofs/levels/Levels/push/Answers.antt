@@ -5,7 +5,7 @@ use Rattle.st_prep.specs.Ranges.{IsPrepared}
 use Rattle.st_ring.specs.declared.level.Level.{Level}
 use Rattle.st_segment.specs.Guesses.{guesses, table_behind}
 use Rattle.st_levels.specs.Levels.{LevelsView}
-use Rattle.st_levels.specs.PlannedRows.{planned}
+use Rattle.st_levels.specs.PlannedRows.{row_of_plan}
 use Rattle.st_levels.specs.declared.plans.Plan.{Plan}
 use Rattle.st_levels.proofs.PushLemmas.{pushed_level, pushed-level, push-ahead}
 use Rattle.st_levels.proofs.levels.Levels.push.Goals as goal
@@ -33,11 +33,11 @@ returns-clause-ahead g c = λ ds n tick t s f last m some h free front form numb
     let new : LevelsView = record { ring = c.push_prepared.new.self; plans = c.push.new.self; x = c.change.new.x } in
     let ring : new.ring ≡ v.ring ++ pushed_level p filled ∷ [] = c.push_prepared.ensures.levels
     ∙ ap (λ (w : LevelsView). w.ring ++ pushed_level p filled ∷ []) c.self.view_is in
-    let plans : new.plans ≡ v.plans ++ planned c.args.front.now filled ∷ [] = c.push.ensures.rows
-    ∙ ap (λ (w : LevelsView). w.plans ++ planned c.args.front.now filled ∷ []) c.self.view_is in
+    let plans : new.plans ≡ v.plans ++ row_of_plan c.args.front.now filled ∷ [] = c.push.ensures.rows
+    ∙ ap (λ (w : LevelsView). w.plans ++ row_of_plan c.args.front.now filled ∷ []) c.self.view_is in
     let x : new.x ≡ words_after v.x p.index = c.change.ensures
     ∙ ap (λ (w : LevelsView). words_after w.x p.index) c.self.view_is in
-    push-ahead ds n tick t s f last v new (pushed_level p filled) (planned c.args.front.now filled) p m some h free form
+    push-ahead ds n tick t s f last v new (pushed_level p filled) (row_of_plan c.args.front.now filled) p m some h free form
     (pushed-level ds n tick i u last p c.args.front.now filled front form numbers ticks)
     ring plans x
 

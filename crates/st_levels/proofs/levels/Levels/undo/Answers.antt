@@ -1,7 +1,7 @@
 use Rattle.std.proofs.Common.{List, refl, sym, subst, ap, ◌∙◌}
 use Rattle.st_prep.specs.Fetch.{index_words}
 use Rattle.st_ring.specs.declared.level.Level.{Level}
-use Rattle.st_ring.specs.Unwinding.{made, Kept}
+use Rattle.st_ring.specs.Unwinding.{index_words_after, Kept}
 use Rattle.st_levels.specs.Levels.{LevelsView}
 use Rattle.st_levels.proofs.UndoLemmas.{levels-keep}
 use Rattle.st_levels.proofs.levels.Levels.undo.Goals as goal
@@ -13,4 +13,4 @@ returns-clause-words g c = λ ds n tick t s f last m some h.
     let keep = levels-keep ds n tick t s f last v.ring v.plans (index_words s) m some h.levels h.run_ahead refl in
     c.undo_into.ensures.first_words (index_words s) (subst (λ (r : List Level). Kept (index_words s) r) (sym same) keep.0)
     (ap (λ (w : LevelsView). w.x) c.self.view_is ∙ h.index ∙ sym keep.1
-    ∙ ap (λ (r : List Level). made (index_words s) r) (sym same))
+    ∙ ap (λ (r : List Level). index_words_after (index_words s) r) (sym same))

@@ -1,5 +1,5 @@
 use Rattle.std.proofs.Common.{refl, sym, subst, ◌∙◌, ap, arith}
-use Rattle.st_rows.specs.Ranges.{IsEntry}
+use Rattle.st_rows.specs.Ranges.{IsEntryInTime}
 use Rattle.st_rows.specs.Rows.{tick_a, bus_a, tick_p}
 use Rattle.st_next.proofs.Goes.{goes-then, goes-waits, known-then}
 use Rattle.st_next.proofs.Steps.{plan-goes}
@@ -25,7 +25,7 @@ returns-clause-still c late = absurd (omega (arith, late, c.waits_for.ensures, c
 pub form-self-requires-clause-entry : goal.form-self-requires-clause-entry
 form-self-requires-clause-entry c =
     let p = (c.if-not-prepare_own_before.ensures.prepared refl) in
-    subst IsEntry (sym p.entry) (known-seen _ _ _ _ _ _ _ c.if-not-prepare_own_before.ensures.unplanned (known-then _ _ _ _ _ _ _ _ _ (c.requires.known (omega (arith, c.waits_for.ensures, c.if-waits_for-due.false))) c.if-not-prepare_own_before.ensures.next) p.done _ refl _ p.found)
+    subst IsEntryInTime (sym p.entry) (known-seen _ _ _ _ _ _ _ c.if-not-prepare_own_before.ensures.unplanned (known-then _ _ _ _ _ _ _ _ _ (c.requires.known (omega (arith, c.waits_for.ensures, c.if-waits_for-due.false))) c.if-not-prepare_own_before.ensures.next) p.done _ refl _ p.found)
 
 pub form-self-requires-clause-words : goal.form-self-requires-clause-words
 form-self-requires-clause-words c =

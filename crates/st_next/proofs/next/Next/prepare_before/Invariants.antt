@@ -1,11 +1,11 @@
 use Rattle.std.proofs.Common.{◌≡◌, ◌+◌, ◌-◌, false}
-use Rattle.st_next.specs.Going.{GoesOn, IsReadFurther}
+use Rattle.st_next.specs.Going.{GoesOnTo, IsReadFurther}
 use Rattle.st_next.proofs.next.Next.prepare_before.Given as goal
 
 -- what was known of it is still, and the reads so far are noted
 abbrev pub invariant-words : goal.invariant-words
 invariant-words l = record {
-  goes : GoesOn l.delays l.levels (l.due - 1) l.front l.x l.state l.fn.self l.self 0;
+  goes : GoesOnTo l.delays l.levels (l.due - 1) l.front l.x l.state l.fn.self l.self 0;
   further : IsReadFurther l.delays l.front l.fn.self l.self l.fn.log l.log;
   unplanned : l.self.planned ≡ false;
 }

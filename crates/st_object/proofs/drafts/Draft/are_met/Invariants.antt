@@ -1,10 +1,10 @@
 use Rattle.std.proofs.Common.{◌≡◌, length}
 use Rattle.st_object.specs.Order.{are_met}
-use Rattle.st_object.specs.Draft.{stands}
+use Rattle.st_object.specs.Draft.{has_line}
 use Rattle.st_object.proofs.drafts.Draft.are_met.Given as goal
 
 abbrev pub invariant-kinds : goal.invariant-kinds
-invariant-kinds l = are_met (stands l.self) l.rest ≡ are_met (stands l.self) l.kinds
+invariant-kinds l = are_met (has_line l.self) l.rest ≡ are_met (has_line l.self) l.kinds
 
 abbrev pub decreases-kinds : goal.decreases-kinds
 decreases-kinds l = length l.rest

@@ -1,10 +1,10 @@
 use Rattle.std.proofs.Common.{◌≡◌, length}
 use Rattle.st_object.specs.Order.{none_stands}
-use Rattle.st_object.specs.Draft.{stands}
+use Rattle.st_object.specs.Draft.{has_line}
 use Rattle.st_object.proofs.drafts.Draft.none_stands.Given as goal
 
 abbrev pub invariant-kinds : goal.invariant-kinds
-invariant-kinds l = none_stands (stands l.self) l.rest ≡ none_stands (stands l.self) l.kinds
+invariant-kinds l = none_stands (has_line l.self) l.rest ≡ none_stands (has_line l.self) l.kinds
 
 abbrev pub decreases-kinds : goal.decreases-kinds
 decreases-kinds l = length l.rest

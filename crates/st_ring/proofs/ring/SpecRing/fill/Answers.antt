@@ -3,7 +3,7 @@ use Rattle.std.proofs.lemmas.List.{get_or_default}
 use Rattle.std.proofs.lemmas.Option.{get_or_from_slice_get}
 use Rattle.st_fetch.proofs.Windows.{length-window, window-set, get_or-window}
 use Rattle.st_ring.specs.declared.level.Level.{Level}
-use Rattle.st_ring.specs.Levels.{filled}
+use Rattle.st_ring.specs.Levels.{level_with_word}
 use Rattle.st_ring.proofs.ring.SpecRing.fill.Goals as goal
 
 pub returns-clause-levels : goal.returns-clause-levels
@@ -21,5 +21,5 @@ returns-clause-levels g c = λ level at.
     window-set 8 q.head q.len q.slots c.self.invariant.inside (omega arith) eight k c.put_word.new.level below
     ∙ (ap (λ (s : List Level). set s k c.put_word.new.level) c.self.view_is
     ∙ ap (λ (l : Level). set c.args.self.now k l)
-    (c.put_word.ensures ∙ ap (λ (l : Level). filled l c.args.slot c.args.word c.args.tick)
+    (c.put_word.ensures ∙ ap (λ (l : Level). level_with_word l c.args.slot c.args.word c.args.tick)
     (get_or_default q.slots ((q.head + k) % 8) _ level written ∙ here)))

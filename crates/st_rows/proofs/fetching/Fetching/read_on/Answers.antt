@@ -2,9 +2,9 @@ use Rattle.std.proofs.Common.{◌≡◌, ◌+◌, ◌-◌, ◌*◌, ◌^◌, ◌
 use Rattle.st_bits.specs.Storage.{words_of_storage_is}
 use Rattle.st_rows.specs.Asked.{operands_asked}
 use Rattle.st_rows.specs.BusTimes.{Reading}
-use Rattle.st_rows.specs.Notes.{noted}
+use Rattle.st_rows.specs.Notes.{log_after_reads}
 use Rattle.st_rows.specs.Ranges.{IsReadingWithin}
-use Rattle.st_rows.specs.Rows.{reading_of}
+use Rattle.st_rows.specs.Rows.{reading_of_fetch}
 use Rattle.st_rows.proofs.Noted.{operand-turn}
 use Rattle.st_rows.proofs.Turns.{read-turn}
 use Rattle.st_rows.proofs.Within.{AreDelays-list, past-weaker, reading-weaker, read_word-within}
@@ -22,20 +22,20 @@ words-preserved c =
     let are = AreDelays-list c.args.delays.now c.shape.ensures in
     let before = past-weaker (2 ^ 64 - 2 ^ 16) m c.args.past.now (omega (arith, c.words.invariant.few)) c.requires.before in
     record {
-      value = read-turn c.args.delays.now c.args.past.now c.words.w c.args.p (reading_of c.words.self) (reading_of c.read.new.self) c.words.left
+      value = read-turn c.args.delays.now c.args.past.now c.words.w c.args.p (reading_of_fetch c.words.self) (reading_of_fetch c.read.new.self) c.words.left
           c.read.ensures.after (omega arith)
           ∙ c.words.invariant.value;
-      log = operand-turn c.args.delays.now c.args.past.now c.args.p c.words.w (reading_of c.words.self) (reading_of c.read.new.self) c.words.left c.words.log c.read.new.log
+      log = operand-turn c.args.delays.now c.args.past.now c.args.p c.words.w (reading_of_fetch c.words.self) (reading_of_fetch c.read.new.self) c.words.left c.words.log c.read.new.log
           c.read.ensures.after c.read.ensures.log (omega arith)
           ∙ c.words.invariant.log;
-      room = reading-weaker (m + 256) _ (reading_of c.read.new.self) (omega arith)
+      room = reading-weaker (m + 256) _ (reading_of_fetch c.read.new.self) (omega arith)
           (subst (λ (s : Reading). IsReadingWithin (m + 256) s) (sym c.read.ensures.after)
-          (read_word-within 255 c.args.delays.now are c.args.past.now (reading_of c.words.self) c.words.w c.args.p m c.words.invariant.room (omega arith)));
+          (read_word-within 255 c.args.delays.now are c.args.past.now (reading_of_fetch c.words.self) c.words.w c.args.p m c.words.invariant.room (omega arith)));
       few = omega (arith, c.words.invariant.few);
       above = λ some. omega (arith, c.words.invariant.above (omega arith));
       inside = λ some. omega (arith, c.words.invariant.inside (omega arith));
     }
 
 pub returns-clause-log : goal.returns-clause-log
-unfolding operands_asked noted
+unfolding operands_asked log_after_reads
 returns-clause-log c = let none : c.words.left ≡ 0 = omega arith in rw none at c.words.invariant.log

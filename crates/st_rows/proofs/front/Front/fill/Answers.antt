@@ -1,9 +1,9 @@
 use Rattle.std.proofs.Common.{◌≡◌, ℕ, ◌+◌, ◌-◌, ◌*◌, ◌^◌, List, refl, sym, subst, ap, ap₂, ◌∙◌, arith}
 use Rattle.st_rows.specs.Asked.{runs_asked, following_asked, prepared_asked}
 use Rattle.st_rows.specs.BusTimes.{Reading}
-use Rattle.st_rows.specs.Notes.{noted}
+use Rattle.st_rows.specs.Notes.{log_after_reads}
 use Rattle.st_rows.specs.Ranges.{IsReadingWithin}
-use Rattle.st_rows.specs.Rows.{reading_of, operands_read, bus_a, tick_p, operands, tick_c, row, after}
+use Rattle.st_rows.specs.Rows.{reading_of_fetch, operands_read, bus_a, tick_p, operands, tick_c, row_of_entry, front_after_entry}
 use Rattle.st_rows.specs.declared.bus.Bus.{Bus}
 use Rattle.st_rows.specs.declared.entry.Entry.{Entry}
 use Rattle.st_rows.specs.declared.front.Front.{Front}
@@ -22,10 +22,10 @@ all-read ds n f e s b p is bus tick = is ∙ ap₂ (λ (x : Bus) (y : ℕ). oper
 
 -- and these are noted
 all-noted : (ds : List ℕ) (n : ℕ) (f : Front) (e : Entry) (b d : Bus) (p : ℕ) (log one two : List Made) → b ≡ bus_a ds f e → d ≡ (operands ds n f e).bus
-    → p ≡ tick_p ds n f e → one ≡ noted ds (runs_asked f.past e.reads p) b log → two ≡ noted ds (following_asked ds d e p) d one
-    → two ≡ noted ds (prepared_asked ds n f e) b log
+    → p ≡ tick_p ds n f e → one ≡ log_after_reads ds (runs_asked f.past e.reads p) b log → two ≡ log_after_reads ds (following_asked ds d e p) d one
+    → two ≡ log_after_reads ds (prepared_asked ds n f e) b log
 all-noted ds n f e b d p log one two bus then_bus tick one_is two_is =
-    let noted_one : one ≡ noted ds (runs_asked f.past e.reads (tick_p ds n f e)) (bus_a ds f e) log = one_is ∙ rw (bus, tick) refl in
+    let noted_one : one ≡ log_after_reads ds (runs_asked f.past e.reads (tick_p ds n f e)) (bus_a ds f e) log = one_is ∙ rw (bus, tick) refl in
     rw bus
     (two_is
     ∙ rw (then_bus, tick) (noted-two ds (runs_asked f.past e.reads (tick_p ds n f e)) (following_asked ds (operands ds n f e).bus e (tick_p ds n f e)) (bus_a ds f e)
@@ -47,17 +47,17 @@ read_operands-fills-requires-clause-early c =
 
 pub overflow_add-c : goal.overflow_add-c
 overflow_add-c c =
-    let reads = all-read c.args.delays.now c.args.levels c.args.self.now c.args.entry.now (reading_of c.read_operands-fills.new.operands)
+    let reads = all-read c.args.delays.now c.args.levels c.args.self.now c.args.entry.now (reading_of_fetch c.read_operands-fills.new.operands)
     c.args.words.now.bus c.args.formed.p c.read_operands-fills.ensures.value c.requires.bus c.requires.tick in
     let are = AreDelays-list c.args.delays.now c.shape.ensures in
-    let read : IsReadingWithin (c.args.self.now.c + 40 * 255 + 41) (reading_of c.read_operands-fills.new.operands) =
+    let read : IsReadingWithin (c.args.self.now.c + 40 * 255 + 41) (reading_of_fetch c.read_operands-fills.new.operands) =
     subst (λ (s : Reading). IsReadingWithin (c.args.self.now.c + 40 * 255 + 41) s) (sym reads)
     (operands_of-within 255 c.args.delays.now are c.args.self.now c.args.entry.now c.requires.entry c.requires.tight c.args.levels) in
     omega (arith, read.answered)
 
 pub follow-requires-clause-room : goal.follow-requires-clause-room
 follow-requires-clause-room c =
-    let reads = all-read c.args.delays.now c.args.levels c.args.self.now c.args.entry.now (reading_of c.read_operands-fills.new.operands)
+    let reads = all-read c.args.delays.now c.args.levels c.args.self.now c.args.entry.now (reading_of_fetch c.read_operands-fills.new.operands)
     c.args.words.now.bus c.args.formed.p c.read_operands-fills.ensures.value c.requires.bus c.requires.tick in
     let f = c.args.self.now in
     let are = AreDelays-list c.args.delays.now c.shape.ensures in
@@ -72,22 +72,22 @@ follow-requires-clause-early c =
     (omega (arith, p-within 255 c.args.delays.now are c.args.self.now c.args.entry.now c.requires.entry c.requires.tight c.args.levels))
 
 pub returns-clause-value : goal.returns-clause-value
-unfolding row operands tick_c
+unfolding row_of_entry operands tick_c
 returns-clause-value c =
-    let reads = all-read c.args.delays.now c.args.levels c.args.self.now c.args.entry.now (reading_of c.read_operands-fills.new.operands)
+    let reads = all-read c.args.delays.now c.args.levels c.args.self.now c.args.entry.now (reading_of_fetch c.read_operands-fills.new.operands)
     c.args.words.now.bus c.args.formed.p c.read_operands-fills.ensures.value c.requires.bus c.requires.tick in
     rw (c.max.ensures, c.from.ensures, ap (λ (s : Reading). s.answered) reads, c.requires.tick, c.requires.address) refl
 
 pub returns-clause-bus : goal.returns-clause-bus
-unfolding after
+unfolding front_after_entry
 returns-clause-bus c =
-    let reads = all-read c.args.delays.now c.args.levels c.args.self.now c.args.entry.now (reading_of c.read_operands-fills.new.operands)
+    let reads = all-read c.args.delays.now c.args.levels c.args.self.now c.args.entry.now (reading_of_fetch c.read_operands-fills.new.operands)
     c.args.words.now.bus c.args.formed.p c.read_operands-fills.ensures.value c.requires.bus c.requires.tick in
     rw (c.follow.ensures.after, ap (λ (s : Reading). s.bus) reads, c.requires.tick) refl
 
 pub returns-clause-log : goal.returns-clause-log
 returns-clause-log c =
-    let reads = all-read c.args.delays.now c.args.levels c.args.self.now c.args.entry.now (reading_of c.read_operands-fills.new.operands)
+    let reads = all-read c.args.delays.now c.args.levels c.args.self.now c.args.entry.now (reading_of_fetch c.read_operands-fills.new.operands)
     c.args.words.now.bus c.args.formed.p c.read_operands-fills.ensures.value c.requires.bus c.requires.tick in
     all-noted c.args.delays.now c.args.levels c.args.self.now c.args.entry.now c.args.words.now.bus c.read_operands-fills.new.operands.bus c.args.formed.p
     c.args.log.now c.read_operands-fills.new.log c.follow.new.log c.requires.bus (ap (λ (s : Reading). s.bus) reads) c.requires.tick c.read_operands-fills.ensures.log

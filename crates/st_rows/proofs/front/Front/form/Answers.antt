@@ -1,6 +1,6 @@
 use Rattle.std.proofs.Common.{◌+◌, ◌-◌, ◌*◌, ◌^◌, ap, ◌∙◌, refl, arith}
 use Rattle.st_rows.specs.Ranges.{IsBusWithin}
-use Rattle.st_rows.specs.Rows.{addressed, tick_a, bus_a, tick_y, tick_p}
+use Rattle.st_rows.specs.Rows.{address_tick, tick_a, bus_a, tick_y, tick_p}
 use Rattle.st_rows.specs.declared.fetching.Fetching.{Fetching}
 use Rattle.st_rows.proofs.Within.{AreDelays-list, past-weaker, bus-weaker, fetching-weaker}
 use Rattle.st_rows.proofs.Stages.{side-above, fetched-within, side-within}
@@ -39,7 +39,7 @@ pub returns-clause-address : goal.returns-clause-address
 unfolding tick_a
 returns-clause-address c =
     c.address-a.ensures.value
-    ∙ ap (λ (s : Fetching). addressed c.args.self.now c.args.entry.now s.answered s.awaited) c.requires.words
+    ∙ ap (λ (s : Fetching). address_tick c.args.self.now c.args.entry.now s.answered s.awaited) c.requires.words
 
 pub returns-clause-bus : goal.returns-clause-bus
 unfolding tick_a bus_a

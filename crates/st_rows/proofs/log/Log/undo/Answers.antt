@@ -1,5 +1,5 @@
 use Rattle.std.proofs.Common.{List, ap, sym, ◌∙◌}
-use Rattle.st_rows.specs.Notes.{undone}
+use Rattle.st_rows.specs.Notes.{answers_left}
 use Rattle.st_rows.specs.declared.log.Made.{Made}
 use Rattle.st_rows.proofs.NoteLemmas.{undone-late, undone-settled}
 use Rattle.st_rows.proofs.log.Log.undo.Goals as goal
@@ -7,9 +7,9 @@ use Rattle.st_rows.proofs.log.Log.undo.Goals as goal
 pub reads-preserved : goal.reads-preserved
 reads-preserved c =
     let rest = c.take_late.new.self in
-    ap (undone c.args.now rest) c.answer.ensures
+    ap (answers_left c.args.now rest) c.answer.ensures
     ∙ sym (undone-late c.args.now c.in-Some.read rest c.reads.banks.ticks c.in-Some.ensures.1)
-    ∙ ap (λ (notes : List Made). undone c.args.now notes c.reads.banks.ticks) (sym c.in-Some.ensures.0)
+    ∙ ap (λ (notes : List Made). answers_left c.args.now notes c.reads.banks.ticks) (sym c.in-Some.ensures.0)
     ∙ c.reads.invariant
 
 pub returns : goal.returns

@@ -1,10 +1,10 @@
 use Rattle.std.proofs.Common.{◌≡◌, length}
-use Rattle.st_rows.specs.Notes.{undone}
+use Rattle.st_rows.specs.Notes.{answers_left}
 use Rattle.st_rows.proofs.log.Log.undo.Given as goal
 
 -- taking the others back gives what taking all back gives
 abbrev pub invariant-reads : goal.invariant-reads
-invariant-reads l = undone l.now l.self l.banks.ticks ≡ undone l.now l.initial.self l.initial.banks.ticks
+invariant-reads l = answers_left l.now l.self l.banks.ticks ≡ answers_left l.now l.initial.self l.initial.banks.ticks
 
 abbrev pub decreases-reads : goal.decreases-reads
 decreases-reads l = length l.self

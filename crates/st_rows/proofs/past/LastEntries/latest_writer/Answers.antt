@@ -1,7 +1,7 @@
 use Rattle.std.proofs.Common.{◌<◌, ap, sym, ◌∙◌, subst, arith}
 use Rattle.std.specs.Int.{trailing_zeros, w64}
 use Rattle.st_fetch.proofs.Windows.{length-window, get_or-window}
-use Rattle.st_rows.specs.Entries.{no_words, latest_done, is_among}
+use Rattle.st_rows.specs.Entries.{no_runs, latest_done, is_among}
 use Rattle.st_fetch.specs.Queue.{window}
 use Rattle.st_rows.specs.declared.past.Past.{Past}
 use Rattle.st_rows.proofs.Writers.{IsLeft, all-left, none-left, newest-inside, newest-writes, fewer-left, next-left}
@@ -19,7 +19,7 @@ returns-then-has c =
     let at = trailing_zeros w64 c.writers.left in
     let counted = length-window 8 q.head 8 q.entries c.self.invariant.inside (omega arith) c.self.invariant.whole in
     let below : at < 8 = omega (arith, counted, newest-inside past c.args.w c.writers.left (omega arith) (omega arith) c.writers.invariant) in
-    let none : Past = record { c = 0; writes = no_words } in
+    let none : Past = record { c = 0; writes = no_runs } in
     let same = get_or-window 8 q.head 8 q.entries c.self.invariant.inside (omega arith) c.self.invariant.whole at none below in
     sym (ap (λ (e : Past). e.c) same)
     ∙ newest-writes past c.args.w c.writers.left (omega arith) (omega arith) c.writers.invariant
@@ -37,7 +37,7 @@ writers-preserved c =
     let at = trailing_zeros w64 c.writers.left in
     let counted = length-window 8 q.head 8 q.entries c.self.invariant.inside (omega arith) c.self.invariant.whole in
     let below : at < 8 = omega (arith, counted, newest-inside past c.args.w c.writers.left (omega arith) (omega arith) c.writers.invariant) in
-    let none : Past = record { c = 0; writes = no_words } in
+    let none : Past = record { c = 0; writes = no_runs } in
     let same = get_or-window 8 q.head 8 q.entries c.self.invariant.inside (omega arith) c.self.invariant.whole at none below in
     next-left past c.args.w c.writers.left (omega arith) (omega arith) c.writers.invariant (omega (arith, counted))
     (c.if-has.ensures ∙ ap (λ (e : Past). is_among c.args.w e.writes) (sym same))

@@ -1,14 +1,14 @@
 use Rattle.std.proofs.Common.{sym, subst, ap}
 use Rattle.st_ahead.specs.declared.events.View.{View}
-use Rattle.st_run.specs.Telling.{Telling, AreLevels, ahead_of}
+use Rattle.st_run.specs.Telling.{Telling, AreLevelsShown, ahead_of}
 use Rattle.st_run.proofs.ViewLemmas.{view-run}
 use Rattle.st_run.proofs.run.Run.view.Goals as goal
 
 pub returns-clause-levels : goal.returns-clause-levels
 returns-clause-levels g c =
     let run = c.self.inside.progress in
-    subst {A = Telling} (λ s. AreLevels c.view_of.result.levels s.ahead) c.self.view_is
-    (subst {A = View} (λ v. AreLevels v.levels (ahead_of run.driven.machine)) (sym c.view_of.ensures.view)
+    subst {A = Telling} (λ s. AreLevelsShown c.view_of.result.levels s.ahead) c.self.view_is
+    (subst {A = View} (λ v. AreLevelsShown v.levels (ahead_of run.driven.machine)) (sym c.view_of.ensures.view)
     (view-run run.turn run.left run.tick run.snaps.now run.waiting run.driven c.self.invariant))
 
 pub returns-clause-led : goal.returns-clause-led

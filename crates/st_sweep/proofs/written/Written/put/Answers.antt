@@ -1,5 +1,5 @@
 use Rattle.std.proofs.Common.{◌≡◌, sym, ◌∙◌, ap, subst, arith}
-use Rattle.st_sweep.specs.Marks.{AreMarks, marked}
+use Rattle.st_sweep.specs.Marks.{AreMarks, marks_with}
 use Rattle.st_sweep.proofs.MarkLemmas.{marks-put}
 use Rattle.st_sweep.proofs.written.Written.put.Goals as goal
 
@@ -7,8 +7,8 @@ pub returns : goal.returns
 returns c = λ earlier are.
     let words = c.args.words in
     let marks = c.self.inside.marks.items in
-    let twice : marked (marked marks words.first words.len) words.first2 words.len2 ≡ c.mark-2.new.marks.items =
-    sym (c.mark-2.ensures.marked ∙ ap (λ xs. marked xs words.first2 words.len2) c.mark.ensures.marked) in
+    let twice : marks_with (marks_with marks words.first words.len) words.first2 words.len2 ≡ c.mark-2.new.marks.items =
+    sym (c.mark-2.ensures.marked ∙ ap (λ xs. marks_with xs words.first2 words.len2) c.mark.ensures.marked) in
     subst (AreMarks _) twice
     (marks-put earlier marks words (subst (AreMarks earlier) (sym c.self.view_is) are)
     (λ some. omega (arith, c.requires.inside.inside some, c.self.invariant))

@@ -1,0 +1,92 @@
+use Rattle.std.proofs.Common.{◌≡◌, ◌+◌, ◌≤◌, length, refl, sym, ◌∙◌, ap, arith}
+use Rattle.std.specs.Prelude.{nat_le}
+use Rattle.st_levels.specs.Levels.{LevelsView, due_of}
+use Rattle.st_ahead.proofs.Gone.{going-at, gone-by}
+use Rattle.st_ahead.proofs.look.Lookahead.go_to.Goals as goal
+
+pub entries-init : goal.entries-init
+entries-init g c = record { going = c.requires.going; each = λ t f since is. is }
+
+pub push-requires : goal.push-requires
+push-requires g c =
+    let ds = c.args.delays.now in
+    let n = g.row.N in
+    let s = c.args.state.now in
+    let goes = c.entries.invariant.going in
+    let is = c.plan_before.ensures.going goes.table goes.front goes.goes.tick goes.goes.going in
+    let yes = c.is_next_before.ensures.yes c.if-not-is_next_before.false in
+    let at : c.due-due.result ≡ due_of c.plan_before.new.self.levels.plans = c.due-due.ensures ∙ ap (λ (v : LevelsView). due_of v.plans) (sym c.plan_before.ensures.levels) in
+    let p = c.next_prepared-p.ensures in (
+      omega arith,
+      (
+        c.requires.some,
+        (
+          c.requires.few,
+          (
+            omega (arith, p, yes.2, c.requires.early),
+            (
+              record {
+                table = goes.table;
+                front = goes.front;
+                going = going-at ds n goes.goes.tick c.due-due.result c.next_prepared-p.result (c.next_prepared-p.result + 1) goes.table s goes.front c.plan_before.new.self
+                    (omega (arith, p, is.late yes.0)) (omega (arith, p, yes.1, at)) yes.0 (sym p) is;
+              },
+              (yes.0, sym p),
+            ),
+          ),
+        ),
+      ),
+    )
+
+pub entries-preserved : goal.entries-preserved
+entries-preserved g c =
+    let ds = c.args.delays.now in
+    let n = g.row.N in
+    let s = c.args.state.now in
+    let goes = c.entries.invariant.going in
+    let yes = c.is_next_before.ensures.yes c.if-not-is_next_before.false in
+    let at : c.due-due.result ≡ due_of c.plan_before.new.self.levels.plans = c.due-due.ensures ∙ ap (λ (v : LevelsView). due_of v.plans) (sym c.plan_before.ensures.levels) in
+    let p = c.next_prepared-p.ensures in
+    let soon : c.next_prepared-p.result ≤ c.args.last = omega (arith, p, yes.2) in
+    let is = c.plan_before.ensures.going goes.table goes.front goes.goes.tick goes.goes.going in
+    record {
+      going = record {
+        table = goes.table;
+        front = goes.front;
+        since = goes.since;
+        goes = record {
+          tick = c.next_prepared-p.result;
+          going = c.push.ensures.going goes.table goes.front
+              (going-at ds n goes.goes.tick c.due-due.result c.next_prepared-p.result (c.next_prepared-p.result + 1) goes.table s goes.front c.plan_before.new.self
+              (omega (arith, p, is.late yes.0)) (omega (arith, p, yes.1, at)) yes.0 (sym p) is);
+          behind = omega (arith, goes.goes.behind, p, is.late yes.0);
+          soon = soon;
+        };
+      };
+      each = λ t f since given.
+          let old = c.entries.invariant.each t f since given in
+          let it = c.plan_before.ensures.going t f old.tick old.going in
+          record {
+            tick = c.next_prepared-p.result;
+            going = c.push.ensures.going t f
+                (going-at ds n old.tick c.due-due.result c.next_prepared-p.result (c.next_prepared-p.result + 1) t s f c.plan_before.new.self
+                (omega (arith, p, it.late yes.0)) (omega (arith, p, yes.1, at)) yes.0 (sym p) it);
+            behind = omega (arith, old.behind, p, it.late yes.0);
+            soon = soon;
+          };
+    }
+
+pub entries-smaller : goal.entries-smaller
+entries-smaller g c = omega (arith, c.push.ensures.count, c.shape-in-entries.ensures, ap (λ (v : LevelsView). length v.ring) c.plan_before.ensures.levels)
+
+pub returns-then-not-is_next_before : goal.returns-then-not-is_next_before
+returns-then-not-is_next_before g c = λ t f since given.
+    let ds = c.args.delays.now in
+    let n = g.row.N in
+    let s = c.args.state.now in
+    let old = c.entries.invariant.each t f since given in
+    let is = c.plan_before.ensures.going t f old.tick old.going in
+    let at : c.due-due.result ≡ due_of c.plan_before.new.self.levels.plans = c.due-due.ensures ∙ ap (λ (v : LevelsView). due_of v.plans) (sym c.plan_before.ensures.levels) in
+    rw c.stop_at.ensures
+    (gone-by (nat_le c.due-due.result c.args.last) ds n since old.tick c.args.last c.due-due.result t s f c.plan_before.new.self refl old.behind old.soon c.requires.early at
+    (c.is_next_before.ensures.no c.if-not-is_next_before.true) is)

@@ -1,0 +1,73 @@
+use Rattle.std.proofs.Common.{◌≡◌, ◌<◌, ◌≤◌, None, refl, sym, subst, ◌∙◌, ap, arith}
+use Rattle.st_state.specs.Machine.{Machine, word}
+use Rattle.st_exec.specs.Completion.{guess}
+use Rattle.st_rows.specs.Rows.{row_of_entry, front_after_entry}
+use Rattle.st_segment.specs.Entries.{entry}
+use Rattle.st_segment.proofs.EntryRanges.{entry-ranges}
+use Rattle.st_segment.proofs.GuessLemmas.{guess-machine}
+use Rattle.st_levels.proofs.OrderLemmas.{due-row}
+use Rattle.st_ahead.specs.Look.{LookView, IsLook, count}
+use Rattle.st_next.specs.declared.next.Next.{Next}
+use Rattle.st_ahead.proofs.Gone.{outlook-of}
+use Rattle.st_ahead.proofs.LevelTicks.{done-later, done-after}
+use Rattle.st_ahead.proofs.DoneLooks.{look-without}
+use Rattle.st_ahead.proofs.TickCases.{due-later, unprepared, guess-words}
+use Rattle.st_ahead.proofs.look.Lookahead.tick.Goals as goal
+use Rattle.st_ahead.proofs.Laws.{looks_are_levels}
+
+pub returns-then-is_due : goal.returns-then-is_due
+returns-then-is_due g c = λ ds tick t f one most are h next.
+    let n = g.row.N in
+    let now = c.args.now in
+    let s = c.args.state.now in
+    let inside : LookView = record { levels = c.self.inside.levels; front = c.self.inside.front; log = c.self.inside.log; next = c.self.inside.next } in
+    let is : inside ≡ c.args.self.now = c.self.view_is in
+    let look = subst (λ (w : LookView). IsLook ds n tick now t s f w) (sym is) h in
+    let oldest = due-row ds n tick now t s f inside.front inside.levels.ring inside.levels.plans look.ahead.levels
+    (sym c.is_due.ensures.value ∙ c.if-is_due.true) in
+    let due : (row_of_entry ds n f (entry t s)).c ≡ now = oldest.1 in
+    let some : 1 ≤ count c.args.self.now = subst (λ (w : LookView). 1 ≤ count w) is oldest.0 in
+    let all = c.complete-done.ensures ds tick now t f are (outlook-of ds n tick now t s f c.args.self.now h) due in
+    let s' = guess t s in
+    let machine = guess-machine t s h.machine h.indicator in
+    let late : now < (row_of_entry ds n (front_after_entry ds n f (entry t s)) (entry None s')).c =
+    omega (arith, oldest.2, done-later ds n None s' (front_after_entry ds n f (entry t s)) machine tt) in
+    let w = c.complete-done.new.self in
+    let waits = done-after ds n tick now None s' (front_after_entry ds n f (entry t s)) w.front w.levels.ring w.levels.plans machine tt all.2.ahead.levels late in
+    let filled = c.fill.ensures ds tick now None s' (front_after_entry ds n f (entry t s)) are all.2 (omega (arith, next some)) (omega arith) waits
+    (λ w. ap (λ (u : Machine). word u w) all.0 ∙ guess-words t s w) in
+    record { due = due; told = all.1; state = all.0; look = filled.0; log = filled.1 ∙ all.3; bus = ap (λ (x : Next). x.words) filled.2 ∙ all.4 }
+
+pub returns-then-len-gt0 : goal.returns-then-len-gt0
+returns-then-len-gt0 g c = λ ds tick t f one most are h next.
+    let n = g.row.N in
+    let now = c.args.now in
+    let s = c.args.state.now in
+    let inside : LookView = record { levels = c.self.inside.levels; front = c.self.inside.front; log = c.self.inside.log; next = c.self.inside.next } in
+    let is : inside ≡ c.args.self.now = c.self.view_is in
+    let look = subst (λ (w : LookView). IsLook ds n tick now t s f w) (sym is) h in
+    let some : 1 ≤ count inside = omega (arith, c.len.ensures.value, c.if-len-gt0.true) in
+    let soon = next (subst (λ (w : LookView). 1 ≤ count w) is some) in
+    let late = due-later ds n tick now t s f inside.front inside.levels.ring inside.levels.plans look.ahead.levels look.not_done
+    (sym c.is_due.ensures.value ∙ c.if-is_due.false) soon some in
+    let v = c.args.self.now in
+    let waits = done-after ds n tick now t s f v.front v.levels.ring v.levels.plans h.machine h.indicator h.ahead.levels late in
+    let filled = c.fill-then-len-gt0.ensures ds tick now t s f are (outlook-of ds n tick now t s f v h) (omega (arith, soon)) (omega arith) waits (λ w. refl) in
+    record { state = refl; later = λ same. absurd (omega (arith, late, same)); look = filled.0 }
+
+pub returns-else-len-gt0 : goal.returns-else-len-gt0
+returns-else-len-gt0 g c = λ ds tick t f one most are h next.
+    let n = g.row.N in
+    let now = c.args.now in
+    let s = c.args.state.now in
+    let v = c.args.self.now in
+    let inside : LookView = record { levels = c.self.inside.levels; front = c.self.inside.front; log = c.self.inside.log; next = c.self.inside.next } in
+    let is : inside ≡ v = c.self.view_is in
+    let empty : count v ≡ 0 = subst (λ (w : LookView). count w ≡ 0) is (omega (arith, c.len.ensures.value, c.if-len-gt0.false)) in
+    let look = look-without ds n tick now t s f v empty h in
+    let none = looks_are_levels ds n now now t s f v one most are (omega arith) (omega (arith, empty)) look in
+    record {
+      state = refl;
+      later = unprepared ds n (count v) now t s f one empty are (entry-ranges t s h.machine h.indicator) h.oldest none;
+      look = look;
+    }

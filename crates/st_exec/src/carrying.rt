@@ -1,0 +1,122 @@
+//! What a effect makes of a state.
+ghost use Rattle.std.specs.Prelude.{◌≡◌, ◌*◌, ◌<◌, IfSome};
+ghost use Rattle.st_field.specs.declared.accumulator.Acc.{Acc};
+ghost use Rattle.st_state.specs.Machine.{HasArea};
+ghost use Rattle.st_exec.specs.Outcome.{with_register, with_accumulator, with_registers, with_field, with_result};
+ghost use Rattle.st_exec.specs.Effect.{IsField, CanBeDone, order_standing as order_by, machine_with_order, state_with_order, carried_out};
+
+use crate::effects::Effect;
+use crate::transmission::{copy, exchange};
+use st_bits::indicators::CHANNEL_BUSY_REJECT;
+use st_bits::register::{COUNTS, FACTOR, LEFT_HALF, REMAINDER, RIGHT_HALF, SIGN_BYTE, TRANSIT};
+use st_bits::{Ind, indicator};
+use st_field::{Acc, Done};
+use st_state::{Order, State};
+
+// The order that a device has: the printer where `write` says so.
+fn order_of(write: bool, state: &State) -> Option<Order>
+    ensures { result ≡ order_by write state.now }
+{
+    if write { state.printer } else { state.reader }
+}
+
+// Gives a device an order, in place of any that it had.
+fn put_order(write: bool, order: Order, state: &mut State)
+    requires { HasArea (Some order) }
+    ensures { state.new ≡ machine_with_order write order state.old }
+{
+    if write {
+        state.printer = Some(order);
+    } else {
+        state.reader = Some(order);
+    }
+}
+
+// Gives a device an order, unless it has one.
+fn give(write: bool, order: Order, state: &mut State)
+    requires { HasArea (Some order) }
+    ensures { state.new ≡ state_with_order write order state.old }
+{
+    if order_of(write, state).is_some() {
+        state.signal(CHANNEL_BUSY_REJECT);
+    } else {
+        put_order(write, order, state);
+    }
+}
+
+// Writes a register, where something is left for it.
+fn put_register(w: u32, value: Option<u64>, state: &mut State)
+    requires { w < 32 }
+    ensures { state.new ≡ with_register w value state.old }
+{
+    if let Some(value) = value {
+        state.store(w, value);
+    }
+}
+
+// Writes the accumulator and its sign byte.
+fn put_accumulator(acc: &Acc, state: &mut State)
+    ensures { state.new ≡ with_accumulator acc.now state.old }
+{
+    state.store(LEFT_HALF, (acc.mag / (1 << 64)) as u64);
+    state.store(RIGHT_HALF, (acc.mag % (1 << 64)) as u64);
+    state.store(SIGN_BYTE, u64::from(acc.sb) * (1 << 56));
+}
+
+// Writes the registers.
+#[tactic(auto, unfolding(crate::specs::Outcome::with_registers))]
+fn put_registers(left: &Done, state: &mut State)
+    ensures { state.new ≡ with_registers left.now state.old }
+{
+    put_accumulator(&left.acc, state);
+    put_register(REMAINDER, left.rm, state);
+    put_register(FACTOR, left.ft, state);
+    put_register(TRANSIT, left.tr, state);
+    put_register(COUNTS, left.counts, state);
+}
+
+// Writes the `n` bits of the field at the bit address `a`, where it is written.
+fn put_field(field: Option<u64>, a: u32, n: u8, state: &mut State)
+    requires { IfSome field (IsField a n) }
+    ensures { state.new ≡ with_field field a n state.old }
+{
+    if let Some(bits) = field {
+        state.put_field(a, n, bits);
+    }
+}
+
+// Leaves what an operation on a field makes: registers and indicators first, and then the field.
+#[tactic(auto, unfolding(crate::specs::Outcome::with_result))]
+fn leave(left: &Done, a: u32, n: u8, state: &mut State)
+    requires { IfSome left.now.field (IsField a n) }
+    ensures { state.new ≡ with_result left.now a n state.old }
+{
+    put_registers(left, state);
+    state.apply(left.ind);
+    put_field(left.field, a, n, state);
+}
+
+/// Does a effect.
+#[tactic(auto, unfolding(crate::specs::Effect::carried_out))]
+pub fn carry_out(effect: &Effect, state: &mut State)
+    requires { CanBeDone effect.now }
+    ensures { state.new ≡ carried_out effect.now state.old }
+{
+    match *effect {
+        Effect::Rest => (),
+        Effect::Put { at, length, bits } => state.put_field(at, length, bits),
+        Effect::Copy { from, to, count } => copy(from, to, count, state),
+        Effect::Exchange { from, to, count } => exchange(from, to, count, state),
+        Effect::TurnOff { indicator: i } => state.apply(Ind {
+            on: 0,
+            off: indicator(i),
+        }),
+        Effect::Enable { enabled } => state.enabled = enabled,
+        Effect::Wait => {
+            state.enabled = true;
+            state.waiting = true;
+        }
+        Effect::Give { write, order } => give(write, order, state),
+        Effect::Leave { left, at, length } => leave(&left, at, length, state),
+    }
+}

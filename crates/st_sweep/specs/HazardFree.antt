@@ -1,0 +1,87 @@
+-- A run is hazard-free where all reads take the same time, nothing breaks off what runs ahead, and
+-- no entry uses a word that an earlier one writes.
+use Rattle.std.specs.Prelude.{ℕ, zero, suc, ◌+◌, Bool, true, false, not, ◌==◌, ◌&&◌, ◌||◌, nat_lt, is_none, List, [], ◌∷◌, length, Option, None, Some}
+use Rattle.std.specs.List.{list_all, list_any}
+use Rattle.st_state.specs.Machine.{Machine}
+use Rattle.st_prep.specs.Fetch.{place_of}
+use Rattle.st_prep.specs.Plan.{needs, sight, plan}
+use Rattle.st_prep.specs.declared.entries.Words.{Words}
+use Rattle.st_exec.specs.Completion.{is_missed}
+use Rattle.st_exec.specs.Step.{interrupt, rests}
+use Rattle.st_run.specs.Run.{Scene, with_due_signals, with_due_orders, interlude, scene_after_step}
+use Rattle.st_rows.specs.Entries.{is_among}
+use Rattle.st_rows.specs.declared.entry.WordRuns.{WordRuns}
+use Rattle.st_segment.specs.Entries.{words_to_write}
+
+-- ---- delays
+
+-- all of them are the same
+abbrev pub are_equal : List ℕ → Bool
+are_equal [] = true
+are_equal (d ∷ ds) = list_all (λ x. x == d) ds
+
+-- ---- words that earlier entries write
+
+-- one of them writes the word w
+unfoldable pub is_among_written : List WordRuns → ℕ → Bool
+is_among_written earlier w = list_any (is_among w) earlier
+
+-- one of them writes one of the n words from the word w on
+unfoldable pub are_written : List WordRuns → ℕ → ℕ → Bool
+are_written earlier w zero = false
+are_written earlier w (suc n) = is_among_written earlier w || are_written earlier (w + 1) n
+
+-- one of them writes a word of two runs
+unfoldable pub one_is_written : List WordRuns → Words → Bool
+one_is_written earlier w = are_written earlier w.first w.len || are_written earlier w.first2 w.len2
+
+-- one of them writes the index-side word
+unfoldable pub side_is_written : List WordRuns → Option ℕ → Bool
+side_is_written earlier None = false
+side_is_written earlier (Some w) = is_among_written earlier w
+
+-- ---- entries
+
+-- the words that the next entry of a state writes
+abbrev pub next_writes : Machine → WordRuns
+next_writes s = words_to_write (plan s (interrupt s)).writes
+
+-- its index-side word
+abbrev pub next_side : Machine → Option ℕ
+next_side s = (needs (sight s (place_of s (interrupt s)))).index_read
+
+-- the next entry takes no interrupt and misses no branch, and no earlier entry writes its
+-- index-side word or one of its operand words
+unfoldable pub is_hazard_free_entry : List WordRuns → Machine → Bool
+is_hazard_free_entry earlier s =
+    is_none (interrupt s)
+    && not (is_missed (plan s (interrupt s)) s)
+    && not (side_is_written earlier (next_side s))
+    && not (one_is_written earlier (plan s (interrupt s)).reads)
+
+-- ---- what comes between two entries
+
+-- no card is put into storage, and where the machine waits, nothing comes that ends the wait
+unfoldable pub is_quiet : Scene → Bool
+is_quiet c =
+    let after = (interlude c).scene in
+    not (nat_lt (length after.cards) (length c.cards))
+    && (rests after.machine
+    || not (rests (with_due_orders (with_due_signals c.machine c.signals c.cards)).scene.machine))
+
+-- ---- the run
+
+-- the run from a scene on, in which so many entries may still be done, behind earlier entries that
+-- write these words
+unfoldable pub is_hazard_free_behind : List WordRuns → ℕ → Scene → Bool
+is_hazard_free_behind earlier zero c = is_quiet c
+is_hazard_free_behind earlier (suc left) c =
+    let s = (interlude c).scene.machine in
+    is_quiet c
+    && (rests s
+    || is_hazard_free_entry earlier s && is_hazard_free_behind (next_writes s ∷ earlier) left
+    (scene_after_step (interlude c).scene))
+
+-- the whole run of a scene, with these delays
+abbrev pub is_hazard_free : List ℕ → ℕ → Scene → Bool
+is_hazard_free ds left c = are_equal ds && is_hazard_free_behind [] left c

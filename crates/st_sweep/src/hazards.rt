@@ -1,0 +1,130 @@
+//! Whether a run is hazard-free, by the plain run.
+ghost use Rattle.std.specs.Prelude.{◌≡◌, ◌==◌, ◌+◌, ◌≤◌, ◌<◌, ◌^◌, ◌&&◌, not, ℕ, List, [], ◌∷◌, false, is_none};
+ghost use Rattle.std.specs.List.{AllPass, list_all};
+ghost use Rattle.st_bits.specs.declared.limits.TheConstants.{MOST_INSTRUCTIONS};
+ghost use Rattle.st_card.specs.Limits.{is_signal};
+ghost use Rattle.st_prep.specs.Plan.{plan as plan_of};
+ghost use Rattle.st_exec.specs.Completion.{is_missed as is_missed_of};
+ghost use Rattle.st_exec.specs.Step.{interrupt as interrupt_of, rests, step as step_of};
+ghost use Rattle.st_run.specs.Run.{run};
+ghost use Rattle.st_rows.specs.declared.entry.WordRuns.{WordRuns};
+ghost use Rattle.st_sweep.specs.HazardFree.{are_equal as are_equal_of, next_writes, is_hazard_free_entry, is_hazard_free_behind};
+ghost use Rattle.st_sweep.specs.Marks.{AreMarks};
+ghost use Rattle.st_sweep.specs.Sweep.{without_cards};
+
+use crate::settling::settle;
+use crate::written::Written;
+use st_card::Signal;
+use st_exec::{Trail, interrupt, is_at_rest, is_missed, one_kept};
+use st_prep::plan;
+use st_state::State;
+
+// Whether each delay is this one.
+fn are_all(delay: u8, delays: &[u8]) -> bool
+    ensures { result ≡ list_all (λ x. x == delay) delays.now }
+{
+    delays.iter().all(|other| *other == delay)
+}
+
+// Whether all delays are equal.
+pub(crate) fn are_equal(delays: &[u8]) -> bool
+    ensures { result ≡ are_equal_of delays.now }
+{
+    let [first, rest @ ..] = delays else {
+        return true;
+    };
+    are_all(*first, rest)
+}
+
+// Whether the next entry takes no interrupt and misses no branch.
+fn goes_straight(state: &State) -> bool
+    ensures { result ≡ (is_none (interrupt_of state.now)
+        && not (is_missed_of (plan_of state.now (interrupt_of state.now)) state.now)) }
+{
+    let taken = interrupt(state);
+    let p = plan(state, taken);
+    let missed = is_missed(&p, state);
+    taken.is_none() && !missed
+}
+
+// Whether all of this is so: the entry goes straight on, and neither its index-side word nor an
+// operand word was written.
+fn is_fresh(straight: bool, side: bool, words: bool) -> bool
+    ensures { result ≡ (straight && not side && not words) }
+{
+    straight && !side && !words
+}
+
+// Makes the next step, notes the words that it writes, and tells whether it is a hazard-free entry.
+fn step(state: &mut State, written: &mut Written) -> bool
+    requires going { rests state.old ≡ false }
+    requires few { state.old.done < 2 ^ 63 }
+    ensures state { state.new ≡ step_of state.old }
+    ensures entry { (earlier : List WordRuns) → AreMarks earlier written.old →
+        AreMarks (next_writes state.old ∷ earlier) written.new
+        × (result ≡ is_hazard_free_entry earlier state.old) }
+{
+    let straight = goes_straight(state);
+    let mut trail = Trail::default();
+    one_kept(state, &mut trail);
+    let side = written.has_side(trail.index_read);
+    let words = written.has_words(trail.reads);
+    written.put(trail.writes);
+    is_fresh(straight, side, words)
+}
+
+// Whether both are so.
+pub(crate) fn both(one: bool, two: bool) -> bool
+    ensures { result ≡ (one && two) }
+{
+    one && two
+}
+
+// What a plain run tells.
+#[derive(Clone, Copy, Debug, PartialEq, Eq)]
+pub(crate) struct Found {
+    // The number of instructions done at its end.
+    pub done: u64,
+    // Whether it is hazard-free, delays aside.
+    pub hazard_free: bool,
+}
+
+// Runs a state in which nothing has happened, with these signals and no card, to its end, or until
+// so many instructions are done.
+pub(crate) fn run_plain(
+    state: &mut State,
+    signals: &[Signal],
+    written: &mut Written,
+    budget: u64,
+) -> Found
+    requires signals { AllPass is_signal signals.now }
+    requires written { AreMarks [] written.old }
+    requires few { state.old.done + budget ≤ MOST_INSTRUCTIONS }
+    ensures done { result.done ≡ (run budget (without_cards state.old signals.now)).last.done }
+    ensures hazard_free { result.hazard_free ≡ is_hazard_free_behind [] budget
+        (without_cards state.old signals.now) }
+{
+    let mut rest = signals;
+    let mut hazard_free = true;
+    let mut left = budget;
+    'entries: loop {
+        let between = settle(state, rest);
+        rest = between.signals;
+        hazard_free = both(hazard_free, between.quiet);
+        if left == 0 {
+            return Found {
+                done: state.done,
+                hazard_free,
+            };
+        }
+        if is_at_rest(state) {
+            return Found {
+                done: state.done,
+                hazard_free,
+            };
+        }
+        let entry = step(state, written);
+        hazard_free = both(hazard_free, entry);
+        left -= 1;
+    }
+}
