@@ -8,9 +8,7 @@ from .lines import Off, place
 # What the program `ledger` of crates/ writes: None as long as there is none, the kinds of its lines, or ALL of them.
 # All other lines are those of model/ledger.
 ALL = "all"
-WRITES = set("LEVELS DELAYS PRT IC EN WORD SEGMENT ROW MISSED ALONE SUPPRESSED WRITES INDEX CHARGE DROP INT END DONE TICKS SUM".split())
-# What is told of an entry by itself. Of one that is begun the program tells nothing.
-FACTS = set("ALONE SUPPRESSED LAID CODE USE WRITES INDEX".split())
+WRITES = set("LEVELS DELAYS PRT IC EN WORD SEGMENT ROW MISSED ALONE SUPPRESSED WRITES INDEX CHARGE DROP BEGUN INT END DONE TICKS SUM".split())
 HOME = os.path.join(os.path.dirname(os.path.realpath(__file__)), "..", "..")
 MOST_LEVELS = 8
 OWN = 4             # the levels of the machine of `run`
@@ -97,11 +95,8 @@ def told(process, first=b""):
 
 def compared(lines, others, kinds):
     """Lines; those of some kinds have to be the lines of another program, one after another."""
-    begun = False
     for line in lines:
-        kind = kind_of(line)
-        begun = kind == "BEGUN" or begun and kind in FACTS
-        if kind in kinds and not begun:
+        if kind_of(line) in kinds:
             other = next(others, "nothing")
             if line != other:
                 raise Off("model/ledger says '%s' where the program says '%s'" % (line, other))

@@ -1,6 +1,6 @@
 -- The lines where a segment ends and the next one begins, and the front behind.
 use Rattle.std.specs.Prelude.{Bool, if◌then◌else◌, nat_eq, ◌||◌, is_some, map}
-use Rattle.std.proofs.Common.{◌≡◌, ℕ, ◌+◌, true, false, List, [], ◌∷◌, ◌++◌, length, Option, refl, sym, ◌∙◌, ap}
+use Rattle.std.proofs.Common.{◌≡◌, ◌≢◌, ℕ, ◌+◌, true, false, List, [], ◌∷◌, ◌++◌, length, Option, refl, sym, ◌∙◌, ap}
 use Rattle.std.proofs.lemmas.List.{length-map}
 use Rattle.st_banks.specs.declared.answers.LastAnswers.{LastAnswers}
 use Rattle.st_state.specs.Machine.{Machine}
@@ -17,7 +17,8 @@ use Rattle.st_account.specs.declared.lines.Why.{Why}
 use Rattle.st_account.specs.declared.lines.Why.TheVariants.{Run}
 use Rattle.st_account.specs.Lines.{start_line}
 use Rattle.st_account.specs.Standing.{IsBehindMoment}
-use Rattle.st_account.specs.Text.{segment_end_lines, marks_lines, state_lines, state_lines_at, words_behind, why_by, why, segment_lines, segment_after, last_lines}
+use Rattle.st_account.proofs.LineLemmas.{end-same}
+use Rattle.st_account.specs.Text.{segment_end_lines, late_at, marks_lines, state_lines, state_lines_at, words_behind, why_by, why, segment_lines, segment_after, last_lines}
 
 choice-lines : (b : Bool) (xs ys : List (List ℕ)) → (b ≡ true → xs ≡ ys) → (if b then xs else []) ≡ (if b then ys else [])
 choice-lines true xs ys same = same refl
@@ -59,13 +60,13 @@ module _ (m : Moment) (s : Machine) (l : Last) (found : List Ahead) (banks : Las
     pub after-is : (k : ℕ) (begins : Bool) → begins ≡ (nat_eq k 0 || ends) → (if begins then k + 1 else k) ≡ segment_after k m
     after-is k begins is_begins = ap (λ b. if b then k + 1 else k) (is_begins ∙ ap (λ b. nat_eq k 0 || b) e)
 
-    pub border-lines : (b : Machine) (was : Bool) (ws : List (List ℕ)) → b.enabled ≡ was → ws ≡ words_behind m
-        → (k n start : ℕ) (begins : Bool) (y : Why) → begins ≡ (nat_eq k 0 || ends) → n ≡ s.done + 1 → start ≡ (next_front m).c
+    pub border-lines : (ds : List ℕ) (levels : ℕ) (b : Machine) (was : Bool) (ws : List (List ℕ)) (late : List Ahead) → b.enabled ≡ was → ws ≡ words_behind m
+        → (k n start : ℕ) (begins : Bool) (y : Why) → (ends_segment m ≡ true → k ≢ 0 → late ≡ late_at ds levels b m) → begins ≡ (nat_eq k 0 || ends) → n ≡ s.done + 1 → start ≡ (next_front m).c
         → y ≡ (if nat_eq k 0 then Run else why_by taken l.missed)
-        → (((if ends then segment_end_lines k l.tick n found else []) ++ state_lines ws k was s taken s.done)
-        ++ (if begins then start_line (k + 1) start waited y ∷ [] else [])) ≡ segment_lines k b m
+        → (((if ends then segment_end_lines k l.tick n found late else []) ++ state_lines ws k was s taken s.done)
+        ++ (if begins then start_line (k + 1) start waited y ∷ [] else [])) ≡ segment_lines ds levels k b m
     unfolding segment_lines why
-    border-lines b was ws is_was is_printed k n start begins y is_begins is_n is_start is_why =
+    border-lines ds levels b was ws late is_was is_printed k n start begins y is_late is_begins is_n is_start is_why =
         let all = is_begins ∙ ap (λ b. nat_eq k 0 || b) e in
         let number : n ≡ m.scene.machine.done + 1 = is_n ∙ ap (λ d. d + 1) (same-done m s is.state) in
         let name : y ≡ (if nat_eq k 0 then Run else why_by (interrupt (next_state m)) m.missed) =
@@ -77,37 +78,39 @@ module _ (m : Moment) (s : Machine) (l : Last) (found : List Ahead) (banks : Las
         ∙ ap (λ w. state_lines (words_behind m) k w s taken s.done) (sym is_was)
         ∙ ap (λ o. state_lines (words_behind m) k b.enabled s o s.done) is_taken
         ∙ ap (state_lines_at (words_behind m) k b) (sym is.state) in
-        ap (λ b. ((if b then segment_end_lines k l.tick n found else []) ++ state_lines ws k was s taken s.done)
+        ap (λ b. ((if b then segment_end_lines k l.tick n found late else []) ++ state_lines ws k was s taken s.done)
         ++ (if begins then start_line (k + 1) start waited y ∷ [] else [])) e
         ∙ ap (λ xs. (xs ++ state_lines ws k was s taken s.done) ++ (if begins then start_line (k + 1) start waited y ∷ [] else []))
-        (choice-lines (ends_segment m) (segment_end_lines k l.tick n found) (segment_end_lines k m.tick (m.scene.machine.done + 1) (map seen_ahead m.dropped)) (λ yes.
-        ap (λ xs. segment_end_lines k l.tick n xs) (is.dropped yes)
-        ∙ ap (λ t. segment_end_lines k t n (map seen_ahead m.dropped)) (sym is.tick)
-        ∙ ap (λ j. segment_end_lines k m.tick j (map seen_ahead m.dropped)) number))
-        ∙ ap (λ xs. ((if ends_segment m then segment_end_lines k m.tick (m.scene.machine.done + 1) (map seen_ahead m.dropped) else []) ++ xs)
+        (choice-lines (ends_segment m) (segment_end_lines k l.tick n found late) (segment_end_lines k m.tick (m.scene.machine.done + 1) (map seen_ahead m.dropped) (late_at ds levels b m)) (λ yes.
+        end-same k l.tick n found late (late_at ds levels b m) (is_late yes)
+        ∙ ap (λ xs. segment_end_lines k l.tick n xs (late_at ds levels b m)) (is.dropped yes)
+        ∙ ap (λ t. segment_end_lines k t n (map seen_ahead m.dropped) (late_at ds levels b m)) (sym is.tick)
+        ∙ ap (λ j. segment_end_lines k m.tick j (map seen_ahead m.dropped) (late_at ds levels b m)) number))
+        ∙ ap (λ xs. ((if ends_segment m then segment_end_lines k m.tick (m.scene.machine.done + 1) (map seen_ahead m.dropped) (late_at ds levels b m) else []) ++ xs)
         ++ (if begins then start_line (k + 1) start waited y ∷ [] else [])) state
-        ∙ ap (λ q. ((if ends_segment m then segment_end_lines k m.tick (m.scene.machine.done + 1) (map seen_ahead m.dropped) else []) ++ state_lines_at (words_behind m) k b (next_state m))
+        ∙ ap (λ q. ((if ends_segment m then segment_end_lines k m.tick (m.scene.machine.done + 1) (map seen_ahead m.dropped) (late_at ds levels b m) else []) ++ state_lines_at (words_behind m) k b (next_state m))
         ++ (if q then start_line (k + 1) start waited y ∷ [] else [])) all
-        ∙ ap (λ t. ((if ends_segment m then segment_end_lines k m.tick (m.scene.machine.done + 1) (map seen_ahead m.dropped) else []) ++ state_lines_at (words_behind m) k b (next_state m))
+        ∙ ap (λ t. ((if ends_segment m then segment_end_lines k m.tick (m.scene.machine.done + 1) (map seen_ahead m.dropped) (late_at ds levels b m) else []) ++ state_lines_at (words_behind m) k b (next_state m))
         ++ (if nat_eq k 0 || ends_segment m then start_line (k + 1) t waited y ∷ [] else [])) is_start
-        ∙ ap (λ w. ((if ends_segment m then segment_end_lines k m.tick (m.scene.machine.done + 1) (map seen_ahead m.dropped) else []) ++ state_lines_at (words_behind m) k b (next_state m))
+        ∙ ap (λ w. ((if ends_segment m then segment_end_lines k m.tick (m.scene.machine.done + 1) (map seen_ahead m.dropped) (late_at ds levels b m) else []) ++ state_lines_at (words_behind m) k b (next_state m))
         ++ (if nat_eq k 0 || ends_segment m then start_line (k + 1) (next_front m).c w y ∷ [] else [])) is.waited
-        ∙ ap (λ z. ((if ends_segment m then segment_end_lines k m.tick (m.scene.machine.done + 1) (map seen_ahead m.dropped) else []) ++ state_lines_at (words_behind m) k b (next_state m))
+        ∙ ap (λ z. ((if ends_segment m then segment_end_lines k m.tick (m.scene.machine.done + 1) (map seen_ahead m.dropped) (late_at ds levels b m) else []) ++ state_lines_at (words_behind m) k b (next_state m))
         ++ (if nat_eq k 0 || ends_segment m then start_line (k + 1) (next_front m).c (has_waited m) z ∷ [] else [])) name
 
-pub last-is : (b : Machine) (was : Bool) → b.enabled ≡ was → (m : Moment) (ws : List (List ℕ)) → ws ≡ words_behind m → (s : Machine) (k tick n : ℕ) (found : List Ahead) → m.tick ≡ tick
-    → next_state m ≡ s → found ≡ map seen_ahead m.dropped → n ≡ s.done + 1
-    → ((segment_end_lines k tick n found ++ marks_lines ws k was s) ++ run_end_line (rests s) ∷ done_line s.done ∷ ticks_line tick ∷ []) ≡ last_lines k b m
+pub last-is : (ds : List ℕ) (levels : ℕ) (b : Machine) (was : Bool) → b.enabled ≡ was → (m : Moment) (ws : List (List ℕ)) → ws ≡ words_behind m → (s : Machine) (k tick n : ℕ) (found late : List Ahead) → m.tick ≡ tick
+    → next_state m ≡ s → found ≡ map seen_ahead m.dropped → (k ≢ 0 → late ≡ late_at ds levels b m) → n ≡ s.done + 1
+    → ((segment_end_lines k tick n found late ++ marks_lines ws k was s) ++ run_end_line (rests s) ∷ done_line s.done ∷ ticks_line tick ∷ []) ≡ last_lines ds levels k b m
 unfolding last_lines
-last-is b was is_was m ws is_printed s k tick n found is_tick state seen is_n =
+last-is ds levels b was is_was m ws is_printed s k tick n found late is_tick state seen is_late is_n =
     let number : n ≡ m.scene.machine.done + 1 = is_n ∙ ap (λ d. d + 1) (same-done m s state) in
     let rest : Machine → ℕ → List (List ℕ) = λ t i. run_end_line (rests t) ∷ done_line t.done ∷ ticks_line i ∷ [] in
-    ap (λ xs. (segment_end_lines k tick n found ++ marks_lines xs k was s) ++ rest s tick) is_printed
-    ∙ ap (λ xs. (segment_end_lines k tick n xs ++ marks_lines (words_behind m) k was s) ++ rest s tick) seen
-    ∙ ap (λ j. (segment_end_lines k tick j (map seen_ahead m.dropped) ++ marks_lines (words_behind m) k was s) ++ rest s tick) number
-    ∙ ap (λ w. (segment_end_lines k tick (m.scene.machine.done + 1) (map seen_ahead m.dropped) ++ marks_lines (words_behind m) k w s) ++ rest s tick) (sym is_was)
-    ∙ ap (λ t. (segment_end_lines k tick (m.scene.machine.done + 1) (map seen_ahead m.dropped) ++ marks_lines (words_behind m) k b.enabled t) ++ rest t tick) (sym state)
-    ∙ ap (λ i. (segment_end_lines k i (m.scene.machine.done + 1) (map seen_ahead m.dropped) ++ marks_lines (words_behind m) k b.enabled (next_state m))
+    ap (λ xs. (segment_end_lines k tick n found late ++ marks_lines xs k was s) ++ rest s tick) is_printed
+    ∙ ap (λ xs. (xs ++ marks_lines (words_behind m) k was s) ++ rest s tick) (end-same k tick n found late (late_at ds levels b m) is_late)
+    ∙ ap (λ xs. (segment_end_lines k tick n xs (late_at ds levels b m) ++ marks_lines (words_behind m) k was s) ++ rest s tick) seen
+    ∙ ap (λ j. (segment_end_lines k tick j (map seen_ahead m.dropped) (late_at ds levels b m) ++ marks_lines (words_behind m) k was s) ++ rest s tick) number
+    ∙ ap (λ w. (segment_end_lines k tick (m.scene.machine.done + 1) (map seen_ahead m.dropped) (late_at ds levels b m) ++ marks_lines (words_behind m) k w s) ++ rest s tick) (sym is_was)
+    ∙ ap (λ t. (segment_end_lines k tick (m.scene.machine.done + 1) (map seen_ahead m.dropped) (late_at ds levels b m) ++ marks_lines (words_behind m) k b.enabled t) ++ rest t tick) (sym state)
+    ∙ ap (λ i. (segment_end_lines k i (m.scene.machine.done + 1) (map seen_ahead m.dropped) (late_at ds levels b m) ++ marks_lines (words_behind m) k b.enabled (next_state m))
     ++ rest (next_state m) i) (sym is_tick)
 
 pub totals-is : (s : Machine) (resting : Bool) (done tick : ℕ) → resting ≡ rests s → done ≡ s.done

@@ -10,11 +10,11 @@ use Rattle.st_io.specs.declared.Failed.{Failed}
 use Rattle.st_io.specs.Lines.{WritesLines}
 use Rattle.st_io.proofs.Progress.{lines_then, lines_cut, wrote_nothing}
 use Rattle.st_plain.specs.declared.looking.Ahead.{Ahead}
-use Rattle.st_account.specs.Lines.{numbers_text, delays_line, delays_by, dropped_line, segment_end_line}
+use Rattle.st_account.specs.Lines.{numbers_text, delays_line, delays_by, dropped_line, begun_line, segment_end_line}
 use Rattle.st_account.specs.Standing.{outcome_of}
 use Rattle.st_exch.specs.Printer.{line_of_words}
 use Rattle.st_report.specs.Line.{prt_line}
-use Rattle.st_account.specs.Text.{facts_lines, drop_lines, segment_end_lines, prints_lines}
+use Rattle.st_account.specs.Text.{facts_lines, drop_lines, late_lines, segment_end_lines, prints_lines}
 
 pub no_lines : (s : OutputState) (o : Unit {0}) → WritesLines s s [] (Ok o)
 no_lines s o = record { ok = wrote_nothing s; err = tt }
@@ -45,14 +45,23 @@ drops_none s n found o is = rw is (no_lines s o)
 
 -- ---- the end of a segment
 
-pub end-none : (k tick n : ℕ) (found : List Ahead) → k ≡ 0 → segment_end_lines k tick n found ≡ []
-unfolding segment_end_lines
-end-none k tick n found none = rw none refl
+pub late-one : (n : ℕ) (x : Ahead) → late_lines n (x ∷ []) ≡ (begun_line n x.plan.place.address x.row ∷ []) ++ facts_lines x.plan x.side x.execute
+unfolding late_lines
+late-one n x = refl
 
-pub end-some : (k tick n : ℕ) (found : List Ahead) → k ≢ 0 → segment_end_lines k tick n found ≡ (segment_end_line k tick ∷ []) ++ drop_lines n found
+pub end-none : (k tick n : ℕ) (found late : List Ahead) → k ≡ 0 → segment_end_lines k tick n found late ≡ []
 unfolding segment_end_lines
-end-some zero tick n found some = absurd (some refl)
-end-some (suc k) tick n found some = rw (not-zero k) refl
+end-none k tick n found late none = rw none refl
+
+pub end-same : (k tick n : ℕ) (found xs ys : List Ahead) → (k ≢ 0 → xs ≡ ys) → segment_end_lines k tick n found xs ≡ segment_end_lines k tick n found ys
+end-same zero tick n found xs ys same = end-none zero tick n found xs refl ∙ sym (end-none zero tick n found ys refl)
+end-same (suc k) tick n found xs ys same = ap (segment_end_lines (suc k) tick n found) (same (λ none. omega (arith, none)))
+
+pub end-some : (k tick n : ℕ) (found late : List Ahead) → k ≢ 0
+    → segment_end_lines k tick n found late ≡ (segment_end_line k tick ∷ []) ++ (drop_lines n found ++ late_lines (n + length found) late)
+unfolding segment_end_lines
+end-some zero tick n found late some = absurd (some refl)
+end-some (suc k) tick n found late some = rw (not-zero k) refl
   where
     not-zero : (k : ℕ) → nat_eq (suc k) 0 ≡ false
     not-zero k = grind (arith, nat_tests)

@@ -20,34 +20,34 @@ use Rattle.st_account.proofs.RunLemmas.{lines-end, lines-on, charges-end, charge
 module _ (ds : List ℕ) (n left k : ℕ) (b : Machine) (m : Moment) (s t : OutputState) (all : List (List ℕ))
     (so_far : LinesSoFar s t all (lines_from ds n left k b m)) where
   -- the run ends
-  pub run-ends : (u : OutputState) (r : Result (Unit {0}) Failed) → (left ≡ 0) ⊎ (rests (next_state m) ≡ true) → WritesLines t u (last_lines k b m) r
+  pub run-ends : (u : OutputState) (r : Result (Unit {0}) Failed) → (left ≡ 0) ⊎ (rests (next_state m) ≡ true) → WritesLines t u (last_lines ds n k b m) r
       → WritesLines s u all r
-  run-ends u r end h = lines_last s t u all (last_lines k b m) r (subst (LinesSoFar s t all) (lines-end ds n left k b m end) so_far) h
+  run-ends u r end h = lines_last s t u all (last_lines ds n k b m) r (subst (LinesSoFar s t all) (lines-end ds n left k b m end) so_far) h
 
   module _ (some : left ≢ 0) (going : rests (next_state m) ≡ false) where
     abbrev rest : List (List ℕ)
     rest = lines_from ds n (left - 1) (segment_after k m) (next_state m) (next_moment ds n (standing_at m))
 
-    both : LinesSoFar s t all (segment_lines k b m ++ (lines_of_entry ds n (standing_at m) ++ rest))
-    both = subst (LinesSoFar s t all) (lines-on ds n left k b m some going ∙ append_assoc (segment_lines k b m) (lines_of_entry ds n (standing_at m)) rest) so_far
+    both : LinesSoFar s t all (segment_lines ds n k b m ++ (lines_of_entry ds n (standing_at m) ++ rest))
+    both = subst (LinesSoFar s t all) (lines-on ds n left k b m some going ∙ append_assoc (segment_lines ds n k b m) (lines_of_entry ds n (standing_at m)) rest) so_far
 
     -- a write fails, of the lines of a border
-    pub border-fails : (u : OutputState) (e : Failed) (r : Result (Unit {0}) Failed) → IsErr r → WritesLines t u (segment_lines k b m) (Err e) → WritesLines s u all r
-    border-fails u e r f h = lines_failed s t u all (segment_lines k b m) (lines_of_entry ds n (standing_at m) ++ rest) r f both h.err
+    pub border-fails : (u : OutputState) (e : Failed) (r : Result (Unit {0}) Failed) → IsErr r → WritesLines t u (segment_lines ds n k b m) (Err e) → WritesLines s u all r
+    border-fails u e r f h = lines_failed s t u all (segment_lines ds n k b m) (lines_of_entry ds n (standing_at m) ++ rest) r f both h.err
 
     -- of the lines of an entry
-    pub entry-fails : (u v : OutputState) (x : Unit {0}) (e : Failed) (r : Result (Unit {0}) Failed) → IsErr r → WritesLines t u (segment_lines k b m) (Ok x)
+    pub entry-fails : (u v : OutputState) (x : Unit {0}) (e : Failed) (r : Result (Unit {0}) Failed) → IsErr r → WritesLines t u (segment_lines ds n k b m) (Ok x)
         → WritesLines u v (lines_of_entry ds n (standing_at m)) (Err e) → WritesLines s v all r
     entry-fails u v x e r f h later =
         lines_failed s u v all (lines_of_entry ds n (standing_at m)) rest r f
-        (lines_more s t u all (segment_lines k b m) (lines_of_entry ds n (standing_at m) ++ rest) both h.ok) later.err
+        (lines_more s t u all (segment_lines ds n k b m) (lines_of_entry ds n (standing_at m) ++ rest) both h.ok) later.err
 
     -- none fails
-    pub turn-made : (u v : OutputState) (x y : Unit {0}) → WritesLines t u (segment_lines k b m) (Ok x) → WritesLines u v (lines_of_entry ds n (standing_at m)) (Ok y)
+    pub turn-made : (u v : OutputState) (x y : Unit {0}) → WritesLines t u (segment_lines ds n k b m) (Ok x) → WritesLines u v (lines_of_entry ds n (standing_at m)) (Ok y)
         → LinesSoFar s v all rest
     turn-made u v x y h later =
         lines_more s u v all (lines_of_entry ds n (standing_at m)) rest
-        (lines_more s t u all (segment_lines k b m) (lines_of_entry ds n (standing_at m) ++ rest) both h.ok) later.ok
+        (lines_more s t u all (segment_lines ds n k b m) (lines_of_entry ds n (standing_at m) ++ rest) both h.ok) later.ok
 
 -- ---- numbers of a turn
 

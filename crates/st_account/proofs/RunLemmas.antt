@@ -52,7 +52,7 @@ rest-none s (x ∷ xs) cards awake = rw awake refl
 module _ (ds : List ℕ) (n : ℕ) where
   -- ---- the lines
 
-  pub lines-end : (left k : ℕ) (b : Machine) (m : Moment) → (left ≡ 0) ⊎ (rests (next_state m) ≡ true) → lines_from ds n left k b m ≡ last_lines k b m
+  pub lines-end : (left k : ℕ) (b : Machine) (m : Moment) → (left ≡ 0) ⊎ (rests (next_state m) ≡ true) → lines_from ds n left k b m ≡ last_lines ds n k b m
   unfolding lines_from
   lines-end zero k b m end = refl
   lines-end (suc left) k b m (inl none) = let no : ⊥ = omega arith in absurd no
@@ -60,14 +60,14 @@ module _ (ds : List ℕ) (n : ℕ) where
 
   pub lines-on : (left k : ℕ) (b : Machine) (m : Moment) → left ≢ 0 → rests (next_state m) ≡ false
       → lines_from ds n left k b m
-      ≡ (segment_lines k b m ++ lines_of_entry ds n (standing_at m))
+      ≡ (segment_lines ds n k b m ++ lines_of_entry ds n (standing_at m))
       ++ lines_from ds n (left - 1) (segment_after k m) (next_state m) (next_moment ds n (standing_at m))
   unfolding lines_from
   lines-on zero k b m some going = absurd (some refl)
   lines-on (suc left) k b m some going =
       let one : left ≡ suc left - 1 = omega arith in
       rw going
-      (ap (λ j. (segment_lines k b m ++ lines_of_entry ds n (standing_at m)) ++ lines_from ds n j (segment_after k m) (next_state m) (next_moment ds n (standing_at m))) one)
+      (ap (λ j. (segment_lines ds n k b m ++ lines_of_entry ds n (standing_at m)) ++ lines_from ds n j (segment_after k m) (next_state m) (next_moment ds n (standing_at m))) one)
 
   -- ---- the charges
 

@@ -1,6 +1,6 @@
 -- The run at the head of its loop, and what one turn makes of it.
 use Rattle.std.specs.Prelude.{Result, Ok, Err, IsErr, nat_lt, nat_eq, ◌||◌, not, Bool, map, All}
-use Rattle.std.proofs.Common.{◌≡◌, ◌≢◌, ℕ, suc, ◌+◌, ◌-◌, ◌*◌, ◌^◌, ◌≤◌, ◌<◌, ◌⊎◌, inl, inr, true, false, None, List, [], ◌++◌, length, refl, sym, ◌∙◌, ap, subst, arith}
+use Rattle.std.proofs.Common.{◌≡◌, ◌≢◌, ℕ, suc, ◌+◌, ◌-◌, ◌*◌, ◌^◌, ◌≤◌, ◌<◌, ◌⊎◌, inl, inr, true, false, None, List, [], ◌∷◌, ◌++◌, length, refl, sym, ◌∙◌, ap, subst, arith}
 use Rattle.std.specs.List.{AllPass}
 use Rattle.st_bits.specs.declared.limits.TheConstants.{MOST_INSTRUCTIONS}
 use Rattle.st_banks.specs.declared.answers.LastAnswers.{LastAnswers}
@@ -11,7 +11,8 @@ use Rattle.st_io.specs.declared.Failed.{Failed}
 use Rattle.st_io.specs.Lines.{WritesLines}
 use Rattle.st_io.proofs.Progress.{LinesSoFar, lines_none}
 use Rattle.st_state.specs.Machine.{Machine, IsMachine}
-use Rattle.st_exec.specs.Step.{rests, step}
+use Rattle.st_exec.specs.Completion.{guess}
+use Rattle.st_exec.specs.Step.{rests, step, interrupt}
 use Rattle.st_rows.specs.Asked.{made_before}
 use Rattle.st_rows.specs.Ranges.{AreDelaysUpTo, IsTight}
 use Rattle.st_rows.specs.Rows.{opening_front}
@@ -20,7 +21,7 @@ use Rattle.st_rows.specs.declared.log.Made.{Made}
 use Rattle.st_segment.specs.Ahead.{ahead, prepared_before, reads_before}
 use Rattle.st_run.specs.Run.{Scene, interlude, with_due_signals, with_due_orders}
 use Rattle.st_run.specs.Reached.{IsCard}
-use Rattle.st_run.specs.Moments.{Moment, Standing, moment_at_start, answers_at_start, next_state, next_front, standing_at, next_moment}
+use Rattle.st_run.specs.Moments.{Moment, Standing, moment_at_start, answers_at_start, ends_segment, next_state, next_front, standing_at, next_moment}
 use Rattle.st_exec.proofs.StepLemmas.{step-done}
 use Rattle.st_run.proofs.DoneLemmas.{settled-done}
 use Rattle.st_run.proofs.Bounds.{IsMoment, HasTime, start-is, next-is, next-time}
@@ -29,12 +30,12 @@ use Rattle.st_ledger.specs.declared.totals.Totals.{Totals}
 use Rattle.st_ledger.specs.Charges.{ticks_for}
 use Rattle.st_ledger.specs.Ledger.{charges_at, entries_from, all_charges}
 use Rattle.st_ledger.specs.Totals.{sum_at, AreWithin}
-use Rattle.st_plain.specs.Looking.{seen_ahead}
+use Rattle.st_plain.specs.Looking.{seen_ahead, first_late}
 use Rattle.st_plain.specs.declared.looking.Ahead.{Ahead as Seen}
 use Rattle.st_account.specs.declared.last.Last.{Last}
 use Rattle.st_account.specs.Settling.{at_hand, words_printed}
 use Rattle.st_account.specs.Standing.{guessing, still_by, IsLast, IsStanding, IsBehindMoment}
-use Rattle.st_account.specs.Text.{words_behind, segment_lines, segment_after, lines_of_entry, last_lines, lines_from}
+use Rattle.st_account.specs.Text.{words_behind, late_at, segment_lines, segment_after, lines_of_entry, last_lines, lines_from}
 use Rattle.st_account.proofs.LastLemmas.{start-last}
 use Rattle.st_account.proofs.RunLemmas.{next-scene, next-machine, same-done, seen-dropped, behind-is, end-looks, rest-looks, next-stepped, next-at, early-tick}
 use Rattle.st_account.proofs.LoopLemmas.{run-ends, border-fails, entry-fails, turn-made, sums-none, number-next, sums-next, sums-end}
@@ -47,6 +48,7 @@ pub record IsRunning (s t : OutputState) (all : List (List ℕ)) (ds : List ℕ)
   pub was : b.enabled ≡ last.enabled
   pub scene : m.scene ≡ at_hand state rest cards
   pub hand : IsLast ds n m last log
+  pub guessed : k ≢ 0 → guessing last.ic m.scene.machine ≡ guess (interrupt b) b
   pub bounds : IsMoment 255 n m
   pub at : m.front.c ≡ m.tick
   pub time : HasTime (64 * (255 + 4)) m.tick m.scene.machine
@@ -77,6 +79,7 @@ run-starts s ds n budget state signals cards last log sums are few machine each 
       was = sym enabled;
       scene = refl;
       hand = start-last ds n c last log tick front past missed ic counter empty tight;
+      guessed = λ some. absurd (some refl);
       bounds = start-is 255 n ds are few c (record { machine = machine; cards = each });
       at = refl;
       time = omega arith;
@@ -129,19 +132,32 @@ module _ (s t : OutputState) (all : List (List ℕ)) (ds : List ℕ) (n : ℕ) (
         ∙ ap (λ u. words_printed (interlude (at_hand u rest cards)).happened) same
         ∙ ap (λ c. words_printed (interlude c).happened) (sym h.scene)
 
+    -- the entry that was begun
+    late-is : (late : List Seen) → late ≡ map seen_ahead (first_late last.tick (ahead ds n (suc n) None (guessing last.ic state) last.front))
+        → k ≢ 0 → late ≡ late_at ds n h.b h.m
+    unfolding late_at
+    late-is late is some =
+        is
+        ∙ ap (λ c. map seen_ahead (first_late last.tick (ahead ds n (suc n) None (guessing last.ic c.machine) last.front))) (sym h.scene)
+        ∙ ap (λ u. map seen_ahead (first_late last.tick (ahead ds n (suc n) None u last.front))) (h.guessed some)
+        ∙ ap (λ t. map seen_ahead (first_late t (ahead ds n (suc n) None (guess (interrupt h.b) h.b) last.front))) (sym h.hand.tick)
+        ∙ ap (λ f. map seen_ahead (first_late h.m.tick (ahead ds n (suc n) None (guess (interrupt h.b) h.b) f))) (sym h.hand.front)
+
     -- the run ends
-    pub finishes : (ws : List (List ℕ)) → ws ≡ words_printed (interlude (at_hand mid rest cards)).happened → (u : OutputState) (r : Result (Unit {0}) Failed) (found : List Seen) (still looks : Bool) → (left ≡ 0) ⊎ (rests state' ≡ true)
+    pub finishes : (ws : List (List ℕ)) → ws ≡ words_printed (interlude (at_hand mid rest cards)).happened → (u : OutputState) (r : Result (Unit {0}) Failed) (found late : List Seen) (still looks : Bool) → (left ≡ 0) ⊎ (rests state' ≡ true)
         → still ≡ still_by state last.missed rest → looks ≡ (nat_eq left 0 || not still)
         → (looks ≡ true → found ≡ map seen_ahead (prepared_before last.tick (ahead ds n n None (guessing last.ic state) last.front)))
-        → ((b : Machine) (m : Moment) → b.enabled ≡ last.enabled → ws ≡ words_behind m → m.tick ≡ last.tick → next_state m ≡ state' → found ≡ map seen_ahead m.dropped
-        → WritesLines t u (last_lines k b m) r)
+        → (looks ≡ true → late ≡ map seen_ahead (first_late last.tick (ahead ds n (suc n) None (guessing last.ic state) last.front)))
+        → ((ds : List ℕ) (n : ℕ) (b : Machine) (m : Moment) → b.enabled ≡ last.enabled → ws ≡ words_behind m → m.tick ≡ last.tick → next_state m ≡ state' → found ≡ map seen_ahead m.dropped
+        → (k ≢ 0 → late ≡ late_at ds n b m) → WritesLines t u (last_lines ds n k b m) r)
         → WritesLines s u all r
-    finishes ws is_printed u r found still looks end is_still is_looks seen writes =
+    finishes ws is_printed u r found late still looks end is_still is_looks seen begun writes =
         let ending : (left ≡ 0) ⊎ (rests (next_state h.m) ≡ true) = at_end end in
+        let yes = rest-looks left state rest cards h.m last.missed still looks h.scene h.hand.missed is_still is_looks ending in
         run-ends ds n left k h.b h.m s t all h.so_far u r ending
-        (writes h.b h.m h.was (printed-is ws is_printed) h.hand.tick next
+        (writes ds n h.b h.m h.was (printed-is ws is_printed) h.hand.tick next
         (seen-dropped h.m state state' rest rest' cards cards' h.scene came ds n last log found h.hand
-        (seen (rest-looks left state rest cards h.m last.missed still looks h.scene h.hand.missed is_still is_looks ending))))
+        (seen yes)) (late-is late (begun yes)))
       where
         at_end : (left ≡ 0) ⊎ (rests state' ≡ true) → (left ≡ 0) ⊎ (rests (next_state h.m) ≡ true)
         at_end (inl none) = inl none
@@ -171,14 +187,21 @@ module _ (s t : OutputState) (all : List (List ℕ)) (ds : List ℕ) (n : ℕ) (
           (end-looks left state rest cards h.m last.missed still looks h.scene h.hand.missed is_still is_looks) is_card
           (is_waited ∙ ap (λ u. rests (with_due_orders (with_due_signals u rest cards)).scene.machine) same)
 
-      pub crossing-fails : (u : OutputState) (e : Failed) (r : Result (Unit {0}) Failed) → IsErr r → WritesLines t u (segment_lines k h.b h.m) (Err e) → WritesLines s u all r
+      pub late-behind : (late : List Seen) (still looks : Bool)
+          → still ≡ still_by state last.missed rest → looks ≡ (nat_eq left 0 || not still)
+          → (looks ≡ true → late ≡ map seen_ahead (first_late last.tick (ahead ds n (suc n) None (guessing last.ic state) last.front)))
+          → ends_segment h.m ≡ true → k ≢ 0 → late ≡ late_at ds n h.b h.m
+      late-behind late still looks is_still is_looks begun ends =
+          late-is late (begun (end-looks left state rest cards h.m last.missed still looks h.scene h.hand.missed is_still is_looks ends))
+
+      pub crossing-fails : (u : OutputState) (e : Failed) (r : Result (Unit {0}) Failed) → IsErr r → WritesLines t u (segment_lines ds n k h.b h.m) (Err e) → WritesLines s u all r
       crossing-fails u e r f w = border-fails ds n left k h.b h.m s t all h.so_far some on u e r f w
 
       module _ (last' : Last) (front : last'.front ≡ next_front h.m) (tick : last'.tick ≡ last.tick) where
         pub stands : IsStanding (standing_at h.m) state' last'
         stands = record { machine = next; tick = h.hand.tick ∙ sym tick; front = sym front }
 
-        module _ (u : OutputState) (x : Unit {0}) (segment : WritesLines t u (segment_lines k h.b h.m) (Ok x)) where
+        module _ (u : OutputState) (x : Unit {0}) (segment : WritesLines t u (segment_lines ds n k h.b h.m) (Ok x)) where
           pub row-fails : (v : OutputState) (e : Failed) (r : Result (Unit {0}) Failed) → IsErr r
               → ((p : Standing) → IsStanding p state' last' → WritesLines u v (lines_of_entry ds n p) (Err e)) → WritesLines s v all r
           row-fails v e r f w = entry-fails ds n left k h.b h.m s t all h.so_far some on u v x e r f segment (w (standing_at h.m) stands)
@@ -188,16 +211,19 @@ module _ (s t : OutputState) (all : List (List ℕ)) (ds : List ℕ) (n : ℕ) (
               → ((p : Standing) → IsStanding p state' last' → IsLast ds n (next_moment ds n p) last'' log')
               → ((p : Standing) → IsStanding p state' last' → WritesLines u v (lines_of_entry ds n p) (Ok y))
               → ((p : Standing) (x : Stage) → IsStanding p state' last' → sum_at x sums' ≡ sum_at x sums + ticks_for x (charges_at ds n p))
-              → AreWithin last''.tick sums' → last''.enabled ≡ state'.enabled → AllPass is_signal rest'
+              → AreWithin last''.tick sums' → last''.enabled ≡ state'.enabled → guessing last''.ic state'' ≡ guess (interrupt state') state' → AllPass is_signal rest'
               → IsRunning s v all ds n total state'' rest' cards' last'' log' k' (left - 1) sums'
-          goes v y k' state'' last'' log' sums' are few number made hand entry added within enabled passes =
+          goes v y k' state'' last'' log' sums' are few number made hand entry added within enabled guessed passes =
               let more = next-done ds n h.m in
+              let scene = next-stepped ds n h.m state' state'' rest' cards' (next-scene h.m state state' rest rest' cards cards' h.scene came) made in
               record {
                 m = next_moment ds n (standing_at h.m);
                 b = next_state h.m;
                 was = ap (λ (u : Machine). u.enabled) next ∙ sym enabled;
-                scene = next-stepped ds n h.m state' state'' rest' cards' (next-scene h.m state state' rest rest' cards cards' h.scene came) made;
+                scene = scene;
                 hand = hand (standing_at h.m) stands;
+                guessed = λ some.
+                    ap (λ c. guessing last''.ic c.machine) scene ∙ guessed ∙ ap (λ u. guess (interrupt u) u) (sym next);
                 bounds = next-is 255 n ds are few h.m h.bounds;
                 at = next-at ds n (standing_at h.m);
                 time = next-time 255 n ds are few h.m h.bounds h.time;

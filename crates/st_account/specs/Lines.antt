@@ -88,3 +88,10 @@ dropped_line n address row =
     codes "DROP " ++ decimal n ++ codes " " ++ half_address address
     ++ codes " A " ++ decimal row.a ++ codes " P " ++ decimal row.p ++ codes " R " ++ decimal row.r
     ++ lf
+
+-- it was begun, and not prepared in time; the ticks are those that it would have had
+abbrev pub begun_line : ℕ → ℕ → EntryTicks → List ℕ
+begun_line n address row =
+    codes "BEGUN " ++ decimal n ++ codes " " ++ half_address address
+    ++ codes " A " ++ decimal row.a ++ codes " P " ++ decimal row.p ++ codes " R " ++ decimal row.r
+    ++ lf

@@ -1,7 +1,7 @@
 -- The ledger of a run: its lines, from the moments of the run. The machine has the delays ds and n
 -- levels. Segments are numbered from 1 on; k is the number of the segment of the entry that has
 -- just been done, 0 before the first one.
-use Rattle.std.specs.Prelude.{ℕ, zero, suc, ◌+◌, Bool, true, false, not, ◌==◌, ◌||◌, nat_eq, if◌then◌else◌, List, [], ◌∷◌, ◌++◌, Option, None, Some, map}
+use Rattle.std.specs.Prelude.{ℕ, zero, suc, ◌+◌, Bool, true, false, not, ◌==◌, ◌||◌, nat_eq, if◌then◌else◌, List, [], ◌∷◌, ◌++◌, length, Option, None, Some, map}
 use Rattle.st_bits.specs.Indicators.{indicator}
 use Rattle.st_bits.specs.declared.limits.TheConstants.{WORDS}
 use Rattle.st_io.specs.Lines.{lines_for}
@@ -12,9 +12,10 @@ use Rattle.st_prep.specs.Plan.{plan}
 use Rattle.st_prep.specs.declared.entries.IndexChange.{IndexChange}
 use Rattle.st_prep.specs.declared.entries.Prepared.{Prepared}
 use Rattle.st_prep.specs.declared.entries.Words.{Words}
-use Rattle.st_exec.specs.Completion.{is_missed}
+use Rattle.st_exec.specs.Completion.{guess, is_missed}
 use Rattle.st_exec.specs.Step.{rests, interrupt, address}
 use Rattle.st_rows.specs.declared.front.EntryTicks.{EntryTicks}
+use Rattle.st_segment.specs.Ahead.{ahead}
 use Rattle.st_exch.specs.Printer.{line_of_words}
 use Rattle.st_run.specs.Run.{Scene, interlude}
 use Rattle.st_run.specs.Moments.{Moment, Standing, moment_at_start, next_state, has_waited, ends_segment, next_front, standing_at, next_row, next_moment}
@@ -25,9 +26,9 @@ use Rattle.st_ledger.specs.Ledger.{entries_of, all_charges}
 use Rattle.st_ledger.specs.Lines.{row_stage_line, charge_lines}
 use Rattle.st_ledger.specs.Totals.{stages, sums_by, sum_lines}
 use Rattle.st_plain.specs.declared.looking.Ahead.{Ahead}
-use Rattle.st_plain.specs.Looking.{side_at, executes_at, seen_ahead}
+use Rattle.st_plain.specs.Looking.{side_at, executes_at, seen_ahead, first_late}
 use Rattle.st_account.specs.Settling.{words_printed}
-use Rattle.st_account.specs.Lines.{ledger_levels_line, delays_lines, start_line, segment_end_line, word_line, missed_line, alone_line, suppressed_line, writes_line, index_line, dropped_line}
+use Rattle.st_account.specs.Lines.{ledger_levels_line, delays_lines, start_line, segment_end_line, word_line, missed_line, alone_line, suppressed_line, writes_line, index_line, dropped_line, begun_line}
 use Rattle.st_account.specs.declared.lines.Alone.{Alone}
 use Rattle.st_account.specs.declared.lines.Alone.TheVariants.{Table, Execute, Register, Operation}
 use Rattle.st_account.specs.declared.lines.Why.{Why}
@@ -88,19 +89,33 @@ drop_lines n [] = []
 drop_lines n (a ∷ more) = dropped_line n a.plan.place.address a.row
     ∷ (facts_lines a.plan a.side a.execute ++ drop_lines (n + 1) more)
 
--- the segment k ends at a tick, and what ran ahead is dropped; before the first segment there is
--- none
-unfoldable pub segment_end_lines : ℕ → ℕ → ℕ → List Ahead → List (List ℕ)
-segment_end_lines k tick n dropped = if nat_eq k 0 then [] else segment_end_line k tick
-    ∷ drop_lines n dropped
+-- the entry that was begun behind them, which is the n-th entry, if there is one
+unfoldable pub late_lines : ℕ → List Ahead → List (List ℕ)
+late_lines n [] = []
+late_lines n (a ∷ more) = begun_line n a.plan.place.address a.row
+    ∷ facts_lines a.plan a.side a.execute
+
+-- the segment k ends at a tick, what ran ahead is dropped, and so is what was begun; before the
+-- first segment there is none
+unfoldable pub segment_end_lines : ℕ → ℕ → ℕ → List Ahead → List Ahead → List (List ℕ)
+segment_end_lines k tick n dropped late = if nat_eq k 0 then [] else segment_end_line k tick
+    ∷ (drop_lines n dropped ++ late_lines (n + length dropped) late)
+
+-- the entry that was begun when an entry was done at a moment: of those behind its guess the first
+-- one that was not prepared by then; b is the state before the entry that was done
+unfoldable pub late_at : List ℕ → ℕ → Machine → Moment → List Ahead
+late_at ds n b m =
+    map seen_ahead (first_late m.tick (ahead ds n (suc n) None (guess (interrupt b) b) m.front))
 
 -- at a moment
-abbrev pub end_lines_at : ℕ → Moment → List (List ℕ)
-end_lines_at k m = segment_end_lines k m.tick (m.scene.machine.done + 1) (map seen_ahead m.dropped)
+abbrev pub end_lines_at : List ℕ → ℕ → ℕ → Machine → Moment → List (List ℕ)
+end_lines_at ds n k b m =
+    segment_end_lines k m.tick (m.scene.machine.done + 1) (map seen_ahead m.dropped)
+    (late_at ds n b m)
 
 -- where it ends
-abbrev pub lines_at_end : ℕ → Moment → List (List ℕ)
-lines_at_end k m = if ends_segment m then end_lines_at k m else []
+abbrev pub lines_at_end : List ℕ → ℕ → ℕ → Machine → Moment → List (List ℕ)
+lines_at_end ds n k b m = if ends_segment m then end_lines_at ds n k b m else []
 
 -- ---- the state behind an entry
 
@@ -173,8 +188,9 @@ abbrev pub segment_after : ℕ → Moment → ℕ
 segment_after k m = if begins_segment k m then k + 1 else k
 
 -- the run goes on: the end of a segment, the state, and the start of the next segment
-unfoldable pub segment_lines : ℕ → Machine → Moment → List (List ℕ)
-segment_lines k b m = (lines_at_end k m ++ state_lines_at (words_behind m) k b (next_state m))
+unfoldable pub segment_lines : List ℕ → ℕ → ℕ → Machine → Moment → List (List ℕ)
+segment_lines ds n k b m =
+    (lines_at_end ds n k b m ++ state_lines_at (words_behind m) k b (next_state m))
     ++ begun_lines k m
 
 -- ---- rows
@@ -204,9 +220,9 @@ lines_of_entry ds n p =
 -- ---- the end
 
 -- the last segment ends, and the run
-unfoldable pub last_lines : ℕ → Machine → Moment → List (List ℕ)
-last_lines k b m =
-    (end_lines_at k m ++ marks_lines (words_behind m) k b.enabled (next_state m))
+unfoldable pub last_lines : List ℕ → ℕ → ℕ → Machine → Moment → List (List ℕ)
+last_lines ds n k b m =
+    (end_lines_at ds n k b m ++ marks_lines (words_behind m) k b.enabled (next_state m))
     ++ run_end_line (rests (next_state m)) ∷ done_line (next_state m).done ∷ ticks_line m.tick ∷ []
 
 -- the ticks of all charges, stage by stage
@@ -218,10 +234,10 @@ totals_lines xs = sum_lines (sums_by (λ s. ticks_for s xs) stages)
 -- from a moment on, in which so many entries may still be done; a rest is tried before the budget.
 -- b is the state before the entry that has just been done
 unfoldable pub lines_from : List ℕ → ℕ → ℕ → ℕ → Machine → Moment → List (List ℕ)
-lines_from ds n zero k b m = last_lines k b m
+lines_from ds n zero k b m = last_lines ds n k b m
 lines_from ds n (suc left) k b m =
-    if rests (next_state m) then last_lines k b m
-    else (segment_lines k b m ++ lines_of_entry ds n (standing_at m))
+    if rests (next_state m) then last_lines ds n k b m
+    else (segment_lines ds n k b m ++ lines_of_entry ds n (standing_at m))
     ++ lines_from ds n left (segment_after k m) (next_state m) (next_moment ds n (standing_at m))
 
 -- the machine

@@ -1,16 +1,16 @@
 //! What is at hand when an entry has just been done.
-ghost use Rattle.std.specs.Prelude.{◌≡◌, List, suc, ◌+◌, ◌≤◌, ◌<◌, ◌^◌, ◌++◌, ◌∷◌, map, take, true, length, if◌then◌else◌, replicate, None, All, false};
+ghost use Rattle.std.specs.Prelude.{◌≡◌, List, suc, ◌+◌, ◌≤◌, ◌<◌, ◌^◌, ◌++◌, ◌∷◌, [], map, take, true, length, if◌then◌else◌, replicate, None, All, false};
 ghost use Rattle.st_banks.specs.declared.answers.TheConstants.{BANKS};
 ghost use Rattle.st_rows.specs.Asked.{Read, made_before};
 ghost use Rattle.st_rows.specs.Ranges.{IsTight};
 ghost use Rattle.st_rows.specs.Rows.{opening_front};
 ghost use Rattle.st_segment.specs.Ahead.{ahead, prepared_before, reads_before};
 ghost use Rattle.st_rows.specs.declared.bus.Bus.{Bus as BusOf};
-ghost use Rattle.st_plain.specs.Looking.{seen_ahead};
+ghost use Rattle.st_plain.specs.Looking.{seen_ahead, first_late};
 ghost use Rattle.st_account.specs.Standing.{guessing, HasReads};
 
 use st_banks::{Delays, LastAnswers};
-use st_plain::{Aheads, look};
+use st_plain::{Ahead, Aheads, look};
 use st_rows::{Front, LastEntries, Log, Past};
 use st_state::State;
 
@@ -74,7 +74,7 @@ pub(crate) fn put_past(past: &mut [Past; 8], newest: Past)
 
 /// Looks at what ran ahead of the entry that has just been done, whose reads the log has: `found`
 /// are then the entries that were prepared before it was done, on a machine with `levels` levels, 1
-/// to 8, and the result is the last answers of the banks, where the segment ends here. The state
+/// to 8, `late` is the one behind them, and the result is the last answers of the banks, where the segment ends here. The state
 /// stays as it was; the log is used up.
 pub(crate) fn look_behind(
     state: &mut State,
@@ -83,6 +83,7 @@ pub(crate) fn look_behind(
     levels: u8,
     log: &mut Log,
     found: &mut Aheads,
+    late: &mut Ahead,
 ) -> LastAnswers
     requires few { state.old.done + 8 < 2 ^ 63 }
     requires tight { IsTight 255 last.now.front }
@@ -96,6 +97,8 @@ pub(crate) fn look_behind(
     ensures state { state.new ≡ state.old }
     ensures found { found.new.items ≡ map seen_ahead (prepared_before last.now.tick
         (ahead delays.now levels levels None (guessing last.now.ic state.old) last.now.front)) }
+    ensures late { late.new ∷ [] ≡ map seen_ahead (first_late last.now.tick
+        (ahead delays.now levels (suc levels) None (guessing last.now.ic state.old) last.now.front)) }
     ensures banks { (reads : List Read) (bus : BusOf) →
         HasReads delays.now last.now.tick reads bus last.now.front.bus log.old →
         result ≡ (made_before delays.now last.now.tick
@@ -121,6 +124,7 @@ pub(crate) fn look_behind(
         tick,
         log,
         found,
+        late,
     );
     state.ic = ic;
     let mut banks = front.bus.banks;
@@ -138,6 +142,7 @@ pub(crate) fn look_if(
     levels: u8,
     log: &mut Log,
     found: &mut Aheads,
+    late: &mut Ahead,
 ) -> LastAnswers
     requires few { state.old.done + 8 < 2 ^ 63 }
     requires tight { IsTight 255 last.now.front }
@@ -150,6 +155,8 @@ pub(crate) fn look_if(
     ensures state { state.new ≡ state.old }
     ensures found { looks ≡ true → found.new.items ≡ map seen_ahead (prepared_before last.now.tick
         (ahead delays.now levels levels None (guessing last.now.ic state.old) last.now.front)) }
+    ensures late { looks ≡ true → late.new ∷ [] ≡ map seen_ahead (first_late last.now.tick
+        (ahead delays.now levels (suc levels) None (guessing last.now.ic state.old) last.now.front)) }
     ensures banks { (reads : List Read) (bus : BusOf) → looks ≡ true →
         HasReads delays.now last.now.tick reads bus last.now.front.bus log.old →
         result ≡ (made_before delays.now last.now.tick
@@ -164,7 +171,7 @@ pub(crate) fn look_if(
     if !looks {
         return LastAnswers::new();
     }
-    look_behind(state, last, delays, levels, log, found)
+    look_behind(state, last, delays, levels, log, found, late)
 }
 
 /// What is at hand before the first entry of a run, whose counter is given, and whether interrupts

@@ -3,7 +3,7 @@
 ghost use Rattle.std.specs.Prelude.{◌≡◌, ◌+◌, ◌*◌, ◌<◌, ◌≤◌, ◌++◌, ◌∷◌, [], length, codes, decimal, MatchOption, IfSome};
 ghost use Rattle.arrayvec.specs.ArrayString.{array_string_len};
 ghost use Rattle.st_text.specs.Bytes.{lf};
-ghost use Rattle.st_account.specs.Lines.{ledger_levels_line, numbers_text, delays_line, why_text, start_line, segment_end_line, word_line, missed_line, alone_text, alone_line, suppressed_line, writes_line, index_line, dropped_line};
+ghost use Rattle.st_account.specs.Lines.{ledger_levels_line, numbers_text, delays_line, why_text, start_line, segment_end_line, word_line, missed_line, alone_text, alone_line, suppressed_line, writes_line, index_line, dropped_line, begun_line};
 
 use st_prep::IndexChange;
 use st_rows::EntryTicks;
@@ -226,6 +226,24 @@ pub fn line_drop(n: u32, address: u32, row: &EntryTicks) -> Line
     ensures { result.bytes ≡ dropped_line n address row.now }
 {
     let mut line = begun("DROP ");
+    push_short_decimal(&mut line, n);
+    line.push_str(" ");
+    push_half_address(&mut line, address);
+    line.push_str(" A ");
+    push_decimal(&mut line, row.a);
+    line.push_str(" P ");
+    push_decimal(&mut line, row.p);
+    line.push_str(" R ");
+    push_decimal(&mut line, row.r);
+    ended(line)
+}
+
+/// `BEGUN n a A x P p R r`: the n-th entry was begun, and not prepared in time; its half-word
+/// address, and the ticks that it would have had.
+pub fn line_late(n: u32, address: u32, row: &EntryTicks) -> Line
+    ensures { result.bytes ≡ begun_line n address row.now }
+{
+    let mut line = begun("BEGUN ");
     push_short_decimal(&mut line, n);
     line.push_str(" ");
     push_half_address(&mut line, address);

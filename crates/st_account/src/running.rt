@@ -1,5 +1,5 @@
 //! The run, line by line.
-ghost use Rattle.std.specs.Prelude.{◌≡◌, ℕ, ◌+◌, ◌*◌, ◌<◌, ◌≤◌, ◌^◌, ◌∷◌, ◌++◌, ◌||◌, not, nat_eq, [], if◌then◌else◌, is_some, length, map, All, IfSome, IfOk, IsOk};
+ghost use Rattle.std.specs.Prelude.{◌≡◌, ◌≢◌, List, true, ℕ, ◌+◌, ◌*◌, ◌<◌, ◌≤◌, ◌^◌, ◌∷◌, ◌++◌, ◌||◌, not, nat_eq, [], if◌then◌else◌, is_some, length, map, All, IfSome, IfOk, IsOk};
 ghost use Rattle.std.specs.List.{AllPass};
 ghost use Rattle.st_bits.specs.declared.limits.TheConstants.{MOST_INSTRUCTIONS};
 ghost use Rattle.st_card.specs.Limits.{is_signal};
@@ -7,7 +7,7 @@ ghost use Rattle.st_state.specs.Machine.{Machine};
 ghost use Rattle.st_prep.specs.Plan.{plan as plan_of};
 ghost use Rattle.st_prep.specs.Ranges.{IsPrepared};
 ghost use Rattle.st_exec.specs.Completion.{state_after_execution, guess as guess_of, is_missed as is_missed_of};
-ghost use Rattle.st_exec.specs.Step.{step as step_of};
+ghost use Rattle.st_exec.specs.Step.{step as step_of, interrupt as interrupt_of};
 ghost use Rattle.st_io.specs.Lines.{WritesLines};
 ghost use Rattle.st_rows.specs.Asked.{reads_of_entry as asked_of};
 ghost use Rattle.st_rows.specs.Notes.{log_after_reads};
@@ -15,14 +15,14 @@ ghost use Rattle.st_rows.specs.Ranges.{IsTight};
 ghost use Rattle.st_rows.specs.Rows.{row_of_entry as row_of, front_after_entry as after_of};
 ghost use Rattle.st_segment.specs.Entries.{entry as entry_of};
 ghost use Rattle.st_run.specs.Reached.{IsCard};
-ghost use Rattle.st_run.specs.Moments.{Moment, Standing, moment_at_start as start_of, next_state, next_front, next_moment};
+ghost use Rattle.st_run.specs.Moments.{Moment, Standing, moment_at_start as start_of, ends_segment, next_state, next_front, next_moment};
 ghost use Rattle.st_ledger.specs.Ledger.{charges_at, entries_from, all_charges};
 ghost use Rattle.st_ledger.specs.declared.charges.Stage.{Stage};
 ghost use Rattle.st_ledger.specs.Charges.{ticks_for};
 ghost use Rattle.st_ledger.specs.Totals.{sum_at, AreWithin};
 ghost use Rattle.st_plain.specs.Looking.{side_at, executes_at, seen_ahead};
 ghost use Rattle.st_account.specs.Settling.{at_hand};
-ghost use Rattle.st_account.specs.Text.{why_by, words_behind, segment_after, segment_lines, lines_of_entry, last_lines, lines_from, ledger};
+ghost use Rattle.st_account.specs.Text.{why_by, words_behind, late_at, segment_after, segment_lines, lines_of_entry, last_lines, lines_from, ledger};
 ghost use Rattle.st_account.specs.Standing.{guessing, has_due, still_by, outcome_of, IsLast, IsStanding, IsBehindMoment};
 ghost use Rattle.st_account.specs.declared.lines.Why.TheVariants.{Run as RunBegins};
 
@@ -37,7 +37,7 @@ use st_exch::Hopper;
 use st_exec::{complete_in, interrupt, is_at_rest, is_missed, next_address};
 use st_io::{Failed, Sink};
 use st_ledger::{Totals, write_sums};
-use st_plain::{Aheads, next_row, plan_entry};
+use st_plain::{Ahead, Aheads, next_row, plan_entry};
 use st_prep::Prepared;
 use st_rows::{EntryTicks, Log, Past};
 use st_run::plain::{printer_is_free, reader_is_free};
@@ -255,6 +255,7 @@ fn write_entry<K: Sink>(
         sum_at s sums.new ≡ sum_at s sums.old + ticks_for s (charges_at delays.now levels p) }
     ensures within { AreWithin last.new.tick sums.new }
     ensures enabled { last.new.enabled ≡ state.old.enabled }
+    ensures guess { guessing last.new.ic state.new ≡ guess_of (interrupt_of state.old) state.old }
 {
     delays.shape();
     state.shape();
@@ -296,6 +297,7 @@ fn write_crossing<K: Sink>(
     state: &State,
     last: &mut Last,
     found: &Aheads,
+    late: &Ahead,
     printed: &Printed,
     banks: LastAnswers,
     card: bool,
@@ -311,10 +313,12 @@ fn write_crossing<K: Sink>(
     requires tight { IsTight 255 last.old.front }
     requires done { last.old.front.c ≡ last.old.tick }
 
-    ensures lines { (b : Machine) (m : Moment) → b.enabled ≡ last.old.enabled → printed.now.items
-        ≡ words_behind m →
+    ensures lines { (ds : List ℕ) (n : ℕ) (b : Machine) (m : Moment) →
+        b.enabled ≡ last.old.enabled → printed.now.items ≡ words_behind m →
+        (ends_segment m ≡ true → k ≢ 0 → late.now ∷ [] ≡ late_at ds n b m) →
         IsBehindMoment m state.now last.old found.now.items banks card waited →
-        WritesLines (K.output out.old) (K.output out.new) (segment_lines k b m) (outcome_of result) }
+        WritesLines (K.output out.old) (K.output out.new) (segment_lines ds n k b m)
+        (outcome_of result) }
     ensures number { (m : Moment) →
         IsBehindMoment m state.now last.old found.now.items banks card waited →
         IfOk result (λ next. next ≡ segment_after k m) }
@@ -348,7 +352,7 @@ fn write_crossing<K: Sink>(
         taken,
         done: done_of(state),
     };
-    write_border(out, border, printed, state, found.as_slice())?;
+    write_border(out, border, printed, state, found.as_slice(), late)?;
     Ok(next_number(begins, k))
 }
 
@@ -358,17 +362,19 @@ fn write_last<K: Sink>(
     state: &State,
     last: &Last,
     found: &Aheads,
+    late: &Ahead,
     printed: &Printed,
     k: u32,
 ) -> Result<(), Failed>
     requires few { state.now.done ≤ MOST_INSTRUCTIONS }
     requires dropped { length found.now.items ≤ 8 }
-    ensures { (b : Machine) (m : Moment) → b.enabled ≡ last.now.enabled → printed.now.items
-        ≡ words_behind m → m.tick ≡ last.now.tick → next_state m ≡ state.now →
-        found.now.items ≡ map seen_ahead m.dropped → WritesLines (K.output out.old)
-        (K.output out.new) (last_lines k b m) result }
+    ensures { (ds : List ℕ) (n : ℕ) (b : Machine) (m : Moment) → b.enabled ≡ last.now.enabled →
+        printed.now.items ≡ words_behind m → m.tick ≡ last.now.tick → next_state m ≡ state.now →
+        found.now.items ≡ map seen_ahead m.dropped →
+        (k ≢ 0 → late.now ∷ [] ≡ late_at ds n b m) → WritesLines (K.output out.old)
+        (K.output out.new) (last_lines ds n k b m) result }
 {
-    write_end(out, k, last.tick, row_number(state), found.as_slice())?;
+    write_end(out, k, last.tick, row_number(state), found.as_slice(), late)?;
     write_marks(out, printed, k, last.enabled, state)?;
     write_totals(out, is_at_rest(state), state.done, last.tick)
 }
@@ -404,6 +410,7 @@ fn write_run<K: Sink>(
     let mut rest = signals;
     let mut log = Log::new();
     let mut found = Aheads::new();
+    let mut late = Ahead::default();
     let mut printed = Printed::new();
     let mut p = Prepared::default();
     let mut k = 0;
@@ -411,20 +418,23 @@ fn write_run<K: Sink>(
     'entries: loop {
         let still = is_still(state, last.missed, rest);
         let looks = is_end_near(left, still);
-        let banks = look_if(looks, state, &last, delays, levels, &mut log, &mut found);
+        let banks = look_if(
+            looks, state, &last, delays, levels, &mut log, &mut found, &mut late,
+        );
         let between = settle(state, rest, cards, &mut printed);
         rest = between.signals;
         if left == 0 {
-            return write_last(out, state, &last, &found, &printed, k);
+            return write_last(out, state, &last, &found, &late, &printed, k);
         }
         if is_at_rest(state) {
-            return write_last(out, state, &last, &found, &printed, k);
+            return write_last(out, state, &last, &found, &late, &printed, k);
         }
         k = write_crossing(
             out,
             state,
             &mut last,
             &found,
+            &late,
             &printed,
             banks,
             between.card,

@@ -4,11 +4,13 @@ ghost use Rattle.st_io.specs.Lines.{WritesLines, lines_for};
 ghost use Rattle.st_bits.specs.declared.limits.TheConstants.{WORDS};
 ghost use Rattle.st_exch.specs.Printer.{line_of_words as printed_of};
 ghost use Rattle.st_report.specs.Line.{prt_line, ic_line, en_line, end_line as run_end_line, done_line, ticks_line};
-ghost use Rattle.st_account.specs.Lines.{ledger_levels_line, delays_line, delays_by, start_line, segment_end_line, dropped_line};
-ghost use Rattle.st_account.specs.Text.{facts_lines, drop_lines, segment_end_lines, differs, en_lines, prints_lines, word_lines, words_lines, marks_lines, taken_by, state_lines, machine_lines};
+ghost use Rattle.st_account.specs.Lines.{ledger_levels_line, delays_line, delays_by, start_line, segment_end_line, dropped_line, begun_line};
+ghost use Rattle.st_account.specs.Text.{facts_lines, drop_lines, late_lines, segment_end_lines, differs, en_lines, prints_lines, word_lines, words_lines, marks_lines, taken_by, state_lines, machine_lines};
 
 use crate::facts::write_facts;
-use crate::lines::{Why, line_delays, line_drop, line_end, line_levels, line_start, line_word};
+use crate::lines::{
+    Why, line_delays, line_drop, line_end, line_late, line_levels, line_start, line_word,
+};
 use crate::running::{counter_of, is_enabled};
 use crate::settling::Printed;
 use st_bits::WORDS;
@@ -70,6 +72,43 @@ fn write_drops<K: Sink>(out: &mut K, n: u32, found: &[Ahead]) -> Result<(), Fail
     write_drops(out, n + 1, more)
 }
 
+// Writes the line of the entry that was begun, which is the n-th entry.
+fn write_late_line<K: Sink>(out: &mut K, n: u32, late: &Ahead) -> Result<(), Failed>
+    ensures { WritesLines (K.output out.old) (K.output out.new)
+        (begun_line n late.now.plan.place.address late.now.row ∷ []) result }
+{
+    put(out, &line_late(n, late.plan.place.address, &late.row))
+}
+
+// The same, and what is known of it by itself.
+fn write_late<K: Sink>(out: &mut K, n: u32, late: &Ahead) -> Result<(), Failed>
+    ensures { WritesLines (K.output out.old) (K.output out.new)
+        (late_lines n (late.now ∷ [])) result }
+{
+    write_late_line(out, n, late)?;
+    write_facts(out, &late.plan, late.side, late.execute)
+}
+
+// The number behind those of some entries, the first of which is the n-th entry.
+fn number_behind(n: u32, found: &[Ahead]) -> u32
+    requires { n + length found.now < 2 ^ 32 }
+    ensures { result ≡ n + length found.now }
+{
+    n + found.len() as u32
+}
+
+// Writes the lines of entries that are dropped, the first of which is the n-th entry, and of the
+// one that was begun behind them.
+fn write_ahead<K: Sink>(out: &mut K, n: u32, found: &[Ahead], late: &Ahead) -> Result<(), Failed>
+    requires { n + length found.now < 2 ^ 32 }
+    ensures { WritesLines (K.output out.old) (K.output out.new)
+        (drop_lines n found.now ++ late_lines (n + length found.now) (late.now ∷ [])) result }
+{
+    let behind = number_behind(n, found);
+    write_drops(out, n, found)?;
+    write_late(out, behind, late)
+}
+
 // Writes the line of the end of a segment.
 fn write_end_line<K: Sink>(out: &mut K, k: u32, tick: u64) -> Result<(), Failed>
     ensures { WritesLines (K.output out.old) (K.output out.new)
@@ -78,24 +117,25 @@ fn write_end_line<K: Sink>(out: &mut K, k: u32, tick: u64) -> Result<(), Failed>
     put(out, &line_end(k, tick))
 }
 
-/// Writes the end of the segment k at a tick, with the entries that are dropped; the first of them
-/// is the n-th entry. Before the first segment there is none.
+/// Writes the end of the segment k at a tick, with the entries that are dropped, the first of which
+/// is the n-th entry, and with the one that was begun. Before the first segment there is none.
 pub(crate) fn write_end<K: Sink>(
     out: &mut K,
     k: u32,
     tick: u64,
     n: u32,
     found: &[Ahead],
+    late: &Ahead,
 ) -> Result<(), Failed>
     requires { n + length found.now < 2 ^ 32 }
     ensures { WritesLines (K.output out.old) (K.output out.new)
-        (segment_end_lines k tick n found.now) result }
+        (segment_end_lines k tick n found.now (late.now ∷ [])) result }
 {
     if k == 0 {
         return Ok(());
     }
     write_end_line(out, k, tick)?;
-    write_drops(out, n, found)
+    write_ahead(out, n, found, late)
 }
 
 // The same where the segment ends.
@@ -106,15 +146,16 @@ fn write_ended<K: Sink>(
     tick: u64,
     n: u32,
     found: &[Ahead],
+    late: &Ahead,
 ) -> Result<(), Failed>
     requires { n + length found.now < 2 ^ 32 }
     ensures { WritesLines (K.output out.old) (K.output out.new)
-        (if ends then segment_end_lines k tick n found.now else []) result }
+        (if ends then segment_end_lines k tick n found.now (late.now ∷ []) else []) result }
 {
     if !ends {
         return Ok(());
     }
-    write_end(out, k, tick, n, found)
+    write_end(out, k, tick, n, found, late)
 }
 
 // Writes the counter.
@@ -347,16 +388,26 @@ pub(crate) fn write_border<K: Sink>(
     printed: &Printed,
     state: &State,
     found: &[Ahead],
+    late: &Ahead,
 ) -> Result<(), Failed>
     requires few { border.n + length found.now < 2 ^ 32 }
     requires number { border.k + 1 < 2 ^ 32 }
     ensures { WritesLines (K.output out.old) (K.output out.new)
-        (((if border.ends then segment_end_lines border.k border.tick border.n found.now else [])
+        (((if border.ends then segment_end_lines border.k border.tick border.n found.now
+        (late.now ∷ []) else [])
         ++ state_lines printed.now.items border.k border.was state.now border.taken border.done)
         ++ (if border.begins then start_line (border.k + 1) border.start border.waited border.why
         ∷ [] else [])) result }
 {
-    write_ended(out, border.ends, border.k, border.tick, border.n, found)?;
+    write_ended(
+        out,
+        border.ends,
+        border.k,
+        border.tick,
+        border.n,
+        found,
+        late,
+    )?;
     write_state(
         out,
         printed,

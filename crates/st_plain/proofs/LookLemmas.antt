@@ -22,7 +22,7 @@ use Rattle.st_rows.specs.declared.bus.Bus.{Bus}
 use Rattle.st_segment.specs.Ahead.{Ahead, ahead, next_ahead, prepared_before}
 use Rattle.st_exec.proofs.Unchanged.{completed-done}
 use Rattle.st_plain.specs.declared.looking.Ahead.{Ahead as Seen}
-use Rattle.st_plain.specs.Looking.{seen_ahead, reads_up_to}
+use Rattle.st_plain.specs.Looking.{seen_ahead, first_late, reads_up_to}
 
 -- a guessed step is completed, and its counter set
 pub record IsCounted (p : Prepared) (s : Machine) : Type 0 where
@@ -59,6 +59,34 @@ module _ (ds : List ℕ) (n t : ℕ) (s : Machine) (f : Front) where
       let one : k ≡ suc k - 1 = omega arith in
       rw (lt-ltb _ t early)
       (ap (λ j. next_ahead ds n None s f ∷ prepared_before t (ahead ds n j None (guess None s) (front_after_entry ds n f (entry None s)))) one)
+
+  -- the first one that comes too late
+  late-here : (k : ℕ) → t ≤ (row_of_entry ds n f (entry None s)).p → first_late t (ahead ds n (suc k) None s f) ≡ next_ahead ds n None s f ∷ []
+  unfolding ahead first_late
+  late-here k late = rw (le-ltb _ t late) refl
+
+  late-next : (k : ℕ) → 1 ≤ k → (row_of_entry ds n f (entry None s)).p < t
+      → first_late t (ahead ds n (suc k) None s f)
+      ≡ first_late t (ahead ds n (suc (k - 1)) None (guess None s) (front_after_entry ds n f (entry None s)))
+  unfolding ahead first_late
+  late-next zero some early = let no : ⊥ = omega arith in absurd no
+  late-next (suc k) some early =
+      let one : suc k ≡ suc (suc k - 1) = omega arith in
+      rw (lt-ltb _ t early) (ap (λ j. first_late t (ahead ds n j None (guess None s) (front_after_entry ds n f (entry None s)))) one)
+
+  pub begun-here : (k : ℕ) (x : Seen) → t ≤ (row_of_entry ds n f (entry None s)).p → x ≡ seen_ahead (next_ahead ds n None s f)
+      → x ∷ [] ≡ map seen_ahead (first_late t (ahead ds n (suc k) None s f))
+  begun-here k x late is = ap (λ y. y ∷ []) is ∙ ap (map seen_ahead) (sym (late-here k late))
+
+  pub begun-behind : (u : Machine) (g : Front) (k : ℕ) (xs : List Seen) → 1 ≤ k → (row_of_entry ds n f (entry None s)).p < t
+      → u ≡ guess None s → g ≡ front_after_entry ds n f (entry None s)
+      → xs ≡ map seen_ahead (first_late t (ahead ds n (suc (k - 1)) None u g))
+      → xs ≡ map seen_ahead (first_late t (ahead ds n (suc k) None s f))
+  begun-behind u g k xs some early next behind rest =
+      rest
+      ∙ ap (λ v. map seen_ahead (first_late t (ahead ds n (suc (k - 1)) None v g))) next
+      ∙ ap (λ h. map seen_ahead (first_late t (ahead ds n (suc (k - 1)) None (guess None s) h))) behind
+      ∙ ap (map seen_ahead) (sym (late-next k some early))
 
   -- the reads that are made
   pub looked-late : (k : ℕ) → t ≤ (row_of_entry ds n f (entry None s)).p → reads_up_to ds n t (ahead ds n (suc k) None s f) ≡ formed_asked ds f (entry None s)

@@ -25,6 +25,11 @@ seen_ahead a = record {
   execute = executes_at a.table a.state;
 }
 
+-- the first entry of a list that is not prepared before the tick t
+unfoldable pub first_late : ℕ → List Ahead → List Ahead
+first_late t [] = []
+first_late t (a ∷ rest) = if nat_lt a.row.p t then first_late t rest else a ∷ []
+
 -- the reads of the entries that are prepared before the tick t, and of the first one that is not
 -- those up to its address: all that may be accepted before that tick
 unfoldable pub reads_up_to : List ℕ → ℕ → ℕ → List Ahead → List Read

@@ -1,5 +1,5 @@
 //! The entries that run ahead of a state by guessed steps.
-ghost use Rattle.std.specs.Prelude.{◌≡◌, suc, ◌+◌, ◌-◌, ◌*◌, ◌≤◌, ◌<◌, ◌^◌, ◌++◌, map, length, None};
+ghost use Rattle.std.specs.Prelude.{◌≡◌, suc, ◌+◌, ◌-◌, ◌*◌, ◌≤◌, ◌<◌, ◌^◌, ◌∷◌, ◌++◌, [], map, length, None};
 ghost use Rattle.st_prep.specs.Ranges.{IsPrepared};
 ghost use Rattle.st_exec.specs.Completion.{guessed_state};
 ghost use Rattle.st_rows.specs.Asked.{bus_after_reads};
@@ -7,7 +7,7 @@ ghost use Rattle.st_rows.specs.Notes.{log_after_reads};
 ghost use Rattle.st_rows.specs.Ranges.{IsTight};
 ghost use Rattle.st_rows.specs.Rows.{done_before};
 ghost use Rattle.st_segment.specs.Ahead.{ahead as ahead_of, prepared_before};
-ghost use Rattle.st_plain.specs.Looking.{seen_ahead, reads_up_to};
+ghost use Rattle.st_plain.specs.Looking.{seen_ahead, first_late, reads_up_to};
 
 use crate::entries::plan_entry;
 use crate::rows::{begin, finish};
@@ -50,8 +50,8 @@ pub fn guess(p: &Prepared, state: &mut State)
 
 /// Looks at the entries that run ahead of a state behind a front, by guessed steps: the first
 /// `more` of them that are prepared before the tick `tick` are added to `found`. Their reads are
-/// made on the front's bus and noted, and those of the one behind them up to its address. The last
-/// entry before them is done at that tick or later, and where some were found already, so is the
+/// made on the front's bus and noted, and those of the one behind them up to its address; `late` is
+/// that one, with the ticks that it would have. The last entry before them is done at that tick or later, and where some were found already, so is the
 /// first of those, which is the last one that may be as many before as there are levels. The state
 /// is then as it was; of the front the bus alone is of use.
 pub fn look(
@@ -63,6 +63,7 @@ pub fn look(
     tick: u64,
     log: &mut Log,
     found: &mut Aheads,
+    late: &mut Ahead,
 )
     requires few { state.old.done + more < 2 ^ 63 }
     requires tight { IsTight 255 front.old }
@@ -76,6 +77,8 @@ pub fn look(
     ensures state { state.new ≡ state.old }
     ensures found { found.new.items ≡ found.old.items
         ++ map seen_ahead (prepared_before tick (ahead_of delays.now levels more None state.old front.old)) }
+    ensures late { late.new ∷ [] ≡ map seen_ahead (first_late tick
+        (ahead_of delays.now levels (suc more) None state.old front.old)) }
     ensures log { log.new ≡ log_after_reads delays.now
         (reads_up_to delays.now levels tick (ahead_of delays.now levels (suc more) None state.old front.old)) front.old.bus log.old }
     ensures bus { front.new.bus ≡ bus_after_reads delays.now
@@ -87,6 +90,14 @@ pub fn look(
     let planned = plan_entry(None, state, &mut p);
     let begun = begin(front, delays, levels, &planned.entry, log);
     if begun.formed.p >= tick {
+        let mut scratch = Log::new();
+        let ticks = finish(front, delays, levels, &planned.entry, begun, &mut scratch);
+        *late = Ahead {
+            plan: p,
+            row: ticks,
+            side: planned.side,
+            execute: planned.execute,
+        };
         front.bus = begun.words.bus;
         return;
     }
@@ -99,6 +110,16 @@ pub fn look(
     });
     let kept = keep(&p, state);
     guess(&p, state);
-    look(state, front, delays, levels, more - 1, tick, log, found);
+    look(
+        state,
+        front,
+        delays,
+        levels,
+        more - 1,
+        tick,
+        log,
+        found,
+        late,
+    );
     undo(&kept, state);
 }

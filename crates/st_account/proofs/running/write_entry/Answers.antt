@@ -1,5 +1,6 @@
 use Rattle.std.proofs.Common.{◌∙◌, ap}
 use Rattle.st_account.specs.declared.last.Last.{Last}
+use Rattle.st_exec.specs.Completion.{guess}
 use Rattle.st_rows.proofs.Within.{AreDelays-list}
 use Rattle.st_segment.proofs.EntryRanges.{entry-ranges}
 use Rattle.st_account.proofs.EntryLemmas.{entry-written, entry-last, entry-sums, entry-within, entry-step}
@@ -35,3 +36,7 @@ returns-clause-within g c =
 
 pub returns-clause-enabled : goal.returns-clause-enabled
 returns-clause-enabled g c = ap (λ (l : Last). l.enabled) c.execute.ensures.rest
+
+pub returns-clause-guess : goal.returns-clause-guess
+returns-clause-guess g c =
+    c.execute.ensures.guess ∙ ap (λ t. guess t c.args.state.now) c.interrupt-taken.ensures.value

@@ -1,6 +1,6 @@
-use Rattle.std.proofs.Common.{inl, inr, sym, ◌∙◌, arith}
+use Rattle.std.proofs.Common.{[], ◌∷◌, inl, inr, sym, ◌∙◌, arith}
 use Rattle.st_rows.proofs.Within.{AreDelays-list}
-use Rattle.st_account.proofs.TurnLemmas.{run-starts, tight-is, at-is, few-is, early-is, done-is, printed-is, finishes, sums-are, behind, crossing-fails, row-fails, goes}
+use Rattle.st_account.proofs.TurnLemmas.{run-starts, tight-is, at-is, few-is, early-is, done-is, printed-is, finishes, sums-are, behind, late-behind, crossing-fails, row-fails, goes}
 use Rattle.st_account.proofs.running.write_run.Goals as goal
 
 pub entries-init : goal.entries-init
@@ -58,8 +58,8 @@ write_last-requires-then-is_at_rest-clause-few g c =
 pub returns-then-left-eq0-clause-lines : goal.returns-then-left-eq0-clause-lines
 returns-then-left-eq0-clause-lines g c =
     finishes _ _ _ _ _ _ _ _ _ _ _ _ _ _ c.entries.invariant c.settle-between.new.state _ c.settle-between.new.cards c.look_if-banks.new.state c.look_if-banks.ensures.state
-    c.settle-between.ensures.came c.settle-between.new.printed.items c.settle-between.ensures.printed _ c.write_last.result c.look_if-banks.new.found.items c.is_still-still.result c.is_end_near-looks.result
-    (inl c.if-left-eq0.true) c.is_still-still.ensures c.is_end_near-looks.ensures c.look_if-banks.ensures.found c.write_last.ensures
+    c.settle-between.ensures.came c.settle-between.new.printed.items c.settle-between.ensures.printed _ c.write_last.result c.look_if-banks.new.found.items (c.look_if-banks.new.late ∷ []) c.is_still-still.result c.is_end_near-looks.result
+    (inl c.if-left-eq0.true) c.is_still-still.ensures c.is_end_near-looks.ensures c.look_if-banks.ensures.found c.look_if-banks.ensures.late c.write_last.ensures
 
 pub returns-then-left-eq0-clause-sums : goal.returns-then-left-eq0-clause-sums
 returns-then-left-eq0-clause-sums g c x good =
@@ -69,8 +69,8 @@ returns-then-left-eq0-clause-sums g c x good =
 pub returns-then-is_at_rest-clause-lines : goal.returns-then-is_at_rest-clause-lines
 returns-then-is_at_rest-clause-lines g c =
     finishes _ _ _ _ _ _ _ _ _ _ _ _ _ _ c.entries.invariant c.settle-between.new.state _ c.settle-between.new.cards c.look_if-banks.new.state c.look_if-banks.ensures.state
-    c.settle-between.ensures.came c.settle-between.new.printed.items c.settle-between.ensures.printed _ c.write_last-then-is_at_rest.result c.look_if-banks.new.found.items c.is_still-still.result c.is_end_near-looks.result
-    (inr (sym c.is_at_rest.ensures ∙ c.if-is_at_rest.true)) c.is_still-still.ensures c.is_end_near-looks.ensures c.look_if-banks.ensures.found
+    c.settle-between.ensures.came c.settle-between.new.printed.items c.settle-between.ensures.printed _ c.write_last-then-is_at_rest.result c.look_if-banks.new.found.items (c.look_if-banks.new.late ∷ []) c.is_still-still.result c.is_end_near-looks.result
+    (inr (sym c.is_at_rest.ensures ∙ c.if-is_at_rest.true)) c.is_still-still.ensures c.is_end_near-looks.ensures c.look_if-banks.ensures.found c.look_if-banks.ensures.late
     c.write_last-then-is_at_rest.ensures
 
 pub returns-then-is_at_rest-clause-sums : goal.returns-then-is_at_rest-clause-sums
@@ -90,9 +90,11 @@ returns-in_err-k-clause-lines g c =
     c.look_if-banks.new.found.items c.look_if-banks.result c.settle-between.result.card c.settle-between.result.waited c.is_still-still.result
     c.is_end_near-looks.result c.is_still-still.ensures c.is_end_near-looks.ensures c.look_if-banks.ensures.found
     (λ yes. c.look_if-banks.ensures.banks c.entries.invariant.hand.reads c.entries.invariant.hand.bus yes c.entries.invariant.hand.has) c.settle-between.ensures.card c.settle-between.ensures.waited in
+    let late = late-behind _ _ _ _ _ _ _ _ _ _ _ _ _ _ c.entries.invariant c.settle-between.new.state _ c.settle-between.new.cards c.look_if-banks.new.state c.look_if-banks.ensures.state c.settle-between.ensures.came c.if-left-eq0.false (sym c.is_at_rest.ensures ∙ c.if-is_at_rest.false)
+    (c.look_if-banks.new.late ∷ []) c.is_still-still.result c.is_end_near-looks.result c.is_still-still.ensures c.is_end_near-looks.ensures c.look_if-banks.ensures.late in
     crossing-fails _ _ _ _ _ _ _ _ _ _ _ _ _ _ c.entries.invariant c.settle-between.new.state _ c.settle-between.new.cards c.look_if-banks.new.state c.look_if-banks.ensures.state c.settle-between.ensures.came c.if-left-eq0.false (sym c.is_at_rest.ensures ∙ c.if-is_at_rest.false)
-    _ _ c.from_residual.result c.from_residual.ensures.0 (c.in_err-k.ensures.lines h.b h.m h.was
-    (printed-is _ _ _ _ _ _ _ _ _ _ _ _ _ _ c.entries.invariant c.settle-between.new.state _ c.settle-between.new.cards c.look_if-banks.new.state c.look_if-banks.ensures.state c.settle-between.ensures.came _ c.settle-between.ensures.printed) b)
+    _ _ c.from_residual.result c.from_residual.ensures.0 (c.in_err-k.ensures.lines c.args.delays.now c.args.levels h.b h.m h.was
+    (printed-is _ _ _ _ _ _ _ _ _ _ _ _ _ _ c.entries.invariant c.settle-between.new.state _ c.settle-between.new.cards c.look_if-banks.new.state c.look_if-banks.ensures.state c.settle-between.ensures.came _ c.settle-between.ensures.printed) late b)
 
 -- ---- the entry
 
@@ -106,9 +108,11 @@ returns-in_err-write_entry-clause-lines g c =
     c.look_if-banks.new.found.items c.look_if-banks.result c.settle-between.result.card c.settle-between.result.waited c.is_still-still.result
     c.is_end_near-looks.result c.is_still-still.ensures c.is_end_near-looks.ensures c.look_if-banks.ensures.found
     (λ yes. c.look_if-banks.ensures.banks c.entries.invariant.hand.reads c.entries.invariant.hand.bus yes c.entries.invariant.hand.has) c.settle-between.ensures.card c.settle-between.ensures.waited in
+    let late = late-behind _ _ _ _ _ _ _ _ _ _ _ _ _ _ c.entries.invariant c.settle-between.new.state _ c.settle-between.new.cards c.look_if-banks.new.state c.look_if-banks.ensures.state c.settle-between.ensures.came c.if-left-eq0.false (sym c.is_at_rest.ensures ∙ c.if-is_at_rest.false)
+    (c.look_if-banks.new.late ∷ []) c.is_still-still.result c.is_end_near-looks.result c.is_still-still.ensures c.is_end_near-looks.ensures c.look_if-banks.ensures.late in
     row-fails _ _ _ _ _ _ _ _ _ _ _ _ _ _ c.entries.invariant c.settle-between.new.state _ c.settle-between.new.cards c.look_if-banks.new.state c.look_if-banks.ensures.state c.settle-between.ensures.came c.if-left-eq0.false (sym c.is_at_rest.ensures ∙ c.if-is_at_rest.false)
-    c.write_crossing.new.last (c.in_ok-k.ensures.front h.m b) c.in_ok-k.ensures.tick _ tt (c.in_ok-k.ensures.lines h.b h.m h.was
-    (printed-is _ _ _ _ _ _ _ _ _ _ _ _ _ _ c.entries.invariant c.settle-between.new.state _ c.settle-between.new.cards c.look_if-banks.new.state c.look_if-banks.ensures.state c.settle-between.ensures.came _ c.settle-between.ensures.printed) b)
+    c.write_crossing.new.last (c.in_ok-k.ensures.front h.m b) c.in_ok-k.ensures.tick _ tt (c.in_ok-k.ensures.lines c.args.delays.now c.args.levels h.b h.m h.was
+    (printed-is _ _ _ _ _ _ _ _ _ _ _ _ _ _ c.entries.invariant c.settle-between.new.state _ c.settle-between.new.cards c.look_if-banks.new.state c.look_if-banks.ensures.state c.settle-between.ensures.came _ c.settle-between.ensures.printed) late b)
     _ _ c.from_residual-in_err-write_entry.result c.from_residual-in_err-write_entry.ensures.0 (λ p is. c.in_err-write_entry.ensures.lines p is)
 
 pub entries-preserved : goal.entries-preserved
@@ -118,10 +122,12 @@ entries-preserved g c =
     c.look_if-banks.new.found.items c.look_if-banks.result c.settle-between.result.card c.settle-between.result.waited c.is_still-still.result
     c.is_end_near-looks.result c.is_still-still.ensures c.is_end_near-looks.ensures c.look_if-banks.ensures.found
     (λ yes. c.look_if-banks.ensures.banks c.entries.invariant.hand.reads c.entries.invariant.hand.bus yes c.entries.invariant.hand.has) c.settle-between.ensures.card c.settle-between.ensures.waited in
+    let late = late-behind _ _ _ _ _ _ _ _ _ _ _ _ _ _ c.entries.invariant c.settle-between.new.state _ c.settle-between.new.cards c.look_if-banks.new.state c.look_if-banks.ensures.state c.settle-between.ensures.came c.if-left-eq0.false (sym c.is_at_rest.ensures ∙ c.if-is_at_rest.false)
+    (c.look_if-banks.new.late ∷ []) c.is_still-still.result c.is_end_near-looks.result c.is_still-still.ensures c.is_end_near-looks.ensures c.look_if-banks.ensures.late in
     goes _ _ _ _ _ _ _ _ _ _ _ _ _ _ c.entries.invariant c.settle-between.new.state _ c.settle-between.new.cards c.look_if-banks.new.state c.look_if-banks.ensures.state c.settle-between.ensures.came c.if-left-eq0.false (sym c.is_at_rest.ensures ∙ c.if-is_at_rest.false)
-    c.write_crossing.new.last (c.in_ok-k.ensures.front h.m b) c.in_ok-k.ensures.tick _ tt (c.in_ok-k.ensures.lines h.b h.m h.was
-    (printed-is _ _ _ _ _ _ _ _ _ _ _ _ _ _ c.entries.invariant c.settle-between.new.state _ c.settle-between.new.cards c.look_if-banks.new.state c.look_if-banks.ensures.state c.settle-between.ensures.came _ c.settle-between.ensures.printed) b)
+    c.write_crossing.new.last (c.in_ok-k.ensures.front h.m b) c.in_ok-k.ensures.tick _ tt (c.in_ok-k.ensures.lines c.args.delays.now c.args.levels h.b h.m h.was
+    (printed-is _ _ _ _ _ _ _ _ _ _ _ _ _ _ c.entries.invariant c.settle-between.new.state _ c.settle-between.new.cards c.look_if-banks.new.state c.look_if-banks.ensures.state c.settle-between.ensures.came _ c.settle-between.ensures.printed) late b)
     _ _ _ c.write_entry.new.state c.write_entry.new.last c.write_entry.new.log c.write_entry.new.sums
     (AreDelays-list c.args.delays.now c.shape-2.ensures) c.requires.levels.1 (c.in_ok-k.ensures.number h.m b)
     c.in_ok-write_entry.ensures.state c.in_ok-write_entry.ensures.last (λ p is. c.in_ok-write_entry.ensures.lines p is)
-    (λ p z is. c.in_ok-write_entry.ensures.sums p z is) c.in_ok-write_entry.ensures.within c.in_ok-write_entry.ensures.enabled c.settle-between.ensures.rest
+    (λ p z is. c.in_ok-write_entry.ensures.sums p z is) c.in_ok-write_entry.ensures.within c.in_ok-write_entry.ensures.enabled c.in_ok-write_entry.ensures.guess c.settle-between.ensures.rest

@@ -17,7 +17,7 @@ use Rattle.st_segment.specs.Entries.{entry}
 use Rattle.st_segment.proofs.EntryRanges.{entry-ranges}
 use Rattle.st_plain.specs.Looking.{side_at}
 use Rattle.st_plain.specs.declared.looking.Ahead.{Ahead as Seen}
-use Rattle.st_plain.proofs.LookLemmas.{guess-counted, guess-done, found-late, found-same, found-look, bus-late, log-late, bus-look, log-look, first-next, some-more, row-p, after-c}
+use Rattle.st_plain.proofs.LookLemmas.{guess-counted, guess-done, found-late, found-same, found-look, begun-here, begun-behind, bus-late, log-late, bus-look, log-look, first-next, some-more, row-p, after-c}
 use Rattle.st_plain.proofs.looking.+look.Goals as goal
 
 pub begin-begun-requires-clause-entry : goal.begin-begun-requires-clause-entry
@@ -27,6 +27,24 @@ pub finish-row-requires-clause-entry : goal.finish-row-requires-clause-entry
 finish-row-requires-clause-entry t c = rw c.plan_entry-planned.ensures.entry (entry-ranges None c.args.state.now c.shape-2.ensures tt)
 
 -- the next entry is not prepared in time
+
+pub finish-ticks-requires-clause-entry : goal.finish-ticks-requires-clause-entry
+finish-ticks-requires-clause-entry t c = rw c.plan_entry-planned.ensures.entry (entry-ranges None c.args.state.now c.shape-2.ensures tt)
+
+pub returns-then-begun-tick-clause-late : goal.returns-then-begun-tick-clause-late
+returns-then-begun-tick-clause-late t c =
+    let ds = c.args.delays.now in
+    let n = c.args.levels in
+    let f = c.args.front.now in
+    let s = c.args.state.now in
+    let p = ap (tick_p ds n f) c.plan_entry-planned.ensures.entry in
+    let is = c.finish-ticks.ensures.value ∙ ap (row_of_entry ds n f) c.plan_entry-planned.ensures.entry in
+    let at : Prepared → EntryTicks → Option ℕ → Bool → Seen = λ q r side execute. record { plan = q; row = r; side = side; execute = execute } in
+    begun-here ds n c.args.tick s f c.args.more _ (omega (arith, row-p ds n f (entry None s), p, c.begin-begun.ensures.tick, c.if-begun-tick.true))
+    (ap (λ q. at q c.finish-ticks.result c.plan_entry-planned.result.side c.plan_entry-planned.result.execute) c.plan_entry-planned.ensures.plan
+    ∙ ap (λ r. at (plan s None) r c.plan_entry-planned.result.side c.plan_entry-planned.result.execute) is
+    ∙ ap (λ w. at (plan s None) (row_of_entry ds n f (entry None s)) w c.plan_entry-planned.result.execute) c.plan_entry-planned.ensures.side
+    ∙ ap (at (plan s None) (row_of_entry ds n f (entry None s)) (side_at None s)) c.plan_entry-planned.ensures.execute)
 
 pub returns-then-begun-tick-clause-found : goal.returns-then-begun-tick-clause-found
 returns-then-begun-tick-clause-found t c =
@@ -143,6 +161,21 @@ returns-clause-found t c =
     (c.guess.ensures ∙ ap (λ q. guessed_state q s) c.plan_entry-planned.ensures.plan)
     (c.finish-row.ensures.after ∙ ap (front_after_entry ds n f) c.plan_entry-planned.ensures.entry)
     c.push.ensures.items c.look.ensures.found
+
+pub returns-clause-late : goal.returns-clause-late
+returns-clause-late t c =
+    let ds = c.args.delays.now in
+    let n = c.args.levels in
+    let f = c.args.front.now in
+    let s = c.args.state.now in
+    let some = some-more ds n c.args.more c.args.tick f c.plan_entry-planned.result.entry c.requires.levels.0 c.requires.first
+    (omega (arith, c.begin-begun.ensures.tick, c.if-begun-tick.false)) in
+    let p = ap (tick_p ds n f) c.plan_entry-planned.ensures.entry in
+    begun-behind ds n c.args.tick s f _ _ c.args.more _ some
+    (omega (arith, row-p ds n f (entry None s), p, c.begin-begun.ensures.tick, c.if-begun-tick.false))
+    (c.guess.ensures ∙ ap (λ q. guessed_state q s) c.plan_entry-planned.ensures.plan)
+    (c.finish-row.ensures.after ∙ ap (front_after_entry ds n f) c.plan_entry-planned.ensures.entry)
+    c.look.ensures.late
 
 pub returns-clause-log : goal.returns-clause-log
 returns-clause-log t c =
