@@ -74,8 +74,8 @@ pub(crate) fn put_past(past: &mut [Past; 8], newest: Past)
 
 /// Looks at what ran ahead of the entry that has just been done, whose reads the log has: `found`
 /// are then the entries that were prepared before it was done, on a machine with `levels` levels, 1
-/// to 8, `late` is the one behind them, and the result is the last answers of the banks, where the segment ends here. The state
-/// stays as it was; the log is used up.
+/// to 8, `late` is the one behind them, and the result is the last answers of the banks, where the
+/// segment ends here. The state stays as it was; the log is used up.
 pub(crate) fn look_behind(
     state: &mut State,
     last: &Last,
@@ -98,7 +98,8 @@ pub(crate) fn look_behind(
     ensures found { found.new.items ≡ map seen_ahead (prepared_before last.now.tick
         (ahead delays.now levels levels None (guessing last.now.ic state.old) last.now.front)) }
     ensures late { late.new ∷ [] ≡ map seen_ahead (first_late last.now.tick
-        (ahead delays.now levels (suc levels) None (guessing last.now.ic state.old) last.now.front)) }
+        (ahead delays.now levels (suc levels) None (guessing last.now.ic state.old)
+        last.now.front)) }
     ensures banks { (reads : List Read) (bus : BusOf) →
         HasReads delays.now last.now.tick reads bus last.now.front.bus log.old →
         result ≡ (made_before delays.now last.now.tick
@@ -156,7 +157,8 @@ pub(crate) fn look_if(
     ensures found { looks ≡ true → found.new.items ≡ map seen_ahead (prepared_before last.now.tick
         (ahead delays.now levels levels None (guessing last.now.ic state.old) last.now.front)) }
     ensures late { looks ≡ true → late.new ∷ [] ≡ map seen_ahead (first_late last.now.tick
-        (ahead delays.now levels (suc levels) None (guessing last.now.ic state.old) last.now.front)) }
+        (ahead delays.now levels (suc levels) None (guessing last.now.ic state.old)
+        last.now.front)) }
     ensures banks { (reads : List Read) (bus : BusOf) → looks ≡ true →
         HasReads delays.now last.now.tick reads bus last.now.front.bus log.old →
         result ≡ (made_before delays.now last.now.tick

@@ -51,9 +51,10 @@ pub fn guess(p: &Prepared, state: &mut State)
 /// Looks at the entries that run ahead of a state behind a front, by guessed steps: the first
 /// `more` of them that are prepared before the tick `tick` are added to `found`. Their reads are
 /// made on the front's bus and noted, and those of the one behind them up to its address; `late` is
-/// that one, with the ticks that it would have. The last entry before them is done at that tick or later, and where some were found already, so is the
-/// first of those, which is the last one that may be as many before as there are levels. The state
-/// is then as it was; of the front the bus alone is of use.
+/// that one, with the ticks that it would have. The last entry before them is done at that tick or
+/// later, and where some were found already, so is the first of those, which is the last one that
+/// may be as many before as there are levels. The state is then as it was; of the front the bus
+/// alone is of use.
 pub fn look(
     state: &mut State,
     front: &mut Front,
