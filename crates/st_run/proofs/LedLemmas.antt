@@ -20,9 +20,9 @@ use Rattle.st_ahead.specs.declared.events.Row.{Row}
 use Rattle.st_ahead.proofs.Passing.{passed-now}
 use Rattle.st_refine.specs.Reached.{CanStart, MayTick, IsLed, Starts, Settles, Signals, Reads, Prints, Stops}
 use Rattle.st_refine.proofs.Laws.{runs_are_reached}
-use Rattle.st_run.specs.Run.{Scene, with_due_signals, with_signals_at_rest, first_card, cards_after}
+use Rattle.st_run.specs.Run.{Scene, with_due_signals, with_signals_at_rest, first_card, cards_after, order_of}
 use Rattle.st_refine.specs.Reached.{IsCard}
-use Rattle.st_run.specs.Serving.{IsServed, order_of}
+use Rattle.st_run.specs.Serving.{IsServed}
 use Rattle.st_run.specs.Between.{IsQuiet}
 use Rattle.st_run.specs.Ticking.{last_for}
 use Rattle.st_run.specs.Protocol.{IsDriven}

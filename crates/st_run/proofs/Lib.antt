@@ -3,7 +3,9 @@ pub mod Untimed
 pub mod Turns
 pub mod PassLemmas
 pub mod OrderLemmas
+pub mod OutsideLemmas
 pub mod ShownLemmas
+pub mod SignalLemmas
 pub mod PrintLemmas
 pub mod GuessLemmas
 pub mod EndLemmas

@@ -10,6 +10,7 @@ pub mod Together
 pub mod Telling
 pub mod Protocol
 pub mod Ticking
+pub mod Outside
 pub mod Leaving
 pub mod Between
 pub mod RunLaws

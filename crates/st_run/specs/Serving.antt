@@ -1,7 +1,6 @@
 -- What serving a device makes of an overlapped machine and of the reader's cards, and what it
 -- answers.
 use Rattle.std.specs.Prelude.{ℕ, ◌≡◌, Bool, true, false, List, Option, None, Some}
-use Rattle.st_state.specs.Machine.{Machine}
 use Rattle.st_state.specs.declared.devices.Order.{Order}
 use Rattle.st_state.specs.declared.devices.Device.{Device}
 use Rattle.st_state.specs.declared.devices.Device.TheVariants.{Reader, Printer}
@@ -12,11 +11,6 @@ use Rattle.st_ahead.specs.Calls.{read_in_by, dropped_by, printed_by}
 use Rattle.st_run.specs.Run.{first_card, cards_after}
 use Rattle.st_run.specs.declared.serving.Served.{Served}
 use Rattle.st_run.specs.declared.serving.Served.TheVariants.{Card, NoCard, Printed}
-
--- the order of a device
-abbrev pub order_of : Device → Machine → Option Order
-order_of Reader s = s.reader
-order_of Printer s = s.printer
 
 -- the reader's answer: no card is left, or one came and so many levels are dropped
 abbrev pub read_answer : Option (List ℕ) → Overlap → Served

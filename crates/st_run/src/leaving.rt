@@ -5,13 +5,14 @@ ghost use Rattle.std.specs.List.{AllPass};
 ghost use Rattle.st_card.specs.Limits.{is_signal};
 ghost use Rattle.st_exec.specs.Step.{rests};
 ghost use Rattle.st_run.specs.Run as run;
+ghost use Rattle.st_run.specs.Run.{order_of};
 ghost use Rattle.st_ahead.specs.Overlap.{levels_of};
 ghost use Rattle.st_ahead.specs.Calls.{machine_after_segment, MayServe, MaySignal};
 ghost use Rattle.st_run.specs.Events.{address_ahead};
 ghost use Rattle.st_run.specs.Moments.{has_card, has_waited};
 ghost use Rattle.st_run.specs.Together.{IsBehindEntry, moment_of, scene_of, with_scene};
 ghost use Rattle.st_run.specs.Leaving.{IsDecided, nothing_decided};
-ghost use Rattle.st_run.specs.Serving.{IsServed, is_card, order_of, printed_text};
+ghost use Rattle.st_run.specs.Serving.{IsServed, is_card, printed_text};
 ghost use Rattle.st_run.specs.Between.{Came, IsChoice, IsQuiet, choice_of, signal_due, first_of_texts as first_text_of};
 
 use crate::driven::{Driven, take_due_signals};

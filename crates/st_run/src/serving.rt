@@ -3,8 +3,8 @@ ghost use Rattle.std.specs.Prelude.{◌≡◌, IfSome, IsSome, Some};
 ghost use Rattle.st_exch.specs.Printer.{line_of_words};
 ghost use Rattle.st_exec.specs.Transfer.{words_from};
 ghost use Rattle.st_ahead.specs.Calls.{MayServe, printed_by, read_in_by};
-ghost use Rattle.st_run.specs.Run.{cards_after, first_card};
-ghost use Rattle.st_run.specs.Serving.{IsServed, order_of, printed_text, read_answer};
+ghost use Rattle.st_run.specs.Run.{cards_after, first_card, order_of};
+ghost use Rattle.st_run.specs.Serving.{IsServed, printed_text, read_answer};
 
 use arrayvec::ArrayString;
 use st_ahead::Machine;

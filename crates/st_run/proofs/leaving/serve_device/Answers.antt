@@ -1,7 +1,8 @@
 use Rattle.std.specs.Prelude.{IfSome, IsSome}
 use Rattle.std.proofs.Common.{ℕ, List, sym, subst}
 use Rattle.st_ahead.specs.Calls.{MayServe}
-use Rattle.st_run.specs.Serving.{IsServed, order_of}
+use Rattle.st_run.specs.Run.{order_of}
+use Rattle.st_run.specs.Serving.{IsServed}
 use Rattle.st_run.specs.Together.{Together}
 use Rattle.st_run.proofs.LedLemmas.{served-driven}
 use Rattle.st_run.proofs.leaving.serve_device.Goals as goal
