@@ -3,7 +3,6 @@ pub mod Events
 pub mod Moments
 pub mod TimedRun
 pub mod Scenes
-pub mod Serving
 pub mod Order
 pub mod Told
 pub mod Together
@@ -13,6 +12,8 @@ pub mod Ticking
 pub mod Outside
 pub mod Leaving
 pub mod Between
+pub mod Overlapped
+pub mod OverlappedLaws
 pub mod RunLaws
 pub mod Laws
 pub use Rattle.st_refine.specs.Reached

@@ -48,6 +48,13 @@ impl<'a> Coming<'a> {
         (self.signals, self.cards)
     }
 
+    /// The signals.
+    pub fn signals(&self) -> &'a [Signal]
+        ensures { result.now ≡ self.now.signals }
+    {
+        self.signals
+    }
+
     /// Takes the first signal, if it is due where so many instructions are done, and gives its
     /// indicator.
     pub fn next_due_signal(&mut self, done: u64) -> Option<u8>
