@@ -36,17 +36,12 @@ impl<'a, const N: usize> Model for Driven<'a, N> {
     ghost invariant = { λ d. IsLed d.machine };
 }
 
-// Eight words are a card.
-fn shape_of_words(words: &[u64; 8])
-    ensures { IsCard words.now }
-{}
-
 // A card has eight words.
 fn shape_of(card: Option<[u64; 8]>)
     ensures { IfSome card IsCard }
 {
     if let Some(words) = card {
-        shape_of_words(&words);
+        let [_a, _b, _c, _d, _e, _f, _g, _h] = words;
     }
 }
 

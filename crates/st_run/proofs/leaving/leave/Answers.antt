@@ -4,7 +4,7 @@ use Rattle.st_exch.specs.Printer.{line_of_words}
 use Rattle.st_run.specs.Together.{Together, IsBehindEntry}
 use Rattle.st_run.proofs.ChoiceLemmas.{decided}
 use Rattle.st_run.proofs.InterludeLemmas.{HasCome, come-between, with_coming}
-use Rattle.st_run.proofs.PartLemmas.{left-parts}
+use Rattle.st_run.proofs.PartLemmas.{came-parts}
 use Rattle.st_run.proofs.leaving.leave.Goals as goal
 
 pub between-came-requires : goal.between-came-requires
@@ -24,6 +24,20 @@ returns-clause-decided g c =
     decided c.args.driven.now t (option_map line_of_words words) over c.requires came
     c.args.left c.decide.result c.decide.new.driven c.decide.ensures.rest
     (ap (option_map (λ x. x.bytes)) c.decide.ensures.text ∙ c.text_of.ensures) c.decide.ensures.choice
+
+pub returns-clause-delays : goal.returns-clause-delays
+returns-clause-delays g c =
+    let is = subst {A = Together} IsBehindEntry (sym c.driven.view_is) c.requires in
+    let parts = came-parts c.driven.inside.machine c.between-came.new.machine c.decide.new.driven.machine _ c.driven.inside.coming c.args.left c.decide.result is
+    c.between-came.ensures.rest c.decide.ensures.choice in
+    parts.delays ∙ ap (λ (t : Together). t.machine.delays) c.driven.view_is
+
+pub returns-clause-levels : goal.returns-clause-levels
+returns-clause-levels g c =
+    let is = subst {A = Together} IsBehindEntry (sym c.driven.view_is) c.requires in
+    let parts = came-parts c.driven.inside.machine c.between-came.new.machine c.decide.new.driven.machine _ c.driven.inside.coming c.args.left c.decide.result is
+    c.between-came.ensures.rest c.decide.ensures.choice in
+    parts.levels ∙ ap (λ (t : Together). t.machine.levels) c.driven.view_is
 
 pub decide-requires : goal.decide-requires
 decide-requires g c =
