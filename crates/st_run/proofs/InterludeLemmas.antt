@@ -1,5 +1,5 @@
 -- What comes between two entries to an overlapped machine, in one.
-use Rattle.std.proofs.Common.{◌≡◌, ℕ, Bool, true, false, ◌||◌, List, Option, refl, subst, ◌∙◌, ap}
+use Rattle.std.proofs.Common.{◌≡◌, ℕ, Bool, true, false, ◌||◌, List, Option, refl, sym, subst, ◌∙◌, ap}
 use Rattle.std.specs.Prelude.{length, nat_lt, option_map}
 use Rattle.st_exch.specs.Printer.{line_of_words}
 use Rattle.st_exec.specs.Step.{rests}
@@ -8,7 +8,7 @@ use Rattle.st_ahead.specs.Overlap.{Overlap}
 use Rattle.st_run.specs.Run.{Scene, interlude, with_due_orders, with_due_signals}
 use Rattle.st_run.specs.Moments.{has_card, has_waited}
 use Rattle.st_run.specs.Together.{Together, scene_of, moment_of, AreTexts, IsBehindEntry, IsSince}
-use Rattle.st_run.specs.Outside.{Coming, Came, scene_at}
+use Rattle.st_run.specs.Outside.{Coming, Came, scene_at, ends}
 use Rattle.st_run.specs.Overlapped.{IsLeft}
 use Rattle.st_run.specs.declared.between.Interlude.{Interlude}
 use Rattle.st_run.proofs.PrintLemmas.{settled-one}
@@ -33,14 +33,18 @@ or-change false b false d first next = next ∙ first
 abbrev pub with_coming : Overlap → Coming → Together
 with_coming m x = record { machine = m; signals = x.signals; cards = x.cards }
 
-pub come-between : (m n : Overlap) (x y : Coming) (i : Interlude) → IsBehindEntry (with_coming m x)
+-- it came to the machine and what is to come to it, which stand for the first moment
+pub come-between : (b : Together) (m n : Overlap) (x y : Coming) (i : Interlude) (over : Bool) → with_coming m x ≡ b → IsBehindEntry b
     → Came (λ (o : Overlap). o.state) IsLeft (interlude (scene_at m.state x))
     (rests (with_due_orders (with_due_signals m.state x.signals x.cards)).scene.machine) i m x n y
-    → HasCome (with_coming m x) (with_coming n y) (option_map line_of_words i.words) (i.waited || i.card)
-come-between m n x y i is came = record {
-  scene = came.scene;
-  told = came.told (settled-one (scene_at m.state x));
-  since = came.rest.since (with_coming m x) false is (since-none m);
-  ends = or-change i.waited i.card (has_card (moment_of (with_coming m x))) _ came.wait
-      (came.card ∙ ap (λ (c : Scene). nat_lt (length c.cards) (length x.cards)) came.scene);
-}
+    → over ≡ ends i → HasCome b (with_coming n y) (option_map line_of_words i.words) over
+come-between b m n x y i over view is came same =
+    subst {A = Together} (λ t. IsBehindEntry t → HasCome t (with_coming n y) (option_map line_of_words i.words) over) view
+    (λ behind. subst {A = Bool} (λ o. HasCome (with_coming m x) (with_coming n y) (option_map line_of_words i.words) o) (sym same)
+    (record {
+      scene = came.scene;
+      told = came.told (settled-one (scene_at m.state x));
+      since = came.rest.since (with_coming m x) false behind (since-none m);
+      ends = or-change i.waited i.card (has_card (moment_of (with_coming m x))) _ came.wait
+          (came.card ∙ ap (λ (c : Scene). nat_lt (length c.cards) (length x.cards)) came.scene);
+    })) is

@@ -5,11 +5,8 @@ use Rattle.st_exec.specs.Step.{rests}
 use Rattle.st_rows.specs.Rows.{opening_front}
 use Rattle.st_ahead.specs.Overlap.{Overlap, levels_of, interrupt_due}
 use Rattle.st_ahead.specs.Calls.{banks_left, machine_after_segment, machine_after_settling as settled_of, settled_by}
-use Rattle.st_run.specs.Together.{IsBehindEntry, IsSince, closed_if}
-use Rattle.st_run.specs.Outside.{Coming}
-use Rattle.st_run.specs.Overlapped.{IsLeft}
+use Rattle.st_run.specs.Together.{IsSince, closed_if}
 use Rattle.st_run.specs.Between.{IsChoice}
-use Rattle.st_run.proofs.InterludeLemmas.{since-none, with_coming}
 use Rattle.st_run.specs.declared.turn.Turn.{Turn}
 use Rattle.st_run.specs.declared.turn.Turn.TheVariants.{Before, AtEnd, Over}
 use Rattle.st_run.specs.declared.leaving.Decided.{Decided}
@@ -53,7 +50,3 @@ left-parts o m n over left d since choice =
     subst {A = Overlap} (λ q. HasParts o q) (sym since.machine)
     (record { delays = (closed-parts over o).delays; levels = (closed-parts over o).levels }) in
     parts-then o m n closed (choice-parts d.turn left over m n d choice)
-
-pub came-parts : (o m n : Overlap) (over : Bool) (x : Coming) (left : ℕ) (d : Decided) → IsBehindEntry (with_coming o x) → IsLeft over o m
-    → IsChoice d.turn left over m d n → HasParts o n
-came-parts o m n over x left d is came choice = left-parts o m n over left d (came.since (with_coming o x) false is (since-none o)) choice

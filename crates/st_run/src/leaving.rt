@@ -5,10 +5,11 @@ ghost use Rattle.st_ahead.specs.Overlap.{levels_of};
 ghost use Rattle.st_ahead.specs.Calls.{MayServe};
 ghost use Rattle.st_run.specs.Events.{address_ahead};
 ghost use Rattle.st_run.specs.Together.{IsBehindEntry, moment_of};
+ghost use Rattle.st_run.specs.Outside.{ends};
 ghost use Rattle.st_run.specs.Leaving.{IsDecided, nothing_decided};
 ghost use Rattle.st_run.specs.Between.{IsChoice, IsQuiet, choice_of, signal_due};
 
-use crate::between::between;
+use crate::between::{Interlude, between};
 use crate::driven::Driven;
 use crate::plain::{printer_is_due, reader_is_due};
 use crate::turn::Turn;
@@ -53,6 +54,13 @@ fn levels_in<const N: usize>(ring: &SpecRing<N>) -> ArrayVec<(u32, u64), 8>
         levels.push((level.prepared.place.address, level.p));
     }
     levels
+}
+
+// Whether what came ends the segment.
+fn is_over(came: Interlude) -> bool
+    ensures { result ≡ ends came }
+{
+    came.waited || came.card
 }
 
 // The text that is printed of these words.
@@ -118,7 +126,7 @@ pub(crate) fn leave<const N: usize>(driven: &mut Driven<N>, left: u64) -> Decide
     ensures levels { driven.new.machine.levels ≡ driven.old.machine.levels }
 {
     let came = between(&mut driven.machine, &mut driven.coming);
-    decide(driven, left, came.waited || came.card, text_of(came.words))
+    decide(driven, left, is_over(came), text_of(came.words))
 }
 
 // ---- nothing of it
