@@ -1,5 +1,5 @@
 -- What comes between two entries leaves the delays and the number of levels.
-use Rattle.std.proofs.Common.{◌≡◌, ℕ, ◌+◌, Bool, true, false, List, length, Option, None, Some, refl, sym, ◌∙◌, subst}
+use Rattle.std.proofs.Common.{◌≡◌, ℕ, ◌+◌, Bool, true, false, length, Option, None, Some, refl, sym, ◌∙◌, subst}
 use Rattle.st_prep.proofs.Choices.{of_choice}
 use Rattle.st_exec.specs.Step.{rests}
 use Rattle.st_rows.specs.Rows.{opening_front}

@@ -1,8 +1,8 @@
--- What is left of an overlapped machine, one thing after another.
+-- What comes to an overlapped machine changes of it, one thing after another.
 use Rattle.std.proofs.Common.{◌≡◌, ◌||◌, Bool, true, false, refl, sym, subst}
 use Rattle.st_ahead.specs.Overlap.{Overlap}
 use Rattle.st_run.specs.Together.{IsSince}
-use Rattle.st_run.specs.Overlapped.{IsLeft}
+use Rattle.st_run.specs.Overlapped.{IsChanged}
 
 pub or-none : (a : Bool) → a ≡ (a || false)
 or-none true = refl
@@ -12,16 +12,16 @@ or-both : (a b c d : Bool) → d ≡ (b || c) → ((a || b) || c) ≡ (a || d)
 or-both true b c d is = refl
 or-both false b c d is = sym is
 
-pub left-same : (m : Overlap) → IsLeft false m m
-left-same m = record {
+pub changed-none : (m : Overlap) → IsChanged false m m
+changed-none m = record {
   since = λ b before behind since. subst (λ o. IsSince b.machine o m) (or-none before) since;
   serves = λ may. may;
   led = λ led. led;
 }
 
-pub left-both : (a b c : Bool) (m n o : Overlap) → IsLeft a m n → IsLeft b n o → c ≡ (a || b) →
-    IsLeft c m o
-left-both a b c m n o first second is = record {
+pub changed-both : (a b c : Bool) (m n o : Overlap) → IsChanged a m n → IsChanged b n o →
+    c ≡ (a || b) → IsChanged c m o
+changed-both a b c m n o first second is = record {
   since = λ t before behind since.
       subst (λ e. IsSince t.machine e o) (or-both before a b c is)
       (second.since t (before || a) behind (first.since t before behind since));

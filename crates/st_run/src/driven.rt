@@ -47,20 +47,20 @@ fn shape_of(card: Option<[u64; 8]>)
 
 impl<const N: usize> Outside for Machine<N> {
     ghost use Rattle.st_ahead.specs.Calls.{MayServe};
-    ghost use Rattle.st_run.specs.Overlapped.{IsLeft};
-    ghost use Rattle.st_run.specs.OverlappedLaws.{left-same, left-both};
+    ghost use Rattle.st_run.specs.Overlapped.{IsChanged};
+    ghost use Rattle.st_run.specs.OverlappedLaws.{changed-none, changed-both};
 
     ghost state = { λ m. m.state };
 
     ghost is_open = { MayServe };
 
-    ghost leaves = { IsLeft };
+    ghost leaves = { IsChanged };
 
-    ghost leaves_same = { left-same };
+    ghost leaves_same = { changed-none };
 
     ghost stays_open = { λ _ _ _ left may. left.serves may };
 
-    ghost leaves_both = { left-both };
+    ghost leaves_both = { changed-both };
 
     fn state(&self) -> &State {
         self.state()

@@ -1,5 +1,5 @@
 use Rattle.std.proofs.Common.{refl}
-use Rattle.st_run.proofs.OverlappedLemmas.{read-left, read-state}
+use Rattle.st_run.proofs.OverlappedLemmas.{read-changed, read-state}
 use Rattle.st_run.proofs.driven.MachineOutside.read_in.Goals as goal
 
 pub returns-clause-state : goal.returns-clause-state
@@ -7,5 +7,5 @@ returns-clause-state g c = read-state c.args.self.now.state.reader c.args.self.n
 
 pub returns-clause-rest : goal.returns-clause-rest
 returns-clause-rest g c =
-    read-left c.args.self.now.state.reader c.args.self.now c.read_in.new.self c.args.card refl c.requires.order c.shape_of.ensures
+    read-changed c.args.self.now.state.reader c.args.self.now c.read_in.new.self c.args.card refl c.requires.order c.shape_of.ensures
     c.requires.turn c.read_in.ensures.after
