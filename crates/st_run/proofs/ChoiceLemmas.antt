@@ -3,7 +3,6 @@ use Rattle.std.specs.Prelude.{IfSome, is_none, is_some, if◌then◌else◌, opt
 use Rattle.std.proofs.Common.{◌≡◌, ◌≢◌, ℕ, ◌+◌, ◌<◌, ◌≤◌, Bool, true, false, ◌||◌, List, Option, None, Some, refl, sym, subst, ◌∙◌, ap, arith}
 use Rattle.st_state.specs.Machine.{Machine, IsMachine}
 use Rattle.st_prep.proofs.Choices.{of_choice}
-use Rattle.st_exec.proofs.BesideEntries.{beside-same}
 use Rattle.st_exec.specs.Step.{rests, interrupt}
 use Rattle.st_card.specs.declared.control_cards.Signal.{Signal}
 use Rattle.st_run.specs.Run.{Scene, interlude}
@@ -18,14 +17,14 @@ use Rattle.st_ahead.specs.Calls.{machine_after_segment, run_ended, machine_after
 use Rattle.st_ahead.specs.declared.events.Settled.{Settled}
 use Rattle.st_run.specs.Moments.{Moment, next_scene, next_state, ends_segment, next_front, next_segment, has_card, has_waited}
 use Rattle.st_run.specs.Scenes.{IsScene}
-use Rattle.st_run.specs.Together.{Together, scene_of, moment_of, AreTexts, IsBehindEntry, IsBeforeEntry, IsSince, RunGoesOn, RunStops}
-use Rattle.st_run.specs.Between.{Came, IsChoice, choice_of}
+use Rattle.st_run.specs.Together.{Together, scene_of, moment_of, AreTexts, IsBehindEntry, IsBeforeEntry, RunGoesOn, RunStops}
+use Rattle.st_run.specs.Between.{IsChoice, choice_of}
 use Rattle.st_run.specs.Leaving.{IsDecided, IsWay}
 use Rattle.st_run.specs.declared.turn.Turn.{Turn}
 use Rattle.st_run.specs.declared.turn.Turn.TheVariants.{Before, AtEnd, Over}
 use Rattle.st_run.specs.declared.leaving.Decided.{Decided}
 use Rattle.st_run.proofs.SceneLemmas.{interrupt-below, settled-scene}
-use Rattle.st_run.proofs.PrintLemmas.{settled-one}
+use Rattle.st_run.proofs.InterludeLemmas.{HasCome}
 use Rattle.st_run.proofs.EndedLemmas.{opened, stopped-none, by_now, ended-since, since-is}
 
 -- ---- what the answer says
@@ -119,16 +118,12 @@ ends-by false true waited due = refl
 ends-by false false waited due = refl
 
 -- the moment, and the machine in the state behind all that comes
-module _ (b t : Together) (text : Option (List ℕ)) (over : Bool) (is : IsBehindEntry b) (came : Came (interlude (scene_of b)) text false over b t)
-    (over-is : over ≡ (has_card (moment_of b) || has_waited (moment_of b))) where
+module _ (b t : Together) (text : Option (List ℕ)) (over : Bool) (is : IsBehindEntry b) (came : HasCome b t text over) where
   abbrev m : Moment
   m = moment_of b
 
   abbrev s : Machine
   s = t.machine.state
-
-  since : IsSince b.machine over t
-  since = came.since b is (record { machine = refl; alike = λ open_still. beside-same b.machine.state })
 
   state-is : s ≡ next_state m
   state-is = ap (λ (c : Scene). c.machine) came.scene
@@ -139,7 +134,7 @@ module _ (b t : Together) (text : Option (List ℕ)) (over : Bool) (is : IsBehin
   ends-is : ends ≡ ends_segment m
   unfolding ends_segment
   ends-is =
-      ap (λ x. is_some b.machine.behind || x || is_some (interrupt s)) over-is
+      ap (λ x. is_some b.machine.behind || x || is_some (interrupt s)) came.ends
       ∙ ends-by (is_some b.machine.behind) (has_card m) (has_waited m) (is_some (interrupt s))
       ∙ ap (λ (u : Machine). is_some b.machine.behind || has_card m || has_waited m || is_some (interrupt u)) state-is
 
@@ -156,7 +151,7 @@ module _ (b t : Together) (text : Option (List ℕ)) (over : Bool) (is : IsBehin
 
   -- how the machine stands
   now-is : t.machine ≡ by_now over b.machine s
-  now-is = since-is b t over is since
+  now-is = since-is b t.machine over is came.since
 
   due-is : interrupt_due t.machine ≡ interrupt s
   due-is = ap (λ (x : Overlap). if is_none x.taken then interrupt s else None) now-is ∙ ap (λ x. if is_none x then interrupt s else None) (now-taken over b.machine s ∙ is.table)
@@ -170,7 +165,7 @@ module _ (b t : Together) (text : Option (List ℕ)) (over : Bool) (is : IsBehin
       ap (λ x. settled_by x (rests s) t.machine.behind t.machine) due-is
       ∙ ap (λ x. settled_by (interrupt s) x t.machine.behind t.machine) goes
       ∙ ap (λ x. settled_by (interrupt s) false x t.machine) behind-is
-      ∙ going-by (interrupt s) b.machine.behind over b.machine s t.machine now-is (ended-since b t over is since) is.table
+      ∙ going-by (interrupt s) b.machine.behind over b.machine s t.machine now-is (ended-since b t.machine over is came.since) is.table
 
   -- the scene behind it
   scene-is : (n : Together) → n ≡ record t { machine = n.machine } → n.machine.state ≡ s → scene_of n ≡ next_scene m
@@ -200,7 +195,7 @@ module _ (b t : Together) (text : Option (List ℕ)) (over : Bool) (is : IsBehin
   stops : (n : Together) → n ≡ record t { machine = n.machine } → n.machine ≡ run_ended t.machine → RunStops m n
   stops n rest after =
       let same : n.machine ≡ record (opened b.machine s) { stopped = true } =
-      after ∙ ap (λ (x : Overlap). record x { stopped = true }) (ended-since b t over is since) in
+      after ∙ ap (λ (x : Overlap). record x { stopped = true }) (ended-since b t.machine over is came.since) in
       record {
         scene = scene-is n rest (ap (λ (x : Overlap). x.state) same);
         none = ap levels_of same ∙ stopped-none b.machine s;
@@ -217,6 +212,6 @@ module _ (b t : Together) (text : Option (List ℕ)) (over : Bool) (is : IsBehin
   pub decided : (left : ℕ) (d : Decided) (n : Together) → n ≡ record t { machine = n.machine }
       → option_map (λ x. x.bytes) d.text ≡ text → IsChoice d.turn left over t.machine d n.machine → IsDecided left m d n
   decided left d n rest same choice = record {
-    text = subst (λ x. AreTexts x (interlude (scene_of b)).happened) (sym same) (came.told (settled-one (scene_of b)));
+    text = subst (λ x. AreTexts x (interlude (scene_of b)).happened) (sym same) came.told;
     way = way-is d.turn left d n rest choice;
   }

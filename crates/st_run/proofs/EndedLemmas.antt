@@ -135,23 +135,21 @@ unfolding machine_after_segment
 ended-again m over = ap (λ b. if b then m else opened m m.state) over
 
 -- what it is, as long as nothing but signals and orders came
-pub ended-since : (b t : Together) (over : Bool) → IsBehindEntry b → IsSince b.machine over t
-    → machine_after_segment t.machine ≡ opened b.machine t.machine.state
-ended-since b t true is since =
-    let s = t.machine.state in
-    let same : t.machine ≡ opened b.machine s = since.machine ∙ ap (λ (m : Overlap). record m { state = s }) (ended-behind b is) in
-    ended-again t.machine (ap (λ (m : Overlap). m.ended) same) ∙ same
-ended-since b t false is since =
-    ap machine_after_segment since.machine ∙ ended-first b t.machine.state is (since.alike refl)
+pub ended-since : (b : Together) (m : Overlap) (over : Bool) → IsBehindEntry b → IsSince b.machine over m
+    → machine_after_segment m ≡ opened b.machine m.state
+ended-since b m true is since =
+    let same : m ≡ opened b.machine m.state = since.machine ∙ ap (λ (o : Overlap). record o { state = m.state }) (ended-behind b is) in
+    ended-again m (ap (λ (o : Overlap). o.ended) same) ∙ same
+ended-since b m false is since = ap machine_after_segment since.machine ∙ ended-first b m.state is (since.alike refl)
 
 -- what it is by now, by whether the segment has ended
 abbrev pub by_now : Bool → Overlap → Machine → Overlap
 by_now over o s = if over then opened o s else record o { state = s }
 
-pub since-is : (b t : Together) (over : Bool) → IsBehindEntry b → IsSince b.machine over t
-    → t.machine ≡ by_now over b.machine t.machine.state
-since-is b t true is since = since.machine ∙ ap (λ (m : Overlap). record m { state = t.machine.state }) (ended-behind b is)
-since-is b t false is since = since.machine
+pub since-is : (b : Together) (m : Overlap) (over : Bool) → IsBehindEntry b → IsSince b.machine over m
+    → m ≡ by_now over b.machine m.state
+since-is b m true is since = since.machine ∙ ap (λ (o : Overlap). record o { state = m.state }) (ended-behind b is)
+since-is b m false is since = since.machine
 
 -- ---- what an end leaves
 

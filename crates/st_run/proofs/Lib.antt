@@ -3,7 +3,9 @@ pub mod Untimed
 pub mod Turns
 pub mod PassLemmas
 pub mod OrderLemmas
+pub mod OutsideLemmas
 pub mod ShownLemmas
+pub mod SignalLemmas
 pub mod PrintLemmas
 pub mod GuessLemmas
 pub mod EndLemmas
@@ -22,13 +24,13 @@ pub mod NextLemmas
 pub mod StartLemmas
 pub mod ViewLemmas
 pub mod EndedLemmas
-pub mod CameLemmas
+pub mod OverlappedLemmas
+pub mod InterludeLemmas
 pub mod ChoiceLemmas
 pub mod LevelLemmas
 pub mod PartLemmas
 pub mod LastLemmas
 pub mod QuietLemmas
-pub mod ServingLemmas
 pub mod RunLaws
 pub mod Laws
 pub mod LedLemmas

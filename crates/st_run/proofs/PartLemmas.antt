@@ -1,14 +1,12 @@
 -- What comes between two entries leaves the delays and the number of levels.
-use Rattle.std.proofs.Common.{◌≡◌, ℕ, ◌+◌, Bool, true, false, List, length, Option, None, Some, refl, sym, ◌∙◌, subst}
+use Rattle.std.proofs.Common.{◌≡◌, ℕ, ◌+◌, Bool, true, false, length, Option, None, Some, refl, sym, ◌∙◌, subst}
 use Rattle.st_prep.proofs.Choices.{of_choice}
-use Rattle.st_exec.proofs.BesideEntries.{beside-same}
 use Rattle.st_exec.specs.Step.{rests}
-use Rattle.st_run.specs.Run.{interlude}
 use Rattle.st_rows.specs.Rows.{opening_front}
 use Rattle.st_ahead.specs.Overlap.{Overlap, levels_of, interrupt_due}
 use Rattle.st_ahead.specs.Calls.{banks_left, machine_after_segment, machine_after_settling as settled_of, settled_by}
-use Rattle.st_run.specs.Together.{Together, scene_of, IsBehindEntry, IsSince, closed_if}
-use Rattle.st_run.specs.Between.{Came, IsChoice}
+use Rattle.st_run.specs.Together.{IsSince, closed_if}
+use Rattle.st_run.specs.Between.{IsChoice}
 use Rattle.st_run.specs.declared.turn.Turn.{Turn}
 use Rattle.st_run.specs.declared.turn.Turn.TheVariants.{Before, AtEnd, Over}
 use Rattle.st_run.specs.declared.leaving.Decided.{Decided}
@@ -46,11 +44,9 @@ closed-parts : (over : Bool) (o : Overlap) → HasParts o (closed_if over o)
 closed-parts true o = ended-parts o
 closed-parts false o = record { delays = refl; levels = refl }
 
-pub left-parts : (b t n : Together) (text : Option (List ℕ)) (over : Bool) (left : ℕ) (d : Decided) → IsBehindEntry b
-    → Came (interlude (scene_of b)) text false over b t → IsChoice d.turn left over t.machine d n.machine → HasParts b.machine n.machine
-left-parts b t n text over left d is came choice =
-    let since : IsSince b.machine over t = came.since b is (record { machine = refl; alike = λ open_still. beside-same b.machine.state }) in
-    let closed : HasParts b.machine t.machine =
-    subst {A = Overlap} (λ q. HasParts b.machine q) (sym since.machine)
-    (record { delays = (closed-parts over b.machine).delays; levels = (closed-parts over b.machine).levels }) in
-    parts-then b.machine t.machine n.machine closed (choice-parts d.turn left over t.machine n.machine d choice)
+pub left-parts : (o m n : Overlap) (over : Bool) (left : ℕ) (d : Decided) → IsSince o over m → IsChoice d.turn left over m d n → HasParts o n
+left-parts o m n over left d since choice =
+    let closed : HasParts o m =
+    subst {A = Overlap} (λ q. HasParts o q) (sym since.machine)
+    (record { delays = (closed-parts over o).delays; levels = (closed-parts over o).levels }) in
+    parts-then o m n closed (choice-parts d.turn left over m n d choice)

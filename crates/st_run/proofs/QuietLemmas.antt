@@ -1,5 +1,5 @@
 -- Where nothing comes between two entries.
-use Rattle.std.specs.Prelude.{nat_lt, is_some}
+use Rattle.std.specs.Prelude.{nat_lt, is_some, map}
 use Rattle.std.proofs.Common.{◌≡◌, ◌≢◌, ℕ, Bool, true, false, ◌||◌, List, [], ◌∷◌, length, Option, None, Some, refl, sym, subst, ◌∙◌, ap, arith}
 use Rattle.std.proofs.lemmas.Bool.{le-ltb}
 use Rattle.st_state.specs.Machine.{Machine}
@@ -7,15 +7,18 @@ use Rattle.st_state.specs.Orders.{is_due}
 use Rattle.st_ahead.specs.Overlap.{Overlap, interrupt_due}
 use Rattle.st_ahead.specs.Calls.{machine_after_settling as settled_of, machine_after_pass}
 use Rattle.st_card.specs.declared.control_cards.Signal.{Signal}
-use Rattle.st_run.specs.Run.{Scene, with_due_signals, with_due_orders, interlude, uneventful}
-use Rattle.st_run.specs.Together.{Together, scene_of, moment_of, with_scene, IsBehindEntry}
-use Rattle.st_run.specs.Between.{Came, IsChoice, IsQuiet, signal_due}
+use Rattle.st_run.specs.Run.{Scene, Transition, with_due_signals, with_due_orders, with_wait, interlude, uneventful, and_then}
+use Rattle.st_run.specs.Together.{Together, scene_of, moment_of, IsBehindEntry}
+use Rattle.st_run.specs.Between.{IsChoice, IsQuiet, signal_due}
 use Rattle.st_run.specs.Leaving.{IsDecided, nothing_decided}
 use Rattle.st_run.specs.Telling.{Waiting, whats, rest_of, IsRun, AreInTime}
-use Rattle.st_run.specs.Told.{Told}
+use Rattle.st_run.specs.Told.{Told, what_happens}
+use Rattle.st_run.specs.Moments.{has_waited}
+use Rattle.st_exec.specs.Step.{rests}
 use Rattle.st_run.specs.declared.turn.Turn.{Turn}
 use Rattle.st_run.specs.declared.turn.Turn.TheVariants.{Before}
-use Rattle.st_run.proofs.CameLemmas.{came-none, came-is, settled-going, over-going}
+use Rattle.st_run.proofs.SignalLemmas.{wait-none}
+use Rattle.st_run.proofs.InterludeLemmas.{HasCome, since-none}
 use Rattle.st_run.proofs.ChoiceLemmas.{decided}
 use Rattle.st_run.proofs.PartLemmas.{HasParts, left-parts}
 use Rattle.st_run.proofs.LeftLemmas.{waits}
@@ -29,19 +32,21 @@ by-signal : (s : Machine) (xs : List Signal) (cards : List (List ℕ)) → signa
 by-signal s [] cards none = refl
 by-signal s (x ∷ xs) cards none = rw none refl
 
-no-signal : (t : Together) → signal_due t.machine.state.done t.signals ≡ false
-    → t ≡ with_scene t (with_due_signals t.machine.state t.signals t.cards)
-no-signal t none = ap (with_scene t) (by-signal t.machine.state t.signals t.cards none)
-
 by-orders : (c : Scene) (reader printer : Bool) → is_due c.machine.done c.machine.reader ≡ reader → is_due c.machine.done c.machine.printer ≡ printer
     → reader ≡ false → printer ≡ false → uneventful c ≡ with_due_orders c
 unfolding with_due_orders
 by-orders c reader printer first second a b = rw (first ∙ a, second ∙ b) refl
 
-no-text : (t : Together) → IsQuiet t.machine → Came (with_due_orders (scene_of t)) None false false t t
-no-text t quiet =
-    came-is (uneventful (scene_of t)) (with_due_orders (scene_of t)) None false false t t
-    (by-orders (scene_of t) false false quiet.reader quiet.printer refl refl) (came-none false t)
+-- nothing comes
+module _ (c : Scene) (signals : signal_due c.machine.done c.signals ≡ false) (reader : is_due c.machine.done c.machine.reader ≡ false)
+    (printer : is_due c.machine.done c.machine.printer ≡ false) (awake : rests c.machine ≡ false) where
+  none-due : with_due_orders (with_due_signals c.machine c.signals c.cards) ≡ uneventful c
+  none-due =
+      ap with_due_orders (sym (by-signal c.machine c.signals c.cards signals)) ∙ sym (by-orders c false false reader printer refl refl)
+
+  none-comes : interlude c ≡ uneventful c
+  unfolding interlude
+  none-comes = ap (λ r. and_then r with_wait) none-due ∙ wait-none c awake
 
 -- two tests, none of which holds
 neither-first : (behind : Bool) (due : Option ℕ) → (behind || is_some due) ≡ false → None ≡ due
@@ -70,15 +75,28 @@ quiet-right m quiet = still-right m.behind (interrupt_due m) quiet.open_still
 pub quiet-settled : (m : Overlap) → IsQuiet m → machine_after_pass m ≡ settled_of m
 quiet-settled m quiet = still-settled m (quiet-due m quiet) quiet.awake (quiet-right m quiet)
 
-same-count : (n : ℕ) → false ≡ nat_lt n n
-same-count n = sym (le-ltb n n (omega arith))
+none-over : (n : ℕ) (waited : Bool) → waited ≡ false → false ≡ (nat_lt n n || waited)
+none-over n waited none = rw (none, le-ltb n n (omega arith)) refl
 
 -- ---- the decision
 
 module _ (left : ℕ) (b n : Together) (is : IsBehindEntry b) (some : left ≢ 0) (signals : signal_due b.machine.state.done b.signals ≡ false)
     (quiet : IsQuiet b.machine) (rest : n ≡ record b { machine = n.machine }) (after : n.machine ≡ settled_of b.machine) where
-  came : Came (interlude (scene_of b)) None false false b b
-  came = settled-going b b b None false (no-signal b signals) (no-text b quiet) quiet.awake
+  abbrev c : Scene
+  c = scene_of b
+
+  came : HasCome b b None false
+  came =
+      let none = none-comes c signals quiet.reader quiet.printer quiet.awake in
+      let waited = ap (λ (r : Transition). rests r.scene.machine) (none-due c signals quiet.reader quiet.printer quiet.awake) ∙ quiet.awake in
+      record {
+        scene = ap (λ (r : Transition). r.scene) (sym none);
+        told = ap (λ (r : Transition). map what_happens r.happened) (sym none);
+        since = since-none b.machine;
+        ends =
+            none-over (length b.cards) (has_waited (moment_of b)) waited
+            ∙ ap (λ (r : Transition). nat_lt (length r.scene.cards) (length b.cards) || has_waited (moment_of b)) (sym none);
+      }
 
   choice : IsChoice Before left false b.machine nothing_decided n.machine
   choice = (
@@ -90,13 +108,10 @@ module _ (left : ℕ) (b n : Together) (is : IsBehindEntry b) (some : left ≢ 0
   )
 
   pub quiet-decided : IsDecided left (moment_of b) nothing_decided n
-  quiet-decided =
-      decided b b None false is came
-      (over-going b b b None false (no-signal b signals) (no-text b quiet) quiet.awake (same-count (length b.cards)))
-      left nothing_decided n rest refl choice
+  quiet-decided = decided b b None false is came left nothing_decided n rest refl choice
 
   pub quiet-parts : HasParts b.machine n.machine
-  quiet-parts = left-parts b b n None false left nothing_decided is came choice
+  quiet-parts = left-parts b.machine b.machine n.machine false left nothing_decided (since-none b.machine) choice
 
 -- the same of the parts of a machine with what is to come to it
 module _ (left : ℕ) (old : Together) (m k : Overlap) (xs : List Signal) (cards : List (List ℕ)) (view : record { machine = m; signals = xs; cards = cards } ≡ old)

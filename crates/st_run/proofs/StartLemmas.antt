@@ -14,7 +14,7 @@ use Rattle.st_card.specs.declared.control_cards.Signal.{Signal}
 use Rattle.st_run.specs.Run.{Scene, PlainEvent, Ends, with_due_signals, with_due_orders, with_order_at_rest, with_signals_at_rest, with_wait, interlude, interrupts_by, if_due, Transition, uneventful, and_then, with_reader, with_printer, with_device}
 use Rattle.st_rows.specs.Ranges.{AreDelaysUpTo}
 use Rattle.st_rows.specs.Rows.{opening_front}
-use Rattle.st_ahead.specs.Overlap.{machine_at_start}
+use Rattle.st_ahead.specs.Overlap.{Overlap, machine_at_start}
 use Rattle.st_segment.specs.Ahead.{Ahead}
 use Rattle.st_exec.proofs.StepLemmas.{step-done}
 use Rattle.st_run.specs.Events.{Timed, drop_of}
@@ -31,6 +31,19 @@ use Rattle.st_run.proofs.Turns.{timed-goes_on}
 use Rattle.st_run.proofs.Bounds.{run-time}
 use Rattle.st_run.proofs.DoneLemmas.{settled-done}
 use Rattle.st_run.proofs.SceneLemmas.{due-scene}
+use Rattle.st_run.specs.Outside.{Coming}
+use Rattle.st_run.proofs.InterludeLemmas.{with_coming}
+
+-- ---- the machine once the signals that are due came
+
+pub started : (m k : Overlap) (xs ys : List Signal) (cards : List (List ℕ)) (x : Coming)
+    → ((ts : List (List ℕ)) → with_due_signals m.state xs ts ≡ record { machine = k.state; signals = ys; cards = ts })
+    → k ≡ record m { state = k.state } → x ≡ record { signals = ys; cards = cards }
+    → with_coming k x ≡ with_scene (record { machine = m; signals = xs; cards = cards }) (with_due_signals m.state xs cards)
+started m k xs ys cards x came machine is =
+    ap (with_coming k) is
+    ∙ ap (λ (o : Overlap). record { machine = o; signals = ys; cards = cards }) machine
+    ∙ sym (ap (with_scene (record { machine = m; signals = xs; cards = cards })) (came cards))
 
 -- ---- signals leave that
 

@@ -1,32 +1,15 @@
--- What comes between two entries, one thing after another, and the decision how the run goes on.
-use Rattle.std.specs.Prelude.{ℕ, ◌≡◌, ◌≢◌, ◌≤◌, Bool, true, false, ◌||◌, is_some, length, nat_le, List, [], ◌∷◌, Option, None, Some}
+-- The decision between two entries how the run goes on.
+use Rattle.std.specs.Prelude.{ℕ, ◌≡◌, ◌≢◌, Bool, true, false, ◌||◌, is_some, nat_le, List, [], ◌∷◌, Option, None, Some}
 use Rattle.st_state.specs.Orders.{is_due}
 use Rattle.st_exec.specs.Step.{rests}
 use Rattle.st_card.specs.declared.control_cards.Signal.{Signal}
-use Rattle.st_run.specs.Run.{Transition}
 use Rattle.st_ahead.specs.Overlap.{Overlap, interrupt_due}
-use Rattle.st_ahead.specs.Calls.{run_ended, machine_after_settling, MayServe}
+use Rattle.st_ahead.specs.Calls.{run_ended, machine_after_settling}
 use Rattle.st_ahead.specs.declared.events.Settled.{Settled}
 use Rattle.st_ahead.specs.declared.events.Settled.TheVariants as answers
-use Rattle.st_run.specs.Together.{Together, scene_of, AreTexts, IsBehindEntry, IsSince}
 use Rattle.st_run.specs.declared.turn.Turn.{Turn}
 use Rattle.st_run.specs.declared.turn.Turn.TheVariants.{Before, AtEnd, Over}
 use Rattle.st_run.specs.declared.leaving.Decided.{Decided}
-
--- of two texts the first one
-abbrev pub first_of_texts : Option (List ℕ) → Option (List ℕ) → Option (List ℕ)
-first_of_texts (Some text) later = Some text
-first_of_texts None later = later
-
--- the scene is the one that is reached, and the text is what was printed, if that is no more than
--- one; by now the segment has ended or not, as it had before or not
-pub record Came (r : Transition) (text : Option (List ℕ)) (before after : Bool)
-    (old new : Together) : Type 0 where
-  pub scene : scene_of new ≡ r.scene
-  pub told : length r.happened ≤ 1 → AreTexts text r.happened
-  pub since : (b : Together) → IsBehindEntry b → IsSince b.machine before old →
-      IsSince b.machine after new
-  pub serves : MayServe old.machine → MayServe new.machine
 
 -- the run goes on by the decision about interrupts; or its last segment ends, at rest or where no
 -- more may be done

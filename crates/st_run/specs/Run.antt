@@ -77,17 +77,28 @@ and_then r f = let q = f r.scene in record { scene = q.scene; happened = r.happe
 abbrev pub if_due : ℕ → Option Order → Option Order
 if_due done order = if is_due done order then order else None
 
+-- the order of a device
+abbrev pub order_of : Device → Machine → Option Order
+order_of Reader s = s.reader
+order_of Printer s = s.printer
+
+-- an order of a device takes effect
+abbrev pub with_order : Device → Option Order → Scene → Transition
+with_order Reader order c = with_reader order c
+with_order Printer order c = with_printer order c
+
+-- the order of a device takes effect, where it is due
+abbrev pub with_due_order : Device → Scene → Transition
+with_due_order device c = with_order device (if_due c.machine.done (order_of device c.machine)) c
+
 -- the orders that are due take effect, the reader's first
 unfoldable pub with_due_orders : Scene → Transition
-with_due_orders c =
-    and_then (with_reader (if_due c.machine.done c.machine.reader) c)
-    (λ d. with_printer (if_due d.machine.done d.machine.printer) d)
+with_due_orders c = and_then (with_due_order Reader c) (λ d. with_due_order Printer d)
 
 -- the order of this device takes effect
 abbrev pub with_device : Option Device → Scene → Transition
 with_device None c = uneventful c
-with_device (Some Reader) c = with_reader c.machine.reader c
-with_device (Some Printer) c = with_printer c.machine.printer c
+with_device (Some device) c = with_order device (order_of device c.machine) c
 
 -- the order that is given takes effect where the machine rests; the reader's where both are due at
 -- once

@@ -90,9 +90,9 @@ closed_if over o = if over then machine_after_segment o else o
 
 -- since the machine was o the state alone has changed, and the segment has ended or not; as long as
 -- it has not, a signal or an order without a card has changed it
-pub record IsSince (o : Overlap) (over : Bool) (t : Together) : Type 0 where
-  pub machine : t.machine ≡ record (closed_if over o) { state = t.machine.state }
-  pub alike : over ≡ false → AreAlikeBesideOrders o.state t.machine.state
+pub record IsSince (o : Overlap) (over : Bool) (m : Overlap) : Type 0 where
+  pub machine : m ≡ record (closed_if over o) { state = m.state }
+  pub alike : over ≡ false → AreAlikeBesideOrders o.state m.state
 
 -- ---- what comes between two entries is over
 

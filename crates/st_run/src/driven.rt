@@ -1,39 +1,95 @@
-//! An overlapped machine with what is still to come to it.
-ghost use Rattle.std.specs.Prelude.{◌≡◌, ℕ, List};
+//! An overlapped machine to which something comes from outside.
+ghost use Rattle.std.specs.Prelude.{◌≡◌, ℕ, List, IfSome};
 ghost use Rattle.std.specs.List.{AllPass};
 ghost use Rattle.st_card.specs.Limits.{is_signal};
 ghost use Rattle.st_run.specs.Run.{with_due_signals};
 ghost use Rattle.st_ahead.specs.Calls.{MaySignal};
 ghost use Rattle.st_ahead.specs.Shown.{view_at_tick};
-ghost use Rattle.st_refine.specs.Reached.{IsLed};
-ghost use Rattle.st_run.specs.Together.{with_scene};
+ghost use Rattle.st_refine.specs.Reached.{IsCard, IsLed};
 
+use crate::coming::Coming;
+use crate::outside::Outside;
 use st_ahead::{Machine, View};
 use st_card::Signal;
-use st_exch::Hopper;
+use st_state::State;
 use std::marker::Model;
 
-// An overlapped machine with the signals and the reader's cards that are still to come.
+// An overlapped machine with what is still to come to it.
 #[derive(Drop)]
 pub(crate) struct Driven<'a, const N: usize> {
     pub machine: Machine<N>,
-    pub signals: &'a [Signal],
-    pub cards: Hopper,
+    pub coming: Coming<'a>,
 }
 
 impl<'a, const N: usize> Model for Driven<'a, N> {
-    ghost use Rattle.st_run.specs.Protocol.{IsDriven};
+    ghost use Rattle.st_refine.specs.Reached.{IsLed};
     ghost use Rattle.st_run.specs.Together.{Together};
 
     ghost Value = { Together };
 
-    ghost view = { λ d. record { machine = d.machine; signals = d.signals.now; cards = d.cards } };
+    ghost view = { λ d. record {
+      machine = d.machine;
+      signals = d.coming.signals;
+      cards = d.coming.cards;
+    } };
 
-    ghost invariant = { λ d. IsDriven d.machine d.signals.now d.cards };
+    ghost invariant = { λ d. IsLed d.machine };
 }
 
-// Turns on the signals at the front that are due, and gives those that are still to come.
-fn due_signals<'a, const N: usize>(machine: &mut Machine<N>, signals: &'a [Signal]) -> &'a [Signal]
+// A card has eight words.
+fn shape_of(card: Option<[u64; 8]>)
+    ensures { IfSome card IsCard }
+{
+    if let Some(words) = card {
+        let [_a, _b, _c, _d, _e, _f, _g, _h] = words;
+    }
+}
+
+impl<const N: usize> Outside for Machine<N> {
+    ghost use Rattle.st_ahead.specs.Calls.{MayServe};
+    ghost use Rattle.st_run.specs.Overlapped.{IsChanged};
+    ghost use Rattle.st_run.specs.OverlappedLaws.{changed-none, changed-both};
+
+    ghost state = { λ m. m.state };
+
+    ghost is_open = { MayServe };
+
+    ghost leaves = { IsChanged };
+
+    ghost leaves_same = { changed-none };
+
+    ghost stays_open = { λ _ _ _ left may. left.serves may };
+
+    ghost leaves_both = { changed-both };
+
+    fn state(&self) -> &State {
+        self.state()
+    }
+
+    fn signal(&mut self, indicator: u8) {
+        self.signal(indicator);
+    }
+
+    fn read_in(&mut self, card: Option<[u64; 8]>) {
+        shape_of(card);
+        self.read_in(card);
+    }
+
+    fn print_out(&mut self) -> [u64; 8] {
+        self.print_out()
+    }
+
+    fn rest(&mut self) {
+        self.settle();
+    }
+}
+
+// Turns on the signals at the front that are due, and gives those that are still to come; at the
+// start of a run.
+pub(crate) fn due_signals<'a, const N: usize>(
+    machine: &mut Machine<N>,
+    signals: &'a [Signal],
+) -> &'a [Signal]
     requires known { AllPass is_signal signals.now }
     requires turn { MaySignal machine.old }
     ensures rest { AllPass is_signal result.now }
@@ -50,15 +106,6 @@ fn due_signals<'a, const N: usize>(machine: &mut Machine<N>, signals: &'a [Signa
         rest = after;
     }
     rest
-}
-
-// The signals that are due come.
-pub(crate) fn take_due_signals<const N: usize>(driven: &mut Driven<N>)
-    requires { MaySignal driven.old.machine }
-    ensures { driven.new ≡ with_scene driven.old
-        (with_due_signals driven.old.machine.state driven.old.signals driven.old.cards) }
-{
-    driven.signals = due_signals(&mut driven.machine, driven.signals);
 }
 
 // What is shown of the machine, to which calls within the protocol lead.

@@ -2,19 +2,22 @@
 //! run that tells one after another. `docs/timetable.md` has the rules.
 #![tactic(auto, using(st_bits::specs::Storage::words_of_storage_is))]
 
+pub mod between;
+mod coming;
 mod driven;
 mod leaving;
+mod outside;
 pub mod plain;
 mod progress;
 mod run;
 mod seen;
-mod serving;
 mod ticking;
 mod told;
 mod turn;
 mod waiting;
 
+pub use coming::Coming;
+pub use outside::Outside;
 pub use run::Run;
 pub use seen::Seen;
-pub use serving::{Served, serve};
 pub use told::{RunEvent, TimedRunEvent};

@@ -1,14 +1,47 @@
-//! What comes to a machine that executes one instruction after the other: signals, and whether its
-//! devices have orders.
+//! A machine that executes one instruction after the other: what comes to it from outside, and
+//! whether its devices have orders.
 ghost use Rattle.std.specs.Prelude.{◌≡◌, ℕ, List, is_none};
 ghost use Rattle.std.specs.List.{AllPass};
 ghost use Rattle.st_card.specs.Limits.{is_signal};
 ghost use Rattle.st_state.specs.Orders.{is_due as is_due_of};
-ghost use Rattle.st_run.specs.Run.{with_due_signals, with_signals_at_rest};
+ghost use Rattle.st_run.specs.Run.{order_of, with_due_signals, with_signals_at_rest};
 
+use crate::outside::Outside;
 use st_card::Signal;
 use st_exec::is_at_rest;
-use st_state::{State, is_due};
+use st_state::{Device, State, is_due};
+
+impl Outside for State {
+    ghost state = { λ s. s };
+
+    ghost is_open = { λ _. Unit {0} };
+
+    ghost leaves = { λ _ _ _. Unit {0} };
+
+    ghost leaves_same = { λ _. tt };
+
+    ghost stays_open = { λ _ _ _ _ _. tt };
+
+    ghost leaves_both = { λ _ _ _ _ _ _ _ _ _. tt };
+
+    fn state(&self) -> &State {
+        self
+    }
+
+    fn signal(&mut self, indicator: u8) {
+        self.signal(indicator);
+    }
+
+    fn read_in(&mut self, card: Option<[u64; 8]>) {
+        st_exec::read_in(self, card);
+    }
+
+    fn print_out(&mut self) -> [u64; 8] {
+        st_exec::print_out(self)
+    }
+
+    fn rest(&mut self) {}
+}
 
 /// Turns on the signals at the front that are due, and gives those that are still to come.
 pub fn due_signals<'a>(state: &mut State, signals: &'a [Signal]) -> &'a [Signal]
@@ -73,4 +106,21 @@ pub fn printer_is_due(state: &State) -> bool
     ensures { result ≡ is_due_of state.now.done state.now.printer }
 {
     is_due(state.printer, state.done)
+}
+
+/// Whether the order of a device is due.
+pub fn is_due_at(state: &State, device: Device) -> bool
+    ensures { result ≡ is_due_of state.now.done (order_of device state.now) }
+{
+    match device {
+        Device::Reader => reader_is_due(state),
+        Device::Printer => printer_is_due(state),
+    }
+}
+
+/// How many instructions are done.
+pub fn done_in(state: &State) -> u64
+    ensures { result ≡ state.now.done }
+{
+    state.done
 }

@@ -117,7 +117,7 @@ fn count_of<const N: usize>(driven: &Driven<N>, done: u64, left: u64) -> u64
     ensures left { result ≤ done + left + 1 }
     ensures signal { (d : ℕ) → d < result → signal_due d driven.now.signals ≡ false }
 {
-    count_before(driven.signals, done, left)
+    count_before(driven.coming.signals(), done, left)
 }
 
 // The same by the signals that are still to come.

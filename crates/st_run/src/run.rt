@@ -9,7 +9,8 @@ ghost use Rattle.st_run.specs.Told.{told_of_events as told_events};
 ghost use Rattle.st_run.specs.TimedRun.{timed_run};
 ghost use Rattle.st_run.specs.Telling.{what_told, AreLeftOut, AreLevelsShown};
 
-use crate::driven::{Driven, take_due_signals, view_of};
+use crate::coming::Coming;
+use crate::driven::{Driven, due_signals, view_of};
 use crate::progress::{Progress, pass_entries, tell_next};
 use crate::seen::Seen;
 use crate::told::TimedRunEvent;
@@ -86,19 +87,18 @@ impl<'a, const N: usize> Run<'a, N> {
     {
         state.shape();
         delays.shape();
-        let mut driven = Driven {
-            machine: Machine::new(state, delays),
-            signals,
-            cards,
-        };
-        take_due_signals(&mut driven);
+        let mut machine = Machine::new(state, delays);
+        let rest = due_signals(&mut machine, signals);
+        let coming = Coming::new(rest, cards);
+        let driven = Driven { machine, coming };
+        let waiting = Waiting::new();
         Run {
             progress: Progress {
                 driven,
                 snaps,
                 left: budget - 1,
                 tick: 0,
-                waiting: Waiting::new(),
+                waiting,
                 printed: ArrayString::new(),
                 turn: Turn::Before,
             },

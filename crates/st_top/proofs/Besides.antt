@@ -1,36 +1,28 @@
 -- A machine beside a run moves as the run does, and steps back give the states before.
-use Rattle.std.proofs.Common.{◌≡◌, ◌≢◌, ◌≤◌, ◌<◌, ℕ, zero, suc, ◌+◌, ◌-◌, List, [], ◌∷◌, ◌++◌, Bool, true, false, nat_le, length, drop, refl, sym, ◌∙◌, ap, subst, arith, get_or-set_other, length-append, if◌then◌else◌}
+use Rattle.std.proofs.Common.{◌≡◌, ◌≢◌, ◌≤◌, ◌<◌, ℕ, zero, suc, ◌+◌, ◌-◌, List, [], ◌∷◌, ◌++◌, true, false, nat_le, length, drop, refl, sym, ◌∙◌, ap, subst, arith, get_or-set_other, length-append}
 use Rattle.std.proofs.lemmas.Bool.Decides.{nat_tests}
 use Rattle.std.proofs.lemmas.List.{length-set, length-drop, drop-append-le}
-use Rattle.std.specs.Prelude.{Option, None, Some, MatchOption, IfSome, is_none, slice_get}
+use Rattle.std.specs.Prelude.{Option, None, Some, MatchOption, IfSome, IsSome, is_some, slice_get}
 use Rattle.circular_buffer.specs.Buffer.{keep_last}
 use Rattle.st_state.specs.Machine.{Machine, IsMachine, word, with_word, state_with_store}
-use Rattle.st_state.specs.Interrupts.{state_with_signal}
-use Rattle.st_state.specs.Orders.{next_device}
 use Rattle.st_state.specs.declared.devices.Order.{Order}
-use Rattle.st_state.specs.declared.devices.Device.{Device}
 use Rattle.st_exch.specs.Reader.{reader_cards, texts_in, behind_statements}
 use Rattle.st_exec.specs.Step.{rests, IsStep}
 use Rattle.st_exec.specs.declared.step.Step.{Step}
 use Rattle.st_exec.specs.declared.step.Step.TheVariants.{Plain, Interrupt, Waits}
-use Rattle.st_exec.specs.Transfer.{all_stored, read_in, printed_out}
-use Rattle.st_card.specs.declared.control_cards.Signal.{Signal}
-use Rattle.st_run.specs.Run.{Scene, with_due_signals, with_signals_at_rest, with_reader, with_printer, if_due, first_card, cards_after, with_due_orders, with_device, with_order_at_rest, with_wait, interlude, uneventful}
+use Rattle.st_exec.specs.Transfer.{all_stored, read_in}
+use Rattle.st_run.specs.Run.{Scene, interlude}
+use Rattle.st_run.specs.Outside.{Coming, scene_at}
 use Rattle.st_exec.proofs.StepLemmas.{step_made}
 use Rattle.st_back.specs.declared.kept.Kept.{Kept}
 use Rattle.st_back.specs.Between.{AreAlikeAbove}
 use Rattle.st_back.specs.Steps.{Steps, none_of, newest_step, IsForth, IsStepKept, IsPut, has_room, states_before}
 use Rattle.st_back.specs.Undone.{step_with_word}
 use Rattle.st_back.proofs.ManyLemmas.{between-states, forth-states}
-use Rattle.st_top.specs.Beside.{Beside, IsFreshStep, HasRoomForCard, IsBesideReady, IsMoved, IsStepped, IsBeside, StandsAtStart}
+use Rattle.st_top.specs.Beside.{Beside, IsFreshStep, HasRoomForCard, IsOpen, IsKept, IsBesideReady, IsMoved, IsStepped, IsBeside, StandsAtStart}
+use Rattle.st_top.specs.declared.past.Noted.{Noted}
 
 -- ---- the words from 32 up
-
-pub alike-same : (s : Machine) → AreAlikeAbove s s
-alike-same s = record { size = refl; words = λ w above. refl }
-
-pub alike-then : (s t u : Machine) → AreAlikeAbove s t → AreAlikeAbove t u → AreAlikeAbove s u
-alike-then s t u h k = record { size = k.size ∙ h.size; words = λ w above. k.words w above ∙ h.words w above }
 
 -- whatever the indicators and the orders become
 pub alike-turned : (s : Machine) (r q : Option Order) (x : ℕ) → AreAlikeAbove s (with_word (record s { reader = r; printer = q }) 11 x)
@@ -39,71 +31,15 @@ alike-turned s r q x = record {
   words = λ w above. get_or-set_other s.words 11 w x 0 (omega arith);
 }
 
-pub alike-signalled : (s : Machine) (i : ℕ) → AreAlikeAbove s (state_with_signal s i)
-alike-signalled s i = alike-turned s s.reader s.printer _
-
-either_alike : (s : Machine) (b : Bool) (c d : Scene) → AreAlikeAbove s c.machine → AreAlikeAbove s d.machine → AreAlikeAbove s (if b then c else d).machine
-either_alike s true c d h k = h
-either_alike s false c d h k = k
-
-pub due-alike : (m : Machine) (xs : List Signal) (cards : List (List ℕ)) → AreAlikeAbove m (with_due_signals m xs cards).machine
-due-alike m [] cards = alike-same m
-due-alike m (x ∷ xs) cards =
-    either_alike m (nat_le x.count m.done) (with_due_signals (state_with_signal m x.indicator) xs cards) (record { machine = m; signals = x ∷ xs; cards = cards })
-    (alike-then m (state_with_signal m x.indicator) _ (alike-signalled m x.indicator) (due-alike (state_with_signal m x.indicator) xs cards)) (alike-same m)
-
-pub rest-alike : (m : Machine) (xs : List Signal) (cards : List (List ℕ)) → AreAlikeAbove m (with_signals_at_rest m xs cards).machine
-rest-alike m [] cards = alike-same m
-rest-alike m (x ∷ xs) cards =
-    either_alike m (rests m) (with_signals_at_rest (state_with_signal m x.indicator) xs cards) (record { machine = m; signals = x ∷ xs; cards = cards })
-    (alike-then m (state_with_signal m x.indicator) _ (alike-signalled m x.indicator) (rest-alike (state_with_signal m x.indicator) xs cards)) (alike-same m)
-
--- ---- the reader's order
-
-either_reader : (o : Option Order) (b : Bool) (c d : Scene) → c.machine.reader ≡ o → d.machine.reader ≡ o → (if b then c else d).machine.reader ≡ o
-either_reader o true c d h k = h
-either_reader o false c d h k = k
-
-pub due-reader : (m : Machine) (xs : List Signal) (cards : List (List ℕ)) → (with_due_signals m xs cards).machine.reader ≡ m.reader
-due-reader m [] cards = refl
-due-reader m (x ∷ xs) cards =
-    either_reader m.reader (nat_le x.count m.done) (with_due_signals (state_with_signal m x.indicator) xs cards) (record { machine = m; signals = x ∷ xs; cards = cards })
-    (due-reader (state_with_signal m x.indicator) xs cards) refl
-
-pub rest-reader : (m : Machine) (xs : List Signal) (cards : List (List ℕ)) → (with_signals_at_rest m xs cards).machine.reader ≡ m.reader
-rest-reader m [] cards = refl
-rest-reader m (x ∷ xs) cards =
-    either_reader m.reader (rests m) (with_signals_at_rest (state_with_signal m x.indicator) xs cards) (record { machine = m; signals = x ∷ xs; cards = cards })
-    (rest-reader (state_with_signal m x.indicator) xs cards) refl
-
 -- ---- moving without a step
 
 pub room_same : (o q : Option Order) (ks : List Kept) → q ≡ o → HasRoomForCard o ks → HasRoomForCard q ks
 room_same o q ks e h = subst (λ r. HasRoomForCard r ks) (sym e) h
 
-pub moved_same : (b : Beside) → IsBesideReady b → IsMoved b b b.0
-moved_same b h = record { ready = h; scene = refl; depth = refl; states = refl }
-
-pub moved_then : (a b d : Beside) (c e : Scene) → IsMoved a b c → IsMoved b d e → IsMoved a d e
-moved_then a b d c e h k = record { ready = k.ready; scene = k.scene; depth = k.depth ∙ h.depth; states = k.states ∙ h.states }
-
-pub moved_is : (a b : Beside) (c e : Scene) → c ≡ e → IsMoved a b c → IsMoved a b e
-moved_is a b c e same h = record { ready = h.ready; scene = h.scene ∙ same; depth = h.depth; states = h.states }
-
--- by any other name of the scene
-pub moved_to : (a b : Beside) (c e : Scene) → IsMoved a b c → b.0 ≡ e → IsMoved a b e
-moved_to a b c e h same = record { ready = h.ready; scene = same; depth = h.depth; states = h.states }
-
--- to a scene whose machine has the same words from 32 up and the same order of the reader
-pub moved_alike : (k : Steps) (b c e : Scene) → IsBesideReady (b, k) → IsMachine b.machine → AreAlikeAbove b.machine e.machine → e.machine.reader ≡ b.machine.reader → c ≡ e → IsMoved (b, k) (c, k) e
-moved_alike k b c e h m alike reader same =
-    let moved : IsMoved (b, k) (e, k) e = record {
-      ready = record { some = h.some; few = h.few; room = room_same b.machine.reader e.machine.reader k.kept reader h.room };
-      scene = refl;
-      depth = refl;
-      states = between-states k.kept b.machine e.machine m alike;
-    } in
-    subst (λ (d : Scene). IsMoved (b, k) (d, k) e) (sym same) moved
+-- what comes between two steps
+pub moved_between : (m n : Noted) (x y : Coming) → IsOpen m → scene_at n.state y ≡ (interlude (scene_at m.state x)).scene
+    → IsKept false m n → IsMoved (scene_at m.state x, m.steps) (scene_at n.state y, n.steps) (interlude (scene_at m.state x)).scene
+moved_between m n x y open_now scene kept = record { ready = kept.2 open_now; scene = scene; depth = kept.0; states = kept.1 }
 
 -- ---- a step
 
@@ -168,32 +104,6 @@ stepped_by old new c d t r h going step forth same =
       states = forth-states old new c.machine t r (not_waits c.machine t r going step) forth;
     } in
     subst (λ (e : Scene). IsStepped (c, old) (e, new)) (sym same) made
-
--- ---- the stages of what comes between
-
-pub due_scenes : (a b c : Scene) → b ≡ (with_reader (if_due a.machine.done a.machine.reader) a).scene → c ≡ (with_printer (if_due b.machine.done b.machine.printer) b).scene → c ≡ (with_due_orders a).scene
-unfolding with_due_orders
-due_scenes a b c h k = k ∙ ap (λ (d : Scene). (with_printer (if_due d.machine.done d.machine.printer) d).scene) h
-
-pub wait_scenes : (a b c d : Scene) → b ≡ (with_order_at_rest a).scene → c ≡ (with_order_at_rest b).scene → d ≡ with_signals_at_rest c.machine c.signals c.cards → d ≡ (with_wait a).scene
-unfolding with_wait
-wait_scenes a b c d h k l =
-    l ∙ (ap (λ (e : Scene). with_signals_at_rest e.machine e.signals e.cards) (k ∙ ap (λ (e : Scene). (with_order_at_rest e).scene) h))
-
-pub settled_scenes : (a b c d : Scene) → b ≡ with_due_signals a.machine a.signals a.cards → c ≡ (with_due_orders b).scene → d ≡ (with_wait c).scene → d ≡ (interlude a).scene
-unfolding interlude
-settled_scenes a b c d h k l =
-    l ∙ (ap (λ (e : Scene). (with_wait e).scene) (k ∙ ap (λ (e : Scene). (with_due_orders e).scene) h))
-
--- where the machine is not at rest nothing happens, else the order of a device takes effect
-pub no_order_at_rest : (c : Scene) → rests c.machine ≡ false → c ≡ (with_order_at_rest c).scene
-unfolding with_order_at_rest
-no_order_at_rest c h = sym (ap (λ b. (if b then with_device (next_device c.machine) c else uneventful c).scene) h)
-
-pub order_at_rest : (c : Scene) (o : Option Device) → rests c.machine ≡ true → next_device c.machine ≡ o → (with_device o c).scene ≡ (with_order_at_rest c).scene
-unfolding with_order_at_rest
-order_at_rest c o h e =
-    ap (λ d. (with_device d c).scene) (sym e) ∙ sym (ap (λ b. (if b then with_device (next_device c.machine) c else uneventful c).scene) h)
 
 -- ---- beside a run
 
@@ -261,28 +171,21 @@ read_in-free : (m : Machine) (w : ℕ) (card : Option (List ℕ)) → (read_in m
 read_in-free m w None = refl
 read_in-free m w (Some card) = all_stored-reader (record m { reader = None }) w card
 
-pub reader_moved : (k l : Steps) (b d : Scene) (o : Option Order) (t : Machine) (card : Option (List ℕ)) (rest : List (List ℕ)) → IsBesideReady (b, k) → is_none o ≡ false → IfSome o (λ order. t ≡ read_in b.machine order.word card) → first_card b.cards ≡ card → cards_after b.cards ≡ rest → l.depth ≡ k.depth → states_before l.kept t ≡ states_before k.kept b.machine → d ≡ record b { machine = t; cards = rest } → IsMoved (b, k) (d, l) (with_reader o b).scene
-reader_moved k l b d None t card rest h some read first after depth states same = absurd (cc)
-reader_moved k l b d (Some order) t card rest h some read first after depth states same =
-    let with_parts : Machine → List (List ℕ) → Scene = λ m cs. record b { machine = m; cards = cs } in
-    let taken : t ≡ read_in b.machine order.word (first_card b.cards) = read ∙ ap (read_in b.machine order.word) (sym first) in
-    let free : t.reader ≡ None = ap (λ (m : Machine). m.reader) read ∙ read_in-free b.machine order.word card in
-    let machine : d.machine ≡ t = ap (λ (e : Scene). e.machine) same in
-    record {
-      ready = record {
-        some = omega (arith, h.some, depth);
-        few = omega (arith, h.few, depth);
-        room = room_same None d.machine.reader l.kept (ap (λ (m : Machine). m.reader) machine ∙ free) tt;
-      };
-      scene = same ∙ (ap (λ m. with_parts m rest) taken ∙ ap (with_parts (read_in b.machine order.word (first_card b.cards))) (sym after));
-      depth = depth;
-      states = ap (states_before l.kept) machine ∙ states;
-    }
-
-pub printer_moved : (k : Steps) (b d : Scene) (o : Option Order) → IsBesideReady (b, k) → IsMachine b.machine → is_none o ≡ false → d ≡ record b { machine = printed_out b.machine } → IsMoved (b, k) (d, k) (with_printer o b).scene
-printer_moved k b d None h m some same = absurd (cc)
-printer_moved k b d (Some order) h m some same =
-    moved_alike k b d (record b { machine = printed_out b.machine }) h m (alike-turned b.machine b.machine.reader None _) refl same
+-- the reader's order has taken effect
+pub read-kept : (o : Option Order) (m n : Noted) (card : Option (List ℕ)) → IsSome o
+    → IfSome o (λ order. n.state ≡ read_in m.state order.word card) → n.steps.depth ≡ m.steps.depth
+    → states_before n.steps.kept n.state ≡ states_before m.steps.kept m.state → IsKept (is_some card) m n
+read-kept None m n card some read depth states = absurd (cc some)
+read-kept (Some order) m n card some read depth states =
+    let free : n.state.reader ≡ None = ap (λ (s : Machine). s.reader) read ∙ read_in-free m.state order.word card in (
+      depth,
+      states,
+      λ now. record {
+        some = omega (arith, now.some, depth);
+        few = omega (arith, now.few, depth);
+        room = room_same None n.state.reader n.steps.kept free tt;
+      },
+    )
 
 -- indicators and orders that come leave the states to which steps lead back
 pub states_beside : (ks : List Kept) (s : Machine) (r q : Option Order) (x : ℕ) → IsMachine s → states_before ks (with_word (record s { reader = r; printer = q }) 11 x) ≡ states_before ks s

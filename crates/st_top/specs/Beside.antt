@@ -1,5 +1,5 @@
 -- A machine beside a run, which makes the same run by itself, and of which the last steps are kept.
-use Rattle.std.specs.Prelude.{◌≡◌, ◌≤◌, ℕ, List, [], ◌∷◌, ◌++◌, length, Option, None, Some, MatchOption}
+use Rattle.std.specs.Prelude.{◌≡◌, ◌≤◌, ℕ, Bool, List, [], ◌∷◌, ◌++◌, length, Option, None, Some, MatchOption}
 use Rattle.circular_buffer.specs.Buffer.{keep_last}
 use Rattle.st_state.specs.Machine.{Machine}
 use Rattle.st_state.specs.declared.devices.Order.{Order}
@@ -7,6 +7,7 @@ use Rattle.st_run.specs.Run.{Scene, scene_after_step, run}
 use Rattle.st_back.specs.declared.kept.Kept.{Kept}
 use Rattle.st_back.specs.Steps.{Steps, newest_step, states_before}
 use Rattle.st_top.specs.StepsBack.{states}
+use Rattle.st_top.specs.declared.past.Noted.{Noted}
 
 -- where it stands, and the steps that can be undone
 abbrev pub Beside : Type 0
@@ -22,11 +23,22 @@ abbrev pub HasRoomForCard : Option Order → List Kept → Type 0
 HasRoomForCard None kept = Unit {0}
 HasRoomForCard (Some order) kept = IsFreshStep kept
 
+-- something may come to a machine whose last steps can be undone
+pub record IsOpen (n : Noted) : Type 0 where
+  pub some : 1 ≤ n.steps.depth
+  pub few : n.steps.depth ≤ 64
+  pub room : HasRoomForCard n.state.reader n.steps.kept
+
+-- steps back give the same states, whatever came to it
+abbrev pub IsKept : Bool → Noted → Noted → Type 0
+IsKept over m n =
+    (n.steps.depth ≡ m.steps.depth) × (states_before n.steps.kept n.state
+    ≡ states_before m.steps.kept m.state)
+    × (IsOpen m → IsOpen n)
+
 -- what it always keeps
-pub record IsBesideReady (b : Beside) : Type 0 where
-  pub some : 1 ≤ b.1.depth
-  pub few : b.1.depth ≤ 64
-  pub room : HasRoomForCard b.0.machine.reader b.1.kept
+abbrev pub IsBesideReady : Beside → Type 0
+IsBesideReady b = IsOpen (record { state = b.0.machine; steps = b.1 })
 
 -- it moves to a scene without a step, and steps back give the same states
 pub record IsMoved (old new : Beside) (c : Scene) : Type 0 where

@@ -3,6 +3,7 @@ pub mod CommandLine
 pub mod Report
 pub mod StepsBack
 pub mod Beside
+pub mod BesideLaws
 pub mod Listing
 pub mod ObjectText
 pub mod Sweep

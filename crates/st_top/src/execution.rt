@@ -45,7 +45,6 @@ use crate::listing::write_front;
 use crate::moment::Moment;
 use crate::past::Past;
 use crate::reporting::{LEVELS, budget, write_report};
-use crate::scene::Scene;
 use st_asm::Assembled;
 use st_back::Back;
 use st_banks::Delays;
@@ -181,7 +180,7 @@ fn beside<'a>(
     let machine = State::new(alloc, image, start)?;
     let hopper = Hopper::of_cards(alloc, job, cards)?;
     let steps = Back::new(alloc, depth)?;
-    Ok(Some((Scene::new(machine, signals(controls), hopper), steps)))
+    Ok(Some(Past::new(machine, signals(controls), hopper, steps)))
 }
 
 // A run that is ready to be told, and the machine beside it, where steps back are asked for.

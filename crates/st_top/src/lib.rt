@@ -15,7 +15,6 @@ mod past;
 mod program;
 mod refusal;
 mod reporting;
-mod scene;
 mod sweeping;
 mod telling;
 

@@ -24,15 +24,72 @@ ghost use Rattle.st_exec.specs.Step.{rests};
 ghost use Rattle.st_back.specs.Steps.{states_before};
 ghost use Rattle.st_top.specs.Beside.{IsFreshStep, IsBesideReady, IsMoved, IsStepped, IsBeside, HasMadeRun, StandsAtStart, StandsAtEnd};
 
-use crate::scene::{Scene, take_due_signals, take_signals_at_rest};
 use st_back::Back;
 use st_bits::indicators::{END_EXCEPTION, END_OF_OPERATION};
-use st_exec::{is_at_rest, print_out};
-use st_run::plain::{printer_is_due, printer_is_free, reader_is_due, reader_is_free};
-use st_state::{Device, State};
+use st_card::Signal;
+use st_exch::Hopper;
+use st_exec::is_at_rest;
+use st_run::between::between;
+use st_run::{Coming, Outside};
+use st_state::State;
+use std::marker::Model;
 
-/// A machine beside a run, and its last steps, which can be undone.
-pub type Past<'a> = (Scene<'a>, Back);
+/// A machine, and its last steps, which can be undone.
+#[derive(Drop)]
+pub struct Noted {
+    pub state: State,
+    pub steps: Back,
+}
+
+/// A machine beside a run, and what is still to come to it.
+#[derive(Drop)]
+pub struct Past<'a> {
+    noted: Noted,
+    coming: Coming<'a>,
+}
+
+impl<'a> Model for Past<'a> {
+    ghost use Rattle.st_top.specs.Beside.{Beside};
+
+    ghost Value = { Beside };
+
+    ghost view = { λ p. (
+      record {
+        machine = p.noted.state;
+        signals = p.coming.signals;
+        cards = p.coming.cards;
+      },
+      p.noted.steps,
+    ) };
+}
+
+impl<'a> Past<'a> {
+    ghost use Rattle.std.specs.List.{AllPass};
+    ghost use Rattle.st_card.specs.Limits.{is_signal};
+
+    /// A machine, what comes to it, and the steps of it that are kept.
+    pub fn new(state: State, signals: &'a [Signal], cards: Hopper, steps: Back) -> Past<'a>
+        requires { AllPass is_signal signals.now }
+        ensures scene { result.0 ≡ record {
+          machine = state;
+          signals = signals.now;
+          cards = cards;
+        } }
+        ensures steps { result.1 ≡ steps }
+    {
+        Past {
+            noted: Noted { state, steps },
+            coming: Coming::new(signals, cards),
+        }
+    }
+
+    /// The state in which it stands.
+    pub fn state(&self) -> &State
+        ensures { result.now ≡ self.now.0.machine }
+    {
+        &self.noted.state
+    }
+}
 
 // Puts the words of a card into the eight words from the word address `w` on, each noted with the
 // newest step.
@@ -74,161 +131,88 @@ fn read_noted(steps: &mut Back, machine: &mut State, card: Option<[u64; 8]>)
     machine.signal(END_OF_OPERATION);
 }
 
-// The signals that are due come.
-fn move_by_due_signals(scene: &mut Scene, steps: &Back)
-    requires { IsBesideReady (scene.old, steps.now) }
-    ensures { IsMoved (scene.old, steps.now) (scene.new, steps.now)
-        (run.with_due_signals scene.old.machine scene.old.signals scene.old.cards) }
-{
-    scene.machine.shape();
-    take_due_signals(scene);
-}
+impl Outside for Noted {
+    ghost use Rattle.std.specs.Prelude.{refl};
+    ghost use Rattle.st_top.specs.Beside.{IsOpen, IsKept};
+    ghost use Rattle.st_top.specs.BesideLaws.{kept-both};
 
-// Signals come as long as the machine is at rest.
-fn move_by_signals_at_rest(scene: &mut Scene, steps: &Back)
-    requires { IsBesideReady (scene.old, steps.now) }
-    ensures { IsMoved (scene.old, steps.now) (scene.new, steps.now)
-        (run.with_signals_at_rest scene.old.machine scene.old.signals scene.old.cards) }
-{
-    scene.machine.shape();
-    take_signals_at_rest(scene);
-}
+    ghost state = { λ n. n.state };
 
-// The reader's order takes effect, if it has one.
-fn serve_reader(scene: &mut Scene, steps: &mut Back)
-    requires { IsBesideReady (scene.old, steps.old) }
-    ensures { IsMoved (scene.old, steps.old) (scene.new, steps.new)
-        (run.with_reader scene.old.machine.reader scene.old).scene }
-{
-    if reader_is_free(&scene.machine) {
-        return;
+    ghost is_open = { IsOpen };
+
+    ghost leaves = { IsKept };
+
+    ghost leaves_same = { λ _. (refl, refl, λ now. now) };
+
+    ghost stays_open = { λ _ _ _ kept now. kept.2 now };
+
+    ghost leaves_both = { kept-both };
+
+    fn state(&self) -> &State {
+        &self.state
     }
-    let card = scene.cards.next();
-    read_noted(steps, &mut scene.machine, card);
-}
 
-// The printer's order takes effect, if it has one. Nothing is printed.
-fn serve_printer(scene: &mut Scene, steps: &Back)
-    requires { IsBesideReady (scene.old, steps.now) }
-    ensures { IsMoved (scene.old, steps.now) (scene.new, steps.now)
-        (run.with_printer scene.old.machine.printer scene.old).scene }
-{
-    if printer_is_free(&scene.machine) {
-        return;
+    fn signal(&mut self, indicator: u8) {
+        self.state.shape();
+        self.state.signal(indicator);
     }
-    scene.machine.shape();
-    print_out(&mut scene.machine);
-}
 
-// The reader's order takes effect, if it is due.
-fn serve_due_reader(scene: &mut Scene, steps: &mut Back)
-    requires { IsBesideReady (scene.old, steps.old) }
-    ensures { IsMoved (scene.old, steps.old) (scene.new, steps.new)
-        (run.with_reader (run.if_due scene.old.machine.done scene.old.machine.reader)
-        scene.old).scene }
-{
-    if reader_is_due(&scene.machine) {
-        serve_reader(scene, steps);
+    fn read_in(&mut self, card: Option<[u64; 8]>) {
+        read_noted(&mut self.steps, &mut self.state, card);
     }
-}
 
-// The printer's order takes effect, if it is due.
-fn serve_due_printer(scene: &mut Scene, steps: &Back)
-    requires { IsBesideReady (scene.old, steps.now) }
-    ensures { IsMoved (scene.old, steps.now) (scene.new, steps.now)
-        (run.with_printer (run.if_due scene.old.machine.done scene.old.machine.printer)
-        scene.old).scene }
-{
-    if printer_is_due(&scene.machine) {
-        serve_printer(scene, steps);
+    fn print_out(&mut self) -> [u64; 8] {
+        self.state.shape();
+        st_exec::print_out(&mut self.state)
     }
-}
 
-// The orders that are due take effect, the reader's first.
-fn serve_due(scene: &mut Scene, steps: &mut Back)
-    requires { IsBesideReady (scene.old, steps.old) }
-    ensures { IsMoved (scene.old, steps.old) (scene.new, steps.new)
-        (run.with_due_orders scene.old).scene }
-{
-    serve_due_reader(scene, steps);
-    serve_due_printer(scene, steps);
-}
-
-// The order that is due earliest takes effect, if the machine is at rest.
-fn serve_at_rest(scene: &mut Scene, steps: &mut Back)
-    requires { IsBesideReady (scene.old, steps.old) }
-    ensures { IsMoved (scene.old, steps.old) (scene.new, steps.new)
-        (run.with_order_at_rest scene.old).scene }
-{
-    if !is_at_rest(&scene.machine) {
-        return;
-    }
-    match scene.machine.next_device() {
-        None => {}
-        Some(Device::Reader) => serve_reader(scene, steps),
-        Some(Device::Printer) => serve_printer(scene, steps),
-    }
-}
-
-// What ends a wait comes: orders, then signals.
-fn end_wait(scene: &mut Scene, steps: &mut Back)
-    requires { IsBesideReady (scene.old, steps.old) }
-    ensures { IsMoved (scene.old, steps.old) (scene.new, steps.new)
-        (run.with_wait scene.old).scene }
-{
-    serve_at_rest(scene, steps);
-    serve_at_rest(scene, steps);
-    move_by_signals_at_rest(scene, steps);
+    fn rest(&mut self) {}
 }
 
 // What comes between two steps: signals and orders that are due, and what ends a wait. Nothing is
 // printed.
-fn settle(scene: &mut Scene, steps: &mut Back)
-    requires { IsBesideReady (scene.old, steps.old) }
-    ensures { IsMoved (scene.old, steps.old) (scene.new, steps.new)
-        (run.interlude scene.old).scene }
+fn settle(past: &mut Past)
+    requires { IsBesideReady past.old }
+    ensures { IsMoved past.old past.new (run.interlude past.old.0).scene }
 {
-    move_by_due_signals(scene, steps);
-    serve_due(scene, steps);
-    end_wait(scene, steps);
+    between(&mut past.noted, &mut past.coming);
 }
 
 // Makes the next step of a machine that is not at rest.
-fn step(scene: &mut Scene, steps: &mut Back)
-    requires few { scene.old.machine.done < 2 ^ 63 }
-    requires ready { IsBesideReady (scene.old, steps.old) }
-    ensures { rests scene.old.machine ≡ false
-        → IsStepped (scene.old, steps.old) (scene.new, steps.new) }
+fn step(past: &mut Past)
+    requires few { past.old.0.machine.done < 2 ^ 63 }
+    requires ready { IsBesideReady past.old }
+    ensures { rests past.old.0.machine ≡ false → IsStepped past.old past.new }
 {
-    steps.forth(&mut scene.machine);
+    past.noted.steps.forth(&mut past.noted.state);
 }
 
 // Whether the machine waits and nothing is pending that would end it.
-fn is_resting(scene: &Scene) -> bool
-    ensures { result ≡ rests scene.now.machine }
+fn is_resting(past: &Past) -> bool
+    ensures { result ≡ rests past.now.0.machine }
 {
-    is_at_rest(&scene.machine)
+    is_at_rest(&past.noted.state)
 }
 
 // Makes the run to its end, at rest or with the budget used up.
-fn run_to_end(scene: &mut Scene, steps: &mut Back, budget: u64)
-    requires fresh { scene.old.machine.done ≡ 0 }
+fn run_to_end(past: &mut Past, budget: u64)
+    requires fresh { past.old.0.machine.done ≡ 0 }
     requires limit { budget ≤ MOST_INSTRUCTIONS }
-    requires ready { IsBesideReady (scene.old, steps.old) }
-    ensures end { (depth : ℕ) → IsBeside depth (scene.old, steps.old) []
-        → HasMadeRun depth budget scene.old (scene.new, steps.new) }
-    ensures ready { IsBesideReady (scene.new, steps.new) }
+    requires ready { IsBesideReady past.old }
+    ensures end { (depth : ℕ) → IsBeside depth past.old [] →
+        HasMadeRun depth budget past.old.0 past.new }
+    ensures ready { IsBesideReady past.new }
 {
     let mut left = budget;
     'running: loop {
-        settle(scene, steps);
-        if is_resting(scene) {
+        settle(past);
+        if is_resting(past) {
             return;
         }
         if left == 0 {
             return;
         }
-        step(scene, steps);
+        step(past);
         left -= 1;
     }
 }
@@ -243,7 +227,7 @@ pub fn run_beside(past: &mut Option<Past>, budget: u64)
     ensures ready { IfSome past.new IsBesideReady }
 {
     if let Some(past) = past.as_mut() {
-        run_to_end(&mut past.0, &mut past.1, budget);
+        run_to_end(past, budget);
     }
 }
 
@@ -259,13 +243,13 @@ fn undo_all(steps: &mut Back, machine: &mut State)
 }
 
 /// Undoes all steps that are kept, and tells how many they were.
-pub fn rewind(scene: &mut Scene, steps: &mut Back) -> u8
-    requires { IsBesideReady (scene.old, steps.old) }
-    ensures count { result ≡ length steps.old.kept }
-    ensures state { scene.new.machine ∷ [] ≡ take 1
-        (states_before steps.old.kept scene.old.machine ++ scene.old.machine ∷ []) }
+pub fn rewind(past: &mut Past) -> u8
+    requires { IsBesideReady past.old }
+    ensures count { result ≡ length past.old.1.kept }
+    ensures state { past.new.0.machine ∷ [] ≡ take 1
+        (states_before past.old.1.kept past.old.0.machine ++ past.old.0.machine ∷ []) }
 {
-    let count = steps.len() as u8;
-    undo_all(steps, &mut scene.machine);
+    let count = past.noted.steps.len() as u8;
+    undo_all(&mut past.noted.steps, &mut past.noted.state);
     count
 }

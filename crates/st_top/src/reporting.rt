@@ -64,9 +64,8 @@ fn write_back<K: Sink>(
     let Some(past) = past.as_mut() else {
         return Ok(());
     };
-    let steps = rewind(&mut past.0, &mut past.1);
-    let scene = &past.0;
-    write_before(out, steps, &scene.machine, controls)
+    let steps = rewind(past);
+    write_before(out, steps, past.state(), controls)
 }
 
 /// The most instructions of a run.

@@ -1,8 +1,10 @@
 use Rattle.std.proofs.Common.{sym, subst, ◌∙◌, ap}
 use Rattle.st_exec.specs.Step.{rests}
+use Rattle.st_ahead.specs.Overlap.{Overlap}
 use Rattle.st_ahead.specs.Calls.{MayServe}
+use Rattle.st_refine.specs.Reached.{IsLed}
 use Rattle.st_run.specs.Together.{Together}
-use Rattle.st_run.proofs.LedLemmas.{settled-driven, stopped-driven}
+use Rattle.st_run.proofs.LedLemmas.{settle-led, stop-led}
 use Rattle.st_run.proofs.ChoiceLemmas.{chosen}
 use Rattle.st_run.proofs.leaving.decide.Goals as goal
 
@@ -15,12 +17,10 @@ returns-clause-choice g c =
 
 pub invariant_of-driven : goal.invariant_of-driven
 invariant_of-driven g c =
-    let i = c.driven.inside in
     let may = subst (λ (t : Together). MayServe t.machine) (sym c.driven.view_is) c.requires in
-    stopped-driven i.machine i.signals.now i.cards c.driven.invariant c.stop.new.self may c.stop.ensures.after
+    subst {A = Overlap} IsLed (sym c.stop.ensures.after) (stop-led c.driven.inside.machine may c.driven.invariant)
 
 pub invariant_of-driven-2 : goal.invariant_of-driven-2
 invariant_of-driven-2 g c =
-    let i = c.driven.inside in
     let may = subst (λ (t : Together). MayServe t.machine) (sym c.driven.view_is) c.requires in
-    settled-driven i.machine i.signals.now i.cards c.driven.invariant c.settle.new.self may.0 may.2 c.settle.ensures.after
+    subst {A = Overlap} IsLed (sym c.settle.ensures.after) (settle-led c.driven.inside.machine may.0 may.2 c.driven.invariant)

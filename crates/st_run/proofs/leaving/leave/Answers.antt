@@ -1,21 +1,42 @@
-use Rattle.std.proofs.Common.{ap}
+use Rattle.std.proofs.Common.{ap, arith, sym, subst, ◌∙◌}
 use Rattle.std.specs.Prelude.{option_map}
+use Rattle.st_run.specs.Together.{Together, IsBehindEntry}
 use Rattle.st_run.proofs.ChoiceLemmas.{decided}
+use Rattle.st_run.proofs.InterludeLemmas.{come-between, with_coming}
 use Rattle.st_run.proofs.PartLemmas.{left-parts}
 use Rattle.st_run.proofs.leaving.leave.Goals as goal
 
+pub between-came-requires : goal.between-came-requires
+between-came-requires g c =
+    let is = subst {A = Together} IsBehindEntry (sym c.driven.view_is) c.requires in
+    (is.owed, is.done, is.stands)
+
+pub decide-requires : goal.decide-requires
+decide-requires g c =
+    let is = subst {A = Together} IsBehindEntry (sym c.driven.view_is) c.requires in
+    (omega arith, c.between-came.ensures.rest.serves (is.owed, is.done, is.stands))
+
 pub returns-clause-decided : goal.returns-clause-decided
 returns-clause-decided g c =
-    decided c.args.driven.now c.come-over.new.driven _ c.come-over.result.0 c.requires c.come-over.ensures.came c.come-over.ensures.over
-    c.args.left c.decide.result c.decide.new.driven c.decide.ensures.rest (ap (option_map (λ x. x.bytes)) c.decide.ensures.text)
-    c.decide.ensures.choice
+    let came = come-between c.args.driven.now c.driven.inside.machine c.between-came.new.machine c.driven.inside.coming
+    c.between-came.new.coming c.between-came.result c.is_over.result c.driven.view_is c.requires c.between-came.ensures c.is_over.ensures in
+    decided c.args.driven.now (with_coming c.between-came.new.machine c.between-came.new.coming) _ c.is_over.result c.requires came
+    c.args.left c.decide.result c.decide.new.driven c.decide.ensures.rest
+    (ap (option_map (λ x. x.bytes)) c.decide.ensures.text ∙ c.text_of.ensures) c.decide.ensures.choice
 
 pub returns-clause-delays : goal.returns-clause-delays
 returns-clause-delays g c =
-    (left-parts c.args.driven.now c.come-over.new.driven c.decide.new.driven _ c.come-over.result.0 c.args.left c.decide.result c.requires
-    c.come-over.ensures.came c.decide.ensures.choice).delays
+    let came = come-between c.args.driven.now c.driven.inside.machine c.between-came.new.machine c.driven.inside.coming
+    c.between-came.new.coming c.between-came.result c.is_over.result c.driven.view_is c.requires c.between-came.ensures c.is_over.ensures in
+    (left-parts c.args.driven.now.machine c.between-came.new.machine c.decide.new.driven.machine c.is_over.result c.args.left
+    c.decide.result came.since c.decide.ensures.choice).delays
 
 pub returns-clause-levels : goal.returns-clause-levels
 returns-clause-levels g c =
-    (left-parts c.args.driven.now c.come-over.new.driven c.decide.new.driven _ c.come-over.result.0 c.args.left c.decide.result c.requires
-    c.come-over.ensures.came c.decide.ensures.choice).levels
+    let came = come-between c.args.driven.now c.driven.inside.machine c.between-came.new.machine c.driven.inside.coming
+    c.between-came.new.coming c.between-came.result c.is_over.result c.driven.view_is c.requires c.between-came.ensures c.is_over.ensures in
+    (left-parts c.args.driven.now.machine c.between-came.new.machine c.decide.new.driven.machine c.is_over.result c.args.left
+    c.decide.result came.since c.decide.ensures.choice).levels
+
+pub invariant_of-driven : goal.invariant_of-driven
+invariant_of-driven g c = c.between-came.ensures.rest.led c.driven.invariant

@@ -2,31 +2,36 @@ use Rattle.std.proofs.Common.{◌≡◌, true, false, sym, subst, ◌∙◌, ap}
 use Rattle.st_state.specs.Machine.{Machine}
 use Rattle.st_run.specs.Between.{signal_due}
 use Rattle.st_run.specs.Together.{Together}
-use Rattle.st_run.proofs.LedLemmas.{passed-driven}
-use Rattle.st_run.proofs.QuietLemmas.{passed-decided, passed-parts}
+use Rattle.st_ahead.specs.Overlap.{Overlap}
+use Rattle.st_refine.specs.Reached.{IsLed}
+use Rattle.st_run.proofs.LedLemmas.{settle-led}
+use Rattle.st_run.proofs.QuietLemmas.{passed-decided, passed-parts, quiet-settled}
 use Rattle.st_run.proofs.leaving.pass_on.Goals as goal
 
 pub returns-clause-decided : goal.returns-clause-decided
 returns-clause-decided g c passed =
     passed-decided c.args.left c.args.driven.now c.driven.inside.machine c.go_on.new.self _ _ c.driven.view_is c.requires c.if-left-eq0.false
-    (ap (λ (s : Machine). signal_due s.done c.driven.inside.signals.now) (sym c.state.ensures) ∙ sym c.signal_is_due.ensures ∙ c.if-signal_is_due.false)
+    (ap (λ (s : Machine). signal_due s.done c.driven.inside.coming.signals) (sym c.state.ensures)
+    ∙ ap (signal_due c.state.result.now.done) (sym c.signals.ensures) ∙ sym c.signal_is_due.ensures ∙ c.if-signal_is_due.false)
     (c.is_quiet.ensures c.if-not-is_quiet.false) c.go_on.ensures
 
 pub returns-clause-delays : goal.returns-clause-delays
 returns-clause-delays g c =
     (passed-parts c.args.left c.args.driven.now c.driven.inside.machine c.go_on.new.self _ _ c.driven.view_is c.requires c.if-left-eq0.false
-    (ap (λ (s : Machine). signal_due s.done c.driven.inside.signals.now) (sym c.state.ensures) ∙ sym c.signal_is_due.ensures ∙ c.if-signal_is_due.false)
+    (ap (λ (s : Machine). signal_due s.done c.driven.inside.coming.signals) (sym c.state.ensures)
+    ∙ ap (signal_due c.state.result.now.done) (sym c.signals.ensures) ∙ sym c.signal_is_due.ensures ∙ c.if-signal_is_due.false)
     (c.is_quiet.ensures c.if-not-is_quiet.false) c.go_on.ensures).delays
 
 pub returns-clause-levels : goal.returns-clause-levels
 returns-clause-levels g c =
     (passed-parts c.args.left c.args.driven.now c.driven.inside.machine c.go_on.new.self _ _ c.driven.view_is c.requires c.if-left-eq0.false
-    (ap (λ (s : Machine). signal_due s.done c.driven.inside.signals.now) (sym c.state.ensures) ∙ sym c.signal_is_due.ensures ∙ c.if-signal_is_due.false)
+    (ap (λ (s : Machine). signal_due s.done c.driven.inside.coming.signals) (sym c.state.ensures)
+    ∙ ap (signal_due c.state.result.now.done) (sym c.signals.ensures) ∙ sym c.signal_is_due.ensures ∙ c.if-signal_is_due.false)
     (c.is_quiet.ensures c.if-not-is_quiet.false) c.go_on.ensures).levels
 
 pub invariant_of-driven : goal.invariant_of-driven
 invariant_of-driven g c =
-    let i = c.driven.inside in
-    passed-driven i.machine i.signals.now i.cards c.driven.invariant c.go_on.new.self
-    (subst (λ (t : Together). t.machine.owed ≡ true) (sym c.driven.view_is) c.requires.owed)
-    (subst (λ (t : Together). t.machine.stopped ≡ false) (sym c.driven.view_is) c.requires.stands) (c.is_quiet.ensures c.if-not-is_quiet.false) c.go_on.ensures
+    let m = c.driven.inside.machine in
+    subst {A = Overlap} IsLed (sym (c.go_on.ensures ∙ quiet-settled m (c.is_quiet.ensures c.if-not-is_quiet.false)))
+    (settle-led m (subst (λ (t : Together). t.machine.owed ≡ true) (sym c.driven.view_is) c.requires.owed)
+    (subst (λ (t : Together). t.machine.stopped ≡ false) (sym c.driven.view_is) c.requires.stands) c.driven.invariant)

@@ -1,11 +1,10 @@
 use Rattle.std.proofs.Common.{◌≡◌, ◌-◌, ◌<◌, ◌^◌, false, sym, subst, arith}
 use Rattle.st_run.specs.Together.{Together}
-use Rattle.st_run.proofs.LedLemmas.{ran-driven}
+use Rattle.st_run.proofs.LedLemmas.{run-led}
 use Rattle.st_run.proofs.ticking.run_many.Goals as goal
 
 pub invariant_of-driven : goal.invariant_of-driven
 invariant_of-driven g c =
-    let i = c.driven.inside in
-    ran-driven i.machine i.signals.now i.cards c.driven.invariant c.args.count (2 ^ 63 - 1) c.run_to.result c.run_to.new.self
+    run-led c.args.count (2 ^ 63 - 1) c.run_to.result c.driven.inside.machine c.run_to.new.self
     (subst (λ (t : Together). t.machine.owed ≡ false) (sym c.driven.view_is) c.requires.before.settled)
-    (subst (λ (t : Together). t.machine.state.done < 2 ^ 63) (sym c.driven.view_is) c.requires.few) c.requires.count (omega arith) c.run_to.ensures
+    (subst (λ (t : Together). t.machine.state.done < 2 ^ 63) (sym c.driven.view_is) c.requires.few) c.requires.count (omega arith) c.run_to.ensures c.driven.invariant

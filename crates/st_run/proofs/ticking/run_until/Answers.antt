@@ -1,7 +1,7 @@
 use Rattle.st_run.proofs.TickLemmas.{made-until}
 use Rattle.std.proofs.Common.{◌≡◌, ◌<◌, ◌^◌, false, sym, subst, arith}
 use Rattle.st_run.specs.Together.{Together}
-use Rattle.st_run.proofs.LedLemmas.{ran-driven, last-soon}
+use Rattle.st_run.proofs.LedLemmas.{run-led, last-soon}
 use Rattle.st_run.proofs.ticking.run_until.Goals as goal
 
 pub returns : goal.returns
@@ -11,8 +11,7 @@ returns g c =
 
 pub invariant_of-driven : goal.invariant_of-driven
 invariant_of-driven g c =
-    let i = c.driven.inside in
-    ran-driven i.machine i.signals.now i.cards c.driven.invariant 0 c.last_of.result c.run_to.result c.run_to.new.self
+    run-led 0 c.last_of.result c.run_to.result c.driven.inside.machine c.run_to.new.self
     (subst (λ (t : Together). t.machine.owed ≡ false) (sym c.driven.view_is) c.requires.before.settled)
     (subst (λ (t : Together). t.machine.state.done < 2 ^ 63) (sym c.driven.view_is) c.requires.few) (omega arith)
-    (last-soon c.args.snap c.last_of.result c.last_of.ensures) c.run_to.ensures
+    (last-soon c.args.snap c.last_of.result c.last_of.ensures) c.run_to.ensures c.driven.invariant

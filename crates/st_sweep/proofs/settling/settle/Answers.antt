@@ -1,17 +1,18 @@
-use Rattle.std.proofs.Common.{sym, ◌∙◌, ap, []}
+use Rattle.std.proofs.Common.{ℕ, List, sym, ◌∙◌, ap}
 use Rattle.std.specs.Prelude.{◌||◌, not}
-use Rattle.st_exec.specs.Step.{rests}
-use Rattle.st_sweep.proofs.Stages.{settled-stages, quiet-stages}
+use Rattle.st_run.specs.Outside.{Coming}
+use Rattle.st_sweep.proofs.Stages.{settled-scene, settled-quiet}
 use Rattle.st_sweep.proofs.settling.settle.Goals as goal
 
 pub returns-clause-came : goal.returns-clause-came
 returns-clause-came c =
-    let ys = c.due_signals-due.result.now in
-    settled-stages _ _ _ _ _ ys _ (c.due_signals-due.ensures.came []) (c.serve_due.ensures ys) c.end_wait-rest.ensures.came
+    let coming : List (List ℕ) → Coming = λ cards. record { signals = c.args.signals.now; cards = cards } in
+    settled-scene _ _ _ _ _ _ (c.new-coming.ensures ∙ ap coming c.empty.ensures) c.between-came.ensures.scene
+    c.between-came.ensures.fewer c.parts.ensures.signals
 
 pub returns-clause-quiet : goal.returns-clause-quiet
 returns-clause-quiet c =
-    let ys = c.due_signals-due.result.now in
-    c.is_kept.ensures ∙ ap (λ b. b || not c.is_at_rest-waits.result) c.is_at_rest.ensures
-    ∙ ap (λ b. rests c.end_wait-rest.new.state || not b) c.is_at_rest-waits.ensures
-    ∙ sym (quiet-stages _ _ _ _ _ ys _ (c.due_signals-due.ensures.came []) (c.serve_due.ensures ys) c.end_wait-rest.ensures.came)
+    let coming : List (List ℕ) → Coming = λ cards. record { signals = c.args.signals.now; cards = cards } in
+    c.is_kept.ensures ∙ ap (λ b. b || not c.between-came.result.waited) c.is_at_rest.ensures
+    ∙ sym (settled-quiet _ _ _ _ _ _ (c.new-coming.ensures ∙ ap coming c.empty.ensures) c.between-came.ensures.scene
+    c.between-came.ensures.fewer c.parts.ensures.signals _ c.between-came.ensures.wait)

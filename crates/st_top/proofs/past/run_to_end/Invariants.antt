@@ -5,10 +5,10 @@ use Rattle.st_top.proofs.past.run_to_end.Given as goal
 
 abbrev pub invariant-running : goal.invariant-running
 invariant-running l = record {
-  counted : l.scene.machine.done + l.left ≡ l.budget;
-  ready : IsBesideReady (l.scene, l.steps);
-  states : (depth : ℕ) → IsBeside depth (l.fn.scene, l.fn.steps) []
-      → StatesSoFar depth l.budget l.fn.scene l.left (l.scene, l.steps);
+  counted : l.past.0.machine.done + l.left ≡ l.budget;
+  ready : IsBesideReady l.past;
+  states : (depth : ℕ) → IsBeside depth l.fn.past []
+      → StatesSoFar depth l.budget l.fn.past.0 l.left l.past;
 }
 
 abbrev pub decreases-running : goal.decreases-running

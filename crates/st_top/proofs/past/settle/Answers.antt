@@ -1,10 +1,17 @@
-use Rattle.st_top.proofs.Besides.{moved_then, moved_to, settled_scenes}
+use Rattle.std.proofs.Common.{sym, subst}
+use Rattle.st_run.specs.Run.{interlude}
+use Rattle.st_run.specs.Outside.{scene_at}
+use Rattle.st_top.specs.Beside.{Beside, IsBesideReady, IsMoved}
+use Rattle.st_top.proofs.Besides.{moved_between}
 use Rattle.st_top.proofs.past.settle.Goals as goal
+
+pub between-requires : goal.between-requires
+between-requires c = subst {A = Beside} IsBesideReady (sym c.past.view_is) c.requires
 
 pub returns : goal.returns
 returns c =
-    let first = c.move_by_due_signals.ensures in
-    let second = c.serve_due.ensures in
-    let third = c.end_wait.ensures in
-    moved_to _ _ _ _ (moved_then _ _ _ _ _ (moved_then _ _ _ _ _ first second) third)
-    (settled_scenes c.args.scene.now c.move_by_due_signals.new.scene c.serve_due.new.scene _ first.scene second.scene third.scene)
+    let i = c.past.inside in
+    let n = c.between.new.machine in
+    let y = c.between.new.coming in
+    subst {A = Beside} (λ b. IsBesideReady b → IsMoved b (scene_at n.state y, n.steps) (interlude b.0).scene) c.past.view_is
+    (λ ready. moved_between i.noted n i.coming y ready c.between.ensures.scene c.between.ensures.rest) c.requires

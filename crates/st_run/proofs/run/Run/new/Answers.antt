@@ -1,14 +1,16 @@
-use Rattle.std.proofs.Common.{◌-◌, sym, ◌∙◌, ap, subst}
+use Rattle.std.proofs.Common.{◌-◌, sym, ◌∙◌, ap, subst, refl, [], inl}
 use Rattle.st_run.specs.Run.{Scene, with_due_signals}
 use Rattle.st_rows.proofs.Within.{AreDelays-list}
 use Rattle.st_ahead.specs.Overlap.{Overlap}
+use Rattle.st_ahead.specs.Calls.{MaySignal}
 use Rattle.st_run.specs.Scenes.{IsScene}
 use Rattle.st_run.specs.Together.{Together, with_scene}
 use Rattle.st_run.specs.Telling.{Waiting, IsRun, rest_of}
 use Rattle.st_run.specs.declared.turn.Turn.TheVariants as turns
-use Rattle.st_refine.specs.Reached.{CanStart}
-use Rattle.st_run.proofs.LedLemmas.{start-driven}
-use Rattle.st_run.proofs.StartLemmas.{IsIdle, start-run, start-told, none}
+use Rattle.st_refine.specs.Reached.{CanStart, IsLed}
+use Rattle.st_run.proofs.LedLemmas.{start-led, due-led}
+use Rattle.st_run.proofs.StartLemmas.{IsIdle, started, start-run, start-told, none}
+use Rattle.st_run.proofs.InterludeLemmas.{with_coming}
 use Rattle.st_run.proofs.run.Run.new.Goals as goal
 
 pub invariant_of-result : goal.invariant_of-result
@@ -17,10 +19,11 @@ invariant_of-result g c =
     let scene : Scene = record { machine = c.args.state; signals = c.args.signals.now; cards = c.args.cards } in
     let idle : IsIdle c.args.state = record { enabled = r.enabled; waiting = r.waiting; reader = r.reader; printer = r.printer } in
     let is : IsScene scene = record { machine = c.shape.ensures; cards = r.cards } in
-    let same = c.take_due_signals.ensures
+    let same = started c.new-machine.result c.due_signals-rest.new.machine c.args.signals.now c.due_signals-rest.result.now c.args.cards _
+    c.due_signals-rest.ensures.came c.due_signals-rest.ensures.machine c.new-coming.ensures
     ∙ ap {A = Overlap} (λ m. with_scene (record { machine = m; signals = scene.signals; cards = scene.cards })
-    (with_due_signals m.state scene.signals scene.cards)) c.new.ensures in
-    subst {A = Waiting} (λ w. IsRun turns.Before (c.args.budget - 1) 0 c.args.snaps.now w c.take_due_signals.new.driven) (sym c.new-2.ensures)
+    (with_due_signals m.state scene.signals scene.cards)) c.new-machine.ensures in
+    subst {A = Waiting} (λ w. IsRun turns.Before (c.args.budget - 1) 0 c.args.snaps.now w (with_coming c.due_signals-rest.new.machine c.new-coming.result)) (sym c.new-waiting.ensures)
     (subst {A = Together} (λ t. IsRun turns.Before (c.args.budget - 1) 0 c.args.snaps.now none t) (sym same)
     (start-run c.args.delays g.row.N scene idle is c.args.budget c.args.snaps.now r.some r.few (AreDelays-list c.args.delays c.shape-2.ensures)
     r.some_done r.few_done r.done r.snaps))
@@ -31,10 +34,11 @@ returns g c =
     let scene : Scene = record { machine = c.args.state; signals = c.args.signals.now; cards = c.args.cards } in
     let idle : IsIdle c.args.state = record { enabled = r.enabled; waiting = r.waiting; reader = r.reader; printer = r.printer } in
     let is : IsScene scene = record { machine = c.shape.ensures; cards = r.cards } in
-    let same = c.take_due_signals.ensures
+    let same = started c.new-machine.result c.due_signals-rest.new.machine c.args.signals.now c.due_signals-rest.result.now c.args.cards _
+    c.due_signals-rest.ensures.came c.due_signals-rest.ensures.machine c.new-coming.ensures
     ∙ ap {A = Overlap} (λ m. with_scene (record { machine = m; signals = scene.signals; cards = scene.cards })
-    (with_due_signals m.state scene.signals scene.cards)) c.new.ensures in
-    ap {A = Waiting} (λ w. rest_of turns.Before (c.args.budget - 1) 0 c.args.snaps.now w c.take_due_signals.new.driven) c.new-2.ensures
+    (with_due_signals m.state scene.signals scene.cards)) c.new-machine.ensures in
+    ap {A = Waiting} (λ w. rest_of turns.Before (c.args.budget - 1) 0 c.args.snaps.now w (with_coming c.due_signals-rest.new.machine c.new-coming.result)) c.new-waiting.ensures
     ∙ ap {A = Together} (λ t. rest_of turns.Before (c.args.budget - 1) 0 c.args.snaps.now none t) same
     ∙ start-told c.args.delays g.row.N scene idle is c.args.budget c.args.snaps.now r.some_done
 
@@ -49,4 +53,7 @@ invariant_of-driven g c =
       enabled = r.enabled;
       waiting = r.waiting;
     } in
-    start-driven c.args.delays g.row.N c.args.state c.new.result c.args.signals.now c.args.cards can c.new.ensures r.signals r.cards
+    let m = c.new-machine.result in
+    subst {A = Overlap} IsLed (sym (c.due_signals-rest.ensures.machine ∙ sym (ap (λ (d : Scene). record m { state = d.machine }) (c.due_signals-rest.ensures.came []))))
+    (due-led c.args.signals.now m [] r.signals
+    (subst {A = Overlap} MaySignal (sym c.new-machine.ensures) (inl (refl, refl), refl)) (start-led c.args.delays g.row.N c.args.state m can c.new-machine.ensures))

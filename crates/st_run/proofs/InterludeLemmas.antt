@@ -1,0 +1,50 @@
+-- What comes between two entries to an overlapped machine, in one.
+use Rattle.std.proofs.Common.{◌≡◌, ℕ, Bool, true, false, ◌||◌, List, Option, refl, sym, subst, ◌∙◌, ap}
+use Rattle.std.specs.Prelude.{length, nat_lt, option_map}
+use Rattle.st_exch.specs.Printer.{line_of_words}
+use Rattle.st_exec.specs.Step.{rests}
+use Rattle.st_exec.proofs.BesideEntries.{beside-same}
+use Rattle.st_ahead.specs.Overlap.{Overlap}
+use Rattle.st_run.specs.Run.{Scene, interlude, with_due_orders, with_due_signals}
+use Rattle.st_run.specs.Moments.{has_card, has_waited}
+use Rattle.st_run.specs.Together.{Together, scene_of, moment_of, AreTexts, IsBehindEntry, IsSince}
+use Rattle.st_run.specs.Outside.{Coming, Came, scene_at, ends}
+use Rattle.st_run.specs.Overlapped.{IsChanged}
+use Rattle.st_run.specs.declared.between.Interlude.{Interlude}
+use Rattle.st_run.proofs.PrintLemmas.{settled-one}
+
+-- all of it came: the scene, the text that was printed, and whether that has ended the segment
+pub record HasCome (b t : Together) (text : Option (List ℕ)) (over : Bool) : Type 0 where
+  pub scene : scene_of t ≡ (interlude (scene_of b)).scene
+  pub told : AreTexts text (interlude (scene_of b)).happened
+  pub since : IsSince b.machine over t.machine
+  pub ends : over ≡ (has_card (moment_of b) || has_waited (moment_of b))
+
+-- the machine since then, before anything comes
+pub since-none : (o : Overlap) → IsSince o false o
+since-none o = record { machine = refl; alike = λ open_still. beside-same o.state }
+
+or-change : (a b c d : Bool) → a ≡ d → b ≡ c → (a || b) ≡ (c || d)
+or-change true b true d first next = refl
+or-change true b false d first next = first
+or-change false b true d first next = next
+or-change false b false d first next = next ∙ first
+
+abbrev pub with_coming : Overlap → Coming → Together
+with_coming m x = record { machine = m; signals = x.signals; cards = x.cards }
+
+-- it came to the machine and what is to come to it, which stand for the first moment
+pub come-between : (b : Together) (m n : Overlap) (x y : Coming) (i : Interlude) (over : Bool) → with_coming m x ≡ b → IsBehindEntry b
+    → Came (λ (o : Overlap). o.state) IsChanged (interlude (scene_at m.state x))
+    (rests (with_due_orders (with_due_signals m.state x.signals x.cards)).scene.machine) i m x n y
+    → over ≡ ends i → HasCome b (with_coming n y) (option_map line_of_words i.words) over
+come-between b m n x y i over view is came same =
+    subst {A = Together} (λ t. IsBehindEntry t → HasCome t (with_coming n y) (option_map line_of_words i.words) over) view
+    (λ behind. subst {A = Bool} (λ o. HasCome (with_coming m x) (with_coming n y) (option_map line_of_words i.words) o) (sym same)
+    (record {
+      scene = came.scene;
+      told = came.told (settled-one (scene_at m.state x));
+      since = came.rest.since (with_coming m x) false behind (since-none m);
+      ends = or-change i.waited i.card (has_card (moment_of (with_coming m x))) _ came.wait
+          (came.card ∙ ap (λ (c : Scene). nat_lt (length c.cards) (length x.cards)) came.scene);
+    })) is

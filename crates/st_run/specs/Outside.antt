@@ -1,0 +1,71 @@
+-- What comes to a machine from outside between two steps, whatever the machine has beside its plain
+-- state.
+use Rattle.std.specs.Prelude.{ℕ, ◌≡◌, ◌≤◌, ◌||◌, Bool, true, false, nat_lt, nat_le, if◌then◌else◌, List, [], ◌∷◌, length, option_map, Option, None, Some}
+use Rattle.st_card.specs.declared.control_cards.Signal.{Signal}
+use Rattle.st_state.specs.Machine.{Machine}
+use Rattle.st_exch.specs.Printer.{line_of_words}
+use Rattle.st_run.specs.Run.{Scene, Transition}
+use Rattle.st_run.specs.Together.{AreTexts}
+use Rattle.st_run.specs.declared.between.Interlude.{Interlude}
+
+-- what is still to come
+pub record Coming : Type 0 where
+  pub signals : List Signal
+  pub cards : List (List ℕ)
+
+-- the scene of a machine to which it comes
+abbrev pub scene_at : Machine → Coming → Scene
+scene_at s x = record { machine = s; signals = x.signals; cards = x.cards }
+
+-- the indicator of the first signal, where that is due; of any
+abbrev pub due_signal : ℕ → List Signal → Option ℕ
+due_signal done [] = None
+due_signal done (x ∷ xs) = if nat_le x.count done then Some x.indicator else None
+
+abbrev pub first_signal : List Signal → Option ℕ
+first_signal [] = None
+first_signal (x ∷ xs) = Some x.indicator
+
+-- the signals that are left once one was taken, or none
+abbrev pub signals_after : Option ℕ → List Signal → List Signal
+signals_after None xs = xs
+signals_after (Some i) [] = []
+signals_after (Some i) (x ∷ xs) = xs
+
+-- ---- what came
+
+-- of two printed areas the first one
+abbrev pub first_words : Option (List ℕ) → Option (List ℕ) → Option (List ℕ)
+first_words (Some words) later = Some words
+first_words None later = later
+
+abbrev pub nothing : Interlude
+nothing = record { card = false; waited = false; words = None }
+
+abbrev pub a_wait : Interlude
+a_wait = record { card = false; waited = true; words = None }
+
+-- one thing after another
+abbrev pub both_of : Interlude → Interlude → Interlude
+both_of i j = record {
+  card = i.card || j.card;
+  waited = i.waited || j.waited;
+  words = first_words i.words j.words;
+}
+
+-- a card or a wait ends the segment
+abbrev pub ends : Interlude → Bool
+ends i = i.waited || i.card
+
+-- What came to a machine: its scene is the one that is reached; the words are what was printed, if
+-- that is no more than one area; whether a card came, and whether the machine waited; and what is
+-- left of the rest of the machine
+pub record Came {A : Type 0} (state : A → Machine) (leaves : Bool → A → A → Type 0) (r : Transition)
+    (waited : Bool) (i : Interlude)
+    (old : A) (o : Coming) (new : A) (n : Coming) : Type 0 where
+  pub scene : scene_at (state new) n ≡ r.scene
+  pub told : length r.happened ≤ 1 → AreTexts (option_map line_of_words i.words) r.happened
+  pub card : i.card ≡ nat_lt (length n.cards) (length o.cards)
+  pub fewer : length n.cards ≤ length o.cards
+  pub wait : i.waited ≡ waited
+  pub rest : leaves (ends i) old new

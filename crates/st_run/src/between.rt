@@ -1,0 +1,205 @@
+//! What comes to a machine between two steps: signals, orders of the reader and the printer, and
+//! what ends a wait.
+ghost use Rattle.std.specs.Prelude.{◌≡◌, false, IsSome};
+ghost use Rattle.st_state.specs.declared.devices.Device.TheVariants.{Reader, Printer};
+ghost use Rattle.st_exec.specs.Step.{rests};
+ghost use Rattle.st_run.specs.Run as run;
+ghost use Rattle.st_run.specs.Outside.{Came, scene_at, both_of, first_words as first_words_of};
+
+use crate::coming::Coming;
+use crate::outside::Outside;
+use crate::plain::{done_in, is_due_at};
+use st_exec::is_at_rest;
+use st_state::Device;
+
+/// What came between two steps.
+#[derive(Clone, Copy, Debug)]
+pub struct Interlude {
+    /// Whether a card came into storage.
+    pub card: bool,
+    /// Whether the machine waited once all was there that was due.
+    pub waited: bool,
+    /// The eight words that were printed.
+    pub words: Option<[u64; 8]>,
+}
+
+const NOTHING: Interlude = Interlude {
+    card: false,
+    waited: false,
+    words: None,
+};
+
+const A_WAIT: Interlude = Interlude {
+    card: false,
+    waited: true,
+    words: None,
+};
+
+// The reader's order takes effect, with its next card or without one.
+fn read_card<M: Outside>(machine: &mut M, coming: &mut Coming) -> Interlude
+    requires order { IsSome (M.state machine.old).reader }
+    requires turn { M.is_open machine.old }
+    ensures { Came M.state M.leaves
+        (run.with_order Reader (M.state machine.old).reader (scene_at (M.state machine.old) coming.old))
+        false result machine.old coming.old machine.new coming.new }
+{
+    let card = coming.next_card();
+    machine.read_in(card);
+    Interlude {
+        card: card.is_some(),
+        waited: false,
+        words: None,
+    }
+}
+
+// The printer's order takes effect.
+fn print_line<M: Outside>(machine: &mut M, coming: &Coming) -> Interlude
+    requires order { IsSome (M.state machine.old).printer }
+    requires turn { M.is_open machine.old }
+    ensures { Came M.state M.leaves
+        (run.with_order Printer (M.state machine.old).printer (scene_at (M.state machine.old) coming.now))
+        false result machine.old coming.now machine.new coming.now }
+{
+    Interlude {
+        card: false,
+        waited: false,
+        words: Some(machine.print_out()),
+    }
+}
+
+// The order of a device takes effect.
+fn serve<M: Outside>(machine: &mut M, coming: &mut Coming, device: Device) -> Interlude
+    requires order { IsSome (run.order_of device (M.state machine.old)) }
+    requires turn { M.is_open machine.old }
+    ensures { Came M.state M.leaves
+        (run.with_order device (run.order_of device (M.state machine.old)) (scene_at (M.state machine.old) coming.old))
+        false result machine.old coming.old machine.new coming.new }
+{
+    match device {
+        Device::Reader => read_card(machine, coming),
+        Device::Printer => print_line(machine, coming),
+    }
+}
+
+// The order of a device takes effect, if it is due.
+fn serve_if_due<M: Outside>(machine: &mut M, coming: &mut Coming, device: Device) -> Interlude
+    requires { M.is_open machine.old }
+    ensures { Came M.state M.leaves
+        (run.with_due_order device (scene_at (M.state machine.old) coming.old))
+        false result machine.old coming.old machine.new coming.new }
+{
+    if is_due_at(machine.state(), device) {
+        return serve(machine, coming, device);
+    }
+    NOTHING
+}
+
+// The orders that are due take effect, the reader's first.
+fn serve_due<M: Outside>(machine: &mut M, coming: &mut Coming) -> Interlude
+    requires { M.is_open machine.old }
+    ensures { Came M.state M.leaves
+        (run.with_due_orders (scene_at (M.state machine.old) coming.old))
+        false result machine.old coming.old machine.new coming.new }
+{
+    let first = serve_if_due(machine, coming, Device::Reader);
+    let second = serve_if_due(machine, coming, Device::Printer);
+    joined(first, second)
+}
+
+// The order that is due earliest takes effect, if the machine rests.
+fn serve_at_rest<M: Outside>(machine: &mut M, coming: &mut Coming) -> Interlude
+    requires { M.is_open machine.old }
+    ensures { Came M.state M.leaves
+        (run.with_order_at_rest (scene_at (M.state machine.old) coming.old))
+        false result machine.old coming.old machine.new coming.new }
+{
+    if !is_at_rest(machine.state()) {
+        return NOTHING;
+    }
+    match machine.state().next_device() {
+        None => NOTHING,
+        Some(device) => serve(machine, coming, device),
+    }
+}
+
+// The signals at the front that are due come.
+fn take_due_signals<M: Outside>(machine: &mut M, coming: &mut Coming)
+    requires { M.is_open machine.old }
+    ensures came { scene_at (M.state machine.new) coming.new
+        ≡ run.with_due_signals (M.state machine.old) coming.old.signals coming.old.cards }
+    ensures cards { coming.new.cards ≡ coming.old.cards }
+    ensures rest { M.leaves false machine.old machine.new }
+{
+    'signals: while let Some(indicator) = coming.next_due_signal(done_in(machine.state())) {
+        machine.signal(indicator);
+    }
+}
+
+// Signals come, one at a time, as long as the machine rests.
+fn take_signals_at_rest<M: Outside>(machine: &mut M, coming: &mut Coming)
+    requires { M.is_open machine.old }
+    ensures came { scene_at (M.state machine.new) coming.new
+        ≡ run.with_signals_at_rest (M.state machine.old) coming.old.signals coming.old.cards }
+    ensures cards { coming.new.cards ≡ coming.old.cards }
+    ensures rest { M.leaves false machine.old machine.new }
+{
+    'signals: while is_at_rest(machine.state()) {
+        let Some(indicator) = coming.next_signal() else {
+            return
+        };
+        machine.signal(indicator);
+    }
+}
+
+// Of two printed areas the first one.
+fn first_words(first: Option<[u64; 8]>, later: Option<[u64; 8]>) -> Option<[u64; 8]>
+    ensures { result ≡ first_words_of first later }
+{
+    match first {
+        Some(words) => Some(words),
+        None => later,
+    }
+}
+
+// One thing came after another.
+fn joined(first: Interlude, later: Interlude) -> Interlude
+    ensures { result ≡ both_of first later }
+{
+    Interlude {
+        card: first.card || later.card,
+        waited: first.waited || later.waited,
+        words: first_words(first.words, later.words),
+    }
+}
+
+// What ends a wait comes: orders, then signals.
+fn end_wait<M: Outside>(machine: &mut M, coming: &mut Coming) -> Interlude
+    requires { M.is_open machine.old }
+    ensures { Came M.state M.leaves
+        (run.with_wait (scene_at (M.state machine.old) coming.old))
+        false result machine.old coming.old machine.new coming.new }
+{
+    let first = serve_at_rest(machine, coming);
+    let second = serve_at_rest(machine, coming);
+    take_signals_at_rest(machine, coming);
+    joined(first, second)
+}
+
+/// What comes between two steps comes: the signals and orders that are due, and what ends a wait.
+pub fn between<M: Outside>(machine: &mut M, coming: &mut Coming) -> Interlude
+    requires { M.is_open machine.old }
+    ensures { Came M.state M.leaves
+        (run.interlude (scene_at (M.state machine.old) coming.old))
+        (rests (run.with_due_orders
+        (run.with_due_signals (M.state machine.old) coming.old.signals coming.old.cards)).scene.machine)
+        result machine.old coming.old machine.new coming.new }
+{
+    take_due_signals(machine, coming);
+    let due = serve_due(machine, coming);
+    if !is_at_rest(machine.state()) {
+        return due;
+    }
+    machine.rest();
+    let later = end_wait(machine, coming);
+    joined(joined(due, A_WAIT), later)
+}

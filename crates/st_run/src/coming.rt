@@ -1,0 +1,102 @@
+//! What is still to come to a machine from outside.
+ghost use Rattle.std.specs.Prelude.{◌≡◌};
+
+use st_card::Signal;
+use st_exch::Hopper;
+use std::marker::Model;
+
+/// The signals and the reader's cards that are still to come.
+#[derive(Drop)]
+pub struct Coming<'a> {
+    signals: &'a [Signal],
+    cards: Hopper,
+}
+
+impl<'a> Model for Coming<'a> {
+    ghost use Rattle.std.specs.List.{AllPass};
+    ghost use Rattle.st_card.specs.Limits.{is_signal};
+    ghost use Rattle.st_run.specs.Outside.{Coming as ComingOf};
+
+    ghost Value = { ComingOf };
+
+    ghost view = { λ c. record { signals = c.signals.now; cards = c.cards } };
+
+    ghost invariant = { λ c. AllPass is_signal c.signals.now };
+}
+
+impl<'a> Coming<'a> {
+    ghost use Rattle.std.specs.Prelude.{◌≤◌, IfSome, is_some, length, nat_lt};
+    ghost use Rattle.std.specs.List.{AllPass};
+    ghost use Rattle.st_card.specs.Limits.{is_signal};
+    ghost use Rattle.st_run.specs.Run.{first_card, cards_after};
+    ghost use Rattle.st_run.specs.Outside.{due_signal, first_signal, signals_after};
+
+    /// These signals and cards.
+    pub fn new(signals: &'a [Signal], cards: Hopper) -> Coming<'a>
+        requires { AllPass is_signal signals.now }
+        ensures { result ≡ record { signals = signals.now; cards = cards } }
+    {
+        Coming { signals, cards }
+    }
+
+    /// The signals and the cards.
+    pub fn parts(self) -> (&'a [Signal], Hopper)
+        ensures known { AllPass is_signal result.0.now }
+        ensures signals { result.0.now ≡ self.entry.signals }
+        ensures cards { result.1 ≡ self.entry.cards }
+    {
+        (self.signals, self.cards)
+    }
+
+    /// The signals.
+    pub fn signals(&self) -> &'a [Signal]
+        ensures { result.now ≡ self.now.signals }
+    {
+        self.signals
+    }
+
+    /// Takes the first signal, if it is due where so many instructions are done, and gives its
+    /// indicator.
+    pub fn next_due_signal(&mut self, done: u64) -> Option<u8>
+        ensures signal { result ≡ due_signal done self.old.signals }
+        ensures known { IfSome result (λ i. i ≤ 13) }
+        ensures left { self.new ≡ record self.old {
+          signals = signals_after (due_signal done self.old.signals) self.old.signals;
+        } }
+    {
+        match self.signals {
+            [first, after @ ..] if first.count <= done => {
+                self.signals = after;
+                Some(first.indicator)
+            }
+            _ => None,
+        }
+    }
+
+    /// Takes the first signal, and gives its indicator.
+    pub fn next_signal(&mut self) -> Option<u8>
+        ensures signal { result ≡ first_signal self.old.signals }
+        ensures known { IfSome result (λ i. i ≤ 13) }
+        ensures left { self.new ≡ record self.old {
+          signals = signals_after (first_signal self.old.signals) self.old.signals;
+        } }
+    {
+        match self.signals {
+            [first, after @ ..] => {
+                self.signals = after;
+                Some(first.indicator)
+            }
+            [] => None,
+        }
+    }
+
+    /// Takes the next card.
+    pub fn next_card(&mut self) -> Option<[u64; 8]>
+        ensures card { result ≡ first_card self.old.cards }
+        ensures left { self.new ≡ record self.old { cards = cards_after self.old.cards } }
+        ensures came { is_some result ≡ nat_lt (length self.new.cards) (length self.old.cards) }
+        ensures fewer { length self.new.cards ≤ length self.old.cards }
+    {
+        self.cards.next()
+    }
+}

@@ -1,0 +1,63 @@
+//! A machine to which something comes from outside.
+ghost use Rattle.std.specs.Prelude.{◌≡◌, ◌≤◌, ◌||◌, Bool, true, false, is_some, IfSome, IsSome};
+ghost use Rattle.st_state.specs.Machine.{Machine as MachineOf};
+ghost use Rattle.st_state.specs.Interrupts.{state_with_signal};
+ghost use Rattle.st_exec.specs.Step.{rests};
+ghost use Rattle.st_exec.specs.Transfer.{printed_out, words_from, read_in as read_in_of};
+
+use st_state::State;
+
+/// A machine that stands for a plain state, to which signals and the cards and texts of its orders
+/// come between two steps.
+pub trait Outside {
+    // The plain state that it stands for.
+    ghost state: { Self → MachineOf };
+
+    // Something may come to it.
+    ghost is_open: { Self → Type 0 };
+
+    // What such a coming leaves of the rest of it, where it ends the segment or not.
+    ghost leaves: { Bool → Self → Self → Type 0 };
+
+    /// Its plain state.
+    fn state(&self) -> &State
+        ensures { result.now ≡ state self.now };
+
+    /// A signal turns on an indicator, 0 to 13.
+    fn signal(&mut self, indicator: u8)
+        requires known { indicator ≤ 13 }
+        requires turn { is_open self.old }
+        ensures state { state self.new ≡ state_with_signal (state self.old) indicator }
+        ensures rest { leaves false self.old self.new };
+
+    /// The order of the reader takes effect, with its next card or without one.
+    fn read_in(&mut self, card: Option<[u64; 8]>)
+        requires order { IsSome (state self.old).reader }
+        requires turn { is_open self.old }
+        ensures state { IfSome (state self.old).reader
+            (λ order. state self.new ≡ read_in_of (state self.old) order.word card) }
+        ensures rest { leaves (is_some card) self.old self.new };
+
+    /// The order of the printer takes effect. The result is the eight words of its area.
+    fn print_out(&mut self) -> [u64; 8]
+        requires order { IsSome (state self.old).printer }
+        requires turn { is_open self.old }
+        ensures words { IfSome (state self.old).printer
+            (λ order. result ≡ words_from (state self.old) order.word 8) }
+        ensures state { state self.new ≡ printed_out (state self.old) }
+        ensures rest { leaves false self.old self.new };
+
+    /// It rests, and waits for what comes.
+    fn rest(&mut self)
+        requires rests { rests (state self.old) ≡ true }
+        requires turn { is_open self.old }
+        ensures state { state self.new ≡ state self.old }
+        ensures rest { leaves true self.old self.new };
+
+    ghost leaves_same: { (m : Self) → leaves false m m };
+
+    ghost stays_open: { (b : Bool) (m n : Self) → leaves b m n → is_open m → is_open n };
+
+    ghost leaves_both: { (a b c : Bool) (m n o : Self) → leaves a m n → leaves b n o → c
+        ≡ (a || b) → leaves c m o };
+}
