@@ -1,7 +1,7 @@
 -- The steps and marks of an axis by the turns that are left.
 use Rattle.std.proofs.Common.{◌≡◌, ℕ, suc, zero, ◌+◌, ◌-◌, ◌*◌, ◌^◌, ◌≤◌, ◌<◌, [], ◌∷◌, List, refl, arith}
 use Rattle.st_draw.specs.Axis.{lowest_tick, step_from, marks_from}
-use Rattle.st_draw.specs.declared.timetable.Entry.{Entry}
+use Rattle.st_entries.specs.declared.timetable.Entry.{Entry}
 
 -- no first tick is past the largest number
 pub lowest_bound : (es : List Entry) → lowest_tick es ≤ 2 ^ 64 - 1

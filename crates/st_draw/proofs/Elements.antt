@@ -4,7 +4,7 @@ use Rattle.std.proofs.lemmas.List.{append-nil}
 use Rattle.st_draw.specs.Drawing.{mark, grid, row_elements, rows_elements}
 use Rattle.st_draw.specs.Element.{Element, element_text, elements_text}
 use Rattle.st_draw.specs.declared.drawing.Sheet.{Sheet}
-use Rattle.st_draw.specs.declared.timetable.Entry.{Entry}
+use Rattle.st_entries.specs.declared.timetable.Entry.{Entry}
 
 pub elements_append : (a b : List Element) → elements_text (a ++ b) ≡ elements_text a ++ elements_text b
 unfolding elements_text

@@ -1,9 +1,6 @@
 pub mod Axes
 pub mod Elements
-pub mod Executing
-pub mod Forward
 pub mod Laws
 pub mod Lines
-pub mod Merging
 pub mod Statuses
 pub mod WellFormedElements

@@ -3,16 +3,7 @@ use Rattle.std.proofs.Common.{◌≡◌, ◌<◌, ◌∙◌, refl, sym, ap, arit
 use Rattle.std.proofs.lemmas.List.{append-nil}
 use Rattle.st_draw.specs.Terminal.{entry_line, entry_lines, line_with_tick, scale}
 use Rattle.st_draw.specs.declared.terminal.Page.{Page}
-use Rattle.st_draw.specs.declared.timetable.Entry.{Entry}
-
--- bytes behind bytes
-pub bytes_joined : (s mid a b : List ℕ) → mid ≡ s ++ a → mid ++ b ≡ s ++ (a ++ b)
-bytes_joined s mid a b so_far = rw so_far (simp append_assoc refl)
-
--- five pieces, one behind the other
-pub five_joined : (s t u v w a b c d e : List ℕ) → t ≡ s ++ a → u ≡ t ++ b → v ≡ u ++ c → w ≡ v ++ d
-    → w ++ e ≡ s ++ (a ++ b ++ c ++ d ++ e)
-five_joined s t u v w a b c d e first second third fourth = rw (fourth, third, second, first) (simp append_assoc refl)
+use Rattle.st_entries.specs.declared.timetable.Entry.{Entry}
 
 -- one more line is written
 pub lines_step : (mid new total : List ℕ) (rest es : List Entry) (page : Page) (report : List ℕ) (e : Entry)

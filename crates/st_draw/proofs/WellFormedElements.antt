@@ -2,7 +2,7 @@
 use Rattle.std.proofs.Common.{◌≡◌, inl, inr, ℕ, ◌==◌, ◌&&◌, nat_le, Bool, true, false, List, [], ◌∷◌, ◌++◌, length, take, codes, refl, arith, append_assoc}
 use Rattle.std.proofs.lemmas.List.Folds.{list_all-append}
 use Rattle.st_draw.specs.Element.{Element, Box, Bar, Line, Text, Card, element_text, front, corner, size, ends, content, title_end, box_title, shown_card, card_content, ellipsis}
-use Rattle.st_draw.specs.Caption.{card_limit}
+use Rattle.st_entries.specs.Caption.{card_limit}
 use Rattle.st_draw.specs.Escape.{escaped_text, escaped_byte}
 use Rattle.st_draw.specs.WellFormed.{is_inner, are_inner, IsClosed, IsFull}
 

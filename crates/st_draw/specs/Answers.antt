@@ -4,13 +4,13 @@ use Rattle.st_io.specs.Count.{HasRisen}
 use Rattle.st_io.specs.Input.{InputState, CameWhole, CameWithin, CamePast}
 use Rattle.st_io.specs.Output.{OutputState, Wrote, WroteFront}
 use Rattle.st_draw.specs.Drawing.{svg}
-use Rattle.st_draw.specs.Log.{log}
+use Rattle.st_kanata.specs.Log.{log}
 use Rattle.st_draw.specs.Terminal.{page_text}
-use Rattle.st_draw.specs.Timetable.{timetable}
+use Rattle.st_entries.specs.Timetable.{timetable}
 use Rattle.st_draw.specs.declared.status.Status.{Status}
 use Rattle.st_draw.specs.declared.status.Status.TheVariants.{Done, NoRows, Usage, ReportTooLong, ReadFault, WriteFault, NoMemory}
-use Rattle.st_draw.specs.declared.timetable.Entry.{Entry}
-use Rattle.st_draw.specs.declared.timetable.Entry.TheVariants.{Done as DoneEntry, Dropped, Taken, Shown}
+use Rattle.st_entries.specs.declared.timetable.Entry.{Entry}
+use Rattle.st_entries.specs.declared.timetable.Entry.TheVariants.{Done as DoneEntry, Dropped, Taken, Shown}
 use Rattle.st_draw.specs.declared.words.Choice.{Choice}
 use Rattle.st_draw.specs.declared.words.Kind.{Kind}
 use Rattle.st_draw.specs.declared.words.Kind.TheVariants.{Svg, Text, Kanata}

@@ -2,15 +2,9 @@
 use Rattle.std.specs.Prelude.{ℕ, suc, zero, ◌+◌, ◌-◌, ◌*◌, ◌/◌, ◌^◌, nat_le, min, max, if◌then◌else◌, List, [], ◌∷◌}
 use Rattle.st_draw.specs.declared.axis.Axis.{Axis}
 use Rattle.st_draw.specs.declared.axis.Room.{Room}
-use Rattle.st_draw.specs.declared.timetable.Entry.{Entry}
-use Rattle.st_draw.specs.declared.timetable.Entry.TheVariants.{Done, Dropped, Taken, Shown}
-
--- the first tick of an entry
-abbrev pub first_tick : Entry → ℕ
-first_tick (Done n a p r t c) = p
-first_tick (Dropped a p end) = p
-first_tick (Taken i t) = t
-first_tick (Shown t) = t
+use Rattle.st_entries.specs.Phases.{first_tick}
+use Rattle.st_entries.specs.declared.timetable.Entry.{Entry}
+use Rattle.st_entries.specs.declared.timetable.Entry.TheVariants.{Done, Dropped, Taken, Shown}
 
 -- the last tick of an entry
 abbrev pub last_tick_of : Entry → ℕ

@@ -1,13 +1,13 @@
 -- The picture of a timetable: its elements in order, and its bytes.
 use Rattle.std.specs.Prelude.{ℕ, ◌+◌, ◌-◌, ◌*◌, ◌^◌, ◌≤◌, ◌<◌, max, List, [], ◌∷◌, ◌++◌, length, map, codes, decimal}
 use Rattle.st_draw.specs.Axis.{axis, x_of_tick, marks}
-use Rattle.st_draw.specs.Caption.{caption_number, second_text, third_text, title, widest}
+use Rattle.st_entries.specs.Caption.{caption_number, second_text, third_text, title, widest}
 use Rattle.st_draw.specs.Element.{Element, Box, Bar, Line, Text, Card, elements_text}
-use Rattle.st_draw.specs.Phases.{Phase, WaitsForOperands, WaitsForTurn, Executes, IsDropped, Span, spans, least_width}
+use Rattle.st_entries.specs.Phases.{Phase, WaitsForOperands, WaitsForTurn, Executes, IsDropped, Span, spans, least_width}
 use Rattle.st_draw.specs.declared.axis.Room.{Room}
 use Rattle.st_draw.specs.declared.drawing.Sheet.{Sheet}
-use Rattle.st_draw.specs.declared.timetable.Entry.{Entry}
-use Rattle.st_draw.specs.declared.timetable.Entry.TheVariants.{Done, Dropped, Taken, Shown}
+use Rattle.st_entries.specs.declared.timetable.Entry.{Entry}
+use Rattle.st_entries.specs.declared.timetable.Entry.TheVariants.{Done, Dropped, Taken, Shown}
 
 -- the room of the axis, behind cards of so many characters
 abbrev pub room_behind : ℕ → Room

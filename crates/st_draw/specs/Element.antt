@@ -1,6 +1,6 @@
 -- The elements of a picture, and the bytes of each.
 use Rattle.std.specs.Prelude.{ℕ, nat_le, if◌then◌else◌, List, [], ◌∷◌, ◌++◌, length, take, codes, decimal}
-use Rattle.st_draw.specs.Caption.{card_limit}
+use Rattle.st_entries.specs.Caption.{card_limit}
 use Rattle.st_draw.specs.Escape.{escaped_text}
 
 -- a number as the value of an attribute

@@ -1,21 +1,14 @@
 -- The picture of a timetable as lines of text.
-use Rattle.std.specs.Prelude.{ℕ, ◌+◌, ◌-◌, ◌&&◌, nat_le, nat_lt, max, if◌then◌else◌, List, [], ◌∷◌, ◌++◌, length, map, replicate, codes, decimal}
-use Rattle.st_draw.specs.Axis.{axis, x_of_tick, first_tick, marks}
-use Rattle.st_draw.specs.Caption.{caption_number, second_text, third_text, widest, with_dots}
+use Rattle.std.specs.Prelude.{ℕ, ◌+◌, ◌-◌, nat_lt, max, if◌then◌else◌, List, [], ◌∷◌, ◌++◌, length, replicate, codes, decimal}
+use Rattle.st_draw.specs.Axis.{axis, x_of_tick, marks}
+use Rattle.st_entries.specs.Caption.{caption_number, second_text, third_text, widest, with_dots}
+use Rattle.st_entries.specs.Plain.{plain_text}
 use Rattle.st_draw.specs.Drawing.{remark}
-use Rattle.st_draw.specs.Phases.{Phase, WaitsForOperands, WaitsForTurn, Executes, IsDropped, Span, spans, least_width}
+use Rattle.st_entries.specs.Phases.{first_tick, Phase, WaitsForOperands, WaitsForTurn, Executes, IsDropped, Span, spans, least_width}
 use Rattle.st_draw.specs.declared.axis.Axis.{Axis}
 use Rattle.st_draw.specs.declared.terminal.Page.{Page}
-use Rattle.st_draw.specs.declared.timetable.Entry.{Entry}
-use Rattle.st_draw.specs.declared.timetable.Entry.TheVariants.{Done, Dropped, Taken, Shown}
-
--- a byte as a terminal may show it: what is no printable character is a question mark
-abbrev pub plain_byte : ℕ → ℕ
-plain_byte c = if nat_le 32 c && nat_le c 126 then c else 63
-
--- a text, byte by byte
-abbrev pub plain_text : List ℕ → List ℕ
-plain_text text = map plain_byte text
+use Rattle.st_entries.specs.declared.timetable.Entry.{Entry}
+use Rattle.st_entries.specs.declared.timetable.Entry.TheVariants.{Done, Dropped, Taken, Shown}
 
 -- a byte, n times over
 abbrev pub byte_times : ℕ → ℕ → List ℕ

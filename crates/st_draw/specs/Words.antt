@@ -1,9 +1,9 @@
 -- What the words of a command line ask for.
-use Rattle.std.specs.Prelude.{ℕ, ◌+◌, nat_eq, nat_le, min, ◌&&◌, codes, if◌then◌else◌, List, [], ◌∷◌, Option, None, Some}
+use Rattle.std.specs.Prelude.{ℕ, ◌+◌, ◌-◌, ◌^◌, nat_eq, nat_le, min, ◌&&◌, codes, if◌then◌else◌, List, [], ◌∷◌, Option, None, Some}
 use Rattle.std.specs.Option.{option_map, option_and_then}
 use Rattle.std.specs.Cmp.Lexicographic.{pointwise}
-use Rattle.st_draw.specs.Report.{number_in_report}
-use Rattle.st_draw.specs.declared.timetable.Part.{Part}
+use Rattle.st_text.specs.Number.{number_up_to}
+use Rattle.st_entries.specs.declared.timetable.Part.{Part}
 use Rattle.st_draw.specs.declared.words.Choice.{Choice}
 use Rattle.st_draw.specs.declared.words.Kind.{Kind}
 use Rattle.st_draw.specs.declared.words.Kind.TheVariants.{Svg, Text, Kanata}
@@ -29,7 +29,7 @@ part_between from to =
 -- the part that two words name
 unfoldable pub part_named : List ℕ → List ℕ → Option Part
 part_named from to = option_and_then (λ f. option_and_then (λ t. part_between f t)
-    (number_in_report to)) (number_in_report from)
+    (number_up_to (2 ^ 64 - 1) to)) (number_up_to (2 ^ 64 - 1) from)
 
 -- what a word and two numbers ask for
 abbrev pub choice_of_words : List ℕ → List ℕ → List ℕ → Option Choice

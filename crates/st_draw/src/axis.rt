@@ -2,7 +2,7 @@
 ghost use Rattle.std.specs.Prelude.{◌≡◌, ◌+◌, ◌^◌, ◌≤◌, ◌<◌, ◌++◌, IfOk};
 ghost use Rattle.st_draw.specs.Axis as spec;
 
-use crate::timetable::Entry;
+use st_entries::{Entry, first_tick};
 use std::alloc::{AllocError, Global};
 
 /// The ticks that a picture shows.
@@ -25,18 +25,6 @@ pub struct Room {
     pub left: u16,
     /// Its width.
     pub width: u16,
-}
-
-/// The first tick of an entry.
-pub fn first_tick(entry: &Entry) -> u64
-    ensures { result ≡ spec.first_tick entry.now }
-{
-    match *entry {
-        Entry::Done { prepared, .. } => prepared,
-        Entry::Dropped { prepared, .. } => prepared,
-        Entry::Taken { tick, .. } => tick,
-        Entry::Shown { tick } => tick,
-    }
 }
 
 // The last tick of an entry.

@@ -5,11 +5,8 @@ ghost use Rattle.st_draw.specs.Drawing as spec;
 ghost use Rattle.st_draw.specs.Drawing.{IsSheet};
 
 use crate::axis::{Axis, Room, at, axis_of, marks_of};
-use crate::caption::{first_text, second_text, third_text, title, widest};
-use crate::element::{
-    Area, Spot, push_bar, push_box, push_card, push_decimal, push_line, push_text,
-};
-use crate::timetable::Entry;
+use crate::element::{Area, Spot, push_bar, push_box, push_card, push_line, push_text};
+use st_entries::{Entry, first_text, push_decimal, second_text, third_text, title, widest};
 use std::alloc::{AllocError, Global};
 
 /// What all rows of a picture share.

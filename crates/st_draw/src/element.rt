@@ -1,10 +1,9 @@
 //! The elements of a picture.
-ghost use Rattle.std.specs.Prelude.{◌≡◌, ◌++◌, IfOk, decimal};
+ghost use Rattle.std.specs.Prelude.{◌≡◌, ◌++◌, IfOk};
 ghost use Rattle.st_draw.specs.Element.{attribute, front, corner, size, ends, content, title_end, box_title, shown_card, card_content, element_text, Box, Bar, Line, Text, Card};
 
-use crate::caption::CARD_LIMIT;
 use crate::escape::push_escaped;
-use itoa::Buffer;
+use st_entries::{CARD_LIMIT, push_decimal};
 use std::alloc::AllocError;
 
 /// Where an element stands, and how far it reaches, or where a line ends.
@@ -25,13 +24,6 @@ pub struct Area {
 pub struct Spot {
     pub x: u128,
     pub y: u128,
-}
-
-/// Appends a number in decimal digits.
-pub fn push_decimal(out: &mut Vec<u8>, n: u128) -> Result<(), AllocError>
-    ensures { IfOk result (λ _. out.new.items ≡ out.old.items ++ decimal n) }
-{
-    out.extend_from_slice(Buffer::new().format(n).as_bytes())
 }
 
 // Appends a number as the value of an attribute.

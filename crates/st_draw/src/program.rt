@@ -6,12 +6,12 @@ ghost use Rattle.st_draw.specs.Answers.{Did, IsAnswer, Writes};
 ghost use Rattle.st_draw.specs.Words.{picture_choice};
 
 use crate::drawing::draw_svg;
-use crate::log::write_log;
 use crate::status::Status;
 use crate::terminal::draw_text;
-use crate::timetable::{Entry, read_timetable};
 use crate::words::{Choice, Kind, read_words};
+use st_entries::{Entry, read_timetable};
 use st_io::{ReadError, Sink, Source, read_all, write_all};
+use st_kanata::write_log;
 use std::alloc::{AllocError, Global};
 
 // The longest report, in bytes.

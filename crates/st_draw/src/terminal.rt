@@ -2,11 +2,12 @@
 ghost use Rattle.std.specs.Prelude.{◌≡◌, ◌-◌, ◌≤◌, ◌++◌, IfOk, max};
 ghost use Rattle.st_draw.specs.Terminal as spec;
 
-use crate::axis::{Axis, Room, at, axis_of, first_tick, marks_of};
-use crate::caption::{first_text, second_text, third_text, widest, with_dots};
+use crate::axis::{Axis, Room, at, axis_of, marks_of};
 use crate::drawing::remark;
-use crate::element::push_decimal;
-use crate::timetable::Entry;
+use st_entries::{
+    Entry, first_text, first_tick, push_decimal, push_plain, second_text, third_text, widest,
+    with_dots,
+};
 use std::alloc::{AllocError, Global};
 
 /// What all lines of a page share.
@@ -24,28 +25,6 @@ fn push_many(out: &mut Vec<u8>, count: usize, byte: u8) -> Result<(), AllocError
 {
     for _ in 0..count {
         out.push(byte)?;
-    }
-    Ok(())
-}
-
-// A byte as a terminal may show it.
-fn plain_byte(byte: u8) -> u8
-    ensures { result ≡ spec.plain_byte byte }
-{
-    match byte {
-        b' '..=b'~' => byte,
-        _ => b'?',
-    }
-}
-
-/// Appends a text as a terminal may show it.
-pub fn push_plain(out: &mut Vec<u8>, text: &[u8]) -> Result<(), AllocError>
-    ensures { IfOk result (λ _. out.new.items ≡ out.old.items ++ spec.plain_text text.now) }
-{
-    let mut rest = text;
-    'bytes: while let [byte, after @ ..] = rest {
-        out.push(plain_byte(*byte))?;
-        rest = after;
     }
     Ok(())
 }

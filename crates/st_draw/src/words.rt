@@ -3,8 +3,8 @@ ghost use Rattle.std.specs.Prelude.{◌≡◌, map};
 ghost use Rattle.std.specs.String.{string_bytes};
 ghost use Rattle.st_draw.specs.Words as spec;
 
-use crate::report::number;
-use crate::timetable::Part;
+use st_entries::Part;
+use st_text::number_up_to;
 
 /// A kind of picture.
 #[derive(Clone, Copy)]
@@ -57,8 +57,8 @@ fn part_between(from: u64, to: u64) -> Option<Part>
 fn part_named(from: &str, to: &str) -> Option<Part>
     ensures { result ≡ spec.part_named from.now to.now }
 {
-    let from = number(from.as_bytes())?;
-    let to = number(to.as_bytes())?;
+    let from = number_up_to(from.as_bytes(), u64::MAX)?;
+    let to = number_up_to(to.as_bytes(), u64::MAX)?;
     part_between(from, to)
 }
 

@@ -1,7 +1,7 @@
 use Rattle.std.proofs.Common.{arith, ap, length, List}
 use Rattle.st_text.proofs.ListLemmas.{first_and_rest}
-use Rattle.st_draw.specs.declared.timetable.Entry.{Entry}
-use Rattle.st_draw.specs.declared.timetable.Entry.TheVariants.{Done}
+use Rattle.st_entries.specs.declared.timetable.Entry.{Entry}
+use Rattle.st_entries.specs.declared.timetable.Entry.TheVariants.{Done}
 use Rattle.st_draw.proofs.Elements.{rows_step, rows_done}
 use Rattle.st_draw.proofs.drawing.push_rows.Goals as goal
 

@@ -1,9 +1,0 @@
--- What is left of the dropped entries goes behind the others, its last one first.
-use Rattle.std.proofs.Common.{◌≡◌, ◌++◌, length, reverse}
-use Rattle.st_draw.proofs.timetable.settle.Given as goal
-
-abbrev pub invariant-entries : goal.invariant-entries
-invariant-entries l = l.entries.items ++ reverse l.dropped.items ≡ l.fn.entries.items ++ reverse l.fn.dropped.items
-
-abbrev pub decreases-entries : goal.decreases-entries
-decreases-entries l = length l.dropped.items

@@ -1,0 +1,73 @@
+-- The texts of an entry: the three in front of its bars, and what the bars tell when they are
+-- pointed at.
+use Rattle.std.specs.Prelude.{ℕ, ◌*◌, nat_le, nat_lt, min, max, if◌then◌else◌, List, [], ◌∷◌, ◌++◌, length, take, drop, codes, decimal}
+use Rattle.st_entries.specs.Label.{label}
+use Rattle.st_entries.specs.declared.report.Place.{Place}
+use Rattle.st_entries.specs.declared.timetable.Entry.{Entry}
+use Rattle.st_entries.specs.declared.timetable.Entry.TheVariants.{Done, Dropped, Taken, Shown}
+
+-- the names of the indicators 0 to 63, each in four places
+unfoldable pub indicator_names : List ℕ
+indicator_names =
+    codes "MK  IK  IJ  EK  TS  CPUSEKJ UNRJCBJ EPGKUK  EE  EOP CS      OP  "
+    ++ codes "AD  USA EXE DS  DF  IF  LC  PF  ZD                                          "
+    ++ codes "TF  UF  VF  XF  BTR DTR PG0 PG1 PG2 PG3 PG4 PG5 PG6 XCZ XVLZXVZ "
+    ++ codes "XVGZXL  XE  XH  MOP RLZ RZ  RGZ RN  AL  AE  AH      "
+
+-- the name of an indicator; blanks where it has none, and nothing past the last
+unfoldable pub indicator_text : ℕ → List ℕ
+indicator_text i = if nat_lt i 64 then take 4 (drop (4 * i) indicator_names) else []
+
+-- a place as word.bit
+abbrev pub place_text : Place → List ℕ
+place_text place = decimal place.word ++ codes "." ++ decimal place.bit
+
+-- the number of an entry that is done, or what else it is
+unfoldable pub caption_number : Entry → List ℕ
+caption_number (Done n a p r t c) = decimal n
+caption_number (Dropped a p end) = codes "drop"
+caption_number (Taken i t) = codes "INT"
+caption_number (Shown t) = codes "SNAP"
+
+-- where an entry stands in storage; the number of an indicator; the tick of a snapshot
+unfoldable pub second_text : Entry → List ℕ
+second_text (Done n a p r t c) = place_text a
+second_text (Dropped a p end) = place_text a
+second_text (Taken i t) = decimal i
+second_text (Shown t) = decimal t
+
+-- the text of an entry's card; the name of an indicator
+unfoldable pub third_text : List ℕ → Entry → List ℕ
+third_text report (Done n a p r t c) = label report a
+third_text report (Dropped a p end) = label report a
+third_text report (Taken i t) = indicator_text i
+third_text report (Shown t) = []
+
+-- how many characters of a card are shown at most
+abbrev pub card_limit : ℕ
+card_limit = 40
+
+-- the third text of an entry where ASCII alone may stand: one that is too long ends in three dots
+unfoldable pub with_dots : List ℕ → List ℕ
+with_dots text = if nat_le (length text) card_limit then text else take 37 text ++ codes "..."
+
+-- how many characters are shown of the longest third text
+abbrev pub widest : List ℕ → List Entry → ℕ
+widest report [] = 0
+widest report (e ∷ es) = max (min card_limit (length (third_text report e))) (widest report es)
+
+-- words and a number
+unfoldable pub words_with_number : List ℕ → ℕ → List ℕ
+words_with_number words n = words ++ decimal n
+
+-- what the bars of an entry tell: the ticks of its phases
+unfoldable pub title : Entry → List ℕ
+title (Done n a p r t c) =
+    words_with_number (codes "row ") n ++ words_with_number (codes ": waits for operands from P ") p
+    ++ words_with_number (codes " to R ") r
+    ++ words_with_number (codes ", for its turn to ") t
+    ++ words_with_number (codes ", executes to C ") c
+title (Dropped a p end) = words_with_number (codes "prepared at P ") p
+    ++ words_with_number (codes ", dropped at ") end
+title (Taken i t) = []
+title (Shown t) = []

@@ -1,0 +1,12 @@
+pub mod Caption
+pub mod Completions
+pub mod Label
+pub mod Laws
+pub mod Phases
+pub mod Plain
+pub mod Report
+pub mod Timetable
+pub use Rattle.st_io.specs.Count
+pub use Rattle.st_text.specs.Blanks
+pub use Rattle.st_text.specs.Number
+pub use Rattle.st_text.specs.Pieces

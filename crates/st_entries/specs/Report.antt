@@ -1,0 +1,62 @@
+-- What the lines of a report say of its timetable, read loosely: a line is words between blanks.
+use Rattle.std.specs.Prelude.{ℕ, ◌-◌, ◌^◌, nat_eq, ◌&&◌, Bool, if◌then◌else◌, List, [], get_or, codes, Option, None}
+use Rattle.std.specs.Option.{option_map, option_and_then}
+use Rattle.std.specs.Cmp.Lexicographic.{pointwise}
+use Rattle.st_text.specs.Number.{number_up_to}
+use Rattle.st_text.specs.Pieces.{pieces_of}
+use Rattle.st_entries.specs.declared.report.Item.{Item}
+use Rattle.st_entries.specs.declared.report.Item.TheVariants.{Row, Drop, Interrupt, Snapshot}
+use Rattle.st_entries.specs.declared.report.Place.{Place}
+
+-- the k-th piece of a text that is cut at a byte; nothing where there are fewer
+abbrev pub piece : ℕ → List ℕ → ℕ → List ℕ
+piece at text k = get_or (pieces_of at text) k []
+
+-- the k-th word of a line
+unfoldable pub word_in_line : List ℕ → ℕ → List ℕ
+word_in_line line k = piece 32 line k
+
+-- the number that a word is, if it is one and fits 64 bits
+unfoldable pub number_in_report : List ℕ → Option ℕ
+number_in_report text = number_up_to (2 ^ 64 - 1) text
+
+-- the place that a word is, written as word.bit
+unfoldable pub place_in_report : List ℕ → Option Place
+place_in_report text =
+    option_and_then (λ w. option_map (λ b. record { word = w; bit = b })
+    (number_in_report (piece 46 text 1)))
+    (number_in_report (piece 46 text 0))
+
+-- whether the k-th word of a line is this
+abbrev pub has : List ℕ → ℕ → List ℕ → Bool
+has line k text = pointwise nat_eq (word_in_line line k) text
+
+-- an entry that is done
+unfoldable pub row_item : List ℕ → Option Item
+row_item line =
+    option_and_then (λ n. option_and_then (λ a. option_and_then
+    (λ p. option_and_then (λ r. option_map (λ c. Row n a p r c)
+    (number_in_report (word_in_line line 8))) (number_in_report (word_in_line line 6)))
+    (number_in_report (word_in_line line 4))) (place_in_report (word_in_line line 2)))
+    (number_in_report (word_in_line line 1))
+
+-- an entry that was dropped
+unfoldable pub dropped_item : List ℕ → Option Item
+dropped_item line = option_and_then (λ a. option_map (λ p. Drop a p)
+    (number_in_report (word_in_line line 3))) (place_in_report (word_in_line line 1))
+
+-- whether a line has the words of an entry that is done
+abbrev pub is_row : List ℕ → Bool
+is_row line = has line 0 (codes "ROW") && has line 3 (codes "P") && has line 5 (codes "R")
+    && has line 7 (codes "C")
+
+-- what a line says, if it speaks of the timetable
+unfoldable pub item : List ℕ → Option Item
+item line =
+    if is_row line then row_item line
+    else if has line 0 (codes "DROP") && has line 2 (codes "P") then dropped_item line
+    else if has line 0 (codes "INT") && has line 2 (codes "AFTER")
+    then option_map (λ i. Interrupt i) (number_in_report (word_in_line line 1))
+    else if has line 0 (codes "SNAP") then option_map (λ t. Snapshot t)
+    (number_in_report (word_in_line line 1))
+    else None

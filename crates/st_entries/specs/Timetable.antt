@@ -1,0 +1,93 @@
+-- The timetable that the lines of a report tell, as far as a part of it is asked for.
+use Rattle.std.specs.Prelude.{ℕ, nat_le, nat_lt, ◌&&◌, Bool, if◌then◌else◌, List, [], ◌∷◌, ◌++◌, reverse, Option, None, Some}
+use Rattle.st_text.specs.Pieces.{pieces_of}
+use Rattle.st_io.specs.Count.{count_after}
+use Rattle.st_entries.specs.Phases.{turn_of}
+use Rattle.st_entries.specs.Report.{item}
+use Rattle.st_entries.specs.declared.report.Item.{Item}
+use Rattle.st_entries.specs.declared.report.Item.TheVariants.{Row, Drop, Interrupt, Snapshot}
+use Rattle.st_entries.specs.declared.timetable.Entry.{Entry}
+use Rattle.st_entries.specs.declared.timetable.Entry.TheVariants.{Done, Dropped, Taken, Shown}
+use Rattle.st_entries.specs.declared.timetable.Part.{Part}
+use Rattle.st_entries.specs.declared.timetable.Told.{Told}
+
+-- what the lines told so far: the entries of the part; those of its last segment that were dropped,
+-- the youngest first; the number and the last tick of the last row; how many rows are behind the
+-- part
+pub record Timetable : Type 0 where
+  pub entries : List Entry
+  pub dropped : List Entry
+  pub row : ℕ
+  pub end : ℕ
+  pub later : ℕ
+
+-- nothing told yet; what comes before any row counts to the first one
+abbrev pub timetable_at_start : Timetable
+timetable_at_start = record { entries = []; dropped = []; row = 1; end = 0; later = 0 }
+
+-- whether a row is in a part
+abbrev pub is_in_part : Part → ℕ → Bool
+is_in_part part n = nat_le part.from n && nat_le n part.to
+
+-- the entries, and an entry that goes with a row, where the part has that row
+abbrev pub entries_with : Part → ℕ → Entry → List Entry → List Entry
+entries_with part n entry entries = if is_in_part part n then entries ++ entry ∷ [] else entries
+
+-- the dropped entries stand behind the others, the oldest first
+abbrev pub with_dropped : Timetable → Timetable
+with_dropped t = record t { entries = t.entries ++ reverse t.dropped; dropped = [] }
+
+-- an entry behind all that were told
+abbrev pub timetable_with : Part → ℕ → Entry → Timetable → Timetable
+timetable_with part n entry t = record t {
+  entries = entries_with part n entry
+      (t.entries ++ reverse t.dropped);
+  dropped = [];
+}
+
+-- how many rows are behind a part after a row
+abbrev pub counted_later : Part → ℕ → ℕ → ℕ
+counted_later part n later = if nat_lt part.to n then count_after later 1 else later
+
+-- what one more thing tells
+abbrev pub after_item : Part → Timetable → Item → Timetable
+after_item part t (Row n a p r c) =
+    record (timetable_with part n (Done n a p r (turn_of t.end r c) c) t) {
+      row = n;
+      end = c;
+      later = counted_later part n t.later;
+    }
+after_item part t (Drop a p) = record t {
+  dropped = entries_with part t.row
+      (Dropped a p t.end) t.dropped;
+}
+after_item part t (Interrupt i) = timetable_with part t.row (Taken i t.end) t
+after_item part t (Snapshot tick) = timetable_with part t.row (Shown tick) t
+
+-- what a line tells that says something, or nothing
+abbrev pub after_said : Part → Timetable → Option Item → Timetable
+after_said part t None = t
+after_said part t (Some said) = after_item part t said
+
+-- what one more line tells
+abbrev pub after_line : Part → Timetable → List ℕ → Timetable
+after_line part t line = after_said part t (item line)
+
+-- what lines tell
+abbrev pub after_lines : Part → Timetable → List (List ℕ) → Timetable
+after_lines part t [] = t
+after_lines part t (line ∷ lines) = after_lines part (after_line part t line) lines
+
+-- the timetable that a report tells
+unfoldable pub timetable : Part → List ℕ → Timetable
+timetable part report = with_dropped (after_lines part timetable_at_start (pieces_of 10 report))
+
+-- what the code keeps of it
+abbrev pub kept_by : Told → Timetable
+kept_by t = record {
+  entries = t.entries.items;
+  dropped = t.dropped.items;
+  row = t.row;
+  end = t.end;
+  later = t.later;
+}

@@ -1,0 +1,173 @@
+//! The texts of an entry: the three in front of its bars, and what the bars tell when they are
+//! pointed at.
+ghost use Rattle.std.specs.Prelude.{◌≡◌, ◌≤◌, ◌++◌, IfOk, decimal};
+ghost use Rattle.st_entries.specs.Caption as spec;
+
+use crate::label::label_at;
+use crate::plain::push_decimal;
+use crate::report::Place;
+use crate::timetable::Entry;
+use st_text::{behind, front};
+use std::alloc::{AllocError, Global};
+
+/// How many characters of a card are shown at most.
+pub const CARD_LIMIT: usize = 40;
+
+// The names of the indicators 0 to 63, each in four places.
+const INDICATOR_NAMES: &[u8; 256] =
+    b"MK  IK  IJ  EK  TS  CPUSEKJ UNRJCBJ EPGKUK  EE  EOP CS      OP  \
+    AD  USA EXE DS  DF  IF  LC  PF  ZD                                          \
+    TF  UF  VF  XF  BTR DTR PG0 PG1 PG2 PG3 PG4 PG5 PG6 XCZ XVLZXVZ \
+    XVGZXL  XE  XH  MOP RLZ RZ  RGZ RN  AL  AE  AH      ";
+
+// The names of the indicators as one text.
+#[tactic(auto, unfolding(crate::specs::Caption::indicator_names))]
+fn indicator_names() -> &'static [u8]
+    ensures { result.now ≡ spec.indicator_names }
+{
+    INDICATOR_NAMES
+}
+
+// The name of an indicator; blanks where it has none, and nothing past the last.
+#[tactic(auto, unfolding(crate::specs::Caption::indicator_text))]
+fn indicator(i: u64) -> &'static [u8]
+    ensures { result.now ≡ spec.indicator_text i }
+{
+    if 64 <= i {
+        return &[];
+    }
+    front(behind(indicator_names(), 4 * i as usize), 4)
+}
+
+// A number as a text.
+fn decimal_text(alloc: Global, n: u64) -> Result<Vec<u8>, AllocError>
+    ensures { IfOk result (λ text. text.items ≡ decimal n) }
+{
+    let mut text = Vec::new(alloc);
+    push_decimal(&mut text, u128::from(n))?;
+    Ok(text)
+}
+
+// A place as word.bit.
+fn place_text(alloc: Global, place: Place) -> Result<Vec<u8>, AllocError>
+    ensures { IfOk result (λ text. text.items ≡ spec.place_text place) }
+{
+    let mut text = decimal_text(alloc, place.word)?;
+    text.extend_from_slice(b".")?;
+    push_decimal(&mut text, u128::from(place.bit))?;
+    Ok(text)
+}
+
+/// The number of an entry that is done, or what else it is.
+#[tactic(auto, unfolding(crate::specs::Caption::caption_number))]
+pub fn first_text(alloc: Global, entry: Entry) -> Result<Vec<u8>, AllocError>
+    ensures { IfOk result (λ text. text.items ≡ spec.caption_number entry) }
+{
+    match entry {
+        Entry::Done { number, .. } => decimal_text(alloc, number),
+        Entry::Dropped { .. } => Vec::from_slice(alloc, b"drop"),
+        Entry::Taken { .. } => Vec::from_slice(alloc, b"INT"),
+        Entry::Shown { .. } => Vec::from_slice(alloc, b"SNAP"),
+    }
+}
+
+/// Where an entry stands in storage; the number of an indicator; the tick of a snapshot.
+#[tactic(auto, unfolding(crate::specs::Caption::second_text))]
+pub fn second_text(alloc: Global, entry: Entry) -> Result<Vec<u8>, AllocError>
+    ensures { IfOk result (λ text. text.items ≡ spec.second_text entry) }
+{
+    match entry {
+        Entry::Done { place, .. } => place_text(alloc, place),
+        Entry::Dropped { place, .. } => place_text(alloc, place),
+        Entry::Taken { indicator, .. } => decimal_text(alloc, indicator),
+        Entry::Shown { tick } => decimal_text(alloc, tick),
+    }
+}
+
+/// The text of an entry's card; the name of an indicator.
+#[tactic(auto, unfolding(crate::specs::Caption::third_text))]
+pub fn third_text<'a>(report: &'a [u8], entry: Entry) -> &'a [u8]
+    ensures { result.now ≡ spec.third_text report.now entry }
+{
+    match entry {
+        Entry::Done { place, .. } => label_at(report, place),
+        Entry::Dropped { place, .. } => label_at(report, place),
+        Entry::Taken { indicator: i, .. } => indicator(i),
+        Entry::Shown { .. } => &[],
+    }
+}
+
+/// A third text where ASCII alone may stand: one that is too long ends in three dots.
+#[tactic(auto, unfolding(crate::specs::Caption::with_dots))]
+pub fn with_dots(alloc: Global, text: &[u8]) -> Result<Vec<u8>, AllocError>
+    ensures { IfOk result (λ out. out.items ≡ spec.with_dots text.now) }
+{
+    if text.len() <= CARD_LIMIT {
+        return Vec::from_slice(alloc, text);
+    }
+    let mut out = Vec::from_slice(alloc, front(text, 37))?;
+    out.extend_from_slice(b"...")?;
+    Ok(out)
+}
+
+/// How many characters are shown of the longest third text.
+pub fn widest(report: &[u8], entries: &[Entry]) -> usize
+    ensures value { result ≡ spec.widest report.now entries.now }
+    ensures inside { result ≤ 40 }
+{
+    let mut most = 0;
+    let mut rest = entries;
+    'entries: while let [entry, after @ ..] = rest {
+        most = most.max(third_text(report, *entry).len().min(CARD_LIMIT));
+        rest = after;
+    }
+    most
+}
+
+// Appends words and a number.
+#[tactic(auto, unfolding(crate::specs::Caption::words_with_number))]
+fn push_numbered(out: &mut Vec<u8>, words: &[u8], n: u64) -> Result<(), AllocError>
+    ensures { IfOk result (λ _. out.new.items ≡ out.old.items
+        ++ spec.words_with_number words.now n) }
+{
+    out.extend_from_slice(words)?;
+    push_decimal(out, u128::from(n))
+}
+
+// Appends what the bars of an entry tell.
+#[tactic(auto, unfolding(crate::specs::Caption::title))]
+fn push_title(out: &mut Vec<u8>, entry: Entry) -> Result<(), AllocError>
+    ensures { IfOk result (λ _. out.new.items ≡ out.old.items ++ spec.title entry) }
+{
+    match entry {
+        Entry::Done {
+            number,
+            prepared,
+            ready,
+            turn,
+            complete,
+            ..
+        } => {
+            push_numbered(out, b"row ", number)?;
+            push_numbered(out, b": waits for operands from P ", prepared)?;
+            push_numbered(out, b" to R ", ready)?;
+            push_numbered(out, b", for its turn to ", turn)?;
+            push_numbered(out, b", executes to C ", complete)
+        }
+        Entry::Dropped { prepared, end, .. } => {
+            push_numbered(out, b"prepared at P ", prepared)?;
+            push_numbered(out, b", dropped at ", end)
+        }
+        Entry::Taken { .. } => Ok(()),
+        Entry::Shown { .. } => Ok(()),
+    }
+}
+
+/// What the bars of an entry tell: the ticks of its phases.
+pub fn title(alloc: Global, entry: Entry) -> Result<Vec<u8>, AllocError>
+    ensures { IfOk result (λ text. text.items ≡ spec.title entry) }
+{
+    let mut out = Vec::new(alloc);
+    push_title(&mut out, entry)?;
+    Ok(out)
+}

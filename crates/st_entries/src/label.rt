@@ -1,0 +1,73 @@
+//! The text of a card, from the listing at the front of a report.
+ghost use Rattle.std.specs.Prelude.{◌≡◌};
+ghost use Rattle.st_entries.specs.Label as spec;
+ghost use Rattle.st_entries.specs.Report.{place_in_report};
+
+use crate::report::{Place, number, place_of};
+use st_text::{behind, cut, front, without_end_blanks, without_front_blanks};
+
+// Whether a line is one of the listing: it begins with a number, at the right of five places.
+#[tactic(auto, unfolding(crate::specs::Label::is_listed))]
+fn is_listed(line: &[u8]) -> bool
+    ensures { result ≡ spec.is_listed line.now }
+{
+    number(without_front_blanks(front(line, 5))).is_some()
+}
+
+// Whether a text spells a place.
+fn is_place(text: &[u8], here: Place) -> bool
+    ensures { result ≡ spec.is_place (place_in_report text.now) here }
+{
+    match place_of(text) {
+        Some(place) => place.word == here.word && place.bit == here.bit,
+        None => false,
+    }
+}
+
+// Whether a text has something else than a blank at its front.
+fn is_filled(text: &[u8]) -> bool
+    ensures { result ≡ spec.has_filled_front text.now }
+{
+    match text {
+        [] => false,
+        [first, ..] => *first != b' ',
+    }
+}
+
+// Whether the card of a listed line lays bits at a place.
+#[tactic(auto, unfolding(crate::specs::Label::lays))]
+fn lays(line: &[u8], here: Place) -> bool
+    ensures { result ≡ spec.lays line.now here }
+{
+    is_place(without_front_blanks(front(behind(line, 6), 9)), here) && is_filled(behind(line, 16))
+}
+
+// The text of a listed card, without the blanks around it.
+#[tactic(auto, unfolding(crate::specs::Label::card_text))]
+fn card_text(line: &[u8]) -> &[u8]
+    ensures { result.now ≡ spec.card_text line.now }
+{
+    without_end_blanks(without_front_blanks(behind(line, 33)))
+}
+
+/// The text of the card that lays what stands at a place; nothing, where the report has no listing
+/// of it.
+#[tactic(auto, unfolding(crate::specs::Label::label))]
+pub fn label_at(report: &[u8], here: Place) -> &[u8]
+    ensures { result.now ≡ spec.label report.now here }
+{
+    let mut rest = report;
+    'lines: while let Some((line, after)) = cut(rest, b'\n') {
+        if !is_listed(line) {
+            return &[];
+        }
+        if lays(line, here) {
+            return card_text(line);
+        }
+        rest = after;
+    }
+    if is_listed(rest) && lays(rest, here) {
+        return card_text(rest);
+    }
+    &[]
+}

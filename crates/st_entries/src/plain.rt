@@ -1,0 +1,35 @@
+//! Numbers and texts in plain characters.
+ghost use Rattle.std.specs.Prelude.{◌≡◌, ◌++◌, IfOk, decimal};
+ghost use Rattle.st_entries.specs.Plain as spec;
+
+use itoa::Buffer;
+use std::alloc::AllocError;
+
+/// Appends a number in decimal digits.
+pub fn push_decimal(out: &mut Vec<u8>, n: u128) -> Result<(), AllocError>
+    ensures { IfOk result (λ _. out.new.items ≡ out.old.items ++ decimal n) }
+{
+    out.extend_from_slice(Buffer::new().format(n).as_bytes())
+}
+
+// A byte as a terminal may show it.
+fn plain_byte(byte: u8) -> u8
+    ensures { result ≡ spec.plain_byte byte }
+{
+    match byte {
+        b' '..=b'~' => byte,
+        _ => b'?',
+    }
+}
+
+/// Appends a text as a terminal may show it.
+pub fn push_plain(out: &mut Vec<u8>, text: &[u8]) -> Result<(), AllocError>
+    ensures { IfOk result (λ _. out.new.items ≡ out.old.items ++ spec.plain_text text.now) }
+{
+    let mut rest = text;
+    'bytes: while let [byte, after @ ..] = rest {
+        out.push(plain_byte(*byte))?;
+        rest = after;
+    }
+    Ok(())
+}

@@ -1,0 +1,145 @@
+//! What the lines of a report say of its timetable.
+ghost use Rattle.std.specs.Prelude.{◌≡◌};
+ghost use Rattle.st_entries.specs.Report as spec;
+
+use st_text::{cut, number_up_to};
+
+/// An address: a word, and a bit of it.
+#[derive(Clone, Copy)]
+pub struct Place {
+    pub word: u64,
+    pub bit: u64,
+}
+
+/// What a line says that speaks of the timetable.
+#[derive(Clone, Copy)]
+pub enum Item {
+    /// An instruction is done: its number, its address, and the ticks at which it was prepared, its
+    /// operands were there and it was complete.
+    Row {
+        number: u64,
+        place: Place,
+        prepared: u64,
+        ready: u64,
+        complete: u64,
+    },
+    /// An entry was dropped, that was prepared at this tick.
+    Drop {
+        place: Place,
+        prepared: u64,
+    },
+    /// An interrupt is taken by this indicator.
+    Interrupt {
+        indicator: u64,
+    },
+    /// The machine is shown at this tick.
+    Snapshot {
+        tick: u64,
+    },
+}
+
+/// The k-th piece of a text that is cut at a byte, counted from 0.
+pub fn piece(text: &[u8], at: u8, k: usize) -> &[u8]
+    ensures { result.now ≡ spec.piece at text.now k }
+{
+    match cut(text, at) {
+        Some((first, _)) if k == 0 => first,
+        Some((_, rest)) => piece(rest, at, k - 1),
+        None if k == 0 => text,
+        None => &[],
+    }
+}
+
+/// The k-th word of a line, counted from 0.
+#[tactic(auto, unfolding(crate::specs::Report::word_in_line))]
+pub fn word(line: &[u8], k: usize) -> &[u8]
+    ensures { result.now ≡ spec.word_in_line line.now k }
+{
+    piece(line, b' ', k)
+}
+
+/// The number that a word is, if it is one and fits 64 bits.
+#[tactic(auto, unfolding(crate::specs::Report::number_in_report))]
+pub fn number(text: &[u8]) -> Option<u64>
+    ensures { result ≡ spec.number_in_report text.now }
+{
+    number_up_to(text, u64::MAX)
+}
+
+/// The place that a word is, written as word.bit.
+#[tactic(auto, unfolding(crate::specs::Report::place_in_report))]
+pub fn place_of(text: &[u8]) -> Option<Place>
+    ensures { result ≡ spec.place_in_report text.now }
+{
+    Some(Place {
+        word: number(piece(text, b'.', 0))?,
+        bit: number(piece(text, b'.', 1))?,
+    })
+}
+
+// Whether the k-th word of a line is this.
+fn has(line: &[u8], k: usize, text: &[u8]) -> bool
+    ensures { result ≡ spec.has line.now k text.now }
+{
+    word(line, k) == text
+}
+
+// The entry that a line says is done.
+#[tactic(auto, unfolding(crate::specs::Report::row_item))]
+fn row(line: &[u8]) -> Option<Item>
+    ensures { result ≡ spec.row_item line.now }
+{
+    let n = number(word(line, 1))?;
+    let place = place_of(word(line, 2))?;
+    let prepared = number(word(line, 4))?;
+    let ready = number(word(line, 6))?;
+    let complete = number(word(line, 8))?;
+    Some(Item::Row {
+        number: n,
+        place,
+        prepared,
+        ready,
+        complete,
+    })
+}
+
+// The entry that a line says was dropped.
+#[tactic(auto, unfolding(crate::specs::Report::dropped_item))]
+fn dropped(line: &[u8]) -> Option<Item>
+    ensures { result ≡ spec.dropped_item line.now }
+{
+    let place = place_of(word(line, 1))?;
+    let prepared = number(word(line, 3))?;
+    Some(Item::Drop { place, prepared })
+}
+
+// Whether a line has the words of an entry that is done.
+fn is_row(line: &[u8]) -> bool
+    ensures { result ≡ spec.is_row line.now }
+{
+    has(line, 0, b"ROW") && has(line, 3, b"P") && has(line, 5, b"R") && has(line, 7, b"C")
+}
+
+/// What a line says, if it speaks of the timetable.
+#[tactic(auto, unfolding(crate::specs::Report::item))]
+pub fn item_of(line: &[u8]) -> Option<Item>
+    ensures { result ≡ spec.item line.now }
+{
+    if is_row(line) {
+        return row(line);
+    }
+    if has(line, 0, b"DROP") && has(line, 2, b"P") {
+        return dropped(line);
+    }
+    if has(line, 0, b"INT") && has(line, 2, b"AFTER") {
+        return Some(Item::Interrupt {
+            indicator: number(word(line, 1))?,
+        });
+    }
+    if has(line, 0, b"SNAP") {
+        return Some(Item::Snapshot {
+            tick: number(word(line, 1))?,
+        });
+    }
+    None
+}

@@ -1,0 +1,214 @@
+//! The timetable that the lines of a report tell, as far as a part of it is asked for.
+ghost use Rattle.std.specs.Prelude.{◌≡◌, ◌++◌, IfOk, [], reverse};
+ghost use Rattle.st_entries.specs.Phases.{first_tick as first_tick_of};
+ghost use Rattle.st_entries.specs.Timetable as spec;
+ghost use Rattle.st_entries.specs.Timetable.{kept_by};
+ghost use Rattle.st_text.specs.Pieces.{pieces_of};
+
+use crate::report::{Item, Place, item_of};
+use st_text::cut;
+use std::alloc::{AllocError, Global};
+
+/// The rows that are asked for, by their numbers.
+#[derive(Clone, Copy)]
+pub struct Part {
+    /// The first row.
+    pub from: u64,
+    /// The last row.
+    pub to: u64,
+}
+
+/// One line of the picture.
+#[derive(Clone, Copy)]
+pub enum Entry {
+    /// An instruction is done: its number, its address, and the ticks at which it was prepared, its
+    /// operands were there, it was its turn and it was complete.
+    Done {
+        number: u64,
+        place: Place,
+        prepared: u64,
+        ready: u64,
+        turn: u64,
+        complete: u64,
+    },
+    /// An entry was prepared at one tick and dropped at another.
+    Dropped {
+        place: Place,
+        prepared: u64,
+        end: u64,
+    },
+    /// An interrupt was taken by this indicator at a tick.
+    Taken {
+        indicator: u64,
+        tick: u64,
+    },
+    /// The machine is shown at a tick.
+    Shown {
+        tick: u64,
+    },
+}
+
+/// What the lines told so far.
+#[derive(Drop)]
+pub struct Told {
+    /// The entries of the part.
+    pub entries: Vec<Entry>,
+    /// Those of the last segment that were dropped, the youngest first.
+    pub dropped: Vec<Entry>,
+    /// The number of the last row.
+    pub row: u64,
+    /// The last tick of the last row.
+    pub end: u64,
+    /// How many rows are behind the part.
+    pub later: u64,
+}
+
+/// The first tick of an entry.
+pub fn first_tick(entry: &Entry) -> u64
+    ensures { result ≡ first_tick_of entry.now }
+{
+    match *entry {
+        Entry::Done { prepared, .. } => prepared,
+        Entry::Dropped { prepared, .. } => prepared,
+        Entry::Taken { tick, .. } => tick,
+        Entry::Shown { tick } => tick,
+    }
+}
+
+// Whether a row is in a part.
+fn is_in(part: Part, n: u64) -> bool
+    ensures { result ≡ spec.is_in_part part n }
+{
+    part.from <= n && n <= part.to
+}
+
+// Puts an entry that goes with a row behind the others, where the part has that row.
+fn keep(part: Part, n: u64, entry: Entry, entries: &mut Vec<Entry>) -> Result<(), AllocError>
+    ensures { IfOk result
+        (λ _. entries.new.items ≡ spec.entries_with part n entry entries.old.items) }
+{
+    if is_in(part, n) {
+        entries.push(entry)?;
+    }
+    Ok(())
+}
+
+// Puts the dropped entries behind the others, the oldest first.
+fn settle(entries: &mut Vec<Entry>, dropped: &mut Vec<Entry>) -> Result<(), AllocError>
+    ensures entries { IfOk result (λ _. entries.new.items
+        ≡ entries.old.items ++ reverse dropped.old.items) }
+    ensures none { IfOk result (λ _. dropped.new.items ≡ []) }
+{
+    'entries: while let Some(entry) = dropped.pop() {
+        entries.push(entry)?;
+    }
+    Ok(())
+}
+
+// Puts an entry behind all that were told.
+fn join(part: Part, n: u64, entry: Entry, told: &mut Told) -> Result<(), AllocError>
+    ensures { IfOk result (λ _. kept_by told.new ≡ spec.timetable_with part n entry
+        (kept_by told.old)) }
+{
+    settle(&mut told.entries, &mut told.dropped)?;
+    keep(part, n, entry, &mut told.entries)
+}
+
+// How many rows are behind a part after a row.
+fn count_later(part: Part, n: u64, later: u64) -> u64
+    ensures { result ≡ spec.counted_later part n later }
+{
+    if part.to < n {
+        later.saturating_add(1)
+    } else {
+        later
+    }
+}
+
+// Takes in one more thing.
+fn take_item(part: Part, told: &mut Told, item: Item) -> Result<(), AllocError>
+    ensures { IfOk result (λ _. kept_by told.new ≡ spec.after_item part (kept_by told.old) item) }
+{
+    let row = told.row;
+    let end = told.end;
+    match item {
+        Item::Row {
+            number,
+            place,
+            prepared,
+            ready,
+            complete,
+        } => {
+            let entry = Entry::Done {
+                number,
+                place,
+                prepared,
+                ready,
+                turn: ready.max(end.min(complete)),
+                complete,
+            };
+            join(part, number, entry, told)?;
+            told.row = number;
+            told.end = complete;
+            told.later = count_later(part, number, told.later);
+            Ok(())
+        }
+        Item::Drop { place, prepared } => {
+            let entry = Entry::Dropped {
+                place,
+                prepared,
+                end,
+            };
+            keep(part, row, entry, &mut told.dropped)
+        }
+        Item::Interrupt { indicator } => {
+            let entry = Entry::Taken {
+                indicator,
+                tick: end,
+            };
+            join(part, row, entry, told)
+        }
+        Item::Snapshot { tick } => join(part, row, Entry::Shown { tick }, told),
+    }
+}
+
+// Takes in one more line.
+fn take_line(part: Part, told: &mut Told, line: &[u8]) -> Result<(), AllocError>
+    ensures { IfOk result (λ _. kept_by told.new
+        ≡ spec.after_line part (kept_by told.old) line.now) }
+{
+    match item_of(line) {
+        Some(item) => take_item(part, told, item),
+        None => Ok(()),
+    }
+}
+
+// Takes in all lines.
+fn take_lines(part: Part, told: &mut Told, report: &[u8]) -> Result<(), AllocError>
+    ensures { IfOk result (λ _. kept_by told.new
+        ≡ spec.after_lines part (kept_by told.old) (pieces_of 10 report.now)) }
+{
+    let mut rest = report;
+    'lines: while let Some((line, after)) = cut(rest, b'\n') {
+        take_line(part, told, line)?;
+        rest = after;
+    }
+    take_line(part, told, rest)
+}
+
+/// The timetable that a report tells.
+#[tactic(auto, unfolding(crate::specs::Timetable::timetable))]
+pub fn read_timetable(alloc: Global, part: Part, report: &[u8]) -> Result<Told, AllocError>
+    ensures { IfOk result (λ told. kept_by told ≡ spec.timetable part report.now) }
+{
+    let mut told = Told {
+        entries: Vec::new(alloc),
+        dropped: Vec::new(alloc),
+        row: 1,
+        end: 0,
+        later: 0,
+    };
+    take_lines(part, &mut told, report)?;
+    settle(&mut told.entries, &mut told.dropped)?;
+    Ok(told)
+}

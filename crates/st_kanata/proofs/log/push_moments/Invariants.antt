@@ -1,0 +1,11 @@
+-- The lines of the moments that are left go behind those that stand.
+use Rattle.std.proofs.Common.{◌≡◌, ◌++◌, length}
+use Rattle.st_kanata.specs.Log.{moments_lines}
+use Rattle.st_kanata.proofs.log.push_moments.Given as goal
+
+abbrev pub invariant-moments : goal.invariant-moments
+invariant-moments l =
+    l.out.items ++ moments_lines l.report l.tick l.rest ≡ l.fn.out.items ++ moments_lines l.report l.start l.moments
+
+abbrev pub decreases-moments : goal.decreases-moments
+decreases-moments l = length l.rest

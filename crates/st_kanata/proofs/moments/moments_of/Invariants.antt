@@ -1,0 +1,13 @@
+-- What happens to the entries that are left goes behind what stands; as many are numbered as are past.
+use Rattle.std.proofs.Common.{◌≡◌, ◌++◌, ◌+◌, length}
+use Rattle.st_kanata.specs.Moments.{moments}
+use Rattle.st_kanata.proofs.moments.moments_of.Given as goal
+
+abbrev pub invariant-entries : goal.invariant-entries
+invariant-entries l = record {
+  so_far : l.out.items ++ moments l.number l.rest ≡ moments 0 l.begins;
+  room : l.number + length l.rest ≡ length l.begins;
+}
+
+abbrev pub decreases-entries : goal.decreases-entries
+decreases-entries l = length l.rest

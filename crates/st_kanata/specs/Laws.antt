@@ -1,0 +1,14 @@
+-- Laws: what holds of every log, whatever a report says.
+use Rattle.std.specs.Prelude.{◌≡◌, ℕ, List, true}
+use Rattle.st_text.specs.Bytes.{is_printable}
+use Rattle.st_entries.specs.Plain.{plain_text}
+use Rattle.st_entries.specs.declared.timetable.Entry.{Entry}
+use Rattle.st_kanata.specs.Moments.{GoForward, happenings}
+
+-- what a log tells comes in the order of ticks
+abbrev pub LogsGoForward : Type 0
+LogsGoForward = (es : List Entry) → GoForward 0 (happenings es)
+
+-- the label of an entry in a log is printable, and so stays in its line
+abbrev pub LabelsStayInTheirLines : Type 0
+LabelsStayInTheirLines = (text : List ℕ) → is_printable (plain_text text) ≡ true

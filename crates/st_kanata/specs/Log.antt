@@ -1,0 +1,116 @@
+-- A log of what happens to the entries of a timetable, for a pipeline viewer.
+use Rattle.std.specs.Prelude.{ℕ, ◌-◌, nat_eq, if◌then◌else◌, List, [], ◌∷◌, ◌++◌, codes, decimal}
+use Rattle.st_entries.specs.Caption.{caption_number, second_text, third_text, with_dots}
+use Rattle.st_kanata.specs.Moments.{happenings}
+use Rattle.st_entries.specs.Plain.{plain_text}
+use Rattle.st_kanata.specs.declared.moments.Moment.{Moment}
+use Rattle.st_kanata.specs.declared.moments.Step.{Step}
+use Rattle.st_kanata.specs.declared.moments.Step.TheVariants.{Begin, Ready, Turn, End}
+use Rattle.st_entries.specs.declared.timetable.Entry.{Entry}
+use Rattle.st_entries.specs.declared.timetable.Entry.TheVariants.{Done, Dropped, Taken, Shown}
+
+-- the name of the log's format, and what stands before the tick at which it starts
+unfoldable pub heading : List ℕ
+heading = codes "Kanata\t0004\nC=\t"
+
+-- the name of the log's format, and the tick at which it starts
+unfoldable pub log_front : ℕ → List ℕ
+log_front tick = heading ++ decimal tick ++ codes "\n"
+
+-- that ticks pass, where they do
+unfoldable pub passing : ℕ → ℕ → List ℕ
+passing from to = if nat_eq from to then [] else codes "C\t" ++ decimal (to - from) ++ codes "\n"
+
+-- that the entry with a number appears
+unfoldable pub log_entry_line : ℕ → List ℕ
+log_entry_line k = codes "I\t" ++ decimal k ++ codes "\t" ++ decimal k ++ codes "\t0\n"
+
+-- what stands beside it in the viewer
+unfoldable pub label_line : ℕ → List ℕ → List ℕ
+label_line k text = codes "L\t" ++ decimal k ++ codes "\t0\t" ++ plain_text text ++ codes "\n"
+
+-- that a stage of it begins, `S`, or ends, `E`
+unfoldable pub stage_line : List ℕ → ℕ → List ℕ → List ℕ
+stage_line sign k stage = sign ++ codes "\t" ++ decimal k ++ codes "\t0\t" ++ stage ++ codes "\n"
+
+-- that it is done with, as the n-th row or as none: retired, 0, or flushed, 1
+unfoldable pub log_end_line : ℕ → ℕ → List ℕ → List ℕ
+log_end_line k n how = codes "R\t" ++ decimal k ++ codes "\t" ++ decimal n ++ codes "\t" ++ how
+    ++ codes "\n"
+
+-- the label of an entry: its three texts, the last one with dots where it is too long
+unfoldable pub log_label : List ℕ → Entry → List ℕ
+log_label report e = caption_number e ++ codes " " ++ second_text e ++ codes " "
+    ++ with_dots (third_text report e)
+
+-- the stage in which an entry begins: waiting for its operands, dropped, an interrupt, a snapshot
+abbrev pub first_stage : Entry → List ℕ
+first_stage (Done n a p r t c) = codes "W"
+first_stage (Dropped a p end) = codes "D"
+first_stage (Taken i t) = codes "I"
+first_stage (Shown t) = codes "S"
+
+-- the stage in which an entry ends: executing, or that in which it began
+abbrev pub last_stage : Entry → List ℕ
+last_stage (Done n a p r t c) = codes "X"
+last_stage (Dropped a p end) = codes "D"
+last_stage (Taken i t) = codes "I"
+last_stage (Shown t) = codes "S"
+
+-- the number of an entry's row; 0 where it has none
+abbrev pub row_number : Entry → ℕ
+row_number (Done n a p r t c) = n
+row_number (Dropped a p end) = 0
+row_number (Taken i t) = 0
+row_number (Shown t) = 0
+
+-- whether an entry was retired, 0, or flushed, 1
+abbrev pub manner : Entry → List ℕ
+manner (Done n a p r t c) = codes "0"
+manner (Dropped a p end) = codes "1"
+manner (Taken i t) = codes "0"
+manner (Shown t) = codes "0"
+
+-- the lines of an entry that begins
+unfoldable pub begin_lines : List ℕ → ℕ → Entry → List ℕ
+begin_lines report k e = log_entry_line k ++ label_line k (log_label report e)
+    ++ stage_line (codes "S") k (first_stage e)
+
+-- the lines of an entry that goes from one stage to another
+unfoldable pub change_lines : ℕ → List ℕ → List ℕ → List ℕ
+change_lines k from to = stage_line (codes "E") k from ++ stage_line (codes "S") k to
+
+-- the lines of an entry that ends
+unfoldable pub log_end_lines : ℕ → Entry → List ℕ
+log_end_lines k e = stage_line (codes "E") k (last_stage e)
+    ++ log_end_line k (row_number e) (manner e)
+
+-- the lines of what happens to an entry
+abbrev pub step_lines : List ℕ → ℕ → Step → Entry → List ℕ
+step_lines report k Begin e = begin_lines report k e
+step_lines report k Ready e = change_lines k (codes "W") (codes "T")
+step_lines report k Turn e = change_lines k (codes "T") (codes "X")
+step_lines report k End e = log_end_lines k e
+
+-- the lines of a moment that comes after a tick, or at it
+unfoldable pub moment_lines : List ℕ → ℕ → Moment → List ℕ
+moment_lines report tick m = passing tick m.tick ++ step_lines report m.number m.step m.entry
+
+-- the lines of moments that come after a tick, or at it, one after another
+abbrev pub moments_lines : List ℕ → ℕ → List Moment → List ℕ
+moments_lines report tick [] = []
+moments_lines report tick (m ∷ ms) = moment_lines report tick m ++ moments_lines report m.tick ms
+
+-- the tick of the first moment; 0 where there is none
+abbrev pub first_moment_tick : List Moment → ℕ
+first_moment_tick [] = 0
+first_moment_tick (m ∷ ms) = m.tick
+
+-- the bytes of a log of moments
+unfoldable pub log_of : List ℕ → List Moment → List ℕ
+log_of report ms = log_front (first_moment_tick ms) ++ moments_lines report
+    (first_moment_tick ms) ms
+
+-- the bytes of a log of entries
+unfoldable pub log : List ℕ → List Entry → List ℕ
+log report entries = log_of report (happenings entries)

@@ -1,0 +1,212 @@
+//! What happens to the entries of a timetable, in the order of ticks.
+ghost use Rattle.std.specs.Prelude.{◌≡◌, ◌++◌, ◌∷◌, [], IfOk, List};
+ghost use Rattle.st_kanata.specs.declared.moments.Moment.{Moment};
+ghost use Rattle.st_kanata.specs.Moments as spec;
+
+use st_entries::{Entry, first_tick};
+use std::alloc::{AllocError, Global};
+
+/// What happens to an entry.
+#[derive(Clone, Copy)]
+pub enum Step {
+    /// It begins.
+    Begin,
+    /// Its operands are there.
+    Ready,
+    /// It is its turn.
+    Turn,
+    /// It is complete, or dropped, or past.
+    End,
+}
+
+/// What happens to an entry at a tick.
+#[derive(Clone, Copy)]
+pub struct Moment {
+    pub tick: u64,
+    /// The number of the entry, as they begin.
+    pub number: u64,
+    pub step: Step,
+    pub entry: Entry,
+}
+
+// The tick at which an entry's operands are there: not before it begins.
+fn ready_tick(entry: &Entry) -> u64
+    ensures { result ≡ spec.ready_tick entry.now }
+{
+    match *entry {
+        Entry::Done {
+            prepared,
+            ready,
+            ..
+        } => prepared.max(ready),
+        Entry::Dropped { prepared, .. } => prepared,
+        Entry::Taken { tick, .. } => tick,
+        Entry::Shown { tick } => tick,
+    }
+}
+
+// The tick at which it is an entry's turn: not before its operands are there.
+fn turn_tick(entry: &Entry) -> u64
+    ensures { result ≡ spec.turn_tick entry.now }
+{
+    match *entry {
+        Entry::Done {
+            prepared,
+            ready,
+            turn,
+            ..
+        } => prepared.max(ready).max(turn),
+        Entry::Dropped { prepared, .. } => prepared,
+        Entry::Taken { tick, .. } => tick,
+        Entry::Shown { tick } => tick,
+    }
+}
+
+// The tick at which an entry ends: not before it begins; an interrupt and a snapshot fill one tick.
+fn end_tick(entry: &Entry) -> u64
+    ensures { result ≡ spec.end_tick entry.now }
+{
+    match *entry {
+        Entry::Done {
+            prepared,
+            ready,
+            turn,
+            complete,
+            ..
+        } => prepared.max(ready).max(turn).max(complete),
+        Entry::Dropped { prepared, end, .. } => prepared.max(end),
+        Entry::Taken { tick, .. } => tick.saturating_add(1),
+        Entry::Shown { tick } => tick.saturating_add(1),
+    }
+}
+
+// The tick at which something happens to an entry.
+fn tick_of(step: Step, entry: &Entry) -> u64
+    ensures { result ≡ spec.moment_tick step entry.now }
+{
+    match step {
+        Step::Begin => first_tick(entry),
+        Step::Ready => ready_tick(entry),
+        Step::Turn => turn_tick(entry),
+        Step::End => end_tick(entry),
+    }
+}
+
+// Appends what happens to the entry with a number.
+fn push(out: &mut Vec<Moment>, number: u64, step: Step, entry: Entry) -> Result<(), AllocError>
+    ensures { IfOk result (λ _. out.new.items
+        ≡ out.old.items ++ spec.moment number step entry ∷ []) }
+{
+    let tick = tick_of(step, &entry);
+    out.push(Moment {
+        tick,
+        number,
+        step,
+        entry,
+    })?;
+    Ok(())
+}
+
+// Appends that the operands of an entry are there, and that it is its turn, where it waits for
+// these.
+fn push_waits(out: &mut Vec<Moment>, number: u64, entry: Entry) -> Result<(), AllocError>
+    ensures { IfOk result (λ _. out.new.items ≡ out.old.items ++ spec.waits_of number entry) }
+{
+    match entry {
+        Entry::Done { .. } => {
+            push(out, number, Step::Ready, entry)?;
+            push(out, number, Step::Turn, entry)
+        }
+        Entry::Dropped { .. } => Ok(()),
+        Entry::Taken { .. } => Ok(()),
+        Entry::Shown { .. } => Ok(()),
+    }
+}
+
+// Appends all that happens to the entry with a number.
+#[tactic(auto, unfolding(crate::specs::Moments::moments_of))]
+fn push_moments_of(out: &mut Vec<Moment>, number: u64, entry: Entry) -> Result<(), AllocError>
+    ensures { IfOk result (λ _. out.new.items ≡ out.old.items ++ spec.moments_of number entry) }
+{
+    push(out, number, Step::Begin, entry)?;
+    push_waits(out, number, entry)?;
+    push(out, number, Step::End, entry)
+}
+
+// That entries begin.
+fn begins_of(alloc: Global, entries: &[Entry]) -> Result<Vec<Moment>, AllocError>
+    ensures { IfOk result (λ out. out.items ≡ spec.beginnings entries.now) }
+{
+    let mut out = Vec::new(alloc);
+    let mut rest = entries;
+    'entries: while let [entry, after @ ..] = rest {
+        push(&mut out, 0, Step::Begin, *entry)?;
+        rest = after;
+    }
+    Ok(out)
+}
+
+// All that happens to the entries that begin so, numbered from 0 on.
+fn moments_of(alloc: Global, begins: &[Moment]) -> Result<Vec<Moment>, AllocError>
+    ensures { IfOk result (λ out. out.items ≡ spec.moments 0 begins.now) }
+{
+    let mut out = Vec::new(alloc);
+    let mut number = 0;
+    let mut rest = begins;
+    'entries: while let [begin, after @ ..] = rest {
+        push_moments_of(&mut out, number, begin.entry)?;
+        number += 1;
+        rest = after;
+    }
+    Ok(out)
+}
+
+// Two lists in order as one: the earlier of the two first moments comes first, the left one where
+// they come at one tick.
+fn merge(alloc: Global, left: &[Moment], right: &[Moment]) -> Result<Vec<Moment>, AllocError>
+    ensures { IfOk result (λ out. (a b : List Moment) → left.now ≡ spec.in_order a
+        → right.now ≡ spec.in_order b → out.items ≡ spec.in_order (a ++ b)) }
+{
+    let mut out = Vec::new(alloc);
+    let mut ours = left;
+    let mut theirs = right;
+    'moments: while let [first, firsts @ ..] = ours {
+        let [other, others @ ..] = theirs else {
+            out.extend_from_slice(ours)?;
+            return Ok(out);
+        };
+        if first.tick <= other.tick {
+            out.push(*first)?;
+            ours = firsts;
+            continue 'moments;
+        }
+        out.push(*other)?;
+        theirs = others;
+    }
+    out.extend_from_slice(theirs)?;
+    Ok(out)
+}
+
+// Moments in the order of their ticks; those of one tick keep their order.
+fn in_order(alloc: Global, moments: &[Moment]) -> Result<Vec<Moment>, AllocError>
+    ensures { IfOk result (λ out. out.items ≡ spec.in_order moments.now) }
+{
+    if moments.len() <= 1 {
+        return Vec::from_slice(alloc, moments);
+    }
+    let (front, back) = moments.split_at(moments.len() / 2);
+    let front = in_order(alloc, front)?;
+    let back = in_order(alloc, back)?;
+    merge(alloc, front.as_slice(), back.as_slice())
+}
+
+/// What happens to entries, in the order of ticks; they are numbered from 0 on as they begin.
+#[tactic(auto, unfolding(crate::specs::Moments::happenings))]
+pub fn happenings(alloc: Global, entries: &[Entry]) -> Result<Vec<Moment>, AllocError>
+    ensures { IfOk result (λ out. out.items ≡ spec.happenings entries.now) }
+{
+    let begins = begins_of(alloc, entries)?;
+    let begins = in_order(alloc, begins.as_slice())?;
+    let moments = moments_of(alloc, begins.as_slice())?;
+    in_order(alloc, moments.as_slice())
+}
