@@ -3,9 +3,7 @@ ghost use Rattle.std.specs.Prelude.{◌≡◌, ◌++◌, IfOk};
 ghost use Rattle.st_kanata.specs.Log as spec;
 
 use crate::moments::{Moment, Step, happenings};
-use st_entries::{
-    Entry, first_text, push_decimal, push_plain, second_text, third_text, with_dots,
-};
+use st_entries::{Entry, first_text, push_decimal, push_plain, second_text, third_text, with_dots};
 use std::alloc::{AllocError, Global};
 
 // The name of the log's format, and what stands before the tick at which it starts.
