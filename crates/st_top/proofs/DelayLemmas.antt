@@ -7,7 +7,8 @@ use Rattle.st_run.specs.Moments.{moment_at_start}
 use Rattle.st_run.specs.Told.{told_of_events}
 use Rattle.st_run.proofs.Untimed.{timed-plain}
 use Rattle.st_top.specs.Marks.{without_marks, lines_unmarked, marked_report, marked_run}
-use Rattle.st_top.specs.StepsBack.{events_of_run, last_state, states, lines_of_steps_back}
+use Rattle.st_beside.specs.States.{states}
+use Rattle.st_top.specs.StepsBack.{events_of_run, last_state, lines_of_steps_back}
 use Rattle.st_top.specs.declared.reporting.TheConstants.{LEVELS}
 use Rattle.st_top.proofs.PlainEventLemmas.{unmarked-append, unmarked-plain, happening_lines, report-lines, counted-run}
 

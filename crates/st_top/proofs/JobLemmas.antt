@@ -15,7 +15,7 @@ use Rattle.st_state.specs.Machine.{opening_state}
 use Rattle.st_top.specs.Listing.{rows_lines, symbols_lines}
 use Rattle.st_top.specs.Marks.{Marked, lines_unmarked, marked_run, up_to_end, texts_up_to_end, end_card, listed_lines, marked_listing, marked_by, marked_load, marked_output, DifferInDelays}
 use Rattle.st_top.specs.Output.{scene_of_assembly, loaded_start}
-use Rattle.st_top.specs.declared.command.Command.TheVariants.{Run, Load}
+use Rattle.st_command.specs.declared.command.Command.TheVariants.{Run, Load}
 use Rattle.st_top.proofs.DelayLemmas.{run-same}
 use Rattle.st_top.proofs.PlainEventLemmas.{unmarked-append, unmarked-between}
 

@@ -18,10 +18,11 @@ use Rattle.st_run.specs.Told.{What, Done, Dropped, Printed, Interrupted, Shown, 
 use Rattle.st_top.specs.Listing.{rows_lines, listing_row_line as card_line, symbols_lines, listing}
 use Rattle.st_top.specs.Marks.{Marked, with_marks, without_marks, all_lines, marked_at, marked_lines, marked_report, marked_run, up_to_end, end_card, listed_lines, marked_listing, marked_by, marked_load, marked_output}
 use Rattle.st_top.specs.Output.{output_of, scene_of_assembly, loaded_start}
-use Rattle.st_top.specs.Report.{line_if, block, snapshot_lines, lines_at, lines_told, report}
-use Rattle.st_top.specs.StepsBack.{events_of_run, moment_at_end, last_state, states, lines_of_steps_back, run_report}
-use Rattle.st_top.specs.declared.command.Command.{Command}
-use Rattle.st_top.specs.declared.command.Command.TheVariants.{Run, Assemble, Load, Disassemble, Sweep, Soak}
+use Rattle.st_telling.specs.Report.{line_if, block, snapshot_lines, lines_at, lines_told, report}
+use Rattle.st_beside.specs.States.{states}
+use Rattle.st_top.specs.StepsBack.{events_of_run, moment_at_end, last_state, lines_of_steps_back, run_report}
+use Rattle.st_command.specs.declared.command.Command.{Command}
+use Rattle.st_command.specs.declared.command.Command.TheVariants.{Run, Assemble, Load, Disassemble, Sweep, Soak}
 
 -- ---- all lines
 

@@ -11,12 +11,13 @@ use Rattle.st_run.specs.Events.{Timed}
 use Rattle.st_run.specs.Order.{last_completion}
 use Rattle.st_run.specs.Told.{Told, told_of_events}
 use Rattle.st_run.proofs.LastLemmas.{last_done, run-done, run-tick}
-use Rattle.st_top.specs.Report.{report}
-use Rattle.st_top.specs.StepsBack.{states, lines_of_steps_back, last_state, events_of_run, moment_at_end, run_report}
-use Rattle.st_top.specs.Running.{WritesEvents, last_moment}
-use Rattle.st_top.specs.declared.moment.Moment.{Moment}
+use Rattle.st_telling.specs.Report.{report}
+use Rattle.st_beside.specs.States.{states}
+use Rattle.st_top.specs.StepsBack.{lines_of_steps_back, last_state, events_of_run, moment_at_end, run_report}
+use Rattle.st_telling.specs.Running.{WritesEvents, last_moment}
+use Rattle.st_telling.specs.declared.moment.Moment.{Moment}
 use Rattle.st_top.specs.declared.reporting.TheConstants.{LEVELS}
-use Rattle.st_top.proofs.Runs.{events_cut, events_then}
+use Rattle.st_telling.proofs.Runs.{events_cut, events_then}
 
 last-told : (m : Moment) (xs : List Timed) → last_moment m (told_of_events xs) ≡ record { done = last_done m.done xs; tick = last_completion m.tick xs }
 unfolding last_moment told_of_events last_completion last_done

@@ -7,13 +7,13 @@ use Rattle.st_io.specs.Lines.{text}
 use Rattle.st_io.specs.Event.{StoppedAt}
 use Rattle.st_io.proofs.Writing.{wrote_at_moment}
 use Rattle.st_state.specs.Machine.{opening_state}
-use Rattle.st_top.specs.declared.moment.Moment.{Moment}
+use Rattle.st_telling.specs.declared.moment.Moment.{Moment}
 use Rattle.st_run.specs.Run.{Scene}
 use Rattle.st_object.specs.Object.{Program}
 use Rattle.st_top.specs.Output.{Output, lines_alone, output_of_run, scene_at_start, loaded_by, loaded_start}
-use Rattle.st_top.proofs.Besides.{no_cards}
+use Rattle.st_top.proofs.Starts.{no_cards}
 use Rattle.st_top.specs.Answers.{WroteAll, Writes}
-use Rattle.st_top.specs.Running.{WritesEvents}
+use Rattle.st_telling.specs.Running.{WritesEvents}
 use Rattle.st_top.specs.declared.answer.Answer.{Answer}
 use Rattle.st_top.specs.declared.answer.Status.TheVariants.{Done, WriteFault}
 

@@ -18,7 +18,7 @@ use Rattle.st_run.specs.TimedRun.{event_at, ticks_before, snapshots_from, drops,
 use Rattle.st_run.specs.Told.{told_of_events, told_of, what_of}
 use Rattle.st_run.proofs.DoneLemmas.{settled-done}
 use Rattle.st_top.specs.Marks.{Marked, with_marks, without_marks, lines_unmarked, marked_lines, marked_report}
-use Rattle.st_top.specs.Report.{line_if, block, snapshot_lines}
+use Rattle.st_telling.specs.Report.{line_if, block, snapshot_lines}
 
 -- what holds both ways holds of what is chosen
 of_choice : {A : Type 0} (P : A → Type 0) (b : Bool) (x y : A) → P x → P y → P (if b then x else y)

@@ -1,12 +1,12 @@
 -- A run that is prepared starts from the scene that is meant.
-use Rattle.std.proofs.Common.{◌≡◌, ◌<◌, ℕ, List, All, sym, ◌∙◌, ap, subst}
+use Rattle.std.proofs.Common.{◌≡◌, ◌<◌, ℕ, [], List, All, refl, sym, ◌∙◌, ap, subst}
 use Rattle.std.specs.Prelude.{Result, Ok, Err, IfOk}
 use Rattle.st_exch.proofs.CardLemmas.{cards-size, cards-below}
 use Rattle.st_card.specs.Controls.{Asked}
 use Rattle.st_state.specs.Machine.{Machine, IsMachine, opening_state}
 use Rattle.st_card.specs.declared.control_cards.Signal.{Signal}
 use Rattle.st_run.specs.Run.{Scene}
-use Rattle.st_exch.specs.Reader.{reader_cards}
+use Rattle.st_exch.specs.Reader.{reader_cards, texts_in, behind_statements}
 use Rattle.st_run.specs.Reached.{IsCard}
 use Rattle.st_run.specs.Scenes.{IsScene}
 use Rattle.st_run.specs.TimedRun.{timed_run}
@@ -46,3 +46,8 @@ are_cards job bytes = λ k d lt. record { size = cards-size job k d lt; below = 
 pub read_cards : {E : Type 0} (job : List ℕ) (r : Result (List (List ℕ)) E) → All (λ x. x < 256) job → IfOk r (λ cards. cards ≡ reader_cards job) → IfOk r (All IsCard)
 read_cards job (Ok cards) bytes e = subst (All IsCard) (sym e) (are_cards job bytes)
 read_cards job (Err x) bytes e = tt
+
+-- the reader of a job without cards
+pub no_cards : reader_cards [] ≡ []
+unfolding reader_cards texts_in behind_statements
+no_cards = refl

@@ -15,8 +15,9 @@ use Rattle.st_run.specs.Told.{told_of_events, told_of}
 use Rattle.st_run.specs.Scenes.{IsScene}
 use Rattle.st_run.proofs.Bounds.{run-time}
 use Rattle.st_run.proofs.EndLemmas.{run-ends}
-use Rattle.st_top.specs.Report.{report, lines_told}
-use Rattle.st_top.specs.StepsBack.{states, lines_of_steps_back, last_state, events_of_run, moment_at_end, run_report}
+use Rattle.st_telling.specs.Report.{report, lines_told}
+use Rattle.st_beside.specs.States.{states}
+use Rattle.st_top.specs.StepsBack.{lines_of_steps_back, last_state, events_of_run, moment_at_end, run_report}
 use Rattle.st_sweep.specs.Sweep.{ticks}
 use Rattle.st_top.specs.Sweep.{sweep_lines, sweep_start, sweep_of}
 use Rattle.st_top.specs.Output.{output_of_run, output_of_sweep}

@@ -9,8 +9,8 @@ use Rattle.st_top.specs.Output.{Output, output_of, delays_of, soak_output, soake
 use Rattle.st_top.specs.declared.answer.Answer.{Answer}
 use Rattle.st_top.specs.declared.answer.Status.{Status}
 use Rattle.st_top.specs.declared.answer.Status.TheVariants.{Done, Refused, Usage, JobTooLong, ReadFault, WriteFault, NoMemory}
-use Rattle.st_top.specs.declared.command.Command.{Command}
-use Rattle.st_top.specs.declared.command.Command.TheVariants.{Run, Assemble, Load, Disassemble, Sweep, Soak}
+use Rattle.st_command.specs.declared.command.Command.{Command}
+use Rattle.st_command.specs.declared.command.Command.TheVariants.{Run, Assemble, Load, Disassemble, Sweep, Soak}
 
 -- the longest job, in bytes
 abbrev pub job_limit : ℕ

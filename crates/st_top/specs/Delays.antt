@@ -19,8 +19,8 @@ use Rattle.st_object.specs.Object.{Program, read_text}
 use Rattle.st_top.specs.Marks.{all_lines, lines_unmarked, marked_run, marked_output, texts_up_to_end, DifferInDelays}
 use Rattle.st_top.specs.Output.{output_of}
 use Rattle.st_top.specs.StepsBack.{run_report}
-use Rattle.st_top.specs.declared.command.Command.{Command}
-use Rattle.st_top.specs.declared.command.Command.TheVariants.{Run, Load}
+use Rattle.st_command.specs.declared.command.Command.{Command}
+use Rattle.st_command.specs.declared.command.Command.TheVariants.{Run, Load}
 
 -- whether a keyword is that of delays
 abbrev pub is_delays : Option Keyword → Bool

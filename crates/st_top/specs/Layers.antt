@@ -15,7 +15,7 @@ use Rattle.st_io.specs.declared.source.ReadError.TheVariants.{TooLong as ReadToo
 use Rattle.st_top.specs.Answers.{Writes, KeepsTime, job_limit}
 use Rattle.st_top.specs.Output.{Output, output_of, delays_of, refusal_output}
 use Rattle.st_top.specs.declared.answer.Answer.{Answer}
-use Rattle.st_top.specs.declared.command.Command.{Command}
+use Rattle.st_command.specs.declared.command.Command.{Command}
 use Rattle.st_top.specs.declared.layer_error.LayerError.{LayerError}
 use Rattle.st_top.specs.declared.layer_error.LayerError.TheVariants.{Refused, TooLong, Unread, NoMemory}
 

@@ -14,10 +14,11 @@ use Rattle.st_report.specs.Line.{prt_line, trc_line, row_line, drop_line, int_li
 use Rattle.st_run.specs.Told.{What, Done, Dropped, Printed, Interrupted, Shown, Ended, Told, told_of_events}
 use Rattle.st_top.specs.Listing.{rows_lines, symbols_lines}
 use Rattle.st_top.specs.Output.{output_of, scene_of_assembly, loaded_start}
-use Rattle.st_top.specs.Report.{line_if, block, snapshot_lines}
-use Rattle.st_top.specs.StepsBack.{events_of_run, last_state, states, lines_of_steps_back}
-use Rattle.st_top.specs.declared.command.Command.{Command}
-use Rattle.st_top.specs.declared.command.Command.TheVariants.{Run, Assemble, Load, Disassemble, Sweep, Soak}
+use Rattle.st_telling.specs.Report.{line_if, block, snapshot_lines}
+use Rattle.st_beside.specs.States.{states}
+use Rattle.st_top.specs.StepsBack.{events_of_run, last_state, lines_of_steps_back}
+use Rattle.st_command.specs.declared.command.Command.{Command}
+use Rattle.st_command.specs.declared.command.Command.TheVariants.{Run, Assemble, Load, Disassemble, Sweep, Soak}
 
 -- a line, and whether the delays may change it
 pub record Marked : Type 0 where

@@ -1,26 +1,18 @@
--- The states of a run, the one that is shown so many steps before its end, and the whole report.
-use Rattle.std.specs.Prelude.{ℕ, zero, suc, ◌-◌, ◌==◌, min, if◌then◌else◌, List, [], ◌∷◌, ◌++◌, slice_index_or}
+-- The state that is shown so many steps before the end of a run, and the whole report.
+use Rattle.std.specs.Prelude.{ℕ, ◌-◌, ◌==◌, min, if◌then◌else◌, List, [], ◌∷◌, ◌++◌, slice_index_or}
 use Rattle.st_card.specs.Controls.{Asked}
 use Rattle.st_state.specs.Machine.{Machine}
-use Rattle.st_exec.specs.Step.{rests}
-use Rattle.st_run.specs.Run.{Scene, interlude, scene_after_step, run}
+use Rattle.st_run.specs.Run.{Scene, run}
 use Rattle.st_io.specs.Event.{Event, at_moment}
 use Rattle.st_report.specs.Line.{back_line}
 use Rattle.st_run.specs.Events.{Timed}
 use Rattle.st_run.specs.Order.{last_completion}
 use Rattle.st_run.specs.TimedRun.{timed_run}
 use Rattle.st_run.specs.Told.{told_of_events}
-use Rattle.st_top.specs.Report.{block, report}
-use Rattle.st_top.specs.declared.moment.Moment.{Moment}
+use Rattle.st_beside.specs.States.{states}
+use Rattle.st_telling.specs.Report.{block, report}
+use Rattle.st_telling.specs.declared.moment.Moment.{Moment}
 use Rattle.st_top.specs.declared.reporting.TheConstants.{LEVELS}
-
--- the states of a run from a scene on, each after what comes before its step, up to the one in
--- which the run ends
-unfoldable pub states : ℕ → Scene → List Machine
-states zero c = (interlude c).scene.machine ∷ []
-states (suc left) c =
-    let s = (interlude c).scene in
-    if rests s.machine then s.machine ∷ [] else s.machine ∷ states left (scene_after_step s)
 
 -- the line and the block of the state so many steps before the last one, but no more than were made
 abbrev pub block_before : List (ℕ × ℕ) → ℕ → List Machine → Machine → List (List ℕ)

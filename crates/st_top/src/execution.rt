@@ -35,19 +35,18 @@ ghost use Rattle.st_object.specs.Object.{IsProgram};
 ghost use Rattle.st_run.specs.Told.{told_of_events};
 ghost use Rattle.st_top.specs.Listing.{HasCards, front_lines};
 ghost use Rattle.st_top.specs.StepsBack.{events_of_run, moment_at_end, run_report};
-ghost use Rattle.st_top.specs.Beside.{IsBesideReady, StandsAtStart};
-ghost use Rattle.st_top.specs.Running.{WritesEvents};
+ghost use Rattle.st_beside.specs.Beside.{IsBesideReady, StandsAtStart};
+ghost use Rattle.st_telling.specs.Running.{WritesEvents};
 ghost use Rattle.st_top.specs.Output.{scene_at_start, ran_by, loaded_by, output_of_run};
 ghost use Rattle.st_top.specs.Answers.{Writes, KeepsTime};
 
 use crate::answer::{Answer, Status};
 use crate::listing::write_front;
-use crate::moment::Moment;
-use crate::past::Past;
 use crate::reporting::{LEVELS, budget, write_report};
 use st_asm::Assembled;
 use st_back::Back;
 use st_banks::Delays;
+use st_beside::Past;
 use st_bits::NoMemory;
 use st_card::{Card, Controls, Signal};
 use st_exch::Hopper;
@@ -55,6 +54,7 @@ use st_io::{Failed, Sink};
 use st_object::Image;
 use st_run::Run;
 use st_state::State;
+use st_telling::Moment;
 use std::alloc::Global;
 
 // Writes what stands in front of the report of a job, and then the report of its run.

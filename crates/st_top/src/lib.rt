@@ -4,20 +4,14 @@
 #![tactic(auto, using(st_bits::specs::Storage::words_of_storage_is))]
 
 mod answer;
-mod block;
-mod command;
 mod execution;
 mod layer_error;
 mod listing;
-mod moment;
 mod objects;
-mod past;
 mod program;
 mod refusal;
 mod reporting;
 mod sweeping;
-mod telling;
 
 pub use answer::{Answer, Status};
-pub use command::Command;
 pub use program::stretch;

@@ -6,11 +6,11 @@ ghost use Rattle.st_card.specs.Cards.{IsCardOf};
 ghost use Rattle.st_io.specs.Lines.{WritesLines};
 ghost use Rattle.st_top.specs.Listing.{HasCards, listing_row_line, rows_lines, symbols_lines, listing, made_lines, front_lines};
 
-use crate::block::put;
 use st_asm::{Assembled, Listed, Symbol};
 use st_card::{Card, Controls};
 use st_io::{Failed, Sink};
 use st_report::{line_listed, line_soak, line_symbol};
+use st_telling::put;
 
 // Writes the line of a card, by its row.
 fn write_row<K: Sink>(out: &mut K, job: &[u8], row: Listed, card: Card) -> Result<(), Failed>

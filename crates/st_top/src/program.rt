@@ -3,16 +3,15 @@ ghost use Rattle.std.specs.Prelude.{◌≡◌, ◌<◌, ◌≤◌, ◌^◌, None
 ghost use Rattle.std.specs.List.{list_all};
 ghost use Rattle.std.specs.String.{string_bytes};
 ghost use Rattle.st_asm.specs.Assembly.{assembly};
-ghost use Rattle.st_top.specs.Command.{command_of, IsWithinCards};
-ghost use Rattle.st_top.specs.CommandLine.{is_plain};
-ghost use Rattle.st_top.specs.declared.command.Command.TheVariants.{Assemble, Load, Disassemble, Sweep};
+ghost use Rattle.st_command.specs.Command.{command_of, IsWithinCards};
+ghost use Rattle.st_command.specs.CommandLine.{is_plain};
+ghost use Rattle.st_command.specs.declared.command.Command.TheVariants.{Assemble, Load, Disassemble, Sweep};
 ghost use Rattle.st_top.specs.Output.{output_of, delays_of, ran_by, assembled_delays, soak_output, soaked_delays};
 ghost use Rattle.st_top.specs.Answers.{Did, Acted, IsAnswer, Writes, KeepsTime};
 ghost use Rattle.st_top.specs.Delays.{DelaysShowInMarksAlone};
 ghost use Rattle.st_top.specs.Layers.{Ends, Tries};
 
 use crate::answer::{Answer, Status};
-use crate::command::{Command, read_words};
 use crate::execution::{execute, execute_loaded};
 use crate::layer_error::LayerError;
 use crate::objects::{answer_deck, answer_object, image_of};
@@ -20,6 +19,7 @@ use crate::refusal::refuse;
 use crate::sweeping::execute_sweep;
 use st_asm::{assemble, assemble_cards};
 use st_card::split;
+use st_command::{Command, read_words};
 use st_gen::make_deck;
 use st_io::{Sink, Source, read_all};
 use st_object::read_object;

@@ -7,10 +7,10 @@ ghost use Rattle.st_top.specs.Answers.{Writes};
 ghost use Rattle.st_top.specs.Output.{refusal_output};
 
 use crate::answer::{Answer, Status};
-use crate::block::put;
 use st_card::Fault;
 use st_io::{Failed, Sink};
 use st_report::line_fault;
+use st_telling::put;
 
 // Writes the line of a refused card.
 fn write_refusal<K: Sink>(out: &mut K, card: u32, fault: Fault) -> Result<(), Failed>

@@ -7,20 +7,19 @@ ghost use Rattle.st_run.specs.Run.{Scene as SceneOf};
 ghost use Rattle.st_io.specs.Lines.{WritesLines};
 ghost use Rattle.st_report.specs.Line.{back_line};
 ghost use Rattle.st_run.specs.Told.{told_of_events};
-ghost use Rattle.st_top.specs.Report.{block};
-ghost use Rattle.st_top.specs.StepsBack.{states, lines_of_steps_back, last_state, events_of_run, moment_at_end, run_report};
-ghost use Rattle.st_top.specs.Beside.{IsBesideReady, StandsAtStart, StandsAtEnd};
-ghost use Rattle.st_top.specs.Running.{WritesEvents};
+ghost use Rattle.st_telling.specs.Report.{block};
+ghost use Rattle.st_beside.specs.States.{states};
+ghost use Rattle.st_top.specs.StepsBack.{lines_of_steps_back, last_state, events_of_run, moment_at_end, run_report};
+ghost use Rattle.st_beside.specs.Beside.{IsBesideReady, StandsAtStart, StandsAtEnd};
+ghost use Rattle.st_telling.specs.Running.{WritesEvents};
 
-use crate::block::put;
-use crate::moment::Moment;
-use crate::past::{Past, rewind, run_beside};
-use crate::telling::{write_run, write_state};
+use st_beside::{Past, rewind, run_beside};
 use st_card::Controls;
 use st_io::{Failed, Sink};
 use st_report::line_back;
 use st_run::{Run, Seen};
 use st_state::State;
+use st_telling::{Moment, put, write_run, write_state};
 
 /// The levels of the overlapped machine that a job runs on.
 pub const LEVELS: usize = 4;

@@ -13,7 +13,6 @@ ghost use Rattle.st_top.specs.Output.{output_of_sweep, swept_by};
 ghost use Rattle.st_top.specs.Answers.{Writes, KeepsTime};
 
 use crate::answer::{Answer, Status};
-use crate::block::put;
 use crate::execution::signals;
 use crate::reporting::budget;
 use st_asm::Assembled;
@@ -22,6 +21,7 @@ use st_card::Controls;
 use st_io::{Failed, Sink};
 use st_report::{line_calm, line_levels};
 use st_sweep::{Swept, sweep};
+use st_telling::put;
 use std::alloc::Global;
 
 // The first of some ticks, and what is behind it.

@@ -3,7 +3,7 @@ use Rattle.st_state.specs.Machine.{Machine}
 use Rattle.st_io.specs.Lines.{WritesLines}
 use Rattle.st_io.proofs.Progress.{lines_then, lines_cut}
 use Rattle.st_report.specs.Line.{back_line}
-use Rattle.st_top.specs.Report.{block}
+use Rattle.st_telling.specs.Report.{block}
 use Rattle.st_top.proofs.reporting.write_before.Goals as goal
 
 pub returns-in_err-write_steps : goal.returns-in_err-write_steps

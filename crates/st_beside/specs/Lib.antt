@@ -1,0 +1,10 @@
+pub mod Beside
+pub mod BesideLaws
+pub mod States
+pub use Rattle.st_back.specs.Steps
+pub use Rattle.st_bits.specs.Storage
+pub use Rattle.st_card.specs.Limits
+pub use Rattle.st_exec.specs.Step
+pub use Rattle.st_exec.specs.Transfer
+pub use Rattle.st_run.specs.Run
+pub use Rattle.st_state.specs.Machine

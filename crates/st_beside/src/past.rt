@@ -1,0 +1,255 @@
+//! A second machine beside a run: it makes the same run by itself, and the last steps can be
+//! undone.
+ghost use Rattle.std.specs.Prelude.{
+  ◌≡◌,
+  ◌+◌,
+  ◌<◌,
+  ◌≤◌,
+  ◌^◌,
+  ℕ,
+  [],
+  ◌∷◌,
+  ◌++◌,
+  false,
+  take,
+  length,
+  IsSome,
+  IfSome,
+};
+ghost use Rattle.st_bits.specs.Storage.{words_of_storage};
+ghost use Rattle.st_bits.specs.declared.limits.TheConstants.{MOST_INSTRUCTIONS};
+ghost use Rattle.st_run.specs.Run as run;
+ghost use Rattle.st_exec.specs.Transfer.{all_stored, read_in as read_in_of};
+ghost use Rattle.st_exec.specs.Step.{rests};
+ghost use Rattle.st_back.specs.Steps.{states_before};
+ghost use Rattle.st_beside.specs.Beside.{IsFreshStep, IsBesideReady, IsMoved, IsStepped, IsBeside, HasMadeRun, StandsAtStart, StandsAtEnd};
+
+use st_back::Back;
+use st_bits::indicators::{END_EXCEPTION, END_OF_OPERATION};
+use st_card::Signal;
+use st_exch::Hopper;
+use st_exec::is_at_rest;
+use st_run::between::between;
+use st_run::{Coming, Outside};
+use st_state::State;
+use std::marker::Model;
+
+/// A machine, and its last steps, which can be undone.
+#[derive(Drop)]
+pub struct Noted {
+    pub state: State,
+    pub steps: Back,
+}
+
+/// A machine beside a run, and what is still to come to it.
+#[derive(Drop)]
+pub struct Past<'a> {
+    noted: Noted,
+    coming: Coming<'a>,
+}
+
+impl<'a> Model for Past<'a> {
+    ghost use Rattle.st_beside.specs.Beside.{Beside};
+
+    ghost Value = { Beside };
+
+    ghost view = { λ p. (
+      record {
+        machine = p.noted.state;
+        signals = p.coming.signals;
+        cards = p.coming.cards;
+      },
+      p.noted.steps,
+    ) };
+}
+
+impl<'a> Past<'a> {
+    ghost use Rattle.std.specs.List.{AllPass};
+    ghost use Rattle.st_card.specs.Limits.{is_signal};
+
+    /// A machine, what comes to it, and the steps of it that are kept.
+    pub fn new(state: State, signals: &'a [Signal], cards: Hopper, steps: Back) -> Past<'a>
+        requires { AllPass is_signal signals.now }
+        ensures scene { result.0 ≡ record {
+          machine = state;
+          signals = signals.now;
+          cards = cards;
+        } }
+        ensures steps { result.1 ≡ steps }
+    {
+        Past {
+            noted: Noted { state, steps },
+            coming: Coming::new(signals, cards),
+        }
+    }
+
+    /// The state in which it stands.
+    pub fn state(&self) -> &State
+        ensures { result.now ≡ self.now.0.machine }
+    {
+        &self.noted.state
+    }
+}
+
+// Puts the words of a card into the eight words from the word address `w` on, each noted with the
+// newest step.
+fn put_card(steps: &mut Back, machine: &mut State, w: u32, card: &[u64; 8])
+    requires above { 32 ≤ w }
+    requires inside { w + 8 ≤ words_of_storage }
+    requires fresh { IsFreshStep steps.old.kept }
+
+    ensures state { machine.new ≡ all_stored machine.old w card.now }
+    ensures depth { steps.new.depth ≡ steps.old.depth }
+    ensures states { states_before steps.new.kept machine.new
+        ≡ states_before steps.old.kept machine.old }
+{
+    for k in 0..8 {
+        steps.put(machine, w + k, card[k as usize]);
+    }
+}
+
+// The order of the reader takes effect, as `st_exec::read_in` says, and the words of the card are
+// noted.
+fn read_noted(steps: &mut Back, machine: &mut State, card: Option<[u64; 8]>)
+    requires order { IsSome machine.old.reader }
+    requires fresh { IsFreshStep steps.old.kept }
+    ensures state { IfSome machine.old.reader
+        (λ order. machine.new ≡ read_in_of machine.old order.word card) }
+    ensures depth { steps.new.depth ≡ steps.old.depth }
+    ensures states { states_before steps.new.kept machine.new
+        ≡ states_before steps.old.kept machine.old }
+{
+    machine.shape();
+    let Some(order) = machine.reader else { return };
+    machine.reader = None;
+    let Some(card) = card else {
+        machine.signal(END_EXCEPTION);
+        return;
+    };
+    put_card(steps, machine, order.word, &card);
+    machine.shape();
+    machine.signal(END_OF_OPERATION);
+}
+
+impl Outside for Noted {
+    ghost use Rattle.std.specs.Prelude.{refl};
+    ghost use Rattle.st_beside.specs.Beside.{IsOpen, IsKept};
+    ghost use Rattle.st_beside.specs.BesideLaws.{kept-both};
+
+    ghost state = { λ n. n.state };
+
+    ghost is_open = { IsOpen };
+
+    ghost leaves = { IsKept };
+
+    ghost leaves_same = { λ _. (refl, refl, λ now. now) };
+
+    ghost stays_open = { λ _ _ _ kept now. kept.2 now };
+
+    ghost leaves_both = { kept-both };
+
+    fn state(&self) -> &State {
+        &self.state
+    }
+
+    fn signal(&mut self, indicator: u8) {
+        self.state.shape();
+        self.state.signal(indicator);
+    }
+
+    fn read_in(&mut self, card: Option<[u64; 8]>) {
+        read_noted(&mut self.steps, &mut self.state, card);
+    }
+
+    fn print_out(&mut self) -> [u64; 8] {
+        self.state.shape();
+        st_exec::print_out(&mut self.state)
+    }
+
+    fn rest(&mut self) {}
+}
+
+// What comes between two steps: signals and orders that are due, and what ends a wait. Nothing is
+// printed.
+fn settle(past: &mut Past)
+    requires { IsBesideReady past.old }
+    ensures { IsMoved past.old past.new (run.interlude past.old.0).scene }
+{
+    between(&mut past.noted, &mut past.coming);
+}
+
+// Makes the next step of a machine that is not at rest.
+fn step(past: &mut Past)
+    requires few { past.old.0.machine.done < 2 ^ 63 }
+    requires ready { IsBesideReady past.old }
+    ensures { rests past.old.0.machine ≡ false → IsStepped past.old past.new }
+{
+    past.noted.steps.forth(&mut past.noted.state);
+}
+
+// Whether the machine waits and nothing is pending that would end it.
+fn is_resting(past: &Past) -> bool
+    ensures { result ≡ rests past.now.0.machine }
+{
+    is_at_rest(&past.noted.state)
+}
+
+// Makes the run to its end, at rest or with the budget used up.
+fn run_to_end(past: &mut Past, budget: u64)
+    requires fresh { past.old.0.machine.done ≡ 0 }
+    requires limit { budget ≤ MOST_INSTRUCTIONS }
+    requires ready { IsBesideReady past.old }
+    ensures end { (depth : ℕ) → IsBeside depth past.old [] →
+        HasMadeRun depth budget past.old.0 past.new }
+    ensures ready { IsBesideReady past.new }
+{
+    let mut left = budget;
+    'running: loop {
+        settle(past);
+        if is_resting(past) {
+            return;
+        }
+        if left == 0 {
+            return;
+        }
+        step(past);
+        left -= 1;
+    }
+}
+
+/// Makes the run to its end on the machine beside it, where there is one.
+pub fn run_beside(past: &mut Option<Past>, budget: u64)
+    requires fresh { IfSome past.old (λ b. b.0.machine.done ≡ 0) }
+    requires limit { budget ≤ MOST_INSTRUCTIONS }
+    requires ready { IfSome past.old IsBesideReady }
+    ensures end { (back : ℕ) (start : run.Scene) → StandsAtStart back start past.old
+        → StandsAtEnd back budget start past.new }
+    ensures ready { IfSome past.new IsBesideReady }
+{
+    if let Some(past) = past.as_mut() {
+        run_to_end(past, budget);
+    }
+}
+
+// Undoes all steps that are kept.
+fn undo_all(steps: &mut Back, machine: &mut State)
+    ensures { machine.new ∷ [] ≡ take 1
+        (states_before steps.old.kept machine.old ++ machine.old ∷ []) }
+{
+    let count = steps.len();
+    for _ in 0..count {
+        steps.back(machine);
+    }
+}
+
+/// Undoes all steps that are kept, and tells how many they were.
+pub fn rewind(past: &mut Past) -> u8
+    requires { IsBesideReady past.old }
+    ensures count { result ≡ length past.old.1.kept }
+    ensures state { past.new.0.machine ∷ [] ≡ take 1
+        (states_before past.old.1.kept past.old.0.machine ++ past.old.0.machine ∷ []) }
+{
+    let count = past.noted.steps.len() as u8;
+    undo_all(&mut past.noted.steps, &mut past.noted.state);
+    count
+}

@@ -1,0 +1,6 @@
+//! The words of a command line, and the command that they are. `docs/machine.md` has the rules.
+#![tactic(auto)]
+
+mod command;
+
+pub use command::{Command, read_words};

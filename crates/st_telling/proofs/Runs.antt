@@ -1,0 +1,176 @@
+-- Writing the report of a run: what is told, one thing after another, and the lines before and behind it.
+use Rattle.std.proofs.Common.{◌≡◌, ℕ, ◌≤◌, false, length, List, [], ◌∷◌, ◌++◌, arith, refl, sym, ◌∙◌, ap, subst}
+use Rattle.std.specs.Prelude.{All, Result, Ok, Err, IsErr}
+use Rattle.std.proofs.lemmas.List.Elements.{All-head, All-tail}
+use Rattle.st_card.specs.Controls.{Asked}
+use Rattle.st_io.specs.Output.{OutputState}
+use Rattle.st_io.specs.declared.Failed.{Failed}
+use Rattle.st_io.specs.Lines.{WritesLines}
+use Rattle.st_io.specs.Event.{Event, at_moment, StoppedAt}
+use Rattle.st_io.proofs.Writing.{wrote_at_moment, stopped_at_moment, wrote_events, events_before, events_after}
+use Rattle.st_io.proofs.Progress.{EventsSoFar, events_none, events_more, events_stopped, events_whole}
+use Rattle.st_run.specs.Told.{What, Done, Dropped, Printed, Interrupted, Shown, Ended, Told}
+use Rattle.st_run.specs.Telling.{IsDone, AreLeftOut}
+use Rattle.st_telling.specs.Report.{report, lines_at, lines_told}
+use Rattle.st_telling.specs.Running.{WritesEvents, WritesNothing, moment_told, last_moment}
+use Rattle.st_telling.specs.declared.moment.Moment.{Moment}
+
+-- ---- one thing told after another
+
+-- of what is told the first part is written, and the rest is left
+pub record ToldSoFar (s t : OutputState) (asked : Asked) (m now : Moment) (all rest : List Told) : Type 0 where
+  pub so_far : EventsSoFar s t (report asked all) (report asked rest)
+  pub last : last_moment now rest ≡ last_moment m all
+
+pub told_begins : (s : OutputState) (asked : Asked) (m : Moment) (all : List Told) → ToldSoFar s s asked m m all all
+told_begins s asked m all = record { so_far = events_none s (report asked all); last = refl }
+
+-- of what is left out nothing is written
+pub told_skips : (s t : OutputState) (asked : Asked) (m now n : Moment) (all rest more : List Told) → WritesNothing asked now rest n more
+    → ToldSoFar s t asked m now all rest → ToldSoFar s t asked m n all more
+told_skips s t asked m now n all rest more skips h = record {
+  so_far = subst (λ xs. EventsSoFar s t (report asked all) xs) skips.lines h.so_far;
+  last = sym skips.last ∙ h.last;
+}
+
+row-lines : (asked : Asked) (done tick : ℕ) (what : What) → asked.trace ≡ false → asked.chart ≡ false → IsDone what
+    → lines_at asked done tick what ≡ []
+row-lines asked done tick (Done address p r c) trace chart is = rw (trace, chart) refl
+row-lines asked done tick (Dropped address p) trace chart is = absurd is
+row-lines asked done tick (Printed text) trace chart is = absurd is
+row-lines asked done tick (Interrupted i s) trace chart is = absurd is
+row-lines asked done tick (Shown at s levels) trace chart is = absurd is
+row-lines asked done tick (Ended rests s) trace chart is = absurd is
+
+row-report : (asked : Asked) (x : Told) (xs : List Told) → asked.trace ≡ false → asked.chart ≡ false → IsDone x.what
+    → report asked (x ∷ xs) ≡ report asked xs
+unfolding report
+row-report asked x xs trace chart is =
+    ap (λ lines. at_moment x.done x.tick lines ++ report asked xs) (row-lines asked x.done x.tick x.what trace chart is)
+
+rows-report : (asked : Asked) (rows new : List Told) → asked.trace ≡ false → asked.chart ≡ false → All (λ x. IsDone x.what) rows
+    → report asked (rows ++ new) ≡ report asked new
+rows-report asked [] new trace chart are = refl
+rows-report asked (x ∷ rows) new trace chart are =
+    row-report asked x (rows ++ new) trace chart (All-head (λ (y : Told). IsDone y.what) x rows are)
+    ∙ rows-report asked rows new trace chart (All-tail (λ (y : Told). IsDone y.what) x rows are)
+
+rows-moment : (m : Moment) (rows new : List Told) (last : Told) → last_moment m (rows ++ last ∷ new) ≡ last_moment (moment_told last) new
+unfolding last_moment
+rows-moment m [] new last = refl
+rows-moment m (x ∷ rows) new last = rows-moment (moment_told x) rows new last
+
+rows-fewer : (rows new : List Told) (last : Told) → length new ≤ length (rows ++ last ∷ new)
+rows-fewer [] new last = omega arith
+rows-fewer (x ∷ rows) new last = let fewer = rows-fewer rows new last in omega (arith, fewer)
+
+-- rows that are only counted
+pub counted_skips : (asked : Asked) (m n : Moment) (last : Told) (old new : List Told) → asked.trace ≡ false → asked.chart ≡ false
+    → AreLeftOut last old new → n ≡ moment_told last → WritesNothing asked m old n new
+counted_skips asked m n last old new trace chart is same = record {
+  lines =
+      ap (report asked) is.rest ∙ rows-report asked is.rows (last ∷ new) trace chart is.are ∙ row-report asked last new trace chart is.is;
+  last = ap (last_moment m) is.rest ∙ rows-moment m is.rows new last ∙ ap (λ (k : Moment). last_moment k new) (sym same);
+  fewer = subst (λ xs. length new ≤ length xs) (sym is.rest) (rows-fewer is.rows new last);
+}
+
+pub none_skips : (asked : Asked) (m : Moment) (old new : List Told) → new ≡ old → WritesNothing asked m old m new
+none_skips asked m old new same = record {
+  lines = ap (report asked) (sym same);
+  last = ap (last_moment m) (sym same);
+  fewer = subst (λ xs. length xs ≤ length old) (sym same) (omega arith);
+}
+
+-- and then what is told next
+pub skips_then : (asked : Asked) (m n : Moment) (old rest more : List Told) → rest ≡ more → WritesNothing asked m old n rest
+    → WritesNothing asked m old n more
+skips_then asked m n old rest more same skips = subst (λ xs. WritesNothing asked m old n xs) same skips
+
+-- the next part is written
+pub told_more : (s t u : OutputState) (asked : Asked) (m now n : Moment) (all rest more : List Told) (x : Told) (y : Unit {0})
+    → rest ≡ x ∷ more → n ≡ moment_told x → ToldSoFar s t asked m now all rest → WritesLines t u (lines_at asked n.done n.tick x.what) (Ok y)
+    → ToldSoFar s u asked m n all more
+unfolding report last_moment
+told_more s t u asked m now n all rest more x y is same h w =
+    let lines : WritesLines t u (lines_told asked x) (Ok y) = subst (λ (k : Moment). WritesLines t u (lines_at asked k.done k.tick x.what) (Ok y)) same w in
+    let next : ToldSoFar s u asked m (moment_told x) all more = record {
+      so_far = events_more s t u (report asked all) (at_moment x.done x.tick (lines_told asked x)) (report asked more)
+          (subst (λ r. EventsSoFar s t (report asked all) (report asked r)) is h.so_far)
+          (wrote_at_moment t u x.done x.tick (lines_told asked x) lines.ok);
+      last = ap (last_moment now) (sym is) ∙ h.last;
+    } in
+    subst (λ (k : Moment). ToldSoFar s u asked m k all more) (sym same) next
+
+-- the writing stops in it
+pub told_stops : (s t u : OutputState) (asked : Asked) (m now n : Moment) (all rest more : List Told) (x : Told) (e : Failed) (r : Result (Unit {0}) Failed)
+    → IsErr r → rest ≡ x ∷ more → n ≡ moment_told x → ToldSoFar s t asked m now all rest → WritesLines t u (lines_at asked n.done n.tick x.what) (Err e)
+    → WritesEvents s u (report asked all) (last_moment m all) n r
+unfolding report
+told_stops s t u asked m now n all rest more x e (Ok y) f is same h w = absurd (cc)
+told_stops s t u asked m now n all rest more x e (Err y) f is same h w =
+    let lines : WritesLines t u (lines_told asked x) (Err e) = subst (λ (k : Moment). WritesLines t u (lines_at asked k.done k.tick x.what) (Err e)) same w in
+    let next : WritesEvents s u (report asked all) (last_moment m all) (moment_told x) (Err y) = record {
+      whole = tt;
+      ended = tt;
+      stopped = events_stopped s t u (report asked all) (at_moment x.done x.tick (lines_told asked x)) (report asked more) x.done x.tick
+          (subst (λ r. EventsSoFar s t (report asked all) (report asked r)) is h.so_far)
+          (stopped_at_moment t u x.done x.tick (lines_told asked x) lines.err);
+    } in
+    subst (λ (k : Moment). WritesEvents s u (report asked all) (last_moment m all) k (Err y)) (sym same) next
+
+-- all is told
+pub told_all : (s t : OutputState) (asked : Asked) (m now : Moment) (all rest : List Told) (y : Unit {0}) → rest ≡ []
+    → ToldSoFar s t asked m now all rest → WritesEvents s t (report asked all) (last_moment m all) now (Ok y)
+unfolding report last_moment
+told_all s t asked m now all rest y none h = record {
+  whole = events_whole s t (report asked all) (subst (λ r. EventsSoFar s t (report asked all) (report asked r)) none h.so_far);
+  ended = ap (last_moment now) (sym none) ∙ h.last;
+  stopped = tt;
+}
+
+-- ---- lines before events
+
+pub lines_and_run : (s t u : OutputState) (lines : List (List ℕ)) (events : List Event) (last m : Moment) (x : Unit {0}) (r : Result (Unit {0}) Failed) → WritesLines s t lines (Ok x) → WritesEvents t u events last m r → WritesEvents s u (at_moment 0 0 lines ++ events) last m r
+lines_and_run s t u lines events last m x (Ok y) h w = record {
+  whole = wrote_events s t u (at_moment 0 0 lines) events (wrote_at_moment s t 0 0 lines h.ok) w.whole;
+  ended = w.ended;
+  stopped = tt;
+}
+lines_and_run s t u lines events last m x (Err y) h w = record {
+  whole = tt;
+  ended = tt;
+  stopped = events_after s t u (at_moment 0 0 lines) events m.done m.tick (wrote_at_moment s t 0 0 lines h.ok) w.stopped;
+}
+
+pub lines_alone : (s t : OutputState) (lines : List (List ℕ)) (events : List Event) (last m : Moment) (e : Failed) (r : Result (Unit {0}) Failed) → m ≡ record { done = 0; tick = 0 } → IsErr r → WritesLines s t lines (Err e) → WritesEvents s t (at_moment 0 0 lines ++ events) last m r
+lines_alone s t lines events last m e (Ok y) f g h = absurd (cc)
+lines_alone s t lines events last m e (Err y) f g h = record {
+  whole = tt;
+  ended = tt;
+  stopped = subst (λ (k : Moment). StoppedAt s t (at_moment 0 0 lines ++ events) k.done k.tick) (sym f)
+      (events_before s t (at_moment 0 0 lines) events 0 0 (stopped_at_moment s t 0 0 lines h.err));
+}
+
+-- ---- lines behind events
+
+pub events_cut : (s t : OutputState) (events more : List Event) (last m : Moment) (e : Failed) (r : Result (Unit {0}) Failed) → IsErr r → WritesEvents s t events last m (Err e) → WritesEvents s t (events ++ more) last m r
+events_cut s t events more last m e (Ok x) f h = absurd (cc)
+events_cut s t events more last m e (Err x) f h = record {
+  whole = tt;
+  ended = tt;
+  stopped = events_before s t events more m.done m.tick h.stopped;
+}
+
+pub events_then : (s t u : OutputState) (events : List Event) (lines : List (List ℕ)) (last m : Moment) (x : Unit {0}) (r : Result (Unit {0}) Failed) → WritesEvents s t events last m (Ok x) → WritesLines t u lines r → WritesEvents s u (events ++ at_moment last.done last.tick lines) last m r
+events_then s t u events lines last m x (Ok y) h w = record {
+  whole = wrote_events s t u events (at_moment last.done last.tick lines) h.whole (wrote_at_moment t u last.done last.tick lines w.ok);
+  ended = h.ended;
+  stopped = tt;
+}
+events_then s t u events lines last m x (Err y) h w = record {
+  whole = tt;
+  ended = tt;
+  stopped = events_after s t u events (at_moment last.done last.tick lines) m.done m.tick h.whole
+      (subst (λ (k : Moment). StoppedAt t u (at_moment last.done last.tick lines) k.done k.tick) (sym h.ended)
+      (stopped_at_moment t u last.done last.tick lines w.err));
+}

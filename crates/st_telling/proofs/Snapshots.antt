@@ -1,0 +1,89 @@
+-- The lines of a snapshot, from the levels that the machine shows.
+use Rattle.std.proofs.Common.{◌≡◌, ℕ, zero, suc, ◌-◌, List, [], ◌∷◌, ◌++◌, length, refl, sym, ◌∙◌, ap, subst}
+use Rattle.std.specs.Prelude.{Option, None, Some, option_map, map, replicate, Result, Ok, Err, IsErr}
+use Rattle.std.specs.List.{AllZip}
+use Rattle.st_io.specs.Output.{OutputState}
+use Rattle.st_io.specs.declared.Failed.{Failed}
+use Rattle.st_card.specs.Controls.{Asked}
+use Rattle.st_state.specs.Machine.{Machine}
+use Rattle.st_io.specs.Lines.{WritesLines}
+use Rattle.st_io.proofs.Progress.{lines_then, lines_cut}
+use Rattle.st_report.specs.Line.{lev_line, snap_line}
+use Rattle.st_ahead.specs.declared.events.LevelView.{LevelView}
+use Rattle.st_time.specs.Shown.{levels_standing, change_shown}
+use Rattle.st_run.specs.Events.{Changed, Level}
+use Rattle.st_run.specs.Telling.{IsLevelShown, AreLevelsShown}
+use Rattle.st_telling.specs.Report.{block, level_line, snapshot_lines}
+use Rattle.st_telling.specs.Running.{views_lines}
+
+-- an index word that is changed early, as a line shows it
+shown_change : Option Changed → Option (ℕ × ℕ)
+shown_change changed = option_map (λ change. (change.number, change.before)) changed
+
+change_is : (index : Option ℕ) (kept : ℕ) → option_map (λ number. (number, kept)) index ≡ shown_change (option_map (λ i. record { number = i; before = kept }) index)
+unfolding shown_change
+change_is None kept = refl
+change_is (Some number) kept = refl
+
+line_is : (v : LevelView) (level : Level) → IsLevelShown v level → lev_line v.address (change_shown v) v.ready ≡ level_line level
+unfolding shown_change
+line_is v level is =
+    ap (λ a. lev_line a (change_shown v) v.ready) is.address
+    ∙ (ap (λ c. lev_line level.address c v.ready) (change_is v.index v.kept ∙ ap shown_change is.changed)
+    ∙ ap (λ r. lev_line level.address (shown_change level.changed) r) is.ready)
+
+slots : List LevelView → ℕ → List (Option LevelView)
+slots views k = map (λ v. Some v) views ++ replicate k None
+
+none-standing : (k : ℕ) → levels_standing (replicate k None) ≡ 0
+unfolding levels_standing
+none-standing zero = refl
+none-standing (suc k) = refl
+
+none-lines : (k : ℕ) → views_lines (replicate k None) ≡ []
+unfolding views_lines
+none-lines zero = refl
+none-lines (suc k) = refl
+
+levels-standing : (views : List LevelView) (levels : List Level) (k : ℕ) → AllZip IsLevelShown views levels → levels_standing (slots views k) ≡ length levels
+unfolding slots levels_standing
+levels-standing [] [] k all = none-standing k
+levels-standing [] (l ∷ ls) k all = absurd all
+levels-standing (v ∷ vs) [] k all = absurd all
+levels-standing (v ∷ vs) (l ∷ ls) k all = ap suc (levels-standing vs ls k all.1)
+
+levels-lines : (views : List LevelView) (levels : List Level) (k : ℕ) → AllZip IsLevelShown views levels → views_lines (slots views k) ≡ map level_line levels
+unfolding slots views_lines
+levels-lines [] [] k all = none-lines k
+levels-lines [] (l ∷ ls) k all = absurd all
+levels-lines (v ∷ vs) [] k all = absurd all
+levels-lines (v ∷ vs) (l ∷ ls) k all =
+    ap (λ x. x ∷ views_lines (slots vs k)) (line_is v l all.0) ∙ ap (λ xs. level_line l ∷ xs) (levels-lines vs ls k all.1)
+
+-- lines of a snapshot as they are written
+abbrev pub lines_of_views : Asked → ℕ → ℕ → Machine → List (Option LevelView) → List (List ℕ)
+lines_of_views asked done at s shown = (snap_line at done (levels_standing shown) ∷ []) ++ (block asked.dumps s ++ views_lines shown)
+
+pub views_are : (asked : Asked) (done at : ℕ) (s : Machine) (shown : List (Option LevelView)) (levels : List Level) → AreLevelsShown shown levels → lines_of_views asked done at s shown ≡ snapshot_lines asked done at s levels
+unfolding slots
+views_are asked done at s shown levels are =
+    let k = 8 - length are.views in
+    let count : levels_standing shown ≡ length levels = ap levels_standing are.room ∙ levels-standing are.views levels k are.same in
+    let lines : views_lines shown ≡ map level_line levels = ap views_lines are.room ∙ levels-lines are.views levels k are.same in
+    ap (λ n. (snap_line at done n ∷ []) ++ (block asked.dumps s ++ views_lines shown)) count
+    ∙ ap (λ ls. (snap_line at done (length levels) ∷ []) ++ (block asked.dumps s ++ ls)) lines
+
+pub writes_views : (t u : OutputState) (asked : Asked) (done at : ℕ) (s : Machine) (shown : List (Option LevelView)) (levels : List Level) (r : Result (Unit {0}) Failed) → AreLevelsShown shown levels → WritesLines t u (lines_of_views asked done at s shown) r → WritesLines t u (snapshot_lines asked done at s levels) r
+writes_views t u asked done at s shown levels r are w = subst (λ ls. WritesLines t u ls r) (views_are asked done at s shown levels are) w
+
+-- ---- the levels, one after another
+
+pub levels_cut : (s t : OutputState) (all : List (List ℕ)) (line written : List ℕ) (rest : List (List ℕ)) (e : Failed) (r : Result (Unit {0}) Failed) → IsErr r → all ≡ line ∷ rest → written ≡ line → WritesLines s t (written ∷ []) (Err e) → WritesLines s t all r
+levels_cut s t all line written rest e r f is same w =
+    subst (λ ls. WritesLines s t ls r) (sym is)
+    (lines_cut s t (line ∷ []) rest e r f (subst (λ l. WritesLines s t (l ∷ []) (Err e)) same w))
+
+pub levels_then : (s t u : OutputState) (all : List (List ℕ)) (line written : List ℕ) (rest : List (List ℕ)) (x : Unit {0}) (r : Result (Unit {0}) Failed) → all ≡ line ∷ rest → written ≡ line → WritesLines s t (written ∷ []) (Ok x) → WritesLines t u rest r → WritesLines s u all r
+levels_then s t u all line written rest x r is same w next =
+    subst (λ ls. WritesLines s u ls r) (sym is)
+    (lines_then s t u (line ∷ []) rest x r (subst (λ l. WritesLines s t (l ∷ []) (Ok x)) same w) next)

@@ -1,0 +1,13 @@
+pub mod Report
+pub mod Running
+pub use Rattle.st_card.specs.Controls
+pub use Rattle.st_card.specs.Limits
+pub use Rattle.st_io.specs.Event
+pub use Rattle.st_io.specs.Lines
+pub use Rattle.st_io.specs.Output
+pub use Rattle.st_report.specs.Line
+pub use Rattle.st_run.specs.Events
+pub use Rattle.st_run.specs.Telling
+pub use Rattle.st_run.specs.Told
+pub use Rattle.st_state.specs.Machine
+pub use Rattle.st_time.specs.Shown

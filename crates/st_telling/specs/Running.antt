@@ -1,0 +1,45 @@
+-- What is written of a run, and up to which moment.
+use Rattle.std.specs.Prelude.{◌≡◌, ℕ, ◌≤◌, length, List, [], ◌∷◌, Option, None, Some, Result, OnOk, OnErr}
+use Rattle.st_card.specs.Controls.{Asked}
+use Rattle.st_io.specs.Output.{OutputState, Wrote}
+use Rattle.st_io.specs.declared.Failed.{Failed}
+use Rattle.st_io.specs.Lines.{text}
+use Rattle.st_io.specs.Event.{Event, lines_of, StoppedAt}
+use Rattle.st_report.specs.Line.{lev_line}
+use Rattle.st_ahead.specs.declared.events.LevelView.{LevelView}
+use Rattle.st_time.specs.Shown.{change_shown}
+use Rattle.st_run.specs.Told.{Told}
+use Rattle.st_telling.specs.Report.{report}
+use Rattle.st_telling.specs.declared.moment.Moment.{Moment}
+
+-- when something is told
+abbrev pub moment_told : Told → Moment
+moment_told t = record { done = t.done; tick = t.tick }
+
+-- the moment of what is told last, or this one where nothing is told
+unfoldable pub last_moment : Moment → List Told → Moment
+last_moment m [] = m
+last_moment m (t ∷ ts) = last_moment (moment_told t) ts
+
+-- nothing is written of what is left out from one moment up to a later one, and the same is left to
+-- write
+pub record WritesNothing (asked : Asked) (m : Moment) (old : List Told) (now : Moment)
+    (new : List Told) : Type 0 where
+  pub lines : report asked old ≡ report asked new
+  pub last : last_moment m old ≡ last_moment now new
+  pub fewer : length new ≤ length old
+
+-- the lines of the levels that are shown at the front
+unfoldable pub views_lines : List (Option LevelView) → List (List ℕ)
+views_lines [] = []
+views_lines (None ∷ more) = []
+views_lines (Some level ∷ more) = lev_line level.address (change_shown level) level.ready
+    ∷ views_lines more
+
+-- at Ok all events are written, and the moment is that of the end; else the writing stopped, and
+-- the moment is that of the line
+pub record WritesEvents (before after : OutputState) (events : List Event) (last moment : Moment)
+    (result : Result (Unit {0}) Failed) : Type 0 where
+  pub whole : OnOk result (Wrote before after (text (lines_of events)))
+  pub ended : OnOk result (moment ≡ last)
+  pub stopped : OnErr result (StoppedAt before after events moment.done moment.tick)

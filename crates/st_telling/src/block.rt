@@ -1,0 +1,131 @@
+//! The block of lines that shows a state.
+ghost use Rattle.std.specs.Prelude.{◌+◌, ◌-◌, ◌<◌, ◌≤◌, [], ◌∷◌};
+ghost use Rattle.std.specs.List.{AllPass};
+ghost use Rattle.st_bits.specs.declared.limits.TheConstants.{WORDS};
+ghost use Rattle.st_bits.specs.declared.register.TheConstants.{FIRST_STORAGE_WORD};
+ghost use Rattle.st_card.specs.Limits.{is_part};
+ghost use Rattle.st_io.specs.Lines.{WritesLines, lines_for};
+ghost use Rattle.st_report.specs.Line.{ic_line, en_line, dump_line};
+ghost use Rattle.st_telling.specs.Report.{block, register_lines, memory_lines, dump_lines, dumps_lines};
+
+use st_io::{Failed, Sink, write_line};
+use st_report::{Line, line_dump, line_en, line_ic, line_mem, line_reg};
+use st_run::Seen;
+
+/// Writes a line of the report.
+pub fn put<K: Sink>(out: &mut K, line: &Line) -> Result<(), Failed>
+    ensures { WritesLines (K.output out.old) (K.output out.new) (line.now.bytes ∷ []) result }
+{
+    write_line(out, line.as_str().as_bytes())
+}
+
+// Writes the line of register `w`, where it is not zero.
+#[tactic(auto, using(st_io::proofs::Progress::wrote_nothing, st_bits::specs::Storage::words_of_storage_is))]
+fn write_register<K: Sink>(out: &mut K, seen: &Seen<'_>, w: u8) -> Result<(), Failed>
+    requires { w < FIRST_STORAGE_WORD }
+    ensures { WritesLines (K.output out.old) (K.output out.new)
+        (register_lines seen.now w) result }
+{
+    let word = seen.word(u32::from(w));
+    if word == 0 {
+        return Ok(());
+    }
+    put(out, &line_reg(w, word))
+}
+
+// Writes the lines of the registers that are not zero.
+fn write_registers<K: Sink>(out: &mut K, seen: &Seen<'_>) -> Result<(), Failed>
+    ensures { WritesLines (K.output out.old) (K.output out.new)
+        (lines_for (register_lines seen.now) 30 2) result }
+{
+    for w in 2..32 {
+        write_register(out, seen, w)?;
+    }
+    Ok(())
+}
+
+// Writes the line of the word at `w`, where it is not zero.
+#[tactic(auto, using(st_io::proofs::Progress::wrote_nothing, st_bits::specs::Storage::words_of_storage_is))]
+fn write_memory<K: Sink>(out: &mut K, seen: &Seen<'_>, w: u32) -> Result<(), Failed>
+    requires { w < WORDS }
+    ensures { WritesLines (K.output out.old) (K.output out.new) (memory_lines seen.now w) result }
+{
+    let content = seen.word(w);
+    if content == 0 {
+        return Ok(());
+    }
+    put(out, &line_mem(w, content))
+}
+
+// Writes the lines of the words from `first` to `last` that are not zero.
+fn write_words<K: Sink>(out: &mut K, seen: &Seen<'_>, first: u32, last: u32) -> Result<(), Failed>
+    requires order { first ≤ last }
+    requires within { last < WORDS }
+    ensures { WritesLines (K.output out.old) (K.output out.new)
+        (lines_for (memory_lines seen.now) (last + 1 - first) first) result }
+{
+    for w in first..last + 1 {
+        write_memory(out, seen, w)?;
+    }
+    Ok(())
+}
+
+// Writes the line that a dump begins with.
+fn write_range<K: Sink>(out: &mut K, first: u32, last: u32) -> Result<(), Failed>
+    ensures { WritesLines (K.output out.old) (K.output out.new) (dump_line first last ∷ []) result }
+{
+    put(out, &line_dump(first, last))
+}
+
+// Writes a dump: the words from `first` to `last`.
+fn write_dump<K: Sink>(out: &mut K, seen: &Seen<'_>, first: u32, last: u32) -> Result<(), Failed>
+    requires order { first ≤ last }
+    requires within { last < WORDS }
+    ensures { WritesLines (K.output out.old) (K.output out.new)
+        (dump_lines seen.now first last) result }
+{
+    write_range(out, first, last)?;
+    write_words(out, seen, first, last)
+}
+
+// Writes dumps, in order.
+fn write_dumps<K: Sink>(out: &mut K, seen: &Seen<'_>, dumps: &[(u32, u32)]) -> Result<(), Failed>
+    requires { AllPass is_part dumps.now }
+    ensures { WritesLines (K.output out.old) (K.output out.new)
+        (dumps_lines seen.now dumps.now) result }
+{
+    for (first, last) in dumps {
+        write_dump(out, seen, *first, *last)?;
+    }
+    Ok(())
+}
+
+// Writes the line of the counter.
+fn write_counter<K: Sink>(out: &mut K, seen: &Seen<'_>) -> Result<(), Failed>
+    ensures { WritesLines (K.output out.old) (K.output out.new) (ic_line seen.now.ic ∷ []) result }
+{
+    put(out, &line_ic(seen.ic()))
+}
+
+// Writes the line that says whether interrupts are enabled.
+fn write_enabled<K: Sink>(out: &mut K, seen: &Seen<'_>) -> Result<(), Failed>
+    ensures { WritesLines (K.output out.old) (K.output out.new)
+        (en_line seen.now.enabled ∷ []) result }
+{
+    put(out, &line_en(seen.enabled()))
+}
+
+/// Writes the state block, with the dumps that are asked for.
+pub fn write_block<K: Sink>(
+    out: &mut K,
+    seen: &Seen<'_>,
+    dumps: &[(u32, u32)],
+) -> Result<(), Failed>
+    requires { AllPass is_part dumps.now }
+    ensures { WritesLines (K.output out.old) (K.output out.new) (block dumps.now seen.now) result }
+{
+    write_counter(out, seen)?;
+    write_enabled(out, seen)?;
+    write_registers(out, seen)?;
+    write_dumps(out, seen, dumps)
+}

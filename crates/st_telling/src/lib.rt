@@ -1,0 +1,10 @@
+//! What a run tells, and what a state shows, as lines of a report. `docs/report.md` has the rules.
+#![tactic(auto, using(st_bits::specs::Storage::words_of_storage_is))]
+
+mod block;
+mod moment;
+mod telling;
+
+pub use block::put;
+pub use moment::Moment;
+pub use telling::{write_run, write_state};

@@ -1,0 +1,395 @@
+//! What a run tells, as lines of its report.
+ghost use Rattle.std.specs.Prelude.{◌≡◌, ◌<◌, [], ◌∷◌, List, length, MatchOption, IfSome};
+ghost use Rattle.std.specs.List.{AllPass};
+ghost use Rattle.st_card.specs.Limits.{is_part};
+ghost use Rattle.st_io.specs.Lines.{WritesLines};
+ghost use Rattle.st_report.specs.Line.{trc_line, row_line, drop_line, prt_line, int_line, time_line, snap_line as snap_line_of, lev_line, end_line, done_line, ticks_line};
+ghost use Rattle.st_time.specs.Shown.{levels_standing, change_shown};
+ghost use Rattle.st_run.specs.Events.{Level};
+ghost use Rattle.st_run.specs.Telling.{AreLevelsShown, what_told};
+ghost use Rattle.st_telling.specs.Report.{block, line_if, done_lines, interrupt_lines, snapshot_lines, end_lines, lines_told, report};
+ghost use Rattle.st_telling.specs.Running.{WritesEvents, WritesNothing, last_moment, views_lines};
+
+use crate::block::{put, write_block};
+use crate::moment::Moment;
+use arrayvec::ArrayString;
+use st_ahead::{LevelView, Row, View};
+use st_card::Controls;
+use st_io::{Failed, Sink, write_line};
+use st_report::{
+    LineFromEnd, fill_trc, line_done, line_drop, line_end, line_int, line_prt, line_ticks,
+    line_time,
+};
+use st_run::{Run, RunEvent, Seen, TimedRunEvent};
+use st_time::{fill_chart, level_line, snap_line};
+
+/// Writes the state block, with the dumps that are asked for.
+pub fn write_state<K: Sink>(out: &mut K, seen: &Seen<'_>, controls: &Controls) -> Result<(), Failed>
+    requires { AllPass is_part controls.now.dumps }
+    ensures { WritesLines (K.output out.old) (K.output out.new)
+        (block controls.now.dumps seen.now) result }
+{
+    write_block(out, seen, controls.dumps.as_slice())
+}
+
+// Whether a line for each instruction is asked for.
+fn is_traced(controls: &Controls) -> bool
+    ensures { result ≡ controls.now.trace }
+{
+    controls.trace
+}
+
+// Whether the timetable is asked for.
+fn is_charted(controls: &Controls) -> bool
+    ensures { result ≡ controls.now.chart }
+{
+    controls.chart
+}
+
+// Whether ticks are asked for.
+fn is_timed(controls: &Controls) -> bool
+    ensures { result ≡ controls.now.time }
+{
+    controls.time
+}
+
+// Writes the line of an instruction that is done, where a trace is asked for. It is put together in
+// `line`.
+#[tactic(auto, using(st_io::proofs::Progress::wrote_nothing))]
+fn write_trace<K: Sink>(
+    out: &mut K,
+    line: &mut LineFromEnd,
+    done: u64,
+    address: u32,
+    controls: &Controls,
+) -> Result<(), Failed>
+    ensures { WritesLines (K.output out.old) (K.output out.new)
+        (line_if controls.now.trace (trc_line done address)) result }
+{
+    if !is_traced(controls) {
+        return Ok(());
+    }
+    fill_trc(line, done, address);
+    write_line(out, line.as_bytes())
+}
+
+// Writes the line of a row, where the timetable is asked for. It is put together in `line`.
+#[tactic(auto, using(st_io::proofs::Progress::wrote_nothing))]
+fn write_row<K: Sink>(
+    out: &mut K,
+    line: &mut LineFromEnd,
+    row: Row,
+    controls: &Controls,
+) -> Result<(), Failed>
+    ensures { WritesLines (K.output out.old) (K.output out.new)
+        (line_if controls.now.chart (row_line row.number row.address row.p row.r row.c)) result }
+{
+    if !is_charted(controls) {
+        return Ok(());
+    }
+    fill_chart(line, &row);
+    write_line(out, line.as_bytes())
+}
+
+// Writes the lines of an entry that is done, each put together in `line`.
+fn write_done<K: Sink>(
+    out: &mut K,
+    line: &mut LineFromEnd,
+    row: Row,
+    controls: &Controls,
+) -> Result<(), Failed>
+    ensures { WritesLines (K.output out.old) (K.output out.new)
+        (done_lines controls.now row.number row.address row.p row.r row.c) result }
+{
+    write_trace(out, line, row.number, row.address, controls)?;
+    write_row(out, line, row, controls)
+}
+
+// Writes the line of an entry that is dropped, where the timetable is asked for.
+#[tactic(auto, using(st_io::proofs::Progress::wrote_nothing))]
+fn write_dropped<K: Sink>(
+    out: &mut K,
+    address: u32,
+    p: u64,
+    controls: &Controls,
+) -> Result<(), Failed>
+    ensures { WritesLines (K.output out.old) (K.output out.new)
+        (line_if controls.now.chart (drop_line address p)) result }
+{
+    if !is_charted(controls) {
+        return Ok(());
+    }
+    put(out, &line_drop(address, p))
+}
+
+// Writes the line that is printed.
+fn write_printed<K: Sink>(out: &mut K, text: &ArrayString<64>) -> Result<(), Failed>
+    ensures { WritesLines (K.output out.old) (K.output out.new)
+        (prt_line text.now.bytes ∷ []) result }
+{
+    put(out, &line_prt(text))
+}
+
+// Writes the line that says which interrupt is taken, and when.
+fn write_taken<K: Sink>(out: &mut K, i: u8, done: u64) -> Result<(), Failed>
+    ensures { WritesLines (K.output out.old) (K.output out.new) (int_line i done ∷ []) result }
+{
+    put(out, &line_int(i, done))
+}
+
+// Writes the line of the tick of an interrupt, where ticks are asked for.
+#[tactic(auto, using(st_io::proofs::Progress::wrote_nothing))]
+fn write_time<K: Sink>(out: &mut K, tick: u64, controls: &Controls) -> Result<(), Failed>
+    ensures { WritesLines (K.output out.old) (K.output out.new)
+        (line_if controls.now.time (time_line tick)) result }
+{
+    if !is_timed(controls) {
+        return Ok(());
+    }
+    put(out, &line_time(tick))
+}
+
+// Writes the lines of an interrupt.
+fn write_interrupt<K: Sink>(
+    out: &mut K,
+    moment: Moment,
+    i: u8,
+    seen: &Seen<'_>,
+    controls: &Controls,
+) -> Result<(), Failed>
+    requires { AllPass is_part controls.now.dumps }
+    ensures { WritesLines (K.output out.old) (K.output out.new)
+        (interrupt_lines controls.now moment.done moment.tick i seen.now) result }
+{
+    write_taken(out, i, moment.done)?;
+    write_time(out, moment.tick, controls)?;
+    write_state(out, seen, controls)
+}
+
+// Writes the line of a snapshot.
+fn write_snap<K: Sink>(out: &mut K, at: u64, done: u64, view: &View) -> Result<(), Failed>
+    ensures { WritesLines (K.output out.old) (K.output out.new)
+        (snap_line_of at done (levels_standing view.now.levels) ∷ []) result }
+{
+    let view = View {
+        tick: at,
+        done,
+        ..*view
+    };
+    put(out, &snap_line(&view))
+}
+
+// The first of the levels at the front, and what is behind it.
+#[tactic(auto, unfolding(crate::specs::Running::views_lines))]
+fn first_level(levels: &[Option<LevelView>]) -> Option<(LevelView, &[Option<LevelView>])>
+    ensures lines { MatchOption result (views_lines levels.now ≡ []) (λ r. views_lines levels.now
+        ≡ lev_line r.0.address (change_shown r.0) r.0.ready ∷ views_lines r.1.now) }
+    ensures fewer { IfSome result (λ r. length r.1.now < length levels.now) }
+{
+    match levels {
+        [Some(level), more @ ..] => Some((*level, more)),
+        _ => None,
+    }
+}
+
+// Writes the lines of the levels at the front.
+#[tactic(auto, using(st_io::proofs::Progress::wrote_nothing))]
+fn write_levels<K: Sink>(out: &mut K, levels: &[Option<LevelView>]) -> Result<(), Failed>
+    ensures { WritesLines (K.output out.old) (K.output out.new) (views_lines levels.now) result }
+{
+    let Some((level, more)) = first_level(levels) else {
+        return Ok(());
+    };
+    put(out, &level_line(&level))?;
+    write_levels(out, more)
+}
+
+// Writes the lines of a snapshot at a tick.
+fn write_snapshot<K: Sink>(
+    out: &mut K,
+    at: u64,
+    done: u64,
+    seen: &Seen<'_>,
+    view: &View,
+    controls: &Controls,
+) -> Result<(), Failed>
+    requires { AllPass is_part controls.now.dumps }
+    ensures { (ahead : List Level) → AreLevelsShown view.now.levels ahead
+        → WritesLines (K.output out.old) (K.output out.new)
+        (snapshot_lines controls.now done at seen.now ahead) result }
+{
+    write_snap(out, at, done, view)?;
+    write_state(out, seen, controls)?;
+    write_levels(out, &view.levels)
+}
+
+// Writes the snapshot that a run shows. It is apart, so that what is told without one makes no room
+// for a view.
+#[inline(never)]
+fn write_shown<K: Sink, const N: usize>(
+    out: &mut K,
+    run: &Run<'_, N>,
+    at: u64,
+    done: u64,
+    controls: &Controls,
+) -> Result<(), Failed>
+    requires { AllPass is_part controls.now.dumps }
+    ensures { WritesLines (K.output out.old) (K.output out.new)
+        (snapshot_lines controls.now done at run.now.seen run.now.ahead) result }
+{
+    write_snapshot(out, at, done, &run.seen(), &run.view(), controls)
+}
+
+// Writes the line that says how the run ended.
+fn write_ended<K: Sink>(out: &mut K, rests: bool) -> Result<(), Failed>
+    ensures { WritesLines (K.output out.old) (K.output out.new) (end_line rests ∷ []) result }
+{
+    put(out, &line_end(rests))
+}
+
+// Writes the line with the number of instructions done.
+fn write_count<K: Sink>(out: &mut K, done: u64) -> Result<(), Failed>
+    ensures { WritesLines (K.output out.old) (K.output out.new) (done_line done ∷ []) result }
+{
+    put(out, &line_done(done))
+}
+
+// Writes the line of the tick of the last completion, where ticks are asked for.
+#[tactic(auto, using(st_io::proofs::Progress::wrote_nothing))]
+fn write_ticks<K: Sink>(out: &mut K, tick: u64, controls: &Controls) -> Result<(), Failed>
+    ensures { WritesLines (K.output out.old) (K.output out.new)
+        (line_if controls.now.time (ticks_line tick)) result }
+{
+    if !is_timed(controls) {
+        return Ok(());
+    }
+    put(out, &line_ticks(tick))
+}
+
+// Writes the lines of the end, at rest or with the budget used up.
+fn write_end<K: Sink>(
+    out: &mut K,
+    moment: Moment,
+    rests: bool,
+    seen: &Seen<'_>,
+    controls: &Controls,
+) -> Result<(), Failed>
+    requires { AllPass is_part controls.now.dumps }
+    ensures { WritesLines (K.output out.old) (K.output out.new)
+        (end_lines controls.now moment.done moment.tick rests seen.now) result }
+{
+    write_ended(out, rests)?;
+    write_count(out, moment.done)?;
+    write_ticks(out, moment.tick, controls)?;
+    write_state(out, seen, controls)
+}
+
+// The moment of what is told.
+fn moment_of(told: &TimedRunEvent) -> Moment
+    ensures { result ≡ record { done = told.now.done; tick = told.now.tick } }
+{
+    Moment {
+        done: told.done,
+        tick: told.tick,
+    }
+}
+
+// Writes the lines of what a run has just told. Those of an entry that is done are put together in
+// `line`.
+#[tactic(auto, using(st_io::proofs::Progress::wrote_nothing))]
+fn write_told<K: Sink, const N: usize>(
+    out: &mut K,
+    line: &mut LineFromEnd,
+    run: &Run<'_, N>,
+    moment: Moment,
+    what: RunEvent,
+    controls: &Controls,
+) -> Result<(), Failed>
+    requires { AllPass is_part controls.now.dumps }
+    ensures { WritesLines (K.output out.old) (K.output out.new)
+        (lines_told controls.now (record {
+          done = moment.done;
+          tick = moment.tick;
+          what = what_told what moment.tick run.now.seen run.now.ahead run.now.text;
+        })) result }
+{
+    // Of an entry that is only counted nothing is written.
+    if let RunEvent::Done { .. } = what {
+        if !is_traced(controls) {
+            if !is_charted(controls) {
+                return Ok(());
+            }
+        }
+    }
+    match what {
+        RunEvent::Done { address, p, r } => {
+            let row = Row {
+                number: moment.done,
+                address,
+                p,
+                r,
+                c: moment.tick,
+            };
+            write_done(out, line, row, controls)
+        }
+        RunEvent::Dropped { address, p } => write_dropped(out, address, p, controls),
+        RunEvent::Printed => write_printed(out, run.printed()),
+        RunEvent::Interrupted(i) => write_interrupt(out, moment, i, &run.seen(), controls),
+        RunEvent::Shown(at) => write_shown(out, run, at, moment.done, controls),
+        RunEvent::Ended(rests) => write_end(out, moment, rests, &run.seen(), controls),
+    }
+}
+
+// Passes over entries that are done and of which nothing is written. The moment is that of the last
+// one.
+fn pass_counted<const N: usize>(run: &mut Run<'_, N>, moment: &mut Moment, controls: &Controls)
+    ensures { WritesNothing controls.now moment.old run.old.rest moment.new run.new.rest }
+{
+    if is_traced(controls) {
+        return;
+    }
+    if is_charted(controls) {
+        return;
+    }
+    if let Some(told) = run.pass_entries() {
+        *moment = moment_of(&told);
+    }
+}
+
+// What a run tells next, behind entries that are done and of which nothing is written.
+fn next_told<const N: usize>(
+    run: &mut Run<'_, N>,
+    moment: &mut Moment,
+    controls: &Controls,
+) -> Option<TimedRunEvent>
+    ensures { MatchOption result (WritesNothing controls.now moment.old run.old.rest moment.new [])
+        (λ t. WritesNothing controls.now moment.old run.old.rest moment.new (record {
+          done = t.done;
+          tick = t.tick;
+          what = what_told t.what t.tick run.new.seen run.new.ahead run.new.text;
+        } ∷ run.new.rest)) }
+{
+    pass_counted(run, moment, controls);
+    run.next()
+}
+
+/// Writes the report of all that a run still has to tell. After a failed write `moment` is that of
+/// the line, else that of the end.
+pub fn write_run<K: Sink, const N: usize>(
+    out: &mut K,
+    run: &mut Run<'_, N>,
+    moment: &mut Moment,
+    controls: &Controls,
+) -> Result<(), Failed>
+    requires { AllPass is_part controls.now.dumps }
+    ensures { WritesEvents (K.output out.old) (K.output out.new) (report controls.now run.old.rest)
+        (last_moment moment.old run.old.rest) moment.new result }
+{
+    // One line for all, since a new one is cleared first.
+    let mut line = LineFromEnd::new();
+    'telling: while let Some(told) = next_told(run, moment, controls) {
+        *moment = moment_of(&told);
+        write_told(out, &mut line, run, *moment, told.what, controls)?;
+    }
+    Ok(())
+}
