@@ -6,7 +6,7 @@ use Rattle.std.proofs.Math.Nat.{mod-le, add-mod_left}
 use Rattle.std.specs.Bool.{IsTrue, IsFalse}
 use Rattle.st_bits.proofs.WordFields.{below-joined}
 use Rattle.st_format.specs.Validity.{misfits}
-use Rattle.st_strap.specs.declared.statement.Form.{Form}
+use Rattle.st_mnemonic.specs.declared.form.Form.{Form}
 use Rattle.st_asm.specs.Numbers.{holds, packed_digits, capacity, magnitude_bits_of}
 use Rattle.st_strap.specs.WellFormed.{IsNumberForm}
 

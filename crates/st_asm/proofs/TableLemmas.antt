@@ -3,7 +3,7 @@ use Rattle.std.proofs.Common.{◌≡◌, ◌||◌, ℕ, Bool, true, false, cond,
 use Rattle.std.specs.List.{cons_option}
 use Rattle.st_text.specs.Tables.{is_same, row_of}
 use Rattle.st_expr.specs.Value.{Defines}
-use Rattle.st_strap.proofs.Apart.{same_words}
+use Rattle.st_mnemonic.proofs.Apart.{same_words}
 use Rattle.st_asm.specs.Symbols.{has_name, is_defined, names_of}
 use Rattle.st_asm.specs.declared.line.Line.{Line}
 

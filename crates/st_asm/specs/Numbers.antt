@@ -1,6 +1,6 @@
 -- Numbers laid as fields.
 use Rattle.std.specs.Prelude.{ℕ, zero, suc, ◌+◌, ◌-◌, ◌*◌, ◌/◌, ◌%◌, ◌^◌, ◌&&◌, Bool, not, nat_lt, min, if◌then◌else◌}
-use Rattle.st_strap.specs.declared.statement.Form.{Form}
+use Rattle.st_mnemonic.specs.declared.form.Form.{Form}
 
 -- the bits of a field that are its magnitude: all but the sign byte of a signed field
 abbrev pub magnitude_bits_of : Form → ℕ

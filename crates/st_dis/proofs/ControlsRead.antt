@@ -13,7 +13,7 @@ use Rattle.st_card.specs.Controls.{Asked, nothing_asked, card_number, numbers_be
 use Rattle.st_card.specs.Limits.{IsWithinLimits, AreDelays, AreSignals, AreDumps, AreSnaps}
 use Rattle.st_card.specs.declared.control_cards.Signal.{Signal}
 use Rattle.st_card.proofs.OrderLemmas.{budget-asked, delay-asked, signal-asked, dump-asked, snap-asked, back-asked, delay-short, signal-short, dump-short, snap-short}
-use Rattle.st_strap.proofs.Digits.{decimal-digits, reading-decimal, digits-lack, low_other, lacks-parted}
+use Rattle.st_mnemonic.proofs.Digits.{decimal-digits, reading-decimal, digits-lack, low_other, lacks-parted}
 use Rattle.st_strap.proofs.PlaceCards.{parted-once}
 use Rattle.st_dis.specs.Deck.{card_where, order_cards, back_cards, show_cards}
 use Rattle.st_dis.specs.Read.{CardsLead}

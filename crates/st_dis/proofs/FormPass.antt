@@ -12,8 +12,8 @@ use Rattle.st_card.specs.declared.cards.CardKind.TheVariants.{Comment, Control, 
 use Rattle.st_card.specs.declared.faults.Fault.{Fault}
 use Rattle.st_card.specs.declared.faults.Fault.TheVariants.{BadName, UnknownOperation, BadControlCard}
 use Rattle.st_strap.specs.Order.{next_reading, reading_map}
-use Rattle.st_strap.specs.Table.{operation_of_word, other_operations, index_operations, field_operations, negated_operation, connective, connective_kinds, truth_tables}
-use Rattle.st_strap.specs.Text.{statement_text, stop}
+use Rattle.st_mnemonic.specs.Table.{operation_of_word, other_operations, index_operations, field_operations, negated_operation, connective, connective_kinds, truth_tables}
+use Rattle.st_mnemonic.specs.Text.{statement_text, stop}
 use Rattle.st_strap.specs.Saying.{reading_of_operation, is_misnamed, clean_statement_of, statement_of}
 use Rattle.st_strap.specs.Statements.{Statement}
 use Rattle.st_asm.specs.Pass.{Refusal, onward, pass, pass_then, unless_faulty}

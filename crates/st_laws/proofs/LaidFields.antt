@@ -3,7 +3,7 @@ use Rattle.std.proofs.Common.{◌≡◌, ℕ, ◌-◌, ◌%◌, ◌^◌, ◌<◌
 use Rattle.std.proofs.lemmas.Bool.{or_parts as either_false}
 use Rattle.std.specs.Bool.{IsFalse}
 use Rattle.st_format.specs.Validity.{misfits}
-use Rattle.st_strap.specs.declared.statement.Form.{Form}
+use Rattle.st_mnemonic.specs.declared.form.Form.{Form}
 use Rattle.st_asm.specs.Numbers.{holds, capacity, digits_of_form, magnitude, packed_digits, field_bits_of as laid_bits}
 use Rattle.st_asm.proofs.FieldLemmas.{holds-below}
 use Rattle.st_dec.specs.DigitLists.{bytes, codes_value, decimal as digits}

@@ -9,10 +9,10 @@ use Rattle.st_bits.specs.declared.operations.BranchOp.TheVariants.{Bew}
 use Rattle.st_bits.specs.declared.operations.VflOp.{VflOp}
 use Rattle.st_bits.specs.declared.operations.VflOp.TheVariants.{L, Add, St, MAdd1, Mul}
 use Rattle.st_bits.specs.declared.operations.ConnKind.TheVariants.{C}
-use Rattle.st_strap.specs.Describing.{plain_form}
+use Rattle.st_mnemonic.specs.Describing.{plain_form}
 use Rattle.st_strap.specs.Saying.{statement_of}
 use Rattle.st_strap.specs.Spots.{number_spot, AreSpots, progressive_form}
-use Rattle.st_strap.specs.declared.statement.Form.{Form as FieldForm}
+use Rattle.st_mnemonic.specs.declared.form.Form.{Form as FieldForm}
 use Rattle.st_strap.specs.Statements.{Statement}
 use Rattle.st_strap.specs.declared.statement.Statement.TheVariants.{Half, Branch, Vfl, Connect}
 use Rattle.st_strap.proofs.OperandCards.{load_value-read, add_value-read, load_word-read, add-read, store-read, add_one-read, connect-read, multiply-read, wait-read}

@@ -1,6 +1,6 @@
 -- What is laid for a number, and what an operation reads there.
 use Rattle.std.specs.Prelude.{ℕ, ◌≡◌, Bool, true}
-use Rattle.st_strap.specs.declared.statement.Form.{Form}
+use Rattle.st_mnemonic.specs.declared.form.Form.{Form}
 use Rattle.st_strap.specs.WellFormed.{IsNumberForm}
 use Rattle.st_asm.specs.Numbers.{holds, field_bits_of as laid_bits}
 use Rattle.st_field.specs.declared.fields.Field.{Field}

@@ -21,7 +21,7 @@ use Rattle.st_object.specs.Meaning.{short_number}
 use Rattle.st_asm.specs.Checks.{in_storage}
 use Rattle.st_asm.specs.Assembly.{Assembly, assembly}
 use Rattle.st_gen.specs.Deck.{made_deck}
-use Rattle.st_strap.specs.declared.statement.Form.{Form}
+use Rattle.st_mnemonic.specs.declared.form.Form.{Form}
 use Rattle.st_dec.specs.DecimalOperand.{field_value, digit_bytes, digit_count}
 use Rattle.st_laws.specs.LaidNumbers.{IsHeld, IsRead, laid_shape, field_of_number}
 use Rattle.st_banks.specs.declared.answers.TheConstants.{BANKS}

@@ -14,14 +14,14 @@ use Rattle.st_text.specs.declared.numbers.Reading.TheVariants.{Bad, Large, Good}
 use Rattle.st_expr.specs.Expression.{parts, any_bad, any_large, terms_of, expr_of}
 use Rattle.st_expr.specs.declared.terms.Term.{Term}
 use Rattle.st_strap.specs.Order.{earlier_fault, both_of, reading_map, next_reading}
-use Rattle.st_strap.specs.Text.{statement_text, begins_with, behind_word}
-use Rattle.st_strap.specs.Forming.{behind_description}
+use Rattle.st_mnemonic.specs.Text.{statement_text, begins_with, behind_word}
+use Rattle.st_mnemonic.specs.Forming.{behind_description}
 use Rattle.st_strap.specs.Reading.{field_front, index_part, index_fields, index_parts, index_field, index_named, spot, reading_without_index, expression, number_or_fault, number_result, plain_number, signed_of, signed_number, with_selected, index_selector}
 use Rattle.st_strap.specs.Saying.{index_alone, spot_alone, expression_alone, number_alone, index_and_spot, index_and_list, operand_spot, two_addresses, spot_and_number, address_and_number, two_addresses_and_number, refill_and_flags, count_and_refill, index_word_parts, without_fields, with_fields, is_misnamed, statement_in_form, reading_of_operation, clean_statement_of, statement_of}
 use Rattle.st_strap.specs.Faults.{Wanted, an_index_word, an_address, a_plain_address, a_number, a_signed_number, wanted_by, has_other_count, number_reading, without_sign, is_bad, is_large, lacks_expression, lacks_index, is_past, any_field, operation_named, described_in, progressed_in, fields_in, has_bad_progressive, field_faults, faults_behind, faults_on, wanted_in, fault_in}
-use Rattle.st_strap.specs.declared.statement.Form.{Form}
-use Rattle.st_strap.specs.declared.operations.Operation.{Operation}
-use Rattle.st_strap.specs.declared.operations.Operation.TheVariants.{Half, Sum, Refill, Execute, Branch, Bare, Floating, Vfl, Connect, Move, BitBranch, IndBranch, StoreCounter, Transfer, Data, IndexWord, Synonym, SetLocation, Reserve, End}
+use Rattle.st_mnemonic.specs.declared.form.Form.{Form}
+use Rattle.st_mnemonic.specs.declared.operations.Operation.{Operation}
+use Rattle.st_mnemonic.specs.declared.operations.Operation.TheVariants.{Half, Sum, Refill, Execute, Branch, Bare, Floating, Vfl, Connect, Move, BitBranch, IndBranch, StoreCounter, Transfer, Data, IndexWord, Synonym, SetLocation, Reserve, End}
 use Rattle.st_strap.specs.Statements.{Statement}
 
 -- the first of the faults that fields may have

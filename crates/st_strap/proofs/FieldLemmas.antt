@@ -3,8 +3,8 @@ use Rattle.std.proofs.Common.{◌≡◌, ◌≤◌, ◌-◌, suc, List, [], ◌�
 use Rattle.std.proofs.Math.Seq.{take-length}
 use Rattle.st_card.specs.declared.faults.Fault.{Fault}
 use Rattle.st_strap.specs.Order.{both_of}
-use Rattle.st_strap.specs.Fields.{texts}
-use Rattle.st_strap.specs.declared.field.Field.{Field}
+use Rattle.st_mnemonic.specs.Fields.{texts}
+use Rattle.st_mnemonic.specs.declared.field.Field.{Field}
 
 -- the texts of fields are that of the first and those of the rest
 pub texts_first : (fields : List Field) (first : Field) → 1 ≤ length fields → first ≡ get_or fields 0 first →

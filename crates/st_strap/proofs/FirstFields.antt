@@ -1,24 +1,15 @@
--- No operation has more than seventeen fields, and no description: what stands behind those makes no difference.
-use Rattle.std.proofs.Common.{◌≡◌, ◌≤◌, ◌∙◌, ◌++◌, ℕ, zero, suc, Bool, true, false, nat_le, List, [], ◌∷◌, length, take, Option, Some, None, Err, refl, ap, sym, append_assoc, arith, if◌then◌else◌}
-use Rattle.std.specs.Option.{option_and_then}
-use Rattle.std.proofs.Math.Seq.{take-append_seam}
-use Rattle.std.proofs.lemmas.List.{length-take-le, length-map, map-append}
+-- No operation has more than seventeen fields: what stands behind those makes no difference.
+use Rattle.std.proofs.Common.{◌≡◌, ◌≤◌, ◌∙◌, ℕ, zero, suc, Bool, true, false, nat_le, List, [], ◌∷◌, length, take, Err, refl, ap, sym, arith, if◌then◌else◌}
+use Rattle.std.proofs.lemmas.List.{length-take-le}
 use Rattle.std.proofs.lemmas.Bool.Decides.{nat_tests}
-use Rattle.st_text.specs.Pieces.{pieces_of}
-use Rattle.st_text.specs.Tables.{row_of}
 use Rattle.st_card.specs.declared.faults.Fault.TheVariants.{BadFieldCount}
-use Rattle.st_strap.specs.Fields.{texts}
 use Rattle.st_strap.specs.Order.{both_of, reading_map}
-use Rattle.st_strap.specs.Describing.{in_mode, in_pieces, modes}
 use Rattle.st_strap.specs.Reading.{index_field, index_selector}
 use Rattle.st_strap.specs.Saying.{index_alone, spot_alone, expression_alone, number_alone, index_and_spot, index_and_list, operand_spot, two_addresses, spot_and_number, address_and_number, two_addresses_and_number, refill_and_flags, count_and_refill, index_word_parts, without_fields, with_fields}
-use Rattle.st_strap.specs.declared.descriptions.Mode.{Mode}
-use Rattle.st_strap.specs.declared.descriptions.Mode.TheVariants.{Field, Normalized, Unnormalized}
-use Rattle.st_strap.specs.declared.field.Field.{Field as FieldOf}
-use Rattle.st_strap.specs.declared.statement.Form.{Form}
+use Rattle.st_mnemonic.specs.declared.form.Form.{Form}
 use Rattle.st_strap.specs.declared.statement.Statement.TheVariants.{Sum}
-use Rattle.st_strap.specs.declared.operations.Operation.{Operation}
-use Rattle.st_strap.specs.declared.operations.Operation.TheVariants.{Half as HalfOperation, Sum as SumOperation, Refill as RefillOperation, Execute as ExecuteOperation, Branch as BranchOperation, Bare as BareOperation, Floating as FloatingOperation, Vfl as VflOperation, Connect as ConnectOperation, Move as MoveOperation, BitBranch as BitBranchOperation, IndBranch as IndBranchOperation, StoreCounter as StoreCounterOperation, Transfer as TransferOperation, Data as DataOperation, IndexWord as IndexWordOperation, Synonym as SynonymOperation, SetLocation as SetLocationOperation, Reserve as ReserveOperation, End as EndOperation}
+use Rattle.st_mnemonic.specs.declared.operations.Operation.{Operation}
+use Rattle.st_mnemonic.specs.declared.operations.Operation.TheVariants.{Half as HalfOperation, Sum as SumOperation, Refill as RefillOperation, Execute as ExecuteOperation, Branch as BranchOperation, Bare as BareOperation, Floating as FloatingOperation, Vfl as VflOperation, Connect as ConnectOperation, Move as MoveOperation, BitBranch as BitBranchOperation, IndBranch as IndBranchOperation, StoreCounter as StoreCounterOperation, Transfer as TransferOperation, Data as DataOperation, IndexWord as IndexWordOperation, Synonym as SynonymOperation, SetLocation as SetLocationOperation, Reserve as ReserveOperation, End as EndOperation}
 
 -- a list that is not longer is the whole
 whole : {A : Type 0} (n : ℕ) (xs : List A) → length xs ≤ n → take n xs ≡ xs
@@ -26,43 +17,6 @@ whole {A} zero [] few = refl
 whole {A} (suc n) [] few = refl
 whole {A} zero (x ∷ xs) few = let no : ⊥ = omega arith in absurd no
 whole {A} (suc n) (x ∷ xs) few = ap (λ (l : List A). x ∷ l) (whole n xs (omega arith))
-
--- the first seventeen of a list are those that were found
-pub first_found : (found rest pieces : List (List ℕ)) → found ++ rest ≡ pieces → length found ≡ 17 → found ≡ take 17 pieces
-first_found found rest pieces all full =
-    sym (ap (λ n. take n (found ++ rest)) (sym full) ∙ take-append_seam found rest) ∙ ap (λ (ps : List (List ℕ)). take 17 ps) all
-
--- so are those that were kept when there is room for no more
-pub no_room : (kept new : List FieldOf) (f : FieldOf) (left after text : List ℕ) → new ≡ kept ++ f ∷ [] →
-    texts kept ++ pieces_of 44 left ≡ pieces_of 44 text → pieces_of 44 left ≡ f.text.now ∷ pieces_of 44 after → length new ≡ 17 →
-    texts new ≡ take 17 (pieces_of 44 text)
-no_room kept new f left after text pushed so_far cut full =
-    let both : texts new ≡ texts kept ++ f.text.now ∷ [] =
-    ap (λ (fs : List FieldOf). texts fs) pushed ∙ map-append (λ (g : FieldOf). g.text.now) kept (f ∷ []) in
-    let all : texts new ++ pieces_of 44 after ≡ pieces_of 44 text =
-    ap (λ (t : List (List ℕ)). t ++ pieces_of 44 after) both
-    ∙ (append_assoc (texts kept) (f.text.now ∷ []) (pieces_of 44 after)
-    ∙ (ap (λ (ps : List (List ℕ)). texts kept ++ ps) (sym cut) ∙ so_far)) in
-    first_found (texts new) (pieces_of 44 after) (pieces_of 44 text) all (length-map new (λ (g : FieldOf). g.text.now) ∙ full)
-
--- ---- descriptions
-
-past_three : (mode : Option Mode) (a b c : List ℕ) (more others : List (List ℕ)) →
-    option_and_then (λ m. in_mode m (a ∷ b ∷ c ∷ more)) mode ≡ option_and_then (λ m. in_mode m (a ∷ b ∷ c ∷ others)) mode
-unfolding in_mode
-past_three None a b c more others = refl
-past_three (Some (Field d u)) a b c more others = refl
-past_three (Some Normalized) a b c more others = refl
-past_three (Some Unnormalized) a b c more others = refl
-
-pub enough_pieces : (ps : List (List ℕ)) → in_pieces (take 17 ps) ≡ in_pieces ps
-enough_pieces [] = refl
-enough_pieces (m ∷ []) = refl
-enough_pieces (m ∷ a ∷ []) = refl
-enough_pieces (m ∷ a ∷ b ∷ []) = refl
-enough_pieces (m ∷ a ∷ b ∷ c ∷ more) = past_three (row_of m modes) a b c (take 13 more) more
-
--- ---- operations
 
 too_many : (n : ℕ) → 15 ≤ n → nat_le n 14 ≡ false
 too_many n many = grind (arith, nat_tests)

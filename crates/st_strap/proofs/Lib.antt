@@ -3,10 +3,8 @@ pub mod FieldLemmas
 pub mod ReadLemmas
 pub mod StatementLemmas
 pub mod FaultLemmas
-pub mod Digits
 pub mod NumberCards
 pub mod PlaceCards
 pub mod OperandCards
 pub mod FirstFields
-pub mod Apart
 pub mod Laws

@@ -18,21 +18,21 @@ use Rattle.st_text.specs.Pieces.{pieces_of, lacks}
 use Rattle.st_text.specs.Tables.{row_of}
 use Rattle.st_card.specs.declared.faults.Fault.TheVariants.{BadName, UnknownOperation, BadDataDescription, BadProgressive}
 use Rattle.st_expr.specs.Expression.{expr_of}
-use Rattle.st_strap.specs.Text.{stop, ends_with, statement_text, group_length, group, behind_group, fields_of}
-use Rattle.st_strap.specs.Table.{operation_of_word, other_operations, index_operations, field_operations, negated_operation, connective, connective_kinds, truth_tables}
+use Rattle.st_mnemonic.specs.Text.{stop, ends_with, statement_text, group_length, group, behind_group, fields_of}
+use Rattle.st_mnemonic.specs.Table.{operation_of_word, other_operations, index_operations, field_operations, negated_operation, connective, connective_kinds, truth_tables}
 use Rattle.st_strap.specs.Order.{next_reading, reading_map, both_of}
-use Rattle.st_strap.specs.Describing.{modes, plain_form, some_number, number_to, in_mode, in_pieces, description_of, may_have, described_form}
-use Rattle.st_strap.specs.Forming.{progressive_forms, open_group, is_form, description_in, behind_description, form_number, may_have_form, form_with_progress}
+use Rattle.st_mnemonic.specs.Describing.{modes, plain_form, some_number, number_to, in_mode, in_pieces, description_of, may_have, described_form}
+use Rattle.st_mnemonic.specs.Forming.{progressive_forms, open_group, is_form, description_in, behind_description, form_number, may_have_form, form_with_progress}
 use Rattle.st_strap.specs.Reading.{field_front, index_part, index_fields, index_parts, index_field, index_named, spot, reading_without_index, number_or_fault, number_result, plain_number, number_expr, index_start}
 use Rattle.st_strap.specs.Spots.{number_spot, operands_text, AreSpots, progressive_form}
 use Rattle.st_strap.specs.Saying.{index_and_spot, operand_spot, without_fields, with_fields, is_misnamed, statement_in_form, reading_of_operation, clean_statement_of, statement_of}
-use Rattle.st_strap.specs.declared.statement.Form.{Form}
+use Rattle.st_mnemonic.specs.declared.form.Form.{Form}
 use Rattle.st_strap.specs.declared.statement.Statement.TheVariants.{Half, Branch, Vfl, Connect}
-use Rattle.st_strap.specs.declared.descriptions.Description.{Description}
-use Rattle.st_strap.specs.declared.descriptions.Description.TheVariants.{InForm}
-use Rattle.st_strap.specs.declared.operations.Operation.{Operation}
-use Rattle.st_strap.specs.declared.operations.Operation.TheVariants.{Half as HalfOperation, Bare as BareOperation, Vfl as VflOperation, Connect as ConnectOperation}
-use Rattle.st_strap.proofs.Digits.{IsOther, decimal-digits, reading-decimal, digits-lack, unequal, low_other, high_other, lacks-parted, clean-is}
+use Rattle.st_mnemonic.specs.declared.descriptions.Description.{Description}
+use Rattle.st_mnemonic.specs.declared.descriptions.Description.TheVariants.{InForm}
+use Rattle.st_mnemonic.specs.declared.operations.Operation.{Operation}
+use Rattle.st_mnemonic.specs.declared.operations.Operation.TheVariants.{Half as HalfOperation, Bare as BareOperation, Vfl as VflOperation, Connect as ConnectOperation}
+use Rattle.st_mnemonic.proofs.Digits.{IsOther, decimal-digits, reading-decimal, digits-lack, unequal, low_other, high_other, lacks-parted, clean-is}
 use Rattle.st_strap.proofs.NumberCards.{no_index_part, is_behind_groups-comma}
 use Rattle.st_strap.proofs.PlaceCards.{place_text, place-lacks, place-expr, parted-once, plain-said}
 

@@ -13,18 +13,18 @@ use Rattle.st_text.specs.declared.numbers.Reading.TheVariants.{Good}
 use Rattle.st_expr.specs.Name.{is_name_byte, is_name, is_system_word}
 use Rattle.st_expr.specs.Term.{atom_of, place_reading, bit_reading}
 use Rattle.st_expr.specs.Expression.{onto_part, parts_after, parts, expr_in, expr_of}
-use Rattle.st_strap.specs.Text.{statement_text, group_length, fields_of}
-use Rattle.st_strap.specs.Table.{operation_of_word, other_operations}
+use Rattle.st_mnemonic.specs.Text.{statement_text, group_length, fields_of}
+use Rattle.st_mnemonic.specs.Table.{operation_of_word, other_operations}
 use Rattle.st_strap.specs.Order.{next_reading, reading_map}
-use Rattle.st_strap.specs.Describing.{default_form, description_of, described_form}
-use Rattle.st_strap.specs.Forming.{progressive_forms, open_group, description_in, behind_description, form_number, may_have_form, form_with_progress}
+use Rattle.st_mnemonic.specs.Describing.{default_form, description_of, described_form}
+use Rattle.st_mnemonic.specs.Forming.{progressive_forms, open_group, description_in, behind_description, form_number, may_have_form, form_with_progress}
 use Rattle.st_strap.specs.Reading.{field_front, index_part, reading_without_index, expression, number_expr}
 use Rattle.st_strap.specs.Saying.{expression_alone, with_fields, is_misnamed, statement_in_form, reading_of_operation, clean_statement_of, statement_of}
-use Rattle.st_strap.specs.declared.statement.Form.{Form}
+use Rattle.st_mnemonic.specs.declared.form.Form.{Form}
 use Rattle.st_strap.specs.declared.statement.Statement.TheVariants.{SetLocation, End}
-use Rattle.st_strap.specs.declared.operations.Operation.{Operation}
-use Rattle.st_strap.specs.declared.operations.Operation.TheVariants.{SetLocation as SetLocationOperation, End as EndOperation}
-use Rattle.st_strap.proofs.Digits.{AreDigits, decimal-digits, reading-decimal, unequal, digits-lack, IsOther, low_other, high_other, lacks-parted, clean-is}
+use Rattle.st_mnemonic.specs.declared.operations.Operation.{Operation}
+use Rattle.st_mnemonic.specs.declared.operations.Operation.TheVariants.{SetLocation as SetLocationOperation, End as EndOperation}
+use Rattle.st_mnemonic.proofs.Digits.{AreDigits, decimal-digits, reading-decimal, unequal, digits-lack, IsOther, low_other, high_other, lacks-parted, clean-is}
 use Rattle.st_strap.proofs.NumberCards.{no_index_part, is_behind_groups-comma}
 
 -- word w and bit b as text

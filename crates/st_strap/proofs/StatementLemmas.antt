@@ -20,21 +20,21 @@ use Rattle.st_format.specs.declared.operations.FullOp.TheVariants.{Variable, Con
 use Rattle.st_format.proofs.Spelled.{or-left as either_false}
 use Rattle.st_strap.proofs.TableBounds.{index_below}
 use Rattle.st_strap.specs.Order.{both_of, next_reading}
-use Rattle.st_strap.specs.Text.{statement_text, operation_text, behind_word, behind_group, fields_of, ends_with, group}
-use Rattle.st_strap.specs.Table.{operation_of_word, other_operations, index_operations, index_operation, field_operations, field_operation, negated_operation, connective, connective_at, connective_kinds, truth_tables}
-use Rattle.st_strap.specs.Describing.{description_of, in_pieces, in_mode, number_to, some_number, described_form, may_have, floating_number, plain_form, default_form, usual_byte, modes}
-use Rattle.st_strap.specs.Forming.{description_in, behind_description, form_with_progress, form_with_number, may_have_form, form_number, progressive_forms, open_group, is_behind_groups}
+use Rattle.st_mnemonic.specs.Text.{statement_text, operation_text, behind_word, behind_group, fields_of, ends_with, group}
+use Rattle.st_mnemonic.specs.Table.{operation_of_word, other_operations, index_operations, index_operation, field_operations, field_operation, negated_operation, connective, connective_at, connective_kinds, truth_tables}
+use Rattle.st_mnemonic.specs.Describing.{description_of, in_pieces, in_mode, number_to, some_number, described_form, may_have, floating_number, plain_form, default_form, usual_byte, modes}
+use Rattle.st_mnemonic.specs.Forming.{description_in, behind_description, form_with_progress, form_with_number, may_have_form, form_number, progressive_forms, open_group, is_behind_groups}
 use Rattle.st_strap.specs.Reading.{field_front, index_part, index_field, index_fields, index_named, index_parts, spot, expression, plain_number, index_selector}
 use Rattle.st_strap.specs.Saying.{misnames, index_alone, spot_alone, expression_alone, number_alone, index_and_spot, index_and_list, operand_spot, two_addresses, spot_and_number, address_and_number, two_addresses_and_number, index_word_parts, without_fields, with_fields, is_misnamed, statement_in_form, reading_of_operation, clean_statement_of, statement_of}
 use Rattle.st_strap.specs.Statements.{Spot, Statement}
-use Rattle.st_strap.specs.declared.statement.Form.{Form}
+use Rattle.st_mnemonic.specs.declared.form.Form.{Form}
 use Rattle.st_strap.specs.declared.statement.Statement.TheVariants.{Half, Sum, Refill, Branch, Floating, Vfl, Connect, Move, BitBranch, IndBranch, StoreCounter, Transfer, Data, IndexWord, Synonym, SetLocation, Reserve, End}
-use Rattle.st_strap.specs.declared.descriptions.Mode.{Mode}
-use Rattle.st_strap.specs.declared.descriptions.Mode.TheVariants.{Field, Normalized, Unnormalized}
-use Rattle.st_strap.specs.declared.descriptions.Description.{Description}
-use Rattle.st_strap.specs.declared.descriptions.Description.TheVariants.{Absent, InForm, Floating as FloatingDescription}
-use Rattle.st_strap.specs.declared.operations.Operation.{Operation}
-use Rattle.st_strap.specs.declared.operations.Operation.TheVariants.{Half as HalfOperation, Sum as SumOperation, Refill as RefillOperation, Execute as ExecuteOperation, Branch as BranchOperation, Bare as BareOperation, Floating as FloatingOperation, Vfl as VflOperation, Connect as ConnectOperation, Move as MoveOperation, BitBranch as BitBranchOperation, IndBranch as IndBranchOperation, StoreCounter as StoreCounterOperation, Transfer as TransferOperation, Data as DataOperation, IndexWord as IndexWordOperation, Synonym as SynonymOperation, SetLocation as SetLocationOperation, Reserve as ReserveOperation, End as EndOperation}
+use Rattle.st_mnemonic.specs.declared.descriptions.Mode.{Mode}
+use Rattle.st_mnemonic.specs.declared.descriptions.Mode.TheVariants.{Field, Normalized, Unnormalized}
+use Rattle.st_mnemonic.specs.declared.descriptions.Description.{Description}
+use Rattle.st_mnemonic.specs.declared.descriptions.Description.TheVariants.{Absent, InForm, Floating as FloatingDescription}
+use Rattle.st_mnemonic.specs.declared.operations.Operation.{Operation}
+use Rattle.st_mnemonic.specs.declared.operations.Operation.TheVariants.{Half as HalfOperation, Sum as SumOperation, Refill as RefillOperation, Execute as ExecuteOperation, Branch as BranchOperation, Bare as BareOperation, Floating as FloatingOperation, Vfl as VflOperation, Connect as ConnectOperation, Move as MoveOperation, BitBranch as BitBranchOperation, IndBranch as IndBranchOperation, StoreCounter as StoreCounterOperation, Transfer as TransferOperation, Data as DataOperation, IndexWord as IndexWordOperation, Synonym as SynonymOperation, SetLocation as SetLocationOperation, Reserve as ReserveOperation, End as EndOperation}
 use Rattle.st_strap.specs.WellFormed.{IsForm, IsNumberForm, IsSpot, IsWellFormed}
 use Rattle.st_strap.proofs.ReadLemmas.{some-judged, ok-mapped, ok-both, ok-any, some-any, some-map, some-then, some-or, some-ok, row-passes}
 

@@ -10,15 +10,15 @@ use Rattle.st_card.specs.declared.faults.Fault.TheVariants.{BadName, UnknownOper
 use Rattle.st_text.specs.declared.numbers.Reading.{Reading}
 use Rattle.st_text.specs.declared.numbers.Reading.TheVariants.{Bad, Large, Good}
 use Rattle.st_expr.specs.Expression.{parts, any_bad, any_large}
-use Rattle.st_strap.specs.Text.{statement_text, begins_with, operation_text, behind_word, behind_group, fields_of}
-use Rattle.st_strap.specs.Table.{operation_of_word}
-use Rattle.st_strap.specs.Describing.{description_of, described_form}
-use Rattle.st_strap.specs.Forming.{description_in, behind_description, form_with_progress}
+use Rattle.st_mnemonic.specs.Text.{statement_text, begins_with, operation_text, behind_word, behind_group, fields_of}
+use Rattle.st_mnemonic.specs.Table.{operation_of_word}
+use Rattle.st_mnemonic.specs.Describing.{description_of, described_form}
+use Rattle.st_mnemonic.specs.Forming.{description_in, behind_description, form_with_progress}
 use Rattle.st_strap.specs.Reading.{field_front, index_part, index_fields, index_parts}
 use Rattle.st_strap.specs.Saying.{is_misnamed}
-use Rattle.st_strap.specs.declared.statement.Form.{Form}
-use Rattle.st_strap.specs.declared.operations.Operation.{Operation}
-use Rattle.st_strap.specs.declared.operations.Operation.TheVariants.{Half, Sum, Refill, Execute, Branch, Bare, Floating, Vfl, Connect, Move, BitBranch, IndBranch, StoreCounter, Transfer, Data, IndexWord, Synonym, SetLocation, Reserve, End}
+use Rattle.st_mnemonic.specs.declared.form.Form.{Form}
+use Rattle.st_mnemonic.specs.declared.operations.Operation.{Operation}
+use Rattle.st_mnemonic.specs.declared.operations.Operation.TheVariants.{Half, Sum, Refill, Execute, Branch, Bare, Floating, Vfl, Connect, Move, BitBranch, IndBranch, StoreCounter, Transfer, Data, IndexWord, Synonym, SetLocation, Reserve, End}
 
 -- what a field is to be: an index word, an address that may have an index part or must have one, an
 -- address without one, a number, or a number with a sign or none

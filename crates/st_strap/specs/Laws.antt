@@ -1,7 +1,7 @@
 -- What holds of statement cards, whatever they say.
 use Rattle.std.specs.Prelude.{◌≡◌, ◌≤◌, ◌<◌, ◌+◌, ◌*◌, ◌^◌, ◌++◌, ℕ, List, [], false, true, codes, decimal, None, Ok}
 use Rattle.st_card.specs.Cards.{first_fault}
-use Rattle.st_strap.specs.Describing.{plain_form}
+use Rattle.st_mnemonic.specs.Describing.{plain_form}
 use Rattle.st_strap.specs.Faults.{fault_in, faults_on}
 use Rattle.st_strap.specs.Saying.{statement_of}
 use Rattle.st_strap.specs.declared.statement.Statement.TheVariants.{Half, Branch, Vfl, Connect, Data, SetLocation, End}

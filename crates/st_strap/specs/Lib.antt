@@ -1,10 +1,5 @@
 pub mod Statements
-pub mod Text
-pub mod Fields
-pub mod Table
 pub mod Order
-pub mod Describing
-pub mod Forming
 pub mod Reading
 pub mod Saying
 pub mod Faults
@@ -16,6 +11,11 @@ pub use Rattle.st_expr.specs.Expression
 pub use Rattle.st_expr.specs.Name
 pub use Rattle.st_format.specs.Operations
 pub use Rattle.st_format.specs.Validity
+pub use Rattle.st_mnemonic.specs.Describing
+pub use Rattle.st_mnemonic.specs.Fields
+pub use Rattle.st_mnemonic.specs.Forming
+pub use Rattle.st_mnemonic.specs.Table
+pub use Rattle.st_mnemonic.specs.Text
 pub use Rattle.st_text.specs.Bytes
 pub use Rattle.st_text.specs.Number
 pub use Rattle.st_text.specs.Pieces

@@ -13,7 +13,7 @@ use Rattle.st_expr.specs.Expression.{expr_of}
 use Rattle.st_expr.specs.declared.terms.Term.{Term}
 use Rattle.st_expr.specs.declared.terms.Atom.TheVariants.{Number}
 use Rattle.st_strap.specs.Order.{earlier_fault, both_of, reading_map}
-use Rattle.st_strap.specs.Text.{begins_with, ends_with}
+use Rattle.st_mnemonic.specs.Text.{begins_with, ends_with}
 use Rattle.st_strap.specs.Statements.{Spot}
 
 -- where the last opening parenthesis of a text stands

@@ -9,19 +9,19 @@ use Rattle.st_card.specs.declared.faults.Fault.TheVariants.{BadName, UnknownOper
 use Rattle.st_expr.specs.Name.{is_name}
 use Rattle.st_expr.specs.declared.terms.Term.{Term}
 use Rattle.st_strap.specs.Order.{both_of, reading_map, next_reading}
-use Rattle.st_strap.specs.Text.{statement_text, operation_text, behind_word, behind_group, fields_of}
-use Rattle.st_strap.specs.Table.{operation_of_word}
-use Rattle.st_strap.specs.Describing.{description_of, described_form}
-use Rattle.st_strap.specs.Forming.{description_in, behind_description, form_with_progress}
+use Rattle.st_mnemonic.specs.Text.{statement_text, operation_text, behind_word, behind_group, fields_of}
+use Rattle.st_mnemonic.specs.Table.{operation_of_word}
+use Rattle.st_mnemonic.specs.Describing.{description_of, described_form}
+use Rattle.st_mnemonic.specs.Forming.{description_in, behind_description, form_with_progress}
 use Rattle.st_strap.specs.Reading.{index_field, spot, expression, plain_number, signed_number, index_selector}
 use Rattle.st_strap.specs.declared.shapes.AddressAndNumber.{AddressAndNumber}
 use Rattle.st_strap.specs.declared.shapes.RefillAndFlags.{RefillAndFlags}
 use Rattle.st_strap.specs.declared.shapes.CountAndRefill.{CountAndRefill}
 use Rattle.st_strap.specs.Statements.{Spot, Statement}
-use Rattle.st_strap.specs.declared.statement.Form.{Form}
+use Rattle.st_mnemonic.specs.declared.form.Form.{Form}
 use Rattle.st_strap.specs.declared.statement.Statement.TheVariants.{Half, Sum, Refill, Branch, Floating, Vfl, Connect, Move, BitBranch, IndBranch, StoreCounter, Transfer, Data, IndexWord, Synonym, SetLocation, Reserve, End}
-use Rattle.st_strap.specs.declared.operations.Operation.{Operation}
-use Rattle.st_strap.specs.declared.operations.Operation.TheVariants.{Half as HalfOperation, Sum as SumOperation, Refill as RefillOperation, Execute as ExecuteOperation, Branch as BranchOperation, Bare as BareOperation, Floating as FloatingOperation, Vfl as VflOperation, Connect as ConnectOperation, Move as MoveOperation, BitBranch as BitBranchOperation, IndBranch as IndBranchOperation, StoreCounter as StoreCounterOperation, Transfer as TransferOperation, Data as DataOperation, IndexWord as IndexWordOperation, Synonym as SynonymOperation, SetLocation as SetLocationOperation, Reserve as ReserveOperation, End as EndOperation}
+use Rattle.st_mnemonic.specs.declared.operations.Operation.{Operation}
+use Rattle.st_mnemonic.specs.declared.operations.Operation.TheVariants.{Half as HalfOperation, Sum as SumOperation, Refill as RefillOperation, Execute as ExecuteOperation, Branch as BranchOperation, Bare as BareOperation, Floating as FloatingOperation, Vfl as VflOperation, Connect as ConnectOperation, Move as MoveOperation, BitBranch as BitBranchOperation, IndBranch as IndBranchOperation, StoreCounter as StoreCounterOperation, Transfer as TransferOperation, Data as DataOperation, IndexWord as IndexWordOperation, Synonym as SynonymOperation, SetLocation as SetLocationOperation, Reserve as ReserveOperation, End as EndOperation}
 
 -- one field that is an index word
 unfoldable pub index_alone : List (List ℕ) → Result ℕ Fault

@@ -1,8 +1,8 @@
 -- Operands with an address that is a number, as text and as what is read.
 use Rattle.std.specs.Prelude.{ℕ, ◌≤◌, ◌<◌, ◌^◌, true, false, List, ◌++◌, codes, decimal}
 use Rattle.st_strap.specs.Reading.{number_expr}
-use Rattle.st_strap.specs.Describing.{plain_form}
-use Rattle.st_strap.specs.declared.statement.Form.{Form}
+use Rattle.st_mnemonic.specs.Describing.{plain_form}
+use Rattle.st_mnemonic.specs.declared.form.Form.{Form}
 use Rattle.st_strap.specs.Statements.{Spot}
 
 -- an address that is a number, with an index word

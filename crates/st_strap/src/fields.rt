@@ -3,14 +3,13 @@
 ghost use Rattle.std.specs.Prelude.{◌≡◌, ◌≤◌, ◌<◌, length, IfOk, IfSome};
 ghost use Rattle.st_text.specs.Tables.{row_of};
 ghost use Rattle.st_strap.specs.Order as order;
-ghost use Rattle.st_strap.specs.Fields.{texts};
+ghost use Rattle.st_mnemonic.specs.Fields.{texts};
 ghost use Rattle.st_strap.specs.Reading as spec;
 
-use crate::field::Field;
-use crate::parts::{begins_with, ends_with};
 use crate::statement::{CompactSpot, Spot};
 use st_card::Fault;
 use st_expr::ExprText;
+use st_mnemonic::{Field, begins_with, ends_with};
 use st_text::{Reading, read_number, row_of};
 
 const INDEX_FIELDS: [(&[u8], u8); 16] = [

@@ -1,26 +1,23 @@
 //! Reading a statement.
 
 ghost use Rattle.std.specs.Prelude.{◌≡◌, ◌≤◌, length};
-ghost use Rattle.std.specs.Option.{option_and_then};
-ghost use Rattle.st_strap.specs.Fields.{texts};
-ghost use Rattle.st_strap.specs.Text.{fields_of};
-ghost use Rattle.st_strap.specs.Describing as describing;
+ghost use Rattle.st_mnemonic.specs.Fields.{texts};
+ghost use Rattle.st_mnemonic.specs.Text.{fields_of};
 ghost use Rattle.st_strap.specs.Saying as spec;
 
-use crate::descriptions::{described, description_of};
-use crate::field::Field;
-use crate::forms::{progressed, split_description};
-use crate::operations::{Operation, operation_of};
-use crate::parts::{clean, fields, stop};
 use crate::saying::{
     say_bare, say_bit_branch, say_branch, say_connect, say_data, say_end, say_execute,
     say_floating, say_half, say_ind_branch, say_index_word, say_move, say_refill, say_reserve,
     say_set_location, say_store_counter, say_sum, say_synonym, say_transfer, say_vfl,
 };
-use crate::statement::{CompactStatement, Form, Statement};
+use crate::statement::{CompactStatement, Statement};
 use crate::terms::statement_terms;
 use st_card::Fault;
 use st_expr::is_name;
+use st_mnemonic::{
+    Field, Form, Operation, clean, described_in, fields, operation_of, progressed,
+    split_description, split_word,
+};
 
 /// The statement of a card, or the first of its faults.
 ///
@@ -51,7 +48,7 @@ fn read_clean(name: &[u8], statement: &[u8]) -> Result<CompactStatement, Fault>
     requires { length statement.now ≤ 63 }
     ensures { result ≡ spec.clean_statement_of name.now statement.now }
 {
-    let (word, behind) = statement.split_at(stop(statement, b'(', b','));
+    let (word, behind) = split_word(statement);
     let op = operation_of(word);
     if is_misnamed(name, op) {
         return Err(Fault::BadName);
@@ -87,19 +84,10 @@ fn say(op: Operation, text: &[u8]) -> Result<CompactStatement, Fault>
     ensures { result ≡ spec.reading_of_operation op text.now }
 {
     let (description, behind) = split_description(text);
-    match description_in(op, description) {
+    match described_in(op, description) {
         None => Err(Fault::BadDataDescription),
         Some((op, form)) => say_formed(op, form, behind),
     }
-}
-
-// The operation and the form that a group makes of an operation.
-fn description_in(op: Operation, group: &[u8]) -> Option<(Operation, Form)>
-    requires { length group.now ≤ 63 }
-    ensures { result ≡ option_and_then (describing.described_form op)
-        (describing.description_of group.now) }
-{
-    described(op, description_of(group)?)
 }
 
 // What an operation says with an allowed description and the text behind that.

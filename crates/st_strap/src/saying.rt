@@ -2,19 +2,18 @@
 //! never inlined, so that no other one's large values are cleared for it.
 
 ghost use Rattle.std.specs.Prelude.{◌≡◌};
-ghost use Rattle.st_strap.specs.Fields.{texts};
+ghost use Rattle.st_mnemonic.specs.Fields.{texts};
 ghost use Rattle.st_strap.specs.Saying as spec;
-ghost use Rattle.st_strap.specs.declared.statement.Form.{Form as FormOf};
+ghost use Rattle.st_mnemonic.specs.declared.form.Form.{Form as FormOf};
 
-use crate::field::Field;
-use crate::operations::Operation;
 use crate::shapes::{
     expression_alone, index_alone, index_and_list, index_and_spot, index_word_parts, number_alone,
     operand, spot_alone, spot_and_number, two_addresses, two_addresses_and_number, without_fields,
 };
-use crate::statement::{CompactStatement, Form, Statement};
+use crate::statement::{CompactStatement, Statement};
 use st_bits::{BranchOp, ConnKind, HalfOp, VflOp};
 use st_card::Fault;
+use st_mnemonic::{Field, Form, Operation};
 
 // What an operation on an index word says.
 #[inline(never)]

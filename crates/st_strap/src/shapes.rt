@@ -1,14 +1,14 @@
 //! The shapes that the fields of operations have.
 
 ghost use Rattle.std.specs.Prelude.{◌≡◌};
-ghost use Rattle.st_strap.specs.Fields.{texts};
+ghost use Rattle.st_mnemonic.specs.Fields.{texts};
 ghost use Rattle.st_strap.specs.Saying as spec;
 
-use crate::field::Field;
 use crate::fields::{both, expression, index_field, plain_number, selected, signed_number, spot};
-use crate::statement::{CompactSpot, CompactStatement, Form};
+use crate::statement::{CompactSpot, CompactStatement};
 use st_card::Fault;
 use st_expr::ExprText;
+use st_mnemonic::{Field, Form};
 
 // An address and a number.
 #[derive(Drop)]

@@ -2,6 +2,7 @@
 
 use st_bits::{BranchOp, ConnKind, HalfOp, VflOp};
 use st_expr::{Expr, ExprText};
+use st_mnemonic::Form;
 
 /// An address, and the index word that changes it. The address is kept in the form `E`: as its
 /// terms, or as its text.
@@ -11,22 +12,6 @@ pub struct Spot<E = Expr> {
     pub expr: E,
     /// The number of the index word, 1 to 15, or 0 where there is none.
     pub index: u8,
-}
-
-/// The form of a field in storage.
-#[derive(Clone, Copy, Debug, PartialEq, Eq)]
-pub struct Form {
-    /// Whether its bytes are decimal digits.
-    pub decimal: bool,
-    /// Whether it has no sign byte.
-    pub unsigned: bool,
-    /// The number of bits, 1 to 64.
-    pub length: u8,
-    /// The bits of a byte, 1 to 8.
-    pub byte: u8,
-    /// The progressive form, 0 to 7: 0 is none, 1 takes the operand from the address, and the
-    /// others change the index word.
-    pub p: u8,
 }
 
 /// A statement: an instruction, or an order to the assembler. `at` is its first address, and

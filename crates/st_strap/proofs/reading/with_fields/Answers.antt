@@ -1,5 +1,5 @@
 use Rattle.std.proofs.Common.{sym, ap, ◌∙◌}
-use Rattle.st_strap.specs.Fields.{texts}
+use Rattle.st_mnemonic.specs.Fields.{texts}
 use Rattle.st_strap.specs.Saying.{with_fields}
 use Rattle.st_strap.proofs.reading.with_fields.Goals as goal
 

@@ -1,8 +1,8 @@
 use Rattle.std.proofs.Common.{◌∙◌, ℕ, List, ap}
-use Rattle.st_strap.specs.Fields.{texts}
+use Rattle.st_mnemonic.specs.Fields.{texts}
 use Rattle.st_strap.specs.Saying.{with_fields}
-use Rattle.st_strap.specs.Text.{fields_of}
-use Rattle.st_strap.specs.declared.field.Field.{Field}
+use Rattle.st_mnemonic.specs.Text.{fields_of}
+use Rattle.st_mnemonic.specs.declared.field.Field.{Field}
 use Rattle.st_strap.proofs.FirstFields.{enough_fields}
 use Rattle.st_strap.proofs.reading.with_text.Goals as goal
 

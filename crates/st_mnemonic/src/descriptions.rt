@@ -1,16 +1,17 @@
 //! Data descriptions: modes, lengths and byte sizes in parentheses.
 
 ghost use Rattle.std.specs.Prelude.{◌≡◌, ◌≤◌, length, IfSome};
+ghost use Rattle.std.specs.Option.{option_and_then};
 ghost use Rattle.st_text.specs.Bytes.{comma};
 ghost use Rattle.st_text.specs.Tables.{row_of};
 ghost use Rattle.st_text.specs.Pieces.{pieces_of};
-ghost use Rattle.st_strap.specs.Describing as spec;
-ghost use Rattle.st_strap.specs.Fields.{texts};
+ghost use Rattle.st_mnemonic.specs.Describing as spec;
+ghost use Rattle.st_mnemonic.specs.Fields.{texts};
 
 use crate::field::Field;
+use crate::form::Form;
 use crate::operations::Operation;
 use crate::parts::{ends_with, pieces};
-use crate::statement::Form;
 use st_bits::VflOp;
 use st_format::misfits_field;
 use st_text::{Reading, read_number, row_of};
@@ -24,6 +25,7 @@ pub(crate) enum Mode {
     Unnormalized,
 }
 
+// What a group says as a description.
 #[derive(Clone, Copy)]
 pub(crate) enum Description {
     Absent,
@@ -138,7 +140,7 @@ fn usual_byte(decimal: bool) -> u8
 
 // What a group says as a description.
 #[tactic(auto, unfolding(crate::specs::Describing::description_of))]
-pub(crate) fn description_of(group: &[u8]) -> Option<Description>
+fn description_of(group: &[u8]) -> Option<Description>
     requires { length group.now ≤ 63 }
     ensures { result ≡ spec.description_of group.now }
 {
@@ -205,7 +207,7 @@ fn floating_number(op: Operation) -> Option<u8>
 
 // The operation and the form that a description makes of an operation, where it may stand there.
 #[tactic(auto, unfolding(crate::specs::Describing::described_form))]
-pub(crate) fn described(op: Operation, description: Description) -> Option<(Operation, Form)>
+fn described(op: Operation, description: Description) -> Option<(Operation, Form)>
     ensures { result ≡ spec.described_form op description }
 {
     match description {
@@ -218,4 +220,15 @@ pub(crate) fn described(op: Operation, description: Description) -> Option<(Oper
             Some((Operation::Floating(number), default_form()))
         }
     }
+}
+
+/// The operation and the form that a group makes of an operation as its data description; the form
+/// without a description where the group is empty. None where the group is no description, or one
+/// that the operation may not have. A description of the floating group makes of an operation on a
+/// field one of that group.
+pub fn described_in(op: Operation, group: &[u8]) -> Option<(Operation, Form)>
+    requires { length group.now ≤ 63 }
+    ensures { result ≡ option_and_then (spec.described_form op) (spec.description_of group.now) }
+{
+    described(op, description_of(group)?)
 }

@@ -1,7 +1,7 @@
 use Rattle.std.proofs.Common.{◌≡◌, ◌≤◌, ◌++◌, length}
 use Rattle.st_text.specs.Pieces.{pieces_of}
-use Rattle.st_strap.specs.Fields.{texts}
-use Rattle.st_strap.proofs.parts.pieces.Given as goal
+use Rattle.st_mnemonic.specs.Fields.{texts}
+use Rattle.st_mnemonic.proofs.parts.pieces.Given as goal
 
 abbrev pub invariant-pieces : goal.invariant-pieces
 invariant-pieces l = record {

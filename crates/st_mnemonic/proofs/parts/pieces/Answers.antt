@@ -1,7 +1,7 @@
 use Rattle.std.proofs.Common.{◌≡◌, length, arith}
 use Rattle.std.proofs.lemmas.Bool.Decides.{nat_tests}
-use Rattle.st_strap.proofs.FirstFields.{no_room}
-use Rattle.st_strap.proofs.parts.pieces.Goals as goal
+use Rattle.st_mnemonic.proofs.FirstPieces.{no_room}
+use Rattle.st_mnemonic.proofs.parts.pieces.Goals as goal
 
 pub returns-then-is_full : goal.returns-then-is_full
 returns-then-is_full c =

@@ -1,5 +1,5 @@
 use Rattle.std.proofs.Common.{◌≡◌, ◌≤◌, ◌+◌, ◌++◌, ◌==◌, not, length, filter}
-use Rattle.st_strap.proofs.parts.without_blanks.Given as goal
+use Rattle.st_mnemonic.proofs.parts.without_blanks.Given as goal
 
 abbrev pub invariant-bytes : goal.invariant-bytes
 invariant-bytes l = record {

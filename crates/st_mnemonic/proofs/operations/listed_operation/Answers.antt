@@ -1,6 +1,6 @@
 use Rattle.std.proofs.Common.{◌∙◌, sym}
-use Rattle.st_strap.proofs.Apart.{other_or_field, other_or_index, index_or_field, found_last, found_second}
-use Rattle.st_strap.proofs.operations.listed_operation.Goals as goal
+use Rattle.st_mnemonic.proofs.Apart.{other_or_field, other_or_index, index_or_field, found_last, found_second}
+use Rattle.st_mnemonic.proofs.operations.listed_operation.Goals as goal
 
 pub returns-in-Some : goal.returns-in-Some
 returns-in-Some c =

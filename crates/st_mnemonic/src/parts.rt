@@ -3,15 +3,15 @@
 ghost use Rattle.std.specs.Prelude.{◌≡◌, ◌≤◌, ◌==◌, not, length, take, filter};
 ghost use Rattle.st_text.specs.Bytes.{blank, comma};
 ghost use Rattle.st_text.specs.Pieces.{pieces_of};
-ghost use Rattle.st_strap.specs.Text as spec;
-ghost use Rattle.st_strap.specs.Fields.{texts};
+ghost use Rattle.st_mnemonic.specs.Text as spec;
+ghost use Rattle.st_mnemonic.specs.Fields.{texts};
 
 use crate::field::{Field, Fields};
 use arrayvec::ArrayVec;
 use st_text::cut;
 
 // How many bytes stand before the first of two bytes.
-pub(crate) fn stop(text: &[u8], a: u8, b: u8) -> usize
+fn stop(text: &[u8], a: u8, b: u8) -> usize
     ensures value { result ≡ spec.stop a b text.now }
     ensures within { result ≤ length text.now }
 {
@@ -27,21 +27,24 @@ pub(crate) fn stop(text: &[u8], a: u8, b: u8) -> usize
     }
 }
 
-pub(crate) fn begins_with(text: &[u8], byte: u8) -> bool
+/// Whether a text begins with a byte.
+pub fn begins_with(text: &[u8], byte: u8) -> bool
     ensures { result ≡ spec.begins_with byte text.now }
 {
     text.first().is_some_and(|first| *first == byte)
 }
 
-pub(crate) fn ends_with(text: &[u8], byte: u8) -> bool
+/// Whether a text ends with a byte.
+pub fn ends_with(text: &[u8], byte: u8) -> bool
     ensures { result ≡ spec.ends_with byte text.now }
 {
     text.last().is_some_and(|last| *last == byte)
 }
 
-// A statement without its comment and its blanks.
+/// A statement without its comment, which begins with `;`, and without its blanks. The text is what
+/// columns 10 to 72 of a card hold, at most 63 bytes.
 #[tactic(auto, unfolding(crate::specs::Text::statement_text))]
-pub(crate) fn clean(text: &[u8]) -> ArrayVec<u8, 63>
+pub fn clean(text: &[u8]) -> ArrayVec<u8, 63>
     requires { length text.now ≤ 63 }
     ensures value { result.items ≡ spec.statement_text text.now }
     ensures within { length result.items ≤ 63 }
@@ -49,6 +52,7 @@ pub(crate) fn clean(text: &[u8]) -> ArrayVec<u8, 63>
     without_blanks(text.split_at(stop(text, b';', b';')).0)
 }
 
+// A text without its blanks.
 fn without_blanks(text: &[u8]) -> ArrayVec<u8, 63>
     requires { length text.now ≤ 63 }
     ensures value { result.items ≡ filter (λ c. not (c == blank)) text.now }
@@ -65,6 +69,16 @@ fn without_blanks(text: &[u8]) -> ArrayVec<u8, 63>
     kept
 }
 
+/// A statement cut into its operation, which ends before the first `(` or comma, and what stands
+/// behind that.
+pub fn split_word(statement: &[u8]) -> (&[u8], &[u8])
+    ensures word { result.0.now ≡ spec.operation_text statement.now }
+    ensures behind { result.1.now ≡ spec.behind_word statement.now }
+    ensures shorter { length result.1.now ≤ length statement.now }
+{
+    statement.split_at(stop(statement, b'(', b','))
+}
+
 // The length of the group that a text begins with.
 #[tactic(auto, unfolding(crate::specs::Text::group_length))]
 pub(crate) fn group_length(text: &[u8]) -> usize
@@ -78,9 +92,10 @@ pub(crate) fn group_length(text: &[u8]) -> usize
     }
 }
 
-// The first seventeen fields, each behind a comma.
+/// The first seventeen fields, each behind a comma, of the text that stands behind an operation and
+/// its groups; none where that is empty. No operation has more than sixteen.
 #[tactic(auto, unfolding(crate::specs::Text::fields_of))]
-pub(crate) fn fields(text: &[u8]) -> Fields<'_>
+pub fn fields(text: &[u8]) -> Fields<'_>
     requires { length text.now ≤ 63 }
     ensures { texts result.items ≡ take 17 (spec.fields_of text.now) }
 {

@@ -6,10 +6,10 @@ use Rattle.st_text.specs.Tables.{row_of}
 use Rattle.st_format.specs.Operations.{writes_field}
 use Rattle.st_format.specs.declared.operations.FullOp.{FullOp}
 use Rattle.st_format.specs.declared.operations.FullOp.TheVariants.{Variable, Connective}
-use Rattle.st_strap.specs.Text.{begins_with, ends_with, group, behind_group}
-use Rattle.st_strap.specs.declared.statement.Form.{Form}
-use Rattle.st_strap.specs.declared.operations.Operation.{Operation}
-use Rattle.st_strap.specs.declared.operations.Operation.TheVariants.{Half, Sum, Refill, Execute, Branch, Bare, Floating, Vfl, Connect, Move, BitBranch, IndBranch, StoreCounter, Transfer, Data, IndexWord, Synonym, SetLocation, Reserve, End}
+use Rattle.st_mnemonic.specs.Text.{begins_with, ends_with, group, behind_group}
+use Rattle.st_mnemonic.specs.declared.form.Form.{Form}
+use Rattle.st_mnemonic.specs.declared.operations.Operation.{Operation}
+use Rattle.st_mnemonic.specs.declared.operations.Operation.TheVariants.{Half, Sum, Refill, Execute, Branch, Bare, Floating, Vfl, Connect, Move, BitBranch, IndBranch, StoreCounter, Transfer, Data, IndexWord, Synonym, SetLocation, Reserve, End}
 
 -- the progressive forms, each as a group without the parenthesis that closes it
 unfoldable pub progressive_forms : List (List ℕ × ℕ)

@@ -10,9 +10,9 @@ use Rattle.st_bits.specs.declared.operations.VflOp.TheVariants.{L, Lwf, Ltrs, Lf
 use Rattle.st_bits.specs.declared.operations.ConnKind.{ConnKind}
 use Rattle.st_bits.specs.declared.operations.ConnKind.TheVariants.{C, Cm, Ct}
 use Rattle.st_text.specs.Tables.{row_of}
-use Rattle.st_strap.specs.Text.{ends_with}
-use Rattle.st_strap.specs.declared.operations.Operation.{Operation}
-use Rattle.st_strap.specs.declared.operations.Operation.TheVariants.{Half, Sum, Refill, Execute, Branch, Bare, Vfl, Connect, Move, BitBranch, IndBranch, StoreCounter, Transfer, Data, IndexWord, Synonym, SetLocation, Reserve, End}
+use Rattle.st_mnemonic.specs.Text.{ends_with}
+use Rattle.st_mnemonic.specs.declared.operations.Operation.{Operation}
+use Rattle.st_mnemonic.specs.declared.operations.Operation.TheVariants.{Half, Sum, Refill, Execute, Branch, Bare, Vfl, Connect, Move, BitBranch, IndBranch, StoreCounter, Transfer, Data, IndexWord, Synonym, SetLocation, Reserve, End}
 
 -- on an index word and an address
 unfoldable pub index_operations : List (List ℕ × HalfOp)

@@ -5,9 +5,9 @@ use Rattle.std.specs.Option.{option_map, option_or}
 use Rattle.std.specs.Cmp.Lexicographic.{pointwise}
 use Rattle.std.proofs.lemmas.Bool.{and_parts, eqb-true}
 use Rattle.st_text.specs.Tables.{is_same, row_of}
-use Rattle.st_strap.specs.Table.{other_operations, index_operations, field_operations, index_operation, field_operation}
-use Rattle.st_strap.specs.declared.operations.Operation.{Operation}
-use Rattle.st_strap.specs.declared.operations.Operation.TheVariants.{Half, Vfl}
+use Rattle.st_mnemonic.specs.Table.{other_operations, index_operations, field_operations, index_operation, field_operation}
+use Rattle.st_mnemonic.specs.declared.operations.Operation.{Operation}
+use Rattle.st_mnemonic.specs.declared.operations.Operation.TheVariants.{Half, Vfl}
 
 -- words that are the same are equal
 pub same_words : (a b : List ℕ) → is_same a b ≡ true → a ≡ b

@@ -1,5 +1,5 @@
 use Rattle.std.proofs.Common.{length}
-use Rattle.st_strap.proofs.parts.+stop.Given as goal
+use Rattle.st_mnemonic.proofs.parts.+stop.Given as goal
 
 abbrev pub decreases-stop : goal.decreases-stop
 decreases-stop l = length l.text.now

@@ -1,10 +1,10 @@
 use Rattle.std.proofs.Common.{◌∙◌, ℕ, List, ap}
 use Rattle.st_text.specs.Pieces.{pieces_of}
-use Rattle.st_strap.specs.Describing.{in_pieces}
-use Rattle.st_strap.specs.Fields.{texts}
-use Rattle.st_strap.specs.declared.field.Field.{Field}
-use Rattle.st_strap.proofs.FirstFields.{enough_pieces}
-use Rattle.st_strap.proofs.descriptions.in_pieces.Goals as goal
+use Rattle.st_mnemonic.specs.Describing.{in_pieces}
+use Rattle.st_mnemonic.specs.Fields.{texts}
+use Rattle.st_mnemonic.specs.declared.field.Field.{Field}
+use Rattle.st_mnemonic.proofs.FirstPieces.{enough_pieces}
+use Rattle.st_mnemonic.proofs.descriptions.in_pieces.Goals as goal
 
 pub returns : goal.returns
 returns c =

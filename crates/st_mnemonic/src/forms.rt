@@ -3,12 +3,12 @@
 ghost use Rattle.std.specs.Prelude.{◌≡◌, ◌≤◌, length};
 ghost use Rattle.std.specs.Option.{option_and_then};
 ghost use Rattle.st_text.specs.Tables.{row_of};
-ghost use Rattle.st_strap.specs.Text.{behind_group};
-ghost use Rattle.st_strap.specs.Forming as spec;
+ghost use Rattle.st_mnemonic.specs.Text.{behind_group};
+ghost use Rattle.st_mnemonic.specs.Forming as spec;
 
+use crate::form::Form;
 use crate::operations::Operation;
 use crate::parts::{begins_with, ends_with, group_length};
-use crate::statement::Form;
 use st_format::{FullOp, writes_field};
 use st_text::row_of;
 
@@ -42,9 +42,10 @@ fn unclosed(group: &[u8]) -> &[u8]
     }
 }
 
-// The data description, empty where there is none, and what stands behind it.
+/// The data description that stands behind an operation, a group in parentheses, and what stands
+/// behind it. It is empty where there is none: a first group that spells a progressive form is none.
 #[tactic(auto, unfolding(crate::specs::Forming::description_in, crate::specs::Forming::behind_description))]
-pub(crate) fn split_description(text: &[u8]) -> (&[u8], &[u8])
+pub fn split_description(text: &[u8]) -> (&[u8], &[u8])
     ensures description { result.0.now ≡ spec.description_in text.now }
     ensures behind { result.1.now ≡ spec.behind_description text.now }
     ensures lengths { length result.0.now ≤ length text.now }
@@ -58,9 +59,11 @@ pub(crate) fn split_description(text: &[u8]) -> (&[u8], &[u8])
     }
 }
 
-// The form with the progressive form that a text begins with, and what stands behind that.
+/// The form of an operation with the progressive form that a text begins with, none where it begins
+/// with no group; and what stands behind that. There is no form where the group spells none, where
+/// the operation may not have it, or where neither fields nothing stand behind it.
 #[tactic(auto, unfolding(crate::specs::Forming::form_with_progress))]
-pub(crate) fn progressed(op: Operation, form: Form, text: &[u8]) -> (Option<Form>, &[u8])
+pub fn progressed(op: Operation, form: Form, text: &[u8]) -> (Option<Form>, &[u8])
     ensures form { result.0 ≡ spec.form_with_progress op form text.now }
     ensures behind { result.1.now ≡ behind_group text.now }
     ensures shorter { length result.1.now ≤ length text.now }

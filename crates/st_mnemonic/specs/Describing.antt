@@ -9,14 +9,14 @@ use Rattle.st_text.specs.declared.numbers.Reading.{Reading}
 use Rattle.st_text.specs.declared.numbers.Reading.TheVariants.{Bad, Large, Good}
 use Rattle.st_format.specs.Validity.{misfits}
 use Rattle.st_bits.specs.declared.operations.VflOp.TheVariants.{L, St, Add, K, Mul, Div}
-use Rattle.st_strap.specs.Text.{ends_with}
-use Rattle.st_strap.specs.declared.statement.Form.{Form}
-use Rattle.st_strap.specs.declared.descriptions.Mode.{Mode}
-use Rattle.st_strap.specs.declared.descriptions.Mode.TheVariants.{Field, Normalized, Unnormalized}
-use Rattle.st_strap.specs.declared.descriptions.Description.{Description}
-use Rattle.st_strap.specs.declared.descriptions.Description.TheVariants.{Absent, InForm, Floating}
-use Rattle.st_strap.specs.declared.operations.Operation.{Operation}
-use Rattle.st_strap.specs.declared.operations.Operation.TheVariants.{Half, Sum, Refill, Execute, Branch, Bare, Floating as FloatingOperation, Vfl, Connect, Move, BitBranch, IndBranch, StoreCounter, Transfer, Data, IndexWord, Synonym, SetLocation, Reserve, End}
+use Rattle.st_mnemonic.specs.Text.{ends_with}
+use Rattle.st_mnemonic.specs.declared.form.Form.{Form}
+use Rattle.st_mnemonic.specs.declared.descriptions.Mode.{Mode}
+use Rattle.st_mnemonic.specs.declared.descriptions.Mode.TheVariants.{Field, Normalized, Unnormalized}
+use Rattle.st_mnemonic.specs.declared.descriptions.Description.{Description}
+use Rattle.st_mnemonic.specs.declared.descriptions.Description.TheVariants.{Absent, InForm, Floating}
+use Rattle.st_mnemonic.specs.declared.operations.Operation.{Operation}
+use Rattle.st_mnemonic.specs.declared.operations.Operation.TheVariants.{Half, Sum, Refill, Execute, Branch, Bare, Floating as FloatingOperation, Vfl, Connect, Move, BitBranch, IndBranch, StoreCounter, Transfer, Data, IndexWord, Synonym, SetLocation, Reserve, End}
 
 -- the modes: decimal or not and unsigned or not, or of the floating group
 unfoldable pub modes : List (List ℕ × Mode)

@@ -3,36 +3,55 @@
 ghost use Rattle.std.specs.Prelude.{◌≡◌, false};
 ghost use Rattle.std.specs.Option.{option_or};
 ghost use Rattle.st_text.specs.Tables.{row_of};
-ghost use Rattle.st_strap.specs.Table as spec;
+ghost use Rattle.st_mnemonic.specs.Table as spec;
 
 use crate::parts::ends_with;
 use st_bits::{BranchOp, ConnKind, HalfOp, VflOp};
 use st_text::row_of;
 
-// An operation, with what its word says.
+/// An operation, with what its word says. Those from `Data` on are orders to the assembler.
 #[derive(Clone, Copy)]
-pub(crate) enum Operation {
+pub enum Operation {
+    /// An operation on an index word.
     Half(HalfOp),
+    /// LVS.
     Sum,
+    /// R.
     Refill,
+    /// EX.
     Execute,
+    /// A branch to an address.
     Branch(BranchOp),
-    // A branch without an address.
+    /// A branch without an address.
     Bare(BranchOp),
-    // An operation of the floating group, which only a data description tells from one on a field.
+    /// An operation of the floating group by its number, 1 to 6 or 9 to 14. Only a data description
+    /// tells it from one on a field.
     Floating(u8),
+    /// An operation on a field.
     Vfl { op: VflOp, negated: bool },
+    /// A connective with its truth table, 0 to 15.
     Connect { kind: ConnKind, table: u8 },
+    /// T, or SWAP.
     Move { swap: bool },
+    /// BB: what becomes of the bit is 0 to 3: it is left, zeroed, set to one or inverted.
     BitBranch { sense: bool, change: u8 },
+    /// BI, which may turn the indicator off.
     IndBranch { sense: bool, off: bool },
+    /// SIC.
     StoreCounter,
+    /// RD, or WR.
     Transfer { write: bool },
+    /// DD.
     Data,
+    /// XW.
     IndexWord,
+    /// SYN.
     Synonym,
+    /// SLC.
     SetLocation,
+    /// DR.
     Reserve,
+    /// END.
     End,
 }
 
@@ -218,9 +237,9 @@ const TRUTH_TABLES: [(&[u8], u8); 16] = [
     (b"1111", 15),
 ];
 
-// The operation that a word names.
+/// The operation that a word names, as it stands by itself; None where it names none.
 #[tactic(auto, unfolding(crate::specs::Table::operation_of_word))]
-pub(crate) fn operation_of(word: &[u8]) -> Option<Operation>
+pub fn operation_of(word: &[u8]) -> Option<Operation>
     ensures { result ≡ spec.operation_of_word word.now }
 {
     if let Some(op) = listed_operation(word) {

@@ -12,7 +12,7 @@ use Rattle.std.proofs.lemmas.Fmt.{digits_decimal, digits_value-decimal, decimal_
 use Rattle.st_text.specs.Number.{is_filled, is_number, digits_value, value_after, reading}
 use Rattle.st_text.specs.Pieces.{pieces_of, onto_first, lacks}
 use Rattle.st_text.specs.declared.numbers.Reading.TheVariants.{Bad, Large, Good}
-use Rattle.st_strap.specs.Text.{stop, begins_with, ends_with, statement_text}
+use Rattle.st_mnemonic.specs.Text.{stop, begins_with, ends_with, statement_text}
 
 own : IsNumeralModel (λ ds. list_all is_ascii_digit ds ≡ true) (value_after 0)
 own = numerals_by_fold _ (search rules) value_after (search rules)

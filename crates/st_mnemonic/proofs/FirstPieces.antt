@@ -1,0 +1,47 @@
+-- Seventeen pieces are enough: what stands behind those makes no difference to a description.
+use Rattle.std.proofs.Common.{◌≡◌, ◌∙◌, ◌++◌, ℕ, List, [], ◌∷◌, length, take, Option, Some, None, refl, ap, sym, append_assoc}
+use Rattle.std.specs.Option.{option_and_then}
+use Rattle.std.proofs.Math.Seq.{take-append_seam}
+use Rattle.std.proofs.lemmas.List.{length-map, map-append}
+use Rattle.st_text.specs.Pieces.{pieces_of}
+use Rattle.st_text.specs.Tables.{row_of}
+use Rattle.st_mnemonic.specs.Fields.{texts}
+use Rattle.st_mnemonic.specs.Describing.{in_mode, in_pieces, modes}
+use Rattle.st_mnemonic.specs.declared.descriptions.Mode.{Mode}
+use Rattle.st_mnemonic.specs.declared.descriptions.Mode.TheVariants.{Field, Normalized, Unnormalized}
+use Rattle.st_mnemonic.specs.declared.field.Field.{Field as FieldOf}
+
+-- the first seventeen of a list are those that were found
+pub first_found : (found rest pieces : List (List ℕ)) → found ++ rest ≡ pieces → length found ≡ 17 → found ≡ take 17 pieces
+first_found found rest pieces all full =
+    sym (ap (λ n. take n (found ++ rest)) (sym full) ∙ take-append_seam found rest) ∙ ap (λ (ps : List (List ℕ)). take 17 ps) all
+
+-- so are those that were kept when there is room for no more
+pub no_room : (kept new : List FieldOf) (f : FieldOf) (left after text : List ℕ) → new ≡ kept ++ f ∷ [] →
+    texts kept ++ pieces_of 44 left ≡ pieces_of 44 text → pieces_of 44 left ≡ f.text.now ∷ pieces_of 44 after → length new ≡ 17 →
+    texts new ≡ take 17 (pieces_of 44 text)
+no_room kept new f left after text pushed so_far cut full =
+    let both : texts new ≡ texts kept ++ f.text.now ∷ [] =
+    ap (λ (fs : List FieldOf). texts fs) pushed ∙ map-append (λ (g : FieldOf). g.text.now) kept (f ∷ []) in
+    let all : texts new ++ pieces_of 44 after ≡ pieces_of 44 text =
+    ap (λ (t : List (List ℕ)). t ++ pieces_of 44 after) both
+    ∙ (append_assoc (texts kept) (f.text.now ∷ []) (pieces_of 44 after)
+    ∙ (ap (λ (ps : List (List ℕ)). texts kept ++ ps) (sym cut) ∙ so_far)) in
+    first_found (texts new) (pieces_of 44 after) (pieces_of 44 text) all (length-map new (λ (g : FieldOf). g.text.now) ∙ full)
+
+-- ---- descriptions
+
+past_three : (mode : Option Mode) (a b c : List ℕ) (more others : List (List ℕ)) →
+    option_and_then (λ m. in_mode m (a ∷ b ∷ c ∷ more)) mode ≡ option_and_then (λ m. in_mode m (a ∷ b ∷ c ∷ others)) mode
+unfolding in_mode
+past_three None a b c more others = refl
+past_three (Some (Field d u)) a b c more others = refl
+past_three (Some Normalized) a b c more others = refl
+past_three (Some Unnormalized) a b c more others = refl
+
+pub enough_pieces : (ps : List (List ℕ)) → in_pieces (take 17 ps) ≡ in_pieces ps
+enough_pieces [] = refl
+enough_pieces (m ∷ []) = refl
+enough_pieces (m ∷ a ∷ []) = refl
+enough_pieces (m ∷ a ∷ b ∷ []) = refl
+enough_pieces (m ∷ a ∷ b ∷ c ∷ more) = past_three (row_of m modes) a b c (take 13 more) more

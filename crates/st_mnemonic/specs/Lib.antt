@@ -1,0 +1,11 @@
+pub mod Text
+pub mod Fields
+pub mod Table
+pub mod Describing
+pub mod Forming
+pub use Rattle.st_format.specs.Operations
+pub use Rattle.st_format.specs.Validity
+pub use Rattle.st_text.specs.Bytes
+pub use Rattle.st_text.specs.Number
+pub use Rattle.st_text.specs.Pieces
+pub use Rattle.st_text.specs.Tables
