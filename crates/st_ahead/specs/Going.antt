@@ -1,8 +1,9 @@
 -- What runs ahead while a machine goes on by one tick, between its steps.
 use Rattle.std.specs.Prelude.{ℕ, ◌≡◌, ◌+◌, ◌-◌, ◌*◌, ◌^◌, ◌≤◌, ◌<◌, true, List, All, Option, None, Some, IfSome}
+use Rattle.st_bits.specs.declared.limits.TheConstants.{MOST_DELAY}
 use Rattle.st_state.specs.Machine.{Machine, IsMachine}
 use Rattle.st_rows.specs.Notes.{IsLogged}
-use Rattle.st_rows.specs.Ranges.{IsEntryInTime, IsTight}
+use Rattle.st_rows.specs.Ranges.{IsEntryInTime, IsTight, most_ticks_of_entry}
 use Rattle.st_rows.specs.Rows.{row_of_entry, tick_a, bus_a, tick_p}
 use Rattle.st_rows.specs.declared.front.Front.{Front}
 use Rattle.st_segment.specs.Entries.{entry}
@@ -22,10 +23,10 @@ pub record IsGoing (ds : List ℕ) (n now rest : ℕ) (t : Option ℕ) (s : Mach
   pub ahead : AreAhead ds n now t s f v.front v.levels
   pub prepared : All (λ level. level.p ≤ now) v.levels.ring
   pub not_done : AreNotDone now v.levels
-  pub oldest : IsTight 255 f
-  pub tight : IsTight 255 v.front
+  pub oldest : IsTight MOST_DELAY f
+  pub tight : IsTight MOST_DELAY v.front
   pub start : f.c ≤ now + 10
-  pub early : v.front.c ≤ now + 10 + 16576 * count v
+  pub early : v.front.c ≤ now + 10 + most_ticks_of_entry * count v
   pub next : IsNextIf (is_open v) ds n rest t s v
   pub late : v.next.planned ≡ true → now ≤ v.next.formed.p
   pub logged : IsLogged ds f.bus.free (reads_ahead ds n t s f v) f.bus v.log

@@ -1,5 +1,6 @@
 -- What a machine keeps, so that it stands for what it does.
 use Rattle.std.specs.Prelude.{ℕ, ◌≡◌, ◌+◌, ◌<◌, ◌≤◌, ◌^◌, Bool, true, false, if◌then◌else◌, zero, suc, nat_le, All, List, [], ◌∷◌, Option, None, Some, IfSome, option_map}
+use Rattle.st_bits.specs.declared.limits.TheConstants.{MOST_DELAY}
 use Rattle.st_state.specs.Machine.{Machine}
 use Rattle.st_banks.specs.declared.answers.LastAnswers.{LastAnswers}
 use Rattle.st_exec.specs.Step.{rests}
@@ -37,7 +38,7 @@ overlap_of n delays state taken behind now owed ended stopped fresh v = record {
 -- the segment has ended at the tick `now`, and v is what the next one opens with
 pub record IsBetween (now : ℕ) (t : Option ℕ) (s : Machine) (v : LookView) : Type 0 where
   pub opened : IsOpened t s (opening_front (answers_before now v) v.front.c) v
-  pub banks : All (λ b. b ≤ v.front.c + 255) (answers_before now v).ticks
+  pub banks : All (λ b. b ≤ v.front.c + MOST_DELAY) (answers_before now v).ticks
   pub later : now + 1 ≤ v.front.c
   pub soon : v.front.c ≤ now + 9
 
@@ -74,7 +75,7 @@ pub record IsInside (m : Overlap) (fresh : Bool) (v : LookView) : Type 0 where
   pub none_taken : fresh ≡ true → m.taken ≡ None
   pub quiet : fresh ≡ false → (interrupt_due m ≡ None) × (rests m.state ≡ false)
   pub unstarted : m.owed ≡ false → m.now ≡ 0 → IsUnstarted m
-  pub near : fresh ≡ true → All (λ b. b ≤ m.now + 255) (answers_before m.now v).ticks
+  pub near : fresh ≡ true → All (λ b. b ≤ m.now + MOST_DELAY) (answers_before m.now v).ticks
 
 -- a level as it is shown at a tick, by what is kept of it
 abbrev pub kept_shown : ℕ → Level → Plan → LevelView

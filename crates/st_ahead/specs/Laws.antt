@@ -1,5 +1,6 @@
 -- What the next entry is known by, while it is not there yet.
 use Rattle.std.specs.Prelude.{◌≡◌, ℕ, ◌+◌, ◌<◌, ◌≤◌, ◌^◌, true, List, ◌++◌, map, Option, IfSome, All, suc, None}
+use Rattle.st_bits.specs.declared.limits.TheConstants.{MOST_DELAY}
 use Rattle.st_state.specs.Machine.{Machine, IsMachine, word}
 use Rattle.st_prep.specs.Fetch.{place_of, words_fetched as fetched_at}
 use Rattle.st_rows.specs.Entries.{latest_done}
@@ -39,7 +40,7 @@ NextEntriesAreKnown = (ds : List ℕ) (n tick now : ℕ) (t : Option ℕ) (s : M
 abbrev pub PlannedEntriesBecomeLevels : Type 0
 PlannedEntriesBecomeLevels = (ds : List ℕ) (n now : ℕ) (t : Option ℕ) (s : Machine) (f : Front)
     (v : LookView) →
-    1 ≤ n → n ≤ 8 → AreDelaysUpTo 255 ds → count v ≤ n → now < 2 ^ 63 →
+    1 ≤ n → n ≤ 8 → AreDelaysUpTo MOST_DELAY ds → count v ≤ n → now < 2 ^ 63 →
     IsGoing ds n now (now + 1) t s f v → v.next.planned ≡ true → v.next.formed.p ≡ now →
     BecomesLevel ds n now t s f v
 
@@ -68,14 +69,14 @@ abbrev pub OpeningsLook : Type 0
 OpeningsLook = (ds : List ℕ) (n tick now start : ℕ) (t : Option ℕ) (s : Machine)
     (banks : LastAnswers) (v : LookView) →
     IsOpened t s (opening_front banks start) v → IsMachine s → IfSome t (λ i. i < 64) →
-    All (λ b. b ≤ start + 255) banks.ticks → now ≤ start → start ≤ now + 9 →
+    All (λ b. b ≤ start + MOST_DELAY) banks.ticks → now ≤ start → start ≤ now + 9 →
     IsLook ds n tick now t s (opening_front banks start) v
 
 -- A signal and an order without a card leave what runs ahead, once the entry before it is done; and
 -- an opening.
 pub record SignalsLeaveLooks : Type 0 where
   pub look : (ds : List ℕ) (n tick now : ℕ) (s u : Machine) (f : Front) (v : LookView) →
-      1 ≤ n → n ≤ 8 → AreDelaysUpTo 255 ds → IsLook ds n tick now None s f v →
+      1 ≤ n → n ≤ 8 → AreDelaysUpTo MOST_DELAY ds → IsLook ds n tick now None s f v →
       AreNotDone now v.levels → f.c ≡ now →
       IsMachine u → AreAlikeBesideOrders s u → IsLook ds n tick now None u f v
   pub opening : (t : Option ℕ) (s u : Machine) (f : Front) (v : LookView) →
@@ -85,7 +86,7 @@ pub record SignalsLeaveLooks : Type 0 where
 abbrev pub LooksAreLevels : Type 0
 LooksAreLevels = (ds : List ℕ) (n tick now : ℕ) (t : Option ℕ) (s : Machine) (f : Front)
     (v : LookView) →
-    1 ≤ n → n ≤ 8 → AreDelaysUpTo 255 ds → now ≤ tick + 1 → count v ≤ n →
+    1 ≤ n → n ≤ 8 → AreDelaysUpTo MOST_DELAY ds → now ≤ tick + 1 → count v ≤ n →
     IsLook ds n tick now t s f v →
     prepared_before now (ahead ds n n t s f) ≡ ahead ds n (count v) t s f
 
@@ -95,10 +96,10 @@ LooksAreLevels = (ds : List ℕ) (n tick now : ℕ) (t : Option ℕ) (s : Machin
 abbrev pub TheBanksAreLeft : Type 0
 TheBanksAreLeft = (ds : List ℕ) (n tick now : ℕ) (t : Option ℕ) (s : Machine) (f : Front)
     (v : LookView) →
-    1 ≤ n → n ≤ 8 → AreDelaysUpTo 255 ds → now ≡ tick + 1 → count v ≤ n → 1 ≤ count v →
+    1 ≤ n → n ≤ 8 → AreDelaysUpTo MOST_DELAY ds → now ≡ tick + 1 → count v ≤ n → 1 ≤ count v →
     IsOutlook ds n tick now t s f v →
     (row_of_entry ds n f (entry t s)).c ≡ now →
     ((made_before ds now (reads_of_entry ds n f (entry t s) ++ reads_before ds n now
     (ahead ds n (suc n) None (guess t s) (front_after_entry ds n f (entry t s)))) f.bus).banks.ticks
     ≡ answers_left now v.log v.next.words.bus.banks.ticks)
-    × All (λ b. b ≤ now + 255) (answers_left now v.log v.next.words.bus.banks.ticks)
+    × All (λ b. b ≤ now + MOST_DELAY) (answers_left now v.log v.next.words.bus.banks.ticks)

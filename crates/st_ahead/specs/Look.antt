@@ -1,12 +1,13 @@
 -- What a machine keeps of what runs ahead: its levels, the front behind them, the log of reads, and
 -- the entry that is prepared next.
 use Rattle.std.specs.Prelude.{ℕ, zero, suc, ◌≡◌, ◌+◌, ◌*◌, ◌≤◌, ◌<◌, Bool, true, false, not, ◌||◌, ◌==◌, List, [], ◌++◌, length, All, Option, None, IfSome}
+use Rattle.st_bits.specs.declared.limits.TheConstants.{MOST_DELAY}
 use Rattle.st_state.specs.Machine.{Machine, IsMachine}
 use Rattle.st_prep.specs.Fetch.{index_words, place_of}
 use Rattle.st_exec.specs.Completion.{guess}
 use Rattle.st_rows.specs.Rows.{front_after_entry}
 use Rattle.st_rows.specs.Notes.{IsLogged}
-use Rattle.st_rows.specs.Ranges.{IsTight}
+use Rattle.st_rows.specs.Ranges.{IsTight, most_ticks_of_entry}
 use Rattle.st_rows.specs.Asked.{Read, reads_of_entry}
 use Rattle.st_rows.specs.declared.front.Front.{Front}
 use Rattle.st_rows.specs.declared.log.Made.{Made}
@@ -63,10 +64,10 @@ pub record IsOutlook (ds : List ℕ) (n tick now : ℕ) (t : Option ℕ) (s : Ma
   pub ahead : AreAhead ds n tick t s f v.front v.levels
   pub prepared : All (λ level. level.p < now) v.levels.ring
   pub not_done : AreNotDone tick v.levels
-  pub oldest : IsTight 255 f
-  pub tight : IsTight 255 v.front
+  pub oldest : IsTight MOST_DELAY f
+  pub tight : IsTight MOST_DELAY v.front
   pub start : f.c ≤ now + 9
-  pub early : v.front.c ≤ now + 9 + 16576 * count v
+  pub early : v.front.c ≤ now + 9 + most_ticks_of_entry * count v
   pub next : IsNextIf (is_open v) ds n now t s v
   pub late : v.next.planned ≡ true → now ≤ v.next.formed.p
   pub logged : IsLogged ds f.bus.free (reads_ahead ds n t s f v) f.bus v.log
@@ -80,10 +81,10 @@ pub record IsLook (ds : List ℕ) (n tick now : ℕ) (t : Option ℕ) (s : Machi
   pub prepared : All (λ level. level.p < now) v.levels.ring
   pub full : AreFull ds n tick t s f v.levels.ring
   pub not_done : AreNotDone tick v.levels
-  pub oldest : IsTight 255 f
-  pub tight : IsTight 255 v.front
+  pub oldest : IsTight MOST_DELAY f
+  pub tight : IsTight MOST_DELAY v.front
   pub start : f.c ≤ now + 9
-  pub early : v.front.c ≤ now + 9 + 16576 * count v
+  pub early : v.front.c ≤ now + 9 + most_ticks_of_entry * count v
   pub next : IsNextIf (is_open v) ds n now t s v
   pub late : v.next.planned ≡ true → now ≤ v.next.formed.p
   pub logged : IsLogged ds f.bus.free (reads_ahead ds n t s f v) f.bus v.log

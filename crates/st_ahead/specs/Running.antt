@@ -1,5 +1,6 @@
 -- What runs ahead of a machine that makes ticks and goes on behind each.
 use Rattle.std.specs.Prelude.{ℕ, ◌≡◌, ◌+◌, ◌-◌, ◌≤◌, ◌<◌, ◌||◌, nat_le, Bool, true, false, All, List, Option, None, Some, IfSome, is_none, if◌then◌else◌}
+use Rattle.st_bits.specs.declared.limits.TheConstants.{MOST_DELAY}
 use Rattle.st_state.specs.Machine.{Machine, IsMachine}
 use Rattle.st_state.specs.Orders.{is_due}
 use Rattle.st_exec.specs.Step.{interrupt, rests}
@@ -90,7 +91,7 @@ pub record HasStopped (ds : List ℕ) (n count last now tick : ℕ) (t : Option 
   pub done_at : IsDoneAt ds n tick table state front ahead u v done
   pub banks : banks_at_its_end (machine_between_ticks ds n state table front tick)
       ≡ answers_before tick v
-  pub near : All (λ b. b ≤ tick + 255) (answers_before tick v).ticks
+  pub near : All (λ b. b ≤ tick + MOST_DELAY) (answers_before tick v).ticks
   pub stops : answer (machine_after_tick (machine_between_ticks ds n state table front tick))
       ≡ Goes → may_come count
       (machine_after_tick (machine_between_ticks ds n state table front tick)) ≡ true

@@ -1,6 +1,7 @@
 //! What runs ahead of a state: levels, the front behind them, a log of reads, and the entry that is
 //! prepared next.
 ghost use Rattle.std.specs.Prelude.{◌≡◌, ℕ, ◌+◌, ◌*◌, ◌<◌, ◌≤◌, ◌-◌, ◌^◌, length, true, false, Option, None, Some, IfSome, All, List};
+ghost use Rattle.st_bits.specs.declared.limits.TheConstants.{MOST_DELAY};
 ghost use Rattle.st_state.specs.Machine.{Machine, IsMachine};
 ghost use Rattle.st_prep.specs.Fetch.{index_words as index_words_of};
 ghost use Rattle.st_rows.specs.Notes.{answers_left};
@@ -54,7 +55,7 @@ impl<const N: usize> Lookahead<N> {
         requires few { N ≤ 8 }
         requires indicator { IfSome table (λ i. i < 64) }
         requires early { start ≤ 2 ^ 64 - 1024 }
-        requires banks { All (λ t. t ≤ start + 255) banks.ticks }
+        requires banks { All (λ t. t ≤ start + MOST_DELAY) banks.ticks }
 
         ensures { IsOpened table state.now (opening_front banks start) result }
     {
@@ -75,10 +76,10 @@ impl<const N: usize> Lookahead<N> {
     pub fn end(&mut self, state: &State, table: Option<u8>, now: u64) -> u8
         requires indicator { IfSome table (λ i. i < 64) }
         requires early { now ≤ 2 ^ 64 - 2048 }
-        requires near { All (λ b. b ≤ now + 255) (answers_before now self.old).ticks }
+        requires near { All (λ b. b ≤ now + MOST_DELAY) (answers_before now self.old).ticks }
 
         ensures dropped { result ≡ count self.old }
-        ensures banks { All (λ b. b ≤ now + 1 + count self.old + 255)
+        ensures banks { All (λ b. b ≤ now + 1 + count self.old + MOST_DELAY)
             (answers_before now self.old).ticks }
         ensures opened { (ds : List ℕ) (tick : ℕ) (t : Option ℕ) (s : Machine) (f : FrontOf) →
             IsLook ds N tick now t s f self.old → index_words_of s ≡ index_words_of state.now →

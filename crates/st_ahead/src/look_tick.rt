@@ -1,5 +1,6 @@
 //! What a tick does to what runs ahead.
 ghost use Rattle.std.specs.Prelude.{◌≡◌, ℕ, ◌+◌, ◌<◌, ◌≤◌, ◌^◌, List, Option, None};
+ghost use Rattle.st_bits.specs.declared.limits.TheConstants.{MOST_DELAY};
 ghost use Rattle.st_state.specs.Machine.{Machine, word};
 ghost use Rattle.st_exec.specs.Completion.{state_after_execution, guess};
 ghost use Rattle.st_rows.specs.Ranges.{AreDelaysUpTo};
@@ -22,7 +23,7 @@ impl<const N: usize> Lookahead<N> {
     pub fn tick(&mut self, state: &mut State, now: u64) -> Option<Completed>
         requires few { state.old.done < 2 ^ 63 }
         ensures { (ds : List ℕ) (tick : ℕ) (t : Option ℕ) (f : FrontOf) → 1 ≤ N → N ≤ 8 →
-            AreDelaysUpTo 255 ds →
+            AreDelaysUpTo MOST_DELAY ds →
             IsLook ds N tick now t state.old f self.old → (1 ≤ count self.old → now ≡ tick + 1) →
             IsTicked ds N now t state.old f self.old state.new self.new result }
     {
@@ -43,7 +44,7 @@ impl<const N: usize> Lookahead<N> {
     pub(crate) fn complete(&mut self, state: &mut State) -> Completed
         requires some { 0 < count self.old }
         requires few { state.old.done < 2 ^ 63 }
-        ensures { (ds : List ℕ) (tick now : ℕ) (t : Option ℕ) (f : FrontOf) → AreDelaysUpTo 255 ds →
+        ensures { (ds : List ℕ) (tick now : ℕ) (t : Option ℕ) (f : FrontOf) → AreDelaysUpTo MOST_DELAY ds →
             IsOutlook ds N tick now t state.old f self.old →
             (row_of_entry ds N f (entry t state.old)).c ≡ now →
             (state.new ≡ state_after_execution t state.old) × IsCompleted ds N t state.old f result
@@ -63,7 +64,7 @@ impl<const N: usize> Lookahead<N> {
     // have another counter.
     pub(crate) fn fill(&mut self, state: &State, now: u64)
         ensures { (ds : List ℕ) (tick next : ℕ) (t : Option ℕ) (s : Machine) (f : FrontOf) →
-            AreDelaysUpTo 255 ds →
+            AreDelaysUpTo MOST_DELAY ds →
             IsOutlook ds N tick next t s f self.old → tick ≤ now → next ≤ now + 1 →
             AreNotDone now self.old.levels →
             ((w : ℕ) → word state.now w ≡ word s w) →

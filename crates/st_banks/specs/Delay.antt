@@ -1,12 +1,13 @@
 -- How long a read takes.
 use Rattle.std.specs.Prelude.{ℕ, ◌≡◌, ◌≤◌, ◌+◌, ◌%◌, ◌==◌, List, length, All, slice_index, Option, None, Some, Result, Ok, Err}
 use Rattle.std.specs.List.{position}
+use Rattle.st_bits.specs.declared.limits.TheConstants.{MOST_DELAY}
 use Rattle.st_banks.specs.declared.delays.DelayError.{DelayError}
 use Rattle.st_banks.specs.declared.delays.DelayError.TheVariants.{ZeroDelay, NoMemory}
 
 -- a delay of a read
 abbrev pub IsDelay : ℕ → Type 0
-IsDelay d = (1 ≤ d) × (d ≤ 255)
+IsDelay d = (1 ≤ d) × (d ≤ MOST_DELAY)
 
 -- a list that can be gone round: not empty, and each entry a delay
 pub record IsDelayList (list : List ℕ) : Type 0 where

@@ -1,5 +1,6 @@
 //! The banks of storage with their delays.
 ghost use Rattle.std.specs.Prelude.{◌≡◌, ◌+◌, ◌≤◌, ◌<◌, ◌^◌, IfSome};
+ghost use Rattle.st_bits.specs.declared.limits.TheConstants.{MOST_DELAY};
 ghost use Rattle.st_bits.specs.Storage.{words_of_storage};
 
 use crate::answers::LastAnswers;
@@ -64,7 +65,7 @@ impl Banks {
 
         ensures value { result ≡ answer_if_accepted self.old w tick }
         ensures after { self.new ≡ after_read self.old w result }
-        ensures bound { IfSome result (λ answer. (tick < answer) × (answer ≤ tick + 255)) }
+        ensures bound { IfSome result (λ answer. (tick < answer) × (answer ≤ tick + MOST_DELAY)) }
     {
         if self.last_answer(w) > tick {
             return None;

@@ -1,5 +1,6 @@
 //! Delay lists, which are gone round.
 ghost use Rattle.std.specs.Prelude.{◌≡◌, ◌+◌, ◌<◌, ◌≤◌, ◌^◌, length, All, IfSome, IfNone};
+ghost use Rattle.st_bits.specs.declared.limits.TheConstants.{MOST_DELAY};
 ghost use Rattle.st_banks.specs.Delay.{delay, first_zero as first_zero_of};
 
 use std::alloc::Global;
@@ -75,10 +76,10 @@ impl Delays {
     /// The tick, 1 to 255 later, at which a read is answered that is accepted at `tick`, which is
     /// below 2^64 - 255.
     pub fn answer(&self, tick: u64) -> u64
-        requires early { tick + 255 < 2 ^ 64 }
+        requires early { tick + MOST_DELAY < 2 ^ 64 }
         ensures value { result ≡ answer_tick self.now tick }
         ensures later { tick < result }
-        ensures most { result ≤ tick + 255 }
+        ensures most { result ≤ tick + MOST_DELAY }
     {
         tick + u64::from(self.at(tick))
     }

@@ -2,9 +2,9 @@
 use Rattle.std.specs.Prelude.{ℕ, ◌≤◌, ◌&&◌, Bool, nat_le, List, length}
 use Rattle.std.specs.List.{AllPass}
 use Rattle.std.specs.List.Sorted.{IsNonDecreasingBy, IsStrictlyIncreasing}
-use Rattle.st_bits.specs.declared.limits.TheConstants.{LAST_WORD, MOST_INSTRUCTIONS, LONGEST_LIST}
+use Rattle.st_bits.specs.declared.limits.TheConstants.{LAST_WORD, MOST_INSTRUCTIONS, LONGEST_LIST, MOST_DELAY}
 use Rattle.st_bits.specs.declared.indicators.TheConstants.{CHANNEL_SIGNAL}
-use Rattle.st_card.specs.declared.limits.TheConstants.{MOST_DELAY, MOST_DUMPS, MOST_SNAPS, MOST_BACK, MOST_NUMBER}
+use Rattle.st_card.specs.declared.limits.TheConstants.{MOST_DUMPS, MOST_SNAPS, MOST_BACK, MOST_NUMBER}
 use Rattle.st_card.specs.Controls.{Asked, is_in_range}
 use Rattle.st_card.specs.declared.control_cards.Signal.{Signal}
 

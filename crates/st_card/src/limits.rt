@@ -1,8 +1,5 @@
 //! The limits of what the control cards of a job ask for, but for those that `st_bits` has.
 
-/// The longest delay, in ticks.
-pub const MOST_DELAY: u64 = 255;
-
 /// How many parts of storage may be dumped.
 pub const MOST_DUMPS: usize = 16;
 

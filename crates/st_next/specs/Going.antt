@@ -1,5 +1,6 @@
 -- How the entry that is prepared next goes on, and what it takes for granted.
 use Rattle.std.specs.Prelude.{ℕ, ◌≡◌, ◌+◌, ◌-◌, ◌^◌, ◌≤◌, ◌<◌, true, ◌&&◌, Bool, List, ◌++◌, All, map, Option, IfSome, is_none, option_map}
+use Rattle.st_bits.specs.declared.limits.TheConstants.{MOST_DELAY}
 use Rattle.st_state.specs.Machine.{Machine, word}
 use Rattle.st_prep.specs.declared.entries.Fetched.{Fetched}
 use Rattle.st_prep.specs.declared.entries.Prepared.{Prepared}
@@ -25,7 +26,7 @@ use Rattle.st_next.specs.declared.next.Next.{Next}
 pub record IsFrontInTime (n : ℕ) (f : Front) : Type 0 where
   pub some : 1 ≤ n
   pub most : n ≤ 8
-  pub tight : IsTight 255 f
+  pub tight : IsTight MOST_DELAY f
   pub early : f.c ≤ 2 ^ 63 + 2 ^ 20
 
 -- whatever the state before the entry is, what is known of it stays so, and then nothing more can

@@ -1,10 +1,11 @@
 //! The entries that run ahead of a state by guessed steps.
 ghost use Rattle.std.specs.Prelude.{◌≡◌, suc, ◌+◌, ◌-◌, ◌*◌, ◌≤◌, ◌<◌, ◌^◌, ◌∷◌, ◌++◌, [], map, length, None};
+ghost use Rattle.st_bits.specs.declared.limits.TheConstants.{MOST_DELAY};
 ghost use Rattle.st_prep.specs.Ranges.{IsPrepared};
 ghost use Rattle.st_exec.specs.Completion.{guessed_state};
 ghost use Rattle.st_rows.specs.Asked.{bus_after_reads};
 ghost use Rattle.st_rows.specs.Notes.{log_after_reads};
-ghost use Rattle.st_rows.specs.Ranges.{IsTight};
+ghost use Rattle.st_rows.specs.Ranges.{IsTight, most_ticks_of_entry};
 ghost use Rattle.st_rows.specs.Rows.{done_before};
 ghost use Rattle.st_segment.specs.Ahead.{ahead as ahead_of, prepared_before};
 ghost use Rattle.st_plain.specs.Looking.{seen_ahead, first_late, reads_up_to};
@@ -67,8 +68,8 @@ pub fn look(
     late: &mut Ahead,
 )
     requires few { state.old.done + more < 2 ^ 63 }
-    requires tight { IsTight 255 front.old }
-    requires early { front.old.c + 16576 * more ≤ 2 ^ 63 + 2 ^ 20 }
+    requires tight { IsTight MOST_DELAY front.old }
+    requires early { front.old.c + most_ticks_of_entry * more ≤ 2 ^ 63 + 2 ^ 20 }
     requires levels { (1 ≤ levels) × (levels ≤ 8) }
     requires left { more ≤ levels }
     requires late { tick ≤ front.old.c }

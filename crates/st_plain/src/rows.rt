@@ -1,9 +1,10 @@
 //! The row of an entry, with its reads noted in a log.
 ghost use Rattle.std.specs.Prelude.{◌≡◌, ◌+◌, ◌-◌, ◌<◌, ◌≤◌, ◌^◌, List};
+ghost use Rattle.st_bits.specs.declared.limits.TheConstants.{MOST_DELAY};
 ghost use Rattle.st_rows.specs.Asked.{words_asked, fetches_asked, formed_asked, reads_of_entry as asked_of};
 ghost use Rattle.st_rows.specs.Notes.{log_after_reads};
 ghost use Rattle.st_rows.specs.Rows.{fetch_words, words_tick, bus_a, tick_a, tick_p, row_of_entry as row_of, front_after_entry as after_of};
-ghost use Rattle.st_rows.specs.Ranges.{IsEntryInTime, IsTight, IsFetchingWithin, ArePastWithin, IsReadable};
+ghost use Rattle.st_rows.specs.Ranges.{IsEntryInTime, IsTight, IsFetchingWithin, ArePastWithin, IsReadable, most_ticks_of_entry};
 ghost use Rattle.st_rows.specs.declared.log.Made.{Made};
 
 use st_banks::Delays;
@@ -44,7 +45,7 @@ fn fetch_run(
 #[tactic(auto, unfolding(st_rows::specs::Rows::words_tick, st_rows::specs::Asked::fetches_asked))]
 fn fetch_all(front: &Front, delays: &Delays, entry: &Entry, log: &mut Log) -> Fetching
     requires entry { IsEntryInTime entry.now }
-    requires tight { IsTight 255 front.now }
+    requires tight { IsTight MOST_DELAY front.now }
     requires early { front.now.c ≤ 2 ^ 63 + 2 ^ 20 }
     ensures words { result ≡ words_tick delays.now front.now entry.now }
     ensures log { log.new
@@ -78,7 +79,7 @@ pub struct Begun {
 /// Forms the address of the next entry behind a front.
 pub fn begin(front: &Front, delays: &Delays, levels: usize, entry: &Entry, log: &mut Log) -> Begun
     requires entry { IsEntryInTime entry.now }
-    requires tight { IsTight 255 front.now }
+    requires tight { IsTight MOST_DELAY front.now }
     requires early { front.now.c ≤ 2 ^ 63 + 2 ^ 20 }
     requires levels { (1 ≤ levels) × (levels ≤ 8) }
 
@@ -104,7 +105,7 @@ pub fn finish(
     log: &mut Log,
 ) -> EntryTicks
     requires entry { IsEntryInTime entry.now }
-    requires tight { IsTight 255 front.old }
+    requires tight { IsTight MOST_DELAY front.old }
     requires early { front.old.c ≤ 2 ^ 63 + 2 ^ 20 }
     requires levels { (1 ≤ levels) × (levels ≤ 8) }
     requires address { begun.formed.a ≡ tick_a delays.now front.old entry.now }
@@ -117,8 +118,8 @@ pub fn finish(
         (formed_asked delays.now front.old entry.now) front.old.bus before →
         log.new ≡ log_after_reads delays.now
         (asked_of delays.now levels front.old entry.now) front.old.bus before }
-    ensures tight { IsTight 255 front.new }
-    ensures bound { front.new.c ≤ front.old.c + 16576 }
+    ensures tight { IsTight MOST_DELAY front.new }
+    ensures bound { front.new.c ≤ front.old.c + most_ticks_of_entry }
 {
     delays.shape();
     let mut words = begun.words;
@@ -137,7 +138,7 @@ pub fn next_row(
     log: &mut Log,
 ) -> EntryTicks
     requires entry { IsEntryInTime entry.now }
-    requires tight { IsTight 255 front.old }
+    requires tight { IsTight MOST_DELAY front.old }
     requires early { front.old.c ≤ 2 ^ 63 + 2 ^ 20 }
     requires levels { (1 ≤ levels) × (levels ≤ 8) }
 
@@ -146,8 +147,8 @@ pub fn next_row(
     ensures log { log.new
         ≡ log_after_reads delays.now
         (asked_of delays.now levels front.old entry.now) front.old.bus log.old }
-    ensures tight { IsTight 255 front.new }
-    ensures bound { front.new.c ≤ front.old.c + 16576 }
+    ensures tight { IsTight MOST_DELAY front.new }
+    ensures bound { front.new.c ≤ front.old.c + most_ticks_of_entry }
 {
     let begun = begin(front, delays, levels, entry, log);
     finish(front, delays, levels, entry, begun, log)

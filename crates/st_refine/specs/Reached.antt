@@ -1,5 +1,6 @@
 -- What an overlapped machine stands for after calls within the protocol.
 use Rattle.std.specs.Prelude.{ℕ, ◌≡◌, ◌+◌, ◌≤◌, ◌<◌, ◌^◌, true, false, if◌then◌else◌, List, length, All, Option, Some, IsSome, IfSome}
+use Rattle.st_bits.specs.declared.limits.TheConstants.{MOST_DELAY}
 use Rattle.st_state.specs.Machine.{Machine, IsMachine}
 use Rattle.st_state.specs.declared.devices.Order.{Order}
 use Rattle.st_rows.specs.Ranges.{AreDelaysUpTo}
@@ -11,7 +12,7 @@ use Rattle.st_ahead.specs.Calls.{is_done, machine_after_tick, machine_after_sett
 pub record CanStart (ds : List ℕ) (n : ℕ) (s : Machine) : Type 0 where
   pub some : 1 ≤ n
   pub few : n ≤ 8
-  pub delays : AreDelaysUpTo 255 ds
+  pub delays : AreDelaysUpTo MOST_DELAY ds
   pub machine : IsMachine s
   pub enabled : s.enabled ≡ false
   pub waiting : s.waiting ≡ false

@@ -1,5 +1,6 @@
 -- What holds of the numbers of entries, buses and fronts.
 use Rattle.std.specs.Prelude.{ℕ, ◌≡◌, ◌+◌, ◌*◌, ◌≤◌, ◌<◌, true, List, length, All, IfSome}
+use Rattle.st_bits.specs.declared.limits.TheConstants.{MOST_DELAY}
 use Rattle.st_bits.specs.Storage.{words_of_storage}
 use Rattle.st_rows.specs.BusTimes.{Reading}
 use Rattle.st_rows.specs.declared.bus.Bus.{Bus}
@@ -54,6 +55,10 @@ pub record IsReadingWithin (m : ℕ) (s : Reading) : Type 0 where
 -- nor a completion of the entries before
 pub record ArePastWithin (m : ℕ) (past : List Past) : Type 0 where
   pub each : All (λ entry. entry.c ≤ m) past
+
+-- the most ticks from one completion to the next, whatever the delays are
+abbrev pub most_ticks_of_entry : ℕ
+most_ticks_of_entry = 64 * (MOST_DELAY + 4)
 
 -- what is on its way on the bus is answered soon, where no read takes more than so many ticks
 pub record IsNear (most : ℕ) (b : Bus) : Type 0 where

@@ -1,5 +1,6 @@
 //! Fronts: what the row of the next entry is computed from.
 ghost use Rattle.std.specs.Prelude.{◌≡◌, ◌+◌, ◌*◌, ◌-◌, ◌<◌, ◌≤◌, ◌^◌, ℕ, max, All, IfSome, List};
+ghost use Rattle.st_bits.specs.declared.limits.TheConstants.{MOST_DELAY};
 ghost use Rattle.st_rows.specs.Asked.{side_asked, operands_asked, runs_asked, inside_asked, following_asked, prepared_asked};
 ghost use Rattle.st_rows.specs.Notes.{log_after_reads};
 ghost use Rattle.st_rows.specs.Rows.{opening_front, wanted_from, words_tick, address_tick, bus_sided, side_there, preparation_tick as prepared_of};
@@ -12,9 +13,7 @@ use crate::fetching::Fetching;
 use crate::log::Log;
 use crate::past::{LastEntries, Past};
 use st_banks::{Delays, LastAnswers};
-
-// The number of words of storage.
-const WORDS: u32 = 98_304;
+use st_bits::WORDS;
 
 /// The ticks of an entry.
 #[derive(Clone, Copy, Debug, Default, PartialEq, Eq)]
@@ -67,9 +66,9 @@ impl Front {
     /// The front of a segment that starts at the tick `start`, where the banks have these last
     /// answers.
     pub fn new(banks: LastAnswers, start: u64) -> Front
-        requires { All (λ t. t ≤ start + 255) banks.ticks }
+        requires { All (λ t. t ≤ start + MOST_DELAY) banks.ticks }
         ensures value { result ≡ opening_front banks start }
-        ensures tight { IsTight 255 result }
+        ensures tight { IsTight MOST_DELAY result }
     {
         Front {
             bus: Bus::new(banks, start),
@@ -94,7 +93,7 @@ impl Front {
     // The tick at which the address of the next entry is formed.
     #[tactic(auto, unfolding(crate::specs::Rows::address_tick))]
     fn address(&self, entry: &Entry, words: &Fetching) -> u64
-        requires tight { IsTight 255 self.now }
+        requires tight { IsTight MOST_DELAY self.now }
         requires early { self.now.c ≤ 2 ^ 63 + 2 ^ 20 }
         requires room { IsFetchingWithin (self.now.c + 1791) words.now }
         ensures value { result
@@ -122,7 +121,7 @@ impl Front {
         log: &mut Log,
     ) -> Formed
         requires entry { IsEntryInTime entry.now }
-        requires tight { IsTight 255 self.now }
+        requires tight { IsTight MOST_DELAY self.now }
         requires early { self.now.c ≤ 2 ^ 63 + 2 ^ 20 }
         requires levels { (1 ≤ levels) × (levels ≤ 8) }
         requires words { words.old ≡ words_tick delays.now self.now entry.now }
@@ -154,7 +153,7 @@ impl Front {
         log: &mut Log,
     ) -> Filled
         requires entry { IsEntryInTime entry.now }
-        requires tight { IsTight 255 self.now }
+        requires tight { IsTight MOST_DELAY self.now }
         requires early { self.now.c ≤ 2 ^ 63 + 2 ^ 20 }
         requires levels { (1 ≤ levels) × (levels ≤ 8) }
         requires address { formed.a ≡ tick_a delays.now self.now entry.now }

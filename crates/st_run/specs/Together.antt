@@ -1,5 +1,6 @@
 -- An overlapped machine with the signals and the reader's cards that are still to come.
 use Rattle.std.specs.Prelude.{ℕ, ◌≡◌, ◌+◌, ◌≤◌, Bool, true, false, if◌then◌else◌, is_some, List, [], ◌∷◌, map, Option, None, Some, IsSome, IfSome, ◌<◌, ◌^◌}
+use Rattle.st_bits.specs.declared.limits.TheConstants.{MOST_DELAY}
 use Rattle.st_card.specs.declared.control_cards.Signal.{Signal}
 use Rattle.st_prep.specs.BesideOrders.{AreAlikeBesideOrders}
 use Rattle.st_exec.specs.Step.{interrupt, rests}
@@ -36,7 +37,7 @@ with_scene t c = record {
 pub record IsBeforeEntry (t : Together) : Type 0 where
   pub some : 1 ≤ t.machine.levels
   pub few : t.machine.levels ≤ 8
-  pub delays : AreDelaysUpTo 255 t.machine.delays
+  pub delays : AreDelaysUpTo MOST_DELAY t.machine.delays
   pub scene : IsScene (scene_of t)
   pub settled : t.machine.owed ≡ false
   pub going : t.machine.ended ≡ false
@@ -61,7 +62,7 @@ at_tick now t = record t { machine = record t.machine { now = now } }
 pub record IsBehindEntry (t : Together) : Type 0 where
   pub some : 1 ≤ t.machine.levels
   pub few : t.machine.levels ≤ 8
-  pub delays : AreDelaysUpTo 255 t.machine.delays
+  pub delays : AreDelaysUpTo MOST_DELAY t.machine.delays
   pub scene : IsScene (scene_of t)
   pub owed : t.machine.owed ≡ true
   pub going : t.machine.ended ≡ false

@@ -5,8 +5,7 @@ use Rattle.std.specs.List.{list_all}
 use Rattle.std.proofs.lemmas.Bool.{or_parts}
 use Rattle.st_text.specs.Pieces.{words}
 use Rattle.st_text.specs.Tables.{row_of}
-use Rattle.st_bits.specs.declared.limits.TheConstants.{LONGEST_LIST}
-use Rattle.st_card.specs.declared.limits.TheConstants.{MOST_DELAY}
+use Rattle.st_bits.specs.declared.limits.TheConstants.{LONGEST_LIST, MOST_DELAY}
 use Rattle.st_card.specs.Cards.{columns, kind_of, cards_of, text_in}
 use Rattle.st_card.specs.Controls.{Asked, nothing_asked, keywords, card_numbers, is_in_range, with_delays, with_keyword, with_card, with_words, asked_with_card}
 use Rattle.st_card.specs.declared.cards.Card.{Card}

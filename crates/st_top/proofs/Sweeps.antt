@@ -9,7 +9,7 @@ use Rattle.st_io.specs.Output.{OutputState, Wrote}
 use Rattle.st_io.specs.Lines.{text}
 use Rattle.st_io.proofs.Writing.{wrote_at_moment}
 use Rattle.st_card.specs.Controls.{Asked, is_in_range}
-use Rattle.st_card.specs.declared.limits.TheConstants.{MOST_DELAY}
+use Rattle.st_bits.specs.declared.limits.TheConstants.{MOST_DELAY}
 use Rattle.st_card.specs.declared.control_cards.Signal.{Signal}
 use Rattle.st_state.specs.Machine.{opening_state}
 use Rattle.st_state.proofs.Kept.{is_machine-opening}

@@ -7,7 +7,7 @@ use Rattle.std.specs.Prelude.{slice_index}
 use Rattle.st_io.specs.Output.{OutputState}
 use Rattle.st_io.specs.Event.{Event, at_moment, StoppedAt}
 use Rattle.st_card.specs.Controls.{Asked, is_in_range}
-use Rattle.st_card.specs.declared.limits.TheConstants.{MOST_DELAY}
+use Rattle.st_bits.specs.declared.limits.TheConstants.{MOST_DELAY}
 use Rattle.st_run.specs.Run.{Scene}
 use Rattle.st_rows.specs.Ranges.{AreDelaysUpTo}
 use Rattle.st_run.specs.Events.{Timed}
