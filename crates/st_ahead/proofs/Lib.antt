@@ -18,6 +18,7 @@ pub mod Cards
 pub mod Views
 pub mod Idling
 pub mod Passing
+pub mod NotedRows
 pub mod Runs
 pub mod Stopping
 pub mod Laws

@@ -1,8 +1,9 @@
 -- What runs ahead of a machine makes ticks, and entries are done at some of them.
 use Rattle.std.specs.Prelude.{◌-◌}
-use Rattle.std.proofs.Common.{◌≡◌, ℕ, zero, suc, ◌+◌, ◌<◌, ◌≤◌, if◌then◌else◌, Bool, true, false, List, ◌++◌, Option, None, Some, refl, sym, subst, ◌∙◌, ap, arith}
+use Rattle.std.proofs.Common.{◌≡◌, ℕ, zero, suc, ◌+◌, ◌<◌, ◌≤◌, if◌then◌else◌, Bool, true, false, List, [], ◌∷◌, ◌++◌, Option, None, Some, refl, sym, subst, ◌∙◌, ap, arith}
 use Rattle.std.specs.Option.{IfSome}
 use Rattle.std.proofs.lemmas.Bool.{eq-eqb}
+use Rattle.std.proofs.lemmas.List.{append-nil}
 use Rattle.std.proofs.lemmas.List.Elements.{All-weaker}
 use Rattle.st_state.specs.Machine.{Machine, IsMachine}
 use Rattle.st_prep.specs.Plan.{plan}
@@ -18,18 +19,21 @@ use Rattle.st_levels.specs.Levels.{IsCompleted}
 use Rattle.st_levels.specs.declared.levels.Completed.{Completed}
 use Rattle.st_levels.proofs.RestLemmas.{ahead-rests}
 use Rattle.st_ahead.specs.Overlap.{Overlap, state_ahead, oldest_row, interrupt_due, banks_at_its_end}
-use Rattle.st_ahead.specs.Calls.{is_done, machine_after_completion, machine_after_tick, machine_after_pass, machine_after_settling, answer, answer_by}
-use Rattle.st_ahead.specs.RunTo.{may_come, ArePassed}
+use Rattle.st_ahead.specs.Calls.{is_done, row_done, machine_after_completion, machine_after_tick, machine_after_pass, machine_after_settling, answer, answer_by}
+use Rattle.st_ahead.specs.RunTo.{after_ticks, may_come, ArePassed}
+use Rattle.st_ahead.specs.RowsDone.{Queue, queue_with, rows_in_ticks}
 use Rattle.st_ahead.specs.Running.{machine_between_ticks, IsAwake, may_come_from_outside, IsRunning, HasPassed}
 use Rattle.st_ahead.specs.Look.{LookView, IsLook, IsOutlook}
 use Rattle.st_ahead.specs.Going.{IsGoing, IsDueAt}
 use Rattle.st_ahead.specs.Inside.{answers_before}
+use Rattle.st_ahead.specs.declared.events.Row.{Row}
 use Rattle.st_ahead.specs.declared.events.Settled.TheVariants.{Goes}
 use Rattle.st_ahead.proofs.Idling.{are-idle, goes-passed, passed-none}
 use Rattle.st_ahead.proofs.Passing.{passed-join, passed-one, passed-any, goes-answers}
 use Rattle.st_ahead.proofs.LevelTicks.{done-after, done-later}
 use Rattle.st_ahead.proofs.Settling.{look-runs}
-use Rattle.st_ahead.proofs.Standing.{chosen, same-answers, after-c}
+use Rattle.st_ahead.proofs.NotedRows.{queue-both, queue-none, rows-join, rows-none, row-one}
+use Rattle.st_ahead.proofs.Standing.{chosen, same-answers, same-row, told, after-c}
 
 -- ---- an entry is done at a tick
 
@@ -103,6 +107,24 @@ running-idle ds n count last now to t k s u f v is later soon =
     move ds n count _ _ now _ _ t k s u f is.front (omega (arith, later, is.behind)) (omega (arith, later))
     (passed-join count (is.tick + 1 - now) (to - (is.tick + 1)) _ _ _ is.passed (passed-any count (to - (is.tick + 1)) _ _ idle))
 
+-- no entry is done in them
+pub rows-idle : (ds : List ℕ) (n count last now to : ℕ) (t k : Option ℕ) (s u : Machine) (f : Front) (v : LookView)
+    (is : IsRunning ds n count last now t s f k u v) → is.tick < to → to ≤ (row_of_entry ds n is.front (entry k u)).c
+    → rows_in_ticks (is.tick + 1 - now) (machine_between_ticks ds n s t f now) ≡ rows_in_ticks (to - now) (machine_between_ticks ds n s t f now)
+rows-idle ds n count last now to t k s u f v is later soon =
+    let start = machine_between_ticks ds n s t f now in
+    let j = is.tick + 1 - now in
+    let i = to - (is.tick + 1) in
+    let same : to - now ≡ j + i = omega (arith, later, is.behind) in
+    let idle = are-idle ds n u k is.front is.awake.due is.awake.goes i (is.tick + 1) (omega (arith, later, soon)) in
+    let all : rows_in_ticks (to - now) start ≡ rows_in_ticks j start =
+    ap {A = ℕ} (λ x. rows_in_ticks x start) same
+    ∙ rows-join j i start
+    ∙ ap {A = Overlap} (λ m. rows_in_ticks j start ++ rows_in_ticks i m) (sym is.passed.after)
+    ∙ ap {A = List Row} (λ xs. rows_in_ticks j start ++ xs) (rows-none i _ _ idle)
+    ∙ append-nil (rows_in_ticks j start) in
+    sym all
+
 -- ---- it starts
 
 start-by : (ds : List ℕ) (n count now : ℕ) (t : Option ℕ) (s : Machine) (f : Front) → IsMachine s → IfSome t (λ i. i < 64) → IsAwake t s
@@ -123,6 +145,21 @@ running-starts ds n count last now t s f v is soon awake = record {
   soon = omega (arith, soon);
   awake = awake;
   going = look-runs ds n now t s f v is;
+}
+
+-- so it runs, and of the entries that are done the rows wait
+pub record IsNoting (ds : List ℕ) (n count last now : ℕ) (t : Option ℕ) (s : Machine) (f : Front) (k : Option ℕ) (u : Machine) (v : LookView)
+    (old new : Queue) : Type 0 where
+  pub run : IsRunning ds n count last now t s f k u v
+  pub noted : new ≡ queue_with (rows_in_ticks (run.tick + 1 - now) (machine_between_ticks ds n s t f now)) old
+
+pub noting-starts : (ds : List ℕ) (n count last now : ℕ) (t : Option ℕ) (s : Machine) (f : Front) (v : LookView) (q : Queue)
+    → IsLook ds n (now - 1) now t s f v → now ≤ last → IsAwake t s → IsNoting ds n count last now t s f t s v q q
+unfolding running-starts
+noting-starts ds n count last now t s f v q is soon awake = record {
+  run = running-starts ds n count last now t s f v is soon awake;
+  noted = queue-none q ∙ ap {A = List Row} (λ xs. queue_with xs q)
+      (sym (rows-none (now - 1 + 1 - now) _ _ (start-by ds n 0 now t s f is.machine is.indicator awake)));
 }
 
 -- ---- behind an entry that is done it goes on
@@ -179,6 +216,63 @@ module _ (ds : List ℕ) (n count last now due : ℕ) (t k : Option ℕ) (s u x 
         awake = record { due = none; goes = awake };
         going = going-done ds n due x front new c outlook;
       }
+
+pub row-between : (n : ℕ) (ds : List ℕ) (s u : Machine) (t : Option ℕ) (f : Front) (tick number : ℕ) (done : Completed)
+    → number ≡ s.done + 1 → done.address ≡ (plan s t).place.address → done.p ≡ (row_of_entry ds n f (entry t s)).p → done.r ≡ (row_of_entry ds n f (entry t s)).r
+    → told number done.address done.p done.r tick ≡ row_done (machine_between_ticks ds n s t f tick)
+unfolding state_ahead oldest_row
+row-between n ds s u t f tick number done counted address p r =
+    same-row number done.address done.p done.r tick _ _ _ _ counted address p r
+
+module _ (ds : List ℕ) (n count last now due : ℕ) (t k : Option ℕ) (s u x : Machine) (f : Front) (v w new : LookView) (done : Completed)
+    (is : IsRunning ds n count last now t s f k u v) (at : IsDueAt ds n is.tick last due k u is.front w)
+    (told_of : IsCompleted ds n k u is.front done) (counted : x.done ≡ u.done + 1) where
+  abbrev start : Overlap
+  start = machine_between_ticks ds n s t f now
+
+  abbrev row : Row
+  row = told x.done done.address done.p done.r due
+
+  rows-on : rows_in_ticks (is.tick + 1 - now) start ++ row ∷ [] ≡ rows_in_ticks (due + 1 - now) start
+  rows-on =
+      let here = machine_between_ticks ds n u k is.front due in
+      let idle = running-idle ds n count last now due t k s u f v is at.later (omega (arith, at.row_is)) in
+      let same : due + 1 - now ≡ (due - now) + 1 = omega (arith, at.later, is.behind) in
+      let last_row : row ∷ [] ≡ rows_in_ticks 1 here =
+      ap {A = Row} (λ y. y ∷ []) (row-between n ds u x k is.front due x.done done counted told_of.address told_of.p told_of.r)
+      ∙ sym (row-one here (is-due ds n due k u is.front at.row_is)) in
+      let all : rows_in_ticks (due + 1 - now) start ≡ rows_in_ticks (is.tick + 1 - now) start ++ row ∷ [] =
+      ap {A = ℕ} (λ i. rows_in_ticks i start) same
+      ∙ rows-join (due - now) 1 start
+      ∙ ap {A = Overlap} (λ m. rows_in_ticks (due - now) start ++ rows_in_ticks 1 m) (sym idle.after)
+      ∙ ap {A = List Row} (λ xs. rows_in_ticks (due - now) start ++ xs) (sym last_row)
+      ∙ ap {A = List Row} (λ xs. xs ++ row ∷ []) (sym (rows-idle ds n count last now due t k s u f v is at.later (omega (arith, at.row_is)))) in
+      sym all
+
+  -- its row waits
+  pub noted-on : (old mid : Queue) → mid ≡ queue_with (rows_in_ticks (is.tick + 1 - now) start) old
+      → queue_with (row ∷ []) mid ≡ queue_with (rows_in_ticks (due + 1 - now) start) old
+  noted-on old mid noted =
+      ap {A = Queue} (queue_with (row ∷ [])) noted
+      ∙ queue-both (rows_in_ticks (is.tick + 1 - now) start) (row ∷ []) old
+      ∙ ap {A = List Row} (λ xs. queue_with xs old) rows-on
+
+module _ (ds : List ℕ) (n count last now due : ℕ) (t k : Option ℕ) (s u x : Machine) (f : Front) (v w new : LookView) (done : Completed) (old mid : Queue)
+    (is : IsNoting ds n count last now t s f k u v old mid) (at : IsDueAt ds n is.run.tick last due k u is.run.front w)
+    (state : x ≡ state_after_execution k u) (told_of : IsCompleted ds n k u is.run.front done) where
+  pub noting-on : IsOutlook ds n (due - 1) due None (guess k u) (front_after_entry ds n is.run.front (entry k u)) new
+      → may_come_from_outside count x ≡ false → done.missed ≡ None → interrupt x ≡ None → rests x ≡ false
+      → (is_missed (plan u k) u ≡ false → guess k u ≡ state_after_execution k u) → x.done ≡ u.done + 1
+      → (later : Queue) {row : Row} → later ≡ queue_with (row ∷ []) mid → row ≡ told x.done done.address done.p done.r due
+      → IsNoting ds n count last now t s f None x new old later
+  unfolding running-on
+  noting-on out nothing missed none awake guessed counted later {row} waits same = record {
+    run = running-on ds n count last now due t k s u x f v w new done is.run at state told_of out nothing missed none awake guessed;
+    noted =
+        waits
+        ∙ ap {A = Row} (λ y. queue_with (y ∷ []) mid) same
+        ∙ noted-on ds n count last now due t k s u x f v w new done is.run at told_of counted old mid is.noted;
+  }
 
 -- ---- it ends
 

@@ -15,8 +15,8 @@ use Rattle.st_ahead.specs.RunTo.{may_come, ArePassed, StopsAt}
 use Rattle.st_ahead.specs.Running.{machine_between_ticks, IsAwake, HasPassed, HasStopped}
 use Rattle.st_ahead.specs.Look.{LookView, IsLook}
 use Rattle.st_ahead.specs.Inside.{overlap_of, IsInside}
-use Rattle.st_ahead.proofs.Runs.{is-due, ticked-done}
-use Rattle.st_ahead.proofs.Standing.{same-fields, same-row, told, after-c}
+use Rattle.st_ahead.proofs.Runs.{is-due, ticked-done, row-between}
+use Rattle.st_ahead.proofs.Standing.{same-fields, told, after-c}
 
 -- a machine that nothing is owed of may be awake
 pub awake-inside : (halt : Bool) (n : ℕ) (ds : List ℕ) (s : Machine) (t b : Option ℕ) (now : ℕ) (owed ended fresh : Bool) (v : LookView)
@@ -24,6 +24,17 @@ pub awake-inside : (halt : Bool) (n : ℕ) (ds : List ℕ) (s : Machine) (t b : 
 awake-inside halt n ds s t b now true ended fresh v is e = absurd (cc e)
 awake-inside halt n ds s t b now false ended true v is e = absurd (cc (is.fresh_owed refl))
 awake-inside halt n ds s t b now false ended false v is e = let quiet = is.quiet refl in record { due = quiet.0; goes = quiet.1 }
+
+-- and is a machine between two ticks
+pub settled-between : (halt : Bool) (n : ℕ) (ds : List ℕ) (s : Machine) (t b : Option ℕ) (now : ℕ) (owed ended fresh : Bool) (v : LookView)
+    → IsInside (overlap_of n ds s t b now owed ended halt fresh v) fresh v → owed ≡ false
+    → machine_between_ticks ds n s t (oldest_front v.levels.plans v.front) now ≡ overlap_of n ds s t b now owed ended halt fresh v
+settled-between halt n ds s t b now true ended fresh v is e = absurd (cc e)
+settled-between halt n ds s t b now false true fresh v is e = absurd (cc (is.ended_owed refl))
+settled-between halt n ds s t b now false false true v is e = absurd (cc (is.fresh_owed refl))
+settled-between true n ds s t b now false false false v is e = absurd (cc (is.stopped_owed refl))
+settled-between false n ds s t (Some h) now false false false v is e = absurd (cc (is.behind_fresh refl))
+settled-between false n ds s t None now false false false v is e = refl
 
 -- all ticks up to `last` are passed
 passed-hazard_free : (n : ℕ) (ds : List ℕ) (s u : Machine) (t k : Option ℕ) (now last count : ℕ) (v w : LookView)
@@ -68,13 +79,6 @@ passed-machine false n ds s u t k (Some h) now last count false false false v w 
 passed-machine false n ds s u t k None now last count false false false v w is e early by front = passed-hazard_free n ds s u t k now last count v w is early by front
 
 -- an entry is done, behind which something may come
-row-between : (n : ℕ) (ds : List ℕ) (s u : Machine) (t : Option ℕ) (f : Front) (tick number : ℕ) (done : Completed)
-    → number ≡ s.done + 1 → done.address ≡ (plan s t).place.address → done.p ≡ (row_of_entry ds n f (entry t s)).p → done.r ≡ (row_of_entry ds n f (entry t s)).r
-    → told number done.address done.p done.r tick ≡ row_done (machine_between_ticks ds n s t f tick)
-unfolding state_ahead oldest_row
-row-between n ds s u t f tick number done counted address p r =
-    same-row number done.address done.p done.r tick _ _ _ _ counted address p r
-
 stopped-hazard_free : (n : ℕ) (ds : List ℕ) (s u : Machine) (t : Option ℕ) (now last count tick number : ℕ) (v w : LookView) (done : Completed)
     → IsInside (overlap_of n ds s t None now false false false false v) false v → last < 2 ^ 63
     → (is : HasStopped ds n count last now tick t s (oldest_front v.levels.plans v.front) None u w done)

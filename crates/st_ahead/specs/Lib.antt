@@ -6,6 +6,7 @@ pub mod Ticked
 pub mod Inside
 pub mod Going
 pub mod RunTo
+pub mod RowsDone
 pub mod Running
 pub mod Laws
 pub use Rattle.st_exec.specs.Completion

@@ -96,6 +96,11 @@ pub record HasStopped (ds : List ℕ) (n count last now tick : ℕ) (t : Option 
       ≡ Goes → may_come count
       (machine_after_tick (machine_between_ticks ds n state table front tick)) ≡ true
 
+-- how many ticks are passed, by the entry that it stops behind
+abbrev pub ticks_run : ℕ → ℕ → Option Stop → ℕ
+ticks_run last now None = last + 1 - now
+ticks_run last now (Some stop) = stop.tick - now
+
 -- by the entry that it stops behind
 abbrev pub HasRunTo : List ℕ → ℕ → ℕ → ℕ → ℕ → Option ℕ → Machine → Front → Option ℕ → Machine →
     LookView → Option Stop → Type 0

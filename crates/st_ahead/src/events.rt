@@ -1,7 +1,7 @@
 //! What the calls of the machine answer, and what is shown of it.
 
 /// A row of the timetable: an entry that is done.
-#[derive(Clone, Copy, Debug, PartialEq, Eq)]
+#[derive(Clone, Copy, Debug, Default, PartialEq, Eq)]
 pub struct Row {
     /// The number of instructions done with it.
     pub number: u64,

@@ -10,7 +10,9 @@ mod look_shape;
 mod look_steps;
 mod look_tick;
 mod machine;
+mod row_queue;
 
 pub use events::{Event, LevelView, Row, Settled, View};
 pub use look::Lookahead;
 pub use machine::Machine;
+pub use row_queue::RowQueue;

@@ -4,7 +4,9 @@ ghost use Rattle.st_exec.specs.Step.{interrupt as interrupt_of, rests};
 ghost use Rattle.st_rows.specs.declared.front.Front.{Front as FrontOf};
 ghost use Rattle.st_ahead.specs.Running.{IsAwake, may_come_from_outside};
 
+use crate::events::Row;
 use crate::look::Lookahead;
+use crate::row_queue::RowQueue;
 use st_banks::Delays;
 use st_exec::{interrupt, is_at_rest};
 use st_levels::Completed;
@@ -21,13 +23,15 @@ pub struct Stop {
 
 impl<const N: usize> Lookahead<N> {
     ghost use Rattle.st_ahead.specs.Look.{IsLook};
-    ghost use Rattle.st_ahead.specs.Running.{Starts, HasRunTo};
+    ghost use Rattle.st_ahead.specs.Running.{Starts, HasRunTo, machine_between_ticks, ticks_run};
+    ghost use Rattle.st_ahead.specs.RowsDone.{queue_with, rows_in_ticks};
 
     /// Makes ticks and goes on behind each, up to the tick `last`, below 2^63, until an entry is
     /// done behind which something may come: `count` instructions are done by then, an order is
     /// due, or the next decision is not that it goes on. The result is what was done, with its
-    /// tick. `taken` is the indicator whose table instruction comes next. Fewer than 2^63
-    /// instructions are done, and `count` is 2^63 at most.
+    /// tick. The rows of those that are done before it wait, as far as there is room. `taken` is the
+    /// indicator whose table instruction comes next. Fewer than 2^63 instructions are done, and
+    /// `count` is 2^63 at most.
     #[inline(never)]
     pub fn run_to(
         &mut self,
@@ -35,6 +39,7 @@ impl<const N: usize> Lookahead<N> {
         last: u64,
         taken: &mut Option<u8>,
         state: &mut State,
+        rows: &mut RowQueue,
         delays: &Delays,
     ) -> Option<Stop>
         requires some { 1 ≤ N }
@@ -47,7 +52,9 @@ impl<const N: usize> Lookahead<N> {
         ensures { (f : FrontOf) (now : ℕ) →
             IsLook delays.now N (now - 1) now taken.old state.old f self.old → now ≤ last →
             IsAwake taken.old state.old →
-            HasRunTo delays.now N count last now taken.old state.old f taken.new state.new self.new result }
+            HasRunTo delays.now N count last now taken.old state.old f taken.new state.new self.new result
+            × (rows.new ≡ queue_with (rows_in_ticks (ticks_run last now result)
+            (machine_between_ticks delays.now N state.old taken.old f now)) rows.old) }
     {
         delays.shape();
         'entries: loop {
@@ -63,7 +70,28 @@ impl<const N: usize> Lookahead<N> {
                 self.fill(state, tick);
                 return Some(Stop { done, tick });
             }
+            rows.put(row_of(&done, tick, state));
         }
+    }
+}
+
+// The row of an entry that is done at the tick.
+#[inline(always)]
+fn row_of(done: &Completed, tick: u64, state: &State) -> Row
+    ensures { result ≡ record {
+      number = state.now.done;
+      address = done.now.address;
+      p = done.now.p;
+      r = done.now.r;
+      c = tick;
+    } }
+{
+    Row {
+        number: state.done,
+        address: done.address,
+        p: done.p,
+        r: done.r,
+        c: tick,
     }
 }
 

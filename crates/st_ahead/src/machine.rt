@@ -3,6 +3,7 @@ ghost use Rattle.std.specs.Prelude.{◌≡◌, ℕ, ◌+◌, ◌-◌, ◌<◌, �
 
 use crate::events::{Event, LevelView, Row, Settled, View};
 use crate::look::Lookahead;
+use crate::row_queue::RowQueue;
 use st_banks::{Delays, LastAnswers};
 use st_exec::is_at_rest;
 use st_prep::place_of;
@@ -47,6 +48,7 @@ impl<const N: usize> Machine<N> {
     ghost use Rattle.st_ahead.specs.Overlap.{last_tick_made as last_tick_of};
     ghost use Rattle.st_ahead.specs.Shown.{AreLevelsOf, lent_index_words, view_at_tick};
     ghost use Rattle.st_ahead.specs.RunTo.{RunsTo};
+    ghost use Rattle.st_ahead.specs.RowsDone.{queue_with, rows_in_ticks, ticks_passed};
 
     /// A machine before its first tick; the state is neither enabled nor waiting.
     pub fn new(state: State, delays: Delays) -> Machine<N>
@@ -107,21 +109,30 @@ impl<const N: usize> Machine<N> {
     /// is done behind which something may come: `count` instructions are done by then, an order is
     /// due, or what `settle` would decide is not that the machine goes on. Its row is the result,
     /// and that decision is owed. Where none is up to the tick `last`, that tick is made and
-    /// settled too. No settle is owed; `last` and the number of instructions done are below 2^63,
+    /// settled too. The rows of the entries that are done before wait behind those in `rows`, as far
+    /// as there is room. No settle is owed; `last` and the number of instructions done are below 2^63,
     /// and `count` is 2^63 at most.
-    pub fn run_to(&mut self, count: u64, last: u64) -> Option<Row>
+    pub fn run_to(&mut self, count: u64, last: u64, rows: &mut RowQueue) -> Option<Row>
         requires settled { self.old.owed ≡ false }
         requires count { count ≤ 2 ^ 63 }
         requires last { last < 2 ^ 63 }
         requires done { self.old.state.done < 2 ^ 63 }
-        ensures { RunsTo count last result self.old self.new }
+        ensures runs { RunsTo count last result self.old self.new }
+        ensures rows { rows.new ≡ queue_with (rows_in_ticks (ticks_passed last self.old.now result) self.old) rows.old }
     {
         self.delays.shape();
         let now = self.now;
         if now > last {
             return None;
         }
-        let stop = self.look.run_to(count, last, &mut self.taken, &mut self.state, &self.delays);
+        let stop = self.look.run_to(
+            count,
+            last,
+            &mut self.taken,
+            &mut self.state,
+            rows,
+            &self.delays,
+        );
         let number = done_in(&self.state);
         let Some(stop) = stop else {
             self.now = last + 1;

@@ -1,5 +1,5 @@
 -- Entries that are done one after another, between which nothing comes.
-use Rattle.std.specs.Prelude.{All, IfSome, is_some, nat_le}
+use Rattle.std.specs.Prelude.{All, IfSome, is_some, nat_le, length, map}
 use Rattle.std.proofs.Common.{◌≡◌, ◌≢◌, ℕ, zero, suc, ◌+◌, ◌-◌, ◌<◌, ◌≤◌, ◌^◌, ◌||◌, Bool, true, false, List, [], ◌∷◌, ◌++◌, Option, None, Some, refl, sym, ◌∙◌, ap, subst, arith, append_assoc}
 use Rattle.std.proofs.lemmas.Bool.Decides.{nat_tests}
 use Rattle.std.proofs.lemmas.List.Elements.{All-nil, All-cons, All-append}
@@ -10,19 +10,20 @@ use Rattle.st_card.specs.declared.control_cards.Signal.{Signal}
 use Rattle.st_ahead.specs.Overlap.{Overlap, oldest_row, interrupt_due}
 use Rattle.st_ahead.specs.Calls.{is_done, row_done, machine_after_completion, machine_after_tick, machine_after_pass, machine_after_settling, answer, answer_by}
 use Rattle.st_ahead.specs.RunTo.{after_ticks, may_come, IsPassed, ArePassed, StopsAt, RunsTo}
+use Rattle.st_ahead.specs.RowsDone.{Queue, queue_with, rows_in_ticks, ticks_passed}
 use Rattle.st_ahead.specs.declared.events.Row.{Row}
 use Rattle.st_ahead.specs.declared.events.Settled.TheVariants.{Goes}
+use Rattle.st_ahead.proofs.NotedRows.{row-one, row-late, rows-first, no-rows, queue-all}
 use Rattle.st_run.specs.Moments.{Moment, next_moment}
 use Rattle.st_run.specs.TimedRun.{timed_from, timed_behind}
 use Rattle.st_run.specs.Order.{AreRising}
-use Rattle.st_run.specs.Told.{Done, Told, told_of_events}
+use Rattle.st_run.specs.Told.{Told, told_of_events}
 use Rattle.st_run.specs.Between.{IsQuiet, signal_due}
 use Rattle.st_run.specs.Leaving.{IsDecided, nothing_decided}
 use Rattle.st_run.specs.Together.{Together, IsBeforeEntry, scene_of, standing_of, moment_of, at_tick}
-use Rattle.st_run.specs.Telling.{Waiting, whats, IsDone, AreLeftOut, IsLeft, IsRun, AreInTime, rest_of}
+use Rattle.st_run.specs.Telling.{Waiting, whats, row_told, rows_then, IsDone, AreLeftOut, HasGoneFar, IsLeft, IsRun, AreInTime, rest_of}
 use Rattle.st_run.specs.Ticking.{AreMade, AreMadeUpTo, at_completion, last_for}
 use Rattle.st_run.specs.declared.turn.Turn.TheVariants as turns
-use Rattle.st_run.proofs.ToldLemmas.{once}
 use Rattle.st_run.proofs.TickLemmas.{tick-passes, tick-early, tick-done, done-completed}
 use Rattle.st_run.proofs.MomentLemmas.{ready-before, moment-next}
 use Rattle.st_run.proofs.PartLemmas.{HasParts}
@@ -34,10 +35,6 @@ use Rattle.st_run.proofs.GoLemmas.{tick-before, go-leaves, go-tells}
 -- what is still to be told before the next entry
 abbrev rest_told : ℕ → ℕ → Together → List Told
 rest_told left tick t = told_of_events (timed_behind t.machine.delays t.machine.levels left (standing_of tick t) [])
-
--- a row as it is told
-abbrev pub told_row : Row → Told
-told_row r = once r.number r.c (Done r.address r.p r.r r.c)
 
 rising-none : (k : ℕ) → AreRising k []
 unfolding AreRising
@@ -70,17 +67,30 @@ fewer count done test = grind (arith, nat_tests)
 
 -- ---- one entry
 
--- entries were done, between which nothing came, in k ticks which leave the machine `new`
-pub record PassedTo (left tick k : ℕ) (t : Together) (new : Overlap) : Type 0 where
-  pub rows : List Told
+-- rows are told before others
+rows-both : (xs ys : List Row) (rest : List Told) → rows_then (xs ++ ys) rest ≡ rows_then xs (rows_then ys rest)
+rows-both [] ys rest = refl
+rows-both (x ∷ xs) ys rest = ap (λ (more : List Told). row_told x ∷ more) (rows-both xs ys rest)
+
+rows-are : (xs : List Row) → All (λ x. IsDone x.what) (map row_told xs)
+rows-are [] = All-nil (λ (x : Told). IsDone x.what)
+rows-are (x ∷ xs) = All-cons (λ (y : Told). IsDone y.what) (row_told x) (map row_told xs) tt (rows-are xs)
+
+length-both : (xs ys : List Row) → length (xs ++ ys) ≡ length xs + length ys
+length-both [] ys = omega arith
+length-both (x ∷ xs) ys = let rest = length-both xs ys in omega (arith, rest)
+
+-- entries were done, between which nothing came and fewer than `count` by then, in k ticks which
+-- leave the machine `new`
+pub record PassedTo (count left tick k : ℕ) (t : Together) (new : Overlap) : Type 0 where
   pub left_now : ℕ
   pub tick_now : ℕ
-  pub are : All (λ x. IsDone x.what) rows
   pub before : IsBeforeEntry (record t { machine = new })
   pub in_time : AreInTime (rest_told left_now tick_now (record t { machine = new }))
-  pub tells : rest_told left tick t ≡ rows ++ rest_told left_now tick_now (record t { machine = new })
+  pub tells : rest_told left tick t ≡ rows_then (rows_in_ticks k t.machine) (rest_told left_now tick_now (record t { machine = new }))
   pub number : left_now + new.state.done ≡ left + t.machine.state.done
-  pub fewer : left_now ≤ left
+  pub fewer : left_now + length (rows_in_ticks k t.machine) ≡ left
+  pub short : length (rows_in_ticks k t.machine) ≤ count - t.machine.state.done - 1
   pub now : new.now ≡ t.machine.now + k
 
 -- the entry is done at this tick
@@ -105,7 +115,7 @@ module _ (left tick : ℕ) (t : Together) (before : IsBeforeEntry t) (in_time : 
       go-leaves left tick [] t behind before (rising-none (o.now - 1)) in_time (row_done o) None refl made
 
   pub one-told : (rest : List Told) → told_of_events (timed_from behind.machine.delays behind.machine.levels left (moment_of behind) []) ≡ rest
-      → rest_told left tick t ≡ told_row (row_done o) ∷ rest
+      → rest_told left tick t ≡ row_told (row_done o) ∷ rest
   unfolding machine_after_completion
   one-told rest same =
       go-tells left tick [] t behind before (rising-none (o.now - 1)) in_time (row_done o) None refl made rest same
@@ -158,61 +168,62 @@ module _ (left tick : ℕ) (t : Together) (before : IsBeforeEntry t) (in_time : 
     now-is : (machine_after_settling (machine_after_tick o)).now ≡ o.now + 1
     now-is = let g = decided.way.2 in g.now ∙ ap {A = ℕ} (λ k. k + 1) (sym one-left.tick_is)
 
-    pub one-passed : PassedTo left tick 1 t (machine_after_settling (machine_after_tick o))
+    one-row : rows_in_ticks 1 o ≡ row_done o ∷ []
+    one-row = row-one o due
+
+    pub one-passed : PassedTo count left tick 1 t (machine_after_settling (machine_after_tick o))
     one-passed = record {
-      rows = told_row (row_done o) ∷ [];
       left_now = left - 1;
       tick_now = (row_done o).c;
-      are = All-cons (λ (x : Told). IsDone x.what) (told_row (row_done o)) [] tt (All-nil (λ (x : Told). IsDone x.what));
       before = keeps.stands.0;
       in_time = subst {A = List Told} AreInTime rest-is keeps.in_time;
       tells =
           one-told (rest_told (left - 1) (row_done o).c next)
-          (left-told left (row_done o).c [] behind next nothing_decided [] one-left decided parts.delays parts.levels refl ∙ rest-is);
-      fewer = omega arith;
+          (left-told left (row_done o).c [] behind next nothing_decided [] one-left decided parts.delays parts.levels refl ∙ rest-is)
+          ∙ ap {A = List Row} (λ xs. rows_then xs (rest_told (left - 1) (row_done o).c next)) (sym one-row);
+      fewer = omega (arith, some-left, ap {A = List Row} (λ xs. length xs) one-row);
+      short = omega (arith, below, one-done, ap {A = List Row} (λ xs. length xs) one-row);
       number = omega (arith, one-done, some-left, ap (λ (x : Overlap). x.state.done) after);
       now = omega (arith, now-is);
     }
 
 -- a tick
 pub tick-passed : (count left tick : ℕ) (t : Together) → IsBeforeEntry t → AreInTime (rest_told left tick t) → count ≤ t.machine.state.done + left + 1
-    → ((d : ℕ) → d < count → signal_due d t.signals ≡ false) → IsPassed count t.machine → PassedTo left tick 1 t (machine_after_settling (machine_after_tick t.machine))
+    → ((d : ℕ) → d < count → signal_due d t.signals ≡ false) → IsPassed count t.machine → PassedTo count left tick 1 t (machine_after_settling (machine_after_tick t.machine))
 tick-passed count left tick t before in_time few signals passes = by (is_done t.machine) refl
   where
-    by : (b : Bool) → is_done t.machine ≡ b → PassedTo left tick 1 t (machine_after_settling (machine_after_tick t.machine))
+    by : (b : Bool) → is_done t.machine ≡ b → PassedTo count left tick 1 t (machine_after_settling (machine_after_tick t.machine))
     by true due = one-passed left tick t before in_time due count passes few signals
     by false late =
         let o = t.machine in
         let next = tick-passes o o o.now (ready-before t before) refl late in
-        subst {A = Overlap} (λ m. PassedTo left tick 1 t m) (sym next) (record {
-          rows = [];
+        subst {A = Overlap} (λ m. PassedTo count left tick 1 t m) (sym next) (record {
           left_now = left;
           tick_now = tick;
-          are = All-nil (λ (x : Told). IsDone x.what);
           before = tick-before t (o.now + 1) before (tick-early o o o.now before.early refl late);
           in_time = in_time;
-          tells = refl;
+          tells = ap {A = List Row} (λ xs. rows_then xs (rest_told left tick t)) (sym (row-late o late));
           number = refl;
-          fewer = omega arith;
+          fewer = omega (arith, ap {A = List Row} (λ xs. length xs) (row-late o late));
+          short = omega (arith, ap {A = List Row} (λ xs. length xs) (row-late o late));
           now = refl;
         })
 
 -- so many ticks
 pub all-passed : (k count left tick : ℕ) (t : Together) (new : Overlap) → IsBeforeEntry t → AreInTime (rest_told left tick t)
     → count ≤ t.machine.state.done + left + 1 → ((d : ℕ) → d < count → signal_due d t.signals ≡ false)
-    → ArePassed count k t.machine new → PassedTo left tick k t new
+    → ArePassed count k t.machine new → PassedTo count left tick k t new
 unfolding after_ticks
 all-passed zero count left tick t new before in_time few signals are =
-    subst {A = Overlap} (λ m. PassedTo left tick 0 t m) (sym are.after) (record {
-      rows = [];
+    subst {A = Overlap} (λ m. PassedTo count left tick 0 t m) (sym are.after) (record {
       left_now = left;
       tick_now = tick;
-      are = All-nil (λ (x : Told). IsDone x.what);
       before = before;
       in_time = in_time;
-      tells = refl;
+      tells = ap {A = List Row} (λ xs. rows_then xs (rest_told left tick t)) (sym (no-rows t.machine));
       number = refl;
-      fewer = omega arith;
+      fewer = omega (arith, ap {A = List Row} (λ xs. length xs) (no-rows t.machine));
+      short = omega (arith, ap {A = List Row} (λ xs. length xs) (no-rows t.machine));
       now = omega arith;
     })
 all-passed (suc k) count left tick t new before in_time few signals are =
@@ -220,36 +231,39 @@ all-passed (suc k) count left tick t new before in_time few signals are =
     let next : Together = record t { machine = machine_after_settling (machine_after_tick t.machine) } in
     let more : ArePassed count k next.machine new = record { each = λ i early. are.each (suc i) (omega (arith, early)); after = are.after } in
     let rest = all-passed k count first.left_now first.tick_now next new first.before first.in_time (omega (arith, few, first.number)) signals more in
+    let these = rows_in_ticks 1 t.machine in
+    let those = rows_in_ticks k next.machine in
+    let all : rows_in_ticks (suc k) t.machine ≡ these ++ those = rows-first k t.machine in
+    let many = ap {A = List Row} (λ xs. length xs) all ∙ length-both these those in
     record {
-      rows = first.rows ++ rest.rows;
       left_now = rest.left_now;
       tick_now = rest.tick_now;
-      are = All-append (λ (x : Told). IsDone x.what) first.rows rest.rows first.are rest.are;
       before = rest.before;
       in_time = rest.in_time;
       tells =
-          first.tells ∙ ap {A = List Told} (λ xs. first.rows ++ xs) rest.tells
-          ∙ sym (append_assoc first.rows rest.rows (rest_told rest.left_now rest.tick_now (record t { machine = new })));
+          first.tells ∙ ap {A = List Told} (λ xs. rows_then these xs) rest.tells
+          ∙ sym (rows-both these those (rest_told rest.left_now rest.tick_now (record t { machine = new })))
+          ∙ ap {A = List Row} (λ xs. rows_then xs (rest_told rest.left_now rest.tick_now (record t { machine = new }))) (sym all);
       number = rest.number ∙ first.number;
-      fewer = omega (arith, rest.fewer, first.fewer);
+      fewer = omega (arith, rest.fewer, first.fewer, many);
+      short = omega (arith, rest.short, first.short, first.number, first.fewer, many);
       now = omega (arith, rest.now, first.now);
     }
 
 -- ---- up to an entry behind which something may come
 
-pub record PassedUpTo (left tick : ℕ) (t new : Together) (row : Row) : Type 0 where
-  pub rows : List Told
+pub record PassedUpTo (count left tick : ℕ) (t new : Together) (row : Row) : Type 0 where
   pub left_now : ℕ
-  pub are : All (λ x. IsDone x.what) rows
   pub number : left_now + row.number ≡ left + t.machine.state.done + 1
   pub more : t.machine.state.done + 1 ≤ row.number
   pub leaves : IsLeft left_now [] row.c new
   pub tells : (rest : List Told) → told_of_events (timed_from new.machine.delays new.machine.levels left_now (moment_of new) []) ≡ rest
-      → rest_told left tick t ≡ rows ++ told_row row ∷ rest
+      → rest_told left tick t ≡ rows_then (rows_in_ticks (row.c - t.machine.now) t.machine) (row_told row ∷ rest)
+  pub short : length (rows_in_ticks (row.c - t.machine.now) t.machine) ≤ count - t.machine.state.done - 1
 
 module _ (count left tick : ℕ) (t new : Together) (before : IsBeforeEntry t) (in_time : AreInTime (rest_told left tick t))
     (few : count ≤ t.machine.state.done + left + 1) (signals : (d : ℕ) → d < count → signal_due d t.signals ≡ false) where
-  pub passed-row : (row : Row) → AreMadeUpTo count (Some row) t new → PassedUpTo left tick t new row
+  pub passed-row : (row : Row) → AreMadeUpTo count (Some row) t new → PassedUpTo count left tick t new row
   passed-row row made =
       let stop = made.ticked in
       let all = all-passed stop.ticks count left tick t stop.before before in_time few signals stop.passed in
@@ -258,22 +272,23 @@ module _ (count left tick : ℕ) (t new : Together) (before : IsBeforeEntry t) (
       let is : new ≡ behind =
       made.kept ∙ ap {A = Overlap} (λ m. record t { machine = m }) (stop.after ∙ ticked-is all.left_now all.tick_now here all.before all.in_time stop.done) in
       let row_is : row ≡ row_done stop.before = stop.row_is in
+      let ticks : stop.ticks ≡ row.c - t.machine.now = omega (arith, all.now, ap (λ (r : Row). r.c) row_is) in
       record {
-        rows = all.rows;
         left_now = all.left_now;
-        are = all.are;
         number = omega (arith, all.number, ap (λ (r : Row). r.number) row_is);
         more = omega (arith, all.number, ap (λ (r : Row). r.number) row_is, all.fewer);
         leaves =
             subst {A = Row} (λ r. IsLeft all.left_now [] r.c new) (sym row_is)
             (subst {A = Together} (λ u. IsLeft all.left_now [] (row_done stop.before).c u) (sym is)
             (one-left all.left_now all.tick_now here all.before all.in_time stop.done));
+        short = subst {A = ℕ} (λ k. length (rows_in_ticks k t.machine) ≤ count - t.machine.state.done - 1) ticks all.short;
         tells = λ rest same.
             all.tells
-            ∙ ap {A = List Told} (λ xs. all.rows ++ xs)
+            ∙ ap {A = List Told} (λ xs. rows_then (rows_in_ticks stop.ticks t.machine) xs)
             (one-told all.left_now all.tick_now here all.before all.in_time stop.done rest
             (ap {A = Together} (λ u. told_of_events (timed_from u.machine.delays u.machine.levels all.left_now (moment_of u) [])) (sym is) ∙ same)
-            ∙ ap {A = Row} (λ r. told_row r ∷ rest) (sym row_is));
+            ∙ ap {A = Row} (λ r. row_told r ∷ rest) (sym row_is))
+            ∙ ap {A = ℕ} (λ k. rows_then (rows_in_ticks k t.machine) (row_told row ∷ rest)) ticks;
       }
 
   -- each entry comes in time
@@ -301,30 +316,52 @@ ahead-is left tick snaps w t is quiet none = record {
 }
 
 pub far-row : (count left tick : ℕ) (t new : Together) → AreAhead left tick t → count ≤ t.machine.state.done + left + 1
-    → ((d : ℕ) → d < count → signal_due d t.signals ≡ false) → (row : Row) → AreMadeUpTo count (Some row) t new → PassedUpTo left tick t new row
+    → ((d : ℕ) → d < count → signal_due d t.signals ≡ false) → (row : Row) → AreMadeUpTo count (Some row) t new → PassedUpTo count left tick t new row
 far-row count left tick t new is few signals row made = passed-row count left tick t new is.before is.in_time few signals row made
 
 pub far-none : (count left tick : ℕ) (t new : Together) → AreAhead left tick t → count ≤ t.machine.state.done + left + 1
     → ((d : ℕ) → d < count → signal_due d t.signals ≡ false) → AreMadeUpTo count None t new → ⊥
 far-none count left tick t new is few signals made = passed-none count left tick t new is.before is.in_time few signals made
 
-module _ (left tick : ℕ) (snaps : List ℕ) (t new : Together) (row : Row) (far : PassedUpTo left tick t new row) (k : ℕ) (same : far.left_now ≡ k)
+module _ (count left tick : ℕ) (snaps : List ℕ) (t new : Together) (row : Row) (far : PassedUpTo count left tick t new row) (k : ℕ) (same : far.left_now ≡ k)
     (none : snaps ≡ []) where
   pub far-left : IsLeft k snaps row.c new
   far-left =
       subst {A = List ℕ} (λ xs. IsLeft k xs row.c new) (sym none) (subst {A = ℕ} (λ x. IsLeft x [] row.c new) same far.leaves)
 
-  pub far-told : (rest : List Told)
+  pub far-told : (done most : ℕ) (rest : List Told) (before after : Queue) → done ≡ t.machine.state.done → count ≤ most
       → told_of_events (timed_from new.machine.delays new.machine.levels k (moment_of new) snaps) ≡ rest
-      → AreLeftOut (told_row row)
-      (told_of_events (timed_behind t.machine.delays t.machine.levels left (standing_of tick t) snaps)) rest
-  far-told rest tells = record {
-    rows = far.rows;
-    are = far.are;
-    is = tt;
-    rest =
+      → after ≡ queue_with (rows_in_ticks (row.c - t.machine.now) t.machine) before
+      → HasGoneFar done most row
+      (told_of_events (timed_behind t.machine.delays t.machine.levels left (standing_of tick t) snaps)) rest before after
+  far-told done most rest before after are few tells waits = record {
+    passed = rows_in_ticks (row.c - t.machine.now) t.machine;
+    told =
         ap {A = List ℕ} (λ xs. told_of_events (timed_behind t.machine.delays t.machine.levels left (standing_of tick t) xs)) none
         ∙ far.tells rest
         (ap {A = ℕ} (λ x. told_of_events (timed_from new.machine.delays new.machine.levels x (moment_of new) [])) same
         ∙ ap {A = List ℕ} (λ xs. told_of_events (timed_from new.machine.delays new.machine.levels k (moment_of new) xs)) (sym none) ∙ tells);
+    waits = waits;
+    few = omega (arith, far.short, are, few);
   }
+
+-- what has gone far is left out
+pub far-left_out : (done most : ℕ) (row : Row) (old new : List Told) (before after : Queue) → HasGoneFar done most row old new before after
+    → AreLeftOut (row_told row) old new
+far-left_out done most row old new before after far = record {
+  rows = map row_told far.passed;
+  are = rows-are far.passed;
+  is = tt;
+  rest = far.told;
+}
+
+-- and waits, where there is room
+pub far-waits : (done : ℕ) (row : Row) (old new : List Told) (before after : Queue) → HasGoneFar done (done + 64) row old new before after
+    → before ≡ record { rows = []; room = 64 } → old ≡ rows_then (queue_with (row ∷ []) after).rows new
+far-waits done row old new before after far open =
+    let few : length far.passed ≤ 63 = omega (arith, far.few) in
+    let mid : after ≡ record { rows = far.passed; room = 64 - length far.passed } =
+    far.waits ∙ ap {A = Queue} (queue_with far.passed) open ∙ queue-all far.passed (record { rows = []; room = 64 }) (omega (arith, few)) in
+    let end : queue_with (row ∷ []) after ≡ record { rows = far.passed ++ row ∷ []; room = 64 - length far.passed - 1 } =
+    ap {A = Queue} (queue_with (row ∷ [])) mid ∙ queue-all (row ∷ []) (record { rows = far.passed; room = 64 - length far.passed }) (omega (arith, few)) in
+    far.told ∙ sym (rows-both far.passed (row ∷ []) new) ∙ ap {A = Queue} (λ q. rows_then q.rows new) (sym end)

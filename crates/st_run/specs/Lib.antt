@@ -20,6 +20,7 @@ pub use Rattle.st_refine.specs.Reached
 pub use Rattle.st_ahead.specs.Calls
 pub use Rattle.st_ahead.specs.Overlap
 pub use Rattle.st_ahead.specs.RunTo
+pub use Rattle.st_ahead.specs.RowsDone
 pub use Rattle.st_ahead.specs.Shown
 pub use Rattle.st_card.specs.Limits
 pub use Rattle.st_exch.specs.Printer

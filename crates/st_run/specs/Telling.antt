@@ -5,7 +5,9 @@ use Rattle.st_state.specs.Machine.{Machine}
 use Rattle.st_exec.specs.Step.{rests}
 use Rattle.st_ahead.specs.Overlap.{Overlap, levels_of, last_tick_made}
 use Rattle.st_ahead.specs.Shown.{lent_index_words}
+use Rattle.st_ahead.specs.RowsDone.{Queue, queue_with}
 use Rattle.st_ahead.specs.declared.events.LevelView.{LevelView}
+use Rattle.st_ahead.specs.declared.events.Row.{Row}
 use Rattle.st_run.specs.Events.{Level, level_at, with_index_words}
 use Rattle.st_run.specs.TimedRun.{ticks_before, timed_from, timed_behind}
 use Rattle.st_run.specs.Order.{AreRising}
@@ -34,6 +36,18 @@ what_told tells.Printed tick s levels text = Printed text
 what_told (tells.Interrupted i) tick s levels text = Interrupted i s
 what_told (tells.Shown at) tick s levels text = Shown at s levels
 what_told (tells.Ended rests) tick s levels text = Ended rests s
+
+-- a row as it is told
+abbrev pub row_told : Row → Told
+row_told row = record {
+  done = row.number;
+  tick = row.c;
+  what = Done row.address row.p row.r row.c;
+}
+
+-- rows that wait to be told, and the rest
+abbrev pub rows_then : List Row → List Told → List Told
+rows_then rows rest = map row_told rows ++ rest
 
 -- an entry that is done
 abbrev pub IsDone : What → Type 0
@@ -174,3 +188,18 @@ pub record IsLeft (left : ℕ) (snaps : List ℕ) (tick : ℕ) (t : Together) : 
   pub rising : AreRising tick snaps
   pub in_time : AreInTime (told_of_events (timed_from t.machine.delays t.machine.levels left
       (moment_of t) snaps))
+
+-- of what was to be told rows are left out at the front, which wait as far as there is room, and
+-- then this one; when `done` were done before the first of them, and `most` at most behind this one
+-- or it is the only one
+pub record HasGoneFar (done most : ℕ) (row : Row) (old new : List Told) (before after : Queue)
+    : Type 0 where
+  pub passed : List Row
+  pub told : old ≡ rows_then passed (row_told row ∷ new)
+  pub waits : after ≡ queue_with passed before
+  pub few : length passed ≤ most - done - 1
+
+-- by the answer
+abbrev pub GoesFar : ℕ → ℕ → Option Row → List Told → List Told → Queue → Queue → Type 0
+GoesFar done most None old new before after = ⊥
+GoesFar done most (Some row) old new before after = HasGoneFar done most row old new before after

@@ -11,6 +11,7 @@ pub mod plain;
 mod progress;
 mod run;
 mod seen;
+mod teller;
 mod ticking;
 mod told;
 mod turn;

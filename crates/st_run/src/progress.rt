@@ -1,12 +1,12 @@
 //! How far a run has come, and how it goes on.
-ghost use Rattle.std.specs.Prelude.{◌≡◌, ◌+◌, ◌-◌, ◌<◌, ◌≤◌, ◌^◌, ℕ, false, if◌then◌else◌, [], ◌∷◌, MatchOption, IfSome};
+ghost use Rattle.std.specs.Prelude.{◌≡◌, ◌+◌, ◌-◌, ◌<◌, ◌≤◌, ◌^◌, ℕ, true, false, if◌then◌else◌, [], ◌∷◌, MatchOption, IfSome};
 ghost use Rattle.st_state.specs.Machine.{Machine};
 ghost use Rattle.st_ahead.specs.Overlap.{levels_of};
 ghost use Rattle.st_run.specs.TimedRun.{timed_from, timed_behind};
 ghost use Rattle.st_run.specs.Told.{told_of_events as told_events};
 ghost use Rattle.st_run.specs.Together.{moment_of, standing_of};
 ghost use Rattle.st_run.specs.Between.{signal_due};
-ghost use Rattle.st_run.specs.Telling.{whats, told_at_end, rest_of, told_with, snapshot_tick, AreLeftOut, IsRun, IsShown, IsLeft, AreInTime};
+ghost use Rattle.st_run.specs.Telling.{whats, told_at_end, rest_of, told_with, snapshot_tick, AreLeftOut, GoesFar, rows_then, IsRun, IsShown, IsLeft, AreInTime};
 ghost use Rattle.st_run.specs.declared.told.RunEvent.TheVariants as tells;
 ghost use Rattle.st_run.specs.declared.turn.Turn.TheVariants as turns;
 
@@ -17,12 +17,15 @@ use crate::told::{RunEvent, TimedRunEvent};
 use crate::turn::Turn;
 use crate::waiting::Waiting;
 use arrayvec::{ArrayString, ArrayVec};
-use st_ahead::Row;
+use st_ahead::{Row, RowQueue};
 use st_card::Signal;
 use st_state::State;
 
 // No more instructions are done than this number, 2^63 - 1.
 const MOST: u64 = (1 << 63) - 1;
+
+// How many rows are made at once, as many as there is room for.
+const ROWS: u64 = 64;
 
 // A run between two things that it tells: the machine with what is still to come to it, the
 // snapshots that are still to come, how many instructions may be done behind the next one, the tick
@@ -40,8 +43,13 @@ pub(crate) struct Progress<'a, const N: usize> {
 }
 
 // The next thing that is told; `None` exactly where all is told.
-pub(crate) fn tell_next<const N: usize>(run: &mut Progress<N>) -> Option<TimedRunEvent>
-    requires { IsRun run.old.turn run.old.left run.old.tick run.old.snaps.now run.old.waiting run.old.driven }
+pub(crate) fn tell_next<const N: usize>(
+    run: &mut Progress<N>,
+    rows: &mut RowQueue,
+) -> Option<TimedRunEvent>
+    requires run { IsRun run.old.turn run.old.left run.old.tick run.old.snaps.now run.old.waiting run.old.driven }
+    requires shut { rows.old.room ≡ 0 }
+    ensures rows { rows.new ≡ rows.old }
     ensures kept { IsRun run.new.turn run.new.left run.new.tick run.new.snaps.now run.new.waiting run.new.driven }
     ensures told { MatchOption result
         (rest_of run.old.turn run.old.left run.old.tick run.old.snaps.now run.old.waiting run.old.driven ≡ [])
@@ -53,7 +61,7 @@ pub(crate) fn tell_next<const N: usize>(run: &mut Progress<N>) -> Option<TimedRu
         return Some(at_once(&run.driven, run.tick, what));
     }
     match run.turn {
-        Turn::Before => Some(go(run)),
+        Turn::Before => Some(go(run, rows)),
         Turn::AtEnd(rests) => Some(finish(run, rests)),
         Turn::Over => None,
     }
@@ -63,8 +71,13 @@ pub(crate) fn tell_next<const N: usize>(run: &mut Progress<N>) -> Option<TimedRu
 // comes between them. The last of them is the result; there is none where something else is told
 // next, or may be.
 #[inline(never)]
-pub(crate) fn pass_entries<const N: usize>(run: &mut Progress<N>) -> Option<TimedRunEvent>
-    requires { IsRun run.old.turn run.old.left run.old.tick run.old.snaps.now run.old.waiting run.old.driven }
+pub(crate) fn pass_entries<const N: usize>(
+    run: &mut Progress<N>,
+    rows: &mut RowQueue,
+) -> Option<TimedRunEvent>
+    requires run { IsRun run.old.turn run.old.left run.old.tick run.old.snaps.now run.old.waiting run.old.driven }
+    requires shut { rows.old.room ≡ 0 }
+    ensures rows { rows.new ≡ rows.old }
     ensures kept { IsRun run.new.turn run.new.left run.new.tick run.new.snaps.now run.new.waiting run.new.driven }
     ensures told { MatchOption result
         (rest_of run.new.turn run.new.left run.new.tick run.new.snaps.now run.new.waiting run.new.driven
@@ -73,51 +86,95 @@ pub(crate) fn pass_entries<const N: usize>(run: &mut Progress<N>) -> Option<Time
         (rest_of run.old.turn run.old.left run.old.tick run.old.snaps.now run.old.waiting run.old.driven)
         (rest_of run.new.turn run.new.left run.new.tick run.new.snaps.now run.new.waiting run.new.driven)) }
 {
-    let Turn::Before = run.turn else {
+    if !may_go_far(run) {
+        return None;
+    }
+    let done = done_of(&run.driven);
+    let Some(row) = go_far(run, done, MOST, rows) else {
         return None;
     };
+    Some(told_of(row))
+}
+
+// Where nothing else is told next, entries are done, as long as nothing else comes between them, and
+// their rows wait; there is room for all of them.
+#[inline(never)]
+pub(crate) fn make_rows<const N: usize>(run: &mut Progress<N>, rows: &mut RowQueue)
+    requires run { IsRun run.old.turn run.old.left run.old.tick run.old.snaps.now run.old.waiting run.old.driven }
+    requires none { rows.old ≡ record { rows = []; room = 0 } }
+    ensures kept { IsRun run.new.turn run.new.left run.new.tick run.new.snaps.now run.new.waiting run.new.driven }
+    ensures shut { rows.new.room ≡ 0 }
+    ensures told { rest_of run.old.turn run.old.left run.old.tick run.old.snaps.now run.old.waiting run.old.driven
+        ≡ rows_then rows.new.rows
+        (rest_of run.new.turn run.new.left run.new.tick run.new.snaps.now run.new.waiting run.new.driven) }
+{
+    if !may_go_far(run) {
+        return;
+    }
+    rows.open();
+    let done = done_of(&run.driven);
+    let Some(row) = go_far(run, done, done + ROWS, rows) else {
+        return;
+    };
+    rows.put(row);
+    rows.shut();
+}
+
+// Whether an entry is done next, and no snapshot is to come.
+fn may_go_far<const N: usize>(run: &Progress<N>) -> bool
+    ensures { result ≡ true → (run.now.turn ≡ turns.Before) × (run.now.snaps.now ≡ [])
+        × ((s : Machine) → whats run.now.waiting s ≡ []) }
+{
+    let Turn::Before = run.turn else {
+        return false;
+    };
     if !run.snaps.is_empty() {
-        return None;
+        return false;
     }
-    if !run.waiting.is_empty() {
-        return None;
-    }
-    Some(go_far(run))
+    run.waiting.is_empty()
 }
 
 // Before the next entry, where no snapshot is to come: it is done, and those behind it between
-// which nothing comes.
-fn go_far<const N: usize>(run: &mut Progress<N>) -> TimedRunEvent
+// which nothing comes, as long as fewer than `most` are done. The row of the last one is the
+// result; those of the others wait, as far as there is room. So many are `done` before.
+fn go_far<const N: usize>(
+    run: &mut Progress<N>,
+    done: u64,
+    most: u64,
+    rows: &mut RowQueue,
+) -> Option<Row>
     requires run { IsRun turns.Before run.old.left run.old.tick run.old.snaps.now run.old.waiting run.old.driven }
     requires turn { run.old.turn ≡ turns.Before }
     requires waits { (s : Machine) → whats run.old.waiting s ≡ [] }
     requires snaps { run.old.snaps.now ≡ [] }
+    requires done { done ≡ run.old.driven.machine.state.done }
 
     ensures kept { IsRun run.new.turn run.new.left run.new.tick run.new.snaps.now run.new.waiting run.new.driven }
-    ensures told { AreLeftOut (told_with result run.new.driven.machine run.new.printed.bytes)
+    ensures told { GoesFar done most result
         (told_events (timed_behind run.old.driven.machine.delays run.old.driven.machine.levels run.old.left
         (standing_of run.old.tick run.old.driven) run.old.snaps.now))
-        (rest_of run.new.turn run.new.left run.new.tick run.new.snaps.now run.new.waiting run.new.driven) }
+        (rest_of run.new.turn run.new.left run.new.tick run.new.snaps.now run.new.waiting run.new.driven)
+        rows.old rows.new }
 {
-    let done = done_of(&run.driven);
-    let count = count_of(&run.driven, done, run.left);
-    let Some(row) = run_many(&mut run.driven, count) else {
-        return at_once(&run.driven, run.tick, RunEvent::Shown(0));
+    let count = count_of(&run.driven, done, run.left, most);
+    let Some(row) = run_many(&mut run.driven, count, rows) else {
+        return None;
     };
     run.left -= row.number - 1 - done;
     leave_entry(run, row.c);
-    told_of(row)
+    Some(row)
 }
 
-// The number of instructions after which something else may come than entries that are done: where
-// the budget is used up, or a signal comes; 2^63 at most.
-fn count_of<const N: usize>(driven: &Driven<N>, done: u64, left: u64) -> u64
+// The number of instructions after which something else may come than entries that are done, or
+// `most`: where the budget is used up, or a signal comes; 2^63 at most.
+fn count_of<const N: usize>(driven: &Driven<N>, done: u64, left: u64, most: u64) -> u64
     requires { done < 2 ^ 63 }
     ensures few { result ≤ 2 ^ 63 }
+    ensures most { result ≤ most }
     ensures left { result ≤ done + left + 1 }
     ensures signal { (d : ℕ) → d < result → signal_due d driven.now.signals ≡ false }
 {
-    count_before(driven.coming.signals(), done, left)
+    count_before(driven.coming.signals(), done, left).min(most)
 }
 
 // The same by the signals that are still to come.
@@ -139,7 +196,7 @@ fn count_before(signals: &[Signal], done: u64, left: u64) -> u64
 }
 
 // An entry that is done.
-fn told_of(row: Row) -> TimedRunEvent
+pub(crate) fn told_of(row: Row) -> TimedRunEvent
     ensures { result ≡ record {
       done = row.number;
       tick = row.c;
@@ -158,10 +215,12 @@ fn told_of(row: Row) -> TimedRunEvent
 }
 
 // Before the next entry: a snapshot, or that entry is done.
-fn go<const N: usize>(run: &mut Progress<N>) -> TimedRunEvent
+fn go<const N: usize>(run: &mut Progress<N>, rows: &mut RowQueue) -> TimedRunEvent
     requires run { IsRun turns.Before run.old.left run.old.tick run.old.snaps.now run.old.waiting run.old.driven }
     requires turn { run.old.turn ≡ turns.Before }
     requires waits { (s : Machine) → whats run.old.waiting s ≡ [] }
+    requires shut { rows.old.room ≡ 0 }
+    ensures rows { rows.new ≡ rows.old }
     ensures kept { IsRun run.new.turn run.new.left run.new.tick run.new.snaps.now run.new.waiting run.new.driven }
     ensures told { told_events
         (timed_behind run.old.driven.machine.delays run.old.driven.machine.levels run.old.left
@@ -170,7 +229,7 @@ fn go<const N: usize>(run: &mut Progress<N>) -> TimedRunEvent
         ∷ rest_of run.new.turn run.new.left run.new.tick run.new.snaps.now run.new.waiting run.new.driven }
 {
     let snap = first_of(run.snaps);
-    let Some(row) = run_until(&mut run.driven, snap) else {
+    let Some(row) = run_until(&mut run.driven, snap, rows) else {
         return show(run);
     };
     leave_entry(run, row.c);

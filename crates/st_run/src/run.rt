@@ -7,17 +7,18 @@ ghost use Rattle.st_card.specs.Limits.{is_signal};
 ghost use Rattle.st_refine.specs.Reached.{IsCard};
 ghost use Rattle.st_run.specs.Told.{told_of_events as told_events};
 ghost use Rattle.st_run.specs.TimedRun.{timed_run};
-ghost use Rattle.st_run.specs.Telling.{what_told, AreLeftOut, AreLevelsShown};
+ghost use Rattle.st_run.specs.Telling.{what_told, row_told, AreLeftOut, AreLevelsShown};
 
 use crate::coming::Coming;
 use crate::driven::{Driven, due_signals, view_of};
-use crate::progress::{Progress, pass_entries, tell_next};
+use crate::progress::Progress;
 use crate::seen::Seen;
+use crate::teller::{Teller, next_of, next_row_of, pass_over};
 use crate::told::TimedRunEvent;
 use crate::turn::Turn;
 use crate::waiting::Waiting;
 use arrayvec::ArrayString;
-use st_ahead::{Machine, View};
+use st_ahead::{Machine, Row, RowQueue, View};
 use st_banks::Delays;
 use st_card::Signal;
 use st_exch::Hopper;
@@ -29,23 +30,25 @@ use std::marker::Model;
 /// memory. `docs/timetable.md` has the rules.
 #[derive(Drop)]
 pub struct Run<'a, const N: usize> {
-    progress: Progress<'a, N>,
+    teller: Teller<'a, N>,
 }
 
 // Clauses see what is still to be told, and what is shown.
 impl<'a, const N: usize> Model for Run<'a, N> {
-    ghost use Rattle.st_run.specs.Telling.{Telling, rest_of, state_told, ahead_of, IsRun};
+    ghost use Rattle.std.specs.Prelude.{◌≡◌};
+    ghost use Rattle.st_run.specs.Telling.{Telling, rest_of, rows_then, state_told, ahead_of, IsRun};
 
     ghost Value = { Telling };
 
     ghost view = { λ r. record {
-      rest = rest_of r.progress.turn r.progress.left r.progress.tick r.progress.snaps.now r.progress.waiting r.progress.driven;
-      seen = state_told r.progress.driven.machine;
-      ahead = ahead_of r.progress.driven.machine;
-      text = r.progress.printed.bytes;
+      rest = rows_then r.teller.rows.rows (rest_of r.teller.progress.turn r.teller.progress.left r.teller.progress.tick r.teller.progress.snaps.now r.teller.progress.waiting r.teller.progress.driven);
+      seen = state_told r.teller.progress.driven.machine;
+      ahead = ahead_of r.teller.progress.driven.machine;
+      text = r.teller.progress.printed.bytes;
     } };
 
-    ghost invariant = { λ r. IsRun r.progress.turn r.progress.left r.progress.tick r.progress.snaps.now r.progress.waiting r.progress.driven };
+    ghost invariant = { λ r. IsRun r.teller.progress.turn r.teller.progress.left r.teller.progress.tick r.teller.progress.snaps.now r.teller.progress.waiting r.teller.progress.driven
+        × (r.teller.rows.room ≡ 0) };
 }
 
 impl<'a, const N: usize> Run<'a, N> {
@@ -55,7 +58,7 @@ impl<'a, const N: usize> Run<'a, N> {
     ghost use Rattle.st_refine.specs.Reached.{IsCard};
     ghost use Rattle.st_run.specs.Told.{told_of_events as told_events};
     ghost use Rattle.st_run.specs.TimedRun.{timed_run};
-    ghost use Rattle.st_run.specs.Telling.{what_told, AreLeftOut, AreLevelsShown};
+    ghost use Rattle.st_run.specs.Telling.{what_told, row_told, AreLeftOut, AreLevelsShown};
     ghost use Rattle.st_run.specs.Protocol.{ShowsLed, IsViewOfLed};
 
     /// A run from a state that nothing has happened in, with the signals and the reader's cards
@@ -92,15 +95,19 @@ impl<'a, const N: usize> Run<'a, N> {
         let coming = Coming::new(rest, cards);
         let driven = Driven { machine, coming };
         let waiting = Waiting::new();
+        let progress = Progress {
+            driven,
+            snaps,
+            left: budget - 1,
+            tick: 0,
+            waiting,
+            printed: ArrayString::new(),
+            turn: Turn::Before,
+        };
         Run {
-            progress: Progress {
-                driven,
-                snaps,
-                left: budget - 1,
-                tick: 0,
-                waiting,
-                printed: ArrayString::new(),
-                turn: Turn::Before,
+            teller: Teller {
+                progress,
+                rows: RowQueue::new(),
             },
         }
     }
@@ -113,7 +120,7 @@ impl<'a, const N: usize> Run<'a, N> {
           what = what_told t.what t.tick self.new.seen self.new.ahead self.new.text;
         } ∷ self.new.rest) }
     {
-        tell_next(&mut self.progress)
+        next_of(&mut self.teller)
     }
 
     /// Passes over entries that are done, as so many calls of `next` would tell them, as long as
@@ -126,7 +133,17 @@ impl<'a, const N: usize> Run<'a, N> {
           what = what_told t.what t.tick self.new.seen self.new.ahead self.new.text;
         }) self.old.rest self.new.rest) }
     {
-        pass_entries(&mut self.progress)
+        pass_over(&mut self.teller)
+    }
+
+    /// The next thing that is told, where that is an entry that is done, as its row. There may be
+    /// none as long as snapshots are to come.
+    #[inline(always)]
+    pub fn next_row(&mut self) -> Option<Row>
+        ensures { MatchOption result (self.new.rest ≡ self.old.rest) (λ row. self.old.rest
+            ≡ row_told row ∷ self.new.rest) }
+    {
+        next_row_of(&mut self.teller)
     }
 
     /// The state that is shown. Calls within the protocol of the machine lead to what the run
@@ -136,8 +153,8 @@ impl<'a, const N: usize> Run<'a, N> {
         ensures led { ShowsLed self.entry.now }
     {
         Seen::with_index(
-            self.progress.driven.machine.state(),
-            self.progress.driven.machine.index(),
+            self.teller.progress.driven.machine.state(),
+            self.teller.progress.driven.machine.index(),
         )
     }
 
@@ -147,13 +164,13 @@ impl<'a, const N: usize> Run<'a, N> {
         ensures levels { AreLevelsShown result.levels self.entry.now.ahead }
         ensures led { IsViewOfLed result self.entry.now }
     {
-        view_of(&self.progress.driven)
+        view_of(&self.teller.progress.driven)
     }
 
     /// The text that was printed last.
     pub fn printed(&self) -> &ArrayString<64>
         ensures { result.now.bytes ≡ self.now.text }
     {
-        &self.progress.printed
+        &self.teller.progress.printed
     }
 }

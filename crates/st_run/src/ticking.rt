@@ -1,36 +1,51 @@
 //! Ticks up to an entry that is told, or up to a snapshot.
-ghost use Rattle.std.specs.Prelude.{◌≡◌, ◌-◌, ◌<◌, ◌≤◌, ◌^◌, [], IfSome};
+ghost use Rattle.std.specs.Prelude.{◌≡◌, ◌-◌, ◌<◌, ◌≤◌, ◌^◌, [], None, IfSome};
 ghost use Rattle.st_ahead.specs.Overlap.{oldest_row};
 ghost use Rattle.st_run.specs.Together.{IsBeforeEntry};
 ghost use Rattle.st_run.specs.Ticking.{AreMade, AreMadeUpTo, last_for};
 
+ghost use Rattle.st_ahead.specs.RowsDone.{queue_with, rows_in_ticks, ticks_passed};
+
 use crate::driven::Driven;
-use st_ahead::Row;
+use st_ahead::{Row, RowQueue};
 
 // The last tick that may be made.
 const LAST: u64 = (1 << 63) - 1;
 
 // Makes ticks until an entry is done, whose row is the result; or until that of the next snapshot
-// is made, if it comes before.
-pub(crate) fn run_until<const N: usize>(driven: &mut Driven<N>, snap: Option<u64>) -> Option<Row>
+// is made, if it comes before. Where there is no room in `rows`, none waits there.
+pub(crate) fn run_until<const N: usize>(
+    driven: &mut Driven<N>,
+    snap: Option<u64>,
+    rows: &mut RowQueue,
+) -> Option<Row>
     requires before { IsBeforeEntry driven.old }
     requires in_time { (oldest_row driven.old.machine).c < 2 ^ 63 }
     requires few { driven.old.machine.state.done < 2 ^ 63 }
     requires snap { IfSome snap (λ x. driven.old.machine.now - 1 ≤ x) }
-    ensures { AreMade result snap driven.old driven.new }
+    ensures made { AreMade result snap driven.old driven.new }
+    ensures rows { rows.old.room ≡ 0 → rows.new ≡ rows.old }
 {
-    driven.machine.run_to(0, last_of(snap))
+    driven.machine.run_to(0, last_of(snap), rows)
 }
 
 // Makes ticks until an entry is done behind which something may come, when `count` instructions are
-// done at the latest. Its row is the result.
-pub(crate) fn run_many<const N: usize>(driven: &mut Driven<N>, count: u64) -> Option<Row>
+// done at the latest. Its row is the result; those of the entries done before wait, as far as there
+// is room.
+pub(crate) fn run_many<const N: usize>(
+    driven: &mut Driven<N>,
+    count: u64,
+    rows: &mut RowQueue,
+) -> Option<Row>
     requires before { IsBeforeEntry driven.old }
     requires few { driven.old.machine.state.done < 2 ^ 63 }
     requires count { count ≤ 2 ^ 63 }
-    ensures { AreMadeUpTo count result driven.old driven.new }
+    ensures made { AreMadeUpTo count result driven.old driven.new }
+    ensures rows { rows.new ≡ queue_with
+        (rows_in_ticks (ticks_passed (last_for None) driven.old.machine.now result) driven.old.machine)
+        rows.old }
 {
-    driven.machine.run_to(count, LAST)
+    driven.machine.run_to(count, LAST, rows)
 }
 
 // The tick of a snapshot, or the last one that may be made.

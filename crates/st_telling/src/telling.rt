@@ -294,6 +294,16 @@ fn moment_of(told: &TimedRunEvent) -> Moment
     }
 }
 
+// The moment of a row.
+fn moment_at(row: &Row) -> Moment
+    ensures { result ≡ record { done = row.now.number; tick = row.now.c } }
+{
+    Moment {
+        done: row.number,
+        tick: row.c,
+    }
+}
+
 // Writes the lines of what a run has just told. Those of an entry that is done are put together in
 // `line`.
 #[tactic(auto, using(st_io::proofs::Progress::wrote_nothing))]
@@ -356,6 +366,18 @@ fn pass_counted<const N: usize>(run: &mut Run<'_, N>, moment: &mut Moment, contr
     }
 }
 
+// The row of an entry that a run tells next, where it is written.
+#[inline(always)]
+fn next_written<const N: usize>(run: &mut Run<'_, N>, controls: &Controls) -> Option<Row>
+    ensures { MatchOption result (run.new.rest ≡ run.old.rest) (λ row. run.old.rest ≡ row_told row
+        ∷ run.new.rest) }
+{
+    if is_traced(controls) || is_charted(controls) {
+        return run.next_row();
+    }
+    None
+}
+
 // What a run tells next, behind entries that are done and of which nothing is written.
 fn next_told<const N: usize>(
     run: &mut Run<'_, N>,
@@ -387,9 +409,16 @@ pub fn write_run<K: Sink, const N: usize>(
 {
     // One line for all, since a new one is cleared first.
     let mut line = LineFromEnd::new();
-    'telling: while let Some(told) = next_told(run, moment, controls) {
+    'telling: loop {
+        if let Some(row) = next_written(run, controls) {
+            *moment = moment_at(&row);
+            write_done(out, &mut line, row, controls)?;
+            continue 'telling;
+        }
+        let Some(told) = next_told(run, moment, controls) else {
+            return Ok(());
+        };
         *moment = moment_of(&told);
         write_told(out, &mut line, run, *moment, told.what, controls)?;
     }
-    Ok(())
 }

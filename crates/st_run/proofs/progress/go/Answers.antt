@@ -37,7 +37,7 @@ show-requires g c =
       omega arith,
       (
         go-shows run.left run.tick run.snaps.now run.driven c.run_until.new.driven stands.0 rising in_time
-            c.first_of-snap.result c.first_of-snap.ensures c.in_default.ensures,
+            c.first_of-snap.result c.first_of-snap.ensures c.in_default.ensures.made,
         (c.requires.turn, c.requires.waits),
       ),
     )
@@ -51,7 +51,7 @@ leave_entry-requires g c =
       omega arith,
       (
         go-leaves run.left run.tick run.snaps.now run.driven c.run_until.new.driven stands.0 rising in_time
-            c.in-Some.row c.first_of-snap.result c.first_of-snap.ensures c.in-Some.ensures,
+            c.in-Some.row c.first_of-snap.result c.first_of-snap.ensures c.in-Some.ensures.made,
         (c.requires.turn, c.requires.waits),
       ),
     )
@@ -64,6 +64,6 @@ returns-clause-told g c =
     let rising = stands.1 in
     let run_new = c.leave_entry.new.run in
     go-tells run.left run.tick run.snaps.now run.driven c.run_until.new.driven stands.0 rising in_time
-    c.in-Some.row c.first_of-snap.result c.first_of-snap.ensures c.in-Some.ensures _ c.leave_entry.ensures.told
+    c.in-Some.row c.first_of-snap.result c.first_of-snap.ensures c.in-Some.ensures.made _ c.leave_entry.ensures.told
     ∙ ap {A = ToldNext} (λ t. told_with t run_new.driven.machine run_new.printed.bytes
     ∷ rest_of run_new.turn run_new.left run_new.tick run_new.snaps.now run_new.waiting run_new.driven) (sym c.told_of.ensures)

@@ -16,7 +16,7 @@ count_of-count-requires g c =
     let run = c.args.run.now in
     let is = ahead-is run.left run.tick run.snaps.now run.waiting run.driven c.requires.run c.requires.waits c.requires.snaps in
     let few = done-in_time run.left run.tick [] run.driven is.before is.in_time in
-    (omega arith, omega (arith, few, c.done_of-done.ensures))
+    (omega arith, omega (arith, few, c.requires.done))
 
 pub run_many-requires : goal.run_many-requires
 run_many-requires g c =
@@ -29,8 +29,8 @@ returns-in_default-clause-kept g c =
     let run = c.args.run.now in
     let is = ahead-is run.left run.tick run.snaps.now run.waiting run.driven c.requires.run c.requires.waits c.requires.snaps in
     let no : ⊥ = far-none c.count_of-count.result run.left run.tick run.driven c.run_many.new.driven is
-    (omega (arith, c.count_of-count.ensures.left, c.done_of-done.ensures))
-    c.count_of-count.ensures.signal c.in_default.ensures in
+    (omega (arith, c.count_of-count.ensures.left, c.requires.done))
+    c.count_of-count.ensures.signal c.in_default.ensures.made in
     absurd no
 
 pub returns-in_default-clause-told : goal.returns-in_default-clause-told
@@ -38,8 +38,8 @@ returns-in_default-clause-told g c =
     let run = c.args.run.now in
     let is = ahead-is run.left run.tick run.snaps.now run.waiting run.driven c.requires.run c.requires.waits c.requires.snaps in
     let no : ⊥ = far-none c.count_of-count.result run.left run.tick run.driven c.run_many.new.driven is
-    (omega (arith, c.count_of-count.ensures.left, c.done_of-done.ensures))
-    c.count_of-count.ensures.signal c.in_default.ensures in
+    (omega (arith, c.count_of-count.ensures.left, c.requires.done))
+    c.count_of-count.ensures.signal c.in_default.ensures.made in
     absurd no
 
 pub overflow_sub-run-2 : goal.overflow_sub-run-2
@@ -47,31 +47,31 @@ overflow_sub-run-2 g c =
     let run = c.args.run.now in
     let is = ahead-is run.left run.tick run.snaps.now run.waiting run.driven c.requires.run c.requires.waits c.requires.snaps in
     let far = far-row c.count_of-count.result run.left run.tick run.driven c.run_many.new.driven is
-    (omega (arith, c.count_of-count.ensures.left, c.done_of-done.ensures))
-    c.count_of-count.ensures.signal c.in-Some.row c.in-Some.ensures in
-    omega (arith, far.more, c.done_of-done.ensures)
+    (omega (arith, c.count_of-count.ensures.left, c.requires.done))
+    c.count_of-count.ensures.signal c.in-Some.row c.in-Some.ensures.made in
+    omega (arith, far.more, c.requires.done)
 
 pub overflow_sub-run-3 : goal.overflow_sub-run-3
 overflow_sub-run-3 g c =
     let run = c.args.run.now in
     let is = ahead-is run.left run.tick run.snaps.now run.waiting run.driven c.requires.run c.requires.waits c.requires.snaps in
     let far = far-row c.count_of-count.result run.left run.tick run.driven c.run_many.new.driven is
-    (omega (arith, c.count_of-count.ensures.left, c.done_of-done.ensures))
-    c.count_of-count.ensures.signal c.in-Some.row c.in-Some.ensures in
-    omega (arith, far.more, far.number, c.done_of-done.ensures)
+    (omega (arith, c.count_of-count.ensures.left, c.requires.done))
+    c.count_of-count.ensures.signal c.in-Some.row c.in-Some.ensures.made in
+    omega (arith, far.more, far.number, c.requires.done)
 
 pub leave_entry-requires : goal.leave_entry-requires
 leave_entry-requires g c =
     let run = c.args.run.now in
     let is = ahead-is run.left run.tick run.snaps.now run.waiting run.driven c.requires.run c.requires.waits c.requires.snaps in
     let far = far-row c.count_of-count.result run.left run.tick run.driven c.run_many.new.driven is
-    (omega (arith, c.count_of-count.ensures.left, c.done_of-done.ensures))
-    c.count_of-count.ensures.signal c.in-Some.row c.in-Some.ensures in
-    let left : far.left_now ≡ run.left - (c.in-Some.row.number - 1 - c.done_of-done.result) =
-    omega (arith, far.more, far.number, c.done_of-done.ensures) in (
+    (omega (arith, c.count_of-count.ensures.left, c.requires.done))
+    c.count_of-count.ensures.signal c.in-Some.row c.in-Some.ensures.made in
+    let left : far.left_now ≡ run.left - (c.in-Some.row.number - 1 - c.args.done) =
+    omega (arith, far.more, far.number, c.requires.done) in (
       omega arith,
       (
-        far-left run.left run.tick run.snaps.now run.driven c.run_many.new.driven c.in-Some.row far _ left c.requires.snaps,
+        far-left c.count_of-count.result run.left run.tick run.snaps.now run.driven c.run_many.new.driven c.in-Some.row far _ left c.requires.snaps,
         (c.requires.turn, c.requires.waits),
       ),
     )
@@ -81,13 +81,11 @@ returns-clause-told g c =
     let run = c.args.run.now in
     let is = ahead-is run.left run.tick run.snaps.now run.waiting run.driven c.requires.run c.requires.waits c.requires.snaps in
     let far = far-row c.count_of-count.result run.left run.tick run.driven c.run_many.new.driven is
-    (omega (arith, c.count_of-count.ensures.left, c.done_of-done.ensures))
-    c.count_of-count.ensures.signal c.in-Some.row c.in-Some.ensures in
-    let left : far.left_now ≡ run.left - (c.in-Some.row.number - 1 - c.done_of-done.result) =
-    omega (arith, far.more, far.number, c.done_of-done.ensures) in
+    (omega (arith, c.count_of-count.ensures.left, c.requires.done))
+    c.count_of-count.ensures.signal c.in-Some.row c.in-Some.ensures.made in
+    let left : far.left_now ≡ run.left - (c.in-Some.row.number - 1 - c.args.done) =
+    omega (arith, far.more, far.number, c.requires.done) in
     let after = c.leave_entry.new.run in
     let rest = rest_of after.turn after.left after.tick after.snaps.now after.waiting after.driven in
-    subst {A = ToldNext} (λ t. AreLeftOut (told_with t after.driven.machine after.printed.bytes)
-    (told_of_events (timed_behind run.driven.machine.delays run.driven.machine.levels run.left (standing_of run.tick run.driven) run.snaps.now)) rest)
-    (sym c.told_of.ensures)
-    (far-told run.left run.tick run.snaps.now run.driven c.run_many.new.driven c.in-Some.row far _ left c.requires.snaps rest c.leave_entry.ensures.told)
+    far-told c.count_of-count.result run.left run.tick run.snaps.now run.driven c.run_many.new.driven c.in-Some.row far _ left c.requires.snaps
+    c.args.done c.args.most rest c.args.rows.now c.run_many.new.rows c.requires.done c.count_of-count.ensures.most c.leave_entry.ensures.told c.in-Some.ensures.rows

@@ -1,5 +1,7 @@
-use Rattle.std.proofs.Common.{◌≡◌, ◌-◌, ◌<◌, ◌^◌, false, sym, subst, arith}
+use Rattle.std.proofs.Common.{◌≡◌, ◌-◌, ◌<◌, ◌^◌, false, None, sym, subst, arith}
+use Rattle.st_ahead.specs.RowsDone.{queue_with, rows_in_ticks, ticks_passed}
 use Rattle.st_run.specs.Together.{Together}
+use Rattle.st_run.specs.Ticking.{last_for}
 use Rattle.st_run.proofs.LedLemmas.{run-led}
 use Rattle.st_run.proofs.ticking.run_many.Goals as goal
 
@@ -7,4 +9,9 @@ pub invariant_of-driven : goal.invariant_of-driven
 invariant_of-driven g c =
     run-led c.args.count (2 ^ 63 - 1) c.run_to.result c.driven.inside.machine c.run_to.new.self
     (subst (λ (t : Together). t.machine.owed ≡ false) (sym c.driven.view_is) c.requires.before.settled)
-    (subst (λ (t : Together). t.machine.state.done < 2 ^ 63) (sym c.driven.view_is) c.requires.few) c.requires.count (omega arith) c.run_to.ensures c.driven.invariant
+    (subst (λ (t : Together). t.machine.state.done < 2 ^ 63) (sym c.driven.view_is) c.requires.few) c.requires.count (omega arith) c.run_to.ensures.runs c.driven.invariant
+
+pub returns-clause-rows : goal.returns-clause-rows
+returns-clause-rows g c =
+    subst {A = Together} (λ t. c.run_to.new.rows ≡ queue_with (rows_in_ticks (ticks_passed (last_for None) t.machine.now c.run_to.result) t.machine) c.args.rows.now)
+    c.driven.view_is c.run_to.ensures.rows

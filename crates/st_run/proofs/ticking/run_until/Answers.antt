@@ -1,17 +1,21 @@
+use Rattle.st_ahead.proofs.NotedRows.{queue-shut}
 use Rattle.st_run.proofs.TickLemmas.{made-until}
-use Rattle.std.proofs.Common.{◌≡◌, ◌<◌, ◌^◌, false, sym, subst, arith}
+use Rattle.std.proofs.Common.{◌≡◌, ◌<◌, ◌^◌, false, sym, subst, ◌∙◌, arith}
 use Rattle.st_run.specs.Together.{Together}
 use Rattle.st_run.proofs.LedLemmas.{run-led, last-soon}
 use Rattle.st_run.proofs.ticking.run_until.Goals as goal
 
-pub returns : goal.returns
-returns g c =
+pub returns-clause-made : goal.returns-clause-made
+returns-clause-made g c =
     made-until c.args.driven.now c.driven.inside.machine c.run_to.new.self _ _ c.driven.view_is c.requires.before c.requires.in_time c.args.snap
-    c.requires.snap c.last_of.result c.last_of.ensures c.run_to.result c.run_to.ensures
+    c.requires.snap c.last_of.result c.last_of.ensures c.run_to.result c.run_to.ensures.runs
 
 pub invariant_of-driven : goal.invariant_of-driven
 invariant_of-driven g c =
     run-led 0 c.last_of.result c.run_to.result c.driven.inside.machine c.run_to.new.self
     (subst (λ (t : Together). t.machine.owed ≡ false) (sym c.driven.view_is) c.requires.before.settled)
     (subst (λ (t : Together). t.machine.state.done < 2 ^ 63) (sym c.driven.view_is) c.requires.few) (omega arith)
-    (last-soon c.args.snap c.last_of.result c.last_of.ensures) c.run_to.ensures c.driven.invariant
+    (last-soon c.args.snap c.last_of.result c.last_of.ensures) c.run_to.ensures.runs c.driven.invariant
+
+pub returns-clause-rows : goal.returns-clause-rows
+returns-clause-rows g c = λ shut. c.run_to.ensures.rows ∙ queue-shut _ c.args.rows.now shut

@@ -1,4 +1,4 @@
-use Rattle.std.proofs.Common.{◌≡◌, ◌+◌, ◌-◌, ◌<◌, ◌≤◌, All, None, refl, sym, subst, ◌∙◌, ap, arith}
+use Rattle.std.proofs.Common.{◌≡◌, ◌+◌, ◌-◌, ◌<◌, ◌≤◌, All, List, None, refl, sym, subst, ◌∙◌, ap, arith}
 use Rattle.std.specs.Prelude.{nat_le}
 use Rattle.st_state.specs.Machine.{Machine, word}
 use Rattle.st_banks.specs.declared.answers.LastAnswers.{LastAnswers}
@@ -15,7 +15,9 @@ use Rattle.st_ahead.specs.Inside.{answers_before}
 use Rattle.st_ahead.proofs.Gone.{oldest-late}
 use Rattle.st_ahead.proofs.Idling.{first-none, less-than}
 use Rattle.st_ahead.proofs.LevelTicks.{done-after, done-later}
-use Rattle.st_ahead.proofs.Runs.{running-starts, running-idle, running-on, running-ends, banks-between, stopped-comes}
+use Rattle.st_ahead.specs.RowsDone.{queue_with}
+use Rattle.st_ahead.specs.declared.events.Row.{Row}
+use Rattle.st_ahead.proofs.Runs.{noting-starts, noting-on, running-idle, rows-idle, running-ends, banks-between, stopped-comes}
 use Rattle.st_ahead.proofs.Standing.{answers-same, after-c}
 use Rattle.st_ahead.proofs.TickCases.{guess-words}
 use Rattle.st_ahead.proofs.look.Lookahead.run_to.Goals as goal
@@ -26,14 +28,14 @@ use Rattle.st_exec.proofs.Laws.{entries_count_as_one}
 pub entries-init : goal.entries-init
 entries-init g c = record {
   each = λ f now h soon awake.
-      running-starts c.args.delays.now g.row.N c.args.count c.args.last now c.args.taken.now c.args.state.now f c.args.self.now h soon awake;
+      noting-starts c.args.delays.now g.row.N c.args.count c.args.last now c.args.taken.now c.args.state.now f c.args.self.now c.args.rows.now h soon awake;
   done = c.requires.done;
 }
 
 pub go_to-requires : goal.go_to-requires
 go_to-requires g c =
     let starts = c.requires.starts in
-    let run = c.entries.invariant.each starts.front starts.now starts.look starts.soon starts.awake in (
+    let run = (c.entries.invariant.each starts.front starts.now starts.look starts.soon starts.awake).run in (
       omega arith,
       (
         c.requires.some,
@@ -55,7 +57,7 @@ go_to-requires g c =
 pub complete-done-requires : goal.complete-done-requires
 complete-done-requires g c =
     let starts = c.requires.starts in
-    let run = c.entries.invariant.each starts.front starts.now starts.look starts.soon starts.awake in
+    let run = (c.entries.invariant.each starts.front starts.now starts.look starts.soon starts.awake).run in
     let at = c.in-Some.ensures c.entries.taken run.front run.tick (record { tick = run.tick; going = run.going; behind = omega arith; soon = run.soon }) in
     (omega arith, (at.some, c.entries.invariant.done))
 
@@ -67,13 +69,17 @@ returns-in_default g c = λ f now h soon awake.
     let u = c.entries.state in
     let are = AreDelays-list ds c.shape.ensures in
     let last = c.args.last in
-    let run = c.entries.invariant.each f now h soon awake in
+    let noting = c.entries.invariant.each f now h soon awake in
+    let run = noting.run in
     let out = c.in_default.ensures k run.front run.tick (record { tick = run.tick; going = run.going; behind = omega arith; soon = run.soon }) in
     let filled = (c.fill.ensures ds last (last + 1) k u run.front are out (omega arith) (omega arith) out.not_done (λ w. refl)).0 in
     let w = c.fill.new.self in
     let late = oldest-late ds n last (last + 1) k u run.front w c.requires.some are (omega arith) filled
-    (looks_are_levels ds n last (last + 1) k u run.front w c.requires.some c.requires.few are (omega arith) c.shape-in_default.ensures filled) in
-    running-ends ds n c.args.count last now c.args.taken.now k c.args.state.now u f c.entries.self w run late filled
+    (looks_are_levels ds n last (last + 1) k u run.front w c.requires.some c.requires.few are (omega arith) c.shape-in_default.ensures filled) in (
+      running-ends ds n c.args.count last now c.args.taken.now k c.args.state.now u f c.entries.self w run late filled,
+      noting.noted ∙ ap {A = List Row} (λ xs. queue_with xs c.args.rows.now)
+          (rows-idle ds n c.args.count last now (last + 1) c.args.taken.now k c.args.state.now u f c.entries.self run (omega (arith, run.soon)) (omega (arith, late))),
+    )
 
 pub entries-preserved : goal.entries-preserved
 entries-preserved g c =
@@ -83,17 +89,19 @@ entries-preserved g c =
     let u = c.entries.state in
     let are = AreDelays-list ds c.shape.ensures in
     let starts = c.requires.starts in
-    let run = c.entries.invariant.each starts.front starts.now starts.look starts.soon starts.awake in
+    let run = (c.entries.invariant.each starts.front starts.now starts.look starts.soon starts.awake).run in
     let goes = c.is_stopped.ensures.goes c.if-is_stopped.false in
     record {
       each = λ f now h soon awake.
-          let run = c.entries.invariant.each f now h soon awake in
+          let noting = c.entries.invariant.each f now h soon awake in
+          let run = noting.run in
           let at = c.in-Some.ensures k run.front run.tick (record { tick = run.tick; going = run.going; behind = omega arith; soon = run.soon }) in
           let due = c.in-Some.tick in
           let all = c.complete-done.ensures ds (due - 1) due k run.front are at.look at.row_is in
-          running-on ds n c.args.count c.args.last now due c.args.taken.now k c.args.state.now u c.complete-done.new.state f c.entries.self c.go_to.new.self
-          c.complete-done.new.self c.complete-done.result run at all.0 all.1 all.2 goes.0 goes.1 goes.2 goes.3
-          (steps_are_guesses.right k u at.look.machine at.look.indicator);
+          let counted = ap (λ (m : Machine). m.done) all.0 ∙ entries_count_as_one (plan u k) u in
+          noting-on ds n c.args.count c.args.last now due c.args.taken.now k c.args.state.now u c.complete-done.new.state f c.entries.self c.go_to.new.self
+          c.complete-done.new.self c.complete-done.result c.args.rows.now c.entries.rows noting at all.0 all.1 all.2 goes.0 goes.1 goes.2 goes.3
+          (steps_are_guesses.right k u at.look.machine at.look.indicator) counted _ c.put.ensures c.row_of.ensures;
       done =
           omega (
             arith,
@@ -110,7 +118,7 @@ entries-smaller g c =
     let u = c.entries.state in
     let are = AreDelays-list ds c.shape.ensures in
     let starts = c.requires.starts in
-    let run = c.entries.invariant.each starts.front starts.now starts.look starts.soon starts.awake in
+    let run = (c.entries.invariant.each starts.front starts.now starts.look starts.soon starts.awake).run in
     let at = c.in-Some.ensures k run.front run.tick (record { tick = run.tick; going = run.going; behind = omega arith; soon = run.soon }) in
     let due = c.in-Some.tick in
     let all = c.complete-done.ensures ds (due - 1) due k run.front are at.look at.row_is in
@@ -129,7 +137,8 @@ returns-then-is_stopped g c = λ f now h soon awake.
     let k = c.entries.taken in
     let u = c.entries.state in
     let are = AreDelays-list ds c.shape.ensures in
-    let run = c.entries.invariant.each f now h soon awake in
+    let noting = c.entries.invariant.each f now h soon awake in
+    let run = noting.run in
     let at = c.in-Some.ensures k run.front run.tick (record { tick = run.tick; going = run.going; behind = omega arith; soon = run.soon }) in
     let due = c.in-Some.tick in
     let w = c.go_to.new.self in
@@ -146,28 +155,31 @@ returns-then-is_stopped g c = λ f now h soon awake.
     let same : answers_before due final ≡ answers_before due w =
     answers-same due w final (filled.1 ∙ all.3) (ap (λ (x : Next). x.words) filled.2 ∙ all.4) in
     let left = the_banks_are_left ds n (due - 1) due k u run.front w c.requires.some c.requires.few are
-    (omega (arith, at.later)) c.shape-in-entries.ensures at.some at.look at.row_is in
-    record {
-      table = k;
-      state = u;
-      front = run.front;
-      ahead = w;
-      passed = running-idle ds n c.args.count c.args.last now due c.args.taken.now k c.args.state.now u f c.entries.self run at.later (omega (arith, at.row_is));
-      soon = at.soon;
-      none_taken = refl;
-      machine = at.look.machine;
-      indicator = at.look.indicator;
-      done_at = record {
-        due = at.row_is;
-        told = all.1;
-        state = all.0;
-        look = filled.0;
-        log = filled.1 ∙ all.3;
-        bus = ap (λ (x : Next). x.words) filled.2 ∙ all.4;
-      };
-      banks = banks-between ds n due k u run.front w left.0 ∙ sym same;
-      near = subst (λ (x : LastAnswers). All (λ b. b ≤ due + 255) x.ticks) (sym same) left.1;
-      stops = stopped-comes ds n c.args.count due k u run.front at.row_is (λ nothing missed none awake.
-          c.is_stopped.ensures.stops c.if-is_stopped.true (ap (may_come_from_outside c.args.count) all.0 ∙ nothing) (all.1.missed ∙ missed)
-          (ap {A = Machine} interrupt all.0 ∙ none) (ap {A = Machine} rests all.0 ∙ awake));
-    }
+    (omega (arith, at.later)) c.shape-in-entries.ensures at.some at.look at.row_is in (
+      record {
+        table = k;
+        state = u;
+        front = run.front;
+        ahead = w;
+        passed = running-idle ds n c.args.count c.args.last now due c.args.taken.now k c.args.state.now u f c.entries.self run at.later (omega (arith, at.row_is));
+        soon = at.soon;
+        none_taken = refl;
+        machine = at.look.machine;
+        indicator = at.look.indicator;
+        done_at = record {
+          due = at.row_is;
+          told = all.1;
+          state = all.0;
+          look = filled.0;
+          log = filled.1 ∙ all.3;
+          bus = ap (λ (x : Next). x.words) filled.2 ∙ all.4;
+        };
+        banks = banks-between ds n due k u run.front w left.0 ∙ sym same;
+        near = subst (λ (x : LastAnswers). All (λ b. b ≤ due + 255) x.ticks) (sym same) left.1;
+        stops = stopped-comes ds n c.args.count due k u run.front at.row_is (λ nothing missed none awake.
+            c.is_stopped.ensures.stops c.if-is_stopped.true (ap (may_come_from_outside c.args.count) all.0 ∙ nothing) (all.1.missed ∙ missed)
+            (ap {A = Machine} interrupt all.0 ∙ none) (ap {A = Machine} rests all.0 ∙ awake));
+      },
+      noting.noted ∙ ap {A = List Row} (λ xs. queue_with xs c.args.rows.now)
+          (rows-idle ds n c.args.count c.args.last now due c.args.taken.now k c.args.state.now u f c.entries.self run at.later (omega (arith, at.row_is))),
+    )

@@ -7,22 +7,30 @@ use Rattle.st_segment.specs.Entries.{entry}
 use Rattle.st_levels.specs.Levels.{oldest_front}
 use Rattle.st_ahead.specs.Overlap.{Overlap}
 use Rattle.st_ahead.specs.RunTo.{ArePassed, StopsAt}
-use Rattle.st_ahead.specs.Running.{HasRunTo}
+use Rattle.st_ahead.specs.RowsDone.{queue_with, rows_in_ticks}
+use Rattle.st_ahead.specs.Running.{HasRunTo, machine_between_ticks, ticks_run}
 use Rattle.st_ahead.specs.Inside.{overlap_of}
 use Rattle.st_ahead.specs.declared.look_run.Stop.{Stop}
 use Rattle.st_ahead.proofs.Idling.{passed-none}
+use Rattle.st_ahead.proofs.NotedRows.{rows-zero}
 use Rattle.st_ahead.proofs.Standing.{idle, guess-seen, told as told_row}
-use Rattle.st_ahead.proofs.Stopping.{awake-inside, passed-machine, stopped-machine}
+use Rattle.st_ahead.proofs.Stopping.{awake-inside, settled-between, passed-machine, stopped-machine}
 use Rattle.st_ahead.proofs.machine.Machine.run_to.Goals as goal
 use Rattle.st_levels.proofs.Laws.{levels_are_the_entries_ahead}
 use Rattle.st_segment.proofs.Laws.{steps_are_guesses}
 use Rattle.st_exec.proofs.Laws.{entries_count_as_one}
 
-pub returns-then-now-last : goal.returns-then-now-last
-returns-then-now-last g c =
+pub returns-then-now-last-clause-runs : goal.returns-then-now-last-clause-runs
+returns-then-now-last-clause-runs g c =
     let now : c.args.last < c.args.self.now.now = subst (λ (m : Overlap). c.args.last < m.now) c.self.view_is (omega (arith, c.if-now-last.true)) in
     let none : 0 ≡ c.args.last + 1 - c.args.self.now.now = omega (arith, now) in
     subst (λ k. ArePassed c.args.count k c.args.self.now c.args.self.now) none (passed-none c.args.count c.args.self.now)
+
+pub returns-then-now-last-clause-rows : goal.returns-then-now-last-clause-rows
+returns-then-now-last-clause-rows g c =
+    let now : c.args.last < c.args.self.now.now = subst (λ (m : Overlap). c.args.last < m.now) c.self.view_is (omega (arith, c.if-now-last.true)) in
+    let none : 0 ≡ c.args.last + 1 - c.args.self.now.now = omega (arith, now) in
+    subst (λ k. c.args.rows.now ≡ queue_with (rows_in_ticks k c.args.self.now) c.args.rows.now) none (rows-zero c.args.self.now c.args.rows.now)
 
 pub run_to-stop-requires : goal.run_to-stop-requires
 run_to-stop-requires g c =
@@ -67,14 +75,14 @@ invariant_of-self g c =
     let at = idle i.stopped n i.delays i.state i.taken i.behind i.now i.owed i.ended i.fresh v c.self.invariant owes in
     let awake = awake-inside i.stopped n i.delays i.state i.taken i.behind i.now i.owed i.ended i.fresh v c.self.invariant owes in
     let by = subst (λ (x : Option Stop). HasRunTo i.delays n c.args.count c.args.last i.now i.taken i.state f c.run_to-stop.new.taken c.run_to-stop.new.state w x) c.in_default.is
-    (c.run_to-stop.ensures f i.now at.look (omega (arith, c.if-now-last.false)) awake) in
+    (c.run_to-stop.ensures f i.now at.look (omega (arith, c.if-now-last.false)) awake).0 in
     let front = levels_are_the_entries_ahead.oldest i.delays n c.args.last c.run_to-stop.new.taken c.run_to-stop.new.state by.front w.front w.levels by.look.ahead in
     let all = passed-machine i.stopped n i.delays i.state c.run_to-stop.new.state i.taken c.run_to-stop.new.taken i.behind i.now c.args.last c.args.count i.owed i.ended i.fresh v w
     c.self.invariant owes c.requires.last by front in
     all.0
 
-pub returns-in_default : goal.returns-in_default
-returns-in_default g c =
+pub returns-in_default-clause-runs : goal.returns-in_default-clause-runs
+returns-in_default-clause-runs g c =
     let n = g.row.N in
     let i = c.self.inside in
     let v = i.look in
@@ -84,7 +92,7 @@ returns-in_default g c =
     let at = idle i.stopped n i.delays i.state i.taken i.behind i.now i.owed i.ended i.fresh v c.self.invariant owes in
     let awake = awake-inside i.stopped n i.delays i.state i.taken i.behind i.now i.owed i.ended i.fresh v c.self.invariant owes in
     let by = subst (λ (x : Option Stop). HasRunTo i.delays n c.args.count c.args.last i.now i.taken i.state f c.run_to-stop.new.taken c.run_to-stop.new.state w x) c.in_default.is
-    (c.run_to-stop.ensures f i.now at.look (omega (arith, c.if-now-last.false)) awake) in
+    (c.run_to-stop.ensures f i.now at.look (omega (arith, c.if-now-last.false)) awake).0 in
     let front = levels_are_the_entries_ahead.oldest i.delays n c.args.last c.run_to-stop.new.taken c.run_to-stop.new.state by.front w.front w.levels by.look.ahead in
     let all = passed-machine i.stopped n i.delays i.state c.run_to-stop.new.state i.taken c.run_to-stop.new.taken i.behind i.now c.args.last c.args.count i.owed i.ended i.fresh v w
     c.self.invariant owes c.requires.last by front in
@@ -102,7 +110,7 @@ invariant_of-self-2 g c =
     let at = idle i.stopped n i.delays i.state i.taken i.behind i.now i.owed i.ended i.fresh v c.self.invariant owes in
     let awake = awake-inside i.stopped n i.delays i.state i.taken i.behind i.now i.owed i.ended i.fresh v c.self.invariant owes in
     let by = subst (λ (x : Option Stop). HasRunTo i.delays n c.args.count c.args.last i.now i.taken i.state f c.run_to-stop.new.taken c.run_to-stop.new.state w x) c.in-Some.is
-    (c.run_to-stop.ensures f i.now at.look (omega (arith, c.if-now-last.false)) awake) in
+    (c.run_to-stop.ensures f i.now at.look (omega (arith, c.if-now-last.false)) awake).0 in
     let stop = c.in-Some.stop in
     let told = by.done_at in
     let front = levels_are_the_entries_ahead.oldest i.delays n stop.tick None (guess by.table by.state) (front_after_entry i.delays n by.front (entry by.table by.state)) w.front w.levels
@@ -114,8 +122,8 @@ invariant_of-self-2 g c =
     i.owed i.ended i.fresh v w stop.done c.self.invariant owes c.requires.last by front guessed counted in
     all.0
 
-pub returns : goal.returns
-returns g c =
+pub returns-clause-runs : goal.returns-clause-runs
+returns-clause-runs g c =
     let n = g.row.N in
     let i = c.self.inside in
     let v = i.look in
@@ -125,7 +133,7 @@ returns g c =
     let at = idle i.stopped n i.delays i.state i.taken i.behind i.now i.owed i.ended i.fresh v c.self.invariant owes in
     let awake = awake-inside i.stopped n i.delays i.state i.taken i.behind i.now i.owed i.ended i.fresh v c.self.invariant owes in
     let by = subst (λ (x : Option Stop). HasRunTo i.delays n c.args.count c.args.last i.now i.taken i.state f c.run_to-stop.new.taken c.run_to-stop.new.state w x) c.in-Some.is
-    (c.run_to-stop.ensures f i.now at.look (omega (arith, c.if-now-last.false)) awake) in
+    (c.run_to-stop.ensures f i.now at.look (omega (arith, c.if-now-last.false)) awake).0 in
     let stop = c.in-Some.stop in
     let told = by.done_at in
     let front = levels_are_the_entries_ahead.oldest i.delays n stop.tick None (guess by.table by.state) (front_after_entry i.delays n by.front (entry by.table by.state)) w.front w.levels
@@ -137,3 +145,37 @@ returns g c =
     i.owed i.ended i.fresh v w stop.done c.self.invariant owes c.requires.last by front guessed counted in
     subst (λ (m : Overlap). StopsAt c.args.count c.args.last (told_row c.done_in-number.result stop.done.address stop.done.p stop.done.r stop.tick) m
     (overlap_of n i.delays c.run_to-stop.new.state c.run_to-stop.new.taken stop.done.missed stop.tick true i.ended i.stopped true w)) c.self.view_is all.1
+
+pub returns-in_default-clause-rows : goal.returns-in_default-clause-rows
+returns-in_default-clause-rows g c =
+    let n = g.row.N in
+    let i = c.self.inside in
+    let v = i.look in
+    let f = oldest_front v.levels.plans v.front in
+    let owes = subst (λ (m : Overlap). m.owed ≡ false) (sym c.self.view_is) c.requires.settled in
+    let at = idle i.stopped n i.delays i.state i.taken i.behind i.now i.owed i.ended i.fresh v c.self.invariant owes in
+    let awake = awake-inside i.stopped n i.delays i.state i.taken i.behind i.now i.owed i.ended i.fresh v c.self.invariant owes in
+    let start = machine_between_ticks i.delays n i.state i.taken f i.now in
+    let old = c.args.rows.now in
+    let noted = subst (λ (x : Option Stop). c.run_to-stop.new.rows ≡ queue_with (rows_in_ticks (ticks_run c.args.last i.now x) start) old) c.in_default.is
+    (c.run_to-stop.ensures f i.now at.look (omega (arith, c.if-now-last.false)) awake).1 in
+    let same : start ≡ c.args.self.now =
+    settled-between i.stopped n i.delays i.state i.taken i.behind i.now i.owed i.ended i.fresh v c.self.invariant owes ∙ c.self.view_is in
+    subst (λ (m : Overlap). c.run_to-stop.new.rows ≡ queue_with (rows_in_ticks (c.args.last + 1 - m.now) m) old) same noted
+
+pub returns-clause-rows : goal.returns-clause-rows
+returns-clause-rows g c =
+    let n = g.row.N in
+    let i = c.self.inside in
+    let v = i.look in
+    let f = oldest_front v.levels.plans v.front in
+    let owes = subst (λ (m : Overlap). m.owed ≡ false) (sym c.self.view_is) c.requires.settled in
+    let at = idle i.stopped n i.delays i.state i.taken i.behind i.now i.owed i.ended i.fresh v c.self.invariant owes in
+    let awake = awake-inside i.stopped n i.delays i.state i.taken i.behind i.now i.owed i.ended i.fresh v c.self.invariant owes in
+    let start = machine_between_ticks i.delays n i.state i.taken f i.now in
+    let old = c.args.rows.now in
+    let noted = subst (λ (x : Option Stop). c.run_to-stop.new.rows ≡ queue_with (rows_in_ticks (ticks_run c.args.last i.now x) start) old) c.in-Some.is
+    (c.run_to-stop.ensures f i.now at.look (omega (arith, c.if-now-last.false)) awake).1 in
+    let same : start ≡ c.args.self.now =
+    settled-between i.stopped n i.delays i.state i.taken i.behind i.now i.owed i.ended i.fresh v c.self.invariant owes ∙ c.self.view_is in
+    subst (λ (m : Overlap). c.run_to-stop.new.rows ≡ queue_with (rows_in_ticks (c.in-Some.stop.tick - m.now) m) old) same noted
