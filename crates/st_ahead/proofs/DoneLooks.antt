@@ -27,10 +27,10 @@ use Rattle.st_segment.specs.Guesses.{guesses, table_behind}
 use Rattle.st_segment.proofs.EntryRanges.{entry-ranges}
 use Rattle.st_segment.proofs.GuessLemmas.{guess-machine, behind-none}
 use Rattle.st_segment.proofs.StepLemmas.{guess-alone}
-use Rattle.st_levels.specs.Levels.{LevelsView, AreLevels, AreAhead, AreFull}
-use Rattle.st_levels.specs.declared.plans.Plan.{Plan}
-use Rattle.st_levels.proofs.LevelLemmas.{levels-front}
-use Rattle.st_levels.proofs.OrderLemmas.{after-c}
+use Rattle.st_ring.specs.Levels.{LevelsView, AreLevels, AreAhead, AreFull}
+use Rattle.st_ring.specs.declared.plans.Plan.{Plan}
+use Rattle.st_ring.proofs.LevelLemmas.{levels-front}
+use Rattle.st_ring.proofs.OrderLemmas.{after-c}
 use Rattle.st_next.specs.Progress.{IsNext, Rests, Waits, reads_so_far}
 use Rattle.st_next.specs.declared.next.Next.{Next}
 use Rattle.st_ahead.specs.Look.{LookView, IsLook, IsOutlook, IsNextIf, is_open, count, asked_ahead}

@@ -20,8 +20,8 @@ use Rattle.st_segment.specs.Guesses.{guesses, table_behind}
 use Rattle.st_segment.specs.Alone.{RunAhead}
 use Rattle.st_segment.proofs.EntryRanges.{entry-ranges}
 use Rattle.st_segment.proofs.GuessLemmas.{behind-indicator}
-use Rattle.st_levels.specs.Levels.{AreLevels}
-use Rattle.st_levels.specs.declared.plans.Plan.{Plan}
+use Rattle.st_ring.specs.Levels.{AreLevels}
+use Rattle.st_ring.specs.declared.plans.Plan.{Plan}
 use Rattle.st_next.specs.Known.{IsStateBefore}
 use Rattle.st_next.specs.Words.{asked_so_far}
 use Rattle.st_next.specs.Progress.{IsPlanned, IsPlannedIf, reads_so_far}

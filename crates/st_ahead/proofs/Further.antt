@@ -19,10 +19,10 @@ use Rattle.st_segment.specs.Entries.{entry}
 use Rattle.st_segment.specs.Guesses.{guesses, table_behind}
 use Rattle.st_segment.proofs.EntryRanges.{entry-ranges}
 use Rattle.st_segment.proofs.GuessLemmas.{behind-indicator}
-use Rattle.st_levels.specs.Levels.{AreAhead}
-use Rattle.st_levels.specs.declared.plans.Plan.{Plan}
-use Rattle.st_levels.proofs.LevelLemmas.{levels-beside}
-use Rattle.st_levels.proofs.OrderLemmas.{done-order}
+use Rattle.st_ring.specs.Levels.{AreAhead}
+use Rattle.st_ring.specs.declared.plans.Plan.{Plan}
+use Rattle.st_ring.proofs.LevelLemmas.{levels-beside}
+use Rattle.st_ring.proofs.OrderLemmas.{done-order}
 use Rattle.st_next.specs.Known.{IsStateBefore}
 use Rattle.st_next.specs.Going.{IsFrontInTime, GoesOnTo, IsReadFurther}
 use Rattle.st_next.specs.Progress.{IsNext, IsPlanned, IsKnown, Rests, Planned, Waits, Target, reads_so_far}

@@ -12,11 +12,11 @@ use Rattle.st_ring.specs.declared.level.Level.{Level}
 use Rattle.st_segment.specs.Entries.{entry}
 use Rattle.st_segment.specs.Ahead.{ahead, prepared_before}
 use Rattle.st_segment.proofs.EntryRanges.{entry-ranges}
-use Rattle.st_levels.specs.Levels.{AreLevels, due_of}
-use Rattle.st_levels.specs.declared.plans.Plan.{Plan}
-use Rattle.st_levels.proofs.LevelLemmas.{levels-beside}
-use Rattle.st_levels.proofs.OrderLemmas.{done-order}
-use Rattle.st_levels.proofs.RestLemmas.{ahead-rests}
+use Rattle.st_ring.specs.Levels.{AreLevels, due_of}
+use Rattle.st_ring.specs.declared.plans.Plan.{Plan}
+use Rattle.st_ring.proofs.LevelLemmas.{levels-beside}
+use Rattle.st_ring.proofs.OrderLemmas.{done-order}
+use Rattle.st_ring.proofs.RestLemmas.{ahead-rests}
 use Rattle.st_ahead.specs.Look.{LookView, IsLook, IsOutlook, count, is_open}
 use Rattle.st_ahead.specs.Going.{IsGoing, HasGone, WaitsFor}
 use Rattle.st_ahead.proofs.Due.{done-behind}

@@ -26,9 +26,9 @@ use Rattle.st_segment.specs.Guesses.{guesses, table_behind}
 use Rattle.st_segment.specs.Ahead.{ahead, reads_before}
 use Rattle.st_segment.proofs.EntryRanges.{entry-ranges}
 use Rattle.st_segment.proofs.GuessLemmas.{guess-machine, behind-none}
-use Rattle.st_levels.specs.Levels.{AreLevels}
-use Rattle.st_levels.specs.declared.plans.Plan.{Plan}
-use Rattle.st_levels.proofs.LevelLemmas.{levels-beside}
+use Rattle.st_ring.specs.Levels.{AreLevels}
+use Rattle.st_ring.specs.declared.plans.Plan.{Plan}
+use Rattle.st_ring.proofs.LevelLemmas.{levels-beside}
 use Rattle.st_next.specs.Words.{asked_so_far}
 use Rattle.st_next.specs.Progress.{IsNext, IsPlanned, Rests, reads_so_far}
 use Rattle.st_next.specs.declared.next.Next.{Next}

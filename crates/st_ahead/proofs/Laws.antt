@@ -2,7 +2,7 @@
 use Rattle.std.proofs.Common.{◌<◌, ◌≤◌, ◌+◌, arith, sym, ◌∙◌, ◌≡◌, true, ℕ, Bool, subst, None, List, All}
 use Rattle.std.proofs.lemmas.List.Elements.{All-weaker}
 use Rattle.st_ring.specs.declared.level.Level.{Level}
-use Rattle.st_levels.specs.declared.plans.Plan.{Plan}
+use Rattle.st_ring.specs.declared.plans.Plan.{Plan}
 use Rattle.st_ahead.proofs.OpenLevels.{levels-run}
 use Rattle.st_ahead.specs.Look.{count, is_open, IsNextIf}
 use Rattle.st_ahead.proofs.Due.{becomes-level, planned-open}
@@ -20,7 +20,7 @@ use Rattle.st_ahead.proofs.SameLook.{look-same, opened-same, look-ahead}
 use Rattle.st_ahead.proofs.Gone.{outlook-of}
 use Rattle.st_ahead.proofs.Later.{AreOrdered, look-later, banks-left, made-soon}
 use Rattle.st_ahead.specs.Laws.{OpenLevelsRunAhead, NextEntriesAreKnown, PlannedEntriesBecomeLevels, InstructionWordsAreThoseOfTheRun, OpeningsLook, SignalsLeaveLooks, LooksAreLevels, TheBanksAreLeft}
-use Rattle.st_levels.proofs.Laws.{levels_are_the_entries_ahead, levels_come_in_order, levels_that_are_not_done_run_ahead, writers_are_seen}
+use Rattle.st_ring.proofs.Laws.{levels_are_the_entries_ahead, levels_come_in_order, levels_that_are_not_done_run_ahead, writers_are_seen}
 use Rattle.st_segment.proofs.Laws.{entries_are_in_range, guesses_go_on, guesses_leave_the_rest, index_words_run_ahead}
 use Rattle.st_rows.proofs.Laws.{buses_are_free_in_time, reads_are_wanted_in_time, rows_are_in_order}
 

@@ -14,10 +14,10 @@ use Rattle.st_segment.specs.Ahead.{front_behind}
 use Rattle.st_segment.specs.Entries.{entry}
 use Rattle.st_segment.proofs.EntryRanges.{entry-ranges}
 use Rattle.st_segment.proofs.GuessLemmas.{guess-machine}
-use Rattle.st_levels.specs.Levels.{AreLevels}
-use Rattle.st_levels.specs.declared.plans.Plan.{Plan}
-use Rattle.st_levels.proofs.LevelLemmas.{levels-front}
-use Rattle.st_levels.proofs.OrderLemmas.{after-c}
+use Rattle.st_ring.specs.Levels.{AreLevels}
+use Rattle.st_ring.specs.declared.plans.Plan.{Plan}
+use Rattle.st_ring.proofs.LevelLemmas.{levels-front}
+use Rattle.st_ring.proofs.OrderLemmas.{after-c}
 
 module _ (ds : List ℕ) (n : ℕ) where
   -- ---- one entry

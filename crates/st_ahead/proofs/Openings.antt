@@ -13,7 +13,7 @@ use Rattle.st_fetch.specs.declared.fetched.AskedWord.{AskedWord}
 use Rattle.st_fetch.specs.Planned.{no_word}
 use Rattle.st_rows.specs.Entries.{no_runs}
 use Rattle.st_ring.specs.declared.level.Level.{Level}
-use Rattle.st_levels.specs.declared.plans.Plan.{Plan}
+use Rattle.st_ring.specs.declared.plans.Plan.{Plan}
 use Rattle.st_rows.specs.declared.entry.Entry.{Entry}
 use Rattle.st_rows.specs.declared.fetching.Fetching.{Fetching}
 use Rattle.st_rows.specs.declared.front.Front.{Front}
@@ -23,7 +23,7 @@ use Rattle.st_rows.proofs.NoteLemmas.{opened-log}
 use Rattle.st_segment.specs.Entries.{entry}
 use Rattle.st_segment.specs.Guesses.{guesses, split_words}
 use Rattle.st_segment.specs.Alone.{RunAhead}
-use Rattle.st_levels.specs.Levels.{LevelsView, AreLevels, AreAhead, AreFull}
+use Rattle.st_ring.specs.Levels.{LevelsView, AreLevels, AreAhead, AreFull}
 use Rattle.st_next.specs.Words.{words_so_far, asked_so_far, IsStart, AreFirstWords}
 use Rattle.st_next.specs.Progress.{IsNext, Rests, Waits, reads_so_far}
 use Rattle.st_next.specs.declared.next.Next.{Next}

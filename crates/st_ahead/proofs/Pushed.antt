@@ -18,7 +18,7 @@ use Rattle.st_rows.proofs.Parts.{two-parts}
 use Rattle.st_ring.specs.declared.level.Level.{Level}
 use Rattle.st_segment.specs.Entries.{entry}
 use Rattle.st_segment.specs.Guesses.{guesses, table_behind}
-use Rattle.st_levels.specs.Levels.{AreAhead, AreNotDone}
+use Rattle.st_ring.specs.Levels.{AreAhead, AreNotDone}
 use Rattle.st_next.specs.Progress.{IsPlanned, IsPlannedIf, reads_so_far}
 use Rattle.st_next.proofs.Starting.{new-next, new-rests, new-reads}
 use Rattle.st_ahead.specs.Look.{LookView, IsNextIf, count, is_open, asked_ahead, reads_ahead}

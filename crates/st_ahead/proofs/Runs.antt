@@ -15,9 +15,9 @@ use Rattle.st_rows.specs.declared.front.Front.{Front}
 use Rattle.st_ring.specs.declared.level.Level.{Level}
 use Rattle.st_segment.specs.Ahead.{ahead, reads_before}
 use Rattle.st_segment.specs.Entries.{entry}
-use Rattle.st_levels.specs.Levels.{IsCompleted}
-use Rattle.st_levels.specs.declared.levels.Completed.{Completed}
-use Rattle.st_levels.proofs.RestLemmas.{ahead-rests}
+use Rattle.st_ring.specs.Levels.{IsCompleted}
+use Rattle.st_ring.specs.declared.levels.Completed.{Completed}
+use Rattle.st_ring.proofs.RestLemmas.{ahead-rests}
 use Rattle.st_ahead.specs.Overlap.{Overlap, state_ahead, oldest_row, interrupt_due, banks_at_its_end}
 use Rattle.st_ahead.specs.Calls.{is_done, row_done, machine_after_completion, machine_after_tick, machine_after_pass, machine_after_settling, answer, answer_by}
 use Rattle.st_ahead.specs.RunTo.{after_ticks, may_come, ArePassed}

@@ -18,10 +18,10 @@ use Rattle.st_segment.specs.Guesses.{guesses, table_behind}
 use Rattle.st_segment.specs.Alone.{RunAhead}
 use Rattle.st_segment.proofs.PassedOver.{entry-same, passed-over}
 use Rattle.st_segment.proofs.SameReading.{same-index, same-place, same-sight}
-use Rattle.st_levels.specs.Levels.{AreNotDone}
-use Rattle.st_levels.specs.declared.plans.Plan.{Plan}
-use Rattle.st_levels.proofs.AloneLemmas.{AwaitsLast, behind-ahead}
-use Rattle.st_levels.proofs.PassLemmas.{ahead-same, full-same}
+use Rattle.st_ring.specs.Levels.{AreNotDone}
+use Rattle.st_ring.specs.declared.plans.Plan.{Plan}
+use Rattle.st_ring.proofs.AloneLemmas.{AwaitsLast, behind-ahead}
+use Rattle.st_ring.proofs.PassLemmas.{ahead-same, full-same}
 use Rattle.st_next.specs.Words.{AreFirstWords}
 use Rattle.st_next.specs.Progress.{IsNext, IsFoundNext, IsPlannedIf, Rests, Planned, Waits, Target, reads_so_far}
 use Rattle.st_next.specs.declared.next.Next.{Next}

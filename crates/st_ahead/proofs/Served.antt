@@ -11,8 +11,8 @@ use Rattle.st_ring.specs.declared.level.Level.{Level}
 use Rattle.st_segment.specs.Entries.{entry}
 use Rattle.st_segment.specs.Guesses.{guesses, table_behind}
 use Rattle.st_segment.proofs.GuessLemmas.{behind-none}
-use Rattle.st_levels.specs.Levels.{AreLevels}
-use Rattle.st_levels.specs.declared.plans.Plan.{Plan}
+use Rattle.st_ring.specs.Levels.{AreLevels}
+use Rattle.st_ring.specs.declared.plans.Plan.{Plan}
 use Rattle.st_ahead.specs.Look.{asked_ahead}
 
 module _ (ds : List ℕ) (n tick : ℕ) where

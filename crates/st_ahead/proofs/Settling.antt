@@ -12,9 +12,9 @@ use Rattle.st_banks.specs.declared.answers.TheConstants.{BANKS}
 use Rattle.st_rows.specs.Rows.{opening_front}
 use Rattle.st_rows.specs.declared.front.Front.{Front}
 use Rattle.st_ring.specs.declared.level.Level.{Level}
-use Rattle.st_levels.specs.Levels.{oldest_front}
+use Rattle.st_ring.specs.Levels.{oldest_front}
 use Rattle.st_segment.specs.Ahead.{ahead, prepared_before}
-use Rattle.st_levels.proofs.LevelLemmas.{length-ahead}
+use Rattle.st_ring.proofs.LevelLemmas.{length-ahead}
 use Rattle.st_ahead.specs.Overlap.{Overlap, state_ahead, with_counter, levels_of, interrupt_due, idle_banks}
 use Rattle.st_ahead.specs.Calls.{drop_count, machine_after_segment, machine_after_pass, machine_after_settling, answer, settled_by, answer_by}
 use Rattle.st_ahead.specs.Look.{LookView, IsLook, IsOpened, count, is_open}

@@ -10,9 +10,9 @@ use Rattle.st_ring.specs.declared.level.Level.{Level}
 use Rattle.st_segment.specs.Entries.{entry}
 use Rattle.st_segment.specs.Ahead.{Ahead, ahead, prepared_before}
 use Rattle.st_segment.specs.Guesses.{split_words}
-use Rattle.st_levels.specs.Levels.{oldest_front, AreLevels, AreFull}
-use Rattle.st_levels.specs.declared.plans.Plan.{Plan}
-use Rattle.st_levels.proofs.LevelLemmas.{length-ahead}
+use Rattle.st_ring.specs.Levels.{oldest_front, AreLevels, AreFull}
+use Rattle.st_ring.specs.declared.plans.Plan.{Plan}
+use Rattle.st_ring.proofs.LevelLemmas.{length-ahead}
 use Rattle.st_ahead.specs.Overlap.{Overlap, state_ahead, levels_of, last_tick_made}
 use Rattle.st_ahead.specs.Shown.{IsLevelOf, AreLevelsOf, lent_index_words}
 use Rattle.st_ahead.specs.Look.{LookView, IsLook, count}

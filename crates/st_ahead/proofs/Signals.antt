@@ -7,7 +7,7 @@ use Rattle.st_state.specs.Interrupts.{pending}
 use Rattle.st_prep.specs.BesideOrders.{AreAlikeBesideOrders}
 use Rattle.st_rows.specs.Rows.{opening_front}
 use Rattle.st_rows.specs.declared.front.Front.{Front}
-use Rattle.st_levels.specs.Levels.{oldest_front, AreNotDone}
+use Rattle.st_ring.specs.Levels.{oldest_front, AreNotDone}
 use Rattle.st_ahead.specs.Overlap.{state_ahead, with_counter}
 use Rattle.st_ahead.specs.Look.{LookView, IsLook}
 use Rattle.st_ahead.specs.Inside.{answers_before, overlap_of, IsBetween, IsInside}

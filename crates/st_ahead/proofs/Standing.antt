@@ -18,9 +18,9 @@ use Rattle.st_segment.specs.Ahead.{ahead, reads_before}
 use Rattle.st_rows.specs.Asked.{reads_of_entry, made_before}
 use Rattle.st_rows.specs.Notes.{answers_left}
 use Rattle.st_ahead.specs.declared.events.Row.{Row}
-use Rattle.st_levels.specs.Levels.{oldest_front}
-use Rattle.st_levels.specs.declared.levels.Completed.{Completed}
-use Rattle.st_levels.specs.declared.plans.Plan.{Plan}
+use Rattle.st_ring.specs.Levels.{oldest_front}
+use Rattle.st_ring.specs.declared.levels.Completed.{Completed}
+use Rattle.st_ring.specs.declared.plans.Plan.{Plan}
 use Rattle.st_ring.specs.declared.level.Level.{Level}
 use Rattle.st_ahead.specs.Overlap.{Overlap, machine_at_start, state_ahead, with_counter, oldest_row, banks_at_its_end}
 use Rattle.st_ahead.specs.Calls.{is_done, row_done, machine_after_completion, machine_after_tick, machine_after_segment}

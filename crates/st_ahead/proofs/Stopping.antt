@@ -7,8 +7,8 @@ use Rattle.st_exec.specs.Completion.{state_after_execution, guess}
 use Rattle.st_rows.specs.Rows.{row_of_entry, front_after_entry}
 use Rattle.st_rows.specs.declared.front.Front.{Front}
 use Rattle.st_segment.specs.Entries.{entry}
-use Rattle.st_levels.specs.Levels.{oldest_front}
-use Rattle.st_levels.specs.declared.levels.Completed.{Completed}
+use Rattle.st_ring.specs.Levels.{oldest_front}
+use Rattle.st_ring.specs.declared.levels.Completed.{Completed}
 use Rattle.st_ahead.specs.Overlap.{Overlap, state_ahead, oldest_row, with_counter}
 use Rattle.st_ahead.specs.Calls.{row_done, machine_after_completion, machine_after_tick, answer}
 use Rattle.st_ahead.specs.RunTo.{may_come, ArePassed, StopsAt}

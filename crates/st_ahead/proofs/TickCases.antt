@@ -14,8 +14,8 @@ use Rattle.st_rows.proofs.Tight.{later-r, later-c}
 use Rattle.st_ring.specs.declared.level.Level.{Level}
 use Rattle.st_segment.specs.Ahead.{Ahead, ahead, prepared_before}
 use Rattle.st_segment.specs.Entries.{entry}
-use Rattle.st_levels.specs.Levels.{AreLevels, is_oldest_due}
-use Rattle.st_levels.specs.declared.plans.Plan.{Plan}
+use Rattle.st_ring.specs.Levels.{AreLevels, is_oldest_due}
+use Rattle.st_ring.specs.declared.plans.Plan.{Plan}
 
 -- ---- a level that is not due
 

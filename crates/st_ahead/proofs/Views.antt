@@ -11,8 +11,8 @@ use Rattle.st_rows.specs.declared.front.Front.{Front}
 use Rattle.st_ring.specs.declared.level.Level.{Level}
 use Rattle.st_segment.specs.Entries.{entry}
 use Rattle.st_segment.specs.Ahead.{Ahead, ahead, next_ahead}
-use Rattle.st_levels.specs.Levels.{AreLevels, IsLevel}
-use Rattle.st_levels.specs.declared.plans.Plan.{Plan}
+use Rattle.st_ring.specs.Levels.{AreLevels, IsLevel}
+use Rattle.st_ring.specs.declared.plans.Plan.{Plan}
 use Rattle.st_ahead.specs.Overlap.{Overlap, state_ahead, levels_of, last_tick_made}
 use Rattle.st_ahead.specs.Look.{LookView, count}
 use Rattle.st_ahead.specs.Shown.{word_before_change, level_shown, view_at_tick, lent_index_words}

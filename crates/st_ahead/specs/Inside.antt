@@ -7,8 +7,8 @@ use Rattle.st_exec.specs.Step.{rests}
 use Rattle.st_rows.specs.Notes.{answers_left}
 use Rattle.st_rows.specs.Rows.{opening_front}
 use Rattle.st_ring.specs.declared.level.Level.{Level}
-use Rattle.st_levels.specs.Levels.{oldest_front}
-use Rattle.st_levels.specs.declared.plans.Plan.{Plan}
+use Rattle.st_ring.specs.Levels.{oldest_front}
+use Rattle.st_ring.specs.declared.plans.Plan.{Plan}
 use Rattle.st_ahead.specs.Overlap.{Overlap, state_ahead, interrupt_due, last_tick_made}
 use Rattle.st_ahead.specs.Look.{LookView, IsLook, IsOpened}
 use Rattle.st_ahead.specs.Shown.{word_before_change}

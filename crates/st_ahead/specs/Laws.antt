@@ -8,7 +8,7 @@ use Rattle.st_rows.specs.Ranges.{AreDelaysUpTo}
 use Rattle.st_rows.specs.declared.front.Front.{Front}
 use Rattle.st_segment.specs.Guesses.{guesses, table_behind}
 use Rattle.st_segment.specs.Alone.{RunAhead, words_of_run}
-use Rattle.st_levels.specs.Levels.{AreAhead, AreNotDone}
+use Rattle.st_ring.specs.Levels.{AreAhead, AreNotDone}
 use Rattle.st_next.specs.Known.{IsStateBefore}
 use Rattle.st_ahead.specs.Look.{LookView, IsLook, is_open, count, IsOutlook, IsOpened}
 use Rattle.st_ahead.specs.Going.{IsGoing, BecomesLevel}

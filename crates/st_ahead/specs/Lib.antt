@@ -12,8 +12,8 @@ pub mod Laws
 pub use Rattle.st_exec.specs.Completion
 pub use Rattle.st_exec.specs.Step
 pub use Rattle.st_exec.specs.Transfer
-pub use Rattle.st_levels.specs.Levels
-pub use Rattle.st_levels.specs.Slots
+pub use Rattle.st_ring.specs.Levels
+pub use Rattle.st_ring.specs.Slots
 pub use Rattle.st_next.specs.Known
 pub use Rattle.st_next.specs.Progress
 pub use Rattle.st_prep.specs.BesideOrders

@@ -13,7 +13,7 @@ use Rattle.st_rows.specs.declared.front.Front.{Front}
 use Rattle.st_rows.specs.declared.log.Made.{Made}
 use Rattle.st_segment.specs.Entries.{entry}
 use Rattle.st_segment.specs.Guesses.{guesses, table_behind}
-use Rattle.st_levels.specs.Levels.{LevelsView, AreAhead, AreFull, AreNotDone}
+use Rattle.st_ring.specs.Levels.{LevelsView, AreAhead, AreFull, AreNotDone}
 use Rattle.st_next.specs.Progress.{IsNext, Rests, reads_so_far}
 use Rattle.st_next.specs.declared.next.Next.{Next}
 

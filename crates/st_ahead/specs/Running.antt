@@ -5,7 +5,7 @@ use Rattle.st_state.specs.Machine.{Machine, IsMachine}
 use Rattle.st_state.specs.Orders.{is_due}
 use Rattle.st_exec.specs.Step.{interrupt, rests}
 use Rattle.st_rows.specs.declared.front.Front.{Front}
-use Rattle.st_levels.specs.declared.levels.Completed.{Completed}
+use Rattle.st_ring.specs.declared.levels.Completed.{Completed}
 use Rattle.st_ahead.specs.Overlap.{Overlap, banks_at_its_end}
 use Rattle.st_ahead.specs.Calls.{machine_after_tick, answer}
 use Rattle.st_ahead.specs.RunTo.{may_come, ArePassed}

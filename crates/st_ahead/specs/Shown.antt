@@ -6,7 +6,7 @@ use Rattle.st_rows.specs.Rows.{fills}
 use Rattle.st_ring.specs.declared.level.Level.{Level}
 use Rattle.st_segment.specs.Ahead.{Ahead, plan_of}
 use Rattle.st_segment.specs.Guesses.{split_words}
-use Rattle.st_levels.specs.Slots.{slots_of}
+use Rattle.st_ring.specs.Slots.{slots_of}
 use Rattle.st_ahead.specs.Overlap.{Overlap, state_ahead, levels_of, last_tick_made}
 use Rattle.st_ahead.specs.declared.events.LevelView.{LevelView}
 use Rattle.st_ahead.specs.declared.events.View.{View}

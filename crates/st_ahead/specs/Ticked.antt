@@ -5,8 +5,8 @@ use Rattle.st_exec.specs.Completion.{state_after_execution, guess}
 use Rattle.st_rows.specs.Rows.{row_of_entry, front_after_entry}
 use Rattle.st_rows.specs.declared.front.Front.{Front}
 use Rattle.st_segment.specs.Entries.{entry}
-use Rattle.st_levels.specs.Levels.{IsCompleted}
-use Rattle.st_levels.specs.declared.levels.Completed.{Completed}
+use Rattle.st_ring.specs.Levels.{IsCompleted}
+use Rattle.st_ring.specs.declared.levels.Completed.{Completed}
 use Rattle.st_ahead.specs.Look.{LookView, IsLook}
 
 -- no entry is done at it: the state u behind it is the state s before it, w runs ahead of that as v

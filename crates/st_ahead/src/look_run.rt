@@ -9,7 +9,7 @@ use crate::look::Lookahead;
 use crate::row_queue::RowQueue;
 use st_banks::Delays;
 use st_exec::{interrupt, is_at_rest};
-use st_levels::Completed;
+use st_ring::Completed;
 use st_state::{State, is_due};
 
 /// An entry that is done, behind which something may come.

@@ -7,12 +7,12 @@ ghost use Rattle.st_rows.specs.Ranges.{AreDelaysUpTo};
 ghost use Rattle.st_rows.specs.Rows.{row_of_entry, front_after_entry};
 ghost use Rattle.st_rows.specs.declared.front.Front.{Front as FrontOf};
 ghost use Rattle.st_segment.specs.Entries.{entry};
-ghost use Rattle.st_levels.specs.Levels.{IsCompleted, AreNotDone};
+ghost use Rattle.st_ring.specs.Levels.{IsCompleted, AreNotDone};
 ghost use Rattle.st_ahead.specs.Look.{IsLook, IsOutlook, count};
 ghost use Rattle.st_ahead.specs.Ticked.{IsTicked};
 
 use crate::look::Lookahead;
-use st_levels::Completed;
+use st_ring::Completed;
 use st_prep::place_of;
 use st_state::State;
 

@@ -1,7 +1,7 @@
 //! Banks, held words and levels, call by call: the machine itself plans its reads and its levels in
 //! place.
 ghost use Rattle.std.specs.Prelude.{◌<◌};
-ghost use Rattle.st_ring.specs.Levels.{HasNumber};
+ghost use Rattle.st_ring.specs.OneLevel.{HasNumber};
 
 use st_banks::{Banks, DelayError, Delays};
 use st_bits::WORDS;

@@ -21,10 +21,10 @@ use Rattle.st_segment.specs.Alone.{RunAhead}
 use Rattle.st_segment.specs.Guesses.{guesses, table_behind, split_words}
 use Rattle.st_segment.specs.Ahead.{Ahead, next_ahead, ahead, front_behind}
 use Rattle.st_segment.proofs.GuessLemmas.{behind-none}
-use Rattle.st_levels.specs.Slots.{fill_tick, is_there, slot_of, slots_of, IsKeptSlot as IsSlotKept}
-use Rattle.st_levels.specs.Levels.{AreLevels}
-use Rattle.st_levels.specs.declared.plans.Plan.{Plan}
-use Rattle.st_levels.proofs.UndoLemmas.{levels-keep}
+use Rattle.st_ring.specs.Slots.{fill_tick, is_there, slot_of, slots_of, IsKeptSlot as IsSlotKept}
+use Rattle.st_ring.specs.Levels.{AreLevels}
+use Rattle.st_ring.specs.declared.plans.Plan.{Plan}
+use Rattle.st_ring.proofs.UndoLemmas.{levels-keep}
 use Rattle.st_ahead.specs.Overlap.{Overlap, state_ahead, oldest_row, levels_of, last_tick_made}
 use Rattle.st_ahead.specs.Shown.{IsLevelOf, AreLevelsOf, lent_index_words, view_at_tick}
 use Rattle.st_refine.specs.Reached.{IsReached}

@@ -19,7 +19,7 @@ use Rattle.st_segment.specs.Entries.{entry}
 use Rattle.st_segment.specs.Guesses.{guesses, table_behind, split_words}
 use Rattle.st_segment.specs.Ahead.{Ahead, next_ahead, ahead, front_behind}
 use Rattle.st_segment.proofs.GuessLemmas.{guesses-machine, behind-none, behind-indicator}
-use Rattle.st_levels.proofs.UndoLemmas.{plan-keeps}
+use Rattle.st_ring.proofs.UndoLemmas.{plan-keeps}
 use Rattle.st_ahead.specs.Overlap.{Overlap, state_ahead, with_counter, levels_of, last_tick_made}
 use Rattle.st_ahead.specs.Shown.{word_before_change, level_shown, view_at_tick, lent_index_words}
 use Rattle.st_ahead.specs.declared.events.LevelView.{LevelView}

@@ -17,7 +17,7 @@ use Rattle.st_prep.specs.FewWords.{is_transmission}
 use Rattle.st_prep.specs.Plan.{plan}
 use Rattle.st_ring.specs.Unwinding.{index_words_after, Kept, unwound}
 use Rattle.st_ring.specs.declared.level.Level.{Level}
-use Rattle.st_levels.specs.Slots.{fill_tick}
+use Rattle.st_ring.specs.Slots.{fill_tick}
 use Rattle.st_ahead.specs.Shown.{AreLevelsOf, lent_index_words, view_at_tick}
 use Rattle.st_refine.specs.Refined.{state_before, table_before, row_of, fills_at, IsUnwound, AddsOneAtMost, level_seen, IsStill}
 use Rattle.st_segment.specs.Ahead.{ahead, prepared_before, next_ahead}

@@ -10,7 +10,7 @@ pub use Rattle.st_ahead.specs.Shown
 pub use Rattle.st_exec.specs.Completion
 pub use Rattle.st_exec.specs.Step
 pub use Rattle.st_exec.specs.Transfer
-pub use Rattle.st_levels.specs.Slots
+pub use Rattle.st_ring.specs.Slots
 pub use Rattle.st_prep.specs.Fetch
 pub use Rattle.st_prep.specs.FewWords
 pub use Rattle.st_prep.specs.Plan

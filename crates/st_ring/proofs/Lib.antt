@@ -1,1 +1,14 @@
 pub mod Unwindings
+pub mod LevelLemmas
+pub mod WriterLemmas
+pub mod AloneLemmas
+pub mod PushLemmas
+pub mod DoneLemmas
+pub mod UndoLemmas
+pub mod Edits
+pub mod FillLemmas
+pub mod PassLemmas
+pub mod OrderLemmas
+pub mod NoLevels
+pub mod RestLemmas
+pub mod Laws

@@ -1,20 +1,94 @@
--- Levels of the look-ahead.
-use Rattle.std.specs.Prelude.{ℕ, ◌<◌, max, List, slice_set, Option, Some, IfSome}
-use Rattle.st_prep.specs.declared.entries.Prepared.{Prepared}
+-- The levels of a machine: entries that are prepared and not done, with their planned rows.
+use Rattle.std.specs.Prelude.{ℕ, ◌≡◌, ◌-◌, ◌^◌, ◌≤◌, ◌<◌, Bool, false, ◌==◌, if◌then◌else◌, List, [], ◌∷◌, length, All, Option, None, Some}
+use Rattle.st_state.specs.Machine.{Machine}
+use Rattle.st_prep.specs.Plan.{plan}
+use Rattle.st_prep.specs.Ranges.{IsPrepared}
+use Rattle.st_exec.specs.Completion.{guess, is_missed}
+use Rattle.st_rows.specs.Rows.{row_of_entry, front_after_entry, fills}
+use Rattle.st_rows.specs.declared.front.Front.{Front}
 use Rattle.st_ring.specs.declared.level.Level.{Level}
+use Rattle.st_segment.specs.Entries.{entry}
+use Rattle.st_segment.specs.Guesses.{split_words}
+use Rattle.st_segment.specs.Alone.{RunAhead}
+use Rattle.st_ring.specs.Slots.{slot_of, have_of, AreKept}
+use Rattle.st_ring.specs.declared.plans.Plan.{Plan}
+use Rattle.st_ring.specs.declared.levels.Completed.{Completed}
 
--- the level of an entry at the tick at which it is prepared, with the operand words that are there
--- by then
-abbrev pub prepared_at : Prepared → ℕ → List (Option ℕ) → Level
-prepared_at entry p have = record { prepared = entry; p = p; r = p; have = have }
+-- what is seen of them: the ring, the planned rows beside it, and the index words that run ahead
+pub record LevelsView : Type 0 where
+  pub ring : List Level
+  pub plans : List Plan
+  pub x : List ℕ
 
--- the index word that a level changes is one of sixteen
-abbrev pub HasNumber : Level → Type 0
-HasNumber level = IfSome level.prepared.index (λ c. c.number < 16)
+-- what is always kept of them: a planned row beside each level, at most n levels, 1 to 8, and each
+-- entry in its ranges
+pub record AreLevelsSound (n : ℕ) (ring : List Level) (plans : List Plan) : Type 0 where
+  pub beside : length plans ≡ length ring
+  pub few : length ring ≤ n
+  pub some : 1 ≤ n
+  pub most : n ≤ 8
+  pub prepared : All (λ level. IsPrepared level.prepared) ring
 
--- a level with an operand word that came at a tick
-abbrev pub level_with_word : Level → ℕ → ℕ → ℕ → Level
-level_with_word level slot word tick = record level {
-  r = max level.r tick;
-  have = slice_set level.have slot (Some word);
-}
+-- a level is the next entry of the state s behind the front f, prepared; t says whether it is a
+-- table instruction. It has no other operand words than those that are there at the tick
+pub record IsLevel (ds : List ℕ) (n tick : ℕ) (t : Option ℕ) (s : Machine) (f : Front)
+    (level : Level) (q : Plan) : Type 0 where
+  pub prepared : level.prepared ≡ plan s t
+  pub p : level.p ≡ (row_of_entry ds n f (entry t s)).p
+  pub have : AreKept level.have (slot_of (fills ds n f (entry t s)) (plan s t) s tick 0)
+      (slot_of (fills ds n f (entry t s)) (plan s t) s tick 1)
+  pub front : q.front.value ≡ f
+  pub r : q.r ≡ (row_of_entry ds n f (entry t s)).r
+  pub c : q.c ≡ (row_of_entry ds n f (entry t s)).c
+  pub fills : q.fills ≡ fills ds n f (entry t s)
+
+-- levels, oldest first, are the next entries by guessed steps, and `last` is the front behind them
+unfoldable pub AreLevels : List ℕ → ℕ → ℕ → Option ℕ → Machine → Front → Front → List Level →
+    List Plan → Type 0
+AreLevels ds n tick t s f last [] [] = last ≡ f
+AreLevels ds n tick t s f last [] (q ∷ qs) = ⊥
+AreLevels ds n tick t s f last (level ∷ levels) [] = ⊥
+AreLevels ds n tick t s f last (level ∷ levels) (q ∷ qs) =
+    IsLevel ds n tick t s f level q
+    × AreLevels ds n tick None (guess t s) (front_after_entry ds n f (entry t s)) last levels qs
+
+-- they have all operand words that are there at the tick
+unfoldable pub AreFull : List ℕ → ℕ → ℕ → Option ℕ → Machine → Front → List Level → Type 0
+AreFull ds n tick t s f [] = Unit {0}
+AreFull ds n tick t s f (level ∷ levels) =
+    (level.have ≡ have_of ds n tick t s f) × AreFull ds n tick None (guess t s)
+    (front_after_entry ds n f (entry t s)) levels
+
+-- all of it: only the youngest level may be one that is done alone
+pub record AreAhead (ds : List ℕ) (n tick : ℕ) (t : Option ℕ) (s : Machine) (f last : Front)
+    (v : LevelsView) : Type 0 where
+  pub levels : AreLevels ds n tick t s f last v.ring v.plans
+  pub index : v.x ≡ split_words (length v.ring) t s
+  pub run_ahead : RunAhead (length v.ring - 1) t s
+
+-- none of them is done at this tick or before it
+abbrev pub AreNotDone : ℕ → LevelsView → Type 0
+AreNotDone now v = All (λ q. now < q.c) v.plans
+
+-- the tick at which the oldest of them is done, 2^64 - 1 where there is none
+abbrev pub due_of : List Plan → ℕ
+due_of [] = 2 ^ 64 - 1
+due_of (q ∷ qs) = q.c
+
+-- the oldest of them is done at this tick
+abbrev pub is_oldest_due : List Plan → ℕ → Bool
+is_oldest_due [] now = false
+is_oldest_due (q ∷ qs) now = q.c == now
+
+-- the front of the oldest entry that is not done, given that behind the levels
+abbrev pub oldest_front : List Plan → Front → Front
+oldest_front [] last = last
+oldest_front (q ∷ qs) last = q.front.value
+
+-- what is told of the next entry of the state s behind the front f when it is done
+pub record IsCompleted (ds : List ℕ) (n : ℕ) (t : Option ℕ) (s : Machine) (f : Front)
+    (done : Completed) : Type 0 where
+  pub address : done.address ≡ (plan s t).place.address
+  pub p : done.p ≡ (row_of_entry ds n f (entry t s)).p
+  pub r : done.r ≡ (row_of_entry ds n f (entry t s)).r
+  pub missed : done.missed ≡ (if is_missed (plan s t) s then Some (plan s t).following else None)

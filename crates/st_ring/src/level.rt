@@ -1,6 +1,6 @@
 //! A level of the look-ahead.
 ghost use Rattle.std.specs.Prelude.{◌≡◌, ◌<◌};
-ghost use Rattle.st_ring.specs.Levels.{level_with_word as filled_of, prepared_at};
+ghost use Rattle.st_ring.specs.OneLevel.{level_with_word as filled_of, prepared_at};
 
 use st_prep::Prepared;
 

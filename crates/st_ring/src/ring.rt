@@ -1,7 +1,7 @@
 //! The levels of the look-ahead, oldest first.
 ghost use Rattle.std.specs.Prelude.{◌≡◌, ℕ, ◌+◌, ◌<◌, ◌≤◌, List, [], ◌∷◌, ◌++◌, length, drop, slice_get, slice_set, MatchOption, IfSome, Some};
 ghost use Rattle.st_ring.specs.declared.level.Level.{Level as Row};
-ghost use Rattle.st_ring.specs.Levels.{HasNumber, level_with_word as filled_of, prepared_at};
+ghost use Rattle.st_ring.specs.OneLevel.{HasNumber, level_with_word as filled_of, prepared_at};
 ghost use Rattle.st_ring.specs.Unwinding.{index_words_after, Kept, put_back as put_back_of, unwound};
 
 use crate::level::{Level, begin, put_word};
@@ -24,7 +24,7 @@ impl<const N: usize> Model for SpecRing<N> {
     ghost use Rattle.std.specs.Prelude.{List};
     ghost use Rattle.st_fetch.specs.Queue.{window};
     ghost use Rattle.st_ring.specs.declared.level.Level.{Level as Row};
-    ghost use Rattle.st_ring.specs.Slots.{IsLevelRing};
+    ghost use Rattle.st_ring.specs.LevelRing.{IsLevelRing};
 
     ghost Value = { List Row };
 

@@ -1,7 +1,7 @@
 use Rattle.std.proofs.Common.{◌<◌, ◌≤◌, All, sym, subst, arith}
 use Rattle.std.proofs.lemmas.List.Elements.{All-weaker}
 use Rattle.st_ring.specs.declared.level.Level.{Level}
-use Rattle.st_levels.specs.Levels.{AreNotDone}
+use Rattle.st_ring.specs.Levels.{AreNotDone}
 use Rattle.st_ahead.specs.Look.{LookView}
 use Rattle.st_ahead.proofs.DoneLooks.{all-filled, ahead-through}
 use Rattle.st_ahead.proofs.look.Lookahead.fill.Goals as goal

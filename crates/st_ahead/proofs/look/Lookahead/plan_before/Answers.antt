@@ -3,7 +3,7 @@ use Rattle.std.specs.Prelude.{◌==◌}
 use Rattle.std.proofs.lemmas.Bool.{cases_Bool}
 use Rattle.st_next.specs.Progress.{IsKnown}
 use Rattle.st_next.specs.Going.{GoesOnTo}
-use Rattle.st_levels.specs.Levels.{due_of}
+use Rattle.st_ring.specs.Levels.{due_of}
 use Rattle.st_ahead.specs.Look.{LookView, is_open, count}
 use Rattle.st_ahead.specs.Going.{IsGoing}
 use Rattle.st_ahead.proofs.Further.{going-planned, going-still, going-front, open-waits, closed-waits, some-by, known, known-further}

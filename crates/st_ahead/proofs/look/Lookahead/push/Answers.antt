@@ -13,7 +13,7 @@ use Rattle.st_rows.specs.declared.front.Formed.{Formed}
 use Rattle.st_rows.proofs.Within.{AreDelays-list}
 use Rattle.st_segment.specs.Entries.{entry}
 use Rattle.st_segment.specs.Guesses.{guesses, table_behind}
-use Rattle.st_levels.specs.Levels.{AreAhead}
+use Rattle.st_ring.specs.Levels.{AreAhead}
 use Rattle.st_next.specs.Known.{IsStateBefore}
 use Rattle.st_next.specs.declared.next.Next.{Next}
 use Rattle.st_ahead.specs.Look.{LookView, count}

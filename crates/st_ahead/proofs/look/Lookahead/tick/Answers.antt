@@ -5,7 +5,7 @@ use Rattle.st_rows.specs.Rows.{row_of_entry, front_after_entry}
 use Rattle.st_segment.specs.Entries.{entry}
 use Rattle.st_segment.proofs.EntryRanges.{entry-ranges}
 use Rattle.st_segment.proofs.GuessLemmas.{guess-machine}
-use Rattle.st_levels.proofs.OrderLemmas.{due-row}
+use Rattle.st_ring.proofs.OrderLemmas.{due-row}
 use Rattle.st_ahead.specs.Look.{LookView, IsLook, count}
 use Rattle.st_next.specs.declared.next.Next.{Next}
 use Rattle.st_ahead.proofs.Gone.{outlook-of}

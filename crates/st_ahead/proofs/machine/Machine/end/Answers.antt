@@ -1,7 +1,7 @@
 use Rattle.std.specs.Prelude.{IsSome}
 use Rattle.std.proofs.Common.{◌≡◌, ◌<◌, ◌≤◌, ◌^◌, true, sym, subst, ◌∙◌, arith}
 use Rattle.st_rows.proofs.Within.{AreDelays-list}
-use Rattle.st_levels.specs.Levels.{oldest_front}
+use Rattle.st_ring.specs.Levels.{oldest_front}
 use Rattle.st_ahead.specs.Overlap.{Overlap, with_counter}
 use Rattle.st_ahead.specs.Calls.{drop_count, machine_after_segment}
 use Rattle.st_ahead.specs.Look.{count}

@@ -1,12 +1,12 @@
 use Rattle.std.proofs.Common.{◌≡◌, ◌+◌, ◌<◌, ◌^◌, true, false, None, sym, subst, arith}
 use Rattle.st_exec.specs.Step.{rests}
-use Rattle.st_levels.specs.Levels.{oldest_front}
+use Rattle.st_ring.specs.Levels.{oldest_front}
 use Rattle.st_ahead.specs.Overlap.{Overlap, interrupt_due}
 use Rattle.st_ahead.specs.Calls.{machine_after_pass}
 use Rattle.st_ahead.specs.Inside.{overlap_of}
 use Rattle.st_ahead.proofs.Settling.{go-inside, going-look, look-goes}
 use Rattle.st_ahead.proofs.machine.Machine.go_on.Goals as goal
-use Rattle.st_levels.proofs.Laws.{levels_are_the_entries_ahead}
+use Rattle.st_ring.proofs.Laws.{levels_are_the_entries_ahead}
 
 pub pass-requires : goal.pass-requires
 pass-requires g c =

@@ -4,7 +4,7 @@ use Rattle.st_prep.specs.Plan.{plan}
 use Rattle.st_exec.specs.Completion.{guess, is_missed}
 use Rattle.st_rows.specs.Rows.{front_after_entry}
 use Rattle.st_segment.specs.Entries.{entry}
-use Rattle.st_levels.specs.Levels.{oldest_front}
+use Rattle.st_ring.specs.Levels.{oldest_front}
 use Rattle.st_ahead.specs.Overlap.{Overlap}
 use Rattle.st_ahead.specs.RunTo.{ArePassed, StopsAt}
 use Rattle.st_ahead.specs.RowsDone.{queue_with, rows_in_ticks}
@@ -16,7 +16,7 @@ use Rattle.st_ahead.proofs.NotedRows.{rows-zero}
 use Rattle.st_ahead.proofs.Standing.{idle, guess-seen, told as told_row}
 use Rattle.st_ahead.proofs.Stopping.{awake-inside, settled-between, passed-machine, stopped-machine}
 use Rattle.st_ahead.proofs.machine.Machine.run_to.Goals as goal
-use Rattle.st_levels.proofs.Laws.{levels_are_the_entries_ahead}
+use Rattle.st_ring.proofs.Laws.{levels_are_the_entries_ahead}
 use Rattle.st_segment.proofs.Laws.{steps_are_guesses}
 use Rattle.st_exec.proofs.Laws.{entries_count_as_one}
 

@@ -4,8 +4,8 @@ use Rattle.st_exec.specs.Completion.{guess, is_missed}
 use Rattle.st_rows.specs.Rows.{front_after_entry}
 use Rattle.st_rows.proofs.Within.{AreDelays-list}
 use Rattle.st_segment.specs.Entries.{entry}
-use Rattle.st_levels.specs.Levels.{oldest_front}
-use Rattle.st_levels.specs.declared.levels.Completed.{Completed}
+use Rattle.st_ring.specs.Levels.{oldest_front}
+use Rattle.st_ring.specs.declared.levels.Completed.{Completed}
 use Rattle.st_ahead.specs.Overlap.{Overlap}
 use Rattle.st_ahead.specs.Calls.{is_done, row_done, machine_after_tick}
 use Rattle.st_ahead.specs.Look.{count}
@@ -15,7 +15,7 @@ use Rattle.st_ahead.proofs.Gone.{outlook-of}
 use Rattle.st_ahead.proofs.Standing.{idle, not-first, passed-tick, done-tick, guess-seen, row-tick, banks-at, some-due, told}
 use Rattle.st_ahead.proofs.TickCases.{unprepared}
 use Rattle.st_ahead.proofs.machine.Machine.tick.Goals as goal
-use Rattle.st_levels.proofs.Laws.{levels_are_the_entries_ahead}
+use Rattle.st_ring.proofs.Laws.{levels_are_the_entries_ahead}
 use Rattle.st_ahead.proofs.Laws.{looks_are_levels, the_banks_are_left}
 use Rattle.st_segment.proofs.Laws.{entries_are_in_range, steps_are_guesses}
 use Rattle.st_exec.proofs.Laws.{entries_count_as_one}

@@ -1,8 +1,0 @@
-use Rattle.std.proofs.Common.{length, sym, ap, ◌∙◌, arith}
-use Rattle.st_fetch.proofs.Windows.{length-window}
-use Rattle.st_levels.proofs.plans.Plans.len.Goals as goal
-
-pub returns-clause-value : goal.returns-clause-value
-returns-clause-value c =
-    let q = c.self.inside in
-    sym (length-window 8 q.head q.len q.slots c.self.invariant.inside (omega arith) c.self.invariant.whole) ∙ ap length c.self.view_is

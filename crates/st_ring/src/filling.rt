@@ -1,0 +1,146 @@
+//! Operand words that come into the slots of levels.
+ghost use Rattle.std.specs.Prelude.{◌≡◌, ◌≢◌, ℕ, ◌+◌, ◌<◌, ◌≤◌, true, length, slice_get, slice_set, All, None, Some, Option};
+ghost use Rattle.st_prep.specs.Ranges.{IsPrepared};
+ghost use Rattle.st_ring.specs.declared.level.Level.{Level as Row};
+ghost use Rattle.st_ring.specs.Slots.{fill_tick as fill_tick_of, slot_of, coming as coming_of, came_at as came_at_of, level_with_slot, level_with_words};
+ghost use Rattle.st_ring.specs.declared.plans.Plan.{Plan as PlanOf};
+
+use crate::level::Level;
+use crate::plans::{Plan, Plans};
+use crate::ring::SpecRing;
+use crate::slots::is_transmission;
+use st_bits::register::FIRST_STORAGE_WORD;
+use st_prep::Prepared;
+use st_state::State;
+
+// When the operand word in place `k` is there, by the ticks of the first two words above the
+// registers.
+fn fill_tick(p: &Prepared, fills: &[u64; 2], k: u8) -> u64
+    requires prepared { IsPrepared p.now }
+    requires slot { k < 2 }
+    requires above { 32 ≤ p.now.reads.first + k }
+    ensures { result ≡ fill_tick_of fills.now p.now (p.now.reads.first + k) }
+{
+    let w = p.reads.first + u32::from(k);
+    if p.reads.first >= FIRST_STORAGE_WORD {
+        fills[(w - p.reads.first) as usize]
+    } else {
+        fills[(w - FIRST_STORAGE_WORD) as usize]
+    }
+}
+
+// The word of slot `k` of an entry, as it stands in the state, if it is there by the tick `now`.
+#[tactic(auto, unfolding(crate::specs::Slots::slot_of))]
+fn slot(p: &Prepared, fills: &[u64; 2], k: u8, state: &State, now: u64) -> Option<u64>
+    requires prepared { IsPrepared p.now }
+    requires slot { k < 2 }
+    ensures { result ≡ slot_of fills.now p.now state.now now k }
+{
+    if is_transmission(&p.instr) || k >= p.reads.len {
+        return None;
+    }
+    let w = p.reads.first + u32::from(k);
+    if w < FIRST_STORAGE_WORD || fill_tick(p, fills, k) <= now {
+        Some(state.word(w))
+    } else {
+        None
+    }
+}
+
+// The word that comes into slot `k` of a level by the tick `now`: one that is there, where the slot
+// is empty. Most levels have none that is left to come, so that this is tested first.
+#[tactic(auto, unfolding(crate::specs::Slots::slot_of))]
+#[inline(always)]
+fn coming(level: &Level, fills: &[u64; 2], k: u8, state: &State, now: u64) -> Option<u64>
+    requires prepared { IsPrepared level.now.prepared }
+    requires slot { k < 2 }
+    ensures { result ≡ coming_of fills.now level.now state.now now k }
+{
+    if k >= level.prepared.reads.len {
+        return None;
+    }
+    match level.have[k as usize] {
+        Some(_) => None,
+        None => slot(&level.prepared, fills, k, state, now),
+    }
+}
+
+// When it came: a register is there when the entry is prepared.
+fn came_at(level: &Level, fills: &[u64; 2], k: u8) -> u64
+    requires prepared { IsPrepared level.now.prepared }
+    requires slot { k < 2 }
+    ensures { result ≡ came_at_of fills.now level.now k }
+{
+    if level.prepared.reads.first + u32::from(k) < FIRST_STORAGE_WORD {
+        level.p
+    } else {
+        fill_tick(&level.prepared, fills, k)
+    }
+}
+
+// Whether there is neither word.
+fn are_none(first: Option<u64>, second: Option<u64>) -> bool
+    ensures { result ≡ true → (first ≡ None) × (second ≡ None) }
+{
+    first.is_none() && second.is_none()
+}
+
+// Puts a word that came at the tick, if there is one, into a slot of level k.
+fn put<const N: usize>(ring: &mut SpecRing<N>, k: usize, slot: u8, word: Option<u64>, tick: u64)
+    requires level { k < length ring.old }
+    requires slot { slot < 2 }
+    ensures levels { (level : Row) → slice_get ring.old k ≡ Some level
+        → ring.new ≡ slice_set ring.old k (level_with_slot level slot word tick) }
+    ensures len { length ring.new ≡ length ring.old }
+{
+    if let Some(word) = word {
+        ring.fill(k, slot, word, tick);
+    }
+}
+
+// Puts the words that come by the tick `now` into the slots of level k.
+fn fill_level<const N: usize>(
+    ring: &mut SpecRing<N>,
+    k: usize,
+    plan: &Plan,
+    state: &State,
+    now: u64,
+)
+    requires level { k < length ring.old }
+    requires prepared { (level : Row) → slice_get ring.old k ≡ Some level →
+        IsPrepared level.prepared }
+    ensures levels { (level : Row) → slice_get ring.old k ≡ Some level
+        → slice_get ring.new k ≡ Some (level_with_words plan.now.fills state.now now level) }
+    ensures others { (i : ℕ) → i ≢ k → slice_get ring.new i ≡ slice_get ring.old i }
+    ensures len { length ring.new ≡ length ring.old }
+{
+    let read = ring.level(k);
+    let first = coming(read, &plan.fills, 0, state, now);
+    let second = coming(read, &plan.fills, 1, state, now);
+    if are_none(first, second) {
+        return;
+    }
+    let once = came_at(read, &plan.fills, 0);
+    let twice = came_at(read, &plan.fills, 1);
+    put(ring, k, 0, first, once);
+    put(ring, k, 1, second, twice);
+}
+
+// Puts the words that come by the tick `now` into the slots of all levels.
+pub(crate) fn fill_all<const N: usize>(
+    ring: &mut SpecRing<N>,
+    plans: &Plans,
+    state: &State,
+    now: u64,
+)
+    requires beside { length plans.now ≡ length ring.old }
+    requires prepared { All (λ level. IsPrepared level.prepared) ring.old }
+    ensures levels { (k : ℕ) (level : Row) (q : PlanOf) → slice_get ring.old k ≡ Some level →
+        slice_get plans.now k ≡ Some q
+        → slice_get ring.new k ≡ Some (level_with_words q.fills state.now now level) }
+    ensures len { length ring.new ≡ length ring.old }
+{
+    'filling: for k in 0..ring.len() {
+        fill_level(ring, k, plans.get(k), state, now);
+    }
+}

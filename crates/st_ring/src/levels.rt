@@ -1,0 +1,240 @@
+//! Levels that are pushed, filled, done and undone.
+ghost use Rattle.std.specs.Prelude.{◌≡◌, ℕ, ◌+◌, ◌-◌, ◌<◌, ◌≤◌, ◌^◌, length, Option, None, Some, IfSome, List, [], ◌∷◌, ◌++◌, slice_get, All, false, true};
+ghost use Rattle.st_state.specs.Machine.{Machine, IsMachine, word as word_of};
+ghost use Rattle.st_prep.specs.EarlyChange.{words_after};
+ghost use Rattle.st_prep.specs.Fetch.{index_words as index_words_of};
+ghost use Rattle.st_prep.specs.Plan.{plan as plan_of};
+ghost use Rattle.st_prep.specs.Ranges.{IsPrepared};
+ghost use Rattle.st_exec.specs.Completion.{state_after_execution, guess};
+ghost use Rattle.st_rows.specs.Ranges.{AreDelaysUpTo};
+ghost use Rattle.st_rows.specs.Rows.{row_of_entry, front_after_entry, fills};
+ghost use Rattle.st_rows.specs.declared.front.Front.{Front as FrontOf};
+ghost use Rattle.st_segment.specs.Entries.{entry};
+ghost use Rattle.st_segment.specs.Guesses.{guesses, table_behind};
+ghost use Rattle.st_segment.specs.Alone.{RunAhead};
+ghost use Rattle.st_ring.specs.Levels.{LevelsView, AreLevelsSound, AreAhead, AreFull, AreNotDone, IsCompleted, due_of, is_oldest_due as is_due_of};
+ghost use Rattle.st_ring.specs.PlannedRows.{row_of_plan};
+
+use crate::filling::fill_all;
+use crate::plans::{Plan, Plans};
+use crate::ring::SpecRing;
+use crate::slots::{change, missed};
+use st_exec::complete_in;
+use st_prep::{Prepared, index_words};
+use st_rows::{Filled, Front};
+use st_state::State;
+use std::marker::Model;
+
+/// What is told of a level when it is done.
+#[derive(Clone, Copy, Debug, PartialEq, Eq)]
+pub struct Completed {
+    /// The half-word address of its entry.
+    pub address: u32,
+    /// The tick at which it was prepared.
+    pub p: u64,
+    /// The tick at which its operands were there.
+    pub r: u64,
+    /// Where its guess was wrong, the counter by which what runs ahead goes on.
+    pub missed: Option<u32>,
+}
+
+/// The levels of a machine with N levels, 1 to 8, and the index words that run ahead of the state.
+#[derive(Drop)]
+pub struct Levels<const N: usize> {
+    ring: SpecRing<N>,
+    plans: Plans,
+    x: [u64; 16],
+}
+
+// Clauses see the levels and the planned rows, oldest first, and the index words.
+impl<const N: usize> Model for Levels<N> {
+    ghost use Rattle.st_ring.specs.Levels.{LevelsView, AreLevelsSound};
+
+    ghost Value = { LevelsView };
+
+    ghost view = { λ levels. record { ring = levels.ring; plans = levels.plans; x = levels.x } };
+
+    ghost invariant = { λ levels. AreLevelsSound N levels.ring levels.plans };
+}
+
+impl<const N: usize> Levels<N> {
+    /// No levels, where these are the index words of the state.
+    pub fn new(x: [u64; 16]) -> Levels<N>
+        requires some { 1 ≤ N }
+        requires few { N ≤ 8 }
+        ensures { result ≡ record { ring = []; plans = []; x = x } }
+    {
+        Levels {
+            ring: SpecRing::new(),
+            plans: Plans::new(),
+            x,
+        }
+    }
+
+    /// The number of levels.
+    pub fn len(&self) -> usize
+        ensures value { result ≡ length self.now.ring }
+        ensures within { result ≤ N }
+        ensures beside { length self.now.plans ≡ length self.now.ring }
+    {
+        self.ring.len()
+    }
+
+    /// Makes known what is always kept: a planned row beside each level, at most N of them, and
+    /// each entry in its ranges.
+    pub fn shape(&self)
+        ensures { AreLevelsSound N self.now.ring self.now.plans }
+    {
+        let _ = &self.x;
+    }
+
+    /// The levels, oldest first.
+    pub fn ring(&self) -> &SpecRing<N>
+        ensures { result.now ≡ self.now.ring }
+    {
+        &self.ring
+    }
+
+    /// The index words that run ahead.
+    pub fn index(&self) -> &[u64; 16]
+        ensures { result.now ≡ self.now.x }
+    {
+        &self.x
+    }
+
+    /// The planned row of level k, counted from the oldest, which is 0. There is one.
+    pub fn plan(&self, k: usize) -> &Plan
+        requires { k < length self.now.ring }
+        ensures { slice_get self.now.plans k ≡ Some result.now }
+    {
+        self.plans.get(k)
+    }
+
+    /// Appends an entry that is prepared behind `front`; `filled` is its row. The index word that
+    /// it changes is changed, and its slots are empty. There is room.
+    pub fn push(&mut self, prepared: &Prepared, front: &Front, filled: &Filled)
+        requires room { length self.old.ring < N }
+        requires prepared { IsPrepared prepared.now }
+        ensures ring { self.new.ring ≡ self.old.ring ++ (record {
+          prepared = prepared.now;
+          p = filled.now.row.p;
+          r = filled.now.row.p;
+          have = None ∷ None ∷ [];
+        }) ∷ [] }
+        ensures plans { self.new.plans ≡ self.old.plans ++ row_of_plan front.now filled.now ∷ [] }
+        ensures index { self.new.x ≡ words_after self.old.x prepared.now.index }
+        ensures not_done { (now : ℕ) → AreNotDone now self.old → now < filled.now.row.c →
+            AreNotDone now self.new }
+
+        // Where the levels are the entries ahead, none done alone, and it is the next one, they are
+        // so with it.
+        ensures ahead { (ds : List ℕ) (n tick : ℕ) (t : Option ℕ) (s : Machine)
+            (f last : FrontOf) →
+            let k = length self.old.ring in let u = guesses k t s in let i = table_behind k t in
+            IsMachine s → IfSome t (λ i. i < 64) →
+            AreAhead ds n tick t s f last self.old → RunAhead k t s →
+            front.now ≡ last → prepared.now ≡ plan_of u i →
+            filled.now.row ≡ row_of_entry ds n last (entry i u) →
+            filled.now.fills ≡ fills ds n last (entry i u) →
+            AreAhead ds n tick t s f (front_after_entry ds n last (entry i u)) self.new }
+    {
+        change(&mut self.x, prepared.index);
+        self.ring
+            .push_prepared(prepared, filled.row.p, [None, None]);
+        self.plans.push(front, filled);
+    }
+
+    /// The tick at which the oldest level is done, 2^64 - 1 where there is none.
+    #[inline(always)]
+    pub fn due(&self) -> u64
+        ensures { result ≡ due_of self.now.plans }
+    {
+        if self.plans.len() == 0 {
+            return u64::MAX;
+        }
+        self.plans.get(0).c
+    }
+
+    /// Whether the oldest level is done at this tick.
+    pub fn is_due(&self, now: u64) -> bool
+        ensures value { result ≡ is_due_of self.now.plans now }
+        ensures some { result ≡ true → 0 < length self.now.ring }
+    {
+        self.len() > 0 && self.plans.get(0).c == now
+    }
+
+    /// The oldest level is done: its entry is executed by its operands as they stand in the state,
+    /// and it is taken away. Where it is done alone the index words become those of the state.
+    /// There is one.
+    pub fn complete(&mut self, state: &mut State) -> Completed
+        requires some { 0 < length self.old.ring }
+        requires few { state.old.done < 2 ^ 63 }
+        ensures { (ds : List ℕ) (n tick : ℕ) (t : Option ℕ) (s : Machine) (f last : FrontOf) →
+            IsMachine s → IfSome t (λ i. i < 64) → AreAhead ds n tick t s f last self.old →
+            s ≡ state.old →
+            (state.new ≡ state_after_execution t s) × IsCompleted ds n t s f result
+            × AreAhead ds n tick None (guess t s)
+            (front_after_entry ds n f (entry t s)) last self.new
+            × (AreFull ds n tick t s f self.old.ring → AreFull ds n tick None (guess t s)
+            (front_after_entry ds n f (entry t s)) self.new.ring) }
+    {
+        let r = self.plans.get(0).r;
+        let level = self.ring.oldest();
+        let missed = missed(&level.prepared, state);
+        complete_in(&level.prepared, state);
+        renew(&mut self.x, level.prepared.serial, state);
+        let done = Completed {
+            address: level.prepared.place.address,
+            p: level.p,
+            r,
+            missed,
+        };
+        self.ring.drop_oldest();
+        self.plans.drop_first();
+        done
+    }
+
+    /// Puts the operand words that are there by this tick into their slots, where these are empty,
+    /// as they stand in the state.
+    pub fn fill(&mut self, state: &State, now: u64)
+        ensures plans { self.new.plans ≡ self.old.plans }
+        ensures index { self.new.x ≡ self.old.x }
+        ensures len { length self.new.ring ≡ length self.old.ring }
+
+        // All are prepared by then, and none is done yet. A word that is there is written by no
+        // older level, so it stands in the state as before the step of the entry.
+        ensures ahead { (ds : List ℕ) (n tick most : ℕ) (t : Option ℕ) (s : Machine)
+            (f last : FrontOf) →
+            AreDelaysUpTo most ds → IsMachine s → IfSome t (λ i. i < 64) →
+            AreAhead ds n tick t s f last self.old →
+            tick ≤ now → All (λ level. level.p ≤ now) self.old.ring → AreNotDone now self.old →
+            ((w : ℕ) → word_of state.now w ≡ word_of s w) →
+            AreAhead ds n now t s f last self.new × AreFull ds n now t s f self.new.ring }
+    {
+        fill_all(&mut self.ring, &self.plans, state, now);
+    }
+
+    /// Puts the index words back as they were before all levels, leaves no level, and gives the
+    /// number of levels that there were.
+    pub fn undo(&mut self) -> u8
+        ensures empty { (self.new.ring ≡ []) × (self.new.plans ≡ []) }
+        ensures count { result ≡ length self.old.ring }
+        ensures words { (ds : List ℕ) (n tick : ℕ) (t : Option ℕ) (s : Machine) (f last : FrontOf) →
+            IsMachine s → IfSome t (λ i. i < 64) → AreAhead ds n tick t s f last self.old →
+            self.new.x ≡ index_words_of s }
+    {
+        self.plans.clear();
+        self.ring.undo_into(&mut self.x)
+    }
+}
+
+// The index words behind an entry that is done: those of the state where it is done alone, and else
+// as they were.
+fn renew(x: &mut [u64; 16], alone: bool, state: &State)
+    ensures alone { alone ≡ true → x.new ≡ index_words_of state.now }
+    ensures stays { alone ≡ false → x.new ≡ x.old }
+{
+    if alone {
+        *x = index_words(state);
+    }
+}

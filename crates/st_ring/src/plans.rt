@@ -1,0 +1,133 @@
+//! The planned rows of the levels, oldest first.
+ghost use Rattle.std.specs.Prelude.{◌≡◌, ◌+◌, ◌<◌, ◌≤◌, [], ◌∷◌, ◌++◌, length, drop, slice_get, Some};
+ghost use Rattle.st_ring.specs.PlannedRows.{row_of_plan};
+
+use st_rows::{Filled, Front};
+use std::marker::Model;
+use std::snapshot::Snapshot;
+
+// How many levels there can be.
+const SLOTS: usize = 8;
+
+/// The planned row of a level.
+#[derive(Drop)]
+pub struct Plan {
+    /// The front that the row was computed from, which clauses alone read.
+    pub front: Snapshot<Front>,
+    /// When the operands of the level are there.
+    pub r: u64,
+    /// When it is done.
+    pub c: u64,
+    /// When its first two operand words above the registers are there; 0 where there is no such
+    /// word.
+    pub fills: [u64; 2],
+}
+
+/// The planned rows of at most eight levels. Contracts see their list, oldest first.
+#[derive(Drop)]
+pub struct Plans {
+    slots: [Plan; SLOTS],
+    head: usize,
+    len: usize,
+}
+
+// Clauses see the rows, oldest first.
+impl Model for Plans {
+    ghost use Rattle.std.specs.Prelude.{List};
+    ghost use Rattle.st_fetch.specs.Queue.{window};
+    ghost use Rattle.st_ring.specs.declared.plans.Plan.{Plan as Row};
+    ghost use Rattle.st_ring.specs.PlannedRows.{IsPlanRing};
+
+    ghost Value = { List Row };
+
+    ghost view = { λ ring. window ring.head ring.len ring.slots };
+
+    ghost invariant = { λ ring. IsPlanRing ring.head ring.len ring.slots };
+}
+
+impl Plans {
+    /// No rows.
+    pub fn new() -> Plans
+        ensures { result ≡ [] }
+    {
+        Plans {
+            slots: [
+                no_plan(),
+                no_plan(),
+                no_plan(),
+                no_plan(),
+                no_plan(),
+                no_plan(),
+                no_plan(),
+                no_plan(),
+            ],
+            head: 0,
+            len: 0,
+        }
+    }
+
+    /// The number of rows.
+    pub fn len(&self) -> usize
+        ensures value { result ≡ length self.now }
+        ensures within { result ≤ 8 }
+    {
+        self.len
+    }
+
+    /// Appends the row of an entry behind `front`, whose operands are there as `filled` says; it is
+    /// the youngest then. There is room.
+    pub fn push(&mut self, front: &Front, filled: &Filled)
+        requires { length self.old < 8 }
+        ensures rows { self.new ≡ self.old ++ row_of_plan front.now filled.now ∷ [] }
+        ensures len { length self.new ≡ length self.old + 1 }
+    {
+        let at = (self.head + self.len) % SLOTS;
+        plan_into(&mut self.slots[at], front, filled);
+        self.len += 1;
+    }
+
+    /// Row k, counted from the oldest, which is 0. There is one.
+    pub fn get(&self, k: usize) -> &Plan
+        requires { k < length self.now }
+        ensures { slice_get self.now k ≡ Some result.now }
+    {
+        &self.slots[(self.head + k) % SLOTS]
+    }
+
+    /// Takes away the oldest row. There is one.
+    pub fn drop_first(&mut self)
+        requires { 0 < length self.old }
+        ensures rows { self.new ≡ drop 1 self.old }
+        ensures len { length self.new + 1 ≡ length self.old }
+    {
+        self.head = (self.head + 1) % SLOTS;
+        self.len -= 1;
+    }
+
+    /// Takes away all rows.
+    pub fn clear(&mut self)
+        ensures { self.new ≡ [] }
+    {
+        self.len = 0;
+    }
+}
+
+// What stands in a slot without a row.
+fn no_plan() -> Plan {
+    Plan {
+        front: Snapshot::of(&Front::default()),
+        r: 0,
+        c: 0,
+        fills: [0; 2],
+    }
+}
+
+// The slot becomes the row of an entry behind `front`, whose operands are there as `filled` says.
+fn plan_into(slot: &mut Plan, front: &Front, filled: &Filled)
+    ensures { slot.new ≡ row_of_plan front.now filled.now }
+{
+    slot.front = Snapshot::of(front);
+    slot.r = filled.row.r;
+    slot.c = filled.row.c;
+    slot.fills = filled.fills;
+}
