@@ -70,6 +70,11 @@ ticked-owed m = by (is_done m)
     by true = refl
     by false = refl
 
+pub event-closing : (m t : Overlap) (event : Event) → IsEvent m event → t ≡ machine_after_tick m → event ≡ Passed → t.closing ≡ None
+event-closing m t event is after passes =
+    let late : is_done m ≡ false = subst {A = Event} (IsEvent m) passes is in
+    ap (λ (x : Overlap). x.closing) (after ∙ late-ticked m late)
+
 pub goes-answers : (m : Overlap) → interrupt_due m ≡ None → rests m.state ≡ false → m.behind ≡ None → answer m ≡ Goes
 unfolding answer
 goes-answers m due awake right = rw (due, awake, right) refl

@@ -34,6 +34,13 @@ place-behind : (k : Option ℕ) (u : Machine) (following : ℕ) → k ≡ None �
 unfolding place_of
 place-behind k u following table counter = rw (table, counter) refl
 
+open-pushed : (first alone b : Bool) → first ≡ false → (first || not alone) ≡ b → alone ≡ not b
+open-pushed true alone b some is = absurd (cc some)
+open-pushed false true true some is = absurd (cc is)
+open-pushed false true false some is = refl
+open-pushed false false true some is = refl
+open-pushed false false false some is = absurd (cc is)
+
 wanted-alone : (alone : Bool) (p c : ℕ) → alone ≡ false → (if alone then max p c else p) ≡ p
 wanted-alone false p c is = refl
 wanted-alone true p c is = absurd (cc is)

@@ -143,6 +143,10 @@ beside_stepped back b d before h k = record {
       ∙ (ap (λ (ss : List Machine). keep_last back (ss ++ b.0.machine ∷ [])) k.states ∙ keep-more back before b.0.machine k.some));
 }
 
+pub start_ready : (back : ℕ) (start : Scene) (b : Option Beside) → StandsAtStart back start b → IfSome b IsBesideReady
+start_ready back start None h = tt
+start_ready back start (Some b) h = h.0.ready
+
 -- ---- a card that is put
 
 pub put-fresh : (old new : Steps) (s t : Machine) (w x n : ℕ) → IsPut old new s t w x → MatchOption (newest_step old.kept) ⊥ (λ k. k.puts ≡ n) → MatchOption (newest_step new.kept) ⊥ (λ k. k.puts ≡ n + 1)

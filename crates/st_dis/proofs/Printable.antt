@@ -99,6 +99,14 @@ half_plain Cbr = refl
 half_plain R = refl
 half_plain Ex = refl
 
+branch_plain : (op : BranchOp) → IsPlain (branch_name op)
+branch_plain B = refl
+branch_plain Br = refl
+branch_plain Be = refl
+branch_plain Bd = refl
+branch_plain Bew = refl
+branch_plain Nop = refl
+
 field_plain : (op : VflOp) → IsPlain (field_name op)
 field_plain L = refl
 field_plain Lwf = refl
@@ -368,6 +376,10 @@ cards_plain (t ∷ ts) p =
 where_asked : (b : Bool) (cards : List (List ℕ)) → All IsWritten cards → All IsWritten (if b then cards else [])
 where_asked true cards p = p
 where_asked false cards p = All-nil IsWritten
+
+where_not : (b : Bool) (cards : List (List ℕ)) → All IsWritten cards → All IsWritten (if b then [] else cards)
+where_not true cards p = All-nil IsWritten
+where_not false cards p = p
 
 location_plain : (w before : ℕ) → All IsWritten (location_cards w before)
 location_plain w before =

@@ -172,6 +172,10 @@ faultless-elsewhere s v a b none there =
     (not (in_storage b (extent (role_of s) v.first))) AddressOutOfRange ValueDoesNotFit NotOnABoundary LocationOutOfStorage
     none (ap not there)
 
+or_true : (a b : Bool) → b ≡ true → (a || b) ≡ true
+or_true true b h = refl
+or_true false b h = h
+
 pub in-storage : (a n : ℕ) → 2048 ≤ a → a + n ≤ 6291456 → in_storage a n ≡ true
 unfolding in_storage
 in-storage a n behind room =

@@ -284,6 +284,11 @@ placed-keeps t a n v i x size k h =
           ∙ h.fits
     ]
 
+with_field-keeps : (f : Option ℕ) (a n : ℕ) (t : Machine) (i x : ℕ) → length t.words ≡ words_of_storage
+    → IfSome f (λ _. IsApart a n i) → Stands t i x → word (with_field f a n t) i ≡ x
+with_field-keeps None a n t i x size k h = h.is
+with_field-keeps (Some v) a n t i x size k h = placed-keeps t a n v i x size k h
+
 with_result-keeps : (o : Done) (a n : ℕ) (t : Machine) (i x : ℕ) → length t.words ≡ words_of_storage → IsKept i
     → IfSome o.field (λ _. IsApart a n i) → Stands t i x → word (with_result o a n t) i ≡ x
 unfolding with_result

@@ -80,6 +80,12 @@ kept m t n is few =
     let whole : 128 - n + n ≡ 128 = omega arith in
     rw is (subst (λ k. t % 2 ^ k % 2 ^ n ≡ t % 2 ^ n) whole (mod-mod-pow t (128 - n) n))
 
+-- and what is lost
+pub exceeds_kept : (m t n : ℕ) → m ≡ t % 2 ^ 128 → n ≤ 64 → (exceeds t 128 || exceeds m n) ≡ exceeds t n
+exceeds_kept m t n is few =
+    let small : 2 ^ n ≤ 2 ^ 64 = pow-le-pow_right {n = 2} (lit< tt) few in
+    grind (arith, nat_tests)
+
 -- the magnitude of an unsigned field
 pub magnitude_bits-unsigned : (h : Shape) → h.unsigned ≡ true → magnitude_bits h ≡ h.length
 magnitude_bits-unsigned h is = rw is refl

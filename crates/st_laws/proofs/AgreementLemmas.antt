@@ -33,6 +33,12 @@ digits-joined n v = sym (joined-decimal n v)
 
 -- ---- counts
 
+zeros-part : (z o : ℕ) → z ≤ 64 → o ≤ 64 → part (z * 2 ^ 40 + o * 2 ^ 13) 17 7 ≡ z
+zeros-part z o few some = omega arith
+
+ones-part : (z o : ℕ) → z ≤ 64 → o ≤ 64 → part (z * 2 ^ 40 + o * 2 ^ 13) 44 7 ≡ o
+ones-part z o few some = omega arith
+
 pub zeros-counted : (bs : List ℕ) → length bs ≤ 64 → sum bs ≤ 64 → part (counts_of bs) 17 7 ≡ leading_zeros bs
 zeros-counted bs few some =
     zeros-part (leading_zeros bs) (sum bs) (omega (arith, few, prefix_len-le-length (λ b. b == 0) bs)) some

@@ -186,6 +186,13 @@ module _ (ds : List ℕ) (n now : ℕ) (f : Front) (x : List ℕ) (s : Machine) 
     );
   })
 
+  pub prepared-by : (fd : Fetched) (after : Next) → what ≡ GivenAll fd → after ≡ prepared_as fd x s before → IsPreparedBy now x s after
+  prepared-by fd after e same = subst (IsPreparedBy now x s) (sym same) (record {
+    found = ap (λ (words : List ℕ). fetching_of (left_after (reading_at_place x (word s 3) s.enabled before.place) words)) (sym contents) ∙ e;
+    done = due;
+    needed = refl;
+    ready = refl;
+    entry = refl;
   })
 
   -- ---- the plan

@@ -47,6 +47,12 @@ leads_each at line Fits step done (x ∷ rest) fits =
     let regrouped = append_assoc done (x ∷ []) rest in
     (at (done ++ x ∷ []), this.0, this.1, rw regrouped at (leads_each at line Fits step (done ++ x ∷ []) rest (rw regrouped fits)))
 
+-- a line that stands there where it is asked for
+leads_marked : (at : Bool → Draft) (item : Item) → IsStep (at false) item (at true) → (b : Bool) →
+    Leads (at false) (line_where b item) (at b)
+leads_marked at item step false = refl
+leads_marked at item step true = one (at false) (at true) item step
+
 -- a draft before its last line
 abbrev open_draft : ℕ → List ℕ → Asked → Draft
 open_draft h ws a = record { begun = true; start = Some h; words = ws; asked = a; ended = false }

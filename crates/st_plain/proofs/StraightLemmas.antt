@@ -36,6 +36,12 @@ chosen-other : (c : ℕ → ℕ) (b : Bool) (r q p : Reading) (ws : List ℕ) �
 chosen-other c true r q p ws e h = cc
 chosen-other c false r q p ws e h = h
 
+-- the second half-word stands in the word of the first one
+pub lead-same : (c : ℕ → ℕ) (f : Option ℕ) (first h v content : ℕ) (k : Use) → f ≡ None → (h / 2 == v) ≡ true
+    → Leads c (with_second f false first h v content k) (k (allowed_found first (half_of content h))) []
+lead-same c None first h v content k e same = chosen-first c (h / 2 == v) _ _ same
+lead-same c (Some i) first h v content k e same = cc
+
 -- it stands in the next word, which may be fetched
 pub lead-next : (c : ℕ → ℕ) (f : Option ℕ) (first h v content x half : ℕ) (k : Use) → f ≡ None → (h / 2 == v) ≡ false → x ≡ c (h / 2)
     → half ≡ half_of x h → Leads c (with_second f false first h v content k) (k (allowed_found first half)) (h / 2 ∷ [])

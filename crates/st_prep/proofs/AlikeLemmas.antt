@@ -71,6 +71,16 @@ same_plan s t i place seen side =
 
 -- ---- the same contents of what is read
 
+-- a word that is set in both
+set_same : (b : Bool) (xs ys : List ℕ) (w x y : ℕ) → (w == 11) ≡ b → 11 < length xs → 11 < length ys
+    → get_or ys w 0 ≡ get_or xs w 0 → (w ≡ 11 → y ≡ x) → get_or (set ys 11 y) w 0 ≡ get_or (set xs 11 x) w 0
+set_same true xs ys w x y e few many h same =
+    let it : w ≡ 11 = eqb-true w 11 e in
+    get_or-set_at ys 11 w y 0 it many ∙ same it ∙ sym (get_or-set_at xs 11 w x 0 it few)
+set_same false xs ys w x y e few many h same =
+    let other : w ≢ 11 = grind (arith, nat_tests, e) in
+    get_or-set_other ys 11 w y 0 other ∙ h ∙ sym (get_or-set_other xs 11 w x 0 other)
+
 opened_same : (s t : Machine) (i : Option ℕ) (w : ℕ) → IsMachine s → IsMachine t → word t w ≡ word s w
     → word (state_at_entry i t) w ≡ word (state_at_entry i s) w
 opened_same s t None w m n h = h

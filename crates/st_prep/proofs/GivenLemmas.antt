@@ -32,6 +32,11 @@ unfolding left_after fetching_of
 reads_none t w r [] none = refl
 reads_none t w r (c ∷ cs) none = absurd (omega arith)
 
+pub at-forbidden : (f : Option ℕ) (i : ℕ) (t : Bool) (b : ℕ) (en : Bool) (h : ℕ) (k : Use) (cs : List ℕ) → f ≡ Some i
+    → of (read_after f t b en h k) cs ≡ given_by t (Has (record { decoded = no_instr; fault = Some i }) 0) cs k
+at-forbidden None i t b en h k cs e = cc
+at-forbidden (Some j) i t b en h k cs e = ap (λ f. of (k (record { decoded = no_instr; fault = f })) cs) e
+
 pub at-wants : (f : Option ℕ) (t : Bool) (b : ℕ) (en : Bool) (h : ℕ) (k : Use) (cs : List ℕ) → f ≡ None → length cs ≡ 0
     → of (read_after f t b en h k) cs ≡ Next (h / 2) t
 at-wants None t b en h k cs e none = reads_none t (h / 2) _ cs none
@@ -44,11 +49,23 @@ at-first (Some j) t b en h k cs e some = cc
 
 -- ---- a second half-word
 
+pub second-forbidden : (f : Option ℕ) (i : ℕ) (t : Bool) (first h v content : ℕ) (k : Use) (cs : List ℕ) → f ≡ Some i
+    → of (with_second f t first h v content k) (drop 1 cs)
+    ≡ given_by t (Has (record { decoded = decoded_entry first 0; fault = Some i }) 1) cs k
+second-forbidden None i t first h v content k cs e = cc
+second-forbidden (Some j) i t first h v content k cs e =
+    ap (λ f. of (k (record { decoded = decoded_entry first 0; fault = f })) (drop 1 cs)) e
+
 -- by the test whether it stands in the word of the first one
 second-here : (same : Bool) (t : Bool) (w : ℕ) (here : Reading) (r : ℕ → Reading) (cs : List ℕ) → same ≡ true
     → of (if same then here else Reads t w r) cs ≡ of here cs
 second-here true t w here r cs e = refl
 second-here false t w here r cs e = cc
+
+second-there : (same : Bool) (t : Bool) (w : ℕ) (here : Reading) (r : ℕ → Reading) (cs : List ℕ) → same ≡ false
+    → of (if same then here else Reads t w r) cs ≡ of (Reads t w r) cs
+second-there true t w here r cs e = cc
+second-there false t w here r cs e = refl
 
 pub second-same : (f : Option ℕ) (t : Bool) (first h v content : ℕ) (k : Use) (cs : List ℕ) → f ≡ None
     → (h / 2 == v) ≡ true
@@ -98,6 +115,10 @@ found-second r first made second k f cs is same found =
     is
     ∙ ap (λ x. of (k (record { decoded = decoded_entry first x; fault = None })) cs) (sym same)
     ∙ found-of (k (record { decoded = decoded_entry first second; fault = None })) f cs found
+
+found-first : (two : Bool) (r q : Reading) (f : Fetched) (cs : List ℕ) → two ≡ false → q ≡ Finds f → of (if two then r else q) cs ≡ FoundAll f
+found-first true r q f cs h found = cc
+found-first false r q f cs h found = found-of q f cs found
 
 -- an instruction of one half-word
 pub found-short : (b : ℕ) (en : Bool) (h content first : ℕ) (k : Use) (f : Fetched) (cs : List ℕ) → first ≡ half_of content h

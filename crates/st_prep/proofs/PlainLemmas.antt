@@ -26,6 +26,12 @@ read-outcome : (t : Bool) (w : ℕ) (r : ℕ → Reading) (c : ℕ → ℕ) → 
 unfolding outcome
 read-outcome t w r c = refl
 
+-- the second half-word stands in the word of the first one
+pub second-in : (f : Option ℕ) (t : Bool) (first h v content : ℕ) (k : Use) (c : ℕ → ℕ) → f ≡ None → (h / 2 == v) ≡ true
+    → outcome (with_second f t first h v content k) c ≡ outcome (k (allowed_found first (half_of content h))) c
+second-in None t first h v content k c e same = chosen-first (h / 2 == v) _ _ c same
+second-in (Some i) t first h v content k c e same = cc
+
 -- it stands in the next word, which may be fetched
 pub second-next : (f : Option ℕ) (t : Bool) (first h v content : ℕ) (k : Use) (c : ℕ → ℕ) → f ≡ None → (h / 2 == v) ≡ false
     → outcome (with_second f t first h v content k) c ≡ outcome (k (allowed_found first (half_of (c (h / 2)) h))) c

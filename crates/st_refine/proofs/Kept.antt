@@ -312,6 +312,28 @@ kept-stopped m is = record {
 
 -- ---- a settle
 
+-- the tick is over
+kept-passed : (m : Overlap) → 1 ≤ m.levels → m.levels ≤ 8 → AreDelaysUpTo 255 m.delays → IsMachine m.state → m.taken ≡ interrupt m.state
+    → rests m.state ≡ false → m.now ≤ m.front.c → IsKept (machine_after_pass m)
+kept-passed m some few delays machine table awake late =
+    let below : IfSome m.taken (λ i. i < 64) = subst (λ t. IfSome t (λ i. i < 64)) (sym table) (interrupt-below m.state) in
+    record {
+      some = some;
+      few = few;
+      delays = delays;
+      machine = machine;
+      indicator = below;
+      counter = tt;
+      phase = record {
+        table = table;
+        awake = awake;
+        going = refl;
+        right = refl;
+        early = omega (arith, late, done-behind m.delays m.levels m.taken m.state m.front machine below);
+        unstarted = λ settled first. absurd (omega (arith, first));
+      };
+    }
+
 -- where an entry was done, its C or a later opening is the front's
 late-fresh : (m : Overlap) → IsFresh m → (b : Bool) → m.ended ≡ b → m.now ≤ m.front.c
 late-fresh m fresh true over = omega (arith, (fresh.start over).1)

@@ -72,6 +72,10 @@ prepared-first ds n t s f m some = omega (arith, ready-after ds n f (entry t s),
 
 -- ---- by a test
 
+none-if : (a : Ahead) (xs : List Ahead) (b : Bool) → b ≡ false → (if b then a ∷ xs else []) ≡ []
+none-if a xs true is = absurd (cc is)
+none-if a xs false is = refl
+
 one-if : (a : Ahead) (xs ys : List Ahead) (b c : Bool) → (b ≡ true → (c ≡ true) × AddsOneAtMost xs ys) → (b ≡ false → c ≡ true → ys ≡ [])
     → AddsOneAtMost (if b then a ∷ xs else []) (if c then a ∷ ys else [])
 one-if a xs ys true true more none = elim ((more refl).1) [

@@ -214,6 +214,9 @@ stands-passed_by m j o xs settled_is is = record {
     last-before true now = omega arith
     last-before false now = omega arith
 
+behind-first : (j : ℕ) (t : Option ℕ) → None ≡ table_behind (suc j) t
+behind-first j t = refl
+
 executed-step : (t : Option ℕ) (s : Machine) → t ≡ interrupt s → state_after_execution t s ≡ step s
 unfolding step
 executed-step t s table = ap (λ i. state_after_execution i s) table

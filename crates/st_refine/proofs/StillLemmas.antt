@@ -125,6 +125,12 @@ still-by m x tick levels index =
       index = index;
     }
 
+-- without levels
+still-empty : (m x : Overlap) → last_tick_made x ≡ last_tick_made m → levels_of m ≡ [] → levels_of x ≡ [] → index_words x.state ≡ index_words m.state → IsStill m x
+still-empty m x tick old new same =
+    still-by m x tick (ap (shows (last_tick_made m)) (old ∙ sym new))
+    (shown-none x (ap length new) ∙ same ∙ sym (shown-none m (ap length old)))
+
 -- ---- behind a tick at which an entry was done
 
 counted-alike : (c : Option ℕ) (s u : Machine) → AreAlikeBesideOrders s u → AreAlikeBesideOrders (with_counter c s) (with_counter c u)

@@ -26,6 +26,11 @@ older-taken n p past old j back = elim (cases_lt j 7) [
   | inr beyond ↦ omega (arith, take-beyond past 7 j beyond)
 ]
 
+older-next : (n p : ℕ) (x : Past) (past : List Past) → 1 ≤ n → ((j : ℕ) → n - 1 ≤ j → (get_or past j (record { c = 0; writes = no_runs })).c ≤ p)
+    → (j : ℕ) → n ≤ j → (get_or (x ∷ past) j (record { c = 0; writes = no_runs })).c ≤ p
+older-next n p x past some old zero back = let no_place : ⊥ = omega arith in absurd no_place
+older-next n p x past some old (suc j) back = old j (omega arith)
+
 pub older-after : (ds : List ℕ) (n : ℕ) (f : Front) (e : Entry) → 1 ≤ n → AreInOrder f → AreOlderDone n (front_after_entry ds n f e)
 unfolding front_after_entry tick_p preparation_tick
 older-after ds n f e some order =

@@ -90,6 +90,14 @@ counted-machine (Some h) s is below = record {
   printer_area = is.printer_area;
 }
 
+-- the counter behind a branch that was missed
+pub missed-below : (m : Overlap) → IsMachine m.state → IfSome m.taken (λ i. i < 64) → IfSome (missed_counter m) (λ h. h < 2 ^ 19)
+missed-below m is some = missed-by _ (plan m.state m.taken).following (plan-prepared m.state m.taken is some).following
+  where
+    missed-by : (b : Bool) (h : ℕ) → h < 2 ^ 19 → IfSome (if b then Some h else None) (λ i. i < 2 ^ 19)
+    missed-by true h below = below
+    missed-by false h below = tt
+
 -- ---- the end of a segment
 
 -- the machine in a state, with the front of the segment behind the one that ends here

@@ -194,6 +194,12 @@ module _ (left tick : ℕ) (snaps : List ℕ) (t : Together) (before : IsBeforeE
   abbrev next : Moment
   next = next_moment t.machine.delays t.machine.levels p
 
+  completion-told : told_of (completion t.machine.delays t.machine.levels p)
+      ≡ once next.scene.machine.done next.tick
+      (Done (address t.machine.state) (next_row t.machine.delays t.machine.levels p).p
+      (next_row t.machine.delays t.machine.levels p).r (next_row t.machine.delays t.machine.levels p).c)
+  completion-told = refl
+
   pub next-done : next.scene.machine.done ≡ t.machine.state.done + 1
   unfolding next_moment
   next-done = step-done t.machine.state

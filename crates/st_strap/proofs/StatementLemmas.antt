@@ -434,6 +434,8 @@ not_misused : (writing : Bool) (form : Form) (i : ℕ) → MayProgress writing f
 not_misused writing form i may is =
     both_false (immediate (form.p == 1) refl) (indexed (nat_le 2 form.p) refl)
   where
+    both_false : {a b : Bool} → a ≡ false → b ≡ false → (a || b) ≡ false
+    both_false e f = cc
 
     immediate : (b : Bool) → (form.p == 1) ≡ b → (b && (writing || nat_lt 24 form.length)) ≡ false
     immediate true e = let parts = may (grind (arith, e)) in two (parts.0) (grind (arith, parts.1))

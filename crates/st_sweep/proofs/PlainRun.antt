@@ -52,6 +52,10 @@ pub record IsSoFar (whole : Bool) (last : ℕ) (so : Bool) (left : ℕ) (s : Mac
   pub done : (run left (without_cards s xs)).last.done ≡ last
   pub few : s.done + left ≤ MOST_INSTRUCTIONS
 
+pub at-start : (s : Machine) (xs : List Signal) (left : ℕ) (marks : List Bool) → AreMarks [] marks → s.done + left ≤ MOST_INSTRUCTIONS
+    → IsSoFar (is_hazard_free_behind [] left (without_cards s xs)) (run left (without_cards s xs)).last.done true left s xs marks
+at-start s xs left marks are few = record { earlier = []; marks = are; hazard_free = refl; done = refl; few = few }
+
 -- at its end
 hazard_free-ends : (earlier : List WordRuns) (left : ℕ) (c : Scene) → (left ≡ 0) ⊎ (rests (interlude c).scene.machine ≡ true)
     → is_hazard_free_behind earlier left c ≡ is_quiet c

@@ -26,6 +26,13 @@ lacks_all at n text full lacking =
     let P : List ℕ → Type 0 = λ s. IsTrue (lacks at s) in
     subst P (ap (λ k. take k text) full ∙ take-length text) lacking
 
+-- a text around a byte
+pub around : (text front rest tail : List ℕ) (n c : ℕ) → front ≡ take n text → rest ≡ drop n text → rest ≡ c ∷ tail →
+    text ≡ front ++ c ∷ tail
+around text front rest tail n c before behind parts =
+    sym (take-append-drop n text)
+    ∙ (ap (λ (s : List ℕ). s ++ drop n text) (sym before) ∙ ap (λ (s : List ℕ). front ++ s) (sym behind ∙ parts))
+
 -- ---- the first place of a byte
 
 other_false : (b : Bool) → (b ≡ true → ⊥) → b ≡ false

@@ -17,3 +17,11 @@ by_count p few = if few then lines_alone Done (deck_lines p) else refusal_output
 
 pub deck_few : (p : Program) → card_count p ≤ 20000 → lines_alone Done (deck_lines p) ≡ deck_by p
 deck_few p few = let fits : nat_le (card_count p) 20000 ≡ true = grind (arith, nat_tests) in sym (ap (by_count p) fits)
+
+pub deck_many : (p : Program) (e : DisError) → Explains p e → Halts (deck_by p) (of_disassembly e)
+deck_many p (DeckTooLong cards) h =
+    let many = h.1 in
+    let same = h.0 in
+    let over : 20000 < card_count p = omega (arith, many, same) in
+    let past : nat_le (card_count p) 20000 ≡ false = grind (arith, nat_tests) in ap (by_count p) past
+deck_many p NoMemory h = tt

@@ -518,6 +518,9 @@ some-of : {A : Type 0} (o : Option A) → is_some o ≡ true → (x : A) × (o �
 some-of (Some x) h = (x, refl)
 some-of None h = let no : ⊥ = cc in absurd no
 
+with-true : (n : ℕ) (all : Found) → all.ended ≡ true → with_end n all ≡ Ok all
+with-true n all e = ap (λ (b : Bool). if b then Ok all else Err (record { card = n + 1; fault = NoEnd })) e
+
 -- the form pass, where the cards up to END lead to a state and those behind it are good
 form-again : (job : List ℕ) (found : Found) (z : Asked) → form_texts found_at_start 1 (texts_up_to_end job) ≡ Ok found → found.ended ≡ true
     → All (λ (card : Card). card.fault ≡ None) (cards_of job) → asked_with found.asked (texts_behind_end job) ≡ Some z
