@@ -1,19 +1,15 @@
 -- A job whose delays cards are exchanged for other good ones is again not refused.
-use Rattle.std.proofs.Common.{◌≡◌, ℕ, ◌+◌, ◌==◌, ◌&&◌, ◌||◌, Bool, true, false, not, if◌then◌else◌, List, [], ◌∷◌, ◌++◌, length, map, filter, refl, sym, ◌∙◌, ap, subst, Option, Some, None, arith}
+use Rattle.std.proofs.Common.{◌≡◌, ℕ, ◌+◌, ◌&&◌, Bool, true, false, if◌then◌else◌, List, [], ◌∷◌, ◌++◌, length, filter, refl, sym, ◌∙◌, ap, subst, Option, Some, None, arith}
 use Rattle.std.specs.Prelude.{nat_le}
 use Rattle.std.specs.List.{list_all}
-use Rattle.std.proofs.lemmas.Bool.{or_parts}
 use Rattle.st_text.specs.Pieces.{words}
 use Rattle.st_text.specs.Tables.{row_of}
 use Rattle.st_bits.specs.declared.limits.TheConstants.{LONGEST_LIST}
 use Rattle.st_card.specs.declared.limits.TheConstants.{MOST_DELAY}
-use Rattle.st_card.specs.Cards.{columns, kind_of, cards_of, text_in}
-use Rattle.st_card.specs.Controls.{Asked, nothing_asked, keywords, card_numbers, is_in_range, with_delays, with_keyword, with_card, with_words, asked_with_card}
-use Rattle.st_card.specs.declared.cards.Card.{Card}
+use Rattle.st_card.specs.Cards.{columns, kind_of}
+use Rattle.st_card.specs.Controls.{Asked, keywords, card_numbers, is_in_range, with_delays, with_keyword, with_card, with_words, asked_with_card}
 use Rattle.st_card.specs.declared.cards.CardKind.{CardKind}
 use Rattle.st_card.specs.declared.cards.CardKind.TheVariants.{Comment, Control, Statement}
-use Rattle.st_card.specs.declared.faults.Fault.{Fault}
-use Rattle.st_card.specs.declared.faults.Fault.TheVariants.{BadControlCard, CardAfterEnd}
 use Rattle.st_card.specs.declared.keywords.Keyword.{Keyword}
 use Rattle.st_top.specs.Delays.{is_delays, begins_delays, is_control, is_delays_card, asked_on, asked_in}
 use Rattle.st_top.proofs.DelayCards.{still, stills, keyword-is, others, asked_by, asked_with, other-still, delays-still, others-kept, others-left, asks-none}
