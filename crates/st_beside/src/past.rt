@@ -34,14 +34,14 @@ use st_run::{Coming, Outside};
 use st_state::State;
 use std::marker::Model;
 
-/// A machine, and its last steps, which can be undone.
+/// A machine, and its last steps, which can be undone. What it prints is not shown.
 #[derive(Drop)]
 pub struct Noted {
     pub state: State,
     pub steps: Back,
 }
 
-/// A machine beside a run, and what is still to come to it.
+/// A machine beside a run, and what is still to come to it: signals, and cards of the reader.
 #[derive(Drop)]
 pub struct Past<'a> {
     noted: Noted,
@@ -217,7 +217,8 @@ fn run_to_end(past: &mut Past, budget: u64)
     }
 }
 
-/// Makes the run to its end on the machine beside it, where there is one.
+/// Makes the run to its end on the machine beside it, where there is one: at rest, or with as many
+/// steps done as the budget has.
 pub fn run_beside(past: &mut Option<Past>, budget: u64)
     requires fresh { IfSome past.old (λ b. b.0.machine.done ≡ 0) }
     requires limit { budget ≤ MOST_INSTRUCTIONS }
@@ -242,7 +243,7 @@ fn undo_all(steps: &mut Back, machine: &mut State)
     }
 }
 
-/// Undoes all steps that are kept, and tells how many they were.
+/// Undoes all steps that are kept, the newest first, and tells how many they were, 64 at most.
 pub fn rewind(past: &mut Past) -> u8
     requires { IsBesideReady past.old }
     ensures count { result ≡ length past.old.1.kept }

@@ -1,5 +1,5 @@
 -- Lines of text that stand one after another.
-use Rattle.std.proofs.Common.{◌≡◌, ◌<◌, ◌∙◌, refl, sym, ap, arith, length, [], ◌∷◌, ◌++◌, List, append_assoc, ℕ}
+use Rattle.std.proofs.Common.{◌≡◌, ◌<◌, ◌∙◌, sym, ap, arith, length, [], ◌∷◌, ◌++◌, List, append_assoc, ℕ}
 use Rattle.std.proofs.lemmas.List.{append-nil}
 use Rattle.st_draw.specs.Terminal.{entry_line, entry_lines, line_with_tick, scale}
 use Rattle.st_draw.specs.declared.terminal.Page.{Page}

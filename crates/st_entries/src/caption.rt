@@ -10,7 +10,7 @@ use crate::timetable::Entry;
 use st_text::{behind, front};
 use std::alloc::{AllocError, Global};
 
-/// How many characters of a card are shown at most.
+/// How many characters of a card are shown at most; a longer one ends in an ellipsis or in dots.
 pub const CARD_LIMIT: usize = 40;
 
 // The names of the indicators 0 to 63, each in four places.
@@ -58,7 +58,8 @@ fn place_text(alloc: Global, place: Place) -> Result<Vec<u8>, AllocError>
     Ok(text)
 }
 
-/// The number of an entry that is done, or what else it is.
+/// The first text of an entry: its number, where it is done, else what it is (`drop`, `INT` or
+/// `SNAP`).
 #[tactic(auto, unfolding(crate::specs::Caption::caption_number))]
 pub fn first_text(alloc: Global, entry: Entry) -> Result<Vec<u8>, AllocError>
     ensures { IfOk result (λ text. text.items ≡ spec.caption_number entry) }
@@ -71,7 +72,8 @@ pub fn first_text(alloc: Global, entry: Entry) -> Result<Vec<u8>, AllocError>
     }
 }
 
-/// Where an entry stands in storage; the number of an indicator; the tick of a snapshot.
+/// The second text of an entry: its address as word.bit; of an interrupt the number of its
+/// indicator, of a snapshot its tick.
 #[tactic(auto, unfolding(crate::specs::Caption::second_text))]
 pub fn second_text(alloc: Global, entry: Entry) -> Result<Vec<u8>, AllocError>
     ensures { IfOk result (λ text. text.items ≡ spec.second_text entry) }
@@ -84,7 +86,8 @@ pub fn second_text(alloc: Global, entry: Entry) -> Result<Vec<u8>, AllocError>
     }
 }
 
-/// The text of an entry's card; the name of an indicator.
+/// The third text of an entry: that of its card in the report's listing, where it has one; of an
+/// interrupt the name of its indicator.
 #[tactic(auto, unfolding(crate::specs::Caption::third_text))]
 pub fn third_text<'a>(report: &'a [u8], entry: Entry) -> &'a [u8]
     ensures { result.now ≡ spec.third_text report.now entry }
@@ -97,7 +100,8 @@ pub fn third_text<'a>(report: &'a [u8], entry: Entry) -> &'a [u8]
     }
 }
 
-/// A third text where ASCII alone may stand: one that is too long ends in three dots.
+/// A third text where ASCII alone may stand: of one with more than 40 characters the first 37, and
+/// three dots.
 #[tactic(auto, unfolding(crate::specs::Caption::with_dots))]
 pub fn with_dots(alloc: Global, text: &[u8]) -> Result<Vec<u8>, AllocError>
     ensures { IfOk result (λ out. out.items ≡ spec.with_dots text.now) }
@@ -110,7 +114,7 @@ pub fn with_dots(alloc: Global, text: &[u8]) -> Result<Vec<u8>, AllocError>
     Ok(out)
 }
 
-/// How many characters are shown of the longest third text.
+/// How many characters are shown of the longest third text, 40 at most; 0 where there is no entry.
 pub fn widest(report: &[u8], entries: &[Entry]) -> usize
     ensures value { result ≡ spec.widest report.now entries.now }
     ensures inside { result ≤ 40 }
@@ -163,7 +167,8 @@ fn push_title(out: &mut Vec<u8>, entry: Entry) -> Result<(), AllocError>
     }
 }
 
-/// What the bars of an entry tell: the ticks of its phases.
+/// What the bars of an entry tell when they are pointed at: the ticks of its phases. An interrupt
+/// and a snapshot have no bars.
 pub fn title(alloc: Global, entry: Entry) -> Result<Vec<u8>, AllocError>
     ensures { IfOk result (λ text. text.items ≡ spec.title entry) }
 {

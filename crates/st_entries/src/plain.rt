@@ -22,7 +22,8 @@ fn plain_byte(byte: u8) -> u8
     }
 }
 
-/// Appends a text as a terminal may show it.
+/// Appends a text as a terminal may show it: what is no printable character of ASCII is a question
+/// mark.
 pub fn push_plain(out: &mut Vec<u8>, text: &[u8]) -> Result<(), AllocError>
     ensures { IfOk result (λ _. out.new.items ≡ out.old.items ++ spec.plain_text text.now) }
 {

@@ -4,7 +4,7 @@ ghost use Rattle.st_entries.specs.Report as spec;
 
 use st_text::{cut, number_up_to};
 
-/// An address: a word, and a bit of it.
+/// An address as a report has it: a word, and a bit of it.
 #[derive(Clone, Copy)]
 pub struct Place {
     pub word: u64,

@@ -9,7 +9,7 @@ use crate::report::{Item, Place, item_of};
 use st_text::cut;
 use std::alloc::{AllocError, Global};
 
-/// The rows that are asked for, by their numbers.
+/// The rows that are asked for, by their numbers: none where `to` is below `from`.
 #[derive(Clone, Copy)]
 pub struct Part {
     /// The first row.
@@ -63,7 +63,7 @@ pub struct Told {
     pub later: u64,
 }
 
-/// The first tick of an entry.
+/// The first tick of an entry: when it was prepared; of an interrupt and a snapshot their tick.
 pub fn first_tick(entry: &Entry) -> u64
     ensures { result ≡ first_tick_of entry.now }
 {
@@ -196,7 +196,8 @@ fn take_lines(part: Part, told: &mut Told, report: &[u8]) -> Result<(), AllocErr
     take_line(part, told, rest)
 }
 
-/// The timetable that a report tells.
+/// The timetable that the lines of a report tell, as far as a part of its rows is asked for. A line
+/// that says nothing of it is passed over.
 #[tactic(auto, unfolding(crate::specs::Timetable::timetable))]
 pub fn read_timetable(alloc: Global, part: Part, report: &[u8]) -> Result<Told, AllocError>
     ensures { IfOk result (λ told. kept_by told ≡ spec.timetable part report.now) }

@@ -16,20 +16,25 @@ use st_bits::VflOp;
 use st_format::misfits_field;
 use st_text::{Reading, read_number, row_of};
 
-// The first word of a description.
+/// What the first word of a description says.
 #[derive(Clone, Copy)]
-pub(crate) enum Mode {
+pub enum Mode {
+    /// A field, of decimal digits or not, without a sign byte or with one.
     Field { decimal: bool, unsigned: bool },
-    // Of the floating group.
+    /// N, of the floating group.
     Normalized,
+    /// U, of the floating group.
     Unnormalized,
 }
 
-// What a group says as a description.
+/// What a group says as a description.
 #[derive(Clone, Copy)]
-pub(crate) enum Description {
+pub enum Description {
+    /// No group stands there.
     Absent,
+    /// The form of a field.
     InForm(Form),
+    /// An operation of the floating group.
     Floating { unnormalized: bool },
 }
 

@@ -12,7 +12,7 @@ use st_io::{Failed, Sink, write_line};
 use st_report::{Line, line_dump, line_en, line_ic, line_mem, line_reg};
 use st_run::Seen;
 
-/// Writes a line of the report.
+/// Writes a line of the report. After an error the sink has a proper front of it.
 pub fn put<K: Sink>(out: &mut K, line: &Line) -> Result<(), Failed>
     ensures { WritesLines (K.output out.old) (K.output out.new) (line.now.bytes ∷ []) result }
 {

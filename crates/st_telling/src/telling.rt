@@ -23,7 +23,7 @@ use st_report::{
 use st_run::{Run, RunEvent, Seen, TimedRunEvent};
 use st_time::{fill_chart, level_line, snap_line};
 
-/// Writes the state block, with the dumps that are asked for.
+/// Writes the state block, with the dumps that are asked for, line by line.
 pub fn write_state<K: Sink>(out: &mut K, seen: &Seen<'_>, controls: &Controls) -> Result<(), Failed>
     requires { AllPass is_part controls.now.dumps }
     ensures { WritesLines (K.output out.old) (K.output out.new)

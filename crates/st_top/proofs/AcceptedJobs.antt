@@ -1,22 +1,17 @@
 -- A job whose delays cards are exchanged for other good ones is again not refused.
-use Rattle.std.proofs.Common.{◌≡◌, ℕ, ◌+◌, ◌==◌, ◌&&◌, ◌||◌, Bool, true, false, not, if◌then◌else◌, List, [], ◌∷◌, ◌++◌, length, map, filter, refl, sym, ◌∙◌, ap, subst, append_assoc, append-nil, Result, Ok, Err, Option, Some, None}
+use Rattle.std.proofs.Common.{◌≡◌, ℕ, ◌+◌, ◌&&◌, Bool, true, false, if◌then◌else◌, List, [], ◌∷◌, ◌++◌, length, filter, refl, sym, ◌∙◌, ap, subst, Option, Some, None, arith}
 use Rattle.std.specs.Prelude.{nat_le}
 use Rattle.std.specs.List.{list_all}
-use Rattle.std.proofs.lemmas.Bool.{or_parts}
 use Rattle.st_text.specs.Pieces.{words}
 use Rattle.st_text.specs.Tables.{row_of}
 use Rattle.st_bits.specs.declared.limits.TheConstants.{LONGEST_LIST, MOST_DELAY}
-use Rattle.st_card.specs.Cards.{columns, kind_of, cards_of, text_in}
-use Rattle.st_card.specs.Controls.{Asked, nothing_asked, keywords, card_numbers, is_in_range, with_delays, with_keyword, with_card, with_words, asked_with_card}
-use Rattle.st_card.specs.declared.cards.Card.{Card}
+use Rattle.st_card.specs.Cards.{columns, kind_of}
+use Rattle.st_card.specs.Controls.{Asked, keywords, card_numbers, is_in_range, with_delays, with_keyword, with_card, with_words, asked_with_card}
 use Rattle.st_card.specs.declared.cards.CardKind.{CardKind}
 use Rattle.st_card.specs.declared.cards.CardKind.TheVariants.{Comment, Control, Statement}
-use Rattle.st_card.specs.declared.faults.Fault.{Fault}
-use Rattle.st_card.specs.declared.faults.Fault.TheVariants.{BadControlCard, CardAfterEnd}
 use Rattle.st_card.specs.declared.keywords.Keyword.{Keyword}
-use Rattle.st_card.specs.declared.keywords.Keyword.TheVariants.{Budget, Delays, Signals, Dump, Snap, Back, Listing, Trace, Time, Chart}
 use Rattle.st_top.specs.Delays.{is_delays, begins_delays, is_control, is_delays_card, asked_on, asked_in}
-use Rattle.st_top.proofs.DelayCards.{still, stills, others, asked_by, asked_with, other-still, delays-still, others-kept, others-left, asks-none}
+use Rattle.st_top.proofs.DelayCards.{still, stills, keyword-is, others, asked_by, asked_with, other-still, delays-still, others-kept, others-left, asks-none}
 
 -- ---- a good delays card is good beside others
 
@@ -41,16 +36,10 @@ with-like a d e (n ∷ ns) same h =
 
 keyword-like : (k : Keyword) (a d e : Asked) (ns : List ℕ) → is_delays (Some k) ≡ true → a.delays ≡ d.delays → with_keyword k d ns ≡ Some e
     → Likewise (λ z. with_keyword k z ns) a e
-keyword-like Delays a d e ns h same is = with-like a d e ns same is
-keyword-like Budget a d e ns h same is = let no : ⊥ = cc in absurd no
-keyword-like Signals a d e ns h same is = let no : ⊥ = cc in absurd no
-keyword-like Dump a d e ns h same is = let no : ⊥ = cc in absurd no
-keyword-like Snap a d e ns h same is = let no : ⊥ = cc in absurd no
-keyword-like Back a d e ns h same is = let no : ⊥ = cc in absurd no
-keyword-like Listing a d e ns h same is = let no : ⊥ = cc in absurd no
-keyword-like Trace a d e ns h same is = let no : ⊥ = cc in absurd no
-keyword-like Time a d e ns h same is = let no : ⊥ = cc in absurd no
-keyword-like Chart a d e ns h same is = let no : ⊥ = cc in absurd no
+keyword-like k a d e ns h same is =
+    let one = keyword-is k h in
+    let here : with_delays d ns ≡ Some e = subst (λ (q : Keyword). with_keyword q d ns ≡ Some e) one is in
+    subst (λ (q : Keyword). Likewise (λ z. with_keyword q z ns) a e) (sym one) (with-like a d e ns same here)
 
 card-like : (o : Option Keyword) (a d e : Asked) (ns : Option (List ℕ)) → is_delays o ≡ true → a.delays ≡ d.delays → with_card d o ns ≡ Some e
     → Likewise (λ z. with_card z o ns) a e
@@ -64,41 +53,8 @@ words-like a d e [] h same is = let no : ⊥ = cc in absurd no
 words-like a d e (word ∷ more) h same is = card-like (row_of word keywords) a d e (card_numbers more) h same is
 
 -- another card leaves the delays
-left-if : (test : Bool) (a x b : Asked) → x.delays ≡ a.delays → (if test then Some x else None) ≡ Some b → b.delays ≡ a.delays
-left-if true a x b same h = let is : x ≡ b = cc in ap (λ (z : Asked). z.delays) (sym is) ∙ same
-left-if false a x b same h = let no : ⊥ = cc in absurd no
-
-left-none : (test : Bool) (a x b : Asked) → x.delays ≡ a.delays → (if test then None else Some x) ≡ Some b → b.delays ≡ a.delays
-left-none false a x b same h = let is : x ≡ b = cc in ap (λ (z : Asked). z.delays) (sym is) ∙ same
-left-none true a x b same h = let no : ⊥ = cc in absurd no
-
 keyword-leaves : (k : Keyword) (a b : Asked) (ns : List ℕ) → is_delays (Some k) ≡ false → with_keyword k a ns ≡ Some b → b.delays ≡ a.delays
-keyword-leaves Delays a b ns h is = let no : ⊥ = cc in absurd no
-keyword-leaves Budget a b [] h is = let no : ⊥ = cc in absurd no
-keyword-leaves Budget a b (n ∷ []) h is = left-if _ a _ b refl is
-keyword-leaves Budget a b (n ∷ m ∷ ns) h is = let no : ⊥ = cc in absurd no
-keyword-leaves Signals a b [] h is = let no : ⊥ = cc in absurd no
-keyword-leaves Signals a b (n ∷ []) h is = let no : ⊥ = cc in absurd no
-keyword-leaves Signals a b (n ∷ m ∷ []) h is = left-if _ a _ b refl is
-keyword-leaves Signals a b (n ∷ m ∷ k ∷ ns) h is = let no : ⊥ = cc in absurd no
-keyword-leaves Dump a b [] h is = let no : ⊥ = cc in absurd no
-keyword-leaves Dump a b (n ∷ []) h is = let no : ⊥ = cc in absurd no
-keyword-leaves Dump a b (n ∷ m ∷ []) h is = left-if _ a _ b refl is
-keyword-leaves Dump a b (n ∷ m ∷ k ∷ ns) h is = let no : ⊥ = cc in absurd no
-keyword-leaves Snap a b [] h is = let no : ⊥ = cc in absurd no
-keyword-leaves Snap a b (n ∷ []) h is = left-if _ a _ b refl is
-keyword-leaves Snap a b (n ∷ m ∷ ns) h is = let no : ⊥ = cc in absurd no
-keyword-leaves Back a b [] h is = let no : ⊥ = cc in absurd no
-keyword-leaves Back a b (n ∷ []) h is = left-if _ a _ b refl is
-keyword-leaves Back a b (n ∷ m ∷ ns) h is = let no : ⊥ = cc in absurd no
-keyword-leaves Listing a b [] h is = left-none a.list a _ b refl is
-keyword-leaves Listing a b (n ∷ ns) h is = let no : ⊥ = cc in absurd no
-keyword-leaves Trace a b [] h is = left-none a.trace a _ b refl is
-keyword-leaves Trace a b (n ∷ ns) h is = let no : ⊥ = cc in absurd no
-keyword-leaves Time a b [] h is = left-none a.time a _ b refl is
-keyword-leaves Time a b (n ∷ ns) h is = let no : ⊥ = cc in absurd no
-keyword-leaves Chart a b [] h is = left-none a.chart a _ b refl is
-keyword-leaves Chart a b (n ∷ ns) h is = let no : ⊥ = cc in absurd no
+keyword-leaves k a b ns h is = grind (arith, h, is)
 
 card-leaves : (o : Option Keyword) (a b : Asked) (ns : Option (List ℕ)) → is_delays o ≡ false → with_card a o ns ≡ Some b → b.delays ≡ a.delays
 card-leaves None a b ns h is = let no : ⊥ = cc in absurd no

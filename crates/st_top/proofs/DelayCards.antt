@@ -1,6 +1,6 @@
 -- A delays card changes the delays alone, and no other control card reads them.
-use Rattle.std.proofs.Common.{◌≡◌, ℕ, ◌+◌, ◌==◌, ◌&&◌, Bool, true, false, not, if◌then◌else◌, List, [], ◌∷◌, ◌++◌, length, filter, refl, sym, ◌∙◌, ap, Option, Some, None}
-use Rattle.std.specs.Prelude.{nat_le, nat_lt}
+use Rattle.std.proofs.Common.{◌≡◌, ℕ, ◌+◌, ◌&&◌, Bool, true, false, not, if◌then◌else◌, List, [], ◌∷◌, ◌++◌, length, filter, refl, sym, ◌∙◌, ap, subst, Option, Some, None, arith}
+use Rattle.std.specs.Prelude.{nat_le}
 use Rattle.std.specs.List.{list_all}
 use Rattle.std.specs.Option.{option_map}
 use Rattle.st_text.specs.Pieces.{words}
@@ -11,7 +11,7 @@ use Rattle.st_card.specs.Controls.{Asked, keywords, card_numbers, is_in_range, w
 use Rattle.st_card.specs.declared.cards.CardKind.{CardKind}
 use Rattle.st_card.specs.declared.cards.CardKind.TheVariants.{Comment, Control, Statement}
 use Rattle.st_card.specs.declared.keywords.Keyword.{Keyword}
-use Rattle.st_card.specs.declared.keywords.Keyword.TheVariants.{Budget, Delays, Signals, Dump, Snap, Back, Listing, Trace, Time, Chart}
+use Rattle.st_card.specs.declared.keywords.Keyword.TheVariants.{Delays}
 use Rattle.st_top.specs.Delays.{is_delays, begins_delays, is_control, is_delays_card, asked_on}
 
 -- what is asked for without the delays
@@ -22,42 +22,13 @@ still asked = record asked { delays = [] }
 abbrev pub stills : Option Asked → Option Asked
 stills o = option_map still o
 
-if-still : (test : Bool) (x : Asked) → (if test then Some (still x) else None) ≡ stills (if test then Some x else None)
-if-still true x = refl
-if-still false x = refl
-
-if-none : (test : Bool) (x : Asked) → (if test then None else Some (still x)) ≡ stills (if test then None else Some x)
-if-none true x = refl
-if-none false x = refl
+-- the keyword of delays is the only one
+pub keyword-is : (k : Keyword) → is_delays (Some k) ≡ true → k ≡ Delays
+keyword-is k h = grind (arith, h)
 
 -- a card of another keyword asks for the same, whatever the delays are
 keyword-still : (k : Keyword) (a : Asked) (ns : List ℕ) → is_delays (Some k) ≡ false → with_keyword k (still a) ns ≡ stills (with_keyword k a ns)
-keyword-still Delays a ns h = let no : ⊥ = cc in absurd no
-keyword-still Budget a [] h = refl
-keyword-still Budget a (n ∷ []) h = if-still _ _
-keyword-still Budget a (n ∷ m ∷ ns) h = refl
-keyword-still Signals a [] h = refl
-keyword-still Signals a (n ∷ []) h = refl
-keyword-still Signals a (n ∷ m ∷ []) h = if-still _ _
-keyword-still Signals a (n ∷ m ∷ k ∷ ns) h = refl
-keyword-still Dump a [] h = refl
-keyword-still Dump a (n ∷ []) h = refl
-keyword-still Dump a (n ∷ m ∷ []) h = if-still _ _
-keyword-still Dump a (n ∷ m ∷ k ∷ ns) h = refl
-keyword-still Snap a [] h = refl
-keyword-still Snap a (n ∷ []) h = if-still _ _
-keyword-still Snap a (n ∷ m ∷ ns) h = refl
-keyword-still Back a [] h = refl
-keyword-still Back a (n ∷ []) h = if-still _ _
-keyword-still Back a (n ∷ m ∷ ns) h = refl
-keyword-still Listing a [] h = if-none a.list _
-keyword-still Listing a (n ∷ ns) h = refl
-keyword-still Trace a [] h = if-none a.trace _
-keyword-still Trace a (n ∷ ns) h = refl
-keyword-still Time a [] h = if-none a.time _
-keyword-still Time a (n ∷ ns) h = refl
-keyword-still Chart a [] h = if-none a.chart _
-keyword-still Chart a (n ∷ ns) h = refl
+keyword-still k a ns h = grind (arith, h)
 
 card-still : (o : Option Keyword) (a : Asked) (ns : Option (List ℕ)) → is_delays o ≡ false → with_card (still a) o ns ≡ stills (with_card a o ns)
 card-still None a ns h = refl
@@ -83,16 +54,7 @@ delays-keep a b (n ∷ ns) h =
     (record a { delays = a.delays ++ n ∷ ns }) b refl h
 
 keyword-keeps : (k : Keyword) (a b : Asked) (ns : List ℕ) → is_delays (Some k) ≡ true → with_keyword k a ns ≡ Some b → still b ≡ still a
-keyword-keeps Delays a b ns h is = delays-keep a b ns is
-keyword-keeps Budget a b ns h is = let no : ⊥ = cc in absurd no
-keyword-keeps Signals a b ns h is = let no : ⊥ = cc in absurd no
-keyword-keeps Dump a b ns h is = let no : ⊥ = cc in absurd no
-keyword-keeps Snap a b ns h is = let no : ⊥ = cc in absurd no
-keyword-keeps Back a b ns h is = let no : ⊥ = cc in absurd no
-keyword-keeps Listing a b ns h is = let no : ⊥ = cc in absurd no
-keyword-keeps Trace a b ns h is = let no : ⊥ = cc in absurd no
-keyword-keeps Time a b ns h is = let no : ⊥ = cc in absurd no
-keyword-keeps Chart a b ns h is = let no : ⊥ = cc in absurd no
+keyword-keeps k a b ns h is = delays-keep a b ns (subst (λ (q : Keyword). with_keyword q a ns ≡ Some b) (keyword-is k h) is)
 
 card-keeps : (o : Option Keyword) (a b : Asked) (ns : Option (List ℕ)) → is_delays o ≡ true → with_card a o ns ≡ Some b → still b ≡ still a
 card-keeps None a b ns h is = let no : ⊥ = cc in absurd no

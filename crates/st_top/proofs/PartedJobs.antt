@@ -1,9 +1,8 @@
 -- What a job is assembled to hangs on its cards up to END, but for what the control cards behind it ask for.
-use Rattle.std.proofs.Common.{◌≡◌, ℕ, zero, suc, ◌+◌, ◌==◌, ◌&&◌, ◌||◌, Bool, true, false, not, if◌then◌else◌, List, [], ◌∷◌, ◌++◌, length, map, filter, take, refl, sym, ◌∙◌, ap, subst, append_assoc, append-nil, length-append, arith, Result, Ok, Err, Option, Some, None, is_some, All}
+use Rattle.std.proofs.Common.{◌≡◌, ℕ, zero, suc, ◌+◌, ◌==◌, ◌&&◌, ◌||◌, Bool, true, false, if◌then◌else◌, List, [], ◌∷◌, ◌++◌, length, map, filter, take, refl, sym, ◌∙◌, ap, subst, append_assoc, append-nil, length-append, arith, Result, Ok, Err, Option, Some, None, is_some, All}
 use Rattle.std.proofs.lemmas.Bool.{or_parts}
 use Rattle.std.proofs.lemmas.List.{length-map}
 use Rattle.std.proofs.lemmas.List.Elements.{All-head, All-tail}
-use Rattle.std.specs.Str.Lines.{strip_carriage_return}
 use Rattle.st_text.specs.Bytes.{line_end}
 use Rattle.st_text.specs.Pieces.{words, pieces_of}
 use Rattle.st_card.specs.Cards.{columns, kind_of, card_at, cards_from, cards_of, text_in, IsCardOf}

@@ -1,10 +1,10 @@
 -- What the passes of the assembler leave of the cards up to END, and of those behind it, which say nothing to the later passes.
-use Rattle.std.proofs.Common.{◌≡◌, ℕ, zero, suc, ◌+◌, Bool, true, false, if◌then◌else◌, List, [], ◌∷◌, ◌++◌, length, map, take, refl, sym, ◌∙◌, ap, append_assoc, append-nil, length-append, subst, arith, Result, Ok, Err, Option, Some, None, unwrap_or}
+use Rattle.std.proofs.Common.{◌≡◌, ℕ, ◌+◌, Bool, List, [], ◌∷◌, ◌++◌, length, map, refl, sym, ◌∙◌, ap, append_assoc, append-nil, arith, Result, Ok, Err, Option, None}
 use Rattle.std.specs.List.{zip, filter_map}
 use Rattle.std.proofs.lemmas.List.{length-map}
 use Rattle.std.proofs.lemmas.List.Elements.{filter_map-append}
 use Rattle.st_card.specs.declared.faults.Fault.{Fault}
-use Rattle.st_asm.specs.Pass.{Refusal, onward, pass, unless_faulty, pass_then}
+use Rattle.st_asm.specs.Pass.{Refusal, onward, pass, pass_then}
 use Rattle.st_asm.specs.Lines.{is_silent}
 use Rattle.st_asm.specs.Symbols.{table, has_name, names_of}
 use Rattle.st_asm.specs.Naming.{Named, naming_at_start, name_fault, name_step, name_card, name_pass}

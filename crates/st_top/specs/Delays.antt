@@ -9,7 +9,7 @@ use Rattle.st_card.specs.declared.cards.Card.{Card}
 use Rattle.st_card.specs.declared.cards.CardKind.{CardKind}
 use Rattle.st_card.specs.declared.cards.CardKind.TheVariants.{Comment, Control, Statement}
 use Rattle.st_card.specs.declared.keywords.Keyword.{Keyword}
-use Rattle.st_card.specs.declared.keywords.Keyword.TheVariants.{Budget, Delays, Signals, Dump, Snap, Back, Listing, Trace, Time, Chart}
+use Rattle.st_card.specs.declared.keywords.Keyword.TheVariants.{Delays}
 use Rattle.st_asm.specs.Assembly.{Assembly, assembly}
 use Rattle.st_exch.specs.Reader.{behind_statements}
 use Rattle.st_run.specs.Run.{Scene}
@@ -24,17 +24,8 @@ use Rattle.st_command.specs.declared.command.Command.TheVariants.{Run, Load}
 
 -- whether a keyword is that of delays
 abbrev pub is_delays : Option Keyword → Bool
-is_delays None = false
-is_delays (Some Budget) = false
 is_delays (Some Delays) = true
-is_delays (Some Signals) = false
-is_delays (Some Dump) = false
-is_delays (Some Snap) = false
-is_delays (Some Back) = false
-is_delays (Some Listing) = false
-is_delays (Some Trace) = false
-is_delays (Some Time) = false
-is_delays (Some Chart) = false
+is_delays _ = false
 
 -- whether words begin with that keyword
 abbrev pub begins_delays : List (List ℕ) → Bool
