@@ -2,6 +2,7 @@ pub mod Runs
 pub mod Untimed
 pub mod Turns
 pub mod PassLemmas
+pub mod RowLemmas
 pub mod OrderLemmas
 pub mod OutsideLemmas
 pub mod ShownLemmas

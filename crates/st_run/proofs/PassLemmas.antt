@@ -358,10 +358,10 @@ far-left_out done most row old new before after far = record {
 -- and waits, where there is room
 pub far-waits : (done : ℕ) (row : Row) (old new : List Told) (before after : Queue) → HasGoneFar done (done + 64) row old new before after
     → before ≡ record { rows = []; room = 64 } → old ≡ rows_then (queue_with (row ∷ []) after).rows new
-far-waits done row old new before after far open =
+far-waits done row old new before after far empty =
     let few : length far.passed ≤ 63 = omega (arith, far.few) in
     let mid : after ≡ record { rows = far.passed; room = 64 - length far.passed } =
-    far.waits ∙ ap {A = Queue} (queue_with far.passed) open ∙ queue-all far.passed (record { rows = []; room = 64 }) (omega (arith, few)) in
+    far.waits ∙ ap {A = Queue} (queue_with far.passed) empty ∙ queue-all far.passed (record { rows = []; room = 64 }) (omega (arith, few)) in
     let end : queue_with (row ∷ []) after ≡ record { rows = far.passed ++ row ∷ []; room = 64 - length far.passed - 1 } =
     ap {A = Queue} (queue_with (row ∷ [])) mid ∙ queue-all (row ∷ []) (record { rows = far.passed; room = 64 - length far.passed }) (omega (arith, few)) in
     far.told ∙ sym (rows-both far.passed (row ∷ []) new) ∙ ap {A = Queue} (λ q. rows_then q.rows new) (sym end)

@@ -101,7 +101,8 @@ pub(crate) fn pass_entries<const N: usize>(
 #[inline(never)]
 pub(crate) fn make_rows<const N: usize>(run: &mut Progress<N>, rows: &mut RowQueue)
     requires run { IsRun run.old.turn run.old.left run.old.tick run.old.snaps.now run.old.waiting run.old.driven }
-    requires none { rows.old ≡ record { rows = []; room = 0 } }
+    requires none { rows.old.rows ≡ [] }
+    requires shut { rows.old.room ≡ 0 }
     ensures kept { IsRun run.new.turn run.new.left run.new.tick run.new.snaps.now run.new.waiting run.new.driven }
     ensures shut { rows.new.room ≡ 0 }
     ensures told { rest_of run.old.turn run.old.left run.old.tick run.old.snaps.now run.old.waiting run.old.driven

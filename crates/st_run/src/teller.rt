@@ -33,24 +33,35 @@ pub(crate) fn next_of<const N: usize>(teller: &mut Teller<N>) -> Option<TimedRun
     tell_next(&mut teller.progress, &mut teller.rows)
 }
 
-// The next thing that is told, where that is a row: the first one that waits. Where none does, rows
-// are made, as long as nothing else comes between them.
+// Where no row waits, rows are made, as long as nothing else is told between them.
+#[inline(always)]
+fn make_ready<const N: usize>(teller: &mut Teller<N>)
+    requires run { IsRun teller.old.progress.turn teller.old.progress.left teller.old.progress.tick teller.old.progress.snaps.now teller.old.progress.waiting teller.old.progress.driven }
+    requires shut { teller.old.rows.room ≡ 0 }
+    ensures kept { IsRun teller.new.progress.turn teller.new.progress.left teller.new.progress.tick teller.new.progress.snaps.now teller.new.progress.waiting teller.new.progress.driven }
+    ensures shut { teller.new.rows.room ≡ 0 }
+    ensures told { rows_then teller.old.rows.rows (rest_of teller.old.progress.turn teller.old.progress.left teller.old.progress.tick teller.old.progress.snaps.now teller.old.progress.waiting teller.old.progress.driven)
+        ≡ rows_then teller.new.rows.rows (rest_of teller.new.progress.turn teller.new.progress.left teller.new.progress.tick teller.new.progress.snaps.now teller.new.progress.waiting teller.new.progress.driven) }
+{
+    if !teller.rows.is_empty() {
+        return;
+    }
+    make_rows(&mut teller.progress, &mut teller.rows);
+}
+
+// The next thing that is told, where that is a row: the first one that waits, or one that is made.
 #[inline(always)]
 pub(crate) fn next_row_of<const N: usize>(teller: &mut Teller<N>) -> Option<Row>
     requires run { IsRun teller.old.progress.turn teller.old.progress.left teller.old.progress.tick teller.old.progress.snaps.now teller.old.progress.waiting teller.old.progress.driven }
     requires shut { teller.old.rows.room ≡ 0 }
     ensures kept { IsRun teller.new.progress.turn teller.new.progress.left teller.new.progress.tick teller.new.progress.snaps.now teller.new.progress.waiting teller.new.progress.driven }
     ensures shut { teller.new.rows.room ≡ 0 }
-    ensures told { MatchOption result
-        (rows_then teller.new.rows.rows (rest_of teller.new.progress.turn teller.new.progress.left teller.new.progress.tick teller.new.progress.snaps.now teller.new.progress.waiting teller.new.progress.driven)
+    ensures told { MatchOption result (rows_then teller.new.rows.rows (rest_of teller.new.progress.turn teller.new.progress.left teller.new.progress.tick teller.new.progress.snaps.now teller.new.progress.waiting teller.new.progress.driven)
         ≡ rows_then teller.old.rows.rows (rest_of teller.old.progress.turn teller.old.progress.left teller.old.progress.tick teller.old.progress.snaps.now teller.old.progress.waiting teller.old.progress.driven))
         (λ row. rows_then teller.old.rows.rows (rest_of teller.old.progress.turn teller.old.progress.left teller.old.progress.tick teller.old.progress.snaps.now teller.old.progress.waiting teller.old.progress.driven)
-        ≡ row_told row
-        ∷ rows_then teller.new.rows.rows (rest_of teller.new.progress.turn teller.new.progress.left teller.new.progress.tick teller.new.progress.snaps.now teller.new.progress.waiting teller.new.progress.driven)) }
+        ≡ row_told row ∷ rows_then teller.new.rows.rows (rest_of teller.new.progress.turn teller.new.progress.left teller.new.progress.tick teller.new.progress.snaps.now teller.new.progress.waiting teller.new.progress.driven)) }
 {
-    if teller.rows.is_empty() {
-        make_rows(&mut teller.progress, &mut teller.rows);
-    }
+    make_ready(teller);
     teller.rows.next()
 }
 

@@ -3,7 +3,6 @@ ghost use Rattle.std.specs.Prelude.{◌≡◌, ◌-◌, ◌<◌, ◌≤◌, ◌^
 ghost use Rattle.st_ahead.specs.Overlap.{oldest_row};
 ghost use Rattle.st_run.specs.Together.{IsBeforeEntry};
 ghost use Rattle.st_run.specs.Ticking.{AreMade, AreMadeUpTo, last_for};
-
 ghost use Rattle.st_ahead.specs.RowsDone.{queue_with, rows_in_ticks, ticks_passed};
 
 use crate::driven::Driven;

@@ -1,12 +1,12 @@
 //! What a run tells, as lines of its report.
-ghost use Rattle.std.specs.Prelude.{◌≡◌, ◌<◌, [], ◌∷◌, List, length, MatchOption, IfSome};
+ghost use Rattle.std.specs.Prelude.{◌≡◌, ◌<◌, ◌||◌, [], ◌∷◌, List, length, MatchOption, IfSome};
 ghost use Rattle.std.specs.List.{AllPass};
 ghost use Rattle.st_card.specs.Limits.{is_part};
 ghost use Rattle.st_io.specs.Lines.{WritesLines};
 ghost use Rattle.st_report.specs.Line.{trc_line, row_line, drop_line, prt_line, int_line, time_line, snap_line as snap_line_of, lev_line, end_line, done_line, ticks_line};
 ghost use Rattle.st_time.specs.Shown.{levels_standing, change_shown};
 ghost use Rattle.st_run.specs.Events.{Level};
-ghost use Rattle.st_run.specs.Telling.{AreLevelsShown, what_told};
+ghost use Rattle.st_run.specs.Telling.{AreLevelsShown, row_told, what_told};
 ghost use Rattle.st_telling.specs.Report.{block, line_if, done_lines, interrupt_lines, snapshot_lines, end_lines, lines_told, report};
 ghost use Rattle.st_telling.specs.Running.{WritesEvents, WritesNothing, last_moment, views_lines};
 
@@ -46,6 +46,14 @@ fn is_charted(controls: &Controls) -> bool
     controls.chart
 }
 
+// Whether something is written of each instruction that is done.
+#[inline(always)]
+fn is_written(controls: &Controls) -> bool
+    ensures { result ≡ (controls.now.trace || controls.now.chart) }
+{
+    controls.trace || controls.chart
+}
+
 // Whether ticks are asked for.
 fn is_timed(controls: &Controls) -> bool
     ensures { result ≡ controls.now.time }
@@ -56,6 +64,7 @@ fn is_timed(controls: &Controls) -> bool
 // Writes the line of an instruction that is done, where a trace is asked for. It is put together in
 // `line`.
 #[tactic(auto, using(st_io::proofs::Progress::wrote_nothing))]
+#[inline(always)]
 fn write_trace<K: Sink>(
     out: &mut K,
     line: &mut LineFromEnd,
@@ -75,6 +84,7 @@ fn write_trace<K: Sink>(
 
 // Writes the line of a row, where the timetable is asked for. It is put together in `line`.
 #[tactic(auto, using(st_io::proofs::Progress::wrote_nothing))]
+#[inline(always)]
 fn write_row<K: Sink>(
     out: &mut K,
     line: &mut LineFromEnd,
@@ -92,6 +102,7 @@ fn write_row<K: Sink>(
 }
 
 // Writes the lines of an entry that is done, each put together in `line`.
+#[inline(always)]
 fn write_done<K: Sink>(
     out: &mut K,
     line: &mut LineFromEnd,
@@ -372,10 +383,10 @@ fn next_written<const N: usize>(run: &mut Run<'_, N>, controls: &Controls) -> Op
     ensures { MatchOption result (run.new.rest ≡ run.old.rest) (λ row. run.old.rest ≡ row_told row
         ∷ run.new.rest) }
 {
-    if is_traced(controls) || is_charted(controls) {
-        return run.next_row();
+    if !is_written(controls) {
+        return None;
     }
-    None
+    run.next_row()
 }
 
 // What a run tells next, behind entries that are done and of which nothing is written.

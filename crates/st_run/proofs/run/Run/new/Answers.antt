@@ -5,7 +5,8 @@ use Rattle.st_ahead.specs.Overlap.{Overlap}
 use Rattle.st_ahead.specs.Calls.{MaySignal}
 use Rattle.st_run.specs.Scenes.{IsScene}
 use Rattle.st_run.specs.Together.{Together, with_scene}
-use Rattle.st_run.specs.Telling.{Waiting, IsRun, rest_of}
+use Rattle.st_ahead.specs.RowsDone.{Queue}
+use Rattle.st_run.specs.Telling.{Waiting, IsRun, rest_of, rows_then}
 use Rattle.st_run.specs.declared.turn.Turn.TheVariants as turns
 use Rattle.st_refine.specs.Reached.{CanStart, IsLed}
 use Rattle.st_run.proofs.LedLemmas.{start-led, due-led}
@@ -23,10 +24,11 @@ invariant_of-result g c =
     c.due_signals-rest.ensures.came c.due_signals-rest.ensures.machine c.new-coming.ensures
     ∙ ap {A = Overlap} (λ m. with_scene (record { machine = m; signals = scene.signals; cards = scene.cards })
     (with_due_signals m.state scene.signals scene.cards)) c.new-machine.ensures in
-    subst {A = Waiting} (λ w. IsRun turns.Before (c.args.budget - 1) 0 c.args.snaps.now w (with_coming c.due_signals-rest.new.machine c.new-coming.result)) (sym c.new-waiting.ensures)
+    let stands = subst {A = Waiting} (λ w. IsRun turns.Before (c.args.budget - 1) 0 c.args.snaps.now w (with_coming c.due_signals-rest.new.machine c.new-coming.result)) (sym c.new-waiting.ensures)
     (subst {A = Together} (λ t. IsRun turns.Before (c.args.budget - 1) 0 c.args.snaps.now none t) (sym same)
     (start-run c.args.delays g.row.N scene idle is c.args.budget c.args.snaps.now r.some r.few (AreDelays-list c.args.delays c.shape-2.ensures)
-    r.some_done r.few_done r.done r.snaps))
+    r.some_done r.few_done r.done r.snaps)) in
+    (stands, ap (λ (q : Queue). q.room) c.new-2.ensures)
 
 pub returns : goal.returns
 returns g c =
@@ -38,7 +40,8 @@ returns g c =
     c.due_signals-rest.ensures.came c.due_signals-rest.ensures.machine c.new-coming.ensures
     ∙ ap {A = Overlap} (λ m. with_scene (record { machine = m; signals = scene.signals; cards = scene.cards })
     (with_due_signals m.state scene.signals scene.cards)) c.new-machine.ensures in
-    ap {A = Waiting} (λ w. rest_of turns.Before (c.args.budget - 1) 0 c.args.snaps.now w (with_coming c.due_signals-rest.new.machine c.new-coming.result)) c.new-waiting.ensures
+    ap {A = Queue} (λ q. rows_then q.rows (rest_of turns.Before (c.args.budget - 1) 0 c.args.snaps.now c.new-waiting.result (with_coming c.due_signals-rest.new.machine c.new-coming.result))) c.new-2.ensures
+    ∙ ap {A = Waiting} (λ w. rest_of turns.Before (c.args.budget - 1) 0 c.args.snaps.now w (with_coming c.due_signals-rest.new.machine c.new-coming.result)) c.new-waiting.ensures
     ∙ ap {A = Together} (λ t. rest_of turns.Before (c.args.budget - 1) 0 c.args.snaps.now none t) same
     ∙ start-told c.args.delays g.row.N scene idle is c.args.budget c.args.snaps.now r.some_done
 

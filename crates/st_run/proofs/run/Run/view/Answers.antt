@@ -6,15 +6,15 @@ use Rattle.st_run.proofs.run.Run.view.Goals as goal
 
 pub returns-clause-levels : goal.returns-clause-levels
 returns-clause-levels g c =
-    let run = c.self.inside.progress in
+    let run = c.self.inside.teller.progress in
     subst {A = Telling} (λ s. AreLevelsShown c.view_of.result.levels s.ahead) c.self.view_is
     (subst {A = View} (λ v. AreLevelsShown v.levels (ahead_of run.driven.machine)) (sym c.view_of.ensures.view)
-    (view-run run.turn run.left run.tick run.snaps.now run.waiting run.driven c.self.invariant))
+    (view-run run.turn run.left run.tick run.snaps.now run.waiting run.driven c.self.invariant.0))
 
 pub returns-clause-led : goal.returns-clause-led
 returns-clause-led g c = record {
   shows = record {
-    machine = c.self.inside.progress.driven.machine;
+    machine = c.self.inside.teller.progress.driven.machine;
     led = c.view_of.ensures.led;
     seen = ap (λ (s : Telling). s.seen) (sym c.self.view_is);
     ahead = ap (λ (s : Telling). s.ahead) (sym c.self.view_is);

@@ -1,0 +1,35 @@
+-- Rows that wait to be told, and what is told behind them.
+use Rattle.std.specs.Prelude.{MatchOption}
+use Rattle.std.proofs.Common.{◌≡◌, ℕ, List, [], ◌∷◌, Option, None, Some, refl, sym, ◌∙◌, ap}
+use Rattle.st_ahead.specs.RowsDone.{Queue}
+use Rattle.st_ahead.specs.declared.events.Row.{Row}
+use Rattle.st_run.specs.Told.{Told}
+use Rattle.st_run.specs.Telling.{row_told, rows_then, AreLeftOut}
+
+-- none waits
+pub told-behind : {X : Type 0} (o : Option X) (rows new : List Row) (rest more : List Told) (tell : X → Told) → rows ≡ [] → new ≡ rows
+    → MatchOption o (rest ≡ []) (λ x. rest ≡ tell x ∷ more)
+    → MatchOption o (rows_then rows rest ≡ []) (λ x. rows_then rows rest ≡ tell x ∷ rows_then new more)
+told-behind None [] [] rest more tell none same told = told
+told-behind (Some x) [] [] rest more tell none same told = told
+told-behind o [] (y ∷ ys) rest more tell none same told = absurd (cc same)
+told-behind o (y ∷ ys) new rest more tell none same told = absurd (cc none)
+
+pub passed-behind : {X : Type 0} (o : Option X) (rows new : List Row) (rest more : List Told) (tell : X → Told) → rows ≡ [] → new ≡ rows
+    → MatchOption o (more ≡ rest) (λ x. AreLeftOut (tell x) rest more)
+    → MatchOption o (rows_then new more ≡ rows_then rows rest) (λ x. AreLeftOut (tell x) (rows_then rows rest) (rows_then new more))
+passed-behind None [] [] rest more tell none same passed = passed
+passed-behind (Some x) [] [] rest more tell none same passed = passed
+passed-behind o [] (y ∷ ys) rest more tell none same passed = absurd (cc same)
+passed-behind o (y ∷ ys) new rest more tell none same passed = absurd (cc none)
+
+-- the first one that does
+pub row-next : (o : Option Row) (mid new : Queue) (rest old : List Told) → old ≡ rows_then mid.rows rest
+    → MatchOption o (mid.rows ≡ []) (λ row. mid.rows ≡ row ∷ new.rows) → MatchOption o (new ≡ mid) (λ row. new.room ≡ mid.room)
+    → MatchOption o (rows_then new.rows rest ≡ old) (λ row. old ≡ row_told row ∷ rows_then new.rows rest)
+row-next None mid new rest old is none same = ap {A = Queue} (λ q. rows_then q.rows rest) same ∙ sym is
+row-next (Some row) mid new rest old is first same = is ∙ ap {A = List Row} (λ xs. rows_then xs rest) first
+
+pub row-room : (o : Option Row) (mid new : Queue) → MatchOption o (new ≡ mid) (λ row. new.room ≡ mid.room) → new.room ≡ mid.room
+row-room None mid new same = ap {A = Queue} (λ q. q.room) same
+row-room (Some row) mid new same = same
