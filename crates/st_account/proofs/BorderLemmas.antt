@@ -13,12 +13,13 @@ use Rattle.st_run.proofs.DoneLemmas.{settled-done}
 use Rattle.st_plain.specs.declared.looking.Ahead.{Ahead}
 use Rattle.st_plain.specs.Looking.{seen_ahead}
 use Rattle.st_account.specs.declared.last.Last.{Last}
-use Rattle.st_account.specs.declared.lines.Why.{Why}
-use Rattle.st_account.specs.declared.lines.Why.TheVariants.{Run}
-use Rattle.st_account.specs.Lines.{start_line}
+use Rattle.st_lines.specs.declared.lines.Why.{Why}
+use Rattle.st_lines.specs.declared.lines.Why.TheVariants.{Run}
+use Rattle.st_lines.specs.Lines.{start_line}
 use Rattle.st_account.specs.Standing.{IsBehindMoment}
-use Rattle.st_account.proofs.LineLemmas.{end-same}
-use Rattle.st_account.specs.Text.{segment_end_lines, late_at, marks_lines, state_lines, state_lines_at, words_behind, why_by, why, segment_lines, segment_after, last_lines}
+use Rattle.st_lines.proofs.LineLemmas.{end-same}
+use Rattle.st_lines.specs.BorderLines.{segment_end_lines, marks_lines, state_lines}
+use Rattle.st_account.specs.Text.{late_at, state_lines_at, words_behind, why_by, why, segment_lines, segment_after, last_lines}
 
 choice-lines : (b : Bool) (xs ys : List (List ℕ)) → (b ≡ true → xs ≡ ys) → (if b then xs else []) ≡ (if b then ys else [])
 choice-lines true xs ys same = same refl

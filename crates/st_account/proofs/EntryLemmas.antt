@@ -26,7 +26,8 @@ use Rattle.st_ledger.proofs.Rows.{row-sum}
 use Rattle.st_plain.specs.Looking.{side_at, executes_at}
 use Rattle.st_account.specs.declared.last.Last.{Last}
 use Rattle.st_account.specs.Standing.{guessing, IsLast, IsStanding}
-use Rattle.st_account.specs.Text.{done_lines, lines_of_entry}
+use Rattle.st_lines.specs.EntryLines.{done_lines}
+use Rattle.st_account.specs.Text.{lines_of_entry}
 use Rattle.st_account.proofs.LastLemmas.{next-last}
 
 pub entry-step : (s u : Machine) (taken : Option ℕ) → taken ≡ interrupt s → u ≡ state_after_execution taken s → u ≡ step s

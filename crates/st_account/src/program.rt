@@ -17,13 +17,13 @@ ghost use Rattle.st_account.specs.Answers.{levels_by, levels_asked, lines_by, st
 
 use crate::running::write_ledger;
 use crate::status::Status;
-use crate::writing::put;
 use st_asm::{AsmError, Assembled, assemble_cards};
 use st_banks::Delays;
 use st_bits::NoMemory;
 use st_card::{Card, Controls, Fault, Signal, split};
 use st_exch::Hopper;
 use st_io::{Failed, ReadError, Sink, Source, read_all};
+use st_lines::put;
 use st_report::line_fault;
 use st_state::State;
 use std::alloc::Global;

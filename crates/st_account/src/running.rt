@@ -24,19 +24,20 @@ ghost use Rattle.st_plain.specs.Looking.{side_at, executes_at, seen_ahead};
 ghost use Rattle.st_account.specs.Settling.{at_hand};
 ghost use Rattle.st_account.specs.Text.{why_by, words_behind, late_at, segment_after, segment_lines, lines_of_entry, last_lines, lines_from, ledger};
 ghost use Rattle.st_account.specs.Standing.{guessing, has_due, still_by, outcome_of, IsLast, IsStanding, IsBehindMoment};
-ghost use Rattle.st_account.specs.declared.lines.Why.TheVariants.{Run as RunBegins};
+ghost use Rattle.st_lines.specs.declared.lines.Why.TheVariants.{Run as RunBegins};
 
-use crate::facts::write_done;
 use crate::last::{Last, at_start, look_if, open_if, put_past};
-use crate::lines::Why;
-use crate::settling::{Printed, settle};
-use crate::writing::{Border, write_border, write_end, write_machine, write_marks, write_totals};
+use crate::settling::settle;
 use st_banks::{Delays, LastAnswers};
 use st_card::Signal;
 use st_exch::Hopper;
 use st_exec::{complete_in, interrupt, is_at_rest, is_missed, next_address};
 use st_io::{Failed, Sink};
 use st_ledger::{Totals, write_sums};
+use st_lines::{
+    Border, Printed, Why, counter_of, is_enabled, write_border, write_done, write_end,
+    write_machine, write_marks, write_totals,
+};
 use st_plain::{Ahead, Aheads, next_row, plan_entry};
 use st_prep::Prepared;
 use st_rows::{EntryTicks, Log, Past};
@@ -193,22 +194,6 @@ fn execute(state: &mut State, taken: Option<u8>, p: &Prepared, last: &mut Last)
     last.missed = is_missed(p, state);
     complete_in(p, state);
     last.ic = guessed_counter(p, state);
-}
-
-/// The counter of a state.
-pub(crate) fn counter_of(state: &State) -> u32
-    ensures value { result ≡ state.now.ic }
-    ensures below { result < 2 ^ 19 }
-{
-    state.shape();
-    state.ic
-}
-
-/// Whether interrupts are enabled in a state.
-pub(crate) fn is_enabled(state: &State) -> bool
-    ensures { result ≡ state.now.enabled }
-{
-    state.enabled
 }
 
 // The number of instructions that a state has done.

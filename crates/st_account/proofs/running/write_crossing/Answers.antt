@@ -1,9 +1,10 @@
 use Rattle.std.proofs.Common.{ℕ, ◌+◌, [], ◌∷◌, ◌++◌, if◌then◌else◌, ◌∙◌, ap}
 use Rattle.st_rows.specs.Rows.{opening_front}
 use Rattle.st_rows.specs.declared.front.Front.{Front}
-use Rattle.st_account.specs.Lines.{start_line}
-use Rattle.st_account.specs.Text.{segment_end_lines, state_lines}
-use Rattle.st_account.proofs.LineLemmas.{same_lines, cut_without, made_without, no_number}
+use Rattle.st_lines.specs.Lines.{start_line}
+use Rattle.st_lines.specs.BorderLines.{segment_end_lines, state_lines}
+use Rattle.st_lines.proofs.LineLemmas.{same_lines}
+use Rattle.st_account.proofs.AnswerLemmas.{cut_without, made_without, no_number}
 use Rattle.st_account.proofs.BorderLemmas.{front-is, after-is, border-lines}
 use Rattle.st_account.proofs.running.write_crossing.Goals as goal
 

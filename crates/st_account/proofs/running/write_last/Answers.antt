@@ -1,7 +1,7 @@
 use Rattle.std.proofs.Common.{[], ◌∷◌, ◌∙◌, ap}
 use Rattle.st_state.specs.Machine.{Machine}
 use Rattle.st_io.proofs.Progress.{lines_then}
-use Rattle.st_account.proofs.LineLemmas.{same_lines, first_cut, second_cut}
+use Rattle.st_lines.proofs.LineLemmas.{same_lines, first_cut, second_cut}
 use Rattle.st_account.proofs.BorderLemmas.{last-is, totals-is}
 use Rattle.st_account.proofs.running.write_last.Goals as goal
 
