@@ -7,6 +7,7 @@ use Rattle.st_prep.specs.Plan.{plan}
 use Rattle.st_exec.specs.Completion.{guess, is_missed}
 use Rattle.st_exec.specs.Step.{rests, interrupt, address}
 use Rattle.st_segment.specs.Ahead.{ahead}
+use Rattle.st_segment.specs.Entries.{entry}
 use Rattle.st_run.specs.Run.{Scene, interlude}
 use Rattle.st_run.specs.Moments.{Moment, Standing, moment_at_start, next_state, has_waited, ends_segment, next_front, standing_at, next_row, next_moment}
 use Rattle.st_report.specs.Line.{end_line as run_end_line, done_line, ticks_line}
@@ -15,7 +16,7 @@ use Rattle.st_ledger.specs.Charges.{ticks_for}
 use Rattle.st_ledger.specs.Ledger.{entries_of, all_charges}
 use Rattle.st_ledger.specs.Totals.{stages, sums_by, sum_lines}
 use Rattle.st_plain.specs.declared.looking.Ahead.{Ahead}
-use Rattle.st_plain.specs.Looking.{side_at, executes_at, seen_ahead, first_late}
+use Rattle.st_plain.specs.Looking.{known_at, level_wait, seen_ahead, first_late}
 use Rattle.st_lines.specs.Lines.{start_line}
 use Rattle.st_lines.specs.EntryLines.{done_lines}
 use Rattle.st_lines.specs.BorderLines.{segment_end_lines, marks_lines, state_lines, machine_lines}
@@ -87,8 +88,8 @@ unfoldable pub lines_of_entry : List ℕ → ℕ → Standing → List (List ℕ
 lines_of_entry ds n p =
     let s = p.scene.machine in
     let e = plan s (interrupt s) in
-    done_lines (s.done + 1) (address s) (next_row ds n p) (is_missed e s) e
-    (side_at (interrupt s) s) (executes_at (interrupt s) s)
+    done_lines (s.done + 1) (address s) (next_row ds n p)
+    (level_wait ds n p.front (entry (interrupt s) s)) (is_missed e s) e (known_at (interrupt s) s)
     p.tick p.front.c
 
 -- ---- the end

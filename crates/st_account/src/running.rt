@@ -20,7 +20,7 @@ ghost use Rattle.st_ledger.specs.Ledger.{charges_at, entries_from, all_charges};
 ghost use Rattle.st_ledger.specs.declared.charges.Stage.{Stage};
 ghost use Rattle.st_ledger.specs.Charges.{ticks_for};
 ghost use Rattle.st_ledger.specs.Totals.{sum_at, AreWithin};
-ghost use Rattle.st_plain.specs.Looking.{side_at, executes_at, seen_ahead};
+ghost use Rattle.st_plain.specs.Looking.{known_at, level_wait, seen_ahead};
 ghost use Rattle.st_account.specs.Settling.{at_hand};
 ghost use Rattle.st_account.specs.Text.{why_by, words_behind, late_at, segment_after, segment_lines, lines_of_entry, last_lines, lines_from, ledger};
 ghost use Rattle.st_account.specs.Standing.{guessing, has_due, still_by, outcome_of, IsLast, IsStanding, IsBehindMoment};
@@ -38,9 +38,9 @@ use st_lines::{
     Border, Printed, Why, counter_of, is_enabled, write_border, write_done, write_end,
     write_machine, write_marks, write_totals,
 };
-use st_plain::{Ahead, Aheads, next_row, plan_entry};
+use st_plain::{Ahead, Aheads, Known, Row, next_row, plan_entry};
 use st_prep::Prepared;
-use st_rows::{EntryTicks, Log, Past};
+use st_rows::{Log, Past};
 use st_run::plain::{printer_is_free, reader_is_free};
 use st_state::State;
 
@@ -103,13 +103,11 @@ fn is_end_near(left: u64, still: bool) -> bool
     left == 0 || !still
 }
 
-// What is known of the next entry, besides what it is: its row, its index-side word, and whether it
-// is EX.
+// The row of the next entry, and what is known of it.
 #[derive(Clone, Copy)]
 struct Counted {
-    row: EntryTicks,
-    side: Option<u32>,
-    execute: bool,
+    row: Row,
+    known: Known,
 }
 
 // The numbers of the next entry, which is planned as `p`, and what is at hand behind it.
@@ -130,15 +128,17 @@ fn count_on(
 
     ensures plan { p.new ≡ plan_of state.now taken }
     ensures prepared { IsPrepared p.new }
-    ensures row { result.row ≡ row_of delays.now levels last.old.front (entry_of taken state.now) }
+    ensures row { result.row.ticks
+        ≡ row_of delays.now levels last.old.front (entry_of taken state.now) }
+    ensures wait { result.row.level_wait
+        ≡ level_wait delays.now levels last.old.front (entry_of taken state.now) }
     ensures front { last.new.front ≡ after_of delays.now levels last.old.front
         (entry_of taken state.now) }
     ensures log { log.new ≡ log_after_reads delays.now (asked_of delays.now levels last.old.front
         (entry_of taken state.now)) last.old.front.bus [] }
     ensures past { last.new.past ≡ last.new.front.past }
-    ensures tick { last.new.tick ≡ result.row.c }
-    ensures side { result.side ≡ side_at taken state.now }
-    ensures execute { result.execute ≡ executes_at taken state.now }
+    ensures tick { last.new.tick ≡ result.row.ticks.c }
+    ensures known { result.known ≡ known_at taken state.now }
 {
     state.shape();
     let planned = plan_entry(taken, state, p);
@@ -153,15 +153,14 @@ fn count_on(
     put_past(
         &mut last.past,
         Past {
-            c: row.c,
+            c: row.ticks.c,
             writes: planned.entry.writes,
         },
     );
-    last.tick = row.c;
+    last.tick = row.ticks.c;
     Counted {
         row,
-        side: planned.side,
-        execute: planned.execute,
+        known: planned.known,
     }
 }
 
@@ -251,17 +250,15 @@ fn write_entry<K: Sink>(
     let start = last.front.c;
     let counted = count_on(state, taken, p, last, delays, levels, log);
     execute(state, taken, p, last);
-    let row = counted.row;
-    sums.add_row(&row, before, start);
+    sums.add_row(&counted.row.ticks, before, start);
     write_done(
         out,
         n,
         address,
-        &row,
+        &counted.row,
         last.missed,
         p,
-        counted.side,
-        counted.execute,
+        &counted.known,
         before,
         start,
     )

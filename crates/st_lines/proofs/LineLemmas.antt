@@ -22,22 +22,22 @@ no_lines s o = record { ok = wrote_nothing s; err = tt }
 -- ---- entries that are dropped
 
 drops-first : (n : ℕ) (found xs : List Ahead) (x : Ahead) → found ≡ x ∷ xs
-    → drop_lines n found ≡ (dropped_line n x.plan.place.address x.row ∷ facts_lines x.plan x.side x.execute) ++ drop_lines (n + 1) xs
+    → drop_lines n found ≡ (dropped_line n x.plan.place.address x.row ∷ facts_lines x.plan x.known) ++ drop_lines (n + 1) xs
 unfolding drop_lines
 drops-first n found xs x is = rw is refl
 
 pub drops_cut : (s u : OutputState) (n : ℕ) (found xs : List Ahead) (x : Ahead) (e : Failed) (r : Result (Unit {0}) Failed) → IsErr r
-    → found ≡ x ∷ xs → WritesLines s u (dropped_line n x.plan.place.address x.row ∷ facts_lines x.plan x.side x.execute) (Err e) → WritesLines s u (drop_lines n found) r
+    → found ≡ x ∷ xs → WritesLines s u (dropped_line n x.plan.place.address x.row ∷ facts_lines x.plan x.known) (Err e) → WritesLines s u (drop_lines n found) r
 drops_cut s u n found xs x e r f is h =
     subst (λ ls. WritesLines s u ls r) (sym (drops-first n found xs x is))
-    (lines_cut s u (dropped_line n x.plan.place.address x.row ∷ facts_lines x.plan x.side x.execute) (drop_lines (n + 1) xs) e r f h)
+    (lines_cut s u (dropped_line n x.plan.place.address x.row ∷ facts_lines x.plan x.known) (drop_lines (n + 1) xs) e r f h)
 
 pub drops_then : (s v u : OutputState) (n : ℕ) (found xs : List Ahead) (x : Ahead) (o : Unit {0}) (r : Result (Unit {0}) Failed)
-    → found ≡ x ∷ xs → WritesLines s v (dropped_line n x.plan.place.address x.row ∷ facts_lines x.plan x.side x.execute) (Ok o)
+    → found ≡ x ∷ xs → WritesLines s v (dropped_line n x.plan.place.address x.row ∷ facts_lines x.plan x.known) (Ok o)
     → WritesLines v u (drop_lines (n + 1) xs) r → WritesLines s u (drop_lines n found) r
 drops_then s v u n found xs x o r is h k =
     subst (λ ls. WritesLines s u ls r) (sym (drops-first n found xs x is))
-    (lines_then s v u (dropped_line n x.plan.place.address x.row ∷ facts_lines x.plan x.side x.execute) (drop_lines (n + 1) xs) o r h k)
+    (lines_then s v u (dropped_line n x.plan.place.address x.row ∷ facts_lines x.plan x.known) (drop_lines (n + 1) xs) o r h k)
 
 pub drops_none : (s : OutputState) (n : ℕ) (found : List Ahead) (o : Unit {0}) → found ≡ [] → WritesLines s s (drop_lines n found) (Ok o)
 unfolding drop_lines
@@ -45,7 +45,7 @@ drops_none s n found o is = rw is (no_lines s o)
 
 -- ---- the end of a segment
 
-pub late-one : (n : ℕ) (x : Ahead) → late_lines n (x ∷ []) ≡ (begun_line n x.plan.place.address x.row ∷ []) ++ facts_lines x.plan x.side x.execute
+pub late-one : (n : ℕ) (x : Ahead) → late_lines n (x ∷ []) ≡ (begun_line n x.plan.place.address x.row ∷ []) ++ facts_lines x.plan x.known
 unfolding late_lines
 late-one n x = refl
 

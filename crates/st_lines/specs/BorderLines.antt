@@ -16,13 +16,13 @@ use Rattle.st_lines.specs.EntryLines.{facts_lines}
 unfoldable pub drop_lines : ℕ → List Ahead → List (List ℕ)
 drop_lines n [] = []
 drop_lines n (a ∷ more) = dropped_line n a.plan.place.address a.row
-    ∷ (facts_lines a.plan a.side a.execute ++ drop_lines (n + 1) more)
+    ∷ (facts_lines a.plan a.known ++ drop_lines (n + 1) more)
 
 -- the entry that was begun behind them, which is the n-th entry, if there is one
 unfoldable pub late_lines : ℕ → List Ahead → List (List ℕ)
 late_lines n [] = []
 late_lines n (a ∷ more) = begun_line n a.plan.place.address a.row
-    ∷ facts_lines a.plan a.side a.execute
+    ∷ facts_lines a.plan a.known
 
 -- the segment k ends at a tick, what ran ahead is dropped, and so is what was begun; before the
 -- first segment there is none

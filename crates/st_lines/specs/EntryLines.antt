@@ -7,9 +7,11 @@ use Rattle.st_prep.specs.declared.entries.IndexChange.{IndexChange}
 use Rattle.st_prep.specs.declared.entries.Prepared.{Prepared}
 use Rattle.st_prep.specs.declared.entries.Words.{Words}
 use Rattle.st_rows.specs.declared.front.EntryTicks.{EntryTicks}
+use Rattle.st_plain.specs.declared.known.Code.{Code}
+use Rattle.st_plain.specs.declared.known.Known.{Known}
 use Rattle.st_ledger.specs.Charges.{parts_of_row, charges_behind}
 use Rattle.st_ledger.specs.Lines.{row_stage_line, charge_lines}
-use Rattle.st_lines.specs.Lines.{missed_line, alone_line, suppressed_line, writes_line, index_line}
+use Rattle.st_lines.specs.Lines.{missed_line, alone_line, suppressed_line, code_line, writes_line, index_line, level_line}
 use Rattle.st_lines.specs.declared.lines.Alone.{Alone}
 use Rattle.st_lines.specs.declared.lines.Alone.TheVariants.{Table, Execute, Register, Operation}
 
@@ -54,11 +56,17 @@ unfoldable pub index_lines : Option IndexChange → List (List ℕ)
 index_lines None = []
 index_lines (Some x) = index_line x ∷ []
 
+-- the half-words that it executes, where they may be fetched
+unfoldable pub code_lines : Option Code → List (List ℕ)
+code_lines None = []
+code_lines (Some code) = code_line code ∷ []
+
 -- what is known of it by itself
-unfoldable pub facts_lines : Prepared → Option ℕ → Bool → List (List ℕ)
-facts_lines p side execute =
-    alone_lines (alone_by p side execute)
-    ++ (suppressed_lines (suppressed_by p) ++ (writes_lines p.writes ++ index_lines p.index))
+unfoldable pub facts_lines : Prepared → Known → List (List ℕ)
+facts_lines p k =
+    alone_lines (alone_by p k.side k.execute)
+    ++ (suppressed_lines (suppressed_by p)
+    ++ (code_lines k.code ++ (writes_lines p.writes ++ index_lines p.index)))
 
 -- ---- its row
 
@@ -67,10 +75,14 @@ unfoldable pub missed_lines : Bool → List (List ℕ)
 missed_lines true = missed_line ∷ []
 missed_lines false = []
 
+-- for how many ticks it waited for a level, where it did
+unfoldable pub level_lines : ℕ → List (List ℕ)
+level_lines d = if nat_eq d 0 then [] else level_line d ∷ []
+
 -- those of the i-th entry, which is done, at an address, with its row: the last one before it was
 -- done at the tick `before`, and the segment of both starts at the tick `start`
-unfoldable pub done_lines : ℕ → ℕ → EntryTicks → Bool → Prepared → Option ℕ → Bool → ℕ → ℕ →
+unfoldable pub done_lines : ℕ → ℕ → EntryTicks → ℕ → Bool → Prepared → Known → ℕ → ℕ →
     List (List ℕ)
-done_lines i address row missed p side execute before start =
-    row_stage_line i address row ∷ ((missed_lines missed ++ facts_lines p side execute)
-    ++ charge_lines (charges_behind before (parts_of_row start row)))
+done_lines i address row level missed p k before start =
+    row_stage_line i address row ∷ ((missed_lines missed ++ facts_lines p k)
+    ++ (charge_lines (charges_behind before (parts_of_row start row)) ++ level_lines level))

@@ -1,10 +1,11 @@
 -- The bytes of the lines of a ledger that tell of the machine and of segments, each with its line
 -- end.
-use Rattle.std.specs.Prelude.{ℕ, Bool, List, [], ◌∷◌, ◌++◌, codes, decimal, take, drop, length, zero, suc}
+use Rattle.std.specs.Prelude.{ℕ, Bool, List, [], ◌∷◌, ◌++◌, codes, decimal, take, drop, length, zero, suc, Option, None, Some}
 use Rattle.st_text.specs.Bytes.{lf}
-use Rattle.st_text.specs.Numerals.{half_address, hex_word, flag}
+use Rattle.st_text.specs.Numerals.{half_address, hex_text, hex_word, flag}
 use Rattle.st_prep.specs.declared.entries.IndexChange.{IndexChange}
 use Rattle.st_rows.specs.declared.front.EntryTicks.{EntryTicks}
+use Rattle.st_plain.specs.declared.known.Code.{Code}
 use Rattle.st_lines.specs.declared.lines.Alone.{Alone}
 use Rattle.st_lines.specs.declared.lines.Alone.TheVariants.{Table, Execute, Register, Operation}
 use Rattle.st_lines.specs.declared.lines.Why.{Why}
@@ -95,3 +96,16 @@ begun_line n address row =
     codes "BEGUN " ++ decimal n ++ codes " " ++ half_address address
     ++ codes " A " ++ decimal row.a ++ codes " P " ++ decimal row.p ++ codes " R " ++ decimal row.r
     ++ lf
+
+-- the second half-word of a full word
+abbrev pub second_text : Option ℕ → List ℕ
+second_text None = []
+second_text (Some half) = codes " " ++ hex_text 8 half
+
+-- the half-words that an entry executes
+abbrev pub code_line : Code → List ℕ
+code_line code = codes "CODE " ++ hex_text 8 code.first ++ second_text code.second ++ lf
+
+-- it waited so many ticks for a level
+abbrev pub level_line : ℕ → List ℕ
+level_line d = codes "LEVEL " ++ decimal d ++ lf

@@ -6,16 +6,18 @@ ghost use Rattle.st_state.specs.Interrupts.{first_from};
 ghost use Rattle.st_io.specs.Lines.{WritesLines};
 ghost use Rattle.st_ledger.specs.Charges.{parts_of_row, charges_behind};
 ghost use Rattle.st_ledger.specs.Lines.{charge_lines};
-ghost use Rattle.st_lines.specs.EntryLines.{alone_for as alone_of, alone_by as alone_why, alone_lines, suppressed_by as suppressed_of, suppressed_lines, run_lines, writes_lines, index_lines, facts_lines, missed_lines, done_lines};
+ghost use Rattle.st_lines.specs.EntryLines.{alone_for as alone_of, alone_by as alone_why, alone_lines, suppressed_by as suppressed_of, suppressed_lines, code_lines, run_lines, writes_lines, index_lines, facts_lines, missed_lines, level_lines, done_lines};
 
-use crate::lines::{Alone, line_alone, line_index, line_missed, line_suppressed, line_writes};
+use crate::lines::{
+    Alone, line_alone, line_code, line_index, line_level, line_missed, line_suppressed, line_writes,
+};
 use crate::writing::put;
 use st_bits::indicator;
 use st_bits::register::FIRST_STORAGE_WORD;
 use st_io::{Failed, Sink};
 use st_ledger::{write_charges, write_row};
+use st_plain::{Code, Known, Row};
 use st_prep::{IndexChange, Prepared, Words};
-use st_rows::EntryTicks;
 
 // Whether one of the words is a register.
 #[tactic(auto, unfolding(st_prep::specs::Entry::has_register))]
@@ -159,27 +161,44 @@ fn write_changes<K: Sink>(out: &mut K, p: &Prepared) -> Result<(), Failed>
     write_index(out, p.index)
 }
 
-// Writes that an entry is suppressed, what it writes, and the index word that it changes early.
-fn write_effects<K: Sink>(out: &mut K, p: &Prepared) -> Result<(), Failed>
-    ensures { WritesLines (K.output out.old) (K.output out.new)
-        (suppressed_lines (suppressed_of p.now) ++ (writes_lines p.now.writes ++ index_lines p.now.index)) result }
+// Writes the half-words that an entry executes, where they may be fetched.
+#[tactic(auto, unfolding(crate::specs::EntryLines::code_lines), using(st_io::proofs::Progress::wrote_nothing))]
+fn write_code<K: Sink>(out: &mut K, code: Option<Code>) -> Result<(), Failed>
+    ensures { WritesLines (K.output out.old) (K.output out.new) (code_lines code) result }
 {
-    write_suppressed(out, suppressed_by(p))?;
+    match code {
+        None => Ok(()),
+        Some(code) => put(out, &line_code(code)),
+    }
+}
+
+// Writes the half-words that an entry executes, what it writes, and the index word that it changes
+// early.
+fn write_doing<K: Sink>(out: &mut K, p: &Prepared, code: Option<Code>) -> Result<(), Failed>
+    ensures { WritesLines (K.output out.old) (K.output out.new)
+        (code_lines code ++ (writes_lines p.now.writes ++ index_lines p.now.index)) result }
+{
+    write_code(out, code)?;
     write_changes(out, p)
 }
 
-/// Writes what is known of an entry by itself, by its index-side word and whether it is EX.
-pub(crate) fn write_facts<K: Sink>(
-    out: &mut K,
-    p: &Prepared,
-    side: Option<u32>,
-    execute: bool,
-) -> Result<(), Failed>
+// Writes that an entry is suppressed, and what it does.
+fn write_effects<K: Sink>(out: &mut K, p: &Prepared, code: Option<Code>) -> Result<(), Failed>
     ensures { WritesLines (K.output out.old) (K.output out.new)
-        (facts_lines p.now side execute) result }
+        (suppressed_lines (suppressed_of p.now) ++ (code_lines code ++ (writes_lines p.now.writes
+        ++ index_lines p.now.index))) result }
 {
-    write_alone(out, alone_by(p, side, execute))?;
-    write_effects(out, p)
+    write_suppressed(out, suppressed_by(p))?;
+    write_doing(out, p, code)
+}
+
+/// Writes what is known of an entry by itself.
+pub(crate) fn write_facts<K: Sink>(out: &mut K, p: &Prepared, known: &Known) -> Result<(), Failed>
+    ensures { WritesLines (K.output out.old) (K.output out.new)
+        (facts_lines p.now known.now) result }
+{
+    write_alone(out, alone_by(p, known.side, known.execute))?;
+    write_effects(out, p, known.code)
 }
 
 // Writes that a branch was guessed wrongly, where it was.
@@ -198,53 +217,74 @@ fn write_known<K: Sink>(
     out: &mut K,
     missed: bool,
     p: &Prepared,
-    side: Option<u32>,
-    execute: bool,
+    known: &Known,
 ) -> Result<(), Failed>
     ensures { WritesLines (K.output out.old) (K.output out.new)
-        (missed_lines missed ++ facts_lines p.now side execute) result }
+        (missed_lines missed ++ facts_lines p.now known.now) result }
 {
     write_missed(out, missed)?;
-    write_facts(out, p, side, execute)
+    write_facts(out, p, known)
 }
 
-// The same, and its charges.
+// Writes for how many ticks an entry waited for a level, where it did.
+#[tactic(auto, unfolding(crate::specs::EntryLines::level_lines), using(st_io::proofs::Progress::wrote_nothing))]
+fn write_level<K: Sink>(out: &mut K, d: u64) -> Result<(), Failed>
+    ensures { WritesLines (K.output out.old) (K.output out.new) (level_lines d) result }
+{
+    if d == 0 {
+        return Ok(());
+    }
+    put(out, &line_level(d))
+}
+
+// Writes the charges of an entry, and its wait for a level.
+fn write_waits<K: Sink>(out: &mut K, row: &Row, before: u64, start: u64) -> Result<(), Failed>
+    ensures { WritesLines (K.output out.old) (K.output out.new)
+        (charge_lines (charges_behind before (parts_of_row start row.now.ticks))
+        ++ level_lines row.now.level_wait) result }
+{
+    write_charges(out, &row.ticks, before, start)?;
+    write_level(out, row.level_wait)
+}
+
+// What is known of an entry that is done, and what was spent on it.
 fn write_spent<K: Sink>(
     out: &mut K,
-    row: &EntryTicks,
+    row: &Row,
     missed: bool,
     p: &Prepared,
-    side: Option<u32>,
-    execute: bool,
+    known: &Known,
     before: u64,
     start: u64,
 ) -> Result<(), Failed>
     ensures { WritesLines (K.output out.old) (K.output out.new)
-        ((missed_lines missed ++ facts_lines p.now side execute) ++ charge_lines (charges_behind before (parts_of_row start row.now))) result }
+        ((missed_lines missed ++ facts_lines p.now known.now)
+        ++ (charge_lines (charges_behind before (parts_of_row start row.now.ticks))
+        ++ level_lines row.now.level_wait)) result }
 {
-    write_known(out, missed, p, side, execute)?;
-    write_charges(out, row, before, start)
+    write_known(out, missed, p, known)?;
+    write_waits(out, row, before, start)
 }
 
 /// Writes the lines of the n-th entry, which is done, at a half-word address, with its row: the
 /// last one before it was done at the tick `before`, and its segment starts at `start`, if it is
-/// the first one of that. `missed` is whether it is a branch that was guessed wrongly, `p` what it
-/// is, `side` its index-side word, and `execute` whether it is EX.
+/// the first one of that. `missed` is whether it is a branch that was guessed wrongly, `p` how it
+/// is prepared, and `known` what else is known of it.
 pub fn write_done<K: Sink>(
     out: &mut K,
     n: u32,
     address: u32,
-    row: &EntryTicks,
+    row: &Row,
     missed: bool,
     p: &Prepared,
-    side: Option<u32>,
-    execute: bool,
+    known: &Known,
     before: u64,
     start: u64,
 ) -> Result<(), Failed>
     ensures { WritesLines (K.output out.old) (K.output out.new)
-        (done_lines n address row.now missed p.now side execute before start) result }
+        (done_lines n address row.now.ticks row.now.level_wait missed p.now known.now before start)
+        result }
 {
-    write_row(out, n, address, row)?;
-    write_spent(out, row, missed, p, side, execute, before, start)
+    write_row(out, n, address, &row.ticks)?;
+    write_spent(out, row, missed, p, known, before, start)
 }

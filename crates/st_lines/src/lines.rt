@@ -3,8 +3,10 @@
 ghost use Rattle.std.specs.Prelude.{◌≡◌, ◌+◌, ◌*◌, ◌<◌, ◌≤◌, ◌++◌, ◌∷◌, [], length, codes, decimal, MatchOption, IfSome};
 ghost use Rattle.arrayvec.specs.ArrayString.{array_string_len};
 ghost use Rattle.st_text.specs.Bytes.{lf};
-ghost use Rattle.st_lines.specs.Lines.{ledger_levels_line, numbers_text, delays_line, why_text, start_line, segment_end_line, word_line, missed_line, alone_text, alone_line, suppressed_line, writes_line, index_line, dropped_line, begun_line};
+ghost use Rattle.st_text.specs.Numerals.{hex_text};
+ghost use Rattle.st_lines.specs.Lines.{ledger_levels_line, numbers_text, delays_line, why_text, start_line, segment_end_line, word_line, missed_line, alone_text, alone_line, suppressed_line, writes_line, index_line, dropped_line, begun_line, second_text, code_line, level_line};
 
+use st_plain::Code;
 use st_prep::IndexChange;
 use st_rows::EntryTicks;
 use st_text::{
@@ -253,5 +255,48 @@ pub fn line_late(n: u32, address: u32, row: &EntryTicks) -> Line
     push_decimal(&mut line, row.p);
     line.push_str(" R ");
     push_decimal(&mut line, row.r);
+    ended(line)
+}
+
+// Appends eight hexadecimal digits.
+fn push_half_word(line: &mut Line, half: u32)
+    requires { array_string_len line.old + 8 ≤ 128 }
+    ensures bytes { line.new.bytes ≡ line.old.bytes ++ hex_text 8 half }
+    ensures room { array_string_len line.new ≡ array_string_len line.old + 8 }
+{
+    push_hex(line, 8, u64::from(half));
+}
+
+// Appends the second half-word of a full word.
+fn push_second(line: &mut Line, half: Option<u32>)
+    requires { array_string_len line.old + 9 ≤ 128 }
+    ensures bytes { line.new.bytes ≡ line.old.bytes ++ second_text half }
+    ensures room { array_string_len line.new ≤ array_string_len line.old + 9 }
+{
+    match half {
+        Some(half) => {
+            line.push_str(" ");
+            push_half_word(line, half);
+        }
+        None => {}
+    }
+}
+
+/// `CODE h` or `CODE h g`: the half-words that an entry executes.
+pub fn line_code(code: Code) -> Line
+    ensures { result.bytes ≡ code_line code }
+{
+    let mut line = begun("CODE ");
+    push_half_word(&mut line, code.first);
+    push_second(&mut line, code.second);
+    ended(line)
+}
+
+/// `LEVEL d`: an entry waited so many ticks for a level.
+pub fn line_level(d: u64) -> Line
+    ensures { result.bytes ≡ level_line d }
+{
+    let mut line = begun("LEVEL ");
+    push_decimal(&mut line, d);
     ended(line)
 }

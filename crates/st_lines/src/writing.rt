@@ -72,10 +72,10 @@ fn write_drop_line<K: Sink>(out: &mut K, n: u32, ahead: &Ahead) -> Result<(), Fa
 fn write_drop<K: Sink>(out: &mut K, n: u32, ahead: &Ahead) -> Result<(), Failed>
     ensures { WritesLines (K.output out.old) (K.output out.new)
         (dropped_line n ahead.now.plan.place.address ahead.now.row
-        ∷ facts_lines ahead.now.plan ahead.now.side ahead.now.execute) result }
+        ∷ facts_lines ahead.now.plan ahead.now.known) result }
 {
     write_drop_line(out, n, ahead)?;
-    write_facts(out, &ahead.plan, ahead.side, ahead.execute)
+    write_facts(out, &ahead.plan, &ahead.known)
 }
 
 // Writes the lines of entries that are dropped; the first of them is the n-th entry.
@@ -105,7 +105,7 @@ fn write_late<K: Sink>(out: &mut K, n: u32, late: &Ahead) -> Result<(), Failed>
         (late_lines n (late.now ∷ [])) result }
 {
     write_late_line(out, n, late)?;
-    write_facts(out, &late.plan, late.side, late.execute)
+    write_facts(out, &late.plan, &late.known)
 }
 
 // The number behind those of some entries, the first of which is the n-th entry.

@@ -8,4 +8,4 @@ returns-in_err-write_suppressed g c =
     both_cut _ _ _ _ _ _ c.from_residual.result c.from_residual.ensures.0 (ap suppressed_lines c.suppressed_by.ensures) c.in_err-write_suppressed.ensures
 
 pub returns : goal.returns
-returns g c = both_then _ _ _ _ _ _ _ _ _ (ap suppressed_lines c.suppressed_by.ensures) refl c.in_ok-write_suppressed.ensures c.write_changes.ensures
+returns g c = both_then _ _ _ _ _ _ _ _ _ (ap suppressed_lines c.suppressed_by.ensures) refl c.in_ok-write_suppressed.ensures c.write_doing.ensures
