@@ -50,7 +50,7 @@ words_behind m = words_printed (interlude m.scene).happened
 
 -- of a state, and of the one before the last entry
 abbrev pub state_lines_at : List (List ℕ) → ℕ → Machine → Machine → List (List ℕ)
-state_lines_at words k b s = state_lines words k b.enabled s (interrupt s) s.done
+state_lines_at words k b s = state_lines words k b.enabled b.words s (interrupt s) s.done
 
 -- ---- where a segment begins
 
@@ -97,7 +97,7 @@ lines_of_entry ds n p =
 -- the last segment ends, and the run
 unfoldable pub last_lines : List ℕ → ℕ → ℕ → Machine → Moment → List (List ℕ)
 last_lines ds n k b m =
-    (end_lines_at ds n k b m ++ marks_lines (words_behind m) k b.enabled (next_state m))
+    (end_lines_at ds n k b m ++ marks_lines (words_behind m) k b.enabled b.words (next_state m))
     ++ run_end_line (rests (next_state m)) ∷ done_line (next_state m).done ∷ ticks_line m.tick ∷ []
 
 -- the ticks of all charges, stage by stage

@@ -1,9 +1,12 @@
 //! The run, line by line.
-ghost use Rattle.std.specs.Prelude.{◌≡◌, ◌≢◌, List, true, ℕ, ◌+◌, ◌*◌, ◌<◌, ◌≤◌, ◌^◌, ◌∷◌, ◌++◌, ◌||◌, not, nat_eq, [], if◌then◌else◌, is_some, length, map, All, IfSome, IfOk, IsOk};
+ghost use Rattle.std.specs.Prelude.{◌≡◌, ◌≢◌, List, true, ℕ, ◌+◌, ◌*◌, ◌<◌, ◌≤◌, ◌^◌, ◌∷◌, ◌++◌, ◌||◌, not, nat_eq, [], if◌then◌else◌, is_some, length, map, All, IfSome, IfOk, IsOk, slice_index, option_map};
 ghost use Rattle.std.specs.List.{AllPass};
 ghost use Rattle.st_bits.specs.declared.limits.TheConstants.{MOST_INSTRUCTIONS};
 ghost use Rattle.st_card.specs.Limits.{is_signal};
-ghost use Rattle.st_state.specs.Machine.{Machine};
+ghost use Rattle.st_bits.specs.Storage.{words_of_storage};
+ghost use Rattle.st_bits.specs.declared.limits.TheConstants.{WORDS};
+ghost use Rattle.st_lines.specs.Changes.{IsLeft};
+ghost use Rattle.st_state.specs.Machine.{Machine, word};
 ghost use Rattle.st_prep.specs.Plan.{plan as plan_of};
 ghost use Rattle.st_prep.specs.Ranges.{IsPrepared};
 ghost use Rattle.st_exec.specs.Completion.{state_after_execution, guess as guess_of, is_missed as is_missed_of};
@@ -35,7 +38,7 @@ use st_exec::{complete_in, interrupt, is_at_rest, is_missed, next_address};
 use st_io::{Failed, Sink};
 use st_ledger::{Totals, write_sums};
 use st_lines::{
-    Border, Printed, Why, counter_of, is_enabled, write_border, write_done, write_end,
+    Border, Changeable, Printed, Why, counter_of, is_enabled, write_border, write_done, write_end,
     write_machine, write_marks, write_totals,
 };
 use st_plain::{Ahead, Aheads, Known, Row, next_row, plan_entry};
@@ -272,11 +275,36 @@ fn next_number(begins: bool, k: u32) -> u32
     if begins { k + 1 } else { k }
 }
 
+// Where the area begins into which the reader may bring a card, where it has an order.
+fn card_area(state: &State) -> Option<u32>
+    ensures { result ≡ option_map (λ order. order.word) state.now.reader }
+{
+    match state.reader {
+        Some(order) => Some(order.word),
+        None => None,
+    }
+}
+
+// The words that may change behind an entry that is prepared as `p` and has left a state.
+fn changeable(p: &Prepared, state: &State) -> Changeable
+    ensures { result ≡ record {
+      writes = p.now.writes;
+      card = option_map (λ order. order.word) state.now.reader;
+    } }
+{
+    Changeable {
+        writes: p.writes,
+        card: card_area(state),
+    }
+}
+
 // The border between the last entry and the next one: the front of the next one, and the lines
 // where a segment ends or begins.
 fn write_crossing<K: Sink>(
     out: &mut K,
+    old: &mut Vec<u64>,
     state: &State,
+    may: &Changeable,
     last: &mut Last,
     found: &Aheads,
     late: &Ahead,
@@ -294,9 +322,13 @@ fn write_crossing<K: Sink>(
     requires past { last.old.past ≡ last.old.front.past }
     requires tight { IsTight 255 last.old.front }
     requires done { last.old.front.c ≡ last.old.tick }
+    requires size { length old.old.items ≡ words_of_storage }
+    requires left { k ≢ 0 → (v : ℕ) → v < WORDS → IsLeft v may.now →
+        slice_index old.old.items v ≡ word state.now v }
 
     ensures lines { (ds : List ℕ) (n : ℕ) (b : Machine) (m : Moment) →
-        b.enabled ≡ last.old.enabled → printed.now.items ≡ words_behind m →
+        b.enabled ≡ last.old.enabled → (k ≢ 0 → old.old.items ≡ b.words) →
+        printed.now.items ≡ words_behind m →
         (ends_segment m ≡ true → k ≢ 0 → late.now ∷ [] ≡ late_at ds n b m) →
         IsBehindMoment m state.now last.old found.now.items banks card waited →
         WritesLines (K.output out.old) (K.output out.new) (segment_lines ds n k b m)
@@ -312,6 +344,7 @@ fn write_crossing<K: Sink>(
     ensures tight { IsTight 255 last.new.front }
     ensures order { last.new.tick ≤ last.new.front.c }
     ensures bound { last.new.front.c ≤ last.new.tick + 9 }
+    ensures words { IfOk result (λ next. old.new.items ≡ state.now.words) }
 {
     let taken = interrupt(state);
     let missed = last.missed;
@@ -334,14 +367,25 @@ fn write_crossing<K: Sink>(
         taken,
         done: done_of(state),
     };
-    write_border(out, border, printed, state, found.as_slice(), late)?;
+    write_border(
+        out,
+        border,
+        printed,
+        old,
+        state,
+        may,
+        found.as_slice(),
+        late,
+    )?;
     Ok(next_number(begins, k))
 }
 
 // Writes the lines of the end of a run.
 fn write_last<K: Sink>(
     out: &mut K,
+    old: &mut Vec<u64>,
     state: &State,
+    may: &Changeable,
     last: &Last,
     found: &Aheads,
     late: &Ahead,
@@ -350,14 +394,18 @@ fn write_last<K: Sink>(
 ) -> Result<(), Failed>
     requires few { state.now.done ≤ MOST_INSTRUCTIONS }
     requires dropped { length found.now.items ≤ 8 }
+    requires size { length old.old.items ≡ words_of_storage }
+    requires left { k ≢ 0 → (v : ℕ) → v < WORDS → IsLeft v may.now →
+        slice_index old.old.items v ≡ word state.now v }
+
     ensures { (ds : List ℕ) (n : ℕ) (b : Machine) (m : Moment) → b.enabled ≡ last.now.enabled →
-        printed.now.items ≡ words_behind m → m.tick ≡ last.now.tick → next_state m ≡ state.now →
+        (k ≢ 0 → old.old.items ≡ b.words) → printed.now.items ≡ words_behind m → m.tick ≡ last.now.tick → next_state m ≡ state.now →
         found.now.items ≡ map seen_ahead m.dropped →
         (k ≢ 0 → late.now ∷ [] ≡ late_at ds n b m) → WritesLines (K.output out.old)
         (K.output out.new) (last_lines ds n k b m) result }
 {
     write_end(out, k, last.tick, row_number(state), found.as_slice(), late)?;
-    write_marks(out, printed, k, last.enabled, state)?;
+    write_marks(out, printed, k, last.enabled, old, state, may)?;
     write_totals(out, is_at_rest(state), state.done, last.tick)
 }
 
@@ -371,6 +419,7 @@ fn write_run<K: Sink>(
     delays: &Delays,
     levels: u8,
     budget: u64,
+    old: &mut Vec<u64>,
     sums: &mut Totals,
 ) -> Result<(), Failed>
     requires fresh { state.old.done ≡ 0 }
@@ -378,6 +427,7 @@ fn write_run<K: Sink>(
     requires cards { All IsCard cards.old }
     requires levels { (1 ≤ levels) × (levels ≤ 8) }
     requires limit { budget ≤ MOST_INSTRUCTIONS }
+    requires size { length old.old.items ≡ words_of_storage }
     requires none { AreWithin 0 sums.old }
 
     ensures lines { WritesLines (K.output out.old) (K.output out.new)
@@ -403,17 +453,20 @@ fn write_run<K: Sink>(
         let banks = look_if(
             looks, state, &last, delays, levels, &mut log, &mut found, &mut late,
         );
+        let may = changeable(&p, state);
         let between = settle(state, rest, cards, &mut printed);
         rest = between.signals;
         if left == 0 {
-            return write_last(out, state, &last, &found, &late, &printed, k);
+            return write_last(out, old, state, &may, &last, &found, &late, &printed, k);
         }
         if is_at_rest(state) {
-            return write_last(out, state, &last, &found, &late, &printed, k);
+            return write_last(out, old, state, &may, &last, &found, &late, &printed, k);
         }
         k = write_crossing(
             out,
+            old,
             state,
+            &may,
             &mut last,
             &found,
             &late,
@@ -432,8 +485,8 @@ fn write_run<K: Sink>(
 
 /// Writes the ledger of a run: of a machine with these signals and cards to come, these delays and
 /// so many levels, 1 to 8, until it ends or so many instructions are done, at most 10,000,000.
-/// Nothing has happened in the machine. Each line is written by itself. `docs/ledger.md` has the
-/// rules.
+/// Nothing has happened in the machine. Each line is written by itself; `words` has as many words
+/// as storage, whatever they are, and is used up. `docs/ledger.md` has the rules.
 pub fn write_ledger<K: Sink>(
     out: &mut K,
     state: &mut State,
@@ -443,6 +496,7 @@ pub fn write_ledger<K: Sink>(
     delays: &Delays,
     levels: u8,
     budget: u64,
+    words: &mut Vec<u64>,
 ) -> Result<(), Failed>
     requires fresh { state.old.done ≡ 0 }
     requires signals { AllPass is_signal signals.now }
@@ -450,6 +504,7 @@ pub fn write_ledger<K: Sink>(
     requires list { list.now ≡ delays.now }
     requires levels { (1 ≤ levels) × (levels ≤ 8) }
     requires limit { budget ≤ MOST_INSTRUCTIONS }
+    requires size { length words.old.items ≡ words_of_storage }
 
     ensures { WritesLines (K.output out.old) (K.output out.new)
         (ledger delays.now levels budget (at_hand state.old signals.now cards.old)) result }
@@ -457,7 +512,7 @@ pub fn write_ledger<K: Sink>(
     let mut sums = Totals::default();
     write_machine(out, levels, list)?;
     write_run(
-        out, state, signals, cards, delays, levels, budget, &mut sums,
+        out, state, signals, cards, delays, levels, budget, words, &mut sums,
     )?;
     write_sums(out, &sums)
 }

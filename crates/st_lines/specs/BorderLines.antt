@@ -1,13 +1,13 @@
 -- What a ledger tells between two entries: where a segment ends, and the state behind an entry; and
 -- before all entries the machine.
-use Rattle.std.specs.Prelude.{ℕ, ◌+◌, Bool, true, false, not, ◌||◌, nat_eq, if◌then◌else◌, List, [], ◌∷◌, ◌++◌, length, Option, None, Some}
+use Rattle.std.specs.Prelude.{ℕ, ◌+◌, Bool, true, false, not, ◌||◌, nat_eq, if◌then◌else◌, List, [], ◌∷◌, ◌++◌, length, slice_index, Option, None, Some}
 use Rattle.st_bits.specs.declared.limits.TheConstants.{WORDS}
 use Rattle.st_io.specs.Lines.{lines_for}
 use Rattle.st_state.specs.Machine.{Machine, word}
 use Rattle.st_exch.specs.Printer.{line_of_words}
 use Rattle.st_report.specs.Line.{prt_line, ic_line, en_line, int_line}
 use Rattle.st_plain.specs.declared.looking.Ahead.{Ahead}
-use Rattle.st_lines.specs.Lines.{ledger_levels_line, delays_lines, segment_end_line, word_line, dropped_line, begun_line}
+use Rattle.st_lines.specs.Lines.{ledger_levels_line, delays_lines, segment_end_line, word_line, changed_line, dropped_line, begun_line}
 use Rattle.st_lines.specs.EntryLines.{facts_lines}
 
 -- ---- where a segment ends
@@ -56,18 +56,28 @@ prints_lines (words ∷ more) = prt_line (line_of_words words) ∷ prints_lines 
 unfoldable pub word_lines : Machine → ℕ → List (List ℕ)
 word_lines s w = if nat_eq (word s w) 0 then [] else word_line w (word s w) ∷ []
 
--- all of them, at the start of the run
-unfoldable pub words_lines : ℕ → Machine → List (List ℕ)
-words_lines k s = if nat_eq k 0 then lines_for (word_lines s) WORDS 0 else []
+-- a word that is no longer what it was; these are all words before
+unfoldable pub change_lines : List ℕ → Machine → ℕ → List (List ℕ)
+change_lines old s w =
+    if nat_eq (slice_index old w) (word s w) then []
+    else changed_line w (slice_index old w) (word s w) ∷ []
 
--- what was printed, the counter, whether interrupts are enabled, and the words
-unfoldable pub marks_lines : List (List ℕ) → ℕ → Bool → Machine → List (List ℕ)
-marks_lines words k was s = prints_lines words
-    ++ (ic_line s.ic ∷ en_lines k was s.enabled ++ words_lines k s)
+-- by their addresses: at the start of the run all that are not zero, and then all that changed
+unfoldable pub words_lines : ℕ → List ℕ → Machine → List (List ℕ)
+words_lines k old s =
+    if nat_eq k 0 then lines_for (word_lines s) WORDS 0 else lines_for (change_lines old s) WORDS 0
+
+-- what was printed, the counter, whether interrupts are enabled, and the words; before the entry
+-- interrupts were enabled or not, and these were the words
+unfoldable pub marks_lines : List (List ℕ) → ℕ → Bool → List ℕ → Machine → List (List ℕ)
+marks_lines words k was old s = prints_lines words
+    ++ (ic_line s.ic ∷ en_lines k was s.enabled ++ words_lines k old s)
 
 -- and the interrupt that is taken, where the run goes on; so many instructions are done
-unfoldable pub state_lines : List (List ℕ) → ℕ → Bool → Machine → Option ℕ → ℕ → List (List ℕ)
-state_lines words k was s taken done = marks_lines words k was s ++ taken_by (nat_eq k 0) taken done
+unfoldable pub state_lines : List (List ℕ) → ℕ → Bool → List ℕ → Machine → Option ℕ → ℕ →
+    List (List ℕ)
+state_lines words k was old s taken done = marks_lines words k was old s
+    ++ taken_by (nat_eq k 0) taken done
 
 -- ---- the machine
 

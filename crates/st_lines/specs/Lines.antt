@@ -37,6 +37,11 @@ delays_lines ds = delays_by (length ds) ds
 abbrev pub word_line : ℕ → ℕ → List ℕ
 word_line w word = codes "WORD " ++ decimal w ++ codes " IS " ++ hex_word word ++ lf
 
+-- word w was one number, and is now another
+abbrev pub changed_line : ℕ → ℕ → ℕ → List ℕ
+changed_line w was is =
+    codes "WORD " ++ decimal w ++ codes " WAS " ++ hex_word was ++ codes " IS " ++ hex_word is ++ lf
+
 -- why a segment begins
 abbrev pub why_text : Why → List ℕ
 why_text Run = codes "RUN"

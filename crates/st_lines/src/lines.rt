@@ -4,7 +4,7 @@ ghost use Rattle.std.specs.Prelude.{◌≡◌, ◌+◌, ◌*◌, ◌<◌, ◌≤
 ghost use Rattle.arrayvec.specs.ArrayString.{array_string_len};
 ghost use Rattle.st_text.specs.Bytes.{lf};
 ghost use Rattle.st_text.specs.Numerals.{hex_text};
-ghost use Rattle.st_lines.specs.Lines.{ledger_levels_line, numbers_text, delays_line, why_text, start_line, segment_end_line, word_line, missed_line, alone_text, alone_line, suppressed_line, writes_line, index_line, dropped_line, begun_line, second_text, code_line, level_line};
+ghost use Rattle.st_lines.specs.Lines.{ledger_levels_line, numbers_text, delays_line, why_text, start_line, segment_end_line, word_line, changed_line, missed_line, alone_text, alone_line, suppressed_line, writes_line, index_line, dropped_line, begun_line, second_text, code_line, level_line};
 
 use st_plain::Code;
 use st_prep::IndexChange;
@@ -153,6 +153,19 @@ pub fn line_word(w: u32, word: u64) -> Line
     push_short_decimal(&mut line, w);
     line.push_str(" IS ");
     push_hex(&mut line, 16, word);
+    ended(line)
+}
+
+/// `WORD w WAS h IS g`: word w was h, and is now g.
+pub fn line_changed(w: u32, was: u64, is: u64) -> Line
+    ensures { result.bytes ≡ changed_line w was is }
+{
+    let mut line = begun("WORD ");
+    push_short_decimal(&mut line, w);
+    line.push_str(" WAS ");
+    push_hex(&mut line, 16, was);
+    line.push_str(" IS ");
+    push_hex(&mut line, 16, is);
     ended(line)
 }
 

@@ -1,13 +1,17 @@
 //! The lines where a segment ends, and where one begins.
-ghost use Rattle.std.specs.Prelude.{◌≡◌, ◌+◌, ◌<◌, ◌≤◌, ◌^◌, ℕ, ◌∷◌, ◌++◌, [], if◌then◌else◌, ◌||◌, length, min, MatchOption, IfSome};
+ghost use Rattle.std.specs.Prelude.{◌≡◌, ◌+◌, ◌<◌, ◌≤◌, ◌^◌, ℕ, ◌∷◌, ◌++◌, [], if◌then◌else◌, ◌||◌, length, min, MatchOption, IfSome, ◌≢◌, false, slice_index, IsOk};
 ghost use Rattle.st_io.specs.Lines.{WritesLines, lines_for};
+ghost use Rattle.st_bits.specs.Storage.{words_of_storage};
+ghost use Rattle.st_state.specs.Machine.{word};
 ghost use Rattle.st_bits.specs.declared.limits.TheConstants.{WORDS};
 ghost use Rattle.st_exch.specs.Printer.{line_of_words as printed_of};
 ghost use Rattle.st_report.specs.Line.{prt_line, ic_line, en_line, end_line as run_end_line, done_line, ticks_line};
 ghost use Rattle.st_lines.specs.Lines.{ledger_levels_line, delays_line, delays_by, start_line, segment_end_line, dropped_line, begun_line};
 ghost use Rattle.st_lines.specs.EntryLines.{facts_lines};
-ghost use Rattle.st_lines.specs.BorderLines.{drop_lines, late_lines, segment_end_lines, differs, en_lines, prints_lines, word_lines, words_lines, marks_lines, taken_by, state_lines, machine_lines};
+ghost use Rattle.st_lines.specs.Changes.{IsLeft};
+ghost use Rattle.st_lines.specs.BorderLines.{drop_lines, late_lines, segment_end_lines, differs, en_lines, prints_lines, word_lines, change_lines, words_lines, marks_lines, taken_by, state_lines, machine_lines};
 
+use crate::changes::{Changeable, keep_words, write_changed};
 use crate::facts::write_facts;
 use crate::lines::{
     Why, line_delays, line_drop, line_end, line_late, line_levels, line_start, line_word,
@@ -280,41 +284,72 @@ fn write_each_word<K: Sink>(out: &mut K, state: &State) -> Result<(), Failed>
     Ok(())
 }
 
-// The same at the start of a run.
-fn write_words<K: Sink>(out: &mut K, starts: bool, state: &State) -> Result<(), Failed>
-    ensures { WritesLines (K.output out.old) (K.output out.new)
-        (if starts then lines_for (word_lines state.now) WORDS 0 else []) result }
+// Writes the words that are not zero, at the start of a run, or those that changed.
+fn write_words<K: Sink>(
+    out: &mut K,
+    starts: bool,
+    old: &mut Vec<u64>,
+    state: &State,
+    may: &Changeable,
+) -> Result<(), Failed>
+    requires size { length old.old.items ≡ words_of_storage }
+    requires left { starts ≡ false → (v : ℕ) → v < WORDS → IsLeft v may.now →
+        slice_index old.old.items v ≡ word state.now v }
+    ensures lines { WritesLines (K.output out.old) (K.output out.new)
+        (if starts then lines_for (word_lines state.now) WORDS 0
+        else lines_for (change_lines old.old.items state.now) WORDS 0) result }
+    ensures words { IsOk result → old.new.items ≡ state.now.words }
 {
     if !starts {
-        return Ok(());
+        return write_changed(out, old, state, may);
     }
+    keep_words(old, state);
     write_each_word(out, state)
 }
 
-// Writes the counter, whether interrupts are enabled, and the words, where that is told.
-fn write_standing<K: Sink>(out: &mut K, k: u32, was: bool, state: &State) -> Result<(), Failed>
-    ensures { WritesLines (K.output out.old) (K.output out.new)
+// Writes the counter, whether interrupts are enabled, where that is told, and the words.
+fn write_standing<K: Sink>(
+    out: &mut K,
+    k: u32,
+    was: bool,
+    old: &mut Vec<u64>,
+    state: &State,
+    may: &Changeable,
+) -> Result<(), Failed>
+    requires size { length old.old.items ≡ words_of_storage }
+    requires left { k ≢ 0 → (v : ℕ) → v < WORDS → IsLeft v may.now →
+        slice_index old.old.items v ≡ word state.now v }
+    ensures lines { WritesLines (K.output out.old) (K.output out.new)
         (ic_line state.now.ic ∷ en_lines k was state.now.enabled
-        ++ words_lines k state.now) result }
+        ++ words_lines k old.old.items state.now) result }
+    ensures words { IsOk result → old.new.items ≡ state.now.words }
 {
     write_counter(out, k, was, counter_of(state), is_enabled(state))?;
-    write_words(out, k == 0, state)
+    write_words(out, k == 0, old, state, may)
 }
 
-/// Writes what is printed, the counter, whether interrupts are enabled, and the words, where that
-/// is told.
+/// Writes what is printed, the counter, whether interrupts are enabled, where that is told, and the
+/// words: at the start of a run, before the segment 1, those that are not zero, and else those that
+/// changed. Before the last entry interrupts were enabled or not, and the words were `old`, which
+/// then has them as they are; of the words that are no registers those may have changed.
 pub fn write_marks<K: Sink>(
     out: &mut K,
     printed: &Printed,
     k: u32,
     was: bool,
+    old: &mut Vec<u64>,
     state: &State,
+    may: &Changeable,
 ) -> Result<(), Failed>
-    ensures { WritesLines (K.output out.old) (K.output out.new)
-        (marks_lines printed.now.items k was state.now) result }
+    requires size { length old.old.items ≡ words_of_storage }
+    requires left { k ≢ 0 → (v : ℕ) → v < WORDS → IsLeft v may.now →
+        slice_index old.old.items v ≡ word state.now v }
+    ensures lines { WritesLines (K.output out.old) (K.output out.new)
+        (marks_lines printed.now.items k was old.old.items state.now) result }
+    ensures words { IsOk result → old.new.items ≡ state.now.words }
 {
     write_prints(out, printed.as_slice())?;
-    write_standing(out, k, was, state)
+    write_standing(out, k, was, old, state, may)
 }
 
 // Writes the interrupt that is taken after so many instructions, but before the first one.
@@ -343,14 +378,20 @@ fn write_state<K: Sink>(
     printed: &Printed,
     k: u32,
     was: bool,
+    old: &mut Vec<u64>,
     state: &State,
+    may: &Changeable,
     taken: Option<u8>,
     done: u64,
 ) -> Result<(), Failed>
-    ensures { WritesLines (K.output out.old) (K.output out.new)
-        (state_lines printed.now.items k was state.now taken done) result }
+    requires size { length old.old.items ≡ words_of_storage }
+    requires left { k ≢ 0 → (v : ℕ) → v < WORDS → IsLeft v may.now →
+        slice_index old.old.items v ≡ word state.now v }
+    ensures lines { WritesLines (K.output out.old) (K.output out.new)
+        (state_lines printed.now.items k was old.old.items state.now taken done) result }
+    ensures words { IsOk result → old.new.items ≡ state.now.words }
 {
-    write_marks(out, printed, k, was, state)?;
+    write_marks(out, printed, k, was, old, state, may)?;
     write_taken(out, k == 0, taken, done)
 }
 
@@ -400,23 +441,31 @@ pub struct Border {
 }
 
 /// Writes the end of a segment, the state, and the start of the next segment, as far as there are
-/// any.
+/// any. `old` and `may` are as in `write_marks`.
 pub fn write_border<K: Sink>(
     out: &mut K,
     border: Border,
     printed: &Printed,
+    old: &mut Vec<u64>,
     state: &State,
+    may: &Changeable,
     found: &[Ahead],
     late: &Ahead,
 ) -> Result<(), Failed>
     requires few { border.n + length found.now < 2 ^ 32 }
     requires number { border.k + 1 < 2 ^ 32 }
-    ensures { WritesLines (K.output out.old) (K.output out.new)
+    requires size { length old.old.items ≡ words_of_storage }
+    requires left { border.k ≢ 0 → (v : ℕ) → v < WORDS → IsLeft v may.now →
+        slice_index old.old.items v ≡ word state.now v }
+
+    ensures lines { WritesLines (K.output out.old) (K.output out.new)
         (((if border.ends then segment_end_lines border.k border.tick border.n found.now
         (late.now ∷ []) else [])
-        ++ state_lines printed.now.items border.k border.was state.now border.taken border.done)
+        ++ state_lines printed.now.items border.k border.was old.old.items state.now border.taken
+        border.done)
         ++ (if border.begins then start_line (border.k + 1) border.start border.waited border.why
         ∷ [] else [])) result }
+    ensures words { IsOk result → old.new.items ≡ state.now.words }
 {
     write_ended(
         out,
@@ -432,7 +481,9 @@ pub fn write_border<K: Sink>(
         printed,
         border.k,
         border.was,
+        old,
         state,
+        may,
         border.taken,
         border.done,
     )?;
