@@ -10,3 +10,4 @@ pub mod TurnLemmas
 pub mod LedgerLemmas
 pub mod Stages
 pub mod PrintLemmas
+pub mod LeftLemmas

@@ -9,6 +9,7 @@ ghost use Rattle.st_lines.specs.Changes.{IsLeft};
 ghost use Rattle.st_state.specs.Machine.{Machine, word};
 ghost use Rattle.st_prep.specs.Plan.{plan as plan_of};
 ghost use Rattle.st_prep.specs.Ranges.{IsPrepared};
+ghost use Rattle.st_exec.specs.Ahead.{IsNotAmong};
 ghost use Rattle.st_exec.specs.Completion.{state_after_execution, guess as guess_of, is_missed as is_missed_of};
 ghost use Rattle.st_exec.specs.Step.{step as step_of, interrupt as interrupt_of};
 ghost use Rattle.st_io.specs.Lines.{WritesLines};
@@ -243,6 +244,8 @@ fn write_entry<K: Sink>(
     ensures within { AreWithin last.new.tick sums.new }
     ensures enabled { last.new.enabled ≡ state.old.enabled }
     ensures guess { guessing last.new.ic state.new ≡ guess_of (interrupt_of state.old) state.old }
+    ensures left { (w : ℕ) → 32 ≤ w → IsNotAmong w p.new.writes →
+        word state.new w ≡ word state.old w }
 {
     delays.shape();
     state.shape();
@@ -345,7 +348,9 @@ fn write_crossing<K: Sink>(
     ensures order { last.new.tick ≤ last.new.front.c }
     ensures bound { last.new.front.c ≤ last.new.tick + 9 }
     ensures words { IfOk result (λ next. old.new.items ≡ state.now.words) }
+    ensures size { IfOk result (λ next. length old.new.items ≡ words_of_storage) }
 {
+    state.shape();
     let taken = interrupt(state);
     let missed = last.missed;
     let was = last.enabled;

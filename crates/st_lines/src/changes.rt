@@ -8,12 +8,12 @@ ghost use Rattle.st_state.specs.Machine.{word as word_of};
 ghost use Rattle.st_lines.specs.BorderLines.{change_lines};
 ghost use Rattle.st_lines.specs.Changes.{IsBeside, IsLeft};
 
-use crate::lines::line_changed;
-use crate::writing::put;
+use crate::digits::fill_changed;
 use st_bits::WORDS;
 use st_bits::register::FIRST_STORAGE_WORD;
-use st_io::{Failed, Sink};
+use st_io::{Failed, Sink, write_line};
 use st_prep::Words;
+use st_report::LineFromEnd;
 use st_state::State;
 
 /// The words that may change behind an entry, besides the registers.
@@ -89,7 +89,9 @@ fn write_change<K: Sink>(
         return Ok(());
     }
     old[w as usize] = is;
-    put(out, &line_changed(w, was, is))
+    let mut line = LineFromEnd::new();
+    fill_changed(&mut line, w, was, is);
+    write_line(out, line.as_bytes())
 }
 
 /// Writes the words of a state that changed, by their addresses. Before that they were `old`, and

@@ -8,16 +8,16 @@ ghost use Rattle.st_ledger.specs.Charges.{parts_of_row, charges_behind};
 ghost use Rattle.st_ledger.specs.Lines.{charge_lines};
 ghost use Rattle.st_lines.specs.EntryLines.{alone_for as alone_of, alone_by as alone_why, alone_lines, suppressed_by as suppressed_of, suppressed_lines, code_lines, run_lines, writes_lines, index_lines, facts_lines, missed_lines, level_lines, done_lines};
 
-use crate::lines::{
-    Alone, line_alone, line_code, line_index, line_level, line_missed, line_suppressed, line_writes,
-};
+use crate::digits::{fill_code, fill_index};
+use crate::lines::{Alone, line_alone, line_level, line_missed, line_suppressed, line_writes};
 use crate::writing::put;
 use st_bits::indicator;
 use st_bits::register::FIRST_STORAGE_WORD;
-use st_io::{Failed, Sink};
+use st_io::{Failed, Sink, write_line};
 use st_ledger::{write_charges, write_row};
 use st_plain::{Code, Known, Row};
 use st_prep::{IndexChange, Prepared, Words};
+use st_report::LineFromEnd;
 
 // Whether one of the words is a register.
 #[tactic(auto, unfolding(st_prep::specs::Entry::has_register))]
@@ -148,7 +148,11 @@ fn write_index<K: Sink>(out: &mut K, index: Option<IndexChange>) -> Result<(), F
 {
     match index {
         None => Ok(()),
-        Some(change) => put(out, &line_index(&change)),
+        Some(change) => {
+            let mut line = LineFromEnd::new();
+            fill_index(&mut line, &change);
+            write_line(out, line.as_bytes())
+        }
     }
 }
 
@@ -168,7 +172,11 @@ fn write_code<K: Sink>(out: &mut K, code: Option<Code>) -> Result<(), Failed>
 {
     match code {
         None => Ok(()),
-        Some(code) => put(out, &line_code(code)),
+        Some(code) => {
+            let mut line = LineFromEnd::new();
+            fill_code(&mut line, code);
+            write_line(out, line.as_bytes())
+        }
     }
 }
 

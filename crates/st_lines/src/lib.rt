@@ -2,6 +2,7 @@
 #![tactic(auto, using(st_bits::specs::Storage::words_of_storage_is))]
 
 mod changes;
+mod digits;
 mod facts;
 mod lines;
 mod writing;

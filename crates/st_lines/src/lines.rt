@@ -3,11 +3,8 @@
 ghost use Rattle.std.specs.Prelude.{◌≡◌, ◌+◌, ◌*◌, ◌<◌, ◌≤◌, ◌++◌, ◌∷◌, [], length, codes, decimal, MatchOption, IfSome};
 ghost use Rattle.arrayvec.specs.ArrayString.{array_string_len};
 ghost use Rattle.st_text.specs.Bytes.{lf};
-ghost use Rattle.st_text.specs.Numerals.{hex_text};
-ghost use Rattle.st_lines.specs.Lines.{ledger_levels_line, numbers_text, delays_line, why_text, start_line, segment_end_line, word_line, changed_line, missed_line, alone_text, alone_line, suppressed_line, writes_line, index_line, dropped_line, begun_line, second_text, code_line, level_line};
+ghost use Rattle.st_lines.specs.Lines.{ledger_levels_line, numbers_text, delays_line, why_text, start_line, segment_end_line, word_line, missed_line, alone_text, alone_line, suppressed_line, writes_line, dropped_line, begun_line, level_line};
 
-use st_plain::Code;
-use st_prep::IndexChange;
 use st_rows::EntryTicks;
 use st_text::{
     Line, begun, push_decimal, push_flag, push_half_address, push_hex, push_short_decimal,
@@ -156,19 +153,6 @@ pub fn line_word(w: u32, word: u64) -> Line
     ended(line)
 }
 
-/// `WORD w WAS h IS g`: word w was h, and is now g.
-pub fn line_changed(w: u32, was: u64, is: u64) -> Line
-    ensures { result.bytes ≡ changed_line w was is }
-{
-    let mut line = begun("WORD ");
-    push_short_decimal(&mut line, w);
-    line.push_str(" WAS ");
-    push_hex(&mut line, 16, was);
-    line.push_str(" IS ");
-    push_hex(&mut line, 16, is);
-    ended(line)
-}
-
 /// `MISSED`: a branch on an indicator was guessed wrongly.
 pub fn line_missed() -> Line
     ensures { result.bytes ≡ missed_line }
@@ -222,19 +206,6 @@ pub fn line_writes(w: u32, n: u8) -> Line
     ended(line)
 }
 
-/// `INDEX k WAS h IS g`: an entry changes index word k early, from h to g.
-pub fn line_index(change: &IndexChange) -> Line
-    ensures { result.bytes ≡ index_line change.now }
-{
-    let mut line = begun("INDEX ");
-    push_short_decimal(&mut line, u32::from(change.number));
-    line.push_str(" WAS ");
-    push_hex(&mut line, 16, change.kept);
-    line.push_str(" IS ");
-    push_hex(&mut line, 16, change.word);
-    ended(line)
-}
-
 /// `DROP n a A x P p R r`: the n-th entry ran ahead and is dropped; its half-word address, and its
 /// ticks.
 pub fn line_drop(n: u32, address: u32, row: &EntryTicks) -> Line
@@ -268,40 +239,6 @@ pub fn line_late(n: u32, address: u32, row: &EntryTicks) -> Line
     push_decimal(&mut line, row.p);
     line.push_str(" R ");
     push_decimal(&mut line, row.r);
-    ended(line)
-}
-
-// Appends eight hexadecimal digits.
-fn push_half_word(line: &mut Line, half: u32)
-    requires { array_string_len line.old + 8 ≤ 128 }
-    ensures bytes { line.new.bytes ≡ line.old.bytes ++ hex_text 8 half }
-    ensures room { array_string_len line.new ≡ array_string_len line.old + 8 }
-{
-    push_hex(line, 8, u64::from(half));
-}
-
-// Appends the second half-word of a full word.
-fn push_second(line: &mut Line, half: Option<u32>)
-    requires { array_string_len line.old + 9 ≤ 128 }
-    ensures bytes { line.new.bytes ≡ line.old.bytes ++ second_text half }
-    ensures room { array_string_len line.new ≤ array_string_len line.old + 9 }
-{
-    match half {
-        Some(half) => {
-            line.push_str(" ");
-            push_half_word(line, half);
-        }
-        None => {}
-    }
-}
-
-/// `CODE h` or `CODE h g`: the half-words that an entry executes.
-pub fn line_code(code: Code) -> Line
-    ensures { result.bytes ≡ code_line code }
-{
-    let mut line = begun("CODE ");
-    push_half_word(&mut line, code.first);
-    push_second(&mut line, code.second);
     ended(line)
 }
 

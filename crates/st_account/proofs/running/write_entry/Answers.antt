@@ -4,6 +4,7 @@ use Rattle.st_exec.specs.Completion.{guess}
 use Rattle.st_rows.proofs.Within.{AreDelays-list}
 use Rattle.st_segment.proofs.EntryRanges.{entry-ranges}
 use Rattle.st_account.proofs.EntryLemmas.{entry-written, entry-last, entry-sums, entry-within, entry-step}
+use Rattle.st_account.proofs.LeftLemmas.{entry-left}
 use Rattle.st_account.proofs.running.write_entry.Goals as goal
 
 pub returns-clause-lines : goal.returns-clause-lines
@@ -40,3 +41,8 @@ returns-clause-enabled g c = ap (λ (l : Last). l.enabled) c.execute.ensures.res
 pub returns-clause-guess : goal.returns-clause-guess
 returns-clause-guess g c =
     c.execute.ensures.guess ∙ ap (λ t. guess t c.args.state.now) c.interrupt-taken.ensures.value
+
+pub returns-clause-left : goal.returns-clause-left
+returns-clause-left g c w above among =
+    entry-left c.args.state.now _ c.interrupt-taken.result c.count_on-counted.new.p c.shape-2.ensures c.count_on-counted.ensures.prepared
+    c.count_on-counted.ensures.plan c.execute.ensures.state w above among

@@ -1,9 +1,11 @@
-use Rattle.std.proofs.Common.{refl}
-use Rattle.st_lines.proofs.LineLemmas.{none_if, some_if}
+use Rattle.st_lines.proofs.ChangeLemmas.{first_of, second_of}
 use Rattle.st_lines.proofs.writing.write_words.Goals as goal
 
-pub returns-then-not-starts : goal.returns-then-not-starts
-returns-then-not-starts g c = none_if _ c.args.starts _ _ c.if-not-starts.true
+pub write_changed-requires-clause-left : goal.write_changed-requires-clause-left
+write_changed-requires-clause-left g c = c.requires.left c.if-not-starts.true
 
-pub returns : goal.returns
-returns g c = some_if _ _ c.args.starts _ _ _ c.if-not-starts.false refl c.write_each_word.ensures
+pub returns-then-not-starts-clause-lines : goal.returns-then-not-starts-clause-lines
+returns-then-not-starts-clause-lines g c = second_of _ _ c.args.starts _ _ _ c.if-not-starts.true c.write_changed.ensures.lines
+
+pub returns-clause-lines : goal.returns-clause-lines
+returns-clause-lines g c = first_of _ _ c.args.starts _ _ _ c.if-not-starts.false c.write_each_word.ensures
