@@ -106,11 +106,9 @@ def compared(lines, others, kinds):
 
 
 def kind_of(line):
-    """The first word; of sums of waits, and of words that changed, two."""
+    """The first word; of sums of waits two."""
     words = line.split(" ")
-    if words[0] == "SUM" and len(words) == 4:
-        return "SUM WAIT"
-    return "WORD WAS" if words[0] == "WORD" and len(words) == 6 else words[0]
+    return "SUM WAIT" if words[0] == "SUM" and len(words) == 4 else words[0]
 
 
 def output(process):

@@ -16,32 +16,28 @@ use Rattle.st_lines.specs.declared.changes.Changeable.{Changeable}
 
 -- ---- lines of numbers that have none are passed over
 
-pass : (f : ℕ → List (List ℕ)) (d m i : ℕ) → ((v : ℕ) → i ≤ v → v < i + d → f v ≡ []) → lines_for f (d + m) i ≡ lines_for f m (i + d)
+pass : (f : ℕ → List (List ℕ)) (d n k i c : ℕ) → k ≡ d + n → c ≡ i + d → ((v : ℕ) → i ≤ v → v < c → f v ≡ []) → lines_for f k i ≡ lines_for f n c
 unfolding lines_for
-pass f zero m i none = let same : i ≡ i + 0 = omega arith in ap (lines_for f m) same
-pass f (suc d) m i none =
-    let next : (i + 1) + d ≡ i + suc d = omega arith in
-    ap (λ xs. xs ++ lines_for f (d + m) (i + 1)) (none i (omega arith) (omega arith))
-    ∙ pass f d m (i + 1) (λ v low below. none v (omega arith) (omega arith))
-    ∙ ap (lines_for f m) next
+pass f zero n k i c all there none =
+    let few : k ≡ n = omega (arith, all) in
+    let here : i ≡ c = omega (arith, there) in
+    ap (λ j. lines_for f j i) few ∙ ap (λ w. lines_for f n w) here
+pass f (suc d) n zero i c all there none = let no : ⊥ = omega (arith, all) in absurd no
+pass f (suc d) n (suc k) i c all there none =
+    ap (λ xs. xs ++ lines_for f k (i + 1)) (none i (omega arith) (omega (arith, there)))
+    ∙ pass f d n k (i + 1) c (omega (arith, all)) (omega (arith, there)) (λ v low below. none v (omega (arith, low)) below)
 
 passed : (f : ℕ → List (List ℕ)) (n i c : ℕ) → i ≤ c → c ≤ n → ((v : ℕ) → i ≤ v → v < c → f v ≡ []) → lines_for f (n - i) i ≡ lines_for f (n - c) c
-passed f n i c low high none =
-    let d : ℕ = c - i in
-    let all : n - i ≡ d + (n - c) = omega arith in
-    let there : i + d ≡ c = omega arith in
-    ap (λ k. lines_for f k i) all
-    ∙ pass f d (n - c) i (λ v from below. none v from (omega arith))
-    ∙ ap (lines_for f (n - c)) there
+passed f n i c low high none = pass f (c - i) (n - c) (n - i) i c (omega (arith, low, high)) (omega (arith, low)) none
 
 -- ---- one word
 
 none-change : (old : List ℕ) (m : Machine) (w : ℕ) → slice_index old w ≡ word m w → change_lines old m w ≡ []
 unfolding change_lines
-none-change old m w same = rw same (alike (word m w))
+none-change old m w same = rw same (alike (word m w) _)
   where
-    alike : {xs : List (List ℕ)} (n : ℕ) → (if nat_eq n n then [] else xs) ≡ []
-    alike n = let yes : nat_eq n n ≡ true = grind (arith, nat_tests) in rw yes refl
+    alike : (n : ℕ) (xs : List (List ℕ)) → (if nat_eq n n then [] else xs) ≡ []
+    alike n xs = let yes : nat_eq n n ≡ true = grind (arith, nat_tests) in rw yes refl
 
 same-change : (old now : List ℕ) (m : Machine) (w : ℕ) → slice_index now w ≡ slice_index old w → change_lines now m w ≡ change_lines old m w
 unfolding change_lines

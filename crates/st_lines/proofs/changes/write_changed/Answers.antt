@@ -19,8 +19,8 @@ returns-in_err-write_change-clause-words g c good = not_both c.from_residual.res
 
 pub words-preserved : goal.words-preserved
 words-preserved g c =
-    change-turn _ _ c.args.old.now.items _ c.args.state.now c.words.w c.words.invariant c.words-test.true _ _ c.next_word.result _ c.args.may.now c.requires.left
-    c.in_ok-write_change.ensures.lines c.in_ok-write_change.ensures.kept c.next_word.ensures.least c.next_word.ensures.most c.next_word.ensures.between
+    change-turn _ _ c.args.old.now.items _ c.args.state.now c.words.w c.words.invariant c.words-test.true _ _ c.next_word-w.result _ c.args.may.now c.requires.left
+    c.in_ok-write_change.ensures.lines c.in_ok-write_change.ensures.kept c.next_word-w.ensures.least c.next_word-w.ensures.most c.next_word-w.ensures.between
 
 pub returns-clause-lines : goal.returns-clause-lines
 returns-clause-lines g c = change-ends _ _ c.args.old.now.items _ c.args.state.now c.words.w c.words.invariant c.words-test.false _
