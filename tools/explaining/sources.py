@@ -8,7 +8,7 @@ from .lines import Off, place
 # What the program `ledger` of crates/ writes: None as long as there is none, the kinds of its lines, or ALL of them.
 # All other lines are those of model/ledger.
 ALL = "all"
-WRITES = set("LEVELS DELAYS PRT IC EN WORD SEGMENT ROW MISSED ALONE SUPPRESSED WRITES INDEX CHARGE DROP BEGUN INT END DONE TICKS SUM".split())
+WRITES = set("LEVELS DELAYS PRT IC EN WORD SEGMENT ROW MISSED ALONE SUPPRESSED CODE WRITES INDEX CHARGE LEVEL DROP BEGUN INT END DONE TICKS SUM".split())
 HOME = os.path.join(os.path.dirname(os.path.realpath(__file__)), "..", "..")
 MOST_LEVELS = 8
 OWN = 4             # the levels of the machine of `run`
@@ -106,11 +106,9 @@ def compared(lines, others, kinds):
 
 
 def kind_of(line):
-    """The first word; of sums of waits, and of words that changed, two."""
+    """The first word; of sums of waits two."""
     words = line.split(" ")
-    if words[0] == "SUM" and len(words) == 4:
-        return "SUM WAIT"
-    return "WORD WAS" if words[0] == "WORD" and len(words) == 6 else words[0]
+    return "SUM WAIT" if words[0] == "SUM" and len(words) == 4 else words[0]
 
 
 def output(process):

@@ -1,24 +1,25 @@
 -- The lines where a segment ends and the next one begins, and the front behind.
 use Rattle.std.specs.Prelude.{Bool, if◌then◌else◌, nat_eq, ◌||◌, is_some, map}
-use Rattle.std.proofs.Common.{◌≡◌, ◌≢◌, ℕ, ◌+◌, true, false, List, [], ◌∷◌, ◌++◌, length, Option, refl, sym, ◌∙◌, ap}
+use Rattle.std.proofs.Common.{◌≡◌, ◌≢◌, ℕ, zero, suc, ◌+◌, true, false, List, [], ◌∷◌, ◌++◌, length, Option, refl, sym, ◌∙◌, ap, arith}
 use Rattle.std.proofs.lemmas.List.{length-map}
 use Rattle.st_banks.specs.declared.answers.LastAnswers.{LastAnswers}
 use Rattle.st_state.specs.Machine.{Machine}
 use Rattle.st_exec.specs.Step.{rests, interrupt}
 use Rattle.st_rows.specs.Rows.{opening_front}
 use Rattle.st_rows.specs.declared.front.Front.{Front}
-use Rattle.st_report.specs.Line.{end_line as run_end_line, done_line, ticks_line}
+use Rattle.st_report.specs.Line.{ic_line, end_line as run_end_line, done_line, ticks_line}
 use Rattle.st_run.specs.Moments.{Moment, next_state, has_card, has_waited, ends_segment, next_front}
 use Rattle.st_run.proofs.DoneLemmas.{settled-done}
 use Rattle.st_plain.specs.declared.looking.Ahead.{Ahead}
 use Rattle.st_plain.specs.Looking.{seen_ahead}
 use Rattle.st_account.specs.declared.last.Last.{Last}
-use Rattle.st_account.specs.declared.lines.Why.{Why}
-use Rattle.st_account.specs.declared.lines.Why.TheVariants.{Run}
-use Rattle.st_account.specs.Lines.{start_line}
+use Rattle.st_lines.specs.declared.lines.Why.{Why}
+use Rattle.st_lines.specs.declared.lines.Why.TheVariants.{Run}
+use Rattle.st_lines.specs.Lines.{start_line}
 use Rattle.st_account.specs.Standing.{IsBehindMoment}
-use Rattle.st_account.proofs.LineLemmas.{end-same}
-use Rattle.st_account.specs.Text.{segment_end_lines, late_at, marks_lines, state_lines, state_lines_at, words_behind, why_by, why, segment_lines, segment_after, last_lines}
+use Rattle.st_lines.proofs.LineLemmas.{end-same}
+use Rattle.st_lines.specs.BorderLines.{segment_end_lines, taken_by, en_lines, prints_lines, words_lines, marks_lines, state_lines}
+use Rattle.st_account.specs.Text.{late_at, state_lines_at, words_behind, why_by, why, segment_lines, segment_after, last_lines}
 
 choice-lines : (b : Bool) (xs ys : List (List ℕ)) → (b ≡ true → xs ≡ ys) → (if b then xs else []) ≡ (if b then ys else [])
 choice-lines true xs ys same = same refl
@@ -26,6 +27,22 @@ choice-lines false xs ys same = refl
 
 same-done : (m : Moment) (s : Machine) → next_state m ≡ s → s.done ≡ m.scene.machine.done
 same-done m s is = ap (λ (t : Machine). t.done) (sym is) ∙ settled-done m.scene
+
+-- the words before count but for the first state
+words-same : (k : ℕ) (xs ys : List ℕ) (s : Machine) → (k ≢ 0 → xs ≡ ys) → words_lines k xs s ≡ words_lines k ys s
+unfolding words_lines
+words-same zero xs ys s same = refl
+words-same (suc k) xs ys s same = ap (λ (zs : List ℕ). words_lines (suc k) zs s) (same (λ none. omega (arith, none)))
+
+marks-words : (ws : List (List ℕ)) (k : ℕ) (was : Bool) (xs ys : List ℕ) (s : Machine) → (k ≢ 0 → xs ≡ ys) → marks_lines ws k was xs s ≡ marks_lines ws k was ys s
+unfolding marks_lines
+marks-words ws k was xs ys s same =
+    ap (λ (ls : List (List ℕ)). prints_lines ws ++ (ic_line s.ic ∷ en_lines k was s.enabled ++ ls)) (words-same k xs ys s same)
+
+state-words : (ws : List (List ℕ)) (k : ℕ) (was : Bool) (xs ys : List ℕ) (s : Machine) (taken : Option ℕ) (done : ℕ) → (k ≢ 0 → xs ≡ ys)
+    → state_lines ws k was xs s taken done ≡ state_lines ws k was ys s taken done
+unfolding state_lines
+state-words ws k was xs ys s taken done same = ap (λ (ls : List (List ℕ)). ls ++ taken_by (nat_eq k 0) taken done) (marks-words ws k was xs ys s same)
 
 module _ (m : Moment) (s : Machine) (l : Last) (found : List Ahead) (banks : LastAnswers) (card waited : Bool)
     (is : IsBehindMoment m s l found banks card waited) where
@@ -60,27 +77,28 @@ module _ (m : Moment) (s : Machine) (l : Last) (found : List Ahead) (banks : Las
     pub after-is : (k : ℕ) (begins : Bool) → begins ≡ (nat_eq k 0 || ends) → (if begins then k + 1 else k) ≡ segment_after k m
     after-is k begins is_begins = ap (λ b. if b then k + 1 else k) (is_begins ∙ ap (λ b. nat_eq k 0 || b) e)
 
-    pub border-lines : (ds : List ℕ) (levels : ℕ) (b : Machine) (was : Bool) (ws : List (List ℕ)) (late : List Ahead) → b.enabled ≡ was → ws ≡ words_behind m
-        → (k n start : ℕ) (begins : Bool) (y : Why) → (ends_segment m ≡ true → k ≢ 0 → late ≡ late_at ds levels b m) → begins ≡ (nat_eq k 0 || ends) → n ≡ s.done + 1 → start ≡ (next_front m).c
+    pub border-lines : (ds : List ℕ) (levels : ℕ) (b : Machine) (was : Bool) (old : List ℕ) (ws : List (List ℕ)) (late : List Ahead) → b.enabled ≡ was → ws ≡ words_behind m
+        → (k n start : ℕ) (begins : Bool) (y : Why) → (k ≢ 0 → old ≡ b.words) → (ends_segment m ≡ true → k ≢ 0 → late ≡ late_at ds levels b m) → begins ≡ (nat_eq k 0 || ends) → n ≡ s.done + 1 → start ≡ (next_front m).c
         → y ≡ (if nat_eq k 0 then Run else why_by taken l.missed)
-        → (((if ends then segment_end_lines k l.tick n found late else []) ++ state_lines ws k was s taken s.done)
+        → (((if ends then segment_end_lines k l.tick n found late else []) ++ state_lines ws k was old s taken s.done)
         ++ (if begins then start_line (k + 1) start waited y ∷ [] else [])) ≡ segment_lines ds levels k b m
     unfolding segment_lines why
-    border-lines ds levels b was ws late is_was is_printed k n start begins y is_late is_begins is_n is_start is_why =
+    border-lines ds levels b was old ws late is_was is_printed k n start begins y is_words is_late is_begins is_n is_start is_why =
         let all = is_begins ∙ ap (λ b. nat_eq k 0 || b) e in
         let number : n ≡ m.scene.machine.done + 1 = is_n ∙ ap (λ d. d + 1) (same-done m s is.state) in
         let name : y ≡ (if nat_eq k 0 then Run else why_by (interrupt (next_state m)) m.missed) =
         is_why
         ∙ ap (λ o. if nat_eq k 0 then Run else why_by o l.missed) (is_taken ∙ ap interrupt (sym is.state))
         ∙ ap (λ b. if nat_eq k 0 then Run else why_by (interrupt (next_state m)) b) (sym is.missed) in
-        let state : state_lines ws k was s taken s.done ≡ state_lines_at (words_behind m) k b (next_state m) =
-        ap (λ xs. state_lines xs k was s taken s.done) is_printed
-        ∙ ap (λ w. state_lines (words_behind m) k w s taken s.done) (sym is_was)
-        ∙ ap (λ o. state_lines (words_behind m) k b.enabled s o s.done) is_taken
+        let state : state_lines ws k was old s taken s.done ≡ state_lines_at (words_behind m) k b (next_state m) =
+        ap (λ xs. state_lines xs k was old s taken s.done) is_printed
+        ∙ ap (λ w. state_lines (words_behind m) k w old s taken s.done) (sym is_was)
+        ∙ state-words (words_behind m) k b.enabled old b.words s taken s.done is_words
+        ∙ ap (λ o. state_lines (words_behind m) k b.enabled b.words s o s.done) is_taken
         ∙ ap (state_lines_at (words_behind m) k b) (sym is.state) in
-        ap (λ b. ((if b then segment_end_lines k l.tick n found late else []) ++ state_lines ws k was s taken s.done)
+        ap (λ b. ((if b then segment_end_lines k l.tick n found late else []) ++ state_lines ws k was old s taken s.done)
         ++ (if begins then start_line (k + 1) start waited y ∷ [] else [])) e
-        ∙ ap (λ xs. (xs ++ state_lines ws k was s taken s.done) ++ (if begins then start_line (k + 1) start waited y ∷ [] else []))
+        ∙ ap (λ xs. (xs ++ state_lines ws k was old s taken s.done) ++ (if begins then start_line (k + 1) start waited y ∷ [] else []))
         (choice-lines (ends_segment m) (segment_end_lines k l.tick n found late) (segment_end_lines k m.tick (m.scene.machine.done + 1) (map seen_ahead m.dropped) (late_at ds levels b m)) (λ yes.
         end-same k l.tick n found late (late_at ds levels b m) (is_late yes)
         ∙ ap (λ xs. segment_end_lines k l.tick n xs (late_at ds levels b m)) (is.dropped yes)
@@ -98,19 +116,21 @@ module _ (m : Moment) (s : Machine) (l : Last) (found : List Ahead) (banks : Las
         ++ (if nat_eq k 0 || ends_segment m then start_line (k + 1) (next_front m).c (has_waited m) z ∷ [] else [])) name
 
 pub last-is : (ds : List ℕ) (levels : ℕ) (b : Machine) (was : Bool) → b.enabled ≡ was → (m : Moment) (ws : List (List ℕ)) → ws ≡ words_behind m → (s : Machine) (k tick n : ℕ) (found late : List Ahead) → m.tick ≡ tick
-    → next_state m ≡ s → found ≡ map seen_ahead m.dropped → (k ≢ 0 → late ≡ late_at ds levels b m) → n ≡ s.done + 1
-    → ((segment_end_lines k tick n found late ++ marks_lines ws k was s) ++ run_end_line (rests s) ∷ done_line s.done ∷ ticks_line tick ∷ []) ≡ last_lines ds levels k b m
+    → next_state m ≡ s → found ≡ map seen_ahead m.dropped → (k ≢ 0 → late ≡ late_at ds levels b m) → n ≡ s.done + 1 → (old : List ℕ) → (k ≢ 0 → old ≡ b.words)
+    → ((segment_end_lines k tick n found late ++ marks_lines ws k was old s) ++ run_end_line (rests s) ∷ done_line s.done ∷ ticks_line tick ∷ []) ≡ last_lines ds levels k b m
 unfolding last_lines
-last-is ds levels b was is_was m ws is_printed s k tick n found late is_tick state seen is_late is_n =
+last-is ds levels b was is_was m ws is_printed s k tick n found late is_tick state seen is_late is_n old is_words =
     let number : n ≡ m.scene.machine.done + 1 = is_n ∙ ap (λ d. d + 1) (same-done m s state) in
     let rest : Machine → ℕ → List (List ℕ) = λ t i. run_end_line (rests t) ∷ done_line t.done ∷ ticks_line i ∷ [] in
-    ap (λ xs. (segment_end_lines k tick n found late ++ marks_lines xs k was s) ++ rest s tick) is_printed
-    ∙ ap (λ xs. (xs ++ marks_lines (words_behind m) k was s) ++ rest s tick) (end-same k tick n found late (late_at ds levels b m) is_late)
-    ∙ ap (λ xs. (segment_end_lines k tick n xs (late_at ds levels b m) ++ marks_lines (words_behind m) k was s) ++ rest s tick) seen
-    ∙ ap (λ j. (segment_end_lines k tick j (map seen_ahead m.dropped) (late_at ds levels b m) ++ marks_lines (words_behind m) k was s) ++ rest s tick) number
-    ∙ ap (λ w. (segment_end_lines k tick (m.scene.machine.done + 1) (map seen_ahead m.dropped) (late_at ds levels b m) ++ marks_lines (words_behind m) k w s) ++ rest s tick) (sym is_was)
-    ∙ ap (λ t. (segment_end_lines k tick (m.scene.machine.done + 1) (map seen_ahead m.dropped) (late_at ds levels b m) ++ marks_lines (words_behind m) k b.enabled t) ++ rest t tick) (sym state)
-    ∙ ap (λ i. (segment_end_lines k i (m.scene.machine.done + 1) (map seen_ahead m.dropped) (late_at ds levels b m) ++ marks_lines (words_behind m) k b.enabled (next_state m))
+    ap (λ xs. (segment_end_lines k tick n found late ++ marks_lines xs k was old s) ++ rest s tick) is_printed
+    ∙ ap (λ xs. (xs ++ marks_lines (words_behind m) k was old s) ++ rest s tick) (end-same k tick n found late (late_at ds levels b m) is_late)
+    ∙ ap (λ xs. (segment_end_lines k tick n xs (late_at ds levels b m) ++ marks_lines (words_behind m) k was old s) ++ rest s tick) seen
+    ∙ ap (λ j. (segment_end_lines k tick j (map seen_ahead m.dropped) (late_at ds levels b m) ++ marks_lines (words_behind m) k was old s) ++ rest s tick) number
+    ∙ ap (λ w. (segment_end_lines k tick (m.scene.machine.done + 1) (map seen_ahead m.dropped) (late_at ds levels b m) ++ marks_lines (words_behind m) k w old s) ++ rest s tick) (sym is_was)
+    ∙ ap (λ ls. (segment_end_lines k tick (m.scene.machine.done + 1) (map seen_ahead m.dropped) (late_at ds levels b m) ++ ls) ++ rest s tick)
+    (marks-words (words_behind m) k b.enabled old b.words s is_words)
+    ∙ ap (λ t. (segment_end_lines k tick (m.scene.machine.done + 1) (map seen_ahead m.dropped) (late_at ds levels b m) ++ marks_lines (words_behind m) k b.enabled b.words t) ++ rest t tick) (sym state)
+    ∙ ap (λ i. (segment_end_lines k i (m.scene.machine.done + 1) (map seen_ahead m.dropped) (late_at ds levels b m) ++ marks_lines (words_behind m) k b.enabled b.words (next_state m))
     ++ rest (next_state m) i) (sym is_tick)
 
 pub totals-is : (s : Machine) (resting : Bool) (done tick : ℕ) → resting ≡ rests s → done ≡ s.done

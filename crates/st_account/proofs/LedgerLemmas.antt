@@ -13,7 +13,8 @@ use Rattle.st_ledger.specs.Charges.{ticks_for}
 use Rattle.st_ledger.specs.Ledger.{entries_of, all_charges}
 use Rattle.st_ledger.specs.Totals.{sum_at, stages, sums_by, sum_lines}
 use Rattle.st_ledger.proofs.Added.{sums-same}
-use Rattle.st_account.specs.Text.{machine_lines, lines_from, totals_lines, ledger}
+use Rattle.st_lines.specs.BorderLines.{machine_lines}
+use Rattle.st_account.specs.Text.{lines_from, totals_lines, ledger}
 
 module _ (ds : List ℕ) (n left : ℕ) (c : Scene) (s u : OutputState) (list : List ℕ) (same : list ≡ ds) where
   run_lines : List (List ℕ)

@@ -1,6 +1,6 @@
 pub mod LastLemmas
 pub mod ReadLemmas
-pub mod LineLemmas
+pub mod AnswerLemmas
 pub mod RunLemmas
 pub mod BorderLemmas
 pub mod EntryLemmas
@@ -9,5 +9,5 @@ pub mod LoopLemmas
 pub mod TurnLemmas
 pub mod LedgerLemmas
 pub mod Stages
-pub mod FactLemmas
 pub mod PrintLemmas
+pub mod LeftLemmas

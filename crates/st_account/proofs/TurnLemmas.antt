@@ -1,5 +1,5 @@
 -- The run at the head of its loop, and what one turn makes of it.
-use Rattle.std.specs.Prelude.{Result, Ok, Err, IsErr, nat_lt, nat_eq, ◌||◌, not, Bool, map, All}
+use Rattle.std.specs.Prelude.{slice_index, Result, Ok, Err, IsErr, nat_lt, nat_eq, ◌||◌, not, Bool, map, All}
 use Rattle.std.proofs.Common.{◌≡◌, ◌≢◌, ℕ, suc, ◌+◌, ◌-◌, ◌*◌, ◌^◌, ◌≤◌, ◌<◌, ◌⊎◌, inl, inr, true, false, None, List, [], ◌∷◌, ◌++◌, length, refl, sym, ◌∙◌, ap, subst, arith}
 use Rattle.std.specs.List.{AllPass}
 use Rattle.st_bits.specs.declared.limits.TheConstants.{MOST_INSTRUCTIONS}
@@ -10,7 +10,14 @@ use Rattle.st_io.specs.Output.{OutputState}
 use Rattle.st_io.specs.declared.Failed.{Failed}
 use Rattle.st_io.specs.Lines.{WritesLines}
 use Rattle.st_io.proofs.Progress.{LinesSoFar, lines_none}
-use Rattle.st_state.specs.Machine.{Machine, IsMachine}
+use Rattle.st_bits.specs.Storage.{words_of_storage}
+use Rattle.st_bits.specs.declared.limits.TheConstants.{WORDS}
+use Rattle.st_state.specs.Machine.{Machine, IsMachine, word}
+use Rattle.st_prep.specs.declared.entries.Prepared.{Prepared}
+use Rattle.st_exec.specs.Ahead.{IsNotAmong}
+use Rattle.st_lines.specs.Changes.{IsLeft}
+use Rattle.st_lines.specs.declared.changes.Changeable.{Changeable}
+use Rattle.st_account.proofs.LeftLemmas.{area, between-left}
 use Rattle.st_exec.specs.Completion.{guess}
 use Rattle.st_exec.specs.Step.{rests, step, interrupt}
 use Rattle.st_rows.specs.Asked.{made_before}
@@ -42,7 +49,7 @@ use Rattle.st_account.proofs.LoopLemmas.{run-ends, border-fails, entry-fails, tu
 
 -- So far lines are written, and the rest of a moment is left. The sums of what is left and of what was added are the total.
 pub record IsRunning (s t : OutputState) (all : List (List ℕ)) (ds : List ℕ) (n : ℕ) (total : Stage → ℕ) (state : Machine) (rest : List Signal)
-    (cards : List (List ℕ)) (last : Last) (log : List Made) (k left : ℕ) (sums : Totals) : Type 0 where
+    (cards : List (List ℕ)) (last : Last) (log : List Made) (k left : ℕ) (sums : Totals) (old : List ℕ) (q : Prepared) : Type 0 where
   pub m : Moment
   pub b : Machine
   pub was : b.enabled ≡ last.enabled
@@ -58,6 +65,9 @@ pub record IsRunning (s t : OutputState) (all : List (List ℕ)) (ds : List ℕ)
   pub within : AreWithin last.tick sums
   pub sum : (x : Stage) → sum_at x sums + ticks_for x (all_charges ds n (entries_from ds n left m)) ≡ total x
   pub passes : AllPass is_signal rest
+  pub size : length old ≡ words_of_storage
+  pub words : k ≢ 0 → old ≡ b.words
+  pub unwritten : k ≢ 0 → (w : ℕ) → 32 ≤ w → IsNotAmong w q.writes → word state w ≡ word b w
 
 next-done : (ds : List ℕ) (n : ℕ) (m : Moment) → (next_moment ds n (standing_at m)).scene.machine.done ≡ m.scene.machine.done + 1
 unfolding next_moment
@@ -66,12 +76,12 @@ next-done ds n m = step-done (next_state m) ∙ ap (λ d. d + 1) (settled-done m
 -- ---- the start
 
 pub run-starts : (s : OutputState) (ds : List ℕ) (n budget : ℕ) (state : Machine) (signals : List Signal) (cards : List (List ℕ)) (last : Last) (log : List Made)
-    (sums : Totals) → AreDelaysUpTo 255 ds → n ≤ 8 → IsMachine state → All IsCard cards → state.done ≡ 0 → budget ≤ MOST_INSTRUCTIONS → AreWithin 0 sums
+    (sums : Totals) (old : List ℕ) (q : Prepared) → length old ≡ words_of_storage → AreDelaysUpTo 255 ds → n ≤ 8 → IsMachine state → All IsCard cards → state.done ≡ 0 → budget ≤ MOST_INSTRUCTIONS → AreWithin 0 sums
     → AllPass is_signal signals → last.tick ≡ 0 → last.front ≡ opening_front answers_at_start 0 → last.past ≡ last.front.past → last.missed ≡ false
     → last.ic ≡ state.ic → last.enabled ≡ state.enabled → last.ic < 2 ^ 19 → log ≡ [] → IsTight 255 last.front
     → IsRunning s s (lines_from ds n budget 0 state (moment_at_start (at_hand state signals cards))) ds n
-    (λ x. ticks_for x (all_charges ds n (entries_from ds n budget (moment_at_start (at_hand state signals cards))))) state signals cards last log 0 budget sums
-run-starts s ds n budget state signals cards last log sums are few machine each fresh limit none passes tick front past missed ic enabled counter empty tight =
+    (λ x. ticks_for x (all_charges ds n (entries_from ds n budget (moment_at_start (at_hand state signals cards))))) state signals cards last log 0 budget sums old q
+run-starts s ds n budget state signals cards last log sums old q size are few machine each fresh limit none passes tick front past missed ic enabled counter empty tight =
     let c = at_hand state signals cards in
     record {
       m = moment_at_start c;
@@ -89,12 +99,16 @@ run-starts s ds n budget state signals cards last log sums are few machine each 
       within = subst (λ t. AreWithin t sums) (sym tick) none;
       sum = λ x. sums-none sums x _ none;
       passes = passes;
+      size = size;
+      words = λ some. absurd (some refl);
+      unwritten = λ some. absurd (some refl);
     }
 
 -- ---- what holds at the head of the loop
 
 module _ (s t : OutputState) (all : List (List ℕ)) (ds : List ℕ) (n : ℕ) (total : Stage → ℕ) (state : Machine) (rest : List Signal) (cards : List (List ℕ))
-    (last : Last) (log : List Made) (k left : ℕ) (sums : Totals) (h : IsRunning s t all ds n total state rest cards last log k left sums) where
+    (last : Last) (log : List Made) (k left : ℕ) (sums : Totals) (old : List ℕ) (q : Prepared)
+    (h : IsRunning s t all ds n total state rest cards last log k left sums old q) where
   done : h.m.scene.machine.done ≡ state.done
   done = ap (λ (c : Scene). c.machine.done) h.scene
 
@@ -132,6 +146,18 @@ module _ (s t : OutputState) (all : List (List ℕ)) (ds : List ℕ) (n : ℕ) (
         ∙ ap (λ u. words_printed (interlude (at_hand u rest cards)).happened) same
         ∙ ap (λ c. words_printed (interlude c).happened) (sym h.scene)
 
+    -- a word that nothing may have changed
+    pub left-is : (may : Changeable) → may ≡ record { writes = q.writes; card = area mid.reader } → k ≢ 0 → (v : ℕ) → v < WORDS → IsLeft v may
+        → slice_index old v ≡ word state' v
+    left-is may is some v inside left =
+        let l : IsLeft v (record { writes = q.writes; card = area mid.reader }) = subst (IsLeft v) is left in
+        let each : All IsCard cards = subst (λ (c : Scene). All IsCard c.cards) h.scene h.bounds.scene.cards in
+        ap (λ (xs : List ℕ). slice_index xs v) (h.words some)
+        ∙ sym (h.unwritten some v l.above l.unwritten)
+        ∙ ap (λ (u : Machine). word u v) (sym same)
+        ∙ sym (between-left (at_hand mid rest cards) each v l.above l.beside)
+        ∙ ap (λ (c : Scene). word c.machine v) after
+
     -- the entry that was begun
     late-is : (late : List Seen) → late ≡ map seen_ahead (first_late last.tick (ahead ds n (suc n) None (guessing last.ic state) last.front))
         → k ≢ 0 → late ≡ late_at ds n h.b h.m
@@ -148,14 +174,14 @@ module _ (s t : OutputState) (all : List (List ℕ)) (ds : List ℕ) (n : ℕ) (
         → still ≡ still_by state last.missed rest → looks ≡ (nat_eq left 0 || not still)
         → (looks ≡ true → found ≡ map seen_ahead (prepared_before last.tick (ahead ds n n None (guessing last.ic state) last.front)))
         → (looks ≡ true → late ≡ map seen_ahead (first_late last.tick (ahead ds n (suc n) None (guessing last.ic state) last.front)))
-        → ((ds : List ℕ) (n : ℕ) (b : Machine) (m : Moment) → b.enabled ≡ last.enabled → ws ≡ words_behind m → m.tick ≡ last.tick → next_state m ≡ state' → found ≡ map seen_ahead m.dropped
+        → ((ds : List ℕ) (n : ℕ) (b : Machine) (m : Moment) → b.enabled ≡ last.enabled → (k ≢ 0 → old ≡ b.words) → ws ≡ words_behind m → m.tick ≡ last.tick → next_state m ≡ state' → found ≡ map seen_ahead m.dropped
         → (k ≢ 0 → late ≡ late_at ds n b m) → WritesLines t u (last_lines ds n k b m) r)
         → WritesLines s u all r
     finishes ws is_printed u r found late still looks end is_still is_looks seen begun writes =
         let ending : (left ≡ 0) ⊎ (rests (next_state h.m) ≡ true) = at_end end in
         let yes = rest-looks left state rest cards h.m last.missed still looks h.scene h.hand.missed is_still is_looks ending in
         run-ends ds n left k h.b h.m s t all h.so_far u r ending
-        (writes ds n h.b h.m h.was (printed-is ws is_printed) h.hand.tick next
+        (writes ds n h.b h.m h.was h.words (printed-is ws is_printed) h.hand.tick next
         (seen-dropped h.m state state' rest rest' cards cards' h.scene came ds n last log found h.hand
         (seen yes)) (late-is late (begun yes)))
       where
@@ -206,14 +232,16 @@ module _ (s t : OutputState) (all : List (List ℕ)) (ds : List ℕ) (n : ℕ) (
               → ((p : Standing) → IsStanding p state' last' → WritesLines u v (lines_of_entry ds n p) (Err e)) → WritesLines s v all r
           row-fails v e r f w = entry-fails ds n left k h.b h.m s t all h.so_far some on u v x e r f segment (w (standing_at h.m) stands)
 
-          pub goes : (v : OutputState) (y : Unit {0}) (k' : ℕ) (state'' : Machine) (last'' : Last) (log' : List Made) (sums' : Totals)
+          pub goes : (v : OutputState) (y : Unit {0}) (k' : ℕ) (state'' : Machine) (last'' : Last) (log' : List Made) (sums' : Totals) (old' : List ℕ) (q' : Prepared)
+              → length old' ≡ words_of_storage → old' ≡ state'.words
+              → ((w : ℕ) → 32 ≤ w → IsNotAmong w q'.writes → word state'' w ≡ word state' w)
               → AreDelaysUpTo 255 ds → n ≤ 8 → k' ≡ segment_after k h.m → state'' ≡ step state'
               → ((p : Standing) → IsStanding p state' last' → IsLast ds n (next_moment ds n p) last'' log')
               → ((p : Standing) → IsStanding p state' last' → WritesLines u v (lines_of_entry ds n p) (Ok y))
               → ((p : Standing) (x : Stage) → IsStanding p state' last' → sum_at x sums' ≡ sum_at x sums + ticks_for x (charges_at ds n p))
               → AreWithin last''.tick sums' → last''.enabled ≡ state'.enabled → guessing last''.ic state'' ≡ guess (interrupt state') state' → AllPass is_signal rest'
-              → IsRunning s v all ds n total state'' rest' cards' last'' log' k' (left - 1) sums'
-          goes v y k' state'' last'' log' sums' are few number made hand entry added within enabled guessed passes =
+              → IsRunning s v all ds n total state'' rest' cards' last'' log' k' (left - 1) sums' old' q'
+          goes v y k' state'' last'' log' sums' old' q' size words unwritten are few number made hand entry added within enabled guessed passes =
               let more = next-done ds n h.m in
               let scene = next-stepped ds n h.m state' state'' rest' cards' (next-scene h.m state state' rest rest' cards cards' h.scene came) made in
               record {
@@ -234,4 +262,7 @@ module _ (s t : OutputState) (all : List (List ℕ)) (ds : List ℕ) (n : ℕ) (
                 within = within;
                 sum = λ z. sums-next ds n left h.m z (sum_at z sums) (sum_at z sums') (total z) some on (h.sum z) (added (standing_at h.m) z stands);
                 passes = passes;
+                size = size;
+                words = λ some. words ∙ ap (λ (u : Machine). u.words) (sym next);
+                unwritten = λ some w above among. unwritten w above among ∙ ap (λ (u : Machine). word u w) (sym next);
               }

@@ -1,4 +1,3 @@
-pub mod Lines
 pub mod Text
 pub mod Answers
 pub mod Standing
@@ -37,3 +36,5 @@ pub use Rattle.st_state.specs.Interrupts
 pub use Rattle.st_state.specs.Machine
 pub use Rattle.st_text.specs.Bytes
 pub use Rattle.st_text.specs.Numerals
+pub use Rattle.st_lines.specs.BorderLines
+pub use Rattle.st_lines.specs.EntryLines

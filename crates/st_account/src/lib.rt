@@ -1,16 +1,12 @@
 //! The ledger of a run: where its ticks went, line by line. `docs/ledger.md` has the rules.
 #![tactic(auto, using(st_bits::specs::Storage::words_of_storage_is))]
 
-mod facts;
 mod last;
-mod lines;
 mod program;
 mod running;
 mod settling;
 mod status;
-mod writing;
 
-pub use lines::{Alone, Why};
 pub use program::ledger;
 pub use running::write_ledger;
 pub use status::Status;

@@ -17,13 +17,13 @@ ghost use Rattle.st_account.specs.Answers.{levels_by, levels_asked, lines_by, st
 
 use crate::running::write_ledger;
 use crate::status::Status;
-use crate::writing::put;
 use st_asm::{AsmError, Assembled, assemble_cards};
 use st_banks::Delays;
 use st_bits::NoMemory;
 use st_card::{Card, Controls, Fault, Signal, split};
 use st_exch::Hopper;
 use st_io::{Failed, ReadError, Sink, Source, read_all};
+use st_lines::put;
 use st_report::line_fault;
 use st_state::State;
 use std::alloc::Global;
@@ -122,10 +122,21 @@ fn reader(alloc: Global, job: &[u8], cards: &[Card]) -> Result<Hopper, NoMemory>
     Hopper::of_cards(alloc, job, cards)
 }
 
+// Room for as many words as storage has.
+fn words(alloc: Global, image: &[u64]) -> Result<Vec<u64>, NoMemory>
+    ensures { IfOk result (λ words. words.items ≡ image.now) }
+{
+    match Vec::from_slice(alloc, image) {
+        Ok(words) => Ok(words),
+        Err(_) => Err(NoMemory),
+    }
+}
+
 // A run that is ready to be written.
 #[derive(Drop)]
 struct Ready {
     state: State,
+    words: Vec<u64>,
     hopper: Hopper,
     delays: Delays,
 }
@@ -147,12 +158,14 @@ fn prepare(
     requires delays { 1 ≤ length controls.now.delays }
 
     ensures state { IfOk result (λ r. r.state ≡ opening_state image.now start) }
+    ensures words { IfOk result (λ r. length r.words.items ≡ words_of_storage) }
     ensures reader { IfOk result (λ r. r.hopper ≡ reader_cards job.now) }
     ensures cards { IfOk result (λ r. All IsCard r.hopper) }
     ensures delays { IfOk result (λ r. r.delays ≡ controls.now.delays) }
 {
     Ok(Ready {
         state: State::new(alloc, image, start)?,
+        words: words(alloc, image)?,
         hopper: reader(alloc, job, cards)?,
         delays: delays(alloc, controls)?,
     })
@@ -180,6 +193,7 @@ fn run_program<K: Sink>(
     };
     let Ready {
         mut state,
+        mut words,
         mut hopper,
         delays,
     } = ready;
@@ -192,6 +206,7 @@ fn run_program<K: Sink>(
         &delays,
         n,
         budget(controls),
+        &mut words,
     );
     match written {
         Ok(()) => Status::Done,

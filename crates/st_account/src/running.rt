@@ -1,11 +1,15 @@
 //! The run, line by line.
-ghost use Rattle.std.specs.Prelude.{◌≡◌, ◌≢◌, List, true, ℕ, ◌+◌, ◌*◌, ◌<◌, ◌≤◌, ◌^◌, ◌∷◌, ◌++◌, ◌||◌, not, nat_eq, [], if◌then◌else◌, is_some, length, map, All, IfSome, IfOk, IsOk};
+ghost use Rattle.std.specs.Prelude.{◌≡◌, ◌≢◌, List, true, ℕ, ◌+◌, ◌*◌, ◌<◌, ◌≤◌, ◌^◌, ◌∷◌, ◌++◌, ◌||◌, not, nat_eq, [], if◌then◌else◌, is_some, length, map, All, IfSome, IfOk, IsOk, slice_index, option_map};
 ghost use Rattle.std.specs.List.{AllPass};
 ghost use Rattle.st_bits.specs.declared.limits.TheConstants.{MOST_INSTRUCTIONS};
 ghost use Rattle.st_card.specs.Limits.{is_signal};
-ghost use Rattle.st_state.specs.Machine.{Machine};
+ghost use Rattle.st_bits.specs.Storage.{words_of_storage};
+ghost use Rattle.st_bits.specs.declared.limits.TheConstants.{WORDS};
+ghost use Rattle.st_lines.specs.Changes.{IsLeft};
+ghost use Rattle.st_state.specs.Machine.{Machine, word};
 ghost use Rattle.st_prep.specs.Plan.{plan as plan_of};
 ghost use Rattle.st_prep.specs.Ranges.{IsPrepared};
+ghost use Rattle.st_exec.specs.Ahead.{IsNotAmong};
 ghost use Rattle.st_exec.specs.Completion.{state_after_execution, guess as guess_of, is_missed as is_missed_of};
 ghost use Rattle.st_exec.specs.Step.{step as step_of, interrupt as interrupt_of};
 ghost use Rattle.st_io.specs.Lines.{WritesLines};
@@ -20,26 +24,27 @@ ghost use Rattle.st_ledger.specs.Ledger.{charges_at, entries_from, all_charges};
 ghost use Rattle.st_ledger.specs.declared.charges.Stage.{Stage};
 ghost use Rattle.st_ledger.specs.Charges.{ticks_for};
 ghost use Rattle.st_ledger.specs.Totals.{sum_at, AreWithin};
-ghost use Rattle.st_plain.specs.Looking.{side_at, executes_at, seen_ahead};
+ghost use Rattle.st_plain.specs.Looking.{known_at, level_wait, seen_ahead};
 ghost use Rattle.st_account.specs.Settling.{at_hand};
 ghost use Rattle.st_account.specs.Text.{why_by, words_behind, late_at, segment_after, segment_lines, lines_of_entry, last_lines, lines_from, ledger};
 ghost use Rattle.st_account.specs.Standing.{guessing, has_due, still_by, outcome_of, IsLast, IsStanding, IsBehindMoment};
-ghost use Rattle.st_account.specs.declared.lines.Why.TheVariants.{Run as RunBegins};
+ghost use Rattle.st_lines.specs.declared.lines.Why.TheVariants.{Run as RunBegins};
 
-use crate::facts::write_done;
 use crate::last::{Last, at_start, look_if, open_if, put_past};
-use crate::lines::Why;
-use crate::settling::{Printed, settle};
-use crate::writing::{Border, write_border, write_end, write_machine, write_marks, write_totals};
+use crate::settling::settle;
 use st_banks::{Delays, LastAnswers};
 use st_card::Signal;
 use st_exch::Hopper;
 use st_exec::{complete_in, interrupt, is_at_rest, is_missed, next_address};
 use st_io::{Failed, Sink};
 use st_ledger::{Totals, write_sums};
-use st_plain::{Ahead, Aheads, next_row, plan_entry};
+use st_lines::{
+    Border, Changeable, Printed, Why, counter_of, is_enabled, write_border, write_done, write_end,
+    write_machine, write_marks, write_totals,
+};
+use st_plain::{Ahead, Aheads, Known, Row, next_row, plan_entry};
 use st_prep::Prepared;
-use st_rows::{EntryTicks, Log, Past};
+use st_rows::{Log, Past};
 use st_run::plain::{printer_is_free, reader_is_free};
 use st_state::State;
 
@@ -102,13 +107,11 @@ fn is_end_near(left: u64, still: bool) -> bool
     left == 0 || !still
 }
 
-// What is known of the next entry, besides what it is: its row, its index-side word, and whether it
-// is EX.
+// The row of the next entry, and what is known of it.
 #[derive(Clone, Copy)]
 struct Counted {
-    row: EntryTicks,
-    side: Option<u32>,
-    execute: bool,
+    row: Row,
+    known: Known,
 }
 
 // The numbers of the next entry, which is planned as `p`, and what is at hand behind it.
@@ -129,15 +132,17 @@ fn count_on(
 
     ensures plan { p.new ≡ plan_of state.now taken }
     ensures prepared { IsPrepared p.new }
-    ensures row { result.row ≡ row_of delays.now levels last.old.front (entry_of taken state.now) }
+    ensures row { result.row.ticks
+        ≡ row_of delays.now levels last.old.front (entry_of taken state.now) }
+    ensures wait { result.row.level_wait
+        ≡ level_wait delays.now levels last.old.front (entry_of taken state.now) }
     ensures front { last.new.front ≡ after_of delays.now levels last.old.front
         (entry_of taken state.now) }
     ensures log { log.new ≡ log_after_reads delays.now (asked_of delays.now levels last.old.front
         (entry_of taken state.now)) last.old.front.bus [] }
     ensures past { last.new.past ≡ last.new.front.past }
-    ensures tick { last.new.tick ≡ result.row.c }
-    ensures side { result.side ≡ side_at taken state.now }
-    ensures execute { result.execute ≡ executes_at taken state.now }
+    ensures tick { last.new.tick ≡ result.row.ticks.c }
+    ensures known { result.known ≡ known_at taken state.now }
 {
     state.shape();
     let planned = plan_entry(taken, state, p);
@@ -152,15 +157,14 @@ fn count_on(
     put_past(
         &mut last.past,
         Past {
-            c: row.c,
+            c: row.ticks.c,
             writes: planned.entry.writes,
         },
     );
-    last.tick = row.c;
+    last.tick = row.ticks.c;
     Counted {
         row,
-        side: planned.side,
-        execute: planned.execute,
+        known: planned.known,
     }
 }
 
@@ -193,22 +197,6 @@ fn execute(state: &mut State, taken: Option<u8>, p: &Prepared, last: &mut Last)
     last.missed = is_missed(p, state);
     complete_in(p, state);
     last.ic = guessed_counter(p, state);
-}
-
-/// The counter of a state.
-pub(crate) fn counter_of(state: &State) -> u32
-    ensures value { result ≡ state.now.ic }
-    ensures below { result < 2 ^ 19 }
-{
-    state.shape();
-    state.ic
-}
-
-/// Whether interrupts are enabled in a state.
-pub(crate) fn is_enabled(state: &State) -> bool
-    ensures { result ≡ state.now.enabled }
-{
-    state.enabled
 }
 
 // The number of instructions that a state has done.
@@ -256,6 +244,8 @@ fn write_entry<K: Sink>(
     ensures within { AreWithin last.new.tick sums.new }
     ensures enabled { last.new.enabled ≡ state.old.enabled }
     ensures guess { guessing last.new.ic state.new ≡ guess_of (interrupt_of state.old) state.old }
+    ensures left { (w : ℕ) → 32 ≤ w → IsNotAmong w p.new.writes →
+        word state.new w ≡ word state.old w }
 {
     delays.shape();
     state.shape();
@@ -266,17 +256,15 @@ fn write_entry<K: Sink>(
     let start = last.front.c;
     let counted = count_on(state, taken, p, last, delays, levels, log);
     execute(state, taken, p, last);
-    let row = counted.row;
-    sums.add_row(&row, before, start);
+    sums.add_row(&counted.row.ticks, before, start);
     write_done(
         out,
         n,
         address,
-        &row,
+        &counted.row,
         last.missed,
         p,
-        counted.side,
-        counted.execute,
+        &counted.known,
         before,
         start,
     )
@@ -290,11 +278,36 @@ fn next_number(begins: bool, k: u32) -> u32
     if begins { k + 1 } else { k }
 }
 
+// Where the area begins into which the reader may bring a card, where it has an order.
+fn card_area(state: &State) -> Option<u32>
+    ensures { result ≡ option_map (λ order. order.word) state.now.reader }
+{
+    match state.reader {
+        Some(order) => Some(order.word),
+        None => None,
+    }
+}
+
+// The words that may change behind an entry that is prepared as `p` and has left a state.
+fn changeable(p: &Prepared, state: &State) -> Changeable
+    ensures { result ≡ record {
+      writes = p.now.writes;
+      card = option_map (λ order. order.word) state.now.reader;
+    } }
+{
+    Changeable {
+        writes: p.writes,
+        card: card_area(state),
+    }
+}
+
 // The border between the last entry and the next one: the front of the next one, and the lines
 // where a segment ends or begins.
 fn write_crossing<K: Sink>(
     out: &mut K,
+    old: &mut Vec<u64>,
     state: &State,
+    may: &Changeable,
     last: &mut Last,
     found: &Aheads,
     late: &Ahead,
@@ -312,9 +325,13 @@ fn write_crossing<K: Sink>(
     requires past { last.old.past ≡ last.old.front.past }
     requires tight { IsTight 255 last.old.front }
     requires done { last.old.front.c ≡ last.old.tick }
+    requires size { length old.old.items ≡ words_of_storage }
+    requires left { k ≢ 0 → (v : ℕ) → v < WORDS → IsLeft v may.now →
+        slice_index old.old.items v ≡ word state.now v }
 
     ensures lines { (ds : List ℕ) (n : ℕ) (b : Machine) (m : Moment) →
-        b.enabled ≡ last.old.enabled → printed.now.items ≡ words_behind m →
+        b.enabled ≡ last.old.enabled → (k ≢ 0 → old.old.items ≡ b.words) →
+        printed.now.items ≡ words_behind m →
         (ends_segment m ≡ true → k ≢ 0 → late.now ∷ [] ≡ late_at ds n b m) →
         IsBehindMoment m state.now last.old found.now.items banks card waited →
         WritesLines (K.output out.old) (K.output out.new) (segment_lines ds n k b m)
@@ -330,7 +347,10 @@ fn write_crossing<K: Sink>(
     ensures tight { IsTight 255 last.new.front }
     ensures order { last.new.tick ≤ last.new.front.c }
     ensures bound { last.new.front.c ≤ last.new.tick + 9 }
+    ensures words { IfOk result (λ next. old.new.items ≡ state.now.words) }
+    ensures size { IfOk result (λ next. length old.new.items ≡ words_of_storage) }
 {
+    state.shape();
     let taken = interrupt(state);
     let missed = last.missed;
     let was = last.enabled;
@@ -352,14 +372,25 @@ fn write_crossing<K: Sink>(
         taken,
         done: done_of(state),
     };
-    write_border(out, border, printed, state, found.as_slice(), late)?;
+    write_border(
+        out,
+        border,
+        printed,
+        old,
+        state,
+        may,
+        found.as_slice(),
+        late,
+    )?;
     Ok(next_number(begins, k))
 }
 
 // Writes the lines of the end of a run.
 fn write_last<K: Sink>(
     out: &mut K,
+    old: &mut Vec<u64>,
     state: &State,
+    may: &Changeable,
     last: &Last,
     found: &Aheads,
     late: &Ahead,
@@ -368,14 +399,18 @@ fn write_last<K: Sink>(
 ) -> Result<(), Failed>
     requires few { state.now.done ≤ MOST_INSTRUCTIONS }
     requires dropped { length found.now.items ≤ 8 }
+    requires size { length old.old.items ≡ words_of_storage }
+    requires left { k ≢ 0 → (v : ℕ) → v < WORDS → IsLeft v may.now →
+        slice_index old.old.items v ≡ word state.now v }
+
     ensures { (ds : List ℕ) (n : ℕ) (b : Machine) (m : Moment) → b.enabled ≡ last.now.enabled →
-        printed.now.items ≡ words_behind m → m.tick ≡ last.now.tick → next_state m ≡ state.now →
+        (k ≢ 0 → old.old.items ≡ b.words) → printed.now.items ≡ words_behind m → m.tick ≡ last.now.tick → next_state m ≡ state.now →
         found.now.items ≡ map seen_ahead m.dropped →
         (k ≢ 0 → late.now ∷ [] ≡ late_at ds n b m) → WritesLines (K.output out.old)
         (K.output out.new) (last_lines ds n k b m) result }
 {
     write_end(out, k, last.tick, row_number(state), found.as_slice(), late)?;
-    write_marks(out, printed, k, last.enabled, state)?;
+    write_marks(out, printed, k, last.enabled, old, state, may)?;
     write_totals(out, is_at_rest(state), state.done, last.tick)
 }
 
@@ -389,6 +424,7 @@ fn write_run<K: Sink>(
     delays: &Delays,
     levels: u8,
     budget: u64,
+    old: &mut Vec<u64>,
     sums: &mut Totals,
 ) -> Result<(), Failed>
     requires fresh { state.old.done ≡ 0 }
@@ -396,6 +432,7 @@ fn write_run<K: Sink>(
     requires cards { All IsCard cards.old }
     requires levels { (1 ≤ levels) × (levels ≤ 8) }
     requires limit { budget ≤ MOST_INSTRUCTIONS }
+    requires size { length old.old.items ≡ words_of_storage }
     requires none { AreWithin 0 sums.old }
 
     ensures lines { WritesLines (K.output out.old) (K.output out.new)
@@ -421,17 +458,20 @@ fn write_run<K: Sink>(
         let banks = look_if(
             looks, state, &last, delays, levels, &mut log, &mut found, &mut late,
         );
+        let may = changeable(&p, state);
         let between = settle(state, rest, cards, &mut printed);
         rest = between.signals;
         if left == 0 {
-            return write_last(out, state, &last, &found, &late, &printed, k);
+            return write_last(out, old, state, &may, &last, &found, &late, &printed, k);
         }
         if is_at_rest(state) {
-            return write_last(out, state, &last, &found, &late, &printed, k);
+            return write_last(out, old, state, &may, &last, &found, &late, &printed, k);
         }
         k = write_crossing(
             out,
+            old,
             state,
+            &may,
             &mut last,
             &found,
             &late,
@@ -450,8 +490,8 @@ fn write_run<K: Sink>(
 
 /// Writes the ledger of a run: of a machine with these signals and cards to come, these delays and
 /// so many levels, 1 to 8, until it ends or so many instructions are done, at most 10,000,000.
-/// Nothing has happened in the machine. Each line is written by itself. `docs/ledger.md` has the
-/// rules.
+/// Nothing has happened in the machine. Each line is written by itself; `words` has as many words
+/// as storage, whatever they are, and is used up. `docs/ledger.md` has the rules.
 pub fn write_ledger<K: Sink>(
     out: &mut K,
     state: &mut State,
@@ -461,6 +501,7 @@ pub fn write_ledger<K: Sink>(
     delays: &Delays,
     levels: u8,
     budget: u64,
+    words: &mut Vec<u64>,
 ) -> Result<(), Failed>
     requires fresh { state.old.done ≡ 0 }
     requires signals { AllPass is_signal signals.now }
@@ -468,6 +509,7 @@ pub fn write_ledger<K: Sink>(
     requires list { list.now ≡ delays.now }
     requires levels { (1 ≤ levels) × (levels ≤ 8) }
     requires limit { budget ≤ MOST_INSTRUCTIONS }
+    requires size { length words.old.items ≡ words_of_storage }
 
     ensures { WritesLines (K.output out.old) (K.output out.new)
         (ledger delays.now levels budget (at_hand state.old signals.now cards.old)) result }
@@ -475,7 +517,7 @@ pub fn write_ledger<K: Sink>(
     let mut sums = Totals::default();
     write_machine(out, levels, list)?;
     write_run(
-        out, state, signals, cards, delays, levels, budget, &mut sums,
+        out, state, signals, cards, delays, levels, budget, words, &mut sums,
     )?;
     write_sums(out, &sums)
 }

@@ -7,10 +7,10 @@ ghost use Rattle.st_exec.specs.Step.{rests};
 ghost use Rattle.st_run.specs.Run.{with_due_signals, with_reader, with_printer, if_due, with_due_orders, with_order_at_rest, interlude};
 ghost use Rattle.st_account.specs.Settling.{at_hand, with_orders_at_rest, words_printed};
 
-use arrayvec::ArrayVec;
 use st_card::Signal;
 use st_exch::Hopper;
 use st_exec::{is_at_rest, print_out, read_in};
+use st_lines::Printed;
 use st_run::plain::{
     due_signals, printer_is_due, printer_is_free, reader_is_due, reader_is_free, signals_at_rest,
 };
@@ -31,9 +31,6 @@ fn serve_reader(state: &mut State, cards: &mut Hopper) -> bool
     read_in(state, card);
     card.is_some()
 }
-
-/// What is printed between two entries, eight words each time.
-pub(crate) type Printed = ArrayVec<[u64; 8], 3>;
 
 // The printer's order takes effect, if it has one.
 fn serve_printer(state: &mut State, printed: &mut Printed)

@@ -3,3 +3,4 @@ pub mod Words
 pub mod RowLemmas
 pub mod LookLemmas
 pub mod StraightLemmas
+pub mod SideLemmas

@@ -8,7 +8,7 @@ use Rattle.st_prep.specs.Reading.{words_read, own_words}
 use Rattle.st_prep.specs.declared.entries.Place.{Place}
 use Rattle.st_prep.specs.declared.entries.Prepared.{Prepared}
 use Rattle.st_segment.specs.Entries.{run_of, instruction_words, own_count, entry}
-use Rattle.st_plain.specs.Looking.{side_at, executes_at}
+use Rattle.st_plain.specs.Looking.{side_at, executes_at, code_at, known_at}
 use Rattle.st_plain.specs.Straight.{shown, IsPlanned}
 use Rattle.st_plain.specs.declared.entries.Planned.{Planned}
 
@@ -28,13 +28,9 @@ module _ (s : Machine) (table : Option ℕ) (q : Place) (x : List ℕ) (p : Prep
   unfolding plan sight place_of
   plan-planned = there.plan
 
-  pub side-planned : e.side ≡ side_at table s
-  unfolding side_at sight
-  side-planned = there.side
-
-  pub execute-planned : e.execute ≡ executes_at table s
-  unfolding executes_at
-  execute-planned = there.execute
+  pub known-planned : e.known ≡ known_at table s
+  unfolding side_at executes_at code_at sight
+  known-planned = there.known
 
   pub entry-planned : e.entry ≡ entry table s
   unfolding entry instruction_words own_count shown sight place_of

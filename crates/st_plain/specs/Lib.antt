@@ -2,6 +2,7 @@ pub mod Looking
 pub mod Straight
 pub use Rattle.st_exec.specs.Completion
 pub use Rattle.st_format.specs.Formats
+pub use Rattle.st_format.specs.Halves
 pub use Rattle.st_prep.specs.Fetch
 pub use Rattle.st_prep.specs.Plan
 pub use Rattle.st_prep.specs.Reading

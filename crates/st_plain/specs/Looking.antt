@@ -1,11 +1,20 @@
 -- What is noted of the entries that run ahead, and which of their reads are made.
-use Rattle.std.specs.Prelude.{ℕ, Bool, nat_lt, if◌then◌else◌, List, [], ◌∷◌, ◌++◌, Option}
+use Rattle.std.specs.Prelude.{ℕ, ◌-◌, max, Bool, nat_lt, if◌then◌else◌, List, [], ◌∷◌, ◌++◌, Option, None, Some, is_some}
+use Rattle.st_format.specs.Formats.{first_half, second_half}
+use Rattle.st_format.specs.declared.instruction.Instr.{Instr}
 use Rattle.st_state.specs.Machine.{Machine}
+use Rattle.st_prep.specs.Checks.{effective_instr}
 use Rattle.st_prep.specs.Fetch.{place_of, words_fetched}
 use Rattle.st_prep.specs.Plan.{needs, sight}
 use Rattle.st_prep.specs.Reading.{is_execute}
+use Rattle.st_prep.specs.declared.entries.Fetched.{Fetched}
 use Rattle.st_rows.specs.Asked.{Read, reads_of_entry, formed_asked}
+use Rattle.st_rows.specs.Rows.{tick_a, tick_y, done_before}
+use Rattle.st_rows.specs.declared.entry.Entry.{Entry}
+use Rattle.st_rows.specs.declared.front.Front.{Front}
 use Rattle.st_segment.specs.Ahead.{Ahead, plan_of}
+use Rattle.st_plain.specs.declared.known.Code.{Code}
+use Rattle.st_plain.specs.declared.known.Known.{Known}
 use Rattle.st_plain.specs.declared.looking.Ahead.{Ahead as Seen}
 
 -- the index-side word of the next entry of a state, or of its table instruction
@@ -16,13 +25,32 @@ side_at table s = (needs (sight s (place_of s table))).index_read
 unfoldable pub executes_at : Option ℕ → Machine → Bool
 executes_at table s = is_execute (words_fetched s (place_of s table)).instr.instr
 
--- an entry ahead: how it is prepared, its row, its index-side word, and whether it is EX
+-- the half-words that spell an instruction
+abbrev pub code_of : Instr → Code
+code_of instr = record { first = first_half instr; second = second_half instr }
+
+-- those of the instruction that is executed, of EX its target; none where a word may not be fetched
+abbrev pub code_found : Fetched → Option Code
+code_found f = if is_some f.fault then None else Some (code_of (effective_instr f))
+
+-- those that the next entry executes
+unfoldable pub code_at : Option ℕ → Machine → Option Code
+code_at table s = code_found (words_fetched s (place_of s table))
+
+-- what is known of it besides how it is prepared
+abbrev pub known_at : Option ℕ → Machine → Known
+known_at table s = record {
+  side = side_at table s;
+  execute = executes_at table s;
+  code = code_at table s;
+}
+
+-- an entry ahead: how it is prepared, its row, and what else is known of it
 abbrev pub seen_ahead : Ahead → Seen
 seen_ahead a = record {
   plan = plan_of a;
   row = a.row;
-  side = side_at a.table a.state;
-  execute = executes_at a.table a.state;
+  known = known_at a.table a.state;
 }
 
 -- the first entry of a list that is not prepared before the tick t
@@ -37,3 +65,8 @@ reads_up_to ds n t [] = []
 reads_up_to ds n t (a ∷ rest) =
     if nat_lt a.row.p t then reads_of_entry ds n a.front a.entry ++ reads_up_to ds n t rest
     else formed_asked ds a.front a.entry
+
+-- for how many ticks the entry e behind the front f waits for a level, once its address is formed
+-- and its index-side word is there: until the entry n before is done, whose level it takes over
+unfoldable pub level_wait : List ℕ → ℕ → Front → Entry → ℕ
+level_wait ds n f e = done_before n f.past - max (tick_a ds f e) (tick_y ds f e)

@@ -10,6 +10,7 @@ use Rattle.st_prep.specs.declared.entries.Prepared.{Prepared}
 use Rattle.st_segment.specs.Entries.{words_to_read, words_to_write, side_to_read}
 use Rattle.st_rows.specs.declared.entry.WordRun.{WordRun}
 use Rattle.st_rows.specs.declared.entry.Entry.{Entry}
+use Rattle.st_plain.specs.Looking.{code_found}
 use Rattle.st_plain.specs.declared.entries.Planned.{Planned}
 
 -- ---- words
@@ -49,5 +50,8 @@ pub record IsPlanned (s : Machine) (x : List ℕ) (q : Place) (f : Fetched) (own
   pub plan : let v = sight_of q f x s in p ≡ prepared_entry v (side_of s v)
   pub entry : e.entry ≡ shown own target (needs (sight_of q f x s)) p
       (is_none q.table && is_none f.fault)
-  pub side : e.side ≡ (needs (sight_of q f x s)).index_read
-  pub execute : e.execute ≡ is_execute f.instr.instr
+  pub known : e.known ≡ record {
+    side = (needs (sight_of q f x s)).index_read;
+    execute = is_execute f.instr.instr;
+    code = code_found f;
+  }

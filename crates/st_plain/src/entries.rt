@@ -8,10 +8,11 @@ ghost use Rattle.st_prep.specs.Fetch.{index_words as index_words_of, reading_of,
 ghost use Rattle.st_prep.specs.Plan.{needs as needs_of, plan as plan_of, prepared_entry as prepared_of, sight_of, side_of};
 ghost use Rattle.st_prep.specs.Ranges.{HasFields, IsPlace, IsFetched, IsNeeds, IsPrepared};
 ghost use Rattle.st_prep.specs.Reading.{Use, words_read, own_words, half_of as half_by, with_second as with_second_of, with_first as with_first_of, instruction_at, is_execute as is_execute_of, fetched_plain, allowed_found};
-ghost use Rattle.st_plain.specs.Looking.{side_at, executes_at};
+ghost use Rattle.st_plain.specs.Looking.{code_found as code_found_of, known_at};
 ghost use Rattle.st_plain.specs.Straight.{Leads, if_more, shown, IsPlanned};
 ghost use Rattle.st_segment.specs.Entries.{run_of as run_by, above_registers as above_registers_of, words_to_read as words_to_read_of, words_to_write as words_to_write_of, side_to_read as side_to_read_of, entry as entry_of};
 
+use crate::known::{Code, Known, code_found, code_in};
 use st_bits::register::FIRST_STORAGE_WORD;
 use st_bits::{HalfOp, part};
 use st_format::{Decoded, Format, FullOp, Instr, decode_as, format_of, length_in_halves};
@@ -314,10 +315,8 @@ fn words_at(h: u32, more: bool) -> WordRun
 pub struct Planned {
     /// What the timetable sees of it.
     pub entry: Entry,
-    /// Its index-side word, a register or a word that is read from storage.
-    pub side: Option<u32>,
-    /// Whether it is EX.
-    pub execute: bool,
+    /// What else is known of it.
+    pub known: Known,
 }
 
 // Whether an instruction is EX.
@@ -339,10 +338,14 @@ fn show(
     p: &Prepared,
     follows: bool,
     execute: bool,
+    code: Option<Code>,
 ) -> Planned
     ensures entry { result.entry ≡ shown own target needs p.now follows }
-    ensures side { result.side ≡ needs.index_read }
-    ensures execute { result.execute ≡ execute }
+    ensures known { result.known ≡ record {
+      side = needs.index_read;
+      execute = execute;
+      code = code;
+    } }
 {
     Planned {
         entry: Entry {
@@ -355,16 +358,28 @@ fn show(
             serial: p.serial,
             follows,
         },
-        side: needs.index_read,
-        execute,
+        known: Known {
+            side: needs.index_read,
+            execute,
+            code,
+        },
     }
 }
 
-// Plans the entry at `p.place`, an own instruction that is not EX and whose words may be fetched.
+// Plans the entry at `p.place`, an own instruction that is not EX and whose words may be fetched,
+// with its half-words.
 #[inline(always)]
-fn plan_own(own: Decoded, words: WordRun, x: &[u64; 16], state: &State, p: &mut Prepared) -> Planned
+fn plan_own(
+    own: Decoded,
+    code: Option<Code>,
+    words: WordRun,
+    x: &[u64; 16],
+    state: &State,
+    p: &mut Prepared,
+) -> Planned
     requires place { IsPlace p.old.place }
     requires fields { HasFields own.instr }
+    requires code { code ≡ code_found_of (fetched_plain own) }
     ensures planned { IsPlanned state.now x.now p.old.place (fetched_plain own) words
         (record { first = 0; len = 0 }) p.new result }
     ensures ranges { IsPrepared p.new }
@@ -378,7 +393,7 @@ fn plan_own(own: Decoded, words: WordRun, x: &[u64; 16], state: &State, p: &mut 
     let needs = prepare_found(p, &fetched, x, state);
     let follows = asks_for_following(table, None);
     let execute = is_execute(&fetched.instr.instr);
-    show(words, WordRun::default(), needs, p, follows, execute)
+    show(words, WordRun::default(), needs, p, follows, execute, code)
 }
 
 // The same of half-words whose format is known.
@@ -398,7 +413,8 @@ fn plan_as(
         p.new result }
     ensures ranges { IsPrepared p.new }
 {
-    plan_own(decode_as(format, halves.0, halves.1), words, x, state, p)
+    let own = decode_as(format, halves.0, halves.1);
+    plan_own(own, code_in(halves.0, halves.1), words, x, state, p)
 }
 
 // The same of a format that is not frequent.
@@ -466,7 +482,8 @@ fn plan_other(x: &[u64; 16], state: &State, p: &mut Prepared) -> Planned
     let needs = prepare_found(p, &found.fetched, x, state);
     let follows = asks_for_following(table, found.fetched.fault);
     let execute = is_execute(&found.fetched.instr.instr);
-    show(found.own, found.target, needs, p, follows, execute)
+    let code = code_found(&found.fetched);
+    show(found.own, found.target, needs, p, follows, execute, code)
 }
 
 // Plans the entry at `p.place`, of which these are the half-words.
@@ -501,8 +518,7 @@ pub fn plan_entry(table: Option<u8>, state: &State, p: &mut Prepared) -> Planned
     ensures plan { p.new ≡ plan_of state.now table }
     ensures ranges { IsPrepared p.new }
     ensures entry { result.entry ≡ entry_of table state.now }
-    ensures side { result.side ≡ side_at table state.now }
-    ensures execute { result.execute ≡ executes_at table state.now }
+    ensures known { result.known ≡ known_at table state.now }
 {
     p.place = place_of(state, table);
     let x = index_words(state);

@@ -3,9 +3,11 @@
 #![tactic(auto, using(st_bits::specs::Storage::words_of_storage_is))]
 
 mod entries;
+mod known;
 mod looking;
 mod rows;
 
 pub use entries::{Planned, plan_entry};
+pub use known::{Code, Known};
 pub use looking::{Ahead, Aheads, look};
-pub use rows::next_row;
+pub use rows::{Row, next_row};

@@ -11,6 +11,7 @@ ghost use Rattle.st_segment.specs.Ahead.{ahead as ahead_of, prepared_before};
 ghost use Rattle.st_plain.specs.Looking.{seen_ahead, first_late, reads_up_to};
 
 use crate::entries::plan_entry;
+use crate::known::Known;
 use crate::rows::{begin, finish};
 use arrayvec::ArrayVec;
 use st_back::{keep, undo};
@@ -27,10 +28,8 @@ pub struct Ahead {
     pub plan: Prepared,
     /// Its ticks.
     pub row: EntryTicks,
-    /// Its index-side word, a register or a word that is read from storage.
-    pub side: Option<u32>,
-    /// Whether it is EX.
-    pub execute: bool,
+    /// What else is known of it.
+    pub known: Known,
 }
 
 /// Entries that run ahead, the oldest first. There are as many as levels at most.
@@ -97,8 +96,7 @@ pub fn look(
         *late = Ahead {
             plan: p,
             row: ticks,
-            side: planned.side,
-            execute: planned.execute,
+            known: planned.known,
         };
         front.bus = begun.words.bus;
         return;
@@ -107,8 +105,7 @@ pub fn look(
     found.push(Ahead {
         plan: p,
         row,
-        side: planned.side,
-        execute: planned.execute,
+        known: planned.known,
     });
     let kept = keep(&p, state);
     guess(&p, state);

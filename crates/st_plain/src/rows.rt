@@ -1,13 +1,17 @@
 //! The row of an entry, with its reads noted in a log.
-ghost use Rattle.std.specs.Prelude.{◌≡◌, ◌+◌, ◌-◌, ◌<◌, ◌≤◌, ◌^◌, List};
+ghost use Rattle.std.specs.Prelude.{◌≡◌, ℕ, ◌+◌, ◌-◌, ◌<◌, ◌≤◌, ◌^◌, List, length, IfSome};
 ghost use Rattle.st_bits.specs.declared.limits.TheConstants.{MOST_DELAY};
 ghost use Rattle.st_rows.specs.Asked.{words_asked, fetches_asked, formed_asked, reads_of_entry as asked_of};
 ghost use Rattle.st_rows.specs.Notes.{log_after_reads};
-ghost use Rattle.st_rows.specs.Rows.{fetch_words, words_tick, bus_a, tick_a, tick_p, row_of_entry as row_of, front_after_entry as after_of};
+ghost use Rattle.st_banks.specs.Bank.{last_of};
+ghost use Rattle.st_banks.specs.declared.answers.TheConstants.{BANKS as banks_there};
+ghost use Rattle.st_plain.specs.Looking.{level_wait as level_wait_of};
+ghost use Rattle.st_rows.specs.declared.bus.Bus.{Bus as BusOf};
+ghost use Rattle.st_rows.specs.Rows.{fetch_words, words_tick, bus_sided, side_there as side_there_of, bus_a, tick_a, tick_p, row_of_entry as row_of, front_after_entry as after_of};
 ghost use Rattle.st_rows.specs.Ranges.{IsEntryInTime, IsTight, IsFetchingWithin, ArePastWithin, IsReadable, most_ticks_of_entry};
 ghost use Rattle.st_rows.specs.declared.log.Made.{Made};
 
-use st_banks::Delays;
+use st_banks::{BANKS, Delays, LastAnswers};
 use st_rows::{Entry, EntryTicks, Fetching, Formed, Front, LastEntries, Log, WordRun};
 
 // The instruction words of a run are fetched.
@@ -128,6 +132,59 @@ pub fn finish(
     filled.row
 }
 
+// The last answer of the bank that the word `w` is in, by those of all banks.
+fn last_answer(ticks: &[u64; BANKS], w: u32) -> u64
+    ensures value { result ≡ last_of ticks.now w }
+    ensures all { length ticks.now ≡ banks_there }
+{
+    LastAnswers { ticks: *ticks }.of(w)
+}
+
+// When the index-side word is there of an entry whose address is formed as `begin` says, 0 where it
+// has none.
+#[tactic(auto, unfolding(st_rows::specs::Rows::side_there, st_rows::specs::Rows::bus_sided, st_rows::specs::BusTimes::bus_after_read))]
+fn side_there(past: &LastEntries, side: Option<u32>, begun: &Begun) -> u64
+    requires storage { IfSome side (λ w. 32 ≤ w) }
+    ensures { (ds : List ℕ) (bus : BusOf) →
+        begun.now.words.bus ≡ bus_sided ds past.now bus side begun.now.formed.a →
+        result ≡ side_there_of ds past.now bus side begun.now.formed.a }
+{
+    let Some(w) = side else {
+        return 0;
+    };
+    let done = past.latest_done(w);
+    if done > begun.formed.a {
+        return done;
+    }
+    last_answer(&begun.words.bus.banks.ticks, w)
+}
+
+// For how many ticks an entry waits for a level, whose address is formed as `begin` says.
+#[tactic(auto, unfolding(crate::specs::Looking::level_wait, st_rows::specs::Rows::tick_y, st_rows::specs::Rows::bus_a))]
+fn level_wait(front: &Front, levels: usize, entry: &Entry, begun: &Begun) -> u64
+    requires entry { IsEntryInTime entry.now }
+    requires levels { (1 ≤ levels) × (levels ≤ 8) }
+    ensures { (ds : List ℕ) → begun.now.formed.a ≡ tick_a ds front.now entry.now →
+        begun.now.words.bus ≡ bus_a ds front.now entry.now →
+        result ≡ level_wait_of ds levels front.now entry.now }
+{
+    let done = front.past.done_before(levels);
+    if done <= begun.formed.a {
+        return 0;
+    }
+    let there = side_there(&front.past, entry.side, begun);
+    done.saturating_sub(begun.formed.a.max(there))
+}
+
+/// The row of an entry.
+#[derive(Clone, Copy, Debug, Default, PartialEq, Eq)]
+pub struct Row {
+    /// Its ticks.
+    pub ticks: EntryTicks,
+    /// For how many ticks it waited for a level before it was prepared.
+    pub level_wait: u64,
+}
+
 /// Goes on behind the next entry, and gives its row. The log has its reads, which are made on the
 /// front's bus.
 pub fn next_row(
@@ -136,13 +193,14 @@ pub fn next_row(
     levels: usize,
     entry: &Entry,
     log: &mut Log,
-) -> EntryTicks
+) -> Row
     requires entry { IsEntryInTime entry.now }
     requires tight { IsTight MOST_DELAY front.old }
     requires early { front.old.c ≤ 2 ^ 63 + 2 ^ 20 }
     requires levels { (1 ≤ levels) × (levels ≤ 8) }
 
-    ensures value { result ≡ row_of delays.now levels front.old entry.now }
+    ensures value { result.ticks ≡ row_of delays.now levels front.old entry.now }
+    ensures wait { result.level_wait ≡ level_wait_of delays.now levels front.old entry.now }
     ensures after { front.new ≡ after_of delays.now levels front.old entry.now }
     ensures log { log.new
         ≡ log_after_reads delays.now
@@ -151,5 +209,7 @@ pub fn next_row(
     ensures bound { front.new.c ≤ front.old.c + most_ticks_of_entry }
 {
     let begun = begin(front, delays, levels, entry, log);
-    finish(front, delays, levels, entry, begun, log)
+    let level_wait = level_wait(front, levels, entry, &begun);
+    let ticks = finish(front, delays, levels, entry, begun, log);
+    Row { ticks, level_wait }
 }

@@ -12,7 +12,7 @@ next_row-row-requires-clause-entry c = rw c.plan_entry-planned.ensures.entry (en
 
 pub returns-clause-past : goal.returns-clause-past
 returns-clause-past c =
-    past-kept c.args.delays.now c.args.levels c.args.last.now.front c.plan_entry-planned.result.entry c.next_row-row.result _ _ _ c.requires.past
+    past-kept c.args.delays.now c.args.levels c.args.last.now.front c.plan_entry-planned.result.entry c.next_row-row.result.ticks _ _ _ c.requires.past
     c.next_row-row.ensures.value c.put_past.ensures c.next_row-row.ensures.after
 
 pub returns-clause-log : goal.returns-clause-log

@@ -1,4 +1,4 @@
-use Rattle.st_plain.proofs.PlanLemmas.{plan-planned, side-planned, execute-planned, entry-planned}
+use Rattle.st_plain.proofs.PlanLemmas.{plan-planned, known-planned, entry-planned}
 use Rattle.st_plain.proofs.entries.plan_entry.Goals as goal
 
 pub returns-in-Some-clause-plan : goal.returns-in-Some-clause-plan
@@ -21,22 +21,12 @@ returns-in-None-clause-entry c =
     entry-planned c.args.state.now c.args.table c.place_of-p.result c.index_words-x.result _ c.plan_other.result c.place_of-p.ensures.value
     c.index_words-x.ensures c.plan_other.ensures.planned
 
-pub returns-in-Some-clause-side : goal.returns-in-Some-clause-side
-returns-in-Some-clause-side c =
-    side-planned c.args.state.now c.args.table c.place_of-p.result c.index_words-x.result _ c.plan_spelled.result c.place_of-p.ensures.value
+pub returns-in-Some-clause-known : goal.returns-in-Some-clause-known
+returns-in-Some-clause-known c =
+    known-planned c.args.state.now c.args.table c.place_of-p.result c.index_words-x.result _ c.plan_spelled.result c.place_of-p.ensures.value
     c.index_words-x.ensures c.plan_spelled.ensures.planned
 
-pub returns-in-Some-clause-execute : goal.returns-in-Some-clause-execute
-returns-in-Some-clause-execute c =
-    execute-planned c.args.state.now c.args.table c.place_of-p.result c.index_words-x.result _ c.plan_spelled.result c.place_of-p.ensures.value
-    c.index_words-x.ensures c.plan_spelled.ensures.planned
-
-pub returns-in-None-clause-side : goal.returns-in-None-clause-side
-returns-in-None-clause-side c =
-    side-planned c.args.state.now c.args.table c.place_of-p.result c.index_words-x.result _ c.plan_other.result c.place_of-p.ensures.value
-    c.index_words-x.ensures c.plan_other.ensures.planned
-
-pub returns-in-None-clause-execute : goal.returns-in-None-clause-execute
-returns-in-None-clause-execute c =
-    execute-planned c.args.state.now c.args.table c.place_of-p.result c.index_words-x.result _ c.plan_other.result c.place_of-p.ensures.value
+pub returns-in-None-clause-known : goal.returns-in-None-clause-known
+returns-in-None-clause-known c =
+    known-planned c.args.state.now c.args.table c.place_of-p.result c.index_words-x.result _ c.plan_other.result c.place_of-p.ensures.value
     c.index_words-x.ensures c.plan_other.ensures.planned

@@ -15,7 +15,7 @@ use Rattle.st_rows.proofs.Tight.{later-c}
 use Rattle.st_rows.proofs.Within.{AreDelays-list}
 use Rattle.st_segment.specs.Entries.{entry}
 use Rattle.st_segment.proofs.EntryRanges.{entry-ranges}
-use Rattle.st_plain.specs.Looking.{side_at}
+use Rattle.st_plain.specs.declared.known.Known.{Known}
 use Rattle.st_plain.specs.declared.looking.Ahead.{Ahead as Seen}
 use Rattle.st_plain.proofs.LookLemmas.{guess-counted, guess-done, found-late, found-same, found-look, begun-here, begun-behind, bus-late, log-late, bus-look, log-look, first-next, some-more, row-p, after-c}
 use Rattle.st_plain.proofs.looking.+look.Goals as goal
@@ -39,12 +39,11 @@ returns-then-begun-tick-clause-late t c =
     let s = c.args.state.now in
     let p = ap (tick_p ds n f) c.plan_entry-planned.ensures.entry in
     let is = c.finish-ticks.ensures.value ∙ ap (row_of_entry ds n f) c.plan_entry-planned.ensures.entry in
-    let at : Prepared → EntryTicks → Option ℕ → Bool → Seen = λ q r side execute. record { plan = q; row = r; side = side; execute = execute } in
+    let at : Prepared → EntryTicks → Known → Seen = λ q r known. record { plan = q; row = r; known = known } in
     begun-here ds n c.args.tick s f c.args.more _ (omega (arith, row-p ds n f (entry None s), p, c.begin-begun.ensures.tick, c.if-begun-tick.true))
-    (ap (λ q. at q c.finish-ticks.result c.plan_entry-planned.result.side c.plan_entry-planned.result.execute) c.plan_entry-planned.ensures.plan
-    ∙ ap (λ r. at (plan s None) r c.plan_entry-planned.result.side c.plan_entry-planned.result.execute) is
-    ∙ ap (λ w. at (plan s None) (row_of_entry ds n f (entry None s)) w c.plan_entry-planned.result.execute) c.plan_entry-planned.ensures.side
-    ∙ ap (at (plan s None) (row_of_entry ds n f (entry None s)) (side_at None s)) c.plan_entry-planned.ensures.execute)
+    (ap (λ q. at q c.finish-ticks.result c.plan_entry-planned.result.known) c.plan_entry-planned.ensures.plan
+    ∙ ap (λ r. at (plan s None) r c.plan_entry-planned.result.known) is
+    ∙ ap (at (plan s None) (row_of_entry ds n f (entry None s))) c.plan_entry-planned.ensures.known)
 
 pub returns-then-begun-tick-clause-found : goal.returns-then-begun-tick-clause-found
 returns-then-begun-tick-clause-found t c =
@@ -151,13 +150,12 @@ returns-clause-found t c =
     (omega (arith, c.begin-begun.ensures.tick, c.if-begun-tick.false)) in
     let p = ap (tick_p ds n f) c.plan_entry-planned.ensures.entry in
     let is = c.finish-row.ensures.value ∙ ap (row_of_entry ds n f) c.plan_entry-planned.ensures.entry in
-    let at : Prepared → EntryTicks → Option ℕ → Bool → Seen = λ q r side execute. record { plan = q; row = r; side = side; execute = execute } in
+    let at : Prepared → EntryTicks → Known → Seen = λ q r known. record { plan = q; row = r; known = known } in
     found-look ds n c.args.tick s f _ _ c.args.more _ _ _ _ some
     (omega (arith, row-p ds n f (entry None s), p, c.begin-begun.ensures.tick, c.if-begun-tick.false))
-    (ap (λ q. at q c.finish-row.result c.plan_entry-planned.result.side c.plan_entry-planned.result.execute) c.plan_entry-planned.ensures.plan
-    ∙ ap (λ r. at (plan s None) r c.plan_entry-planned.result.side c.plan_entry-planned.result.execute) is
-    ∙ ap (λ w. at (plan s None) (row_of_entry ds n f (entry None s)) w c.plan_entry-planned.result.execute) c.plan_entry-planned.ensures.side
-    ∙ ap (at (plan s None) (row_of_entry ds n f (entry None s)) (side_at None s)) c.plan_entry-planned.ensures.execute)
+    (ap (λ q. at q c.finish-row.result c.plan_entry-planned.result.known) c.plan_entry-planned.ensures.plan
+    ∙ ap (λ r. at (plan s None) r c.plan_entry-planned.result.known) is
+    ∙ ap (at (plan s None) (row_of_entry ds n f (entry None s))) c.plan_entry-planned.ensures.known)
     (c.guess.ensures ∙ ap (λ q. guessed_state q s) c.plan_entry-planned.ensures.plan)
     (c.finish-row.ensures.after ∙ ap (front_after_entry ds n f) c.plan_entry-planned.ensures.entry)
     c.push.ensures.items c.look.ensures.found

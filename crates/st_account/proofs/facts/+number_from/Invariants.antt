@@ -1,5 +1,0 @@
-use Rattle.std.proofs.Common.{◌-◌}
-use Rattle.st_account.proofs.facts.+number_from.Given as goal
-
-abbrev pub decreases-number_from : goal.decreases-number_from
-decreases-number_from l = 64 - l.i

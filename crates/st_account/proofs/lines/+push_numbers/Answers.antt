@@ -1,8 +1,0 @@
-use Rattle.st_account.proofs.LineLemmas.{numbers-first, numbers-none}
-use Rattle.st_account.proofs.lines.+push_numbers.Goals as goal
-
-pub returns-in_default-clause-bytes : goal.returns-in_default-clause-bytes
-returns-in_default-clause-bytes t c = numbers-none _ c.args.ns.now c.in_default.ensures.parts
-
-pub returns-clause-bytes : goal.returns-clause-bytes
-returns-clause-bytes t c = numbers-first _ _ _ c.args.ns.now _ _ c.in-Some.ensures.parts c.push_number.ensures.bytes c.push_numbers.ensures.bytes

@@ -1,5 +1,0 @@
-use Rattle.std.proofs.Common.{length}
-use Rattle.st_account.proofs.writing.+write_prints.Given as goal
-
-abbrev pub decreases-write_prints : goal.decreases-write_prints
-decreases-write_prints g l = length l.printed.now

@@ -1,0 +1,162 @@
+-- Words that changed, and those that did not.
+use Rattle.std.specs.Prelude.{Bool, if◌then◌else◌, nat_eq, slice_index, slice_set, Result, Ok, Err, IsErr}
+use Rattle.std.proofs.Common.{◌≡◌, ◌≢◌, ℕ, zero, suc, ◌+◌, ◌-◌, ◌<◌, ◌≤◌, inl, inr, true, false, List, [], ◌++◌, length, length-set, get_or-set_other, refl, sym, ◌∙◌, ap, subst, arith}
+use Rattle.std.proofs.lemmas.Bool.Decides.{leb_tells, eqb_tells, nat_tests}
+use Rattle.std.proofs.lemmas.List.{get_or-set_same, ext_get_or}
+use Rattle.st_bits.specs.Storage.{words_of_storage, words_of_storage_is}
+use Rattle.st_bits.specs.declared.limits.TheConstants.{WORDS}
+use Rattle.st_io.specs.Output.{OutputState}
+use Rattle.st_io.specs.declared.Failed.{Failed}
+use Rattle.st_io.specs.Lines.{WritesLines, lines_for}
+use Rattle.st_io.proofs.Progress.{LinesSoFar, lines_none, lines_more, lines_failed, lines_for_next, lines_for_whole}
+use Rattle.st_state.specs.Machine.{Machine, word}
+use Rattle.st_lines.specs.BorderLines.{change_lines}
+use Rattle.st_lines.specs.Changes.{IsLeft}
+use Rattle.st_lines.specs.declared.changes.Changeable.{Changeable}
+
+-- ---- lines of numbers that have none are passed over
+
+pass : (f : ℕ → List (List ℕ)) (d n k i c : ℕ) → k ≡ d + n → c ≡ i + d → ((v : ℕ) → i ≤ v → v < c → f v ≡ []) → lines_for f k i ≡ lines_for f n c
+unfolding lines_for
+pass f zero n k i c all there none =
+    let few : k ≡ n = omega (arith, all) in
+    let here : i ≡ c = omega (arith, there) in
+    ap (λ j. lines_for f j i) few ∙ ap (λ w. lines_for f n w) here
+pass f (suc d) n zero i c all there none = let no : ⊥ = omega (arith, all) in absurd no
+pass f (suc d) n (suc k) i c all there none =
+    ap (λ xs. xs ++ lines_for f k (i + 1)) (none i (omega arith) (omega (arith, there)))
+    ∙ pass f d n k (i + 1) c (omega (arith, all)) (omega (arith, there)) (λ v low below. none v (omega (arith, low)) below)
+
+passed : (f : ℕ → List (List ℕ)) (n i c : ℕ) → i ≤ c → c ≤ n → ((v : ℕ) → i ≤ v → v < c → f v ≡ []) → lines_for f (n - i) i ≡ lines_for f (n - c) c
+passed f n i c low high none = pass f (c - i) (n - c) (n - i) i c (omega (arith, low, high)) (omega (arith, low)) none
+
+-- ---- one word
+
+none-change : (old : List ℕ) (m : Machine) (w : ℕ) → slice_index old w ≡ word m w → change_lines old m w ≡ []
+unfolding change_lines
+none-change old m w same = rw same (alike (word m w) _)
+  where
+    alike : (n : ℕ) (xs : List (List ℕ)) → (if nat_eq n n then [] else xs) ≡ []
+    alike n xs = let yes : nat_eq n n ≡ true = grind (arith, nat_tests) in rw yes refl
+
+same-change : (old now : List ℕ) (m : Machine) (w : ℕ) → slice_index now w ≡ slice_index old w → change_lines now m w ≡ change_lines old m w
+unfolding change_lines
+same-change old now m w same = rw same refl
+
+-- ---- all of them
+
+-- So far the changes of the words below w are written, and these words are as the machine has them.
+pub record IsChanging (s t : OutputState) (old now : List ℕ) (m : Machine) (w : ℕ) : Type 0 where
+  pub so_far : LinesSoFar s t (lines_for (change_lines old m) WORDS 0) (lines_for (change_lines old m) (WORDS - w) w)
+  pub most : w ≤ WORDS
+  pub size : length now ≡ words_of_storage
+  pub kept : (v : ℕ) → v < w → slice_index now v ≡ word m v
+  pub left : (v : ℕ) → w ≤ v → slice_index now v ≡ slice_index old v
+
+pub change-starts : (s : OutputState) (old : List ℕ) (m : Machine) → length old ≡ words_of_storage → IsChanging s s old old m 0
+change-starts s old m size = record {
+  so_far = lines_none s (lines_for (change_lines old m) WORDS 0);
+  most = omega arith;
+  size = size;
+  kept = λ v below. absurd (omega arith);
+  left = λ v from. refl;
+}
+
+module _ (s t : OutputState) (old now : List ℕ) (m : Machine) (w : ℕ) (h : IsChanging s t old now m w) (some : w < WORDS) where
+  next : LinesSoFar s t (lines_for (change_lines old m) WORDS 0) (change_lines old m w ++ lines_for (change_lines old m) (WORDS - (w + 1)) (w + 1))
+  next = lines_for_next s t (lines_for (change_lines old m) WORDS 0) (change_lines old m) WORDS w some h.so_far
+
+  here : change_lines now m w ≡ change_lines old m w
+  here = same-change old now m w (h.left w (omega arith))
+
+  pub change-fails : (u : OutputState) (e : Failed) (r : Result (Unit {0}) Failed) → IsErr r → WritesLines t u (change_lines now m w) (Err e)
+      → WritesLines s u (lines_for (change_lines old m) WORDS 0) r
+  change-fails u e r f wrote =
+      let failed = subst (λ ls. WritesLines t u ls (Err e)) here wrote in
+      lines_failed s t u (lines_for (change_lines old m) WORDS 0) (change_lines old m w) (lines_for (change_lines old m) (WORDS - (w + 1)) (w + 1)) r f
+      next failed.err
+
+  module _ (u : OutputState) (new : List ℕ) (c : ℕ) (x : Unit {0}) (may : Changeable) (same : (v : ℕ) → v < WORDS → IsLeft v may → slice_index old v ≡ word m v)
+      (wrote : WritesLines t u (change_lines now m w) (Ok x)) (is : new ≡ slice_set now w (word m w)) (from : w + 1 ≤ c) (most : c ≤ WORDS)
+      (between : (v : ℕ) → w + 1 ≤ v → v < c → IsLeft v may) where
+    made : LinesSoFar s u (lines_for (change_lines old m) WORDS 0) (lines_for (change_lines old m) (WORDS - (w + 1)) (w + 1))
+    made =
+        let done = subst (λ ls. WritesLines t u ls (Ok x)) here wrote in
+        lines_more s t u (lines_for (change_lines old m) WORDS 0) (change_lines old m w) (lines_for (change_lines old m) (WORDS - (w + 1)) (w + 1)) next done.ok
+
+    inside : w < length now
+    inside = omega (arith, h.size, words_of_storage_is)
+
+    other : (v : ℕ) → v ≢ w → slice_index new v ≡ slice_index now v
+    other v differs = ap (λ xs. slice_index xs v) is ∙ get_or-set_other now w v (word m w) 0 differs
+
+    at : slice_index new w ≡ word m w
+    at = ap (λ xs. slice_index xs w) is ∙ get_or-set_same now w (word m w) 0 inside
+
+    kept : (v : ℕ) → v < c → slice_index new v ≡ word m v
+    kept v below = elim (leb_tells (w + 1) v) [
+      | inl p ↦ other v (omega (arith, p.1)) ∙ h.left v (omega (arith, p.1)) ∙ same v (omega arith) (between v p.1 below)
+      | inr p ↦
+          elim (eqb_tells v w) [
+            | inl e ↦ subst (λ k. slice_index new k ≡ word m k) (sym e.1) at
+            | inr e ↦ other v e.1 ∙ h.kept v (omega (arith, p.1, e.1))
+          ]
+    ]
+
+    pub change-turn : IsChanging s u old new m c
+    change-turn = record {
+      so_far = subst (LinesSoFar s u (lines_for (change_lines old m) WORDS 0))
+          (passed (change_lines old m) WORDS (w + 1) c from most (λ v low below. none-change old m v (same v (omega arith) (between v low below)))) made;
+      most = most;
+      size = ap length is ∙ length-set now w (word m w) ∙ h.size;
+      kept = kept;
+      left = λ v low. other v (omega arith) ∙ h.left v (omega arith);
+    }
+
+-- at the end
+module _ (s t : OutputState) (old now : List ℕ) (m : Machine) (w : ℕ) (h : IsChanging s t old now m w) (end : WORDS ≤ w) where
+  pub change-ends : (x : Unit {0}) → WritesLines s t (lines_for (change_lines old m) WORDS 0) (Ok x)
+  change-ends x = record {
+    ok = lines_for_whole s t (lines_for (change_lines old m) WORDS 0) (change_lines old m) WORDS w end h.so_far;
+    err = tt;
+  }
+
+  pub words-kept : length m.words ≡ words_of_storage → now ≡ m.words
+  words-kept size = ext_get_or 0 now m.words (h.size ∙ sym size) (λ v inside. h.kept v (omega (arith, h.size, words_of_storage_is, inside)))
+
+-- ---- words that are kept, whatever was there
+
+pub record IsKeeping (now : List ℕ) (m : Machine) (w : ℕ) : Type 0 where
+  pub size : length now ≡ words_of_storage
+  pub kept : (v : ℕ) → v < w → slice_index now v ≡ word m v
+
+pub keep-starts : (old : List ℕ) (m : Machine) → length old ≡ words_of_storage → IsKeeping old m 0
+keep-starts old m size = record { size = size; kept = λ v below. absurd (omega arith) }
+
+pub keep-turn : (now new : List ℕ) (m : Machine) (w x : ℕ) → IsKeeping now m w → w < WORDS → x ≡ word m w → new ≡ slice_set now w x → IsKeeping new m (w + 1)
+keep-turn now new m w x h some is_word is =
+    let inside : w < length now = omega (arith, h.size, words_of_storage_is) in
+    record {
+      size = ap length is ∙ length-set now w x ∙ h.size;
+      kept = λ v below.
+          elim (eqb_tells v w) [
+            | inl e ↦ subst (λ k. slice_index new k ≡ word m k) (sym e.1) (ap (λ xs. slice_index xs w) is ∙ get_or-set_same now w x 0 inside ∙ is_word)
+            | inr e ↦ ap (λ xs. slice_index xs v) is ∙ get_or-set_other now w v x 0 e.1 ∙ h.kept v (omega (arith, e.1))
+          ];
+    }
+
+pub keep-ends : (now : List ℕ) (m : Machine) (w : ℕ) → IsKeeping now m w → WORDS ≤ w → length m.words ≡ words_of_storage → now ≡ m.words
+keep-ends now m w h end size = ext_get_or 0 now m.words (h.size ∙ sym size) (λ v inside. h.kept v (omega (arith, h.size, words_of_storage_is, inside)))
+
+-- ---- one of two
+
+pub first_of : (s u : OutputState) (b : Bool) (xs ys : List (List ℕ)) (r : Result (Unit {0}) Failed) → b ≡ true → WritesLines s u xs r
+    → WritesLines s u (if b then xs else ys) r
+first_of s u b xs ys r on h = rw on h
+
+pub second_of : (s u : OutputState) (b : Bool) (xs ys : List (List ℕ)) (r : Result (Unit {0}) Failed) → b ≡ false → WritesLines s u ys r
+    → WritesLines s u (if b then xs else ys) r
+second_of s u b xs ys r off h = rw off h
+
+pub not-zero : (k : ℕ) → nat_eq k 0 ≡ false → k ≢ 0
+not-zero k off none = let no : true ≡ false = sym (ap (λ n. nat_eq n 0) none) ∙ off in absurd (cc)

@@ -1,0 +1,4 @@
+pub mod LineLemmas
+pub mod FactLemmas
+pub mod DigitLemmas
+pub mod ChangeLemmas

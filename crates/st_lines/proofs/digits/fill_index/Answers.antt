@@ -1,0 +1,11 @@
+use Rattle.std.proofs.Common.{◌++◌, ◌∙◌, ap, codes, decimal}
+use Rattle.st_text.specs.Bytes.{lf}
+use Rattle.st_text.specs.Numerals.{hex_word}
+use Rattle.st_ledger.proofs.FromEnd.{seven_pieces}
+use Rattle.st_lines.proofs.digits.fill_index.Goals as goal
+
+pub returns : goal.returns
+returns c =
+    seven_pieces (codes "INDEX ") (decimal c.args.change.now.number) (codes " WAS ") (hex_word c.args.change.now.kept) (codes " IS ") (hex_word c.args.change.now.word) lf _ _ _ _ _ _ _ _
+    c.clear.ensures c.put.ensures c.put_word.ensures.bytes c.put-2.ensures c.put_word-2.ensures.bytes c.put-3.ensures
+    (c.put_decimal.ensures.bytes ∙ ap (λ n. decimal n ++ c.put-3.new.self) c.from.ensures) c.put-4.ensures

@@ -1,0 +1,24 @@
+use Rattle.std.specs.Prelude.{nat_eq}
+use Rattle.std.proofs.Common.{refl}
+use Rattle.st_io.proofs.Progress.{lines_then, lines_cut}
+use Rattle.st_lines.specs.BorderLines.{marks_lines, taken_by, state_lines}
+use Rattle.st_lines.proofs.LineLemmas.{not_both}
+use Rattle.st_lines.proofs.writing.write_state.Goals as goal
+
+pub returns-in_err-write_marks-clause-words : goal.returns-in_err-write_marks-clause-words
+returns-in_err-write_marks-clause-words g c good = not_both c.from_residual.result c.from_residual.ensures.0 good
+
+pub returns-clause-words : goal.returns-clause-words
+returns-clause-words g c good = c.in_ok-write_marks.ensures.words refl
+
+pub returns-in_err-write_marks-clause-lines : goal.returns-in_err-write_marks-clause-lines
+unfolding state_lines
+returns-in_err-write_marks-clause-lines g c =
+    lines_cut _ _ (marks_lines c.args.printed.now.items c.args.k c.args.was c.args.old.now.items c.args.state.now) (taken_by (nat_eq c.args.k 0) c.args.taken c.args.done) _
+    c.from_residual.result c.from_residual.ensures.0 c.in_err-write_marks.ensures.lines
+
+pub returns-clause-lines : goal.returns-clause-lines
+unfolding state_lines
+returns-clause-lines g c =
+    lines_then _ _ _ (marks_lines c.args.printed.now.items c.args.k c.args.was c.args.old.now.items c.args.state.now) (taken_by (nat_eq c.args.k 0) c.args.taken c.args.done) _ _
+    c.in_ok-write_marks.ensures.lines c.write_taken.ensures

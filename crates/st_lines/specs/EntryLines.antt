@@ -1,0 +1,88 @@
+-- What a ledger tells of an entry: what it is and does, and its row with its charges.
+use Rattle.std.specs.Prelude.{ℕ, Bool, true, false, ◌==◌, ◌||◌, nat_eq, if◌then◌else◌, List, [], ◌∷◌, ◌++◌, Option, None, Some}
+use Rattle.st_bits.specs.Indicators.{indicator}
+use Rattle.st_state.specs.Interrupts.{first_from}
+use Rattle.st_prep.specs.Entry.{is_register, has_register}
+use Rattle.st_prep.specs.declared.entries.IndexChange.{IndexChange}
+use Rattle.st_prep.specs.declared.entries.Prepared.{Prepared}
+use Rattle.st_prep.specs.declared.entries.Words.{Words}
+use Rattle.st_rows.specs.declared.front.EntryTicks.{EntryTicks}
+use Rattle.st_plain.specs.declared.known.Code.{Code}
+use Rattle.st_plain.specs.declared.known.Known.{Known}
+use Rattle.st_ledger.specs.Charges.{parts_of_row, charges_behind}
+use Rattle.st_ledger.specs.Lines.{row_stage_line, charge_lines}
+use Rattle.st_lines.specs.Lines.{missed_line, alone_line, suppressed_line, code_line, writes_line, index_line, level_line}
+use Rattle.st_lines.specs.declared.lines.Alone.{Alone}
+use Rattle.st_lines.specs.declared.lines.Alone.TheVariants.{Table, Execute, Register, Operation}
+
+-- ---- by itself
+
+-- why it is done alone, the first that holds: it is the instruction of an interrupt table, EX, or
+-- uses a register as a word
+abbrev pub alone_for : Option ℕ → Bool → Bool → Alone
+alone_for (Some i) execute register = Table i
+alone_for None true register = Execute
+alone_for None false true = Register
+alone_for None false false = Operation
+
+-- the same of an entry as it is prepared, by its index-side word and whether it is EX
+abbrev pub alone_by : Prepared → Option ℕ → Bool → Option Alone
+alone_by p side execute =
+    if p.serial then Some (alone_for p.place.table execute
+    (is_register side || has_register p.reads || has_register p.writes))
+    else None
+
+unfoldable pub alone_lines : Option Alone → List (List ℕ)
+alone_lines None = []
+alone_lines (Some why) = alone_line why ∷ []
+
+-- the indicator with which it is suppressed, if it is
+abbrev pub suppressed_by : Prepared → Option ℕ
+suppressed_by p = if p.suppressed then first_from (λ i. indicator i == p.ind.on) 0 64 else None
+
+unfoldable pub suppressed_lines : Option ℕ → List (List ℕ)
+suppressed_lines None = []
+suppressed_lines (Some i) = suppressed_line i ∷ []
+
+-- the words that it writes, run by run
+unfoldable pub run_lines : ℕ → ℕ → List (List ℕ)
+run_lines w n = if nat_eq n 0 then [] else writes_line w n ∷ []
+
+abbrev pub writes_lines : Words → List (List ℕ)
+writes_lines w = run_lines w.first w.len ++ run_lines w.first2 w.len2
+
+-- the index word that it changes early
+unfoldable pub index_lines : Option IndexChange → List (List ℕ)
+index_lines None = []
+index_lines (Some x) = index_line x ∷ []
+
+-- the half-words that it executes, where they may be fetched
+unfoldable pub code_lines : Option Code → List (List ℕ)
+code_lines None = []
+code_lines (Some code) = code_line code ∷ []
+
+-- what is known of it by itself
+unfoldable pub facts_lines : Prepared → Known → List (List ℕ)
+facts_lines p k =
+    alone_lines (alone_by p k.side k.execute)
+    ++ (suppressed_lines (suppressed_by p)
+    ++ (code_lines k.code ++ (writes_lines p.writes ++ index_lines p.index)))
+
+-- ---- its row
+
+-- a branch on an indicator was guessed wrongly
+unfoldable pub missed_lines : Bool → List (List ℕ)
+missed_lines true = missed_line ∷ []
+missed_lines false = []
+
+-- for how many ticks it waited for a level, where it did
+unfoldable pub level_lines : ℕ → List (List ℕ)
+level_lines d = if nat_eq d 0 then [] else level_line d ∷ []
+
+-- those of the i-th entry, which is done, at an address, with its row: the last one before it was
+-- done at the tick `before`, and the segment of both starts at the tick `start`
+unfoldable pub done_lines : ℕ → ℕ → EntryTicks → ℕ → Bool → Prepared → Known → ℕ → ℕ →
+    List (List ℕ)
+done_lines i address row level missed p k before start =
+    row_stage_line i address row ∷ ((missed_lines missed ++ facts_lines p k)
+    ++ (charge_lines (charges_behind before (parts_of_row start row)) ++ level_lines level))

@@ -1,0 +1,16 @@
+pub mod Lines
+pub mod EntryLines
+pub mod BorderLines
+pub mod Changes
+pub use Rattle.st_bits.specs.Indicators
+pub use Rattle.st_bits.specs.Storage
+pub use Rattle.st_exch.specs.Printer
+pub use Rattle.st_exec.specs.Ahead
+pub use Rattle.st_io.specs.Output
+pub use Rattle.st_ledger.specs.Charges
+pub use Rattle.st_prep.specs.Entry
+pub use Rattle.st_report.specs.Line
+pub use Rattle.st_state.specs.Interrupts
+pub use Rattle.st_state.specs.Machine
+pub use Rattle.st_text.specs.Bytes
+pub use Rattle.st_text.specs.Numerals

@@ -1,0 +1,130 @@
+//! The words that changed behind an entry.
+ghost use Rattle.std.specs.Prelude.{◌≡◌, ℕ, ◌+◌, ◌-◌, ◌<◌, ◌≤◌, ◌^◌, ◌⊎◌, length, slice_index, slice_set, IsOk};
+ghost use Rattle.st_bits.specs.Storage.{words_of_storage};
+ghost use Rattle.st_bits.specs.declared.limits.TheConstants.{WORDS};
+ghost use Rattle.st_io.specs.Lines.{WritesLines, lines_for};
+ghost use Rattle.st_prep.specs.Ranges.{IsRuns};
+ghost use Rattle.st_state.specs.Machine.{word as word_of};
+ghost use Rattle.st_lines.specs.BorderLines.{change_lines};
+ghost use Rattle.st_lines.specs.Changes.{IsBeside, IsLeft};
+
+use crate::digits::fill_changed;
+use st_bits::WORDS;
+use st_bits::register::FIRST_STORAGE_WORD;
+use st_io::{Failed, Sink, write_line};
+use st_prep::Words;
+use st_report::LineFromEnd;
+use st_state::State;
+
+/// The words that may change behind an entry, besides the registers.
+#[derive(Clone, Copy, Debug, Default, PartialEq, Eq)]
+pub struct Changeable {
+    /// The words that the entry writes.
+    pub writes: Words,
+    /// Where the area of eight words begins into which the reader may bring a card, where it has an
+    /// order.
+    pub card: Option<u32>,
+}
+
+// The first word from `w` on that is one of so many from `first` on, at most `WORDS`.
+fn next_in(first: u32, len: u8, w: u32) -> u32
+    requires { w ≤ WORDS }
+    ensures least { w ≤ result }
+    ensures most { result ≤ WORDS }
+    ensures between { (v : ℕ) → w ≤ v → v < result → (v < first) ⊎ (first + len ≤ v) }
+{
+    if u64::from(first) + u64::from(len) <= u64::from(w) {
+        return WORDS;
+    }
+    w.max(first.min(WORDS))
+}
+
+// The first word from `w` on that is in the area of a card, at most `WORDS`.
+fn next_of_card(card: Option<u32>, w: u32) -> u32
+    requires { w ≤ WORDS }
+    ensures least { w ≤ result }
+    ensures most { result ≤ WORDS }
+    ensures between { (v : ℕ) → w ≤ v → v < result → IsBeside v card }
+{
+    match card {
+        Some(area) => next_in(area, 8, w),
+        None => WORDS,
+    }
+}
+
+// The first word from `w` on that may have changed, at most `WORDS`.
+fn next_word(may: &Changeable, w: u32) -> u32
+    requires { w ≤ WORDS }
+    ensures least { w ≤ result }
+    ensures most { result ≤ WORDS }
+    ensures between { (v : ℕ) → w ≤ v → v < result → IsLeft v may.now }
+{
+    if w < FIRST_STORAGE_WORD {
+        return w;
+    }
+    let writes = may.writes;
+    let one = next_in(writes.first, writes.len, w);
+    let two = next_in(writes.first2, writes.len2, w);
+    let card = next_of_card(may.card, w);
+    one.min(two).min(card)
+}
+
+// Writes word `w`, where it changed, and keeps what it is now.
+#[tactic(auto, unfolding(crate::specs::BorderLines::change_lines), using(st_io::proofs::Progress::wrote_nothing, st_bits::specs::Storage::words_of_storage_is))]
+fn write_change<K: Sink>(
+    out: &mut K,
+    old: &mut Vec<u64>,
+    state: &State,
+    w: u32,
+) -> Result<(), Failed>
+    requires inside { w < WORDS }
+    requires size { length old.old.items ≡ words_of_storage }
+    ensures lines { WritesLines (K.output out.old) (K.output out.new)
+        (change_lines old.old.items state.now w) result }
+    ensures kept { old.new.items ≡ slice_set old.old.items w (word_of state.now w) }
+{
+    let was = old[w as usize];
+    let is = state.word(w);
+    if was == is {
+        return Ok(());
+    }
+    old[w as usize] = is;
+    let mut line = LineFromEnd::new();
+    fill_changed(&mut line, w, was, is);
+    write_line(out, line.as_bytes())
+}
+
+/// Writes the words of a state that changed, by their addresses. Before that they were `old`, and
+/// then it has them as they are.
+pub(crate) fn write_changed<K: Sink>(
+    out: &mut K,
+    old: &mut Vec<u64>,
+    state: &State,
+    may: &Changeable,
+) -> Result<(), Failed>
+    requires size { length old.old.items ≡ words_of_storage }
+    requires left { (v : ℕ) → v < WORDS → IsLeft v may.now →
+        slice_index old.old.items v ≡ word_of state.now v }
+    ensures lines { WritesLines (K.output out.old) (K.output out.new)
+        (lines_for (change_lines old.old.items state.now) WORDS 0) result }
+    ensures words { IsOk result → old.new.items ≡ state.now.words }
+{
+    state.shape();
+    let mut w = 0;
+    'words: while w < WORDS {
+        write_change(out, old, state, w)?;
+        w = next_word(may, w + 1);
+    }
+    Ok(())
+}
+
+/// Keeps all words of a state, as many as there are.
+pub(crate) fn keep_words(old: &mut Vec<u64>, state: &State)
+    requires { length old.old.items ≡ words_of_storage }
+    ensures { old.new.items ≡ state.now.words }
+{
+    state.shape();
+    for w in 0..WORDS {
+        old[w as usize] = state.word(w);
+    }
+}

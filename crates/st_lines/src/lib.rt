@@ -1,0 +1,16 @@
+//! The lines of a ledger: what each says, and how it is written. `docs/ledger.md` has the rules.
+#![tactic(auto, using(st_bits::specs::Storage::words_of_storage_is))]
+
+mod changes;
+mod digits;
+mod facts;
+mod lines;
+mod writing;
+
+pub use changes::Changeable;
+pub use facts::write_done;
+pub use lines::{Alone, Why};
+pub use writing::{
+    Border, Printed, counter_of, is_enabled, put, write_border, write_end, write_machine,
+    write_marks, write_totals,
+};

@@ -1,0 +1,252 @@
+//! The lines of a ledger that tell of the machine and of segments, by the rules of
+//! `docs/ledger.md`: one call a line, each with its line end.
+ghost use Rattle.std.specs.Prelude.{◌≡◌, ◌+◌, ◌*◌, ◌<◌, ◌≤◌, ◌++◌, ◌∷◌, [], length, codes, decimal, MatchOption, IfSome};
+ghost use Rattle.arrayvec.specs.ArrayString.{array_string_len};
+ghost use Rattle.st_text.specs.Bytes.{lf};
+ghost use Rattle.st_lines.specs.Lines.{ledger_levels_line, numbers_text, delays_line, why_text, start_line, segment_end_line, word_line, missed_line, alone_text, alone_line, suppressed_line, writes_line, dropped_line, begun_line, level_line};
+
+use st_rows::EntryTicks;
+use st_text::{
+    Line, begun, push_decimal, push_flag, push_half_address, push_hex, push_short_decimal,
+};
+
+/// Why a segment begins.
+#[derive(Clone, Copy, Debug, PartialEq, Eq)]
+pub enum Why {
+    /// The run begins.
+    Run,
+    /// The interrupt by this indicator, 0 to 63.
+    Interrupt(u8),
+    /// A branch on an indicator was guessed wrongly.
+    Missed,
+    /// A card came from the reader.
+    Card,
+}
+
+/// Why an entry is done alone.
+#[derive(Clone, Copy, Debug, PartialEq, Eq)]
+pub enum Alone {
+    /// It is the instruction of an interrupt table, by this indicator, 0 to 63.
+    Table(u8),
+    /// It is EX.
+    Execute,
+    /// It uses or writes a register as a word.
+    Register,
+    /// Its operation is done alone.
+    Operation,
+}
+
+// The line with its line end.
+fn ended(mut line: Line) -> Line
+    requires { array_string_len line < 128 }
+    ensures { result.bytes ≡ line.bytes ++ lf }
+{
+    line.push_str("\n");
+    line
+}
+
+/// `LEVELS n`: the machine has n levels.
+pub fn line_levels(n: u8) -> Line
+    ensures { result.bytes ≡ ledger_levels_line n }
+{
+    let mut line = begun("LEVELS ");
+    push_short_decimal(&mut line, u32::from(n));
+    ended(line)
+}
+
+// The first of some numbers, and those behind it.
+fn first_number(ns: &[u8]) -> Option<(u8, &[u8])>
+    ensures parts { MatchOption result (ns.now ≡ []) (λ r. ns.now ≡ r.0 ∷ r.1.now) }
+    ensures fewer { IfSome result (λ r. length r.1.now + 1 ≡ length ns.now) }
+{
+    match ns {
+        [first, more @ ..] => Some((*first, more)),
+        [] => None,
+    }
+}
+
+// Appends a number behind a blank.
+fn push_number(line: &mut Line, n: u8)
+    requires { array_string_len line.old + 11 ≤ 128 }
+    ensures bytes { line.new.bytes ≡ line.old.bytes ++ (codes " " ++ decimal n) }
+    ensures room { array_string_len line.new ≤ array_string_len line.old + 11 }
+{
+    line.push_str(" ");
+    push_short_decimal(line, u32::from(n));
+}
+
+// Appends numbers, each behind a blank.
+fn push_numbers(line: &mut Line, ns: &[u8])
+    requires { array_string_len line.old + 11 * length ns.now ≤ 128 }
+    ensures bytes { line.new.bytes ≡ line.old.bytes ++ numbers_text ns.now }
+    ensures room { array_string_len line.new ≤ array_string_len line.old + 11 * length ns.now }
+{
+    let Some((first, more)) = first_number(ns) else {
+        return;
+    };
+    push_number(line, first);
+    push_numbers(line, more);
+}
+
+/// `DELAYS d ..`: some delays, ten at most.
+#[tactic(auto, unfolding(crate::specs::Lines::delays_line))]
+pub fn line_delays(ds: &[u8]) -> Line
+    requires { length ds.now ≤ 10 }
+    ensures { result.bytes ≡ delays_line ds.now }
+{
+    let mut line = begun("DELAYS");
+    push_numbers(&mut line, ds);
+    ended(line)
+}
+
+// Appends why a segment begins.
+fn push_why(line: &mut Line, why: Why)
+    requires { array_string_len line.old + 20 ≤ 128 }
+    ensures bytes { line.new.bytes ≡ line.old.bytes ++ why_text why }
+    ensures room { array_string_len line.new ≤ array_string_len line.old + 20 }
+{
+    match why {
+        Why::Run => line.push_str("RUN"),
+        Why::Interrupt(i) => {
+            line.push_str("INTERRUPT ");
+            push_short_decimal(line, u32::from(i));
+        }
+        Why::Missed => line.push_str("MISSED"),
+        Why::Card => line.push_str("CARD"),
+    }
+}
+
+/// `SEGMENT k START s WAITED f BY why`: the segment k starts at tick s.
+pub fn line_start(k: u32, tick: u64, waited: bool, why: Why) -> Line
+    ensures { result.bytes ≡ start_line k tick waited why }
+{
+    let mut line = begun("SEGMENT ");
+    push_short_decimal(&mut line, k);
+    line.push_str(" START ");
+    push_decimal(&mut line, tick);
+    line.push_str(" WAITED ");
+    push_flag(&mut line, waited);
+    line.push_str(" BY ");
+    push_why(&mut line, why);
+    ended(line)
+}
+
+/// `SEGMENT k END t`: the segment k ends at tick t.
+pub fn line_end(k: u32, tick: u64) -> Line
+    ensures { result.bytes ≡ segment_end_line k tick }
+{
+    let mut line = begun("SEGMENT ");
+    push_short_decimal(&mut line, k);
+    line.push_str(" END ");
+    push_decimal(&mut line, tick);
+    ended(line)
+}
+
+/// `WORD w IS h`: word w is not zero.
+pub fn line_word(w: u32, word: u64) -> Line
+    ensures { result.bytes ≡ word_line w word }
+{
+    let mut line = begun("WORD ");
+    push_short_decimal(&mut line, w);
+    line.push_str(" IS ");
+    push_hex(&mut line, 16, word);
+    ended(line)
+}
+
+/// `MISSED`: a branch on an indicator was guessed wrongly.
+pub fn line_missed() -> Line
+    ensures { result.bytes ≡ missed_line }
+{
+    ended(begun("MISSED"))
+}
+
+// Appends why an entry is done alone.
+fn push_alone(line: &mut Line, why: Alone)
+    requires { array_string_len line.old + 20 ≤ 128 }
+    ensures bytes { line.new.bytes ≡ line.old.bytes ++ alone_text why }
+    ensures room { array_string_len line.new ≤ array_string_len line.old + 20 }
+{
+    match why {
+        Alone::Table(i) => {
+            line.push_str("TABLE ");
+            push_short_decimal(line, u32::from(i));
+        }
+        Alone::Execute => line.push_str("EXECUTE"),
+        Alone::Register => line.push_str("REGISTER"),
+        Alone::Operation => line.push_str("OPERATION"),
+    }
+}
+
+/// `ALONE why`: an entry is done alone.
+pub fn line_alone(why: Alone) -> Line
+    ensures { result.bytes ≡ alone_line why }
+{
+    let mut line = begun("ALONE ");
+    push_alone(&mut line, why);
+    ended(line)
+}
+
+/// `SUPPRESSED i`: an entry is suppressed, with indicator i.
+pub fn line_suppressed(i: u8) -> Line
+    ensures { result.bytes ≡ suppressed_line i }
+{
+    let mut line = begun("SUPPRESSED ");
+    push_short_decimal(&mut line, u32::from(i));
+    ended(line)
+}
+
+/// `WRITES w n`: an entry writes n words from word w on.
+pub fn line_writes(w: u32, n: u8) -> Line
+    ensures { result.bytes ≡ writes_line w n }
+{
+    let mut line = begun("WRITES ");
+    push_short_decimal(&mut line, w);
+    line.push_str(" ");
+    push_short_decimal(&mut line, u32::from(n));
+    ended(line)
+}
+
+/// `DROP n a A x P p R r`: the n-th entry ran ahead and is dropped; its half-word address, and its
+/// ticks.
+pub fn line_drop(n: u32, address: u32, row: &EntryTicks) -> Line
+    ensures { result.bytes ≡ dropped_line n address row.now }
+{
+    let mut line = begun("DROP ");
+    push_short_decimal(&mut line, n);
+    line.push_str(" ");
+    push_half_address(&mut line, address);
+    line.push_str(" A ");
+    push_decimal(&mut line, row.a);
+    line.push_str(" P ");
+    push_decimal(&mut line, row.p);
+    line.push_str(" R ");
+    push_decimal(&mut line, row.r);
+    ended(line)
+}
+
+/// `BEGUN n a A x P p R r`: the n-th entry was begun, and not prepared in time; its half-word
+/// address, and the ticks that it would have had.
+pub fn line_late(n: u32, address: u32, row: &EntryTicks) -> Line
+    ensures { result.bytes ≡ begun_line n address row.now }
+{
+    let mut line = begun("BEGUN ");
+    push_short_decimal(&mut line, n);
+    line.push_str(" ");
+    push_half_address(&mut line, address);
+    line.push_str(" A ");
+    push_decimal(&mut line, row.a);
+    line.push_str(" P ");
+    push_decimal(&mut line, row.p);
+    line.push_str(" R ");
+    push_decimal(&mut line, row.r);
+    ended(line)
+}
+
+/// `LEVEL d`: an entry waited so many ticks for a level.
+pub fn line_level(d: u64) -> Line
+    ensures { result.bytes ≡ level_line d }
+{
+    let mut line = begun("LEVEL ");
+    push_decimal(&mut line, d);
+    ended(line)
+}

@@ -1,0 +1,572 @@
+//! The lines where a segment ends, and where one begins.
+ghost use Rattle.std.specs.Prelude.{◌≡◌, ◌+◌, ◌<◌, ◌≤◌, ◌^◌, ℕ, ◌∷◌, ◌++◌, [], if◌then◌else◌, ◌||◌, length, min, MatchOption, IfSome, ◌≢◌, false, slice_index, IsOk};
+ghost use Rattle.st_io.specs.Lines.{WritesLines, lines_for};
+ghost use Rattle.st_bits.specs.Storage.{words_of_storage};
+ghost use Rattle.st_state.specs.Machine.{word};
+ghost use Rattle.st_bits.specs.declared.limits.TheConstants.{WORDS};
+ghost use Rattle.st_exch.specs.Printer.{line_of_words as printed_of};
+ghost use Rattle.st_report.specs.Line.{prt_line, ic_line, en_line, end_line as run_end_line, done_line, ticks_line};
+ghost use Rattle.st_lines.specs.Lines.{ledger_levels_line, delays_line, delays_by, start_line, segment_end_line, dropped_line, begun_line};
+ghost use Rattle.st_lines.specs.EntryLines.{facts_lines};
+ghost use Rattle.st_lines.specs.Changes.{IsLeft};
+ghost use Rattle.st_lines.specs.BorderLines.{drop_lines, late_lines, segment_end_lines, differs, en_lines, prints_lines, word_lines, change_lines, words_lines, marks_lines, taken_by, state_lines, machine_lines};
+
+use crate::changes::{Changeable, keep_words, write_changed};
+use crate::facts::write_facts;
+use crate::lines::{
+    Why, line_delays, line_drop, line_end, line_late, line_levels, line_start, line_word,
+};
+use arrayvec::ArrayVec;
+use st_bits::WORDS;
+use st_exch::print_text;
+use st_io::{Failed, Sink, write_line};
+use st_plain::Ahead;
+use st_report::{
+    line_done, line_en, line_end as line_run_end, line_ic, line_int, line_prt, line_ticks,
+};
+use st_state::State;
+use st_text::{Line, behind, front};
+
+/// What is printed between two entries, eight words each time.
+pub type Printed = ArrayVec<[u64; 8], 3>;
+
+/// The counter of a state.
+pub fn counter_of(state: &State) -> u32
+    ensures value { result ≡ state.now.ic }
+    ensures below { result < 2 ^ 19 }
+{
+    state.shape();
+    state.ic
+}
+
+/// Whether interrupts are enabled in a state.
+pub fn is_enabled(state: &State) -> bool
+    ensures { result ≡ state.now.enabled }
+{
+    state.enabled
+}
+
+/// Writes a line.
+pub fn put<K: Sink>(out: &mut K, line: &Line) -> Result<(), Failed>
+    ensures { WritesLines (K.output out.old) (K.output out.new) (line.now.bytes ∷ []) result }
+{
+    write_line(out, line.as_str().as_bytes())
+}
+
+// The first of some entries, and those behind it.
+fn first_ahead(found: &[Ahead]) -> Option<(Ahead, &[Ahead])>
+    ensures parts { MatchOption result (found.now ≡ []) (λ r. found.now ≡ r.0 ∷ r.1.now) }
+    ensures fewer { IfSome result (λ r. length r.1.now + 1 ≡ length found.now) }
+{
+    match found {
+        [first, more @ ..] => Some((*first, more)),
+        [] => None,
+    }
+}
+
+// Writes the line of an entry that is dropped, which is the n-th entry.
+fn write_drop_line<K: Sink>(out: &mut K, n: u32, ahead: &Ahead) -> Result<(), Failed>
+    ensures { WritesLines (K.output out.old) (K.output out.new)
+        (dropped_line n ahead.now.plan.place.address ahead.now.row ∷ []) result }
+{
+    put(out, &line_drop(n, ahead.plan.place.address, &ahead.row))
+}
+
+// The same, and what is known of it by itself.
+fn write_drop<K: Sink>(out: &mut K, n: u32, ahead: &Ahead) -> Result<(), Failed>
+    ensures { WritesLines (K.output out.old) (K.output out.new)
+        (dropped_line n ahead.now.plan.place.address ahead.now.row
+        ∷ facts_lines ahead.now.plan ahead.now.known) result }
+{
+    write_drop_line(out, n, ahead)?;
+    write_facts(out, &ahead.plan, &ahead.known)
+}
+
+// Writes the lines of entries that are dropped; the first of them is the n-th entry.
+#[tactic(auto, using(st_io::proofs::Progress::wrote_nothing))]
+fn write_drops<K: Sink>(out: &mut K, n: u32, found: &[Ahead]) -> Result<(), Failed>
+    requires { n + length found.now < 2 ^ 32 }
+    ensures { WritesLines (K.output out.old) (K.output out.new) (drop_lines n found.now) result }
+{
+    let Some((first, more)) = first_ahead(found) else {
+        return Ok(());
+    };
+    write_drop(out, n, &first)?;
+    write_drops(out, n + 1, more)
+}
+
+// Writes the line of the entry that was begun, which is the n-th entry.
+fn write_late_line<K: Sink>(out: &mut K, n: u32, late: &Ahead) -> Result<(), Failed>
+    ensures { WritesLines (K.output out.old) (K.output out.new)
+        (begun_line n late.now.plan.place.address late.now.row ∷ []) result }
+{
+    put(out, &line_late(n, late.plan.place.address, &late.row))
+}
+
+// The same, and what is known of it by itself.
+fn write_late<K: Sink>(out: &mut K, n: u32, late: &Ahead) -> Result<(), Failed>
+    ensures { WritesLines (K.output out.old) (K.output out.new)
+        (late_lines n (late.now ∷ [])) result }
+{
+    write_late_line(out, n, late)?;
+    write_facts(out, &late.plan, &late.known)
+}
+
+// The number behind those of some entries, the first of which is the n-th entry.
+fn number_behind(n: u32, found: &[Ahead]) -> u32
+    requires { n + length found.now < 2 ^ 32 }
+    ensures { result ≡ n + length found.now }
+{
+    n + found.len() as u32
+}
+
+// Writes the lines of entries that are dropped, the first of which is the n-th entry, and of the
+// one that was begun behind them.
+fn write_ahead<K: Sink>(out: &mut K, n: u32, found: &[Ahead], late: &Ahead) -> Result<(), Failed>
+    requires { n + length found.now < 2 ^ 32 }
+    ensures { WritesLines (K.output out.old) (K.output out.new)
+        (drop_lines n found.now ++ late_lines (n + length found.now) (late.now ∷ [])) result }
+{
+    let behind = number_behind(n, found);
+    write_drops(out, n, found)?;
+    write_late(out, behind, late)
+}
+
+// Writes the line of the end of a segment.
+fn write_end_line<K: Sink>(out: &mut K, k: u32, tick: u64) -> Result<(), Failed>
+    ensures { WritesLines (K.output out.old) (K.output out.new)
+        (segment_end_line k tick ∷ []) result }
+{
+    put(out, &line_end(k, tick))
+}
+
+/// Writes the end of the segment k at a tick, with the entries that are dropped, the first of which
+/// is the n-th entry, and with the one that was begun. Before the first segment there is none.
+pub fn write_end<K: Sink>(
+    out: &mut K,
+    k: u32,
+    tick: u64,
+    n: u32,
+    found: &[Ahead],
+    late: &Ahead,
+) -> Result<(), Failed>
+    requires { n + length found.now < 2 ^ 32 }
+    ensures { WritesLines (K.output out.old) (K.output out.new)
+        (segment_end_lines k tick n found.now (late.now ∷ [])) result }
+{
+    if k == 0 {
+        return Ok(());
+    }
+    write_end_line(out, k, tick)?;
+    write_ahead(out, n, found, late)
+}
+
+// The same where the segment ends.
+fn write_ended<K: Sink>(
+    out: &mut K,
+    ends: bool,
+    k: u32,
+    tick: u64,
+    n: u32,
+    found: &[Ahead],
+    late: &Ahead,
+) -> Result<(), Failed>
+    requires { n + length found.now < 2 ^ 32 }
+    ensures { WritesLines (K.output out.old) (K.output out.new)
+        (if ends then segment_end_lines k tick n found.now (late.now ∷ []) else []) result }
+{
+    if !ends {
+        return Ok(());
+    }
+    write_end(out, k, tick, n, found, late)
+}
+
+// Writes the counter.
+fn write_ic<K: Sink>(out: &mut K, ic: u32) -> Result<(), Failed>
+    ensures { WritesLines (K.output out.old) (K.output out.new) (ic_line ic ∷ []) result }
+{
+    put(out, &line_ic(ic))
+}
+
+// Whether two marks are not the same.
+fn differ(was: bool, now: bool) -> bool
+    ensures { result ≡ differs was now }
+{
+    if was { !now } else { now }
+}
+
+// Whether one of both is so.
+fn either(one: bool, two: bool) -> bool
+    ensures { result ≡ (one || two) }
+{
+    one || two
+}
+
+// Writes whether interrupts are enabled, where it is asked for.
+#[tactic(auto, using(st_io::proofs::Progress::wrote_nothing))]
+fn write_en<K: Sink>(out: &mut K, shown: bool, enabled: bool) -> Result<(), Failed>
+    ensures { WritesLines (K.output out.old) (K.output out.new)
+        (if shown then en_line enabled ∷ [] else []) result }
+{
+    if !shown {
+        return Ok(());
+    }
+    put(out, &line_en(enabled))
+}
+
+// The first of the words that are printed, and those behind them.
+fn first_words(printed: &[[u64; 8]]) -> Option<(&[u64; 8], &[[u64; 8]])>
+    ensures parts { MatchOption result (printed.now ≡ []) (λ r. printed.now ≡ r.0.now ∷ r.1.now) }
+    ensures fewer { IfSome result (λ r. length r.1.now + 1 ≡ length printed.now) }
+{
+    match printed {
+        [first, more @ ..] => Some((first, more)),
+        [] => None,
+    }
+}
+
+// Writes eight words that are printed.
+fn write_print<K: Sink>(out: &mut K, words: &[u64; 8]) -> Result<(), Failed>
+    ensures { WritesLines (K.output out.old) (K.output out.new)
+        (prt_line (printed_of words.now) ∷ []) result }
+{
+    put(out, &line_prt(&print_text(words)))
+}
+
+// Writes what is printed.
+#[tactic(auto, using(st_io::proofs::Progress::wrote_nothing))]
+fn write_prints<K: Sink>(out: &mut K, printed: &[[u64; 8]]) -> Result<(), Failed>
+    ensures { WritesLines (K.output out.old) (K.output out.new) (prints_lines printed.now) result }
+{
+    let Some((first, more)) = first_words(printed) else {
+        return Ok(());
+    };
+    write_print(out, first)?;
+    write_prints(out, more)
+}
+
+// Writes the counter, and whether interrupts are enabled, where that is told.
+fn write_counter<K: Sink>(
+    out: &mut K,
+    k: u32,
+    was: bool,
+    ic: u32,
+    enabled: bool,
+) -> Result<(), Failed>
+    ensures { WritesLines (K.output out.old) (K.output out.new)
+        (ic_line ic ∷ en_lines k was enabled) result }
+{
+    write_ic(out, ic)?;
+    write_en(out, either(k == 0, differ(was, enabled)), enabled)
+}
+
+// Writes a word of storage or a register, where it is not zero.
+#[tactic(auto, unfolding(crate::specs::BorderLines::word_lines), using(st_io::proofs::Progress::wrote_nothing, st_bits::specs::Storage::words_of_storage_is))]
+fn write_word<K: Sink>(out: &mut K, state: &State, w: u32) -> Result<(), Failed>
+    requires { w < WORDS }
+    ensures { WritesLines (K.output out.old) (K.output out.new) (word_lines state.now w) result }
+{
+    let word = state.word(w);
+    if word == 0 {
+        return Ok(());
+    }
+    put(out, &line_word(w, word))
+}
+
+// Writes all words that are not zero.
+fn write_each_word<K: Sink>(out: &mut K, state: &State) -> Result<(), Failed>
+    ensures { WritesLines (K.output out.old) (K.output out.new)
+        (lines_for (word_lines state.now) WORDS 0) result }
+{
+    for w in 0..WORDS {
+        write_word(out, state, w)?;
+    }
+    Ok(())
+}
+
+// Writes the words that are not zero, at the start of a run, or those that changed.
+fn write_words<K: Sink>(
+    out: &mut K,
+    starts: bool,
+    old: &mut Vec<u64>,
+    state: &State,
+    may: &Changeable,
+) -> Result<(), Failed>
+    requires size { length old.old.items ≡ words_of_storage }
+    requires left { starts ≡ false → (v : ℕ) → v < WORDS → IsLeft v may.now →
+        slice_index old.old.items v ≡ word state.now v }
+    ensures lines { WritesLines (K.output out.old) (K.output out.new)
+        (if starts then lines_for (word_lines state.now) WORDS 0
+        else lines_for (change_lines old.old.items state.now) WORDS 0) result }
+    ensures words { IsOk result → old.new.items ≡ state.now.words }
+{
+    if !starts {
+        return write_changed(out, old, state, may);
+    }
+    keep_words(old, state);
+    write_each_word(out, state)
+}
+
+// Writes the counter, whether interrupts are enabled, where that is told, and the words.
+fn write_standing<K: Sink>(
+    out: &mut K,
+    k: u32,
+    was: bool,
+    old: &mut Vec<u64>,
+    state: &State,
+    may: &Changeable,
+) -> Result<(), Failed>
+    requires size { length old.old.items ≡ words_of_storage }
+    requires left { k ≢ 0 → (v : ℕ) → v < WORDS → IsLeft v may.now →
+        slice_index old.old.items v ≡ word state.now v }
+    ensures lines { WritesLines (K.output out.old) (K.output out.new)
+        (ic_line state.now.ic ∷ en_lines k was state.now.enabled
+        ++ words_lines k old.old.items state.now) result }
+    ensures words { IsOk result → old.new.items ≡ state.now.words }
+{
+    write_counter(out, k, was, counter_of(state), is_enabled(state))?;
+    write_words(out, k == 0, old, state, may)
+}
+
+/// Writes what is printed, the counter, whether interrupts are enabled, where that is told, and the
+/// words: at the start of a run, before the segment 1, those that are not zero, and else those that
+/// changed. Before the last entry interrupts were enabled or not, and the words were `old`, which
+/// then has them as they are; of the words that are no registers those may have changed.
+pub fn write_marks<K: Sink>(
+    out: &mut K,
+    printed: &Printed,
+    k: u32,
+    was: bool,
+    old: &mut Vec<u64>,
+    state: &State,
+    may: &Changeable,
+) -> Result<(), Failed>
+    requires size { length old.old.items ≡ words_of_storage }
+    requires left { k ≢ 0 → (v : ℕ) → v < WORDS → IsLeft v may.now →
+        slice_index old.old.items v ≡ word state.now v }
+    ensures lines { WritesLines (K.output out.old) (K.output out.new)
+        (marks_lines printed.now.items k was old.old.items state.now) result }
+    ensures words { IsOk result → old.new.items ≡ state.now.words }
+{
+    write_prints(out, printed.as_slice())?;
+    write_standing(out, k, was, old, state, may)
+}
+
+// Writes the interrupt that is taken after so many instructions, but before the first one.
+#[tactic(auto, using(st_io::proofs::Progress::wrote_nothing))]
+fn write_taken<K: Sink>(
+    out: &mut K,
+    first: bool,
+    taken: Option<u8>,
+    done: u64,
+) -> Result<(), Failed>
+    ensures { WritesLines (K.output out.old) (K.output out.new) (taken_by first taken done) result }
+{
+    if first {
+        return Ok(());
+    }
+    match taken {
+        Some(i) => put(out, &line_int(i, done)),
+        None => Ok(()),
+    }
+}
+
+// Writes the state behind an entry of the segment k, where the run goes on.
+#[tactic(auto, unfolding(crate::specs::BorderLines::state_lines))]
+fn write_state<K: Sink>(
+    out: &mut K,
+    printed: &Printed,
+    k: u32,
+    was: bool,
+    old: &mut Vec<u64>,
+    state: &State,
+    may: &Changeable,
+    taken: Option<u8>,
+    done: u64,
+) -> Result<(), Failed>
+    requires size { length old.old.items ≡ words_of_storage }
+    requires left { k ≢ 0 → (v : ℕ) → v < WORDS → IsLeft v may.now →
+        slice_index old.old.items v ≡ word state.now v }
+    ensures lines { WritesLines (K.output out.old) (K.output out.new)
+        (state_lines printed.now.items k was old.old.items state.now taken done) result }
+    ensures words { IsOk result → old.new.items ≡ state.now.words }
+{
+    write_marks(out, printed, k, was, old, state, may)?;
+    write_taken(out, k == 0, taken, done)
+}
+
+// Writes the start of the segment k, where one begins.
+fn write_begun<K: Sink>(
+    out: &mut K,
+    begins: bool,
+    k: u32,
+    start: u64,
+    waited: bool,
+    why: Why,
+) -> Result<(), Failed>
+    ensures { WritesLines (K.output out.old) (K.output out.new)
+        (if begins then start_line k start waited why ∷ [] else []) result }
+{
+    if !begins {
+        return Ok(());
+    }
+    put(out, &line_start(k, start, waited, why))
+}
+
+/// A segment ends or not, and one begins or not.
+#[derive(Clone, Copy, Debug)]
+pub struct Border {
+    /// The segment of the last entry ends.
+    pub ends: bool,
+    /// The next entry is the first one of a segment.
+    pub begins: bool,
+    /// The number of the segment of the last entry, 0 before the first one.
+    pub k: u32,
+    /// The tick at which the last entry was done.
+    pub tick: u64,
+    /// The number of the entry behind it.
+    pub n: u32,
+    /// The tick at which the next segment starts.
+    pub start: u64,
+    /// The machine had waited.
+    pub waited: bool,
+    /// Why the next segment begins.
+    pub why: Why,
+    /// Interrupts were enabled before the last entry.
+    pub was: bool,
+    /// The interrupt that is taken.
+    pub taken: Option<u8>,
+    /// The number of instructions done.
+    pub done: u64,
+}
+
+/// Writes the end of a segment, the state, and the start of the next segment, as far as there are
+/// any. `old` and `may` are as in `write_marks`.
+pub fn write_border<K: Sink>(
+    out: &mut K,
+    border: Border,
+    printed: &Printed,
+    old: &mut Vec<u64>,
+    state: &State,
+    may: &Changeable,
+    found: &[Ahead],
+    late: &Ahead,
+) -> Result<(), Failed>
+    requires few { border.n + length found.now < 2 ^ 32 }
+    requires number { border.k + 1 < 2 ^ 32 }
+    requires size { length old.old.items ≡ words_of_storage }
+    requires left { border.k ≢ 0 → (v : ℕ) → v < WORDS → IsLeft v may.now →
+        slice_index old.old.items v ≡ word state.now v }
+
+    ensures lines { WritesLines (K.output out.old) (K.output out.new)
+        (((if border.ends then segment_end_lines border.k border.tick border.n found.now
+        (late.now ∷ []) else [])
+        ++ state_lines printed.now.items border.k border.was old.old.items state.now border.taken
+        border.done)
+        ++ (if border.begins then start_line (border.k + 1) border.start border.waited border.why
+        ∷ [] else [])) result }
+    ensures words { IsOk result → old.new.items ≡ state.now.words }
+{
+    write_ended(
+        out,
+        border.ends,
+        border.k,
+        border.tick,
+        border.n,
+        found,
+        late,
+    )?;
+    write_state(
+        out,
+        printed,
+        border.k,
+        border.was,
+        old,
+        state,
+        may,
+        border.taken,
+        border.done,
+    )?;
+    write_begun(
+        out,
+        border.begins,
+        border.k + 1,
+        border.start,
+        border.waited,
+        border.why,
+    )
+}
+
+// Writes how the run ended.
+fn write_run_end<K: Sink>(out: &mut K, rests: bool) -> Result<(), Failed>
+    ensures { WritesLines (K.output out.old) (K.output out.new) (run_end_line rests ∷ []) result }
+{
+    put(out, &line_run_end(rests))
+}
+
+// Writes the number of instructions done.
+fn write_done<K: Sink>(out: &mut K, done: u64) -> Result<(), Failed>
+    ensures { WritesLines (K.output out.old) (K.output out.new) (done_line done ∷ []) result }
+{
+    put(out, &line_done(done))
+}
+
+// Writes the last tick.
+fn write_ticks<K: Sink>(out: &mut K, tick: u64) -> Result<(), Failed>
+    ensures { WritesLines (K.output out.old) (K.output out.new) (ticks_line tick ∷ []) result }
+{
+    put(out, &line_ticks(tick))
+}
+
+/// Writes how the run ended, the number of instructions done, and the last tick.
+pub fn write_totals<K: Sink>(out: &mut K, rests: bool, done: u64, tick: u64) -> Result<(), Failed>
+    ensures { WritesLines (K.output out.old) (K.output out.new)
+        (run_end_line rests ∷ done_line done ∷ ticks_line tick ∷ []) result }
+{
+    write_run_end(out, rests)?;
+    write_done(out, done)?;
+    write_ticks(out, tick)
+}
+
+// Writes the line of some delays, ten at most.
+fn write_ten<K: Sink>(out: &mut K, ds: &[u8]) -> Result<(), Failed>
+    requires { length ds.now ≤ 10 }
+    ensures { WritesLines (K.output out.old) (K.output out.new) (delays_line ds.now ∷ []) result }
+{
+    put(out, &line_delays(ds))
+}
+
+// How many of some delays stand in a line.
+fn count_of(ds: &[u8]) -> usize
+    ensures { result ≡ min (length ds.now) 10 }
+{
+    ds.len().min(10)
+}
+
+// Writes all delays, ten in a line.
+fn write_delays<K: Sink>(out: &mut K, ds: &[u8]) -> Result<(), Failed>
+    ensures { (k : ℕ) → length ds.now ≤ k → WritesLines (K.output out.old) (K.output out.new)
+        (delays_by k ds.now) result }
+{
+    let count = count_of(ds);
+    if count == 0 {
+        return Ok(());
+    }
+    write_ten(out, front(ds, count))?;
+    write_delays(out, behind(ds, count))
+}
+
+// Writes the number of levels.
+fn write_levels<K: Sink>(out: &mut K, n: u8) -> Result<(), Failed>
+    ensures { WritesLines (K.output out.old) (K.output out.new) (ledger_levels_line n ∷ []) result }
+{
+    put(out, &line_levels(n))
+}
+
+/// Writes the lines of a machine with so many levels and these delays.
+pub fn write_machine<K: Sink>(out: &mut K, n: u8, ds: &[u8]) -> Result<(), Failed>
+    ensures { WritesLines (K.output out.old) (K.output out.new) (machine_lines ds.now n) result }
+{
+    write_levels(out, n)?;
+    write_delays(out, ds)
+}
