@@ -346,7 +346,8 @@ fn fill_fetched(fetched: &Fetched, x: &[u64; 16], state: &State, p: &mut Prepare
 {
     let aim = aim(&p.place, fetched, x, state);
     let side = needs(&aim).index_read;
-    fill(&aim, x, side_word(state, p.place.table, side), p);
+    let read = side_word(state, p.place.table, side);
+    fill(&aim, x, read, p);
     side
 }
 
