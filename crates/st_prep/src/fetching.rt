@@ -1,10 +1,9 @@
 //! How an entry is fetched, one instruction word after another.
 ghost use Rattle.std.specs.Prelude.{◌≡◌, ℕ, ◌+◌, ◌/◌, ◌<◌, ◌≤◌, ◌^◌, Bool, true, false, None, IfSome, length, drop, slice_index};
-ghost use Rattle.st_bits.specs.Storage.{words_of_storage};
 ghost use Rattle.st_state.specs.Machine.{word};
 ghost use Rattle.st_state.specs.Boundary.{forbidden_by};
 ghost use Rattle.st_state.specs.declared.protection.Access.{Access};
-ghost use Rattle.st_prep.specs.Fetch.{index_words as index_words_of, place_of as place_by, address_by, words_fetched as fetched_at};
+ghost use Rattle.st_prep.specs.Fetch.{index_words as index_words_of, place_of as place_by, address_by};
 ghost use Rattle.st_prep.specs.declared.entries.Fetched.{Fetched as FetchedOf};
 ghost use Rattle.st_prep.specs.declared.entries.Fetching.TheVariants.{Found as FoundAll};
 ghost use Rattle.st_prep.specs.Reading.{Use, Finds, outcome, left_after, fetching_of, half_of as half_by, no_instr as no_instr_of, with_second as with_second_of, with_first as with_first_of, instruction_at, is_execute as is_execute_of, with_target as with_target_of, own_use, reading_at_place, given_by, allowed_found};
@@ -327,7 +326,8 @@ pub fn fetch_on(place: &Place, x: &[u64; 16], contents: &[u64], state: &State) -
     }
 }
 
-/// What is fetched at a place, all its words being read from the state.
+/// What is fetched at a place, its instruction and, of EX, the target, and the indicator that
+/// forbids one of their words: all these words are read from the state, and `x` are the index words.
 #[inline(always)]
 pub fn fetch_all(place: &Place, x: &[u64; 16], state: &State) -> Fetched
     requires { IsPlace place.now }
@@ -347,15 +347,4 @@ pub fn fetch_all(place: &Place, x: &[u64; 16], state: &State) -> Fetched
             Fetching::Found(fetched) => return fetched,
         }
     }
-}
-
-/// What is fetched at a place: its instruction and, of EX, the target; and the indicator that
-/// forbids one of their words. The target is found by the index words of the state.
-#[tactic(auto, unfolding(crate::specs::Fetch::words_fetched))]
-pub fn fetch(state: &State, place: &Place) -> Fetched
-    requires { IsPlace place.now }
-    ensures value { result ≡ fetched_at state.now place.now }
-    ensures shape { IsFetched result }
-{
-    fetch_all(place, &index_words(state), state)
 }

@@ -1,5 +1,5 @@
 //! Whether a run is hazard-free, by the plain run.
-ghost use Rattle.std.specs.Prelude.{◌≡◌, ◌==◌, ◌+◌, ◌≤◌, ◌<◌, ◌^◌, ◌&&◌, not, ℕ, List, [], ◌∷◌, false, is_none};
+ghost use Rattle.std.specs.Prelude.{◌≡◌, ◌==◌, ◌+◌, ◌≤◌, ◌<◌, ◌^◌, ◌&&◌, not, List, [], ◌∷◌, false, is_none};
 ghost use Rattle.std.specs.List.{AllPass, list_all};
 ghost use Rattle.st_bits.specs.declared.limits.TheConstants.{MOST_INSTRUCTIONS};
 ghost use Rattle.st_card.specs.Limits.{is_signal};
