@@ -2,6 +2,7 @@ pub mod Faults
 pub mod Cards
 pub mod Controls
 pub mod Limits
+pub mod Written
 pub mod Answers
 pub mod Laws
 pub use Rattle.st_text.specs.Bytes

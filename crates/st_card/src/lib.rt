@@ -6,8 +6,10 @@ mod control_cards;
 mod faults;
 mod keywords;
 pub mod limits;
+mod written;
 
 pub use cards::{Card, CardKind, columns, split};
 pub use control_cards::{CardError, Controls, Signal};
 pub use faults::Fault;
 pub use keywords::{Addition, Keyword};
+pub use written::{Control, Form, control_line, push_orders, push_shows};

@@ -6,6 +6,10 @@ use Rattle.std.proofs.lemmas.List.{take_all}
 use Rattle.std.proofs.lemmas.Fmt.{length-decimal-le}
 use Rattle.std.specs.List.{list_all}
 use Rattle.st_card.specs.declared.keywords.Keyword.TheVariants.{Budget, Delays, Signals, Dump, Snap, Back}
+use Rattle.st_card.specs.Written.{control_line, where_asked, unless_zero, IsShort}
+use Rattle.st_card.specs.declared.written.Control.{Control}
+use Rattle.st_card.specs.declared.written.Control.TheVariants as asks
+use Rattle.st_card.specs.declared.written.Form.TheVariants.{Card}
 use Rattle.st_text.specs.Number.{is_filled, reading, number_if_good}
 use Rattle.st_text.specs.Pieces.{pieces_of, lacks, words}
 use Rattle.st_card.specs.Cards.{columns}
@@ -15,12 +19,8 @@ use Rattle.st_card.specs.declared.control_cards.Signal.{Signal}
 use Rattle.st_card.proofs.OrderLemmas.{budget-asked, delay-asked, signal-asked, dump-asked, snap-asked, back-asked, delay-short, signal-short, dump-short, snap-short}
 use Rattle.st_mnemonic.proofs.Digits.{decimal-digits, reading-decimal, digits-lack, low_other, lacks-parted}
 use Rattle.st_strap.proofs.PlaceCards.{parted-once}
-use Rattle.st_dis.specs.Deck.{card_where, order_cards, back_cards, show_cards}
+use Rattle.st_dis.specs.Deck.{order_cards, show_cards}
 use Rattle.st_dis.specs.Read.{CardsLead}
-
--- a number that can be read has 12 digits at most
-abbrev pub IsShort : ℕ → Type 0
-IsShort n = n ≤ 999999999999
 
 decimal-short : (n : ℕ) → IsShort n → length (decimal n) ≤ 12
 decimal-short n short = length-decimal-le 12 n (omega arith) (omega (arith, short)) (omega (arith, short))
@@ -89,51 +89,64 @@ numbers-two a b short_a short_b =
     ap (λ o. numbers_before o (card_numbers (decimal b ∷ []))) (number-read a short_a)
     ∙ ap (λ (o : Option (List ℕ)). numbers_before (Some a) o) (numbers-one b short_b)
 
+-- a control card
+abbrev control_card : Control → List ℕ
+control_card control = control_line Card control
+
 module _ (kept : Asked) where
   -- what each card adds
-  budget-card : (n : ℕ) → IsShort n → asked_with_card kept (codes "/BUDGET " ++ decimal n) ≡ with_budget kept (n ∷ [])
+  budget-card : (n : ℕ) → IsShort n → asked_with_card kept (control_card (asks.Budget n)) ≡ with_budget kept (n ∷ [])
+  unfolding control_line
   budget-card n short =
       ap (λ (ws : List (List ℕ)). with_words kept ws) (one-number (codes "/BUDGET") n refl refl (omega arith) short)
       ∙ ap (λ (ns : Option (List ℕ)). with_card kept (Some Budget) ns) (numbers-one n short)
 
-  delay-card : (n : ℕ) → IsShort n → asked_with_card kept (codes "/DELAYS " ++ decimal n) ≡ with_delays kept (n ∷ [])
+  delay-card : (n : ℕ) → IsShort n → asked_with_card kept (control_card (asks.Delay n)) ≡ with_delays kept (n ∷ [])
+  unfolding control_line
   delay-card n short =
       ap (λ (ws : List (List ℕ)). with_words kept ws) (one-number (codes "/DELAYS") n refl refl (omega arith) short)
       ∙ ap (λ (ns : Option (List ℕ)). with_card kept (Some Delays) ns) (numbers-one n short)
 
-  snap-card : (n : ℕ) → IsShort n → asked_with_card kept (codes "/SNAP " ++ decimal n) ≡ with_snap kept (n ∷ [])
+  snap-card : (n : ℕ) → IsShort n → asked_with_card kept (control_card (asks.Snap n)) ≡ with_snap kept (n ∷ [])
+  unfolding control_line
   snap-card n short =
       ap (λ (ws : List (List ℕ)). with_words kept ws) (one-number (codes "/SNAP") n refl refl (omega arith) short)
       ∙ ap (λ (ns : Option (List ℕ)). with_card kept (Some Snap) ns) (numbers-one n short)
 
-  back-card : (n : ℕ) → IsShort n → asked_with_card kept (codes "/BACK " ++ decimal n) ≡ with_back kept (n ∷ [])
+  back-card : (n : ℕ) → IsShort n → asked_with_card kept (control_card (asks.Back n)) ≡ with_back kept (n ∷ [])
+  unfolding control_line
   back-card n short =
       ap (λ (ws : List (List ℕ)). with_words kept ws) (one-number (codes "/BACK") n refl refl (omega arith) short)
       ∙ ap (λ (ns : Option (List ℕ)). with_card kept (Some Back) ns) (numbers-one n short)
 
   signal-card : (a b : ℕ) → IsShort a → IsShort b →
-      asked_with_card kept (codes "/SIGNAL " ++ decimal a ++ codes " " ++ decimal b) ≡ with_signal kept (a ∷ b ∷ [])
+      asked_with_card kept (control_card (asks.Signal a b)) ≡ with_signal kept (a ∷ b ∷ [])
+  unfolding control_line
   signal-card a b short_a short_b =
-      let same : codes "/SIGNAL " ++ decimal a ++ codes " " ++ decimal b ≡ codes "/SIGNAL" ++ 32 ∷ (decimal a ++ 32 ∷ decimal b) = simp append_assoc refl in
+      let same : control_card (asks.Signal a b) ≡ codes "/SIGNAL" ++ 32 ∷ (decimal a ++ 32 ∷ decimal b) = simp append_assoc refl in
       ap (λ (t : List ℕ). asked_with_card kept t) same
       ∙ (ap (λ (ws : List (List ℕ)). with_words kept ws) (two-numbers (codes "/SIGNAL") a b refl refl (omega arith) short_a short_b)
       ∙ ap (λ (ns : Option (List ℕ)). with_card kept (Some Signals) ns) (numbers-two a b short_a short_b))
 
   dump-card : (a b : ℕ) → IsShort a → IsShort b →
-      asked_with_card kept (codes "/DUMP " ++ decimal a ++ codes " " ++ decimal b) ≡ with_dump kept (a ∷ b ∷ [])
+      asked_with_card kept (control_card (asks.Dump a b)) ≡ with_dump kept (a ∷ b ∷ [])
+  unfolding control_line
   dump-card a b short_a short_b =
-      let same : codes "/DUMP " ++ decimal a ++ codes " " ++ decimal b ≡ codes "/DUMP" ++ 32 ∷ (decimal a ++ 32 ∷ decimal b) = simp append_assoc refl in
+      let same : control_card (asks.Dump a b) ≡ codes "/DUMP" ++ 32 ∷ (decimal a ++ 32 ∷ decimal b) = simp append_assoc refl in
       ap (λ (t : List ℕ). asked_with_card kept t) same
       ∙ (ap (λ (ws : List (List ℕ)). with_words kept ws) (two-numbers (codes "/DUMP") a b refl refl (omega arith) short_a short_b)
       ∙ ap (λ (ns : Option (List ℕ)). with_card kept (Some Dump) ns) (numbers-two a b short_a short_b))
 
-  trace-card : asked_with_card kept (codes "/TRACE") ≡ with_trace kept []
+  trace-card : asked_with_card kept (control_card asks.Trace) ≡ with_trace kept []
+  unfolding control_line
   trace-card = refl
 
-  time-card : asked_with_card kept (codes "/TIME") ≡ with_time kept []
+  time-card : asked_with_card kept (control_card asks.Time) ≡ with_time kept []
+  unfolding control_line
   time-card = refl
 
-  chart-card : asked_with_card kept (codes "/CHART") ≡ with_chart kept []
+  chart-card : asked_with_card kept (control_card asks.Chart) ≡ with_chart kept []
+  unfolding control_line
   chart-card = refl
 
 leads_on : (a b c : Asked) (xs ys : List (List ℕ)) → CardsLead a xs b → CardsLead b ys c → CardsLead a (xs ++ ys) c
@@ -169,68 +182,68 @@ cards_each {X} at card Fits step done (x ∷ rest) fits =
 
 -- a card that stands there where it is asked for
 cards_marked : (at : Bool → Asked) (card : List ℕ) → asked_with_card (at false) card ≡ Some (at true) → (b : Bool) →
-    CardsLead (at false) (card_where b card) (at b)
+    CardsLead (at false) (where_asked b card) (at b)
 cards_marked at card step false = refl
 cards_marked at card step true = (at true, step, refl)
 
 add_delays : (n : ℕ) (ds : List ℕ) → AreDelays ds →
-    CardsLead (asked_for n [] [] [] false false false [] 0) (map (λ d. codes "/DELAYS " ++ decimal d) ds)
+    CardsLead (asked_for n [] [] [] false false false [] 0) (map (λ d. control_card (asks.Delay d)) ds)
     (asked_for n ds [] [] false false false [] 0)
 add_delays n ds are =
     let asked = λ (done : List ℕ). asked_for n done [] [] false false false [] 0 in
-    cards_each asked (λ d. codes "/DELAYS " ++ decimal d) (λ xs. AreDelays xs)
+    cards_each asked (λ d. control_card (asks.Delay d)) (λ xs. AreDelays xs)
     (λ done rest d fits. delay-card (asked done) d (delay-short done rest d fits) ∙ delay-asked (asked done) d rest fits) [] ds are
 
 module _ (n : ℕ) (ds : List ℕ) where
   add_signals : (ss : List Signal) → AreSignals ss →
       CardsLead (asked_for n ds [] [] false false false [] 0)
-      (map (λ s. codes "/SIGNAL " ++ decimal s.count ++ codes " " ++ decimal s.indicator) ss)
+      (map (λ s. control_card (asks.Signal s.count s.indicator)) ss)
       (asked_for n ds ss [] false false false [] 0)
   add_signals ss are =
       let asked = λ (done : List Signal). asked_for n ds done [] false false false [] 0 in
-      cards_each asked (λ s. codes "/SIGNAL " ++ decimal s.count ++ codes " " ++ decimal s.indicator) (λ xs. AreSignals xs)
+      cards_each asked (λ s. control_card (asks.Signal s.count s.indicator)) (λ xs. AreSignals xs)
       (λ done rest s fits.
       let short = signal-short done rest s fits in
       signal-card (asked done) s.count s.indicator short.0 short.1 ∙ signal-asked (asked done) s rest fits) [] ss are
 
   add_dumps : (ss : List Signal) (us : List (ℕ × ℕ)) → AreDumps us →
       CardsLead (asked_for n ds ss [] false false false [] 0)
-      (map (λ p. codes "/DUMP " ++ decimal p.0 ++ codes " " ++ decimal p.1) us)
+      (map (λ p. control_card (asks.Dump p.0 p.1)) us)
       (asked_for n ds ss us false false false [] 0)
   add_dumps ss us are =
       let asked = λ (done : List (ℕ × ℕ)). asked_for n ds ss done false false false [] 0 in
-      cards_each asked (λ p. codes "/DUMP " ++ decimal p.0 ++ codes " " ++ decimal p.1) (λ xs. AreDumps xs)
+      cards_each asked (λ p. control_card (asks.Dump p.0 p.1)) (λ xs. AreDumps xs)
       (λ done rest p fits.
       let short = dump-short done rest p fits in
       dump-card (asked done) p.0 p.1 short.0 short.1 ∙ dump-asked (asked done) p rest fits) [] us are
 
   module _ (ss : List Signal) (us : List (ℕ × ℕ)) where
-    add_trace : (trace : Bool) → CardsLead (asked_for n ds ss us false false false [] 0) (card_where trace (codes "/TRACE"))
+    add_trace : (trace : Bool) → CardsLead (asked_for n ds ss us false false false [] 0) (where_asked trace (control_card asks.Trace))
         (asked_for n ds ss us trace false false [] 0)
-    add_trace trace = cards_marked (λ b. asked_for n ds ss us b false false [] 0) (codes "/TRACE")
+    add_trace trace = cards_marked (λ b. asked_for n ds ss us b false false [] 0) (control_card asks.Trace)
         (trace-card (asked_for n ds ss us false false false [] 0)) trace
 
-    add_time : (trace time : Bool) → CardsLead (asked_for n ds ss us trace false false [] 0) (card_where time (codes "/TIME"))
+    add_time : (trace time : Bool) → CardsLead (asked_for n ds ss us trace false false [] 0) (where_asked time (control_card asks.Time))
         (asked_for n ds ss us trace time false [] 0)
-    add_time trace time = cards_marked (λ b. asked_for n ds ss us trace b false [] 0) (codes "/TIME")
+    add_time trace time = cards_marked (λ b. asked_for n ds ss us trace b false [] 0) (control_card asks.Time)
         (time-card (asked_for n ds ss us trace false false [] 0)) time
 
-    add_chart : (trace time chart : Bool) → CardsLead (asked_for n ds ss us trace time false [] 0) (card_where chart (codes "/CHART"))
+    add_chart : (trace time chart : Bool) → CardsLead (asked_for n ds ss us trace time false [] 0) (where_asked chart (control_card asks.Chart))
         (asked_for n ds ss us trace time chart [] 0)
-    add_chart trace time chart = cards_marked (λ b. asked_for n ds ss us trace time b [] 0) (codes "/CHART")
+    add_chart trace time chart = cards_marked (λ b. asked_for n ds ss us trace time b [] 0) (control_card asks.Chart)
         (chart-card (asked_for n ds ss us trace time false [] 0)) chart
 
     module _ (trace time chart : Bool) where
       add_snaps : (ts : List ℕ) → AreSnaps ts →
-          CardsLead (asked_for n ds ss us trace time chart [] 0) (map (λ t. codes "/SNAP " ++ decimal t) ts)
+          CardsLead (asked_for n ds ss us trace time chart [] 0) (map (λ t. control_card (asks.Snap t)) ts)
           (asked_for n ds ss us trace time chart ts 0)
       add_snaps ts are =
           let asked = λ (done : List ℕ). asked_for n ds ss us trace time chart done 0 in
-          cards_each asked (λ t. codes "/SNAP " ++ decimal t) (λ xs. AreSnaps xs)
+          cards_each asked (λ t. control_card (asks.Snap t)) (λ xs. AreSnaps xs)
           (λ done rest t fits. snap-card (asked done) t (snap-short done rest t fits) ∙ snap-asked (asked done) t rest fits) [] ts are
 
       add_back : (ts : List ℕ) (k : ℕ) → k ≤ 64 → (b : Bool) → (k == 0) ≡ b →
-          CardsLead (asked_for n ds ss us trace time chart ts 0) (if b then [] else (codes "/BACK " ++ decimal k) ∷ [])
+          CardsLead (asked_for n ds ss us trace time chart ts 0) (if b then [] else control_card (asks.Back k) ∷ [])
           (asked_for n ds ss us trace time chart ts k)
       add_back ts k few true test =
           let none : k ≡ 0 = grind (arith, nat_tests, test) in ap (λ j. asked_for n ds ss us trace time chart ts j) (sym none)
@@ -241,9 +254,10 @@ module _ (n : ℕ) (ds : List ℕ) where
 
 -- the budget
 add_budget : (n : ℕ) → 1 ≤ n → n ≤ 10000000 →
-    CardsLead nothing_asked ((codes "/BUDGET " ++ decimal n) ∷ []) (asked_for n [] [] [] false false false [] 0)
+    CardsLead nothing_asked (unless_zero n (control_card (asks.Budget n))) (asked_for n [] [] [] false false false [] 0)
 add_budget n some few =
-    (asked_for n [] [] [] false false false [] 0, budget-card nothing_asked n (omega (arith, few)) ∙ budget-asked nothing_asked n refl some few, refl)
+    let is : (n == 0) ≡ false = grind (arith, nat_tests) in
+    rw is (asked_for n [] [] [] false false false [] 0, budget-card nothing_asked n (omega (arith, few)) ∙ budget-asked nothing_asked n refl some few, refl)
 
 -- the control cards ask for what is asked for
 pub controls-read : (a : Asked) → IsWithinLimits a → 1 ≤ a.budget → a.list ≡ false → CardsLead nothing_asked (order_cards a ++ show_cards a) a
@@ -261,15 +275,15 @@ controls-read a limits some unlisted =
     let a7 = asked_for n ds ss us a.trace a.time a.chart [] 0 in
     let a8 = asked_for n ds ss us a.trace a.time a.chart a.snaps 0 in
     let a9 = asked_for n ds ss us a.trace a.time a.chart a.snaps a.back in
-    let c1 : List (List ℕ) = (codes "/BUDGET " ++ decimal n) ∷ [] in
-    let c2 : List (List ℕ) = map (λ d. codes "/DELAYS " ++ decimal d) ds in
-    let c3 : List (List ℕ) = map (λ s. codes "/SIGNAL " ++ decimal s.count ++ codes " " ++ decimal s.indicator) ss in
-    let c4 : List (List ℕ) = map (λ p. codes "/DUMP " ++ decimal p.0 ++ codes " " ++ decimal p.1) us in
-    let c5 = card_where a.trace (codes "/TRACE") in
-    let c6 = card_where a.time (codes "/TIME") in
-    let c7 = card_where a.chart (codes "/CHART") in
-    let c8 : List (List ℕ) = map (λ t. codes "/SNAP " ++ decimal t) a.snaps in
-    let c9 = back_cards a.back in
+    let c1 = unless_zero n (control_card (asks.Budget n)) in
+    let c2 : List (List ℕ) = map (λ d. control_card (asks.Delay d)) ds in
+    let c3 : List (List ℕ) = map (λ s. control_card (asks.Signal s.count s.indicator)) ss in
+    let c4 : List (List ℕ) = map (λ p. control_card (asks.Dump p.0 p.1)) us in
+    let c5 = where_asked a.trace (control_card asks.Trace) in
+    let c6 = where_asked a.time (control_card asks.Time) in
+    let c7 = where_asked a.chart (control_card asks.Chart) in
+    let c8 : List (List ℕ) = map (λ t. control_card (asks.Snap t)) a.snaps in
+    let c9 = unless_zero a.back (control_card (asks.Back a.back)) in
     let budget = add_budget n some limits.budget in
     let delays = add_delays n ds limits.delays in
     let signals = add_signals n ds ss limits.signals in

@@ -5,6 +5,11 @@ use Rattle.std.proofs.lemmas.List.{map-append}
 use Rattle.std.proofs.lemmas.List.Elements.{All-nil, All-cons, All-head, All-tail, All-append}
 use Rattle.st_card.specs.Cards.{cards_of}
 use Rattle.st_card.specs.Controls.{Asked}
+use Rattle.st_card.specs.Written.{control_line}
+use Rattle.st_card.specs.declared.written.Control.{Control}
+use Rattle.st_card.specs.declared.written.Control.TheVariants as asks
+use Rattle.st_card.specs.declared.written.Form.TheVariants.{Card}
+use Rattle.st_card.proofs.EachControl.{OfEach, of_any, orders_all, shows_all}
 use Rattle.st_card.specs.declared.faults.Fault.{Fault}
 use Rattle.st_bits.specs.Storage.{words_of_storage_is}
 use Rattle.st_strap.specs.Reading.{number_expr}
@@ -23,7 +28,7 @@ use Rattle.st_asm.specs.Alone.{laid_alone, laid_if_read, laid_by}
 use Rattle.st_asm.specs.declared.alone.LaidBits.{LaidBits}
 use Rattle.st_object.specs.Object.{Program, IsProgram, AreWords}
 use Rattle.st_dis.specs.Spelling.{number_text, statements_of}
-use Rattle.st_dis.specs.Deck.{statement_card, location_statement, location_cards, cards_of_word, word_cards, end_text, card_where, order_cards, back_cards, show_cards, deck_cards, deck_of, deck_text, card_count}
+use Rattle.st_dis.specs.Deck.{statement_card, location_statement, location_cards, cards_of_word, word_cards, end_text, order_cards, show_cards, deck_cards, deck_of, deck_text, card_count}
 use Rattle.st_dis.proofs.Spelled.{statements-cases, whole_bits, half_bits}
 use Rattle.st_dis.proofs.WordRead.{says-lays}
 use Rattle.st_dis.proofs.Printable.{IsWritten, deck_written}
@@ -185,52 +190,26 @@ end_of p = End (number_expr (32 * p.start))
 
 -- ---- the control cards
 
-only : (card : List ℕ) → IsControl card → All IsControl (card ∷ [])
-only card is = All-cons IsControl card [] is (All-nil IsControl)
+card-kind : (c : Control) → IsControl (control_line Card c)
+unfolding control_line
+card-kind (asks.Budget n) = refl
+card-kind (asks.Delay n) = refl
+card-kind (asks.Signal a b) = refl
+card-kind (asks.Dump a b) = refl
+card-kind asks.Trace = refl
+card-kind asks.Time = refl
+card-kind asks.Chart = refl
+card-kind (asks.Snap n) = refl
+card-kind (asks.Back n) = refl
 
-where_asked : (b : Bool) (card : List ℕ) → IsControl card → All IsControl (card_where b card)
-where_asked true card is = only card is
-where_asked false card is = All-nil IsControl
-
-module _ {X : Type 0} where
-  mapped_ones : (f : X → List ℕ) → ((x : X) → IsControl (f x)) → (xs : List X) → All IsControl (map f xs)
-  mapped_ones f each [] = All-nil IsControl
-  mapped_ones f each (x ∷ xs) = All-cons IsControl (f x) (map f xs) (each x) (mapped_ones f each xs)
+cards-kind : (a : Asked) → OfEach (λ c. IsControl (control_line Card c)) a
+cards-kind a = of_any (λ c. IsControl (control_line Card c)) card-kind a
 
 pub order_cards-kind : (a : Asked) → All IsControl (order_cards a)
-order_cards-kind a =
-    let c1 : List (List ℕ) = (codes "/BUDGET " ++ decimal a.budget) ∷ [] in
-    let c2 : List (List ℕ) = map (λ d. codes "/DELAYS " ++ decimal d) a.delays in
-    let c3 : List (List ℕ) = map (λ s. codes "/SIGNAL " ++ decimal s.count ++ codes " " ++ decimal s.indicator) a.signals in
-    let c4 : List (List ℕ) = map (λ p. codes "/DUMP " ++ decimal p.0 ++ codes " " ++ decimal p.1) a.dumps in
-    All-append IsControl (c1 ++ c2 ++ c3) c4
-    (All-append IsControl (c1 ++ c2) c3
-    (All-append IsControl c1 c2 (only (codes "/BUDGET " ++ decimal a.budget) refl)
-    (mapped_ones (λ d. codes "/DELAYS " ++ decimal d) (λ d. refl) a.delays))
-    (mapped_ones (λ s. codes "/SIGNAL " ++ decimal s.count ++ codes " " ++ decimal s.indicator) (λ s. refl) a.signals))
-    (mapped_ones (λ p. codes "/DUMP " ++ decimal p.0 ++ codes " " ++ decimal p.1) (λ p. refl) a.dumps)
-
-back_cards-kind : (k : ℕ) → All IsControl (back_cards k)
-back_cards-kind k =
-    let card = codes "/BACK " ++ decimal k in
-    elim (k == 0) as (λ b. All IsControl (if b then [] else card ∷ [])) [
-      | true ↦ All-nil IsControl
-      | false ↦ only card refl
-    ]
+order_cards-kind a = orders_all IsControl (λ c. control_line Card c) a (cards-kind a)
 
 pub show_cards-kind : (a : Asked) → All IsControl (show_cards a)
-show_cards-kind a =
-    let c5 = card_where a.trace (codes "/TRACE") in
-    let c6 = card_where a.time (codes "/TIME") in
-    let c7 = card_where a.chart (codes "/CHART") in
-    let c8 : List (List ℕ) = map (λ t. codes "/SNAP " ++ decimal t) a.snaps in
-    All-append IsControl (c5 ++ c6 ++ c7 ++ c8) (back_cards a.back)
-    (All-append IsControl (c5 ++ c6 ++ c7) c8
-    (All-append IsControl (c5 ++ c6) c7
-    (All-append IsControl c5 c6 (where_asked a.trace (codes "/TRACE") refl) (where_asked a.time (codes "/TIME") refl))
-    (where_asked a.chart (codes "/CHART") refl))
-    (mapped_ones (λ t. codes "/SNAP " ++ decimal t) (λ t. refl) a.snaps))
-    (back_cards-kind a.back)
+show_cards-kind a = shows_all IsControl (λ c. control_line Card c) a (cards-kind a)
 
 control_cards-kind : (p : Program) → All IsControl (control_cards p)
 control_cards-kind p =

@@ -7,12 +7,16 @@ use Rattle.std.proofs.lemmas.Fmt.{length-decimal-le}
 use Rattle.st_text.specs.Bytes.{lf}
 use Rattle.st_text.specs.Numerals.{half_address}
 use Rattle.st_bits.specs.Storage.{words_of_storage_is}
-use Rattle.st_card.specs.Controls.{Asked, is_in_range}
-use Rattle.st_card.specs.Limits.{IsWithinLimits, is_signal, is_part, is_tick}
-use Rattle.st_card.specs.declared.control_cards.Signal.{Signal}
+use Rattle.st_card.specs.Controls.{Asked}
+use Rattle.st_card.specs.Limits.{IsWithinLimits}
+use Rattle.st_card.specs.Written.{control_line, IsShortControl}
+use Rattle.st_card.specs.declared.written.Control.{Control}
+use Rattle.st_card.specs.declared.written.Control.TheVariants as asks
+use Rattle.st_card.specs.declared.written.Form.TheVariants.{Card}
+use Rattle.st_card.proofs.EachControl.{OfEach, of_short, orders_all, shows_all}
 use Rattle.st_object.specs.Object.{Program, IsProgram, AreWords}
 use Rattle.st_dis.specs.Spelling.{number_text, statements_of}
-use Rattle.st_dis.specs.Deck.{statement_card, location_statement, location_cards, cards_of_word, word_cards, end_text, card_where, order_cards, back_cards, show_cards, deck_cards, deck_of, deck_text, card_count}
+use Rattle.st_dis.specs.Deck.{statement_card, location_statement, location_cards, cards_of_word, word_cards, end_text, order_cards, show_cards, deck_cards, deck_of, deck_text, card_count}
 use Rattle.st_dis.proofs.Spelled.{statements-cases, says-short, whole_bits, half_bits}
 
 -- a statement has at most 63 characters, and a card at most 72
@@ -114,39 +118,6 @@ end_text-short start small =
     let second = digits (32 * (start % 2)) (omega arith) in
     omega (arith, whole, front, middle, first, second)
 
-module _ {X : Type 0} where
-  -- cards that are made of things that pass
-  mapped_short : (f : X → List ℕ) (P : X → Type 0) → ((x : X) → P x → IsCard (f x)) → (xs : List X) → All P xs →
-      All IsCard (map f xs)
-  mapped_short f P each [] all = All-nil IsCard
-  mapped_short f P each (x ∷ xs) all =
-      All-cons IsCard (f x) (map f xs) (each x (All-head P x xs all)) (mapped_short f P each xs (All-tail P x xs all))
-
-one_card : (card : List ℕ) → length card ≤ 63 → All IsCard (card ∷ [])
-one_card card short = All-cons IsCard card [] (omega arith) (All-nil IsCard)
-
-if_asked : (asked : Bool) (card : List ℕ) → length card ≤ 63 → All IsCard (card_where asked card)
-if_asked true card short = one_card card short
-if_asked false card short = All-nil IsCard
-
-delay-small : (n : ℕ) → is_in_range 1 255 n ≡ true → n < 2 ^ 64
-delay-small n is = let most : n ≤ 255 = grind (arith, nat_tests, is) in omega arith
-
-signal-small : (s : Signal) → is_signal s ≡ true → (s.count < 2 ^ 64) × (s.indicator < 2 ^ 64)
-signal-small s is =
-    let count : s.count ≤ 10000000 = grind (arith, nat_tests, is) in
-    let indicator : s.indicator ≤ 13 = grind (arith, nat_tests, is) in
-    (omega arith, omega arith)
-
-part-small : (p : ℕ × ℕ) → is_part p ≡ true → (p.0 < 2 ^ 64) × (p.1 < 2 ^ 64)
-part-small p is =
-    let last : p.1 ≤ 98303 = grind (arith, nat_tests, is) in
-    let first : p.0 ≤ p.1 = grind (arith, nat_tests, is) in
-    (omega arith, omega arith)
-
-tick-small : (t : ℕ) → is_tick t ≡ true → t < 2 ^ 64
-tick-small t is = let most : t ≤ 999999999999 = grind (arith, nat_tests, is) in omega arith
-
 labelled_card : (word : List ℕ) (n : ℕ) → length word ≤ 43 → n < 2 ^ 64 → IsCard (word ++ decimal n)
 labelled_card word n few small = let short = labelled word n few small in omega (arith, short)
 
@@ -154,41 +125,27 @@ paired_card : (word : List ℕ) (a b : ℕ) → length word ≤ 20 → a < 2 ^ 6
     IsCard (word ++ decimal a ++ codes " " ++ decimal b)
 paired_card word a b few small_a small_b = let short = paired word a b few small_a small_b in omega (arith, short)
 
-pub order_cards-short : (a : Asked) → IsWithinLimits a → All IsCard (order_cards a)
-order_cards-short a limits =
-    let delays : All IsCard (map (λ d. codes "/DELAYS " ++ decimal d) a.delays) =
-    mapped_short (λ d. codes "/DELAYS " ++ decimal d) (λ n. is_in_range 1 255 n ≡ true)
-    (λ n is. labelled_card (codes "/DELAYS ") n (omega arith) (delay-small n is)) a.delays limits.delays.each in
-    let signals : All IsCard (map (λ s. codes "/SIGNAL " ++ decimal s.count ++ codes " " ++ decimal s.indicator) a.signals) =
-    mapped_short (λ s. codes "/SIGNAL " ++ decimal s.count ++ codes " " ++ decimal s.indicator) (λ s. is_signal s ≡ true)
-    (λ s is. paired_card (codes "/SIGNAL ") s.count s.indicator (omega arith) (signal-small s is).0 (signal-small s is).1)
-    a.signals limits.signals.each in
-    let dumps : All IsCard (map (λ p. codes "/DUMP " ++ decimal p.0 ++ codes " " ++ decimal p.1) a.dumps) =
-    mapped_short (λ p. codes "/DUMP " ++ decimal p.0 ++ codes " " ++ decimal p.1) (λ p. is_part p ≡ true)
-    (λ p is. paired_card (codes "/DUMP ") p.0 p.1 (omega arith) (part-small p is).0 (part-small p is).1)
-    a.dumps limits.dumps.each in
-    let budget : IsCard (codes "/BUDGET " ++ decimal a.budget) =
-    let most = limits.budget in
-    labelled_card (codes "/BUDGET ") a.budget (omega arith) (omega (arith, most)) in
-    All-cons IsCard (codes "/BUDGET " ++ decimal a.budget) _ budget
-    (All-append IsCard _ _ (All-append IsCard _ _ delays signals) dumps)
+-- a control card
+card-short : (c : Control) → IsShortControl c → IsCard (control_line Card c)
+unfolding control_line
+card-short (asks.Budget n) short = labelled_card (codes "/BUDGET ") n (omega arith) (omega (arith, short))
+card-short (asks.Delay n) short = labelled_card (codes "/DELAYS ") n (omega arith) (omega (arith, short))
+card-short (asks.Signal a b) short = paired_card (codes "/SIGNAL ") a b (omega arith) (omega (arith, short.0)) (omega (arith, short.1))
+card-short (asks.Dump a b) short = paired_card (codes "/DUMP ") a b (omega arith) (omega (arith, short.0)) (omega (arith, short.1))
+card-short asks.Trace short = omega arith
+card-short asks.Time short = omega arith
+card-short asks.Chart short = omega arith
+card-short (asks.Snap n) short = labelled_card (codes "/SNAP ") n (omega arith) (omega (arith, short))
+card-short (asks.Back n) short = labelled_card (codes "/BACK ") n (omega arith) (omega (arith, short))
 
-back_cards-short : (k : ℕ) → k ≤ 64 → All IsCard (back_cards k)
-back_cards-short k few =
-    let card = codes "/BACK " ++ decimal k in
-    elim (k == 0) as (λ b. All IsCard (if b then [] else card ∷ [])) [
-      | true ↦ All-nil IsCard
-      | false ↦ one_card card (labelled (codes "/BACK ") k (omega arith) (omega arith))
-    ]
+cards-short : (a : Asked) → IsWithinLimits a → OfEach (λ c. IsCard (control_line Card c)) a
+cards-short a limits = of_short (λ c. IsCard (control_line Card c)) card-short a limits
+
+pub order_cards-short : (a : Asked) → IsWithinLimits a → All IsCard (order_cards a)
+order_cards-short a limits = orders_all IsCard (λ c. control_line Card c) a (cards-short a limits)
 
 pub show_cards-short : (a : Asked) → IsWithinLimits a → All IsCard (show_cards a)
-show_cards-short a limits =
-    let snaps : All IsCard (map (λ t. codes "/SNAP " ++ decimal t) a.snaps) =
-    mapped_short (λ t. codes "/SNAP " ++ decimal t) (λ t. is_tick t ≡ true)
-    (λ t is. labelled_card (codes "/SNAP ") t (omega arith) (tick-small t is)) a.snaps limits.snaps.each in
-    let marks = All-append IsCard _ _ (if_asked a.trace (codes "/TRACE") (omega arith)) (if_asked a.time (codes "/TIME") (omega arith)) in
-    let charts = All-append IsCard _ _ marks (if_asked a.chart (codes "/CHART") (omega arith)) in
-    All-append IsCard _ _ (All-append IsCard _ _ charts snaps) (back_cards-short a.back limits.back)
+show_cards-short a limits = shows_all IsCard (λ c. control_line Card c) a (cards-short a limits)
 
 -- each card of a deck has at most 72 characters
 pub deck_cards-short : (p : Program) → IsProgram p → AreWords p.words → All IsCard (deck_cards p)

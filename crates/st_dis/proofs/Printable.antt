@@ -25,11 +25,16 @@ use Rattle.st_object.proofs.ReadBack.{parted_line}
 use Rattle.st_text.specs.Numerals.{bit_address, half_address, flag, place}
 use Rattle.st_object.specs.Object.{Program}
 use Rattle.st_card.specs.Controls.{Asked}
+use Rattle.st_card.specs.Written.{control_line}
+use Rattle.st_card.specs.declared.written.Control.{Control}
+use Rattle.st_card.specs.declared.written.Control.TheVariants as asks
+use Rattle.st_card.specs.declared.written.Form.TheVariants.{Card}
+use Rattle.st_card.proofs.EachControl.{OfEach, of_any, orders_all, shows_all}
 use Rattle.st_asm.specs.declared.alone.LaidBits.{LaidBits}
 use Rattle.st_dis.specs.Names.{half_name, branch_name, field_name, negation, kind_name, truth_digits, move_name, changes, change_name, turning, order_name, mode_name, forms, form_name}
 use Rattle.st_dis.specs.Texts.{index_field_text, index_part_text, half_field, bit_field, second_field, number_field, offset_field, has_index, listed_fields, half_text, branch_text, description, operand_text, instruction_text}
 use Rattle.st_dis.specs.Spelling.{says, spelling_of, word_spelling, half_spelling, number_text, statements_by, statements_of}
-use Rattle.st_dis.specs.Deck.{statement_card, location_statement, location_cards, cards_of_word, word_cards, end_text, card_where, order_cards, back_cards, show_cards, deck_cards, deck_of, deck_text}
+use Rattle.st_dis.specs.Deck.{statement_card, location_statement, location_cards, cards_of_word, word_cards, end_text, order_cards, show_cards, deck_cards, deck_of, deck_text}
 
 -- a text of blanks and visible characters
 abbrev pub IsPlain : List ℕ → Type 0
@@ -373,9 +378,9 @@ cards_plain [] p = All-nil IsWritten
 cards_plain (t ∷ ts) p =
     All-cons IsWritten (statement_card t) (map statement_card ts) (card_plain t (All-head IsPlain t ts p)) (cards_plain ts (All-tail IsPlain t ts p))
 
-where_asked : (b : Bool) (cards : List (List ℕ)) → All IsWritten cards → All IsWritten (if b then cards else [])
-where_asked true cards p = p
-where_asked false cards p = All-nil IsWritten
+if_first : (b : Bool) (cards : List (List ℕ)) → All IsWritten cards → All IsWritten (if b then cards else [])
+if_first true cards p = p
+if_first false cards p = All-nil IsWritten
 
 where_not : (b : Bool) (cards : List (List ℕ)) → All IsWritten cards → All IsWritten (if b then [] else cards)
 where_not true cards p = All-nil IsWritten
@@ -384,7 +389,7 @@ where_not false cards p = p
 location_plain : (w before : ℕ) → All IsWritten (location_cards w before)
 location_plain w before =
     let card = statement_card (location_statement w) in
-    where_asked (before == 0) (card ∷ []) (only card (card_plain (location_statement w) (joined (codes "SLC,") (decimal w) (codes ".0") refl (number w) refl)))
+    if_first (before == 0) (card ∷ []) (only card (card_plain (location_statement w) (joined (codes "SLC,") (decimal w) (codes ".0") refl (number w) refl)))
 
 placed_plain : (w before word : ℕ) → All IsWritten (cards_of_word w before word)
 unfolding cards_of_word
@@ -397,46 +402,31 @@ word_cards_plain w before [] = All-nil IsWritten
 word_cards_plain w before (x ∷ xs) =
     All-append IsWritten (cards_of_word w before x) (word_cards (w + 1) x xs) (placed_plain w before x) (word_cards_plain (w + 1) x xs)
 
-module _ {X : Type 0} where
-  -- cards that are made of things one by one
-  mapped : (f : X → List ℕ) → ((x : X) → IsWritten (f x)) → (xs : List X) → All IsWritten (map f xs)
-  mapped f each [] = All-nil IsWritten
-  mapped f each (x ∷ xs) = All-cons IsWritten (f x) (map f xs) (each x) (mapped f each xs)
-
 two_numbers : (word : List ℕ) (a b : ℕ) → IsPlain word → IsPlain (word ++ decimal a ++ codes " " ++ decimal b)
 two_numbers word a b p =
     join (word ++ decimal a ++ codes " ") (decimal b) (joined word (decimal a) (codes " ") p (number a) refl) (number b)
 
-pub orders_plain : (a : Asked) → All IsWritten (order_cards a)
-orders_plain a =
-    let c1 : List (List ℕ) = (codes "/BUDGET " ++ decimal a.budget) ∷ [] in
-    let c2 : List (List ℕ) = map (λ d. codes "/DELAYS " ++ decimal d) a.delays in
-    let c3 : List (List ℕ) = map (λ s. codes "/SIGNAL " ++ decimal s.count ++ codes " " ++ decimal s.indicator) a.signals in
-    let c4 : List (List ℕ) = map (λ p. codes "/DUMP " ++ decimal p.0 ++ codes " " ++ decimal p.1) a.dumps in
-    All-append IsWritten (c1 ++ c2 ++ c3) c4
-    (All-append IsWritten (c1 ++ c2) c3
-    (All-append IsWritten c1 c2 (only (codes "/BUDGET " ++ decimal a.budget) (control_plain (codes "BUDGET " ++ decimal a.budget) (join (codes "BUDGET ") (decimal a.budget) refl (number a.budget))))
-    (mapped (λ d. codes "/DELAYS " ++ decimal d) (λ d. control_plain (codes "DELAYS " ++ decimal d) (join (codes "DELAYS ") (decimal d) refl (number d))) a.delays))
-    (mapped (λ s. codes "/SIGNAL " ++ decimal s.count ++ codes " " ++ decimal s.indicator) (λ s. control_plain (codes "SIGNAL " ++ decimal s.count ++ codes " " ++ decimal s.indicator) (two_numbers (codes "SIGNAL ") s.count s.indicator refl)) a.signals))
-    (mapped (λ p. codes "/DUMP " ++ decimal p.0 ++ codes " " ++ decimal p.1) (λ p. control_plain (codes "DUMP " ++ decimal p.0 ++ codes " " ++ decimal p.1) (two_numbers (codes "DUMP ") p.0 p.1 refl)) a.dumps)
+-- a control card
+card_written : (c : Control) → IsWritten (control_line Card c)
+unfolding control_line
+card_written (asks.Budget n) = control_plain (codes "BUDGET " ++ decimal n) (join (codes "BUDGET ") (decimal n) refl (number n))
+card_written (asks.Delay n) = control_plain (codes "DELAYS " ++ decimal n) (join (codes "DELAYS ") (decimal n) refl (number n))
+card_written (asks.Signal a b) = control_plain (codes "SIGNAL " ++ decimal a ++ codes " " ++ decimal b) (two_numbers (codes "SIGNAL ") a b refl)
+card_written (asks.Dump a b) = control_plain (codes "DUMP " ++ decimal a ++ codes " " ++ decimal b) (two_numbers (codes "DUMP ") a b refl)
+card_written asks.Trace = control_plain (codes "TRACE") refl
+card_written asks.Time = control_plain (codes "TIME") refl
+card_written asks.Chart = control_plain (codes "CHART") refl
+card_written (asks.Snap n) = control_plain (codes "SNAP " ++ decimal n) (join (codes "SNAP ") (decimal n) refl (number n))
+card_written (asks.Back n) = control_plain (codes "BACK " ++ decimal n) (join (codes "BACK ") (decimal n) refl (number n))
 
-back_plain : (k : ℕ) → All IsWritten (back_cards k)
-back_plain k =
-    where_not (k == 0) ((codes "/BACK " ++ decimal k) ∷ []) (only (codes "/BACK " ++ decimal k) (control_plain (codes "BACK " ++ decimal k) (join (codes "BACK ") (decimal k) refl (number k))))
+cards_written : (a : Asked) → OfEach (λ c. IsWritten (control_line Card c)) a
+cards_written a = of_any (λ c. IsWritten (control_line Card c)) card_written a
+
+pub orders_plain : (a : Asked) → All IsWritten (order_cards a)
+orders_plain a = orders_all IsWritten (λ c. control_line Card c) a (cards_written a)
 
 pub shows_plain : (a : Asked) → All IsWritten (show_cards a)
-shows_plain a =
-    let c5 = card_where a.trace (codes "/TRACE") in
-    let c6 = card_where a.time (codes "/TIME") in
-    let c7 = card_where a.chart (codes "/CHART") in
-    let c8 : List (List ℕ) = map (λ t. codes "/SNAP " ++ decimal t) a.snaps in
-    All-append IsWritten (c5 ++ c6 ++ c7 ++ c8) (back_cards a.back)
-    (All-append IsWritten (c5 ++ c6 ++ c7) c8
-    (All-append IsWritten (c5 ++ c6) c7
-    (All-append IsWritten c5 c6 (where_asked a.trace (codes "/TRACE" ∷ []) (only (codes "/TRACE") (control_plain (codes "TRACE") refl))) (where_asked a.time (codes "/TIME" ∷ []) (only (codes "/TIME") (control_plain (codes "TIME") refl))))
-    (where_asked a.chart (codes "/CHART" ∷ []) (only (codes "/CHART") (control_plain (codes "CHART") refl))))
-    (mapped (λ t. codes "/SNAP " ++ decimal t) (λ t. control_plain (codes "SNAP " ++ decimal t) (join (codes "SNAP ") (decimal t) refl (number t))) a.snaps))
-    (back_plain a.back)
+shows_plain a = shows_all IsWritten (λ c. control_line Card c) a (cards_written a)
 
 -- the cards of a deck
 pub deck_written : (p : Program) → All IsWritten (deck_cards p)

@@ -1,9 +1,9 @@
 -- The deck of a program.
-use Rattle.std.specs.Prelude.{ℕ, ◌+◌, ◌==◌, Bool, List, [], ◌∷◌, ◌++◌, length, map, replicate, codes, decimal, if◌then◌else◌}
-use Rattle.std.specs.List.{flat_map}
-use Rattle.st_text.specs.Bytes.{lf}
+use Rattle.std.specs.Prelude.{ℕ, ◌+◌, ◌==◌, List, [], ◌∷◌, ◌++◌, length, map, replicate, codes, decimal, if◌then◌else◌}
 use Rattle.st_text.specs.Numerals.{half_address}
 use Rattle.st_card.specs.Controls.{Asked}
+use Rattle.st_card.specs.Written.{control_line, text_of_lines, orders, shows}
+use Rattle.st_card.specs.declared.written.Form.TheVariants.{Card}
 use Rattle.st_object.specs.Object.{Program}
 use Rattle.st_dis.specs.Spelling.{statements_of}
 
@@ -37,29 +37,13 @@ word_cards w before (x ∷ xs) = cards_of_word w before x ++ word_cards (w + 1) 
 abbrev pub end_text : ℕ → List ℕ
 end_text start = codes "END," ++ half_address start
 
--- a card that stands there where it is asked for
-abbrev pub card_where : Bool → List ℕ → List (List ℕ)
-card_where asked card = if asked then card ∷ [] else []
-
 -- the control cards up to those for parts of storage
 abbrev pub order_cards : Asked → List (List ℕ)
-order_cards a =
-    (codes "/BUDGET " ++ decimal a.budget) ∷ []
-    ++ map (λ d. codes "/DELAYS " ++ decimal d) a.delays
-    ++ map (λ s. codes "/SIGNAL " ++ decimal s.count ++ codes " " ++ decimal s.indicator) a.signals
-    ++ map (λ p. codes "/DUMP " ++ decimal p.0 ++ codes " " ++ decimal p.1) a.dumps
-
--- how far the end steps back, where it does
-abbrev pub back_cards : ℕ → List (List ℕ)
-back_cards k = if k == 0 then [] else (codes "/BACK " ++ decimal k) ∷ []
+order_cards a = orders (control_line Card) a
 
 -- those for what is to be shown
 abbrev pub show_cards : Asked → List (List ℕ)
-show_cards a =
-    card_where a.trace (codes "/TRACE") ++ card_where a.time (codes "/TIME")
-    ++ card_where a.chart (codes "/CHART")
-    ++ map (λ t. codes "/SNAP " ++ decimal t) a.snaps
-    ++ back_cards a.back
+show_cards a = shows (control_line Card) a
 
 -- the cards of a program
 abbrev pub deck_cards : Program → List (List ℕ)
@@ -69,7 +53,7 @@ deck_cards p =
 
 -- cards, each with its line end
 abbrev pub deck_of : List (List ℕ) → List ℕ
-deck_of cards = flat_map (λ card. card ++ lf) cards
+deck_of cards = text_of_lines cards
 
 -- the deck of a program
 unfoldable pub deck_text : Program → List ℕ

@@ -2,6 +2,7 @@
 
 ghost use Rattle.std.specs.Prelude.{◌≡◌, ◌≤◌, ◌+◌, ◌*◌, ℕ, List, [], length, if◌then◌else◌};
 ghost use Rattle.st_card.specs.Limits.{IsWithinLimits};
+ghost use Rattle.st_card.specs.Written.{where_asked};
 ghost use Rattle.st_dis.specs.Deck as spec;
 ghost use Rattle.st_dis.specs.Spelling.{statements_of};
 
@@ -67,12 +68,12 @@ fn count_orders(controls: &Controls) -> u32
 {
     let delays = controls.delays.len() as u32;
     let signals = controls.signals.len() as u32;
-    1 + delays + signals + controls.dumps.len() as u32
+    u32::from(controls.budget != 0) + delays + signals + controls.dumps.len() as u32
 }
 
 // One card where it is asked for.
 fn count_mark(asked: bool) -> u32
-    ensures count { (card : List ℕ) → result ≡ length (spec.card_where asked card) }
+    ensures count { (card : List ℕ) → result ≡ length (where_asked asked card) }
     ensures few { result ≤ 1 }
 {
     if asked { 1 } else { 0 }

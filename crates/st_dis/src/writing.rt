@@ -5,7 +5,7 @@ ghost use Rattle.st_dis.specs.Deck as spec;
 ghost use Rattle.st_dis.specs.Spelling.{statements_of};
 
 use crate::spelling::{half_spelling, left_half, right_half, word_spelling};
-use st_card::{Controls, Signal};
+use st_card::{Controls, Form, push_orders, push_shows};
 use st_expr::Symbols;
 use st_text::{Line, begun, push_decimal, push_half_address, push_short_decimal};
 use std::alloc::AllocError;
@@ -123,114 +123,6 @@ fn push_end(deck: &mut Vec<u8>, start: u32) -> Result<(), AllocError>
     push_statement(deck, &text)
 }
 
-// Appends a control card of a word and a number.
-fn push_control(deck: &mut Vec<u8>, word: &str, n: u64) -> Result<(), AllocError>
-    requires { length word.now ≤ 9 }
-    ensures { OnOk result (deck.new.items
-        ≡ deck.old.items ++ spec.deck_of ((word.now ++ decimal n) ∷ [])) }
-{
-    let mut text = begun(word);
-    push_decimal(&mut text, n);
-    push_card(deck, text.as_str().as_bytes())
-}
-
-// Appends a control card of a word and two numbers.
-fn push_pair(deck: &mut Vec<u8>, word: &str, a: u64, b: u64) -> Result<(), AllocError>
-    requires { length word.now ≤ 9 }
-    ensures { let card = word.now ++ decimal a ++ codes " " ++ decimal b in
-        OnOk result (deck.new.items ≡ deck.old.items ++ spec.deck_of (card ∷ [])) }
-{
-    let mut text = begun(word);
-    push_decimal(&mut text, a);
-    text.push_str(" ");
-    push_decimal(&mut text, b);
-    push_card(deck, text.as_str().as_bytes())
-}
-
-// Appends a card that stands there where it is asked for.
-fn push_mark(deck: &mut Vec<u8>, asked: bool, card: &str) -> Result<(), AllocError>
-    ensures { OnOk result (deck.new.items
-        ≡ deck.old.items ++ spec.deck_of (spec.card_where asked card.now)) }
-{
-    if !asked {
-        return Ok(());
-    }
-    push_card(deck, card.as_bytes())
-}
-
-fn push_delays(deck: &mut Vec<u8>, delays: &[u8]) -> Result<(), AllocError>
-    ensures { OnOk result (deck.new.items ≡ deck.old.items
-        ++ spec.deck_of (map (λ d. codes "/DELAYS " ++ decimal d) delays.now)) }
-{
-    'delays: for delay in delays {
-        push_control(deck, "/DELAYS ", u64::from(*delay))?;
-    }
-    Ok(())
-}
-
-fn push_signals(deck: &mut Vec<u8>, signals: &[Signal]) -> Result<(), AllocError>
-    ensures { OnOk result (deck.new.items ≡ deck.old.items ++ spec.deck_of
-        (map (λ s. codes "/SIGNAL " ++ decimal s.count ++ codes " " ++ decimal s.indicator)
-        signals.now)) }
-{
-    'signals: for signal in signals {
-        push_pair(deck, "/SIGNAL ", signal.count, u64::from(signal.indicator))?;
-    }
-    Ok(())
-}
-
-fn push_dumps(deck: &mut Vec<u8>, dumps: &[(u32, u32)]) -> Result<(), AllocError>
-    ensures { OnOk result (deck.new.items ≡ deck.old.items ++ spec.deck_of
-        (map (λ p. codes "/DUMP " ++ decimal p.0 ++ codes " " ++ decimal p.1) dumps.now)) }
-{
-    'dumps: for part in dumps {
-        push_pair(deck, "/DUMP ", u64::from(part.0), u64::from(part.1))?;
-    }
-    Ok(())
-}
-
-fn push_snaps(deck: &mut Vec<u8>, snaps: &[u64]) -> Result<(), AllocError>
-    ensures { OnOk result (deck.new.items ≡ deck.old.items
-        ++ spec.deck_of (map (λ t. codes "/SNAP " ++ decimal t) snaps.now)) }
-{
-    'snaps: for tick in snaps {
-        push_control(deck, "/SNAP ", *tick)?;
-    }
-    Ok(())
-}
-
-fn push_back(deck: &mut Vec<u8>, back: u8) -> Result<(), AllocError>
-    ensures { OnOk result (deck.new.items ≡ deck.old.items ++ spec.deck_of (spec.back_cards back)) }
-{
-    if back == 0 {
-        return Ok(());
-    }
-    push_control(deck, "/BACK ", u64::from(back))
-}
-
-// Appends the control cards up to those for parts of storage.
-fn push_orders(deck: &mut Vec<u8>, controls: &Controls) -> Result<(), AllocError>
-    ensures { OnOk result (deck.new.items
-        ≡ deck.old.items ++ spec.deck_of (spec.order_cards controls.now)) }
-{
-    push_control(deck, "/BUDGET ", controls.budget)?;
-    push_delays(deck, controls.delays.as_slice())?;
-    push_signals(deck, controls.signals.as_slice())?;
-    push_dumps(deck, controls.dumps.as_slice())
-}
-
-// Appends those for what is to be shown.
-fn push_shows(deck: &mut Vec<u8>, controls: &Controls) -> Result<(), AllocError>
-    ensures { OnOk result (deck.new.items
-        ≡ deck.old.items ++ spec.deck_of (spec.show_cards controls.now)) }
-{
-    push_mark(deck, controls.trace, "/TRACE")?;
-    push_mark(deck, controls.time, "/TIME")?;
-    push_mark(deck, controls.chart, "/CHART")?;
-    push_snaps(deck, controls.snaps.as_slice())?;
-    push_back(deck, controls.back)
-}
-
 // Appends the cards of a program before its control cards. The table of symbols is empty.
 fn push_program(
     deck: &mut Vec<u8>,
@@ -263,6 +155,6 @@ pub(crate) fn push_deck(
         OnOk result (deck.new.items ≡ deck.old.items ++ spec.deck_text p) }
 {
     push_program(deck, symbols, words, start)?;
-    push_orders(deck, controls)?;
-    push_shows(deck, controls)
+    push_orders(deck, Form::Card, controls)?;
+    push_shows(deck, Form::Card, controls)
 }

@@ -1,5 +1,5 @@
 //! A step of which everything is kept that is needed to undo it.
-ghost use Rattle.std.specs.Prelude.{◌≡◌, ℕ, ◌<◌, ◌^◌, IfSome, slice_index};
+ghost use Rattle.std.specs.Prelude.{◌≡◌, ℕ, ◌<◌, ◌^◌, slice_index};
 ghost use Rattle.st_state.specs.Machine.{word as word_of};
 ghost use Rattle.st_prep.specs.Fetch.{place_of as place_at};
 ghost use Rattle.st_prep.specs.Plan.{needs, sight, plan as plan_of};
@@ -10,7 +10,7 @@ ghost use Rattle.st_exec.specs.Trails.{IsTrail, CanBePutBack, IsKeptStep};
 use crate::completing::complete;
 use crate::execution::read_operands;
 use crate::step::{Step, interrupt, is_at_rest};
-use st_prep::{Prepared, Words, fetch, index_words, look, place_of, plan};
+use st_prep::{Prepared, Words, plan_in};
 use st_state::{Order, State};
 
 /// What is kept of a state before a step, and what the step reads and writes.
@@ -40,18 +40,6 @@ pub struct Trail {
     pub printer: Option<Order>,
 }
 
-// The word address of the index-side word of the next entry, or of the table instruction of an
-// interrupt.
-#[tactic(auto, unfolding(st_prep::specs::Plan::sight))]
-fn index_side(taken: Option<u8>, state: &State) -> Option<u32>
-    requires { IfSome taken (λ i. i < 64) }
-    ensures { result ≡ (needs (sight state.now (place_at state.now taken))).index_read }
-{
-    let place = place_of(state, taken);
-    let fetched = fetch(state, &place);
-    look(&place, &fetched, &index_words(state), state).index_read
-}
-
 // Words 0 to 31.
 fn registers(state: &State) -> [u64; 32]
     ensures { (w : ℕ) → w < 32 → slice_index result w ≡ word_of state.now w }
@@ -63,19 +51,19 @@ fn registers(state: &State) -> [u64; 32]
     registers
 }
 
-// The trail of an entry that is to be completed.
-fn trail_of(taken: Option<u8>, p: &Prepared, state: &State) -> Trail
-    requires taken { taken ≡ interrupt_of state.now }
-    requires indicator { IfSome taken (λ i. i < 64) }
+// The trail of an entry that is to be completed, with its index-side word.
+fn trail_of(side: Option<u32>, p: &Prepared, state: &State) -> Trail
+    requires side { let place = place_at state.now (interrupt_of state.now) in
+        side ≡ (needs (sight state.now place)).index_read }
     requires prepared { IsPrepared p.now }
-    requires entry { p.now ≡ plan_of state.now taken }
+    requires entry { p.now ≡ plan_of state.now (interrupt_of state.now) }
 
     ensures trail { IsTrail state.now result }
     ensures fits { CanBePutBack result }
 {
     state.shape();
     Trail {
-        index_read: index_side(taken, state),
+        index_read: side,
         reads: p.reads,
         writes: p.writes,
         before: read_operands(p.writes, state),
@@ -101,8 +89,9 @@ pub fn one_kept(state: &mut State, trail: &mut Trail) -> Step
         return Step::Waits;
     }
     let taken = interrupt(state);
-    let p = plan(state, taken);
-    *trail = trail_of(taken, &p, state);
+    let mut p = Prepared::default();
+    let side = plan_in(taken, state, &mut p);
+    *trail = trail_of(side, &p, state);
     let operands = read_operands(p.reads, state);
     complete(&p, &operands, state);
     match taken {

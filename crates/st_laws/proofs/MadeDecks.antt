@@ -1,6 +1,7 @@
 -- A made deck is a text of cards, which is assembled.
-use Rattle.std.proofs.Common.{◌≡◌, ◌≤◌, ◌+◌, ℕ, zero, suc, true, false, nat_le, List, [], ◌∷◌, ◌++◌, length, map, codes, decimal, Ok, refl, sym, ap, ◌∙◌, append_assoc, append-nil, length-append, replicate, arith}
+use Rattle.std.proofs.Common.{◌≡◌, ◌≤◌, ◌+◌, ◌==◌, ℕ, zero, suc, true, false, nat_le, List, [], ◌∷◌, ◌++◌, length, map, codes, decimal, Ok, refl, sym, ap, ◌∙◌, append_assoc, append-nil, length-append, replicate, arith}
 use Rattle.std.proofs.lemmas.Bool.{and_from as both_true, le-leb as within}
+use Rattle.std.proofs.lemmas.Bool.Decides.{nat_tests}
 use Rattle.std.proofs.lemmas.List.{map-append, length-map}
 use Rattle.std.proofs.lemmas.List.Elements.{All-nil, All-cons, All-append}
 use Rattle.std.proofs.lemmas.List.Sorted.{IsNonDecreasingBy-short}
@@ -8,6 +9,7 @@ use Rattle.std.specs.Fmt.{digits}
 use Rattle.std.specs.List.{All, AllPass}
 use Rattle.st_bits.specs.Storage.{words_of_storage}
 use Rattle.st_card.specs.Controls.{Asked, is_in_range}
+use Rattle.st_card.specs.Written.{control_line}
 use Rattle.st_card.specs.Limits.{IsWithinLimits, is_signal, is_part, is_tick}
 use Rattle.st_card.specs.declared.control_cards.Signal.{Signal}
 use Rattle.st_card.specs.Cards.{cards_of}
@@ -216,12 +218,14 @@ delays-are (suc n) x =
 abbrev controls : Asked → List (List ℕ)
 controls asked = order_cards asked ++ show_cards asked
 
-controls-are : (budget : ℕ) (delays : List ℕ) →
+controls-are : (budget : ℕ) (delays : List ℕ) → 1 ≤ budget →
     controls (asked_with budget delays) ≡ (codes "/BUDGET " ++ decimal budget)
     ∷ (map (λ d. codes "/DELAYS " ++ decimal d) delays ++ codes "/TIME" ∷ [])
-controls-are budget delays =
+unfolding control_line
+controls-are budget delays some =
+    let is : (budget == 0) ≡ false = grind (arith, nat_tests) in
     let cards = map (λ d. codes "/DELAYS " ++ decimal d) delays in
-    ap (λ (cs : List (List ℕ)). (codes "/BUDGET " ++ decimal budget) ∷ (cs ++ codes "/TIME" ∷ [])) (append-nil (cards ++ []) ∙ append-nil cards)
+    rw is (ap (λ (cs : List (List ℕ)). (codes "/BUDGET " ++ decimal budget) ∷ (cs ++ codes "/TIME" ∷ [])) (append-nil (cards ++ []) ∙ append-nil cards))
 
 -- the cards behind the drawn ones, the branch and the end aside
 five : (a b c d e : List ℕ) → a ++ b ++ c ++ d ++ e ≡ a ++ (b ++ (c ++ (d ++ e)))
@@ -255,7 +259,7 @@ closing-is cards x =
     ∙ (ap (λ (t : List ℕ). card (codes "BEW") ++ (card (codes "END,32.0") ++ t)) third
     ∙ (ap (λ (t : List ℕ). card (codes "BEW") ++ t) second
     ∙ (first
-    ∙ ap (λ (cs : List (List ℕ)). deck_of (wait ∷ end ∷ cs)) (sym (controls-are (cards + 2) (drawn_delays 16 x)))))))
+    ∙ ap (λ (cs : List (List ℕ)). deck_of (wait ∷ end ∷ cs)) (sym (controls-are (cards + 2) (drawn_delays 16 x) (omega arith)))))))
 
 made-is : (seed cards : ℕ) → made_deck seed cards ≡ deck_of (made_cards cards seed)
 made-is seed cards =
@@ -323,7 +327,7 @@ module _ (cards seed : ℕ) (few : cards ≤ 19980) where
   controls-count =
       let delays = drawn_delays 16 (after_cards cards seed) in
       let cards_of_delays = map (λ d. codes "/DELAYS " ++ decimal d) delays in
-      let same = ap (λ (cs : List (List ℕ)). length cs) (controls-are (cards + 2) delays) in
+      let same = ap (λ (cs : List (List ℕ)). length cs) (controls-are (cards + 2) delays (omega arith)) in
       let each = length-map delays (λ (d : ℕ). codes "/DELAYS " ++ decimal d) in
       let sixteen = drawn_delays-length 16 (after_cards cards seed) in
       let size = length-append cards_of_delays (codes "/TIME" ∷ []) in

@@ -5,7 +5,7 @@ use Rattle.st_state.specs.Machine.{Machine, word}
 use Rattle.st_prep.specs.declared.entries.Fetched.{Fetched}
 use Rattle.st_prep.specs.declared.entries.Prepared.{Prepared}
 use Rattle.st_prep.specs.declared.entries.Fetching.TheVariants.{Found as FoundAll}
-use Rattle.st_prep.specs.Plan.{Sight, sight_of, needs, prepared_entry}
+use Rattle.st_prep.specs.Plan.{Sight, sight_of, needs, prepared_entry, plan}
 use Rattle.st_prep.specs.Reading.{reading_at_place, left_after, fetching_of}
 use Rattle.st_rows.specs.Asked.{Read, reads_of_entry, bus_after_reads}
 use Rattle.st_rows.specs.Notes.{log_after_reads}
@@ -101,6 +101,13 @@ pub record IsPreparedBy (now : ℕ) (x : List ℕ) (s : Machine) (next : Next) :
       ≡ prepared_entry (sight_of next.place next.fetched x s)
       (option_map (λ w. 0) (needs (sight_of next.place next.fetched x s)).index_read)
   pub entry : next.entry ≡ entry_seen next.own next.target (sight_of next.place next.fetched x s)
+
+-- what an entry that is planned is prepared to at its tick: the next entry of whatever state stands
+-- before it then
+abbrev pub IsPlanAtItsTick : List ℕ → Machine → Next → Prepared → Type 0
+IsPlanAtItsTick x s next p = (ds : List ℕ) (n now : ℕ) (f : Front) (t : Option ℕ) (u : Machine) →
+    IfSome t (λ i. i < 64) → IsStateBefore now f.past x s u → IsNext ds n t u f next →
+    now ≡ next.formed.p → ((entry t u).serial ≡ true → u ≡ s) → p ≡ plan u t
 
 -- an entry of which the words are there is planned, of which so much is seen
 pub record IsPlannedAs (ds : List ℕ) (n : ℕ) (f : Front) (v : Sight)

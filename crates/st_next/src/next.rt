@@ -2,23 +2,20 @@
 ghost use Rattle.std.specs.Prelude.{◌≡◌, ℕ, ◌+◌, ◌-◌, ◌<◌, ◌≤◌, ◌^◌, true, false, max, take, map, List, ◌++◌, Option, IfSome, get_or, if◌then◌else◌};
 ghost use Rattle.st_bits.specs.Storage.{words_of_storage};
 ghost use Rattle.st_fetch.specs.Planned.{tick_of};
-ghost use Rattle.st_state.specs.Machine.{Machine, word};
-ghost use Rattle.st_prep.specs.Plan.{plan as plan_of};
+ghost use Rattle.st_state.specs.Machine.{word};
 ghost use Rattle.st_prep.specs.Ranges.{HasFields, IsPlace, IsFetched, IsFetching, IsPrepared};
 ghost use Rattle.st_prep.specs.Reading.{reading_at_place, left_after, fetching_of as given_of, fetched_plain, is_execute};
 ghost use Rattle.st_prep.specs.declared.entries.Fetching.TheVariants.{Found as FoundAll};
 ghost use Rattle.st_format.specs.Formats.{decoded_entry, instruction_of, spelled_as};
 ghost use Rattle.st_rows.specs.Asked.{word_asked};
-ghost use Rattle.st_rows.specs.declared.front.Front.{Front as FrontAt};
 ghost use Rattle.st_rows.specs.Notes.{log_after_reads};
 ghost use Rattle.st_rows.specs.Ranges.{IsEntryInTime};
 ghost use Rattle.st_rows.specs.Rows.{wanted_from, fetch_word};
 ghost use Rattle.st_segment.specs.Alone.{words_of_run};
-ghost use Rattle.st_segment.specs.Entries.{above_registers as above_registers_of, words_to_read as words_to_read_of, words_to_write as words_to_write_of, side_to_read as side_to_read_of, entry as entry_at};
+ghost use Rattle.st_segment.specs.Entries.{above_registers as above_registers_of, words_to_read as words_to_read_of, words_to_write as words_to_write_of, side_to_read as side_to_read_of};
 ghost use Rattle.st_next.specs.Words.{words_alone, run_with_word as with_word_of};
-ghost use Rattle.st_next.specs.Known.{IsStateBefore};
-ghost use Rattle.st_next.specs.Progress.{IsKnown, IsNextReady, IsNext};
-ghost use Rattle.st_next.specs.Going.{IsFrontInTime, IsEarly, GoesOnTo, IsReadFurther, IsPreparedBy, as_entry, prepared_as};
+ghost use Rattle.st_next.specs.Progress.{IsKnown, IsNextReady};
+ghost use Rattle.st_next.specs.Going.{IsFrontInTime, IsEarly, GoesOnTo, IsReadFurther, IsPreparedBy, IsPlanAtItsTick, as_entry, prepared_as};
 
 use st_banks::Delays;
 use st_bits::register::FIRST_STORAGE_WORD;
@@ -398,10 +395,7 @@ impl Next {
     pub fn prepare(&mut self, x: &[u64; 16], state: &State)
         requires planned { self.old.planned ≡ true }
         requires ready { IsNextReady x.now state.now self.old }
-        ensures value { (ds : List ℕ) (n now : ℕ) (f : FrontAt) (t : Option ℕ) (u : Machine) →
-            IfSome t (λ i. i < 64) → IsStateBefore now f.past x.now state.now u →
-            IsNext ds n t u f self.old → now ≡ self.old.formed.p →
-            ((entry_at t u).serial ≡ true → u ≡ state.now) → self.new.prepared ≡ plan_of u t }
+        ensures value { IsPlanAtItsTick x.now state.now self.old self.new.prepared }
         ensures ranges { IsPrepared self.new.prepared }
         ensures rest { self.new ≡ record self.old { prepared = self.new.prepared } }
     {
@@ -416,10 +410,7 @@ impl Next {
     fn prepare_with_side(&mut self, x: &[u64; 16], state: &State)
         requires planned { self.old.planned ≡ true }
         requires ready { IsNextReady x.now state.now self.old }
-        ensures value { (ds : List ℕ) (n now : ℕ) (f : FrontAt) (t : Option ℕ) (u : Machine) →
-            IfSome t (λ i. i < 64) → IsStateBefore now f.past x.now state.now u →
-            IsNext ds n t u f self.old → now ≡ self.old.formed.p →
-            ((entry_at t u).serial ≡ true → u ≡ state.now) → self.new.prepared ≡ plan_of u t }
+        ensures value { IsPlanAtItsTick x.now state.now self.old self.new.prepared }
         ensures ranges { IsPrepared self.new.prepared }
         ensures rest { self.new ≡ record self.old { prepared = self.new.prepared } }
     {
@@ -430,7 +421,8 @@ impl Next {
     }
 
     // The instruction with its format, where its words tell all of it and it is not EX. Its words
-    // are its own.
+    // are its own. It is the quick way of `given` on the path of each entry: without it one
+    // instruction takes 400 more in tight, 280 in mixed and 250 in various.
     fn spelled(&self, state: &State) -> Option<Spelled>
         requires place { IsPlace self.now.place }
         requires words { IsEntryInTime (words_alone self.now.own self.now.target) }
@@ -483,7 +475,8 @@ impl Next {
     }
 
     // Prepares the entry, which is this instruction, as far as it goes without its index-side word.
-    // What follows knows the format of a frequent instruction, so that it is told apart once.
+    // What follows knows the format of a frequent instruction, so that it is told apart once: of
+    // what `spelled` gains, 300 in tight, 180 in mixed and 150 in various.
     fn prepare_spelled(&mut self, spelled: Spelled, x: &[u64; 16], state: &State)
         requires place { IsPlace self.old.place }
         requires format { spelled_as spelled.format spelled.first spelled.second

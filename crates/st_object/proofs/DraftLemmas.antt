@@ -15,7 +15,8 @@ use Rattle.st_card.specs.Limits.{is_tick, IsWithinLimits}
 use Rattle.st_card.proofs.LimitLemmas.{budget-kept, delays-kept, signal-kept, dump-kept, trace-kept, time-kept, chart-kept, snap-kept, back-kept}
 use Rattle.st_object.specs.Draft.{Draft, IsDraft, may_hold, draft_with_order, draft_with_value, with_item}
 use Rattle.st_object.specs.declared.items.Item.{Item}
-use Rattle.st_object.specs.declared.items.Item.TheVariants.{Object, Start, Word, Budget, Delay, Signal, Dump, Trace, Time, Chart, Snap, Back, Fin}
+use Rattle.st_card.specs.declared.written.Control.TheVariants.{Budget, Delay, Signal, Dump, Trace, Time, Chart, Snap, Back}
+use Rattle.st_object.specs.declared.items.Item.TheVariants.{Object, Start, Word, Fin, Ask}
 use Rattle.st_object.proofs.LineMeanings.{IsNarrow}
 
 -- a word above the registers leaves them zero
@@ -74,17 +75,17 @@ kept d e (Start h) same narrow draft = by_value d e (record d { start = Some h }
 kept d e (Word w x) same narrow draft =
     by_value d e (record d { words = d.words ++ replicate (w - length d.words) 0 ++ x ∷ [] }) _ (may_hold (length d.words) w x) same
     (λ placed fits. kept_word d w x draft fits narrow)
-kept d e (Budget n) same narrow draft = kept_asked d e _ keywords.Budget (n ∷ []) same (λ no. cc) (λ a. budget-kept d.asked a (n ∷ [])) draft
-kept d e (Delay n) same narrow draft = kept_asked d e _ keywords.Delays (n ∷ []) same (λ no. cc) (λ a. delays-kept d.asked a (n ∷ [])) draft
-kept d e (Signal c i) same narrow draft =
+kept d e (Ask (Budget n)) same narrow draft = kept_asked d e _ keywords.Budget (n ∷ []) same (λ no. cc) (λ a. budget-kept d.asked a (n ∷ [])) draft
+kept d e (Ask (Delay n)) same narrow draft = kept_asked d e _ keywords.Delays (n ∷ []) same (λ no. cc) (λ a. delays-kept d.asked a (n ∷ [])) draft
+kept d e (Ask (Signal c i)) same narrow draft =
     kept_asked d e _ keywords.Signals (c ∷ i ∷ []) same (λ no. cc) (λ a. signal-kept d.asked a (c ∷ i ∷ [])) draft
-kept d e (Dump f t) same narrow draft = kept_asked d e _ keywords.Dump (f ∷ t ∷ []) same (λ no. cc) (λ a. dump-kept d.asked a (f ∷ t ∷ [])) draft
-kept d e Trace same narrow draft = kept_asked d e _ keywords.Trace [] same (λ no. cc) (λ a. trace-kept d.asked a []) draft
-kept d e Time same narrow draft = kept_asked d e _ keywords.Time [] same (λ no. cc) (λ a. time-kept d.asked a []) draft
-kept d e Chart same narrow draft = kept_asked d e _ keywords.Chart [] same (λ no. cc) (λ a. chart-kept d.asked a []) draft
-kept d e (Snap t) same narrow draft =
+kept d e (Ask (Dump f t)) same narrow draft = kept_asked d e _ keywords.Dump (f ∷ t ∷ []) same (λ no. cc) (λ a. dump-kept d.asked a (f ∷ t ∷ [])) draft
+kept d e (Ask Trace) same narrow draft = kept_asked d e _ keywords.Trace [] same (λ no. cc) (λ a. trace-kept d.asked a []) draft
+kept d e (Ask Time) same narrow draft = kept_asked d e _ keywords.Time [] same (λ no. cc) (λ a. time-kept d.asked a []) draft
+kept d e (Ask Chart) same narrow draft = kept_asked d e _ keywords.Chart [] same (λ no. cc) (λ a. chart-kept d.asked a []) draft
+kept d e (Ask (Snap t)) same narrow draft =
     let tick : is_tick t ≡ true = grind (arith, nat_tests) in
     let short = AllPass-from_list_all is_tick (t ∷ []) (both_true (is_tick t) true tick refl) in
     kept_asked d e _ keywords.Snap (t ∷ []) same (λ no. cc) (λ a. snap-kept d.asked a (t ∷ []) short) draft
-kept d e (Back k) same narrow draft = kept_asked d e _ keywords.Back (k ∷ []) same (λ no. cc) (λ a. back-kept d.asked a (k ∷ [])) draft
+kept d e (Ask (Back k)) same narrow draft = kept_asked d e _ keywords.Back (k ∷ []) same (λ no. cc) (λ a. back-kept d.asked a (k ∷ [])) draft
 kept d e Fin same narrow draft = by_value d e (record d { ended = true }) _ true same (λ placed test. assumption)

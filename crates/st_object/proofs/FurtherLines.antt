@@ -9,7 +9,8 @@ use Rattle.st_object.specs.Lines.{word_lines}
 use Rattle.st_object.specs.Order.{order, row_of_kind, kinds_before, kinds_behind, kind_of_line, are_met, none_stands}
 use Rattle.st_object.specs.Draft.{Draft, is_empty, kind_lines, lines_read, has_line, has_place, draft_with_value, with_item}
 use Rattle.st_object.specs.declared.items.Item.{Item}
-use Rattle.st_object.specs.declared.items.Item.TheVariants.{Object, Start, Word, Budget, Delay, Signal, Dump, Trace, Time, Chart, Snap, Back, Fin}
+use Rattle.st_card.specs.declared.written.Control.TheVariants.{Budget, Delay, Signal, Dump, Trace, Time, Chart, Snap, Back}
+use Rattle.st_object.specs.declared.items.Item.TheVariants.{Object, Start, Word, Fin, Ask}
 use Rattle.st_object.specs.declared.items.Kind.{Kind}
 
 -- where no line of a kind was read, there is none
@@ -90,15 +91,15 @@ abbrev said : Draft → Item → Draft
 said d Object = record d { begun = true }
 said d (Start h) = record d { start = Some h }
 said d (Word w x) = record d { words = d.words ++ replicate (w - length d.words) 0 ++ x ∷ [] }
-said d (Budget n) = record d { asked = record d.asked { budget = n } }
-said d (Delay n) = record d { asked = record d.asked { delays = d.asked.delays ++ n ∷ [] } }
-said d (Signal c i) = record d { asked = record d.asked { signals = d.asked.signals ++ record { count = c; indicator = i } ∷ [] } }
-said d (Dump f t) = record d { asked = record d.asked { dumps = d.asked.dumps ++ (f, t) ∷ [] } }
-said d Trace = record d { asked = record d.asked { trace = true } }
-said d Time = record d { asked = record d.asked { time = true } }
-said d Chart = record d { asked = record d.asked { chart = true } }
-said d (Snap t) = record d { asked = record d.asked { snaps = d.asked.snaps ++ t ∷ [] } }
-said d (Back k) = record d { asked = record d.asked { back = k } }
+said d (Ask (Budget n)) = record d { asked = record d.asked { budget = n } }
+said d (Ask (Delay n)) = record d { asked = record d.asked { delays = d.asked.delays ++ n ∷ [] } }
+said d (Ask (Signal c i)) = record d { asked = record d.asked { signals = d.asked.signals ++ record { count = c; indicator = i } ∷ [] } }
+said d (Ask (Dump f t)) = record d { asked = record d.asked { dumps = d.asked.dumps ++ (f, t) ∷ [] } }
+said d (Ask Trace) = record d { asked = record d.asked { trace = true } }
+said d (Ask Time) = record d { asked = record d.asked { time = true } }
+said d (Ask Chart) = record d { asked = record d.asked { chart = true } }
+said d (Ask (Snap t)) = record d { asked = record d.asked { snaps = d.asked.snaps ++ t ∷ [] } }
+said d (Ask (Back k)) = record d { asked = record d.asked { back = k } }
 said d Fin = record d { ended = true }
 
 -- what is put in is that

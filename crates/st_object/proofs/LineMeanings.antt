@@ -4,16 +4,18 @@ use Rattle.std.specs.Option.{option_and_then}
 use Rattle.std.specs.Cmp.Lexicographic.{same_text}
 use Rattle.std.proofs.lemmas.Bool.Decides.{nat_tests}
 use Rattle.st_text.specs.Tables.{row_of}
+use Rattle.st_card.specs.Written.{IsShort}
 use Rattle.st_object.specs.Lines.{line_text}
-use Rattle.st_object.specs.Meaning.{short_number, IsShort, hex_digit_in, hex_after, line_keywords, item_behind, item_loosely, item_in}
+use Rattle.st_object.specs.Meaning.{short_number, hex_digit_in, hex_after, line_keywords, item_behind, item_loosely, item_in}
 use Rattle.st_object.specs.declared.items.Item.{Item}
-use Rattle.st_object.specs.declared.items.Item.TheVariants.{Word, Snap}
+use Rattle.st_card.specs.declared.written.Control.TheVariants.{Snap}
+use Rattle.st_object.specs.declared.items.Item.TheVariants.{Word, Ask}
 use Rattle.st_object.specs.declared.items.Kind.{Kind}
 
 -- what the rest of a program needs of an item: a word has 64 bits, and a tick 12 digits
 abbrev pub IsNarrow : Item → Type 0
 IsNarrow (Word w x) = x < 2 ^ 64
-IsNarrow (Snap t) = IsShort t
+IsNarrow (Ask (Snap t)) = IsShort t
 IsNarrow _ = Unit {0}
 
 hex_after-lt : (n : ℕ) (cs : List ℕ) → n < 2 ^ 64 → hex_after n cs < 2 ^ 64

@@ -6,11 +6,13 @@ use Rattle.std.proofs.lemmas.List.{map-append}
 use Rattle.std.proofs.lemmas.List.Elements.{filter-append}
 use Rattle.st_text.specs.Bytes.{line_end}
 use Rattle.st_text.specs.Pieces.{pieces_of}
-use Rattle.st_object.specs.Lines.{line_text, line_where, word_lines, budget_lines, back_lines, show_lines}
+use Rattle.st_card.specs.Written.{control_line, where_asked, unless_zero, shows}
+use Rattle.st_object.specs.Lines.{line_text, word_lines}
 use Rattle.st_object.specs.Draft.{draft_at_start}
 use Rattle.st_object.specs.Object.{Program, IsProgram, AreWords, object_lines, object_text, read_from, read_text}
 use Rattle.st_object.specs.declared.items.Item.{Item}
-use Rattle.st_object.specs.declared.items.Item.TheVariants.{Object, Start, Word, Budget, Delay, Signal, Dump, Trace, Time, Chart, Snap, Back, Fin}
+use Rattle.st_card.specs.declared.written.Control.TheVariants.{Budget, Delay, Signal, Dump, Trace, Time, Chart, Snap, Back}
+use Rattle.st_object.specs.declared.items.Item.TheVariants.{Object, Start, Word, Fin, Ask}
 use Rattle.st_object.proofs.AcceptedTexts.{accepted}
 use Rattle.st_object.proofs.ProgramLines.{made_again}
 use Rattle.st_object.proofs.ReadBack.{parted-text_of, read_back}
@@ -39,7 +41,7 @@ stay-both xs ys first second =
     ∙ ap (λ l. l ++ others (lines_of ys)) first ∙ ap (λ l. lines_of xs ++ l) second ∙ sym (map-append line_text xs ys)
 
 stay-words : (w : ℕ) (xs : List ℕ) → Stay (word_lines w xs)
-unfolding line_text is_delay_line
+unfolding line_text control_line is_delay_line
 stay-words w [] = refl
 stay-words w (x ∷ xs) =
     cond_both (x == 0) _ _ Stay (λ none. stay-words (w + 1) xs) (λ some. ap (λ l. line_text (Word w x) ∷ l) (stay-words (w + 1) xs))
@@ -58,8 +60,8 @@ stay-unless : (b : Bool) (item : Item) → is_delay_line (line_text item) ≡ fa
 stay-unless true item other = refl
 stay-unless false item other = rw other refl
 
-none-stays : (delays : List ℕ) → others (lines_of (map (λ n. Delay n) delays)) ≡ []
-unfolding line_text is_delay_line
+none-stays : (delays : List ℕ) → others (lines_of (map (λ n. Ask (Delay n)) delays)) ≡ []
+unfolding line_text control_line is_delay_line
 none-stays [] = refl
 none-stays (d ∷ delays) = none-stays delays
 
@@ -71,8 +73,8 @@ head p = Object ∷ Start p.start ∷ [] ++ word_lines 0 p.words
 
 -- behind the delays
 abbrev rest : Program → List Item
-rest p = map (λ s. Signal s.count s.indicator) p.controls.signals
-    ++ (map (λ q. Dump q.0 q.1) p.controls.dumps ++ (show_lines p.controls ++ Fin ∷ []))
+rest p = map (λ s. Ask (Signal s.count s.indicator)) p.controls.signals
+    ++ (map (λ q. Ask (Dump q.0 q.1)) p.controls.dumps ++ (shows Ask p.controls ++ Fin ∷ []))
 
 -- what stands between the line ends of its object text
 abbrev pieces : Program → List (List ℕ)
@@ -82,9 +84,9 @@ regrouped : (w b d g m s f : List Item) → w ++ (b ++ d ++ g ++ m) ++ s ++ f �
 regrouped w b d g m s f = simp append_assoc refl
 
 in-parts : (p : Program) → object_lines p
-    ≡ head p ++ (budget_lines p.controls.budget ++ (map (λ n. Delay n) p.controls.delays ++ rest p))
-in-parts p = regrouped (head p) (budget_lines p.controls.budget) (map (λ n. Delay n) p.controls.delays)
-    (map (λ s. Signal s.count s.indicator) p.controls.signals) (map (λ q. Dump q.0 q.1) p.controls.dumps) (show_lines p.controls) (Fin ∷ [])
+    ≡ head p ++ (unless_zero p.controls.budget (Ask (Budget p.controls.budget)) ++ (map (λ n. Ask (Delay n)) p.controls.delays ++ rest p))
+in-parts p = regrouped (head p) (unless_zero p.controls.budget (Ask (Budget p.controls.budget))) (map (λ n. Ask (Delay n)) p.controls.delays)
+    (map (λ s. Ask (Signal s.count s.indicator)) p.controls.signals) (map (λ q. Ask (Dump q.0 q.1)) p.controls.dumps) (shows Ask p.controls) (Fin ∷ [])
 
 -- lines of four parts, with an end
 four-parts : (w b d r : List Item) (end : List (List ℕ)) → lines_of (w ++ (b ++ (d ++ r))) ++ end
@@ -93,43 +95,43 @@ four-parts w b d r end =
     rw (map-append line_text w (b ++ (d ++ r)), map-append line_text b (d ++ r), map-append line_text d r) (simp append_assoc refl)
 
 pieces-parts : (p : Program) → pieces p
-    ≡ lines_of (head p) ++ (lines_of (budget_lines p.controls.budget)
-    ++ (lines_of (map (λ n. Delay n) p.controls.delays) ++ (lines_of (rest p) ++ [] ∷ [])))
+    ≡ lines_of (head p) ++ (lines_of (unless_zero p.controls.budget (Ask (Budget p.controls.budget)))
+    ++ (lines_of (map (λ n. Ask (Delay n)) p.controls.delays) ++ (lines_of (rest p) ++ [] ∷ [])))
 pieces-parts p =
     ap (λ items. lines_of items ++ [] ∷ []) (in-parts p)
-    ∙ four-parts (head p) (budget_lines p.controls.budget) (map (λ n. Delay n) p.controls.delays) (rest p) ([] ∷ [])
+    ∙ four-parts (head p) (unless_zero p.controls.budget (Ask (Budget p.controls.budget))) (map (λ n. Ask (Delay n)) p.controls.delays) (rest p) ([] ∷ [])
 
 -- ---- without delays
 
 stay-head : (p : Program) → Stay (head p)
-unfolding line_text is_delay_line
+unfolding line_text control_line is_delay_line
 stay-head p = ap (λ l. line_text Object ∷ line_text (Start p.start) ∷ l) (stay-words 0 p.words)
 
-stay-budget : (p : Program) → Stay (budget_lines p.controls.budget)
-unfolding line_text is_delay_line
-stay-budget p = stay-unless (p.controls.budget == 0) (Budget p.controls.budget) refl
+stay-budget : (p : Program) → Stay (unless_zero p.controls.budget (Ask (Budget p.controls.budget)))
+unfolding line_text control_line is_delay_line
+stay-budget p = stay-unless (p.controls.budget == 0) (Ask (Budget p.controls.budget)) refl
 
-stay-show : (p : Program) → Stay (show_lines p.controls)
-unfolding line_text is_delay_line
+stay-show : (p : Program) → Stay (shows Ask p.controls)
+unfolding line_text control_line is_delay_line
 stay-show p =
     let c = p.controls in
-    let trace = stay-if c.trace Trace refl in
-    let time = stay-both (line_where c.trace Trace) (line_where c.time Time) trace (stay-if c.time Time refl) in
-    let chart = stay-both (line_where c.trace Trace ++ line_where c.time Time) (line_where c.chart Chart) time (stay-if c.chart Chart refl) in
-    let snaps = stay-both (line_where c.trace Trace ++ line_where c.time Time ++ line_where c.chart Chart) (map (λ t. Snap t) c.snaps) chart
-    (stay-each (λ t. Snap t) (λ t. refl) c.snaps) in
-    stay-both (line_where c.trace Trace ++ line_where c.time Time ++ line_where c.chart Chart ++ map (λ t. Snap t) c.snaps) (back_lines c.back) snaps
-    (stay-unless (c.back == 0) (Back c.back) refl)
+    let trace = stay-if c.trace (Ask Trace) refl in
+    let time = stay-both (where_asked c.trace (Ask Trace)) (where_asked c.time (Ask Time)) trace (stay-if c.time (Ask Time) refl) in
+    let chart = stay-both (where_asked c.trace (Ask Trace) ++ where_asked c.time (Ask Time)) (where_asked c.chart (Ask Chart)) time (stay-if c.chart (Ask Chart) refl) in
+    let snaps = stay-both (where_asked c.trace (Ask Trace) ++ where_asked c.time (Ask Time) ++ where_asked c.chart (Ask Chart)) (map (λ t. Ask (Snap t)) c.snaps) chart
+    (stay-each (λ t. Ask (Snap t)) (λ t. refl) c.snaps) in
+    stay-both (where_asked c.trace (Ask Trace) ++ where_asked c.time (Ask Time) ++ where_asked c.chart (Ask Chart) ++ map (λ t. Ask (Snap t)) c.snaps) (unless_zero c.back (Ask (Back c.back))) snaps
+    (stay-unless (c.back == 0) (Ask (Back c.back)) refl)
 
 stay-rest : (p : Program) → Stay (rest p)
-unfolding line_text is_delay_line
+unfolding line_text control_line is_delay_line
 stay-rest p =
-    let signals = map (λ s. Signal s.count s.indicator) p.controls.signals in
-    let dumps = map (λ q. Dump q.0 q.1) p.controls.dumps in
-    let shown = show_lines p.controls ++ Fin ∷ [] in
-    stay-both signals (dumps ++ shown) (stay-each (λ s. Signal s.count s.indicator) (λ s. refl) p.controls.signals)
-    (stay-both dumps shown (stay-each (λ (q : ℕ × ℕ). Dump q.0 q.1) (λ q. refl) p.controls.dumps)
-    (stay-both (show_lines p.controls) (Fin ∷ []) (stay-show p) refl))
+    let signals = map (λ s. Ask (Signal s.count s.indicator)) p.controls.signals in
+    let dumps = map (λ q. Ask (Dump q.0 q.1)) p.controls.dumps in
+    let shown = shows Ask p.controls ++ Fin ∷ [] in
+    stay-both signals (dumps ++ shown) (stay-each (λ s. Ask (Signal s.count s.indicator)) (λ s. refl) p.controls.signals)
+    (stay-both dumps shown (stay-each (λ (q : ℕ × ℕ). Ask (Dump q.0 q.1)) (λ q. refl) p.controls.dumps)
+    (stay-both (shows Ask p.controls) (Fin ∷ []) (stay-show p) refl))
 
 -- four parts of which one goes
 three-left : (w b d r end : List (List ℕ)) → others w ≡ w → others b ≡ b → others d ≡ [] → others r ≡ r → others end ≡ end
@@ -146,10 +148,10 @@ unfolding is_delay_line
 empty-stays = refl
 
 others-parts : (p : Program) → others (pieces p)
-    ≡ lines_of (head p) ++ (lines_of (budget_lines p.controls.budget) ++ (lines_of (rest p) ++ [] ∷ []))
+    ≡ lines_of (head p) ++ (lines_of (unless_zero p.controls.budget (Ask (Budget p.controls.budget))) ++ (lines_of (rest p) ++ [] ∷ []))
 others-parts p =
     ap others (pieces-parts p)
-    ∙ three-left (lines_of (head p)) (lines_of (budget_lines p.controls.budget)) (lines_of (map (λ n. Delay n) p.controls.delays))
+    ∙ three-left (lines_of (head p)) (lines_of (unless_zero p.controls.budget (Ask (Budget p.controls.budget)))) (lines_of (map (λ n. Ask (Delay n)) p.controls.delays))
     (lines_of (rest p)) ([] ∷ []) (stay-head p) (stay-budget p) (none-stays p.controls.delays) (stay-rest p) empty-stays
 
 -- ---- with other delays
@@ -157,7 +159,7 @@ others-parts p =
 -- the words are passed
 passes-words : (delays : List ℕ) (w : ℕ) (xs : List ℕ) (more : List (List ℕ))
     → with_delay_lines delays (lines_of (word_lines w xs) ++ more) ≡ lines_of (word_lines w xs) ++ with_delay_lines delays more
-unfolding line_text is_budget_line
+unfolding line_text control_line is_budget_line
 passes-words delays w [] more = refl
 passes-words delays w (x ∷ xs) more =
     cond_both (x == 0) _ _ (λ items. with_delay_lines delays (lines_of items ++ more) ≡ lines_of items ++ with_delay_lines delays more)
@@ -165,30 +167,30 @@ passes-words delays w (x ∷ xs) more =
 
 passes-head : (delays : List ℕ) (p : Program) (more : List (List ℕ))
     → with_delay_lines delays (lines_of (head p) ++ more) ≡ lines_of (head p) ++ with_delay_lines delays more
-unfolding line_text is_budget_line
+unfolding line_text control_line is_budget_line
 passes-head delays p more = ap (λ l. line_text Object ∷ line_text (Start p.start) ∷ l) (passes-words delays 0 p.words more)
 
-spelled-each : (delays : List ℕ) → map (λ d. line_text (Delay d)) delays ≡ lines_of (map (λ n. Delay n) delays)
+spelled-each : (delays : List ℕ) → map (λ d. line_text (Ask (Delay d))) delays ≡ lines_of (map (λ n. Ask (Delay n)) delays)
 spelled-each [] = refl
-spelled-each (d ∷ delays) = ap (λ l. line_text (Delay d) ∷ l) (spelled-each delays)
+spelled-each (d ∷ delays) = ap (λ l. line_text (Ask (Delay d)) ∷ l) (spelled-each delays)
 
-one-budget : (n : ℕ) → 1 ≤ n → budget_lines n ≡ Budget n ∷ []
+one-budget : (n : ℕ) → 1 ≤ n → unless_zero n (Ask (Budget n)) ≡ Ask (Budget n) ∷ []
 one-budget n some = let is : (n == 0) ≡ false = grind (arith, nat_tests) in rw is refl
 
 -- behind the budget they come
-comes : (delays : List ℕ) (n : ℕ) (more : List (List ℕ)) → 1 ≤ n → with_delay_lines delays (lines_of (budget_lines n) ++ more)
-    ≡ lines_of (budget_lines n) ++ (lines_of (map (λ d. Delay d) delays) ++ more)
-unfolding line_text is_budget_line
+comes : (delays : List ℕ) (n : ℕ) (more : List (List ℕ)) → 1 ≤ n → with_delay_lines delays (lines_of (unless_zero n (Ask (Budget n))) ++ more)
+    ≡ lines_of (unless_zero n (Ask (Budget n))) ++ (lines_of (map (λ d. Ask (Delay d)) delays) ++ more)
+unfolding line_text control_line is_budget_line
 comes delays n more some =
     ap (λ items. with_delay_lines delays (lines_of items ++ more)) (one-budget n some)
-    ∙ ap (λ l. line_text (Budget n) ∷ (l ++ more)) (spelled-each delays)
-    ∙ sym (ap (λ items. lines_of items ++ (lines_of (map (λ d. Delay d) delays) ++ more)) (one-budget n some))
+    ∙ ap (λ l. line_text (Ask (Budget n)) ∷ (l ++ more)) (spelled-each delays)
+    ∙ sym (ap (λ items. lines_of items ++ (lines_of (map (λ d. Ask (Delay d)) delays) ++ more)) (one-budget n some))
 
 exchanged : (p : Program) (delays : List ℕ) → 1 ≤ p.controls.budget → with_delay_lines delays (others (pieces p)) ≡ pieces (with_delays p delays)
 exchanged p delays some =
     let end = lines_of (rest p) ++ [] ∷ [] in
     ap (with_delay_lines delays) (others-parts p)
-    ∙ passes-head delays p (lines_of (budget_lines p.controls.budget) ++ end)
+    ∙ passes-head delays p (lines_of (unless_zero p.controls.budget (Ask (Budget p.controls.budget))) ++ end)
     ∙ ap (λ l. lines_of (head p) ++ l) (comes delays p.controls.budget end some)
     ∙ sym (pieces-parts (with_delays p delays))
 

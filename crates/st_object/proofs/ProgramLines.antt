@@ -10,13 +10,15 @@ use Rattle.st_card.specs.Controls.{Asked, nothing_asked}
 use Rattle.st_card.specs.Limits.{AreDelays, AreSignals, AreDumps, AreSnaps}
 use Rattle.st_card.specs.declared.control_cards.Signal.{Signal as GivenSignal}
 use Rattle.st_card.proofs.OrderLemmas.{budget-asked, delay-asked, signal-asked, dump-asked, snap-asked, back-asked, delay-short, signal-short, dump-short, snap-short}
-use Rattle.st_object.specs.Lines.{line_where, word_lines}
+use Rattle.st_card.specs.Written.{where_asked}
+use Rattle.st_object.specs.Lines.{word_lines}
 use Rattle.st_object.specs.Order.{order, row_of_kind}
 use Rattle.st_object.specs.Draft.{Draft, draft_at_start, is_empty, kind_lines, is_whole, has_place, may_hold, draft_with_value, with_item}
 use Rattle.st_object.specs.Meaning.{IsItem}
 use Rattle.st_object.specs.Object.{Program, IsProgram, AreWords, object_lines, filled_up, program_of}
 use Rattle.st_object.specs.declared.items.Item.{Item}
-use Rattle.st_object.specs.declared.items.Item.TheVariants.{Object, Start, Word, Budget, Delay, Signal, Dump, Trace, Time, Chart, Snap, Back, Fin}
+use Rattle.st_card.specs.declared.written.Control.TheVariants.{Budget, Delay, Signal, Dump, Trace, Time, Chart, Snap, Back}
+use Rattle.st_object.specs.declared.items.Item.TheVariants.{Object, Start, Word, Fin, Ask}
 use Rattle.st_object.specs.declared.items.Kind.{Kind}
 use Rattle.st_object.specs.declared.items.Kind.TheVariants as kinds
 use Rattle.st_object.proofs.WrittenLines.{draft_of, whole_lines}
@@ -49,7 +51,7 @@ leads_each at line Fits step done (x ∷ rest) fits =
 
 -- a line that stands there where it is asked for
 leads_marked : (at : Bool → Draft) (item : Item) → IsStep (at false) item (at true) → (b : Bool) →
-    Leads (at false) (line_where b item) (at b)
+    Leads (at false) (where_asked b item) (at b)
 leads_marked at item step false = refl
 leads_marked at item step true = one (at false) (at true) item step
 
@@ -151,35 +153,35 @@ module _ (p : Program) (ws : List ℕ) where
     add_kind kinds.Word = words
     add_kind kinds.Budget =
         let n : ℕ = p.controls.budget in
-        rw budget (one (draft_before 3) (draft_before 4) (Budget n)
+        rw budget (one (draft_before 3) (draft_before 4) (Ask (Budget n))
         (rw (budget-asked (asked_before 3) n refl is.budget is.limits.budget), omega (arith, is.limits.budget)))
     add_kind kinds.Delay =
         let asked = λ (done : List ℕ). record (asked_before 4) { delays = done } in
-        leads_each (λ done. record (draft_before 4) { asked = asked done }) (λ n. Delay n) (λ xs. AreDelays xs)
+        leads_each (λ done. record (draft_before 4) { asked = asked done }) (λ n. Ask (Delay n)) (λ xs. AreDelays xs)
         (λ done rest n fits. (rw (budget, delay-asked (asked done) n rest fits), delay-short done rest n fits)) [] p.controls.delays is.limits.delays
     add_kind kinds.Signal =
         let asked = λ (done : List GivenSignal). record (asked_before 5) { signals = done } in
-        leads_each (λ done. record (draft_before 5) { asked = asked done }) (λ s. Signal s.count s.indicator) (λ xs. AreSignals xs)
+        leads_each (λ done. record (draft_before 5) { asked = asked done }) (λ s. Ask (Signal s.count s.indicator)) (λ xs. AreSignals xs)
         (λ done rest s fit. (rw (budget, delays, signal-asked (asked done) s rest fit), signal-short done rest s fit)) [] p.controls.signals is.limits.signals
     add_kind kinds.Dump =
         let asked = λ (done : List (ℕ × ℕ)). record (asked_before 6) { dumps = done } in
-        leads_each (λ done. record (draft_before 6) { asked = asked done }) (λ d. Dump d.0 d.1) (λ xs. AreDumps xs)
+        leads_each (λ done. record (draft_before 6) { asked = asked done }) (λ d. Ask (Dump d.0 d.1)) (λ xs. AreDumps xs)
         (λ done rest d fits. (rw (budget, delays, dump-asked (asked done) d rest fits), dump-short done rest d fits)) [] p.controls.dumps is.limits.dumps
     add_kind kinds.Trace =
-        leads_marked (λ b. record (draft_before 7) { asked = record (asked_before 7) { trace = b } }) Trace (rw (budget, delays), tt) p.controls.trace
+        leads_marked (λ b. record (draft_before 7) { asked = record (asked_before 7) { trace = b } }) (Ask Trace) (rw (budget, delays), tt) p.controls.trace
     add_kind kinds.Time =
-        leads_marked (λ b. record (draft_before 8) { asked = record (asked_before 8) { time = b } }) Time (rw (budget, delays), tt) p.controls.time
+        leads_marked (λ b. record (draft_before 8) { asked = record (asked_before 8) { time = b } }) (Ask Time) (rw (budget, delays), tt) p.controls.time
     add_kind kinds.Chart =
-        leads_marked (λ b. record (draft_before 9) { asked = record (asked_before 9) { chart = b } }) Chart (rw (budget, delays), tt) p.controls.chart
+        leads_marked (λ b. record (draft_before 9) { asked = record (asked_before 9) { chart = b } }) (Ask Chart) (rw (budget, delays), tt) p.controls.chart
     add_kind kinds.Snap =
         let asked = λ (done : List ℕ). record (asked_before 10) { snaps = done } in
-        leads_each (λ done. record (draft_before 10) { asked = asked done }) (λ t. Snap t) (λ xs. AreSnaps xs)
+        leads_each (λ done. record (draft_before 10) { asked = asked done }) (λ t. Ask (Snap t)) (λ xs. AreSnaps xs)
         (λ done rest t fits. (rw (budget, delays, snap-asked (asked done) t rest fits), snap-short done rest t fits)) [] p.controls.snaps is.limits.snaps
     add_kind kinds.Back =
         let k : ℕ = p.controls.back in
-        cond_both (k == 0) [] (Back k ∷ []) (λ items. Leads (draft_before 11) items (draft_before 12))
+        cond_both (k == 0) [] (Ask (Back k) ∷ []) (λ items. Leads (draft_before 11) items (draft_before 12))
         (λ none. ap (λ n. record (draft_before 11) { asked = record (asked_before 11) { back = n } }) (sym (same_number k 0 none)))
-        (λ some. one (draft_before 11) (draft_before 12) (Back k)
+        (λ some. one (draft_before 11) (draft_before 12) (Ask (Back k))
         (rw (budget, delays, back-asked (asked_before 11) k refl (at_least k some) is.limits.back), omega (arith, is.limits.back)))
     add_kind kinds.Fin = one (draft_before 12) (draft_before 13) Fin (rw (budget, delays), tt)
 

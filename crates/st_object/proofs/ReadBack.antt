@@ -2,9 +2,10 @@
 use Rattle.std.proofs.Common.{◌≡◌, ◌+◌, ◌==◌, ℕ, true, not, List, [], ◌∷◌, ◌++◌, map, decimal, Some, Ok, refl, ap, append_assoc, arith}
 use Rattle.std.proofs.lemmas.Grind.{common_steps}
 use Rattle.st_text.specs.Pieces.{pieces_of, lacks}
+use Rattle.st_card.specs.Written.{IsShort, control_line}
 use Rattle.st_object.specs.Lines.{line_text, object_text_of}
 use Rattle.st_object.specs.Draft.{Draft, draft_at_start, with_item, is_whole}
-use Rattle.st_object.specs.Meaning.{IsShort, IsItem}
+use Rattle.st_object.specs.Meaning.{IsItem}
 use Rattle.st_object.specs.Object.{Program, IsProgram, AreWords, object_lines, object_text, program_of, draft_with_line, read_from, read_text}
 use Rattle.st_object.specs.declared.items.Item.{Item}
 use Rattle.st_object.proofs.Spellings.{short_small, lacks-decimal, lacks-hex, spelled_again}
@@ -20,7 +21,7 @@ lacks_behind n c back short other lacking = grind (arith, common_steps, lacks_nu
 
 -- no line end stands in a line
 lacks-spelled : (item : Item) → IsItem item → lacks 10 (line_text item) ≡ true
-unfolding line_text
+unfolding line_text control_line
 lacks-spelled item short = grind (arith, lacks_number, lacks_behind, lacks-hex)
 
 -- the first line of a text

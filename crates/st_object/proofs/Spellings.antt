@@ -13,8 +13,9 @@ use Rattle.st_text.specs.Numerals.{hex_digit, hex_text, hex_word, half_address}
 use Rattle.st_text.specs.Number.{digits_value, value_after}
 use Rattle.st_text.specs.Pieces.{lacks}
 use Rattle.st_text.specs.Tables.{is_same}
+use Rattle.st_card.specs.Written.{IsShort, control_line}
 use Rattle.st_object.specs.Lines.{line_text}
-use Rattle.st_object.specs.Meaning.{parts_at, short_number, two_numbers, IsShort, IsItem, hex_digit_in, hex_after, word_in, item_behind, item_loosely, item_in}
+use Rattle.st_object.specs.Meaning.{parts_at, short_number, two_numbers, IsItem, hex_digit_in, hex_after, word_in, item_behind, item_loosely, item_in}
 use Rattle.st_object.specs.declared.items.Item.{Item}
 use Rattle.st_object.specs.declared.items.Item.TheVariants.{Start, Word}
 use Rattle.st_object.specs.declared.items.Kind.TheVariants as kinds
@@ -90,7 +91,7 @@ start_again h short =
 
 -- what a line means, where it is spelled so
 loosely_again : (item : Item) → IsItem item → item_loosely (parts_at 32 (line_text item)) (line_text item) ≡ Some item
-unfolding line_text
+unfolding line_text control_line
 loosely_again item short = grind (arith, short_number-decimal, both_numbers, word_again, start_again)
 
 -- each line is read as the item that it spells

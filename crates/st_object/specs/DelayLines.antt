@@ -5,7 +5,8 @@ use Rattle.st_text.specs.Pieces.{pieces_of}
 use Rattle.st_text.specs.Tables.{is_same}
 use Rattle.st_card.specs.Limits.{AreDelays}
 use Rattle.st_object.specs.Lines.{line_text}
-use Rattle.st_object.specs.declared.items.Item.TheVariants.{Delay}
+use Rattle.st_card.specs.declared.written.Control.TheVariants.{Delay}
+use Rattle.st_object.specs.declared.items.Item.TheVariants.{Ask}
 
 -- whether a line of an object text is that of a delay
 unfoldable pub is_delay_line : List ℕ → Bool
@@ -23,7 +24,7 @@ other_lines text = filter (λ line. not (is_delay_line line)) (pieces_of line_en
 abbrev pub with_delay_lines : List ℕ → List (List ℕ) → List (List ℕ)
 with_delay_lines delays [] = []
 with_delay_lines delays (line ∷ lines) =
-    if is_budget_line line then line ∷ map (λ d. line_text (Delay d)) delays ++ lines else line
+    if is_budget_line line then line ∷ map (λ d. line_text (Ask (Delay d))) delays ++ lines else line
     ∷ with_delay_lines delays lines
 
 -- two object texts have the same lines, in the same order, once the lines of delays are taken out

@@ -8,10 +8,12 @@ use Rattle.st_card.specs.Controls.{Asked, nothing_asked, with_keyword}
 use Rattle.st_card.specs.Limits.{IsWithinLimits}
 use Rattle.st_card.specs.declared.keywords.Keyword.{Keyword}
 use Rattle.st_card.specs.declared.keywords.Keyword.TheVariants as keywords
-use Rattle.st_object.specs.Lines.{line_where, word_lines, budget_lines, back_lines}
+use Rattle.st_card.specs.Written.{where_asked, unless_zero}
+use Rattle.st_object.specs.Lines.{word_lines}
 use Rattle.st_object.specs.Order.{kind_of_line, order, are_met, may_follow}
 use Rattle.st_object.specs.declared.items.Item.{Item}
-use Rattle.st_object.specs.declared.items.Item.TheVariants.{Object, Start, Word, Budget, Delay, Signal, Dump, Trace, Time, Chart, Snap, Back, Fin}
+use Rattle.st_card.specs.declared.written.Control.TheVariants.{Budget, Delay, Signal, Dump, Trace, Time, Chart, Snap, Back}
+use Rattle.st_object.specs.declared.items.Item.TheVariants.{Object, Start, Word, Fin, Ask}
 use Rattle.st_object.specs.declared.items.Kind.{Kind}
 use Rattle.st_object.specs.declared.items.Kind.TheVariants as kinds
 
@@ -45,19 +47,19 @@ start_lines (Some h) = Start h ∷ []
 
 -- the lines of a kind that were read
 abbrev pub kind_lines : Draft → Kind → List Item
-kind_lines d kinds.Object = line_where d.begun Object
+kind_lines d kinds.Object = where_asked d.begun Object
 kind_lines d kinds.Start = start_lines d.start
 kind_lines d kinds.Word = word_lines 0 d.words
-kind_lines d kinds.Budget = budget_lines d.asked.budget
-kind_lines d kinds.Delay = map (λ n. Delay n) d.asked.delays
-kind_lines d kinds.Signal = map (λ s. Signal s.count s.indicator) d.asked.signals
-kind_lines d kinds.Dump = map (λ p. Dump p.0 p.1) d.asked.dumps
-kind_lines d kinds.Trace = line_where d.asked.trace Trace
-kind_lines d kinds.Time = line_where d.asked.time Time
-kind_lines d kinds.Chart = line_where d.asked.chart Chart
-kind_lines d kinds.Snap = map (λ t. Snap t) d.asked.snaps
-kind_lines d kinds.Back = back_lines d.asked.back
-kind_lines d kinds.Fin = line_where d.ended Fin
+kind_lines d kinds.Budget = unless_zero d.asked.budget (Ask (Budget d.asked.budget))
+kind_lines d kinds.Delay = map (λ n. Ask (Delay n)) d.asked.delays
+kind_lines d kinds.Signal = map (λ s. Ask (Signal s.count s.indicator)) d.asked.signals
+kind_lines d kinds.Dump = map (λ p. Ask (Dump p.0 p.1)) d.asked.dumps
+kind_lines d kinds.Trace = where_asked d.asked.trace (Ask Trace)
+kind_lines d kinds.Time = where_asked d.asked.time (Ask Time)
+kind_lines d kinds.Chart = where_asked d.asked.chart (Ask Chart)
+kind_lines d kinds.Snap = map (λ t. Ask (Snap t)) d.asked.snaps
+kind_lines d kinds.Back = unless_zero d.asked.back (Ask (Back d.asked.back))
+kind_lines d kinds.Fin = where_asked d.ended Fin
 
 -- all lines that were read, in their order
 abbrev pub lines_read : Draft → List Item
@@ -112,15 +114,15 @@ unfoldable pub draft_with_value : Draft → Item → Option Draft
 draft_with_value d Object = Some (record d { begun = true })
 draft_with_value d (Start h) = with_start d h
 draft_with_value d (Word w x) = draft_with_word d w x
-draft_with_value d (Budget n) = draft_with_order d keywords.Budget (n ∷ [])
-draft_with_value d (Delay n) = draft_with_order d keywords.Delays (n ∷ [])
-draft_with_value d (Signal c i) = draft_with_order d keywords.Signals (c ∷ i ∷ [])
-draft_with_value d (Dump f t) = draft_with_order d keywords.Dump (f ∷ t ∷ [])
-draft_with_value d Trace = draft_with_order d keywords.Trace []
-draft_with_value d Time = draft_with_order d keywords.Time []
-draft_with_value d Chart = draft_with_order d keywords.Chart []
-draft_with_value d (Snap t) = draft_with_order d keywords.Snap (t ∷ [])
-draft_with_value d (Back k) = draft_with_order d keywords.Back (k ∷ [])
+draft_with_value d (Ask (Budget n)) = draft_with_order d keywords.Budget (n ∷ [])
+draft_with_value d (Ask (Delay n)) = draft_with_order d keywords.Delays (n ∷ [])
+draft_with_value d (Ask (Signal c i)) = draft_with_order d keywords.Signals (c ∷ i ∷ [])
+draft_with_value d (Ask (Dump f t)) = draft_with_order d keywords.Dump (f ∷ t ∷ [])
+draft_with_value d (Ask Trace) = draft_with_order d keywords.Trace []
+draft_with_value d (Ask Time) = draft_with_order d keywords.Time []
+draft_with_value d (Ask Chart) = draft_with_order d keywords.Chart []
+draft_with_value d (Ask (Snap t)) = draft_with_order d keywords.Snap (t ∷ [])
+draft_with_value d (Ask (Back k)) = draft_with_order d keywords.Back (k ∷ [])
 draft_with_value d Fin = Some (record d { ended = true })
 
 -- the draft with a further line, where that line may follow

@@ -1,13 +1,15 @@
 -- What a line of an object text means.
-use Rattle.std.specs.Prelude.{ℕ, ◌≤◌, ◌<◌, ◌+◌, ◌*◌, ◌/◌, ◌%◌, ◌^◌, ◌==◌, nat_lt, List, [], ◌∷◌, codes, Option, Some, None, if◌then◌else◌}
+use Rattle.std.specs.Prelude.{ℕ, ◌<◌, ◌+◌, ◌*◌, ◌/◌, ◌%◌, ◌^◌, ◌==◌, nat_lt, List, [], ◌∷◌, codes, Option, Some, None, if◌then◌else◌}
 use Rattle.std.specs.Option.{option_map, option_and_then}
+use Rattle.st_card.specs.Written.{IsShort, IsShortControl}
 use Rattle.st_card.specs.declared.limits.TheConstants.{MOST_NUMBER}
 use Rattle.st_text.specs.Bytes.{blank, period, letter_a}
 use Rattle.st_text.specs.Number.{number_up_to}
 use Rattle.st_text.specs.Tables.{is_same, row_of}
 use Rattle.st_object.specs.Lines.{line_text}
 use Rattle.st_object.specs.declared.items.Item.{Item}
-use Rattle.st_object.specs.declared.items.Item.TheVariants.{Object, Start, Word, Budget, Delay, Signal, Dump, Trace, Time, Chart, Snap, Back, Fin}
+use Rattle.st_card.specs.declared.written.Control.TheVariants.{Budget, Delay, Signal, Dump, Trace, Time, Chart, Snap, Back}
+use Rattle.st_object.specs.declared.items.Item.TheVariants.{Object, Start, Word, Fin, Ask}
 use Rattle.st_object.specs.declared.items.Kind.{Kind}
 use Rattle.st_object.specs.declared.items.Kind.TheVariants as kinds
 
@@ -62,15 +64,15 @@ item_behind kinds.Object text = Some Object
 item_behind kinds.Start text = option_map (λ p. Start (2 * p.0 + p.1 / 32))
     (two_numbers period text)
 item_behind kinds.Word text = word_in text
-item_behind kinds.Budget text = option_map (λ n. Budget n) (short_number text)
-item_behind kinds.Delay text = option_map (λ n. Delay n) (short_number text)
-item_behind kinds.Signal text = option_map (λ p. Signal p.0 p.1) (two_numbers blank text)
-item_behind kinds.Dump text = option_map (λ p. Dump p.0 p.1) (two_numbers blank text)
-item_behind kinds.Trace text = Some Trace
-item_behind kinds.Time text = Some Time
-item_behind kinds.Chart text = Some Chart
-item_behind kinds.Snap text = option_map (λ n. Snap n) (short_number text)
-item_behind kinds.Back text = option_map (λ n. Back n) (short_number text)
+item_behind kinds.Budget text = option_map (λ n. Ask (Budget n)) (short_number text)
+item_behind kinds.Delay text = option_map (λ n. Ask (Delay n)) (short_number text)
+item_behind kinds.Signal text = option_map (λ p. Ask (Signal p.0 p.1)) (two_numbers blank text)
+item_behind kinds.Dump text = option_map (λ p. Ask (Dump p.0 p.1)) (two_numbers blank text)
+item_behind kinds.Trace text = Some (Ask Trace)
+item_behind kinds.Time text = Some (Ask Time)
+item_behind kinds.Chart text = Some (Ask Chart)
+item_behind kinds.Snap text = option_map (λ n. Ask (Snap n)) (short_number text)
+item_behind kinds.Back text = option_map (λ n. Ask (Back n)) (short_number text)
 item_behind kinds.Fin text = Some Fin
 
 -- what a first word says with what stands behind it
@@ -92,22 +94,10 @@ abbrev pub item_in : List ℕ → Option Item
 item_in line = option_and_then (λ item. if_spelled line item)
     (item_loosely (parts_at blank line) line)
 
--- numbers that can be read: of 12 digits at most
-abbrev pub IsShort : ℕ → Type 0
-IsShort n = n ≤ 999999999999
-
 -- items that can be read
 abbrev pub IsItem : Item → Type 0
 IsItem Object = Unit {0}
 IsItem (Start h) = IsShort (h / 2)
 IsItem (Word w x) = IsShort w × (x < 2 ^ 64)
-IsItem (Budget n) = IsShort n
-IsItem (Delay n) = IsShort n
-IsItem (Signal c i) = IsShort c × IsShort i
-IsItem (Dump f t) = IsShort f × IsShort t
-IsItem Trace = Unit {0}
-IsItem Time = Unit {0}
-IsItem Chart = Unit {0}
-IsItem (Snap t) = IsShort t
-IsItem (Back k) = IsShort k
+IsItem (Ask asked) = IsShortControl asked
 IsItem Fin = Unit {0}

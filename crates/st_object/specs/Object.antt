@@ -8,11 +8,12 @@ use Rattle.st_bits.specs.Storage.{words_of_storage}
 use Rattle.st_card.specs.Controls.{Asked}
 use Rattle.st_card.specs.Limits.{IsWithinLimits}
 use Rattle.st_text.specs.Pieces.{pieces_of}
-use Rattle.st_object.specs.Lines.{object_text_of, word_lines, order_lines, show_lines}
+use Rattle.st_card.specs.Written.{orders, shows}
+use Rattle.st_object.specs.Lines.{object_text_of, word_lines}
 use Rattle.st_object.specs.Draft.{Draft, draft_at_start, is_empty, is_whole, with_item}
 use Rattle.st_object.specs.Meaning.{item_in}
 use Rattle.st_object.specs.declared.items.Item.{Item}
-use Rattle.st_object.specs.declared.items.Item.TheVariants.{Object, Start, Fin}
+use Rattle.st_object.specs.declared.items.Item.TheVariants.{Object, Start, Fin, Ask}
 
 -- the words of storage, where the program starts, and what is asked for
 pub record Program : Type 0 where
@@ -37,8 +38,8 @@ AreWords words = All (λ x. x < 2 ^ 64) words
 -- the lines of a program
 abbrev pub object_lines : Program → List Item
 object_lines p =
-    Object ∷ Start p.start ∷ [] ++ word_lines 0 p.words ++ order_lines p.controls
-    ++ show_lines p.controls ++ Fin ∷ []
+    Object ∷ Start p.start ∷ [] ++ word_lines 0 p.words ++ orders Ask p.controls
+    ++ shows Ask p.controls ++ Fin ∷ []
 
 -- the object text of a program
 abbrev pub object_text : Program → List ℕ

@@ -2,7 +2,8 @@
 use Rattle.std.specs.Prelude.{◌+◌, ◌&&◌, ◌||◌, Bool, true, false, not, List, [], ◌∷◌, take, drop}
 use Rattle.std.specs.List.{list_all}
 use Rattle.st_object.specs.declared.items.Item.{Item}
-use Rattle.st_object.specs.declared.items.Item.TheVariants.{Object, Start, Word, Budget, Delay, Signal, Dump, Trace, Time, Chart, Snap, Back, Fin}
+use Rattle.st_card.specs.declared.written.Control.TheVariants.{Budget, Delay, Signal, Dump, Trace, Time, Chart, Snap, Back}
+use Rattle.st_object.specs.declared.items.Item.TheVariants.{Object, Start, Word, Fin, Ask}
 use Rattle.st_object.specs.declared.items.Kind.{Kind}
 use Rattle.st_object.specs.declared.items.Kind.TheVariants as kinds
 use Rattle.st_object.specs.declared.order.KindRow.{KindRow}
@@ -12,15 +13,15 @@ abbrev pub kind_of_line : Item → Kind
 kind_of_line Object = kinds.Object
 kind_of_line (Start h) = kinds.Start
 kind_of_line (Word w x) = kinds.Word
-kind_of_line (Budget n) = kinds.Budget
-kind_of_line (Delay d) = kinds.Delay
-kind_of_line (Signal c i) = kinds.Signal
-kind_of_line (Dump f t) = kinds.Dump
-kind_of_line Trace = kinds.Trace
-kind_of_line Time = kinds.Time
-kind_of_line Chart = kinds.Chart
-kind_of_line (Snap t) = kinds.Snap
-kind_of_line (Back k) = kinds.Back
+kind_of_line (Ask (Budget n)) = kinds.Budget
+kind_of_line (Ask (Delay d)) = kinds.Delay
+kind_of_line (Ask (Signal c i)) = kinds.Signal
+kind_of_line (Ask (Dump f t)) = kinds.Dump
+kind_of_line (Ask Trace) = kinds.Trace
+kind_of_line (Ask Time) = kinds.Time
+kind_of_line (Ask Chart) = kinds.Chart
+kind_of_line (Ask (Snap t)) = kinds.Snap
+kind_of_line (Ask (Back k)) = kinds.Back
 kind_of_line Fin = kinds.Fin
 
 -- the kinds of lines in their order

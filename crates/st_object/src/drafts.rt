@@ -9,7 +9,7 @@ use crate::items::{Item, Kind};
 use crate::order::{KindRow, ORDER, kind_of, row};
 use st_bits::WORDS;
 use st_bits::register::FIRST_STORAGE_WORD;
-use st_card::{Addition, Controls, Keyword};
+use st_card::{Addition, Control, Controls, Keyword};
 use std::alloc::{AllocError, Global};
 use std::marker::Model;
 
@@ -153,15 +153,18 @@ impl Draft {
             Item::Object => self.put_object(),
             Item::Start(half) => self.put_start(half),
             Item::Word(address, word) => self.put_word(address, word),
-            Item::Budget(n) => self.ask(Keyword::Budget, &[n]),
-            Item::Delay(ticks) => self.ask(Keyword::Delays, &[ticks]),
-            Item::Signal(count, indicator) => self.ask(Keyword::Signals, &[count, indicator]),
-            Item::Dump(first, last) => self.ask(Keyword::Dump, &[first, last]),
-            Item::Trace => self.ask(Keyword::Trace, &[]),
-            Item::Time => self.ask(Keyword::Time, &[]),
-            Item::Chart => self.ask(Keyword::Chart, &[]),
-            Item::Snap(tick) => self.ask(Keyword::Snap, &[tick]),
-            Item::Back(k) => self.ask(Keyword::Back, &[k]),
+            Item::Ask(Control::Budget(n)) => self.ask(Keyword::Budget, &[n]),
+            Item::Ask(Control::Delay(ticks)) => self.ask(Keyword::Delays, &[ticks]),
+            Item::Ask(Control::Signal(count, indicator)) => self.ask(
+                Keyword::Signals,
+                &[count, indicator],
+            ),
+            Item::Ask(Control::Dump(first, last)) => self.ask(Keyword::Dump, &[first, last]),
+            Item::Ask(Control::Trace) => self.ask(Keyword::Trace, &[]),
+            Item::Ask(Control::Time) => self.ask(Keyword::Time, &[]),
+            Item::Ask(Control::Chart) => self.ask(Keyword::Chart, &[]),
+            Item::Ask(Control::Snap(tick)) => self.ask(Keyword::Snap, &[tick]),
+            Item::Ask(Control::Back(k)) => self.ask(Keyword::Back, &[k]),
             Item::Fin => self.put_fin(),
         }
     }

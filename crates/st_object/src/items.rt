@@ -1,20 +1,14 @@
 //! What the lines of an object text say.
 
+use st_card::Control;
+
 // What a line says.
 #[derive(Clone, Copy)]
 pub(crate) enum Item {
     Object,
     Start(u64),
     Word(u64, u64),
-    Budget(u64),
-    Delay(u64),
-    Signal(u64, u64),
-    Dump(u64, u64),
-    Trace,
-    Time,
-    Chart,
-    Snap(u64),
-    Back(u64),
+    Ask(Control),
     Fin,
 }
 

@@ -8,6 +8,7 @@ ghost use Rattle.st_object.specs.declared.items.Kind.TheVariants as kinds;
 
 use crate::items::{Item, Kind};
 use crate::spelling::spelled;
+use st_card::Control;
 use st_card::limits::MOST_NUMBER;
 use st_text::{cut, number_up_to, row_of};
 
@@ -93,14 +94,14 @@ fn signal_in(text: &[u8]) -> Option<Item>
     ensures { result ≡ spec.item_behind kinds.Signal text.now }
 {
     let (count, indicator) = two_numbers(b' ', text)?;
-    Some(Item::Signal(count, indicator))
+    Some(Item::Ask(Control::Signal(count, indicator)))
 }
 
 fn dump_in(text: &[u8]) -> Option<Item>
     ensures { result ≡ spec.item_behind kinds.Dump text.now }
 {
     let (first, last) = two_numbers(b' ', text)?;
-    Some(Item::Dump(first, last))
+    Some(Item::Ask(Control::Dump(first, last)))
 }
 
 // What stands behind a first word.
@@ -111,15 +112,15 @@ fn item_behind(kind: Kind, text: &[u8]) -> Option<Item>
         Kind::Object => Some(Item::Object),
         Kind::Start => start_in(text),
         Kind::Word => word_in(text),
-        Kind::Budget => Some(Item::Budget(short_number(text)?)),
-        Kind::Delay => Some(Item::Delay(short_number(text)?)),
+        Kind::Budget => Some(Item::Ask(Control::Budget(short_number(text)?))),
+        Kind::Delay => Some(Item::Ask(Control::Delay(short_number(text)?))),
         Kind::Signal => signal_in(text),
         Kind::Dump => dump_in(text),
-        Kind::Trace => Some(Item::Trace),
-        Kind::Time => Some(Item::Time),
-        Kind::Chart => Some(Item::Chart),
-        Kind::Snap => Some(Item::Snap(short_number(text)?)),
-        Kind::Back => Some(Item::Back(short_number(text)?)),
+        Kind::Trace => Some(Item::Ask(Control::Trace)),
+        Kind::Time => Some(Item::Ask(Control::Time)),
+        Kind::Chart => Some(Item::Ask(Control::Chart)),
+        Kind::Snap => Some(Item::Ask(Control::Snap(short_number(text)?))),
+        Kind::Back => Some(Item::Ask(Control::Back(short_number(text)?))),
         Kind::Fin => Some(Item::Fin),
     }
 }

@@ -4,6 +4,7 @@ ghost use Rattle.std.specs.Prelude.{◌≡◌, ◌<◌};
 ghost use Rattle.st_object.specs.Order as spec;
 
 use crate::items::{Item, Kind};
+use st_card::Control;
 
 // The kinds of lines in their order.
 pub(crate) const ORDER: [Kind; 13] = [
@@ -74,15 +75,15 @@ pub(crate) fn kind_of(item: Item) -> Kind
         Item::Object => Kind::Object,
         Item::Start(_) => Kind::Start,
         Item::Word(_, _) => Kind::Word,
-        Item::Budget(_) => Kind::Budget,
-        Item::Delay(_) => Kind::Delay,
-        Item::Signal(_, _) => Kind::Signal,
-        Item::Dump(_, _) => Kind::Dump,
-        Item::Trace => Kind::Trace,
-        Item::Time => Kind::Time,
-        Item::Chart => Kind::Chart,
-        Item::Snap(_) => Kind::Snap,
-        Item::Back(_) => Kind::Back,
+        Item::Ask(Control::Budget(_)) => Kind::Budget,
+        Item::Ask(Control::Delay(_)) => Kind::Delay,
+        Item::Ask(Control::Signal(_, _)) => Kind::Signal,
+        Item::Ask(Control::Dump(_, _)) => Kind::Dump,
+        Item::Ask(Control::Trace) => Kind::Trace,
+        Item::Ask(Control::Time) => Kind::Time,
+        Item::Ask(Control::Chart) => Kind::Chart,
+        Item::Ask(Control::Snap(_)) => Kind::Snap,
+        Item::Ask(Control::Back(_)) => Kind::Back,
         Item::Fin => Kind::Fin,
     }
 }

@@ -1,32 +1,21 @@
 //! How the lines of an object text are spelled.
 
-ghost use Rattle.std.specs.Prelude.{◌≡◌, ◌≤◌, ◌++◌, length, codes, decimal};
-ghost use Rattle.st_text.specs.Numerals.{hex_word};
+ghost use Rattle.std.specs.Prelude.{◌≡◌, ◌++◌, codes, decimal};
+ghost use Rattle.st_text.specs.Numerals.{hex_word, half_address};
 ghost use Rattle.st_object.specs.Lines as spec;
 
 use crate::items::Item;
+use st_card::{Form, control_line};
 use st_text::{Line, begun, push_decimal, push_hex};
 
-// A word and a number.
-fn with_number(word: &str, n: u64) -> Line
-    requires { length word.now ≤ 8 }
-    ensures { result.bytes ≡ word.now ++ decimal n }
+// Where the program starts.
+fn start_line(half: u64) -> Line
+    ensures { result.bytes ≡ codes "START " ++ half_address half }
 {
-    let mut line = begun(word);
-    push_decimal(&mut line, n);
-    line
-}
-
-// A word and two numbers with a text between them.
-fn with_numbers(word: &str, a: u64, between: &str, b: u64) -> Line
-    requires word { length word.now ≤ 8 }
-    requires between { length between.now ≤ 8 }
-    ensures { result.bytes ≡ word.now ++ (decimal a ++ (between.now ++ decimal b)) }
-{
-    let mut line = begun(word);
-    push_decimal(&mut line, a);
-    line.push_str(between);
-    push_decimal(&mut line, b);
+    let mut line = begun("START ");
+    push_decimal(&mut line, half / 2);
+    line.push_str(".");
+    push_decimal(&mut line, 32 * (half % 2));
     line
 }
 
@@ -48,17 +37,9 @@ pub(crate) fn spelled(item: Item) -> Line
 {
     match item {
         Item::Object => begun("OBJECT"),
-        Item::Start(h) => with_numbers("START ", h / 2, ".", 32 * (h % 2)),
+        Item::Start(half) => start_line(half),
         Item::Word(w, word) => word_line(w, word),
-        Item::Budget(n) => with_number("BUDGET ", n),
-        Item::Delay(d) => with_number("DELAY ", d),
-        Item::Signal(count, indicator) => with_numbers("SIGNAL ", count, " ", indicator),
-        Item::Dump(first, last) => with_numbers("DUMP ", first, " ", last),
-        Item::Trace => begun("TRACE"),
-        Item::Time => begun("TIME"),
-        Item::Chart => begun("CHART"),
-        Item::Snap(tick) => with_number("SNAP ", tick),
-        Item::Back(k) => with_number("BACK ", k),
+        Item::Ask(control) => control_line(Form::ObjectLine, control),
         Item::Fin => begun("FIN"),
     }
 }

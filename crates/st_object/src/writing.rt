@@ -1,6 +1,7 @@
 //! Writing an object text.
 
-ghost use Rattle.std.specs.Prelude.{◌≡◌, ◌++◌, [], ◌∷◌, OnOk, IfOk, Ok, map};
+ghost use Rattle.std.specs.Prelude.{◌≡◌, ◌++◌, [], ◌∷◌, OnOk, IfOk, Ok};
+ghost use Rattle.st_card.specs.Written.{unless_zero};
 ghost use Rattle.st_object.specs.Lines as lines;
 ghost use Rattle.st_object.specs.Object.{Program, object_text, read_text, IsProgram, AreWords};
 ghost use Rattle.st_object.specs.declared.items.Item.TheVariants as items;
@@ -9,7 +10,7 @@ use crate::images::Image;
 use crate::items::Item;
 use crate::spelling::spelled;
 use st_bits::NoMemory;
-use st_card::{Controls, Signal};
+use st_card::{Controls, Form, push_orders, push_shows};
 use std::alloc::{AllocError, Global};
 
 // Appends a line.
@@ -20,15 +21,15 @@ fn push_line(text: &mut Vec<u8>, item: Item) -> Result<(), AllocError>
     text.extend_from_slice(b"\n")
 }
 
-// Appends a line where it is asked for.
-fn push_mark(text: &mut Vec<u8>, asked: bool, item: Item) -> Result<(), AllocError>
-    ensures { OnOk result
-        (text.new.items ≡ text.old.items ++ lines.object_text_of (lines.line_where asked item)) }
+// Appends the line of a word that is not zero.
+fn push_filled(text: &mut Vec<u8>, address: u64, word: u64) -> Result<(), AllocError>
+    ensures { let filled = unless_zero word (items.Word address word) in
+        OnOk result (text.new.items ≡ text.old.items ++ lines.object_text_of filled) }
 {
-    if !asked {
+    if word == 0 {
         return Ok(());
     }
-    push_line(text, item)
+    push_line(text, Item::Word(address, word))
 }
 
 // Appends the words that are not zero.
@@ -37,72 +38,9 @@ fn push_words(text: &mut Vec<u8>, words: &[u64]) -> Result<(), AllocError>
         (text.new.items ≡ text.old.items ++ lines.object_text_of (lines.word_lines 0 words.now)) }
 {
     'words: for (address, word) in words.iter().enumerate() {
-        push_mark(text, *word != 0, Item::Word(address as u64, *word))?;
+        push_filled(text, address as u64, *word)?;
     }
     Ok(())
-}
-
-fn push_budget(text: &mut Vec<u8>, budget: u64) -> Result<(), AllocError>
-    ensures { OnOk result
-        (text.new.items ≡ text.old.items ++ lines.object_text_of (lines.budget_lines budget)) }
-{
-    if budget == 0 {
-        return Ok(());
-    }
-    push_line(text, Item::Budget(budget))
-}
-
-fn push_delays(text: &mut Vec<u8>, delays: &[u8]) -> Result<(), AllocError>
-    ensures { let delays = map (λ n. items.Delay n) delays.now in OnOk result
-        (text.new.items ≡ text.old.items ++ lines.object_text_of delays) }
-{
-    'delays: for ticks in delays {
-        push_line(text, Item::Delay(u64::from(*ticks)))?;
-    }
-    Ok(())
-}
-
-fn push_signals(text: &mut Vec<u8>, signals: &[Signal]) -> Result<(), AllocError>
-    ensures { let signals = map (λ s. items.Signal s.count s.indicator) signals.now in OnOk result
-        (text.new.items ≡ text.old.items ++ lines.object_text_of signals) }
-{
-    'signals: for signal in signals {
-        push_line(
-            text,
-            Item::Signal(signal.count, u64::from(signal.indicator)),
-        )?;
-    }
-    Ok(())
-}
-
-fn push_dumps(text: &mut Vec<u8>, dumps: &[(u32, u32)]) -> Result<(), AllocError>
-    ensures { let dumps = map (λ p. items.Dump p.0 p.1) dumps.now in OnOk result
-        (text.new.items ≡ text.old.items ++ lines.object_text_of dumps) }
-{
-    'dumps: for part in dumps {
-        push_line(text, Item::Dump(u64::from(part.0), u64::from(part.1)))?;
-    }
-    Ok(())
-}
-
-fn push_snaps(text: &mut Vec<u8>, snaps: &[u64]) -> Result<(), AllocError>
-    ensures { let snaps = map (λ t. items.Snap t) snaps.now in OnOk result
-        (text.new.items ≡ text.old.items ++ lines.object_text_of snaps) }
-{
-    'snaps: for tick in snaps {
-        push_line(text, Item::Snap(*tick))?;
-    }
-    Ok(())
-}
-
-fn push_back(text: &mut Vec<u8>, back: u8) -> Result<(), AllocError>
-    ensures { OnOk result
-        (text.new.items ≡ text.old.items ++ lines.object_text_of (lines.back_lines back)) }
-{
-    if back == 0 {
-        return Ok(());
-    }
-    push_line(text, Item::Back(u64::from(back)))
 }
 
 // Appends the lines of a program before what is asked for.
@@ -113,29 +51,6 @@ fn push_program(text: &mut Vec<u8>, words: &[u64], start: u32) -> Result<(), All
     push_line(text, Item::Object)?;
     push_line(text, Item::Start(u64::from(start)))?;
     push_words(text, words)
-}
-
-// Appends the lines of what is asked for, up to the parts of storage.
-fn push_orders(text: &mut Vec<u8>, controls: &Controls) -> Result<(), AllocError>
-    ensures { OnOk result
-        (text.new.items ≡ text.old.items ++ lines.object_text_of (lines.order_lines controls.now)) }
-{
-    push_budget(text, controls.budget)?;
-    push_delays(text, controls.delays.as_slice())?;
-    push_signals(text, controls.signals.as_slice())?;
-    push_dumps(text, controls.dumps.as_slice())
-}
-
-// Appends the lines of what is to be shown.
-fn push_shows(text: &mut Vec<u8>, controls: &Controls) -> Result<(), AllocError>
-    ensures { OnOk result
-        (text.new.items ≡ text.old.items ++ lines.object_text_of (lines.show_lines controls.now)) }
-{
-    push_mark(text, controls.trace, Item::Trace)?;
-    push_mark(text, controls.time, Item::Time)?;
-    push_mark(text, controls.chart, Item::Chart)?;
-    push_snaps(text, controls.snaps.as_slice())?;
-    push_back(text, controls.back)
 }
 
 // Appends the whole object text.
@@ -150,8 +65,8 @@ fn push_object(
         OnOk result (text.new.items ≡ text.old.items ++ object_text p) }
 {
     push_program(text, words, start)?;
-    push_orders(text, controls)?;
-    push_shows(text, controls)?;
+    push_orders(text, Form::ObjectLine, controls)?;
+    push_shows(text, Form::ObjectLine, controls)?;
     push_line(text, Item::Fin)
 }
 

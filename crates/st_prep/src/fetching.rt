@@ -1,10 +1,9 @@
 //! How an entry is fetched, one instruction word after another.
 ghost use Rattle.std.specs.Prelude.{◌≡◌, ℕ, ◌+◌, ◌/◌, ◌<◌, ◌≤◌, ◌^◌, Bool, true, false, None, IfSome, length, drop, slice_index};
-ghost use Rattle.st_bits.specs.Storage.{words_of_storage};
 ghost use Rattle.st_state.specs.Machine.{word};
 ghost use Rattle.st_state.specs.Boundary.{forbidden_by};
 ghost use Rattle.st_state.specs.declared.protection.Access.{Access};
-ghost use Rattle.st_prep.specs.Fetch.{index_words as index_words_of, place_of as place_by, address_by, words_fetched as fetched_at};
+ghost use Rattle.st_prep.specs.Fetch.{index_words as index_words_of, place_of as place_by, address_by};
 ghost use Rattle.st_prep.specs.declared.entries.Fetched.{Fetched as FetchedOf};
 ghost use Rattle.st_prep.specs.declared.entries.Fetching.TheVariants.{Found as FoundAll};
 ghost use Rattle.st_prep.specs.Reading.{Use, Finds, outcome, left_after, fetching_of, half_of as half_by, no_instr as no_instr_of, with_second as with_second_of, with_first as with_first_of, instruction_at, is_execute as is_execute_of, with_target as with_target_of, own_use, reading_at_place, given_by, allowed_found};
@@ -234,82 +233,6 @@ fn own_or_target(own: Found, x: &[u64; 16], contents: &[u64], state: &State) -> 
     })
 }
 
-// The content of the word at the word address `w`, unless it may not be fetched.
-#[inline(always)]
-fn fetched_word(w: u32, state: &State) -> Option<u64>
-    ensures allowed { IfSome result (λ c. forbidden_by (word state.now 3) state.now.enabled
-        Access.Fetch w ≡ None) }
-    ensures value { IfSome result (λ c. c ≡ word state.now w) }
-{
-    match state.may(Access::Fetch, w) {
-        Some(_) => None,
-        None => Some(state.word(w)),
-    }
-}
-
-// The second half-word of the instruction at the half-word address `h`, whose first word has this
-// content, unless it may not be fetched.
-#[inline(always)]
-fn second_half(h: u32, content: u64, state: &State) -> Option<u32>
-    requires address { h < 2 ^ 19 }
-    requires allowed { forbidden_by (word state.now 3) state.now.enabled Access.Fetch (h / 2)
-        ≡ None }
-    ensures { IfSome result (λ second. (first : ℕ) (k : Use) → outcome (with_second_of
-        (forbidden_by (word state.now 3) state.now.enabled Access.Fetch ((h + 1) / 2)) false first
-        (h + 1) (h / 2) content k) (word state.now)
-        ≡ outcome (k (allowed_found first second)) (word state.now)) }
-{
-    if (h + 1) / 2 == h / 2 {
-        return Some(half_of(content, h + 1));
-    }
-    match fetched_word((h + 1) / 2, state) {
-        Some(next) => Some(half_of(next, h + 1)),
-        None => None,
-    }
-}
-
-// The half-words of the instruction at the half-word address `h`, the content of its first word
-// being known, unless one of them may not be fetched. Where there is only one, 0 stands for the
-// second.
-#[inline(always)]
-#[tactic(auto, unfolding(crate::specs::Reading::with_first))]
-fn halves_in(h: u32, content: u64, state: &State) -> Option<(u32, u32)>
-    requires address { h < 2 ^ 19 }
-    requires allowed { forbidden_by (word state.now 3) state.now.enabled Access.Fetch (h / 2)
-        ≡ None }
-    ensures { IfSome result (λ r. (k : Use) → outcome (with_first_of false (word state.now 3)
-        state.now.enabled h content k) (word state.now)
-        ≡ outcome (k (allowed_found r.0 r.1)) (word state.now)) }
-{
-    let first = half_of(content, h);
-    if length_in_halves(first) == 2 {
-        match second_half(h, content, state) {
-            Some(second) => Some((first, second)),
-            None => None,
-        }
-    } else {
-        Some((first, 0))
-    }
-}
-
-/// The same, its first word being read from the state.
-#[inline(always)]
-#[tactic(auto, unfolding(crate::specs::Reading::instruction_at))]
-pub fn halves_at(h: u32, state: &State) -> Option<(u32, u32)>
-    requires { h < 2 ^ 19 }
-    ensures { IfSome result (λ r. (k : Use) → outcome (instruction_at false (word state.now 3)
-        state.now.enabled h k) (word state.now)
-        ≡ outcome (k (allowed_found r.0 r.1)) (word state.now)) }
-{
-    match fetched_word(h / 2, state) {
-        Some(content) => match halves_in(h, content, state) {
-            Some((first, second)) => Some((first, second)),
-            None => None,
-        },
-        None => None,
-    }
-}
-
 // The second half-word of the instruction at the half-word address `h`, where the contents have it
 // and it may be fetched.
 #[inline(always)]
@@ -403,7 +326,8 @@ pub fn fetch_on(place: &Place, x: &[u64; 16], contents: &[u64], state: &State) -
     }
 }
 
-/// What is fetched at a place, all its words being read from the state.
+/// What is fetched at a place, its instruction and, of EX, the target, and the indicator that
+/// forbids one of their words: all these words are read from the state, and `x` are the index words.
 #[inline(always)]
 pub fn fetch_all(place: &Place, x: &[u64; 16], state: &State) -> Fetched
     requires { IsPlace place.now }
@@ -423,15 +347,4 @@ pub fn fetch_all(place: &Place, x: &[u64; 16], state: &State) -> Fetched
             Fetching::Found(fetched) => return fetched,
         }
     }
-}
-
-/// What is fetched at a place: its instruction and, of EX, the target; and the indicator that
-/// forbids one of their words. The target is found by the index words of the state.
-#[tactic(auto, unfolding(crate::specs::Fetch::words_fetched))]
-pub fn fetch(state: &State, place: &Place) -> Fetched
-    requires { IsPlace place.now }
-    ensures value { result ≡ fetched_at state.now place.now }
-    ensures shape { IsFetched result }
-{
-    fetch_all(place, &index_words(state), state)
 }

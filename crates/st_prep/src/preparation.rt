@@ -7,21 +7,20 @@ ghost use Rattle.st_state.specs.Interrupts.{indicator_word};
 ghost use Rattle.st_prep.specs.EarlyChange.{words_after};
 ghost use Rattle.st_prep.specs.Plan.{sight_of, is_alone as is_alone_of, aim_at as aimed_of, aim as aim_of, is_serial as is_serial_of, needs_by, needs as needs_of, asks, suppressed_entry as suppressed_of, entry_at as entry_of, prepared_by, prepared_entry as prepared_of, plan as plan_of, state_at_entry, side_word as side_word_of, side_of, IsSeen, entry_by, sight};
 ghost use Rattle.st_prep.specs.Fetch.{place_of as place_by};
-ghost use Rattle.st_format.specs.declared.instruction.Format.{Format};
-ghost use Rattle.st_format.specs.Formats.{decoded_entry, instruction_of, spelled_as};
-ghost use Rattle.st_prep.specs.Reading.{Use, fetched_plain, outcome, instruction_at, is_execute as is_execute_of, reading_at_place, allowed_found};
-ghost use Rattle.st_prep.specs.Ranges.{HasFields, IsPlace, IsFetched, IsAim, IsNeeds, IsChange, IsPrepared};
+ghost use Rattle.st_format.specs.Formats.{spelled_as};
+ghost use Rattle.st_prep.specs.Reading.{is_execute as is_execute_of};
+ghost use Rattle.st_prep.specs.Ranges.{IsPlace, IsFetched, IsAim, IsNeeds, IsChange, IsPrepared};
 
 use crate::addresses::effective_address;
 use crate::early::{change, side};
 use crate::entries::{Aim, Fetched, IndexChange, Needs, Place, Prepared};
 use crate::faults::{effective_instr, fault};
-use crate::fetching::{fetch_all, halves_at, index_words, is_execute, place_of};
+use crate::fetching::{fetch_all, index_words, is_execute, place_of};
 use crate::outcome::{acts_alone, after, cost, next, value};
 use crate::runs::{has_register, is_register, none, reads, writes};
 use st_bits::register::INDICATORS;
 use st_bits::{HalfOp, Ind, indicator};
-use st_format::{Decoded, Format, FullOp, decode_as, format_of};
+use st_format::Format;
 use st_state::State;
 
 // Whether an entry is done alone even where it is suppressed.
@@ -95,21 +94,6 @@ fn needs(aim: &Aim) -> Needs
             serial: is_serial(aim),
         },
     }
-}
-
-/// What an entry needs before it can be prepared. `fetched` is what stands at `place`, `x` are the
-/// index words, and of `state` only the boundary register and the mark for interrupts count.
-#[tactic(auto, unfolding(crate::specs::Plan::needs))]
-pub fn look(place: &Place, fetched: &Fetched, x: &[u64; 16], state: &State) -> Needs
-    requires { IsFetched fetched.now }
-    ensures value { result ≡ needs_of (sight_of place.now fetched.now x.now state.now) }
-    ensures ranges { IsNeeds result }
-
-    // It is what the next entry of each state needs that looks so.
-    ensures states { let v = sight_of place.now fetched.now x.now state.now in
-        (s : Machine) → IsSeen s v → result ≡ needs_of (sight s (place_by s place.now.table)) }
-{
-    needs(&aim(place, fetched, x, state))
 }
 
 // Fills in an entry that is suppressed by the indicator `i`.
@@ -322,107 +306,6 @@ pub fn side_word(state: &State, table: Option<u8>, w: Option<u32>) -> Option<u64
     }
 }
 
-// Fills in the entry of a state that stands at `p.place`, by what is fetched there.
-#[inline(always)]
-#[tactic(auto, unfolding(crate::specs::Plan::prepared_entry, crate::specs::Plan::needs))]
-fn fill_fetched(fetched: &Fetched, x: &[u64; 16], state: &State, p: &mut Prepared)
-    requires place { IsPlace p.old.place }
-    requires fetched { IsFetched fetched.now }
-    ensures { p.new ≡ entry_by state.now p.old.place fetched.now x.now }
-{
-    let aim = aim(&p.place, fetched, x, state);
-    let read = side_word(state, p.place.table, needs(&aim).index_read);
-    fill(&aim, x, read, p);
-}
-
-// The same of an own instruction that is not EX and whose words may be fetched.
-#[inline(always)]
-fn fill_plain(own: Decoded, x: &[u64; 16], state: &State, p: &mut Prepared)
-    requires place { IsPlace p.old.place }
-    requires fields { HasFields own.instr }
-    ensures { p.new ≡ entry_by state.now p.old.place (fetched_plain own) x.now }
-{
-    let fetched = Fetched {
-        instr: own,
-        target: None,
-        fault: None,
-    };
-    fill_fetched(&fetched, x, state, p);
-}
-
-// The same of half-words whose format is known.
-#[inline(always)]
-fn fill_as(format: Format, halves: (u32, u32), x: &[u64; 16], state: &State, p: &mut Prepared)
-    requires place { IsPlace p.old.place }
-    requires format { spelled_as format halves.0 halves.1 ≡ instruction_of halves.0 halves.1 }
-    ensures { p.new ≡ entry_by state.now p.old.place (fetched_plain
-        (decoded_entry halves.0 halves.1)) x.now }
-{
-    fill_plain(decode_as(format, halves.0, halves.1), x, state, p);
-}
-
-// The same, of a format that is not frequent.
-#[inline(never)]
-fn fill_cold(format: Format, halves: (u32, u32), x: &[u64; 16], state: &State, p: &mut Prepared)
-    requires place { IsPlace p.old.place }
-    requires format { spelled_as format halves.0 halves.1 ≡ instruction_of halves.0 halves.1 }
-    ensures { p.new ≡ entry_by state.now p.old.place (fetched_plain
-        (decoded_entry halves.0 halves.1)) x.now }
-{
-    fill_as(format, halves, x, state, p);
-}
-
-// The same, of a full word.
-#[inline(always)]
-fn fill_whole(op: FullOp, halves: (u32, u32), x: &[u64; 16], state: &State, p: &mut Prepared)
-    requires place { IsPlace p.old.place }
-    requires format { spelled_as (Format.Whole op) halves.0 halves.1
-        ≡ instruction_of halves.0 halves.1 }
-    ensures { p.new ≡ entry_by state.now p.old.place (fetched_plain
-        (decoded_entry halves.0 halves.1)) x.now }
-{
-    match op {
-        FullOp::Variable(op) => {
-            fill_as(Format::Whole(FullOp::Variable(op)), halves, x, state, p)
-        }
-        FullOp::Connective(kind) => {
-            fill_as(Format::Whole(FullOp::Connective(kind)), halves, x, state, p)
-        }
-        FullOp::IndicatorTest => {
-            fill_as(Format::Whole(FullOp::IndicatorTest), halves, x, state, p)
-        }
-        _ => fill_cold(Format::Whole(op), halves, x, state, p),
-    }
-}
-
-// The same, of any format. What follows knows the format, so that it is told apart once.
-#[inline(always)]
-fn fill_own(format: Format, halves: (u32, u32), x: &[u64; 16], state: &State, p: &mut Prepared)
-    requires place { IsPlace p.old.place }
-    requires format { spelled_as format halves.0 halves.1 ≡ instruction_of halves.0 halves.1 }
-    ensures { p.new ≡ entry_by state.now p.old.place (fetched_plain
-        (decoded_entry halves.0 halves.1)) x.now }
-{
-    match format {
-        Format::Index(op) => fill_as(Format::Index(op), halves, x, state, p),
-        Format::Branch(op) => fill_as(Format::Branch(op), halves, x, state, p),
-        Format::Whole(op) => fill_whole(op, halves, x, state, p),
-        _ => fill_cold(format, halves, x, state, p),
-    }
-}
-
-// Fills in the entry of a state that stands at `p.place`, which may be EX, or of which a word may
-// not be fetched.
-#[inline(never)]
-fn fill_other(x: &[u64; 16], state: &State, p: &mut Prepared)
-    requires { IsPlace p.old.place }
-    ensures { p.new ≡ entry_by state.now p.old.place (outcome
-        (reading_at_place x.now (word state.now 3)
-        state.now.enabled p.old.place) (word state.now)) x.now }
-{
-    fill_fetched(&fetch_all(&p.place, x, state), x, state, p);
-}
-
 /// Whether an instruction of this format is EX.
 #[inline(always)]
 #[tactic(auto, unfolding(crate::specs::Reading::is_execute))]
@@ -436,58 +319,34 @@ pub fn is_execute_format(format: Format) -> bool
     }
 }
 
-// Fills in the entry of a state that stands at `p.place`, of which these are the half-words.
-#[inline(always)]
-fn fill_spelled(first: u32, second: u32, x: &[u64; 16], state: &State, p: &mut Prepared)
+// Fills in the entry of a state that stands at `p.place`, by what is fetched there. The result is
+// the word address of its index-side word, if there is one.
+#[tactic(auto, unfolding(crate::specs::Plan::prepared_entry, crate::specs::Plan::needs))]
+fn fill_fetched(fetched: &Fetched, x: &[u64; 16], state: &State, p: &mut Prepared) -> Option<u32>
     requires place { IsPlace p.old.place }
-    requires found { (k : Use) → outcome (instruction_at false (word state.now 3)
-        state.now.enabled p.old.place.address k) (word state.now)
-        ≡ outcome (k (allowed_found first second)) (word state.now) }
-    ensures { p.new ≡ entry_by state.now p.old.place (outcome
-        (reading_at_place x.now (word state.now 3)
-        state.now.enabled p.old.place) (word state.now)) x.now }
+    requires fetched { IsFetched fetched.now }
+    ensures value { p.new ≡ entry_by state.now p.old.place fetched.now x.now }
+    ensures side { let v = sight_of p.old.place fetched.now x.now state.now in
+        result ≡ (needs_of v).index_read }
 {
-    let format = format_of(first, second);
-    if is_execute_format(format) {
-        fill_other(x, state, p)
-    } else {
-        fill_own(format, (first, second), x, state, p)
-    }
-}
-
-// Fills in the next entry of a state, or its table instruction.
-#[inline(always)]
-fn fill_next(table: Option<u8>, state: &State, p: &mut Prepared)
-    requires { IfSome table (λ i. i < 64) }
-    ensures { p.new ≡ plan_of state.now table }
-{
-    p.place = place_of(state, table);
-    let x = index_words(state);
-    match halves_at(p.place.address, state) {
-        Some((first, second)) => fill_spelled(first, second, &x, state, p),
-        None => fill_other(&x, state, p),
-    }
+    let aim = aim(&p.place, fetched, x, state);
+    let side = needs(&aim).index_read;
+    let read = side_word(state, p.place.table, side);
+    fill(&aim, x, read, p);
+    side
 }
 
 /// Prepares the next entry of a state, or the table instruction of an interrupt by the indicator in
-/// `table`, in place.
-pub fn plan_in(table: Option<u8>, state: &State, p: &mut Prepared)
+/// `table`, in place. The result is the word address of its index-side word, if there is one.
+pub fn plan_in(table: Option<u8>, state: &State, p: &mut Prepared) -> Option<u32>
     requires { IfSome table (λ i. i < 64) }
     ensures value { p.new ≡ plan_of state.now table }
     ensures ranges { IsPrepared p.new }
+    ensures side { result ≡ (needs_of (sight state.now (place_by state.now table))).index_read }
 {
     state.shape();
-    fill_next(table, state, p);
-}
-
-/// The next entry of a state, or the table instruction of an interrupt by the indicator in `table`,
-/// prepared.
-pub fn plan(state: &State, table: Option<u8>) -> Prepared
-    requires { IfSome table (λ i. i < 64) }
-    ensures value { result ≡ plan_of state.now table }
-    ensures ranges { IsPrepared result }
-{
-    let mut p = Prepared::default();
-    plan_in(table, state, &mut p);
-    p
+    p.place = place_of(state, table);
+    let x = index_words(state);
+    let fetched = fetch_all(&p.place, &x, state);
+    fill_fetched(&fetched, &x, state, p)
 }

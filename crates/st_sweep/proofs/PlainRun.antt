@@ -3,15 +3,13 @@ use Rattle.std.specs.Prelude.{◌&&◌, not, is_none}
 use Rattle.std.proofs.Common.{◌≡◌, ◌≢◌, ℕ, zero, suc, ◌+◌, ◌-◌, ◌≤◌, ◌⊎◌, inl, inr, Bool, true, false, List, [], ◌∷◌, refl, sym, ◌∙◌, ap, subst, arith}
 use Rattle.st_bits.specs.declared.limits.TheConstants.{MOST_INSTRUCTIONS}
 use Rattle.st_state.specs.Machine.{Machine}
-use Rattle.st_prep.specs.Plan.{plan}
-use Rattle.st_exec.specs.Completion.{is_missed}
-use Rattle.st_exec.specs.Step.{interrupt, step, rests, IsStep}
+use Rattle.st_prep.specs.declared.entries.Prepared.{Prepared}
+use Rattle.st_prep.specs.Fetch.{place_of}
+use Rattle.st_prep.specs.Plan.{plan, needs, sight}
+use Rattle.st_exec.specs.Completion.{is_missed, state_after_execution}
+use Rattle.st_exec.specs.Step.{interrupt, step, rests}
 use Rattle.st_card.specs.declared.control_cards.Signal.{Signal}
 use Rattle.st_run.specs.Run.{Scene, interlude, scene_after_step, run}
-use Rattle.st_exec.specs.Trails.{IsTrail, CanBePutBack, IsKeptStep}
-use Rattle.st_exec.specs.declared.kept.Trail.{Trail}
-use Rattle.st_exec.specs.declared.step.Step.{Step}
-use Rattle.st_exec.specs.declared.step.Step.TheVariants.{Plain, Interrupt, Waits}
 use Rattle.st_exec.proofs.StepLemmas.{step-done}
 use Rattle.st_run.proofs.Runs.{run-rests, run-budget, run-goes_on}
 use Rattle.st_rows.specs.declared.entry.WordRuns.{WordRuns}
@@ -22,24 +20,20 @@ use Rattle.st_sweep.specs.Sweep.{without_cards}
 
 -- ---- one step
 
--- what is kept of a step that is made
-pub kept-step : (s t : Machine) (old new : Trail) (r : Step) → rests s ≡ false → IsStep s t r → IsKeptStep s old new r → IsTrail s new × CanBePutBack new
-kept-step s t old new Plain going made kept = kept
-kept-step s t old new (Interrupt i) going made kept = kept
-kept-step s t old new Waits going made kept = absurd (cc)
+-- the entry that is made is the next step
+pub entry-step : (s t : Machine) (taken : Option ℕ) → taken ≡ interrupt s → t ≡ state_after_execution taken s → t ≡ step s
+unfolding step
+entry-step s t taken is made = made ∙ ap (λ i. state_after_execution i s) is
 
 -- whether it is a hazard-free entry
-pub entry-hazard_free : (earlier : List WordRuns) (s : Machine) (t : Trail) (straight side words : Bool) → IsTrail s t
-    → straight ≡ (is_none (interrupt s) && not (is_missed (plan s (interrupt s)) s))
-    → side ≡ side_is_written earlier t.index_read → words ≡ one_is_written earlier t.reads
+pub entry-hazard_free : (earlier : List WordRuns) (s : Machine) (taken : Option ℕ) (p : Prepared) (straight side words : Bool) (q : Option ℕ)
+    → taken ≡ interrupt s → p ≡ plan s taken → q ≡ (needs (sight s (place_of s taken))).index_read
+    → straight ≡ (is_none taken && not (is_missed p s))
+    → side ≡ side_is_written earlier q → words ≡ one_is_written earlier p.reads
     → (straight && not side && not words) ≡ is_hazard_free_entry earlier s
 unfolding is_hazard_free_entry
-entry-hazard_free earlier s t straight side words trail first second third =
-    ap (λ b. b && not side && not words) first
-    ∙ ap (λ b. is_none (interrupt s) && not (is_missed (plan s (interrupt s)) s) && not b && not words)
-    (second ∙ ap (side_is_written earlier) trail.index_read)
-    ∙ ap (λ b. is_none (interrupt s) && not (is_missed (plan s (interrupt s)) s) && not (side_is_written earlier (next_side s)) && not b)
-    (third ∙ ap (one_is_written earlier) trail.reads)
+entry-hazard_free earlier s taken p straight side words q is plan_is side_is first second third =
+    rw (first, second, third, side_is, plan_is, is)
 
 -- ---- the run
 

@@ -1,11 +1,11 @@
 //! Whether a run is hazard-free, by the plain run.
-ghost use Rattle.std.specs.Prelude.{◌≡◌, ◌==◌, ◌+◌, ◌≤◌, ◌<◌, ◌^◌, ◌&&◌, not, ℕ, List, [], ◌∷◌, false, is_none};
+ghost use Rattle.std.specs.Prelude.{◌≡◌, ◌==◌, ◌+◌, ◌≤◌, ◌<◌, ◌^◌, ◌&&◌, not, List, [], ◌∷◌, false, is_none};
 ghost use Rattle.std.specs.List.{AllPass, list_all};
 ghost use Rattle.st_bits.specs.declared.limits.TheConstants.{MOST_INSTRUCTIONS};
 ghost use Rattle.st_card.specs.Limits.{is_signal};
-ghost use Rattle.st_prep.specs.Plan.{plan as plan_of};
+ghost use Rattle.st_prep.specs.Ranges.{IsPrepared};
 ghost use Rattle.st_exec.specs.Completion.{is_missed as is_missed_of};
-ghost use Rattle.st_exec.specs.Step.{interrupt as interrupt_of, rests, step as step_of};
+ghost use Rattle.st_exec.specs.Step.{rests, step as step_of};
 ghost use Rattle.st_run.specs.Run.{run};
 ghost use Rattle.st_rows.specs.declared.entry.WordRuns.{WordRuns};
 ghost use Rattle.st_sweep.specs.HazardFree.{are_equal as are_equal_of, next_writes, is_hazard_free_entry, is_hazard_free_behind};
@@ -15,8 +15,8 @@ ghost use Rattle.st_sweep.specs.Sweep.{without_cards};
 use crate::settling::settle;
 use crate::written::Written;
 use st_card::Signal;
-use st_exec::{Trail, interrupt, is_at_rest, is_missed, one_kept};
-use st_prep::plan;
+use st_exec::{complete_in, interrupt, is_at_rest, is_missed};
+use st_prep::{Prepared, plan_in};
 use st_state::State;
 
 // Whether each delay is this one.
@@ -36,14 +36,12 @@ pub(crate) fn are_equal(delays: &[u8]) -> bool
     are_all(*first, rest)
 }
 
-// Whether the next entry takes no interrupt and misses no branch.
-fn goes_straight(state: &State) -> bool
-    ensures { result ≡ (is_none (interrupt_of state.now)
-        && not (is_missed_of (plan_of state.now (interrupt_of state.now)) state.now)) }
+// Whether an entry takes no interrupt and misses no branch.
+fn goes_straight(taken: Option<u8>, p: &Prepared, state: &State) -> bool
+    requires { IsPrepared p.now }
+    ensures { result ≡ (is_none taken && not (is_missed_of p.now state.now)) }
 {
-    let taken = interrupt(state);
-    let p = plan(state, taken);
-    let missed = is_missed(&p, state);
+    let missed = is_missed(p, state);
     taken.is_none() && !missed
 }
 
@@ -64,12 +62,14 @@ fn step(state: &mut State, written: &mut Written) -> bool
         AreMarks (next_writes state.old ∷ earlier) written.new
         × (result ≡ is_hazard_free_entry earlier state.old) }
 {
-    let straight = goes_straight(state);
-    let mut trail = Trail::default();
-    one_kept(state, &mut trail);
-    let side = written.has_side(trail.index_read);
-    let words = written.has_words(trail.reads);
-    written.put(trail.writes);
+    let taken = interrupt(state);
+    let mut p = Prepared::default();
+    let side = plan_in(taken, state, &mut p);
+    let straight = goes_straight(taken, &p, state);
+    let side = written.has_side(side);
+    let words = written.has_words(p.reads);
+    written.put(p.writes);
+    complete_in(&p, state);
     is_fresh(straight, side, words)
 }
 

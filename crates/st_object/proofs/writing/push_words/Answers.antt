@@ -4,5 +4,5 @@ use Rattle.st_object.proofs.writing.push_words.Goals as goal
 
 pub words-preserved : goal.words-preserved
 words-preserved c =
-    words_more c.args.text.now.items c.words.text.items c.push_mark.new.text.items c.args.words.now c.words.address
-    (get_or c.args.words.now c.words.address 0) _ c.words-test.true refl refl c.words.invariant c.in_ok-push_mark.ensures
+    words_more c.args.text.now.items c.words.text.items c.push_filled.new.text.items c.args.words.now c.words.address
+    (get_or c.args.words.now c.words.address 0) c.words-test.true refl c.words.invariant c.in_ok-push_filled.ensures

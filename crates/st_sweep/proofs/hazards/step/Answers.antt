@@ -1,16 +1,19 @@
-use Rattle.std.proofs.Common.{◌∷◌, ◌∙◌, subst}
-use Rattle.st_exec.proofs.StepLemmas.{step_made}
+use Rattle.std.proofs.Common.{◌∷◌, ◌∙◌, ap, subst}
+use Rattle.st_prep.specs.Plan.{plan}
 use Rattle.st_segment.specs.Entries.{words_to_write}
 use Rattle.st_sweep.specs.Marks.{AreMarks}
-use Rattle.st_sweep.proofs.PlainRun.{kept-step, entry-hazard_free}
+use Rattle.st_sweep.proofs.PlainRun.{entry-step, entry-hazard_free}
 use Rattle.st_sweep.proofs.hazards.step.Goals as goal
 
 pub returns-clause-state : goal.returns-clause-state
-returns-clause-state c = step_made _ _ _ c.requires.going c.one_kept.ensures.step
+returns-clause-state c =
+    entry-step _ _ _ c.interrupt-taken.ensures.value (c.complete_in.ensures.step _ c.plan_in-side.ensures.value)
 
 pub returns-clause-entry : goal.returns-clause-entry
-returns-clause-entry c = λ earlier are.
-    let kept = kept-step _ _ _ _ _ c.requires.going c.one_kept.ensures.step c.one_kept.ensures.kept in (
-      subst (λ w. AreMarks (words_to_write w ∷ earlier) c.put.new.self) kept.0.writes (c.put.ensures earlier are),
-      c.is_fresh.ensures ∙ entry-hazard_free earlier _ _ _ _ _ kept.0 c.goes_straight-straight.ensures (c.has_side-side.ensures earlier are) (c.has_words-words.ensures earlier are),
-    )
+returns-clause-entry c = λ earlier are. (
+  subst (λ w. AreMarks (words_to_write w ∷ earlier) c.put.new.self)
+      (ap (λ p. p.writes) (c.plan_in-side.ensures.value ∙ ap (λ t. plan c.args.state.now t) c.interrupt-taken.ensures.value)) (c.put.ensures earlier are),
+  c.is_fresh.ensures
+      ∙ entry-hazard_free earlier _ _ _ _ _ _ _ c.interrupt-taken.ensures.value c.plan_in-side.ensures.value c.plan_in-side.ensures.side
+      c.goes_straight-straight.ensures (c.has_side-side.ensures earlier are) (c.has_words-words.ensures earlier are),
+)

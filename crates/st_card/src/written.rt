@@ -1,0 +1,226 @@
+//! What is asked for, written one thing a line: as control cards, and in an object text.
+
+ghost use Rattle.std.specs.Prelude.{◌≡◌, ◌≤◌, ◌++◌, [], ◌∷◌, OnOk, map, codes, decimal, length};
+ghost use Rattle.arrayvec.specs.ArrayString.{array_string_len};
+ghost use Rattle.st_card.specs.Written as spec;
+ghost use Rattle.st_card.specs.declared.written.Control.TheVariants as asks;
+
+use crate::control_cards::{Controls, Signal};
+use st_text::{Line, begun, push_decimal};
+use std::alloc::AllocError;
+
+/// One thing that is asked for, with its numbers, which are those of its `Keyword`.
+#[derive(Clone, Copy, Debug, PartialEq, Eq)]
+pub enum Control {
+    /// How many instructions may be done.
+    Budget(u64),
+    /// A delay of storage in ticks.
+    Delay(u64),
+    /// A signal: how many instructions are done when it comes, and its indicator.
+    Signal(u64, u64),
+    /// A part of storage that is to be printed: its first and its last word.
+    Dump(u64, u64),
+    /// A line for each instruction.
+    Trace,
+    /// Ticks.
+    Time,
+    /// The timetable.
+    Chart,
+    /// A tick at which the machine is to be shown.
+    Snap(u64),
+    /// How many instructions are to be stepped back at the end.
+    Back(u64),
+}
+
+/// Where what is asked for is written.
+#[derive(Clone, Copy, Debug, PartialEq, Eq)]
+pub enum Form {
+    /// On the control cards of a deck.
+    Card,
+    /// On the lines of an object text.
+    ObjectLine,
+}
+
+// What a line begins with.
+fn front(form: Form) -> &'static str
+    ensures text { result.now ≡ spec.front form }
+    ensures short { length result.now ≤ 1 }
+{
+    match form {
+        Form::Card => "/",
+        Form::ObjectLine => "",
+    }
+}
+
+// The word before a delay.
+fn delay_word(form: Form) -> &'static str
+    ensures text { result.now ≡ spec.delay_word form }
+    ensures short { length result.now ≤ 7 }
+{
+    match form {
+        Form::Card => "DELAYS ",
+        Form::ObjectLine => "DELAY ",
+    }
+}
+
+// A line that begins with a word.
+fn worded(form: Form, word: &str) -> Line
+    requires { length word.now ≤ 8 }
+    ensures text { result.bytes ≡ spec.front form ++ word.now }
+    ensures room { array_string_len result ≤ 9 }
+{
+    let mut line = begun(front(form));
+    line.push_str(word);
+    line
+}
+
+// A word and a number.
+fn with_number(form: Form, word: &str, n: u64) -> Line
+    requires { length word.now ≤ 8 }
+    ensures { result.bytes ≡ spec.front form ++ word.now ++ decimal n }
+{
+    let mut line = worded(form, word);
+    push_decimal(&mut line, n);
+    line
+}
+
+// A word and two numbers.
+fn with_numbers(form: Form, word: &str, a: u64, b: u64) -> Line
+    requires { length word.now ≤ 8 }
+    ensures { result.bytes ≡ spec.front form ++ word.now ++ decimal a ++ codes " " ++ decimal b }
+{
+    let mut line = worded(form, word);
+    push_decimal(&mut line, a);
+    line.push_str(" ");
+    push_decimal(&mut line, b);
+    line
+}
+
+/// The line that asks for one thing, without its line end.
+#[tactic(auto, unfolding(crate::specs::Written::control_line))]
+pub fn control_line(form: Form, control: Control) -> Line
+    ensures { result.bytes ≡ spec.control_line form control }
+{
+    match control {
+        Control::Budget(n) => with_number(form, "BUDGET ", n),
+        Control::Delay(ticks) => with_number(form, delay_word(form), ticks),
+        Control::Signal(count, indicator) => with_numbers(form, "SIGNAL ", count, indicator),
+        Control::Dump(first, last) => with_numbers(form, "DUMP ", first, last),
+        Control::Trace => worded(form, "TRACE"),
+        Control::Time => worded(form, "TIME"),
+        Control::Chart => worded(form, "CHART"),
+        Control::Snap(tick) => with_number(form, "SNAP ", tick),
+        Control::Back(k) => with_number(form, "BACK ", k),
+    }
+}
+
+// Appends a line.
+fn push_line(text: &mut Vec<u8>, form: Form, control: Control) -> Result<(), AllocError>
+    ensures { let lines = spec.control_line form control ∷ [] in
+        OnOk result (text.new.items ≡ text.old.items ++ spec.text_of_lines lines) }
+{
+    text.extend_from_slice(control_line(form, control).as_str().as_bytes())?;
+    text.extend_from_slice(b"\n")
+}
+
+// Appends a line where it is asked for.
+fn push_where(
+    text: &mut Vec<u8>,
+    form: Form,
+    asked: bool,
+    control: Control,
+) -> Result<(), AllocError>
+    ensures { let lines = spec.where_asked asked (spec.control_line form control) in
+        OnOk result (text.new.items ≡ text.old.items ++ spec.text_of_lines lines) }
+{
+    if !asked {
+        return Ok(());
+    }
+    push_line(text, form, control)
+}
+
+fn push_budget(text: &mut Vec<u8>, form: Form, budget: u64) -> Result<(), AllocError>
+    ensures { let lines = spec.unless_zero budget (spec.control_line form (asks.Budget budget)) in
+        OnOk result (text.new.items ≡ text.old.items ++ spec.text_of_lines lines) }
+{
+    if budget == 0 {
+        return Ok(());
+    }
+    push_line(text, form, Control::Budget(budget))
+}
+
+fn push_delays(text: &mut Vec<u8>, form: Form, delays: &[u8]) -> Result<(), AllocError>
+    ensures { let lines = map (λ d. spec.control_line form (asks.Delay d)) delays.now in
+        OnOk result (text.new.items ≡ text.old.items ++ spec.text_of_lines lines) }
+{
+    'delays: for ticks in delays {
+        push_line(text, form, Control::Delay(u64::from(*ticks)))?;
+    }
+    Ok(())
+}
+
+fn push_signals(text: &mut Vec<u8>, form: Form, signals: &[Signal]) -> Result<(), AllocError>
+    ensures { let lines = map
+        (λ s. spec.control_line form (asks.Signal s.count s.indicator)) signals.now in
+        OnOk result (text.new.items ≡ text.old.items ++ spec.text_of_lines lines) }
+{
+    'signals: for signal in signals {
+        let control = Control::Signal(signal.count, u64::from(signal.indicator));
+        push_line(text, form, control)?;
+    }
+    Ok(())
+}
+
+fn push_dumps(text: &mut Vec<u8>, form: Form, dumps: &[(u32, u32)]) -> Result<(), AllocError>
+    ensures { let lines = map (λ p. spec.control_line form (asks.Dump p.0 p.1)) dumps.now in
+        OnOk result (text.new.items ≡ text.old.items ++ spec.text_of_lines lines) }
+{
+    'dumps: for part in dumps {
+        let control = Control::Dump(u64::from(part.0), u64::from(part.1));
+        push_line(text, form, control)?;
+    }
+    Ok(())
+}
+
+fn push_snaps(text: &mut Vec<u8>, form: Form, snaps: &[u64]) -> Result<(), AllocError>
+    ensures { let lines = map (λ t. spec.control_line form (asks.Snap t)) snaps.now in
+        OnOk result (text.new.items ≡ text.old.items ++ spec.text_of_lines lines) }
+{
+    'snaps: for tick in snaps {
+        push_line(text, form, Control::Snap(*tick))?;
+    }
+    Ok(())
+}
+
+fn push_back(text: &mut Vec<u8>, form: Form, back: u8) -> Result<(), AllocError>
+    ensures { let lines = spec.unless_zero back (spec.control_line form (asks.Back back)) in
+        OnOk result (text.new.items ≡ text.old.items ++ spec.text_of_lines lines) }
+{
+    if back == 0 {
+        return Ok(());
+    }
+    push_line(text, form, Control::Back(u64::from(back)))
+}
+
+/// Appends what is asked for up to the parts of storage, each line with its line end.
+pub fn push_orders(text: &mut Vec<u8>, form: Form, controls: &Controls) -> Result<(), AllocError>
+    ensures { let lines = spec.orders (spec.control_line form) controls.now in
+        OnOk result (text.new.items ≡ text.old.items ++ spec.text_of_lines lines) }
+{
+    push_budget(text, form, controls.budget)?;
+    push_delays(text, form, controls.delays.as_slice())?;
+    push_signals(text, form, controls.signals.as_slice())?;
+    push_dumps(text, form, controls.dumps.as_slice())
+}
+
+/// Appends what is to be shown, each line with its line end.
+pub fn push_shows(text: &mut Vec<u8>, form: Form, controls: &Controls) -> Result<(), AllocError>
+    ensures { let lines = spec.shows (spec.control_line form) controls.now in
+        OnOk result (text.new.items ≡ text.old.items ++ spec.text_of_lines lines) }
+{
+    push_where(text, form, controls.trace, Control::Trace)?;
+    push_where(text, form, controls.time, Control::Time)?;
+    push_where(text, form, controls.chart, Control::Chart)?;
+    push_snaps(text, form, controls.snaps.as_slice())?;
+    push_back(text, form, controls.back)
+}
