@@ -96,6 +96,21 @@ fn needs(aim: &Aim) -> Needs
     }
 }
 
+/// What an entry needs before it can be prepared. `fetched` is what stands at `place`, `x` are the
+/// index words, and of `state` only the boundary register and the mark for interrupts count.
+#[tactic(auto, unfolding(crate::specs::Plan::needs))]
+pub fn look(place: &Place, fetched: &Fetched, x: &[u64; 16], state: &State) -> Needs
+    requires { IsFetched fetched.now }
+    ensures value { result ≡ needs_of (sight_of place.now fetched.now x.now state.now) }
+    ensures ranges { IsNeeds result }
+
+    // It is what the next entry of each state needs that looks so.
+    ensures states { let v = sight_of place.now fetched.now x.now state.now in
+        (s : Machine) → IsSeen s v → result ≡ needs_of (sight s (place_by s place.now.table)) }
+{
+    needs(&aim(place, fetched, x, state))
+}
+
 // Fills in an entry that is suppressed by the indicator `i`.
 #[inline(never)]
 #[tactic(auto, unfolding(crate::specs::Plan::suppressed_entry))]
