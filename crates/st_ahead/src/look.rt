@@ -10,9 +10,9 @@ ghost use Rattle.st_rows.specs.declared.front.Front.{Front as FrontOf};
 ghost use Rattle.st_ahead.specs.Overlap.{idle_banks};
 
 use st_banks::{Delays, LastAnswers};
-use st_ring::{Completed, Levels};
 use st_next::Next;
 use st_prep::{Place, Prepared, index_words, place_of};
+use st_ring::{Completed, Levels};
 use st_rows::{Front, Log};
 use st_state::State;
 use std::marker::Model;

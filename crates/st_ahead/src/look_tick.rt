@@ -12,8 +12,8 @@ ghost use Rattle.st_ahead.specs.Look.{IsLook, IsOutlook, count};
 ghost use Rattle.st_ahead.specs.Ticked.{IsTicked};
 
 use crate::look::Lookahead;
-use st_ring::Completed;
 use st_prep::place_of;
+use st_ring::Completed;
 use st_state::State;
 
 impl<const N: usize> Lookahead<N> {
