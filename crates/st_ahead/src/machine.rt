@@ -118,7 +118,8 @@ impl<const N: usize> Machine<N> {
         requires last { last < 2 ^ 63 }
         requires done { self.old.state.done < 2 ^ 63 }
         ensures runs { RunsTo count last result self.old self.new }
-        ensures rows { rows.new ≡ queue_with (rows_in_ticks (ticks_passed last self.old.now result) self.old) rows.old }
+        ensures rows { rows.new ≡ queue_with
+            (rows_in_ticks (ticks_passed last self.old.now result) self.old) rows.old }
     {
         self.delays.shape();
         let now = self.now;

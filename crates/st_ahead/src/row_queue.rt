@@ -86,7 +86,8 @@ impl RowQueue {
     pub fn next(&mut self) -> Option<Row>
         ensures rows { MatchOption result (self.old.rows ≡ [])
             (λ row. self.old.rows ≡ row ∷ self.new.rows) }
-        ensures none { MatchOption result (self.new ≡ self.old) (λ row. self.new.room ≡ self.old.room) }
+        ensures none { MatchOption result (self.new ≡ self.old)
+            (λ row. self.new.room ≡ self.old.room) }
     {
         if self.first == self.end {
             return None;

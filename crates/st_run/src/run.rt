@@ -41,13 +41,17 @@ impl<'a, const N: usize> Model for Run<'a, N> {
     ghost Value = { Telling };
 
     ghost view = { λ r. record {
-      rest = rows_then r.teller.rows.rows (rest_of r.teller.progress.turn r.teller.progress.left r.teller.progress.tick r.teller.progress.snaps.now r.teller.progress.waiting r.teller.progress.driven);
+      rest = rows_then r.teller.rows.rows (rest_of r.teller.progress.turn r.teller.progress.left
+          r.teller.progress.tick r.teller.progress.snaps.now r.teller.progress.waiting
+          r.teller.progress.driven);
       seen = state_told r.teller.progress.driven.machine;
       ahead = ahead_of r.teller.progress.driven.machine;
       text = r.teller.progress.printed.bytes;
     } };
 
-    ghost invariant = { λ r. IsRun r.teller.progress.turn r.teller.progress.left r.teller.progress.tick r.teller.progress.snaps.now r.teller.progress.waiting r.teller.progress.driven
+    ghost invariant = { λ r. IsRun r.teller.progress.turn r.teller.progress.left
+        r.teller.progress.tick r.teller.progress.snaps.now r.teller.progress.waiting
+        r.teller.progress.driven
         × (r.teller.rows.room ≡ 0) };
 }
 

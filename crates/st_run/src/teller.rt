@@ -17,15 +17,28 @@ pub(crate) struct Teller<'a, const N: usize> {
 // The next thing that is told: the first row that waits, or else what comes behind. `None` exactly
 // where all is told.
 pub(crate) fn next_of<const N: usize>(teller: &mut Teller<N>) -> Option<TimedRunEvent>
-    requires run { IsRun teller.old.progress.turn teller.old.progress.left teller.old.progress.tick teller.old.progress.snaps.now teller.old.progress.waiting teller.old.progress.driven }
+    requires run { IsRun teller.old.progress.turn teller.old.progress.left
+        teller.old.progress.tick teller.old.progress.snaps.now teller.old.progress.waiting
+        teller.old.progress.driven }
     requires shut { teller.old.rows.room ≡ 0 }
-    ensures kept { IsRun teller.new.progress.turn teller.new.progress.left teller.new.progress.tick teller.new.progress.snaps.now teller.new.progress.waiting teller.new.progress.driven }
+    ensures kept { IsRun teller.new.progress.turn teller.new.progress.left
+        teller.new.progress.tick teller.new.progress.snaps.now teller.new.progress.waiting
+        teller.new.progress.driven }
     ensures shut { teller.new.rows.room ≡ 0 }
     ensures told { MatchOption result
-        (rows_then teller.old.rows.rows (rest_of teller.old.progress.turn teller.old.progress.left teller.old.progress.tick teller.old.progress.snaps.now teller.old.progress.waiting teller.old.progress.driven) ≡ [])
-        (λ t. rows_then teller.old.rows.rows (rest_of teller.old.progress.turn teller.old.progress.left teller.old.progress.tick teller.old.progress.snaps.now teller.old.progress.waiting teller.old.progress.driven)
+        (rows_then teller.old.rows.rows
+        (rest_of teller.old.progress.turn teller.old.progress.left
+        teller.old.progress.tick teller.old.progress.snaps.now teller.old.progress.waiting
+        teller.old.progress.driven) ≡ [])
+        (λ t. rows_then teller.old.rows.rows
+        (rest_of teller.old.progress.turn teller.old.progress.left
+        teller.old.progress.tick teller.old.progress.snaps.now teller.old.progress.waiting
+        teller.old.progress.driven)
         ≡ told_with t teller.new.progress.driven.machine teller.new.progress.printed.bytes
-        ∷ rows_then teller.new.rows.rows (rest_of teller.new.progress.turn teller.new.progress.left teller.new.progress.tick teller.new.progress.snaps.now teller.new.progress.waiting teller.new.progress.driven)) }
+        ∷ rows_then teller.new.rows.rows
+        (rest_of teller.new.progress.turn teller.new.progress.left
+        teller.new.progress.tick teller.new.progress.snaps.now teller.new.progress.waiting
+        teller.new.progress.driven)) }
 {
     if let Some(row) = teller.rows.next() {
         return Some(told_of(row));
@@ -36,12 +49,22 @@ pub(crate) fn next_of<const N: usize>(teller: &mut Teller<N>) -> Option<TimedRun
 // Where no row waits, rows are made, as long as nothing else is told between them.
 #[inline(always)]
 fn make_ready<const N: usize>(teller: &mut Teller<N>)
-    requires run { IsRun teller.old.progress.turn teller.old.progress.left teller.old.progress.tick teller.old.progress.snaps.now teller.old.progress.waiting teller.old.progress.driven }
+    requires run { IsRun teller.old.progress.turn teller.old.progress.left
+        teller.old.progress.tick teller.old.progress.snaps.now teller.old.progress.waiting
+        teller.old.progress.driven }
     requires shut { teller.old.rows.room ≡ 0 }
-    ensures kept { IsRun teller.new.progress.turn teller.new.progress.left teller.new.progress.tick teller.new.progress.snaps.now teller.new.progress.waiting teller.new.progress.driven }
+    ensures kept { IsRun teller.new.progress.turn teller.new.progress.left
+        teller.new.progress.tick teller.new.progress.snaps.now teller.new.progress.waiting
+        teller.new.progress.driven }
     ensures shut { teller.new.rows.room ≡ 0 }
-    ensures told { rows_then teller.old.rows.rows (rest_of teller.old.progress.turn teller.old.progress.left teller.old.progress.tick teller.old.progress.snaps.now teller.old.progress.waiting teller.old.progress.driven)
-        ≡ rows_then teller.new.rows.rows (rest_of teller.new.progress.turn teller.new.progress.left teller.new.progress.tick teller.new.progress.snaps.now teller.new.progress.waiting teller.new.progress.driven) }
+    ensures told { rows_then teller.old.rows.rows
+        (rest_of teller.old.progress.turn teller.old.progress.left
+        teller.old.progress.tick teller.old.progress.snaps.now teller.old.progress.waiting
+        teller.old.progress.driven)
+        ≡ rows_then teller.new.rows.rows
+        (rest_of teller.new.progress.turn teller.new.progress.left
+        teller.new.progress.tick teller.new.progress.snaps.now teller.new.progress.waiting
+        teller.new.progress.driven) }
 {
     if !teller.rows.is_empty() {
         return;
@@ -52,14 +75,30 @@ fn make_ready<const N: usize>(teller: &mut Teller<N>)
 // The next thing that is told, where that is a row: the first one that waits, or one that is made.
 #[inline(always)]
 pub(crate) fn next_row_of<const N: usize>(teller: &mut Teller<N>) -> Option<Row>
-    requires run { IsRun teller.old.progress.turn teller.old.progress.left teller.old.progress.tick teller.old.progress.snaps.now teller.old.progress.waiting teller.old.progress.driven }
+    requires run { IsRun teller.old.progress.turn teller.old.progress.left
+        teller.old.progress.tick teller.old.progress.snaps.now teller.old.progress.waiting
+        teller.old.progress.driven }
     requires shut { teller.old.rows.room ≡ 0 }
-    ensures kept { IsRun teller.new.progress.turn teller.new.progress.left teller.new.progress.tick teller.new.progress.snaps.now teller.new.progress.waiting teller.new.progress.driven }
+    ensures kept { IsRun teller.new.progress.turn teller.new.progress.left
+        teller.new.progress.tick teller.new.progress.snaps.now teller.new.progress.waiting
+        teller.new.progress.driven }
     ensures shut { teller.new.rows.room ≡ 0 }
-    ensures told { MatchOption result (rows_then teller.new.rows.rows (rest_of teller.new.progress.turn teller.new.progress.left teller.new.progress.tick teller.new.progress.snaps.now teller.new.progress.waiting teller.new.progress.driven)
-        ≡ rows_then teller.old.rows.rows (rest_of teller.old.progress.turn teller.old.progress.left teller.old.progress.tick teller.old.progress.snaps.now teller.old.progress.waiting teller.old.progress.driven))
-        (λ row. rows_then teller.old.rows.rows (rest_of teller.old.progress.turn teller.old.progress.left teller.old.progress.tick teller.old.progress.snaps.now teller.old.progress.waiting teller.old.progress.driven)
-        ≡ row_told row ∷ rows_then teller.new.rows.rows (rest_of teller.new.progress.turn teller.new.progress.left teller.new.progress.tick teller.new.progress.snaps.now teller.new.progress.waiting teller.new.progress.driven)) }
+    ensures told { MatchOption result (rows_then teller.new.rows.rows
+        (rest_of teller.new.progress.turn teller.new.progress.left
+        teller.new.progress.tick teller.new.progress.snaps.now teller.new.progress.waiting
+        teller.new.progress.driven)
+        ≡ rows_then teller.old.rows.rows
+        (rest_of teller.old.progress.turn teller.old.progress.left
+        teller.old.progress.tick teller.old.progress.snaps.now teller.old.progress.waiting
+        teller.old.progress.driven))
+        (λ row. rows_then teller.old.rows.rows
+        (rest_of teller.old.progress.turn teller.old.progress.left
+        teller.old.progress.tick teller.old.progress.snaps.now teller.old.progress.waiting
+        teller.old.progress.driven)
+        ≡ row_told row ∷ rows_then teller.new.rows.rows
+        (rest_of teller.new.progress.turn teller.new.progress.left
+        teller.new.progress.tick teller.new.progress.snaps.now teller.new.progress.waiting
+        teller.new.progress.driven)) }
 {
     make_ready(teller);
     teller.rows.next()
@@ -67,16 +106,33 @@ pub(crate) fn next_row_of<const N: usize>(teller: &mut Teller<N>) -> Option<Row>
 
 // Passes over entries that are done, where no row waits.
 pub(crate) fn pass_over<const N: usize>(teller: &mut Teller<N>) -> Option<TimedRunEvent>
-    requires run { IsRun teller.old.progress.turn teller.old.progress.left teller.old.progress.tick teller.old.progress.snaps.now teller.old.progress.waiting teller.old.progress.driven }
+    requires run { IsRun teller.old.progress.turn teller.old.progress.left
+        teller.old.progress.tick teller.old.progress.snaps.now teller.old.progress.waiting
+        teller.old.progress.driven }
     requires shut { teller.old.rows.room ≡ 0 }
-    ensures kept { IsRun teller.new.progress.turn teller.new.progress.left teller.new.progress.tick teller.new.progress.snaps.now teller.new.progress.waiting teller.new.progress.driven }
+    ensures kept { IsRun teller.new.progress.turn teller.new.progress.left
+        teller.new.progress.tick teller.new.progress.snaps.now teller.new.progress.waiting
+        teller.new.progress.driven }
     ensures shut { teller.new.rows.room ≡ 0 }
     ensures told { MatchOption result
-        (rows_then teller.new.rows.rows (rest_of teller.new.progress.turn teller.new.progress.left teller.new.progress.tick teller.new.progress.snaps.now teller.new.progress.waiting teller.new.progress.driven)
-        ≡ rows_then teller.old.rows.rows (rest_of teller.old.progress.turn teller.old.progress.left teller.old.progress.tick teller.old.progress.snaps.now teller.old.progress.waiting teller.old.progress.driven))
-        (λ t. AreLeftOut (told_with t teller.new.progress.driven.machine teller.new.progress.printed.bytes)
-        (rows_then teller.old.rows.rows (rest_of teller.old.progress.turn teller.old.progress.left teller.old.progress.tick teller.old.progress.snaps.now teller.old.progress.waiting teller.old.progress.driven))
-        (rows_then teller.new.rows.rows (rest_of teller.new.progress.turn teller.new.progress.left teller.new.progress.tick teller.new.progress.snaps.now teller.new.progress.waiting teller.new.progress.driven))) }
+        (rows_then teller.new.rows.rows
+        (rest_of teller.new.progress.turn teller.new.progress.left
+        teller.new.progress.tick teller.new.progress.snaps.now teller.new.progress.waiting
+        teller.new.progress.driven)
+        ≡ rows_then teller.old.rows.rows
+        (rest_of teller.old.progress.turn teller.old.progress.left
+        teller.old.progress.tick teller.old.progress.snaps.now teller.old.progress.waiting
+        teller.old.progress.driven))
+        (λ t. AreLeftOut
+        (told_with t teller.new.progress.driven.machine teller.new.progress.printed.bytes)
+        (rows_then teller.old.rows.rows
+        (rest_of teller.old.progress.turn teller.old.progress.left
+        teller.old.progress.tick teller.old.progress.snaps.now teller.old.progress.waiting
+        teller.old.progress.driven))
+        (rows_then teller.new.rows.rows
+        (rest_of teller.new.progress.turn teller.new.progress.left
+        teller.new.progress.tick teller.new.progress.snaps.now teller.new.progress.waiting
+        teller.new.progress.driven))) }
 {
     if !teller.rows.is_empty() {
         return None;
