@@ -9,14 +9,14 @@ use Rattle.st_prep.specs.declared.entries.Place.{Place}
 use Rattle.st_prep.specs.declared.entries.Prepared.{Prepared}
 use Rattle.st_segment.specs.Entries.{run_of, instruction_words, own_count, entry}
 use Rattle.st_plain.specs.Looking.{side_at, executes_at, code_at, known_at}
-use Rattle.st_plain.specs.Straight.{shown, IsPlanned}
+use Rattle.st_plain.specs.Straight.{entry_shown, IsPlannedAt}
 use Rattle.st_plain.specs.declared.entries.Planned.{Planned}
 
 -- it is planned at this place, by all that it reads
 abbrev pub IsPlannedAt : Machine → List ℕ → Place → Prepared → Planned → Type 0
 IsPlannedAt s x q p e =
     let r = reading_of s q in
-    IsPlanned s x q (words_fetched s q) (run_of (take (own_words r (word s)) (words_read r (word s))))
+    IsPlannedAt s x q (words_fetched s q) (run_of (take (own_words r (word s)) (words_read r (word s))))
     (run_of (drop (own_words r (word s)) (words_read r (word s)))) p e
 
 module _ (s : Machine) (table : Option ℕ) (q : Place) (x : List ℕ) (p : Prepared) (e : Planned) (at : q ≡ place_of s table)
@@ -33,10 +33,10 @@ module _ (s : Machine) (table : Option ℕ) (q : Place) (x : List ℕ) (p : Prep
   known-planned = there.known
 
   pub entry-planned : e.entry ≡ entry table s
-  unfolding entry instruction_words own_count shown sight place_of
+  unfolding entry instruction_words own_count entry_shown sight place_of
   entry-planned =
       let q = place_of s table in
       let r = reading_of s q in
       there.entry
-      ∙ ap (λ p. shown (run_of (take (own_words r (word s)) (words_read r (word s)))) (run_of (drop (own_words r (word s)) (words_read r (word s))))
+      ∙ ap (λ p. entry_shown (run_of (take (own_words r (word s)) (words_read r (word s)))) (run_of (drop (own_words r (word s)) (words_read r (word s))))
       (needs (sight s q)) p (is_none table && is_none (words_fetched s q).fault)) plan-planned

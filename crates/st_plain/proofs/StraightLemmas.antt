@@ -12,11 +12,11 @@ use Rattle.st_prep.specs.declared.entries.Prepared.{Prepared}
 use Rattle.st_plain.specs.declared.entries.Planned.{Planned}
 use Rattle.st_rows.specs.declared.entry.WordRun.{WordRun}
 use Rattle.st_segment.specs.Entries.{run_of}
-use Rattle.st_plain.specs.Straight.{Leads, IsPlanned}
+use Rattle.st_plain.specs.Straight.{IsReadOver, IsPlannedAt}
 
 -- ---- one instruction
 
-lead-none : (c : ℕ → ℕ) (r : Reading) → Leads c r r []
+lead-none : (c : ℕ → ℕ) (r : Reading) → IsReadOver c r r []
 lead-none c r = record { found = refl; read = refl; own = omega arith }
 
 own-more : (c : ℕ → ℕ) (w : ℕ) (r : ℕ → Reading) (q : Reading) (ws : List ℕ) → own_words (r (c w)) c ≡ length ws + own_words q c
@@ -24,39 +24,39 @@ own-more : (c : ℕ → ℕ) (w : ℕ) (r : ℕ → Reading) (q : Reading) (ws :
 unfolding own_words
 own-more c w r q ws h = omega (arith, h)
 
-lead-read : (c : ℕ → ℕ) (w : ℕ) (r : ℕ → Reading) (q : Reading) (ws : List ℕ) → Leads c (r (c w)) q ws → Leads c (Reads false w r) q (w ∷ ws)
+lead-read : (c : ℕ → ℕ) (w : ℕ) (r : ℕ → Reading) (q : Reading) (ws : List ℕ) → IsReadOver c (r (c w)) q ws → IsReadOver c (Reads false w r) q (w ∷ ws)
 unfolding outcome words_read
 lead-read c w r q ws h = record { found = h.found; read = ap (λ x. w ∷ x) h.read; own = own-more c w r q ws h.own }
 
-chosen-first : (c : ℕ → ℕ) (b : Bool) (r q : Reading) → b ≡ true → Leads c (if b then r else q) r []
+chosen-first : (c : ℕ → ℕ) (b : Bool) (r q : Reading) → b ≡ true → IsReadOver c (if b then r else q) r []
 chosen-first c true r q e = lead-none c r
 chosen-first c false r q e = cc
 
-chosen-other : (c : ℕ → ℕ) (b : Bool) (r q p : Reading) (ws : List ℕ) → b ≡ false → Leads c q p ws → Leads c (if b then r else q) p ws
+chosen-other : (c : ℕ → ℕ) (b : Bool) (r q p : Reading) (ws : List ℕ) → b ≡ false → IsReadOver c q p ws → IsReadOver c (if b then r else q) p ws
 chosen-other c true r q p ws e h = cc
 chosen-other c false r q p ws e h = h
 
 -- the second half-word stands in the word of the first one
 pub lead-same : (c : ℕ → ℕ) (f : Option ℕ) (first h v content : ℕ) (k : Use) → f ≡ None → (h / 2 == v) ≡ true
-    → Leads c (with_second f false first h v content k) (k (allowed_found first (half_of content h))) []
+    → IsReadOver c (with_second f false first h v content k) (k (allowed_found first (half_of content h))) []
 lead-same c None first h v content k e same = chosen-first c (h / 2 == v) _ _ same
 lead-same c (Some i) first h v content k e same = cc
 
 -- it stands in the next word, which may be fetched
 pub lead-next : (c : ℕ → ℕ) (f : Option ℕ) (first h v content x half : ℕ) (k : Use) → f ≡ None → (h / 2 == v) ≡ false → x ≡ c (h / 2)
-    → half ≡ half_of x h → Leads c (with_second f false first h v content k) (k (allowed_found first half)) (h / 2 ∷ [])
+    → half ≡ half_of x h → IsReadOver c (with_second f false first h v content k) (k (allowed_found first half)) (h / 2 ∷ [])
 lead-next c None first h v content x half k e other is part =
     chosen-other c (h / 2 == v) _ _ _ _ other
     (lead-read c (h / 2) _ _ []
-    (subst (λ y. Leads c (k (allowed_found first (half_of (c (h / 2)) h))) (k (allowed_found first y)) [])
+    (subst (λ y. IsReadOver c (k (allowed_found first (half_of (c (h / 2)) h))) (k (allowed_found first y)) [])
     (sym (part ∙ ap (λ y. half_of y h) is)) (lead-none c _)))
 lead-next c (Some i) first h v content x half k e other is part = cc
 
 -- the first word may be fetched
 pub lead-first : (c : ℕ → ℕ) (f : Option ℕ) (b : ℕ) (en : Bool) (h x : ℕ) (k : Use) (q : Reading) (ws : List ℕ) → f ≡ None → x ≡ c (h / 2)
-    → Leads c (with_first false b en h x k) q ws → Leads c (read_after f false b en h k) q (h / 2 ∷ ws)
+    → IsReadOver c (with_first false b en h x k) q ws → IsReadOver c (read_after f false b en h k) q (h / 2 ∷ ws)
 lead-first c None b en h x k q ws e is lead =
-    lead-read c (h / 2) _ q ws (subst (λ y. Leads c (with_first false b en h y k) q ws) is lead)
+    lead-read c (h / 2) _ q ws (subst (λ y. IsReadOver c (with_first false b en h y k) q ws) is lead)
 lead-first c (Some i) b en h x k q ws e is lead = cc
 
 -- ---- an entry
@@ -66,14 +66,14 @@ not-chosen true r q h = cc
 not-chosen false r q h = refl
 
 lead-plain : (x : List ℕ) (b : ℕ) (en : Bool) (place : Place) (c : ℕ → ℕ) (first second : ℕ) (ws : List ℕ)
-    → ((k : Use) → Leads c (instruction_at false b en place.address k) (k (allowed_found first second)) ws)
-    → is_execute (instruction_of first second) ≡ false → Leads c (reading_at_place x b en place) (Finds (fetched_plain (decoded_entry first second))) ws
+    → ((k : Use) → IsReadOver c (instruction_at false b en place.address k) (k (allowed_found first second)) ws)
+    → is_execute (instruction_of first second) ≡ false → IsReadOver c (reading_at_place x b en place) (Finds (fetched_plain (decoded_entry first second))) ws
 unfolding reading_at_place own_use
 lead-plain x b en place c first second ws lead other =
-    subst (λ q. Leads c (instruction_at false b en place.address (own_use x b en)) q ws)
+    subst (λ q. IsReadOver c (instruction_at false b en place.address (own_use x b en)) q ws)
     (not-chosen (is_execute (instruction_of first second)) _ _ other) (lead (own_use x b en))
 
-module _ (c : ℕ → ℕ) (r : Reading) (f : Fetched) (ws : List ℕ) (lead : Leads c r (Finds f) ws) where
+module _ (c : ℕ → ℕ) (r : Reading) (f : Fetched) (ws : List ℕ) (lead : IsReadOver c r (Finds f) ws) where
   lead-fetched : outcome r c ≡ f
   unfolding outcome
   lead-fetched = lead.found
@@ -94,9 +94,9 @@ module _ (c : ℕ → ℕ) (r : Reading) (f : Fetched) (ws : List ℕ) (lead : L
 
 -- an entry that is planned by its half-words, and the words that they come from, is planned by what is fetched
 module _ (s : Machine) (x : List ℕ) (q : Place) (first second : ℕ) (ws : List ℕ) (own target : WordRun) (p : Prepared) (e : Planned)
-    (lead : (k : Use) → Leads (word s) (instruction_at false (word s 3) s.enabled q.address k) (k (allowed_found first second)) ws)
+    (lead : (k : Use) → IsReadOver (word s) (instruction_at false (word s 3) s.enabled q.address k) (k (allowed_found first second)) ws)
     (other : is_execute (instruction_of first second) ≡ false) (o : own ≡ run_of ws) (t : target ≡ run_of []) where
-  here : Leads (word s) (reading_of s q) (Finds (fetched_plain (decoded_entry first second))) ws
+  here : IsReadOver (word s) (reading_of s q) (Finds (fetched_plain (decoded_entry first second))) ws
   here = lead-plain (index_words s) (word s 3) s.enabled q (word s) first second ws lead other
 
   is-fetched : fetched_plain (decoded_entry first second) ≡ words_fetched s q
@@ -109,13 +109,13 @@ module _ (s : Machine) (x : List ℕ) (q : Place) (first second : ℕ) (ws : Lis
   is-target : target ≡ run_of (drop (own_words (reading_of s q) (word s)) (words_read (reading_of s q) (word s)))
   is-target = t ∙ ap run_of (sym (lead-target (word s) (reading_of s q) _ ws here))
 
-  pub planned-spelled : IsPlanned s x q (fetched_plain (decoded_entry first second)) own target p e
-      → IsPlanned s x q (words_fetched s q) (run_of (take (own_words (reading_of s q) (word s)) (words_read (reading_of s q) (word s))))
+  pub planned-spelled : IsPlannedAt s x q (fetched_plain (decoded_entry first second)) own target p e
+      → IsPlannedAt s x q (words_fetched s q) (run_of (take (own_words (reading_of s q) (word s)) (words_read (reading_of s q) (word s))))
       (run_of (drop (own_words (reading_of s q) (word s)) (words_read (reading_of s q) (word s)))) p e
   planned-spelled h =
-      subst (λ r. IsPlanned s x q (words_fetched s q) (run_of (take (own_words (reading_of s q) (word s)) (words_read (reading_of s q) (word s)))) r p e) is-target
-      (subst (λ r. IsPlanned s x q (words_fetched s q) r target p e) is-own
-      (subst (λ f. IsPlanned s x q f own target p e) is-fetched h))
+      subst (λ r. IsPlannedAt s x q (words_fetched s q) (run_of (take (own_words (reading_of s q) (word s)) (words_read (reading_of s q) (word s)))) r p e) is-target
+      (subst (λ r. IsPlannedAt s x q (words_fetched s q) r target p e) is-own
+      (subst (λ f. IsPlannedAt s x q f own target p e) is-fetched h))
 
 pub none-run : record { first = 0; len = 0 } ≡ run_of []
 unfolding run_of

@@ -17,7 +17,7 @@ use Rattle.st_plain.specs.declared.entries.Planned.{Planned}
 
 -- a reading goes on as another one behind these words, all of which are the entry's own; word w has
 -- the content c w
-pub record Leads (c : ℕ → ℕ) (r q : Reading) (ws : List ℕ) : Type 0 where
+pub record IsReadOver (c : ℕ → ℕ) (r q : Reading) (ws : List ℕ) : Type 0 where
   pub found : outcome r c ≡ outcome q c
   pub read : words_read r c ≡ ws ++ words_read q c
   pub own : own_words r c ≡ length ws + own_words q c
@@ -31,8 +31,8 @@ if_more false w = []
 
 -- what the timetable sees of an entry, by its runs of instruction words, by what it needs and what
 -- it is
-unfoldable pub shown : WordRun → WordRun → Needs → Prepared → Bool → Entry
-shown own target n p follows = record {
+unfoldable pub entry_shown : WordRun → WordRun → Needs → Prepared → Bool → Entry
+entry_shown own target n p follows = record {
   own = own;
   target = target;
   side = side_to_read n.index_read;
@@ -45,10 +45,10 @@ shown own target n p follows = record {
 
 -- the entry at a place of a state is planned, by what is fetched there, by its runs of instruction
 -- words and by the index words
-pub record IsPlanned (s : Machine) (x : List ℕ) (q : Place) (f : Fetched) (own target : WordRun)
+pub record IsPlannedAt (s : Machine) (x : List ℕ) (q : Place) (f : Fetched) (own target : WordRun)
     (p : Prepared) (e : Planned) : Type 0 where
   pub plan : let v = sight_of q f x s in p ≡ prepared_entry v (side_of s v)
-  pub entry : e.entry ≡ shown own target (needs (sight_of q f x s)) p
+  pub entry : e.entry ≡ entry_shown own target (needs (sight_of q f x s)) p
       (is_none q.table && is_none f.fault)
   pub known : e.known ≡ record {
     side = (needs (sight_of q f x s)).index_read;

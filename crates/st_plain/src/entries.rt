@@ -9,7 +9,7 @@ ghost use Rattle.st_prep.specs.Plan.{needs as needs_of, plan as plan_of, prepare
 ghost use Rattle.st_prep.specs.Ranges.{HasFields, IsPlace, IsFetched, IsNeeds, IsPrepared};
 ghost use Rattle.st_prep.specs.Reading.{Use, words_read, own_words, half_of as half_by, with_second as with_second_of, with_first as with_first_of, instruction_at, is_execute as is_execute_of, fetched_plain, allowed_found};
 ghost use Rattle.st_plain.specs.Looking.{code_found as code_found_of, known_at};
-ghost use Rattle.st_plain.specs.Straight.{Leads, if_more, shown, IsPlanned};
+ghost use Rattle.st_plain.specs.Straight.{IsReadOver, if_more, entry_shown, IsPlannedAt};
 ghost use Rattle.st_segment.specs.Entries.{run_of as run_by, above_registers as above_registers_of, words_to_read as words_to_read_of, words_to_write as words_to_write_of, side_to_read as side_to_read_of, entry as entry_of};
 
 use crate::known::{Code, Known, code_found, code_in};
@@ -228,7 +228,7 @@ fn second_half(h: u32, content: u64, state: &State) -> Option<Second>
     requires address { h < 2 ^ 19 }
     requires allowed { forbidden_by (word state.now 3) state.now.enabled AccessOf.Fetch (h / 2)
         ≡ None }
-    ensures { IfSome result (λ r. (first : ℕ) (k : Use) → Leads (word state.now) (with_second_of
+    ensures { IfSome result (λ r. (first : ℕ) (k : Use) → IsReadOver (word state.now) (with_second_of
         (forbidden_by (word state.now 3) state.now.enabled AccessOf.Fetch ((h + 1) / 2)) false first
         (h + 1) (h / 2) content k) (k (allowed_found first r.half)) (if_more r.more ((h + 1) / 2))) }
 {
@@ -256,7 +256,7 @@ fn halves_in(h: u32, content: u64, state: &State) -> Option<Spelled>
     requires address { h < 2 ^ 19 }
     requires allowed { forbidden_by (word state.now 3) state.now.enabled AccessOf.Fetch (h / 2)
         ≡ None }
-    ensures { IfSome result (λ r. (k : Use) → Leads (word state.now)
+    ensures { IfSome result (λ r. (k : Use) → IsReadOver (word state.now)
         (with_first_of false (word state.now 3)
         state.now.enabled h content k) (k (allowed_found r.first r.second)) (if_more r.more ((h + 1) / 2))) }
 {
@@ -284,7 +284,7 @@ fn halves_in(h: u32, content: u64, state: &State) -> Option<Spelled>
 #[tactic(auto, unfolding(st_prep::specs::Reading::instruction_at))]
 fn halves_at(h: u32, state: &State) -> Option<Spelled>
     requires { h < 2 ^ 19 }
-    ensures { IfSome result (λ r. (k : Use) → Leads (word state.now)
+    ensures { IfSome result (λ r. (k : Use) → IsReadOver (word state.now)
         (instruction_at false (word state.now 3)
         state.now.enabled h k) (k (allowed_found r.first r.second))
         (h / 2 ∷ if_more r.more ((h + 1) / 2))) }
@@ -330,7 +330,7 @@ fn is_execute(instr: &Instr) -> bool
 
 // What is known of an entry.
 #[inline(always)]
-#[tactic(auto, unfolding(crate::specs::Straight::shown))]
+#[tactic(auto, unfolding(crate::specs::Straight::entry_shown))]
 fn show(
     own: WordRun,
     target: WordRun,
@@ -340,7 +340,7 @@ fn show(
     execute: bool,
     code: Option<Code>,
 ) -> Planned
-    ensures entry { result.entry ≡ shown own target needs p.now follows }
+    ensures entry { result.entry ≡ entry_shown own target needs p.now follows }
     ensures known { result.known ≡ record {
       side = needs.index_read;
       execute = execute;
@@ -380,7 +380,7 @@ fn plan_own(
     requires place { IsPlace p.old.place }
     requires fields { HasFields own.instr }
     requires code { code ≡ code_found_of (fetched_plain own) }
-    ensures planned { IsPlanned state.now x.now p.old.place (fetched_plain own) words
+    ensures planned { IsPlannedAt state.now x.now p.old.place (fetched_plain own) words
         (record { first = 0; len = 0 }) p.new result }
     ensures ranges { IsPrepared p.new }
 {
@@ -408,7 +408,7 @@ fn plan_as(
 ) -> Planned
     requires place { IsPlace p.old.place }
     requires format { spelled_as format halves.0 halves.1 ≡ instruction_of halves.0 halves.1 }
-    ensures planned { IsPlanned state.now x.now p.old.place
+    ensures planned { IsPlannedAt state.now x.now p.old.place
         (fetched_plain (decoded_entry halves.0 halves.1)) words (record { first = 0; len = 0 })
         p.new result }
     ensures ranges { IsPrepared p.new }
@@ -429,7 +429,7 @@ fn plan_cold(
 ) -> Planned
     requires place { IsPlace p.old.place }
     requires format { spelled_as format halves.0 halves.1 ≡ instruction_of halves.0 halves.1 }
-    ensures planned { IsPlanned state.now x.now p.old.place
+    ensures planned { IsPlannedAt state.now x.now p.old.place
         (fetched_plain (decoded_entry halves.0 halves.1)) words (record { first = 0; len = 0 })
         p.new result }
     ensures ranges { IsPrepared p.new }
@@ -450,7 +450,7 @@ fn plan_known(
 ) -> Planned
     requires place { IsPlace p.old.place }
     requires format { spelled_as format halves.0 halves.1 ≡ instruction_of halves.0 halves.1 }
-    ensures planned { IsPlanned state.now x.now p.old.place
+    ensures planned { IsPlannedAt state.now x.now p.old.place
         (fetched_plain (decoded_entry halves.0 halves.1)) words (record { first = 0; len = 0 })
         p.new result }
     ensures ranges { IsPrepared p.new }
@@ -472,7 +472,7 @@ fn plan_other(x: &[u64; 16], state: &State, p: &mut Prepared) -> Planned
     requires place { IsPlace p.old.place }
     requires words { x.now ≡ index_words_of state.now }
     ensures planned { let r = reading_of state.now p.old.place in
-        IsPlanned state.now x.now p.old.place (fetched_of state.now p.old.place)
+        IsPlannedAt state.now x.now p.old.place (fetched_of state.now p.old.place)
         (run_by (take (own_words r (word state.now)) (words_read r (word state.now))))
         (run_by (drop (own_words r (word state.now)) (words_read r (word state.now)))) p.new result }
     ensures ranges { IsPrepared p.new }
@@ -491,12 +491,12 @@ fn plan_other(x: &[u64; 16], state: &State, p: &mut Prepared) -> Planned
 fn plan_spelled(spelled: Spelled, x: &[u64; 16], state: &State, p: &mut Prepared) -> Planned
     requires place { IsPlace p.old.place }
     requires words { x.now ≡ index_words_of state.now }
-    requires spelled { (k : Use) → Leads (word state.now)
+    requires spelled { (k : Use) → IsReadOver (word state.now)
         (instruction_at false (word state.now 3) state.now.enabled
         p.old.place.address k) (k (allowed_found spelled.first spelled.second))
         (p.old.place.address / 2 ∷ if_more spelled.more ((p.old.place.address + 1) / 2)) }
     ensures planned { let r = reading_of state.now p.old.place in
-        IsPlanned state.now x.now p.old.place (fetched_of state.now p.old.place)
+        IsPlannedAt state.now x.now p.old.place (fetched_of state.now p.old.place)
         (run_by (take (own_words r (word state.now)) (words_read r (word state.now))))
         (run_by (drop (own_words r (word state.now)) (words_read r (word state.now)))) p.new result }
     ensures ranges { IsPrepared p.new }

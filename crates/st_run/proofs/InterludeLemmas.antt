@@ -8,7 +8,7 @@ use Rattle.st_ahead.specs.Overlap.{Overlap}
 use Rattle.st_run.specs.Run.{Scene, interlude, with_due_orders, with_due_signals}
 use Rattle.st_run.specs.Moments.{has_card, has_waited}
 use Rattle.st_run.specs.Together.{Together, scene_of, moment_of, AreTexts, IsBehindEntry, IsSince}
-use Rattle.st_run.specs.Outside.{Coming, Came, scene_at, ends}
+use Rattle.st_run.specs.Outside.{Coming, HasHappened, scene_at, ends_by}
 use Rattle.st_run.specs.Overlapped.{IsChanged}
 use Rattle.st_run.specs.declared.between.Interlude.{Interlude}
 use Rattle.st_run.proofs.PrintLemmas.{settled-one}
@@ -35,9 +35,9 @@ with_coming m x = record { machine = m; signals = x.signals; cards = x.cards }
 
 -- it came to the machine and what is to come to it, which stand for the first moment
 pub come-between : (b : Together) (m n : Overlap) (x y : Coming) (i : Interlude) (over : Bool) → with_coming m x ≡ b → IsBehindEntry b
-    → Came (λ (o : Overlap). o.state) IsChanged (interlude (scene_at m.state x))
+    → HasHappened (λ (o : Overlap). o.state) IsChanged (interlude (scene_at m.state x))
     (rests (with_due_orders (with_due_signals m.state x.signals x.cards)).scene.machine) i m x n y
-    → over ≡ ends i → HasCome b (with_coming n y) (option_map line_of_words i.words) over
+    → over ≡ ends_by i → HasCome b (with_coming n y) (option_map line_of_words i.words) over
 come-between b m n x y i over view is came same =
     subst {A = Together} (λ t. IsBehindEntry t → HasCome t (with_coming n y) (option_map line_of_words i.words) over) view
     (λ behind. subst {A = Bool} (λ o. HasCome (with_coming m x) (with_coming n y) (option_map line_of_words i.words) o) (sym same)

@@ -9,7 +9,7 @@ use Rattle.st_exch.specs.Printer.{line_of_words}
 use Rattle.st_exec.specs.Step.{rests}
 use Rattle.st_run.specs.Run.{Scene, Transition, PlainEvent, and_then, uneventful, with_device, with_order_at_rest, with_wait}
 use Rattle.st_run.specs.Together.{AreTexts, text_told}
-use Rattle.st_run.specs.Outside.{Coming, Came, scene_at, first_words, both_of, nothing, a_wait, ends}
+use Rattle.st_run.specs.Outside.{Coming, HasHappened, scene_at, first_words, joined_of, nothing, a_wait, ends_by}
 use Rattle.st_run.specs.declared.between.Interlude.{Interlude}
 use Rattle.st_run.proofs.SignalLemmas.{wait-none}
 
@@ -49,7 +49,7 @@ or-none false = refl
 
 -- ---- two things
 
-ends-both : (i j : Interlude) → ends (both_of i j) ≡ (ends i || ends j)
+ends-both : (i j : Interlude) → ends_by (joined_of i j) ≡ (ends_by i || ends_by j)
 ends-both i j = by i.waited i.card j.waited j.card
   where
     by : (a b c d : Bool) → ((a || c) || (b || d)) ≡ ((a || b) || (c || d))
@@ -61,8 +61,8 @@ ends-both i j = by i.waited i.card j.waited j.card
 
 pub came-then : {A : Type 0} (state : A → Machine) (leaves : Bool → A → A → Type 0) → Both leaves
     → (r : Transition) (f : Scene → Transition) (v w : Bool) (i j : Interlude) (m n o : A) (x y z : Coming)
-    → Came state leaves r v i m x n y → Came state leaves (f (scene_at (state n) y)) w j n y o z
-    → Came state leaves (and_then r f) (v || w) (both_of i j) m x o z
+    → HasHappened state leaves r v i m x n y → HasHappened state leaves (f (scene_at (state n) y)) w j n y o z
+    → HasHappened state leaves (and_then r f) (v || w) (joined_of i j) m x o z
 came-then state leaves both r f v w i j m n o x y z first next =
     let same : f (scene_at (state n) y) ≡ f r.scene = ap f first.scene in
     record {
@@ -72,16 +72,16 @@ came-then state leaves both r f v w i j m n o x y z first next =
       card = came-both (length x.cards) (length y.cards) (length z.cards) i.card j.card first.fewer next.fewer first.card next.card;
       fewer = omega (arith, first.fewer, next.fewer);
       wait = ap (λ (b : Bool). b || j.waited) first.wait ∙ ap (λ (b : Bool). v || b) next.wait;
-      rest = both (ends i) (ends j) _ m n o first.rest next.rest (ends-both i j);
+      rest = both (ends_by i) (ends_by j) _ m n o first.rest next.rest (ends-both i j);
     }
 
 pub came-is : {A : Type 0} (state : A → Machine) (leaves : Bool → A → A → Type 0) (q r : Transition) (w : Bool) (i : Interlude)
-    (m n : A) (x y : Coming) → q ≡ r → Came state leaves q w i m x n y → Came state leaves r w i m x n y
-came-is state leaves q r w i m n x y same came = subst (λ (t : Transition). Came state leaves t w i m x n y) same came
+    (m n : A) (x y : Coming) → q ≡ r → HasHappened state leaves q w i m x n y → HasHappened state leaves r w i m x n y
+came-is state leaves q r w i m n x y same came = subst (λ (t : Transition). HasHappened state leaves t w i m x n y) same came
 
 -- nothing came
 pub came-none : {A : Type 0} (state : A → Machine) (leaves : Bool → A → A → Type 0) (m : A) (x : Coming) → leaves false m m
-    → Came state leaves (uneventful (scene_at (state m) x)) false nothing m x m x
+    → HasHappened state leaves (uneventful (scene_at (state m) x)) false nothing m x m x
 came-none state leaves m x same = record {
   scene = refl;
   told = λ few. refl;
@@ -91,7 +91,7 @@ came-none state leaves m x same = record {
   rest = same;
 }
 
-both-nothing : (i : Interlude) → both_of i nothing ≡ i
+both-nothing : (i : Interlude) → joined_of i nothing ≡ i
 both-nothing i =
     ap (λ (b : Bool). record { card = b; waited = i.waited || false; words = first_words i.words None }) (or-none i.card)
     ∙ ap (λ (b : Bool). record { card = i.card; waited = b; words = first_words i.words None }) (or-none i.waited)
@@ -115,27 +115,27 @@ order-at_rest c d resting next =
 -- behind signals
 pub came-behind : {A : Type 0} (state : A → Machine) (leaves : Bool → A → A → Type 0) → Both leaves
     → (f : Scene → Transition) (c : Scene) (w : Bool) (i : Interlude) (m n o : A) (x y z : Coming)
-    → scene_at (state n) y ≡ c → y.cards ≡ x.cards → leaves false m n → Came state leaves (f (scene_at (state n) y)) w i n y o z
-    → Came state leaves (f c) w i m x o z
+    → scene_at (state n) y ≡ c → y.cards ≡ x.cards → leaves false m n → HasHappened state leaves (f (scene_at (state n) y)) w i n y o z
+    → HasHappened state leaves (f c) w i m x o z
 came-behind state leaves both f c w i m n o x y z reached cards left came =
-    subst (λ d. Came state leaves (f d) w i m x o z) reached
+    subst (λ d. HasHappened state leaves (f d) w i m x o z) reached
     (record {
       scene = came.scene;
       told = came.told;
       card = came.card ∙ ap (λ (ys : List (List ℕ)). nat_lt (length z.cards) (length ys)) cards;
       fewer = subst (λ (ys : List (List ℕ)). length z.cards ≤ length ys) cards came.fewer;
       wait = came.wait;
-      rest = both false (ends i) _ m n o left came.rest refl;
+      rest = both false (ends_by i) _ m n o left came.rest refl;
     })
 
 -- then signals
 pub came-signals : {A : Type 0} (state : A → Machine) (leaves : Bool → A → A → Type 0) → Both leaves
     → (r : Transition) (f : Scene → Scene) (w : Bool) (i : Interlude) (m n o : A) (x y z : Coming)
-    → Came state leaves r w i m x n y → scene_at (state o) z ≡ f (scene_at (state n) y) → z.cards ≡ y.cards → leaves false n o
-    → Came state leaves (and_then r (λ c. uneventful (f c))) w i m x o z
+    → HasHappened state leaves r w i m x n y → scene_at (state o) z ≡ f (scene_at (state n) y) → z.cards ≡ y.cards → leaves false n o
+    → HasHappened state leaves (and_then r (λ c. uneventful (f c))) w i m x o z
 came-signals state leaves both r f w i m n o x y z first came cards left =
-    subst (λ b. Came state leaves (and_then r (λ c. uneventful (f c))) b i m x o z) (or-none w)
-    (subst (λ k. Came state leaves (and_then r (λ c. uneventful (f c))) (w || false) k m x o z) (both-nothing i)
+    subst (λ b. HasHappened state leaves (and_then r (λ c. uneventful (f c))) b i m x o z) (or-none w)
+    (subst (λ k. HasHappened state leaves (and_then r (λ c. uneventful (f c))) (w || false) k m x o z) (both-nothing i)
     (came-then state leaves both r (λ c. uneventful (f c)) w false i nothing m n o x y z first
     (record {
       scene = came;
@@ -151,31 +151,31 @@ came-signals state leaves both r f w i m n o x y z first came cards left =
 -- there is none
 pub came-awake : {A : Type 0} (state : A → Machine) (leaves : Bool → A → A → Type 0) → Both leaves
     → ((m : A) → leaves false m m) → (r : Transition) (i : Interlude) (m o : A) (x z : Coming)
-    → rests (state o) ≡ false → Came state leaves r false i m x o z
-    → Came state leaves (and_then r with_wait) (rests r.scene.machine) i m x o z
+    → rests (state o) ≡ false → HasHappened state leaves r false i m x o z
+    → HasHappened state leaves (and_then r with_wait) (rests r.scene.machine) i m x o z
 came-awake state leaves both same r i m o x z awake came =
     let none = wait-none (scene_at (state o) z) awake in
     let goes : rests r.scene.machine ≡ false = ap (λ (c : Scene). rests c.machine) (sym came.scene) ∙ awake in
-    subst (λ w. Came state leaves (and_then r with_wait) w i m x o z) (sym goes)
-    (subst (λ k. Came state leaves (and_then r with_wait) false k m x o z) (both-nothing i)
+    subst (λ w. HasHappened state leaves (and_then r with_wait) w i m x o z) (sym goes)
+    (subst (λ k. HasHappened state leaves (and_then r with_wait) false k m x o z) (both-nothing i)
     (came-then state leaves both r with_wait false false i nothing m o o x z z came
-    (subst (λ q. Came state leaves q false nothing o z o z) (sym none) (came-none state leaves o z (same o)))))
+    (subst (λ q. HasHappened state leaves q false nothing o z o z) (sym none) (came-none state leaves o z (same o)))))
 
 -- there is one: the machine rests, and then what ends the wait comes
 pub came-waiting : {A : Type 0} (state : A → Machine) (leaves : Bool → A → A → Type 0) → Both leaves
     → (r : Transition) (i j : Interlude) (m n o p : A) (x y z : Coming)
-    → rests (state n) ≡ true → Came state leaves r false i m x n y → state o ≡ state n → leaves true n o
-    → Came state leaves (with_wait (scene_at (state o) y)) false j o y p z
-    → Came state leaves (and_then r with_wait) (rests r.scene.machine) (both_of (both_of i a_wait) j) m x p z
+    → rests (state n) ≡ true → HasHappened state leaves r false i m x n y → state o ≡ state n → leaves true n o
+    → HasHappened state leaves (with_wait (scene_at (state o) y)) false j o y p z
+    → HasHappened state leaves (and_then r with_wait) (rests r.scene.machine) (joined_of (joined_of i a_wait) j) m x p z
 came-waiting state leaves both r i j m n o p x y z resting came kept left wait =
     let waits : rests r.scene.machine ≡ true = ap (λ (c : Scene). rests c.machine) (sym came.scene) ∙ resting in
-    subst (λ w. Came state leaves (and_then r with_wait) w (both_of (both_of i a_wait) j) m x p z) (sym waits)
-    (came-then state leaves both r with_wait true false (both_of i a_wait) j m o p x y z
+    subst (λ w. HasHappened state leaves (and_then r with_wait) w (joined_of (joined_of i a_wait) j) m x p z) (sym waits)
+    (came-then state leaves both r with_wait true false (joined_of i a_wait) j m o p x y z
     (record {
       scene = ap (λ (s : Machine). scene_at s y) kept ∙ came.scene;
       told = λ few. ap (λ (t : Option (List ℕ)). text_told (option_map line_of_words t)) (words-none i.words) ∙ came.told few;
       card = or-none i.card ∙ came.card;
       fewer = came.fewer;
       wait = ap (λ (b : Bool). b || true) came.wait;
-      rest = both (ends i) true _ m n o came.rest left (ends-both i a_wait);
+      rest = both (ends_by i) true _ m n o came.rest left (ends-both i a_wait);
     }) wait)

@@ -46,21 +46,21 @@ abbrev pub a_wait : Interlude
 a_wait = record { card = false; waited = true; words = None }
 
 -- one thing after another
-abbrev pub both_of : Interlude → Interlude → Interlude
-both_of i j = record {
+abbrev pub joined_of : Interlude → Interlude → Interlude
+joined_of i j = record {
   card = i.card || j.card;
   waited = i.waited || j.waited;
   words = first_words i.words j.words;
 }
 
 -- a card or a wait ends the segment
-abbrev pub ends : Interlude → Bool
-ends i = i.waited || i.card
+abbrev pub ends_by : Interlude → Bool
+ends_by i = i.waited || i.card
 
 -- What came to a machine: its scene is the one that is reached; the words are what was printed, if
 -- that is no more than one area; whether a card came, and whether the machine waited; and what is
 -- left of the rest of the machine
-pub record Came {A : Type 0} (state : A → Machine) (leaves : Bool → A → A → Type 0) (r : Transition)
+pub record HasHappened {A : Type 0} (state : A → Machine) (leaves : Bool → A → A → Type 0) (r : Transition)
     (waited : Bool) (i : Interlude)
     (old : A) (o : Coming) (new : A) (n : Coming) : Type 0 where
   pub scene : scene_at (state new) n ≡ r.scene
@@ -68,4 +68,4 @@ pub record Came {A : Type 0} (state : A → Machine) (leaves : Bool → A → A 
   pub card : i.card ≡ nat_lt (length n.cards) (length o.cards)
   pub fewer : length n.cards ≤ length o.cards
   pub wait : i.waited ≡ waited
-  pub rest : leaves (ends i) old new
+  pub rest : leaves (ends_by i) old new

@@ -4,7 +4,7 @@ ghost use Rattle.std.specs.Prelude.{◌≡◌, false, IsSome};
 ghost use Rattle.st_state.specs.declared.devices.Device.TheVariants.{Reader, Printer};
 ghost use Rattle.st_exec.specs.Step.{rests};
 ghost use Rattle.st_run.specs.Run as run;
-ghost use Rattle.st_run.specs.Outside.{Came, scene_at, both_of, first_words as first_words_of};
+ghost use Rattle.st_run.specs.Outside.{HasHappened, scene_at, joined_of, first_words as first_words_of};
 
 use crate::coming::Coming;
 use crate::outside::Outside;
@@ -39,7 +39,7 @@ const A_WAIT: Interlude = Interlude {
 fn read_card<M: Outside>(machine: &mut M, coming: &mut Coming) -> Interlude
     requires order { IsSome (M.state machine.old).reader }
     requires turn { M.is_open machine.old }
-    ensures { Came M.state M.leaves
+    ensures { HasHappened M.state M.leaves
         (run.with_order Reader (M.state machine.old).reader (scene_at (M.state machine.old) coming.old))
         false result machine.old coming.old machine.new coming.new }
 {
@@ -56,7 +56,7 @@ fn read_card<M: Outside>(machine: &mut M, coming: &mut Coming) -> Interlude
 fn print_line<M: Outside>(machine: &mut M, coming: &Coming) -> Interlude
     requires order { IsSome (M.state machine.old).printer }
     requires turn { M.is_open machine.old }
-    ensures { Came M.state M.leaves
+    ensures { HasHappened M.state M.leaves
         (run.with_order Printer (M.state machine.old).printer (scene_at (M.state machine.old) coming.now))
         false result machine.old coming.now machine.new coming.now }
 {
@@ -71,7 +71,7 @@ fn print_line<M: Outside>(machine: &mut M, coming: &Coming) -> Interlude
 fn serve<M: Outside>(machine: &mut M, coming: &mut Coming, device: Device) -> Interlude
     requires order { IsSome (run.order_of device (M.state machine.old)) }
     requires turn { M.is_open machine.old }
-    ensures { Came M.state M.leaves
+    ensures { HasHappened M.state M.leaves
         (run.with_order device (run.order_of device (M.state machine.old)) (scene_at (M.state machine.old) coming.old))
         false result machine.old coming.old machine.new coming.new }
 {
@@ -84,7 +84,7 @@ fn serve<M: Outside>(machine: &mut M, coming: &mut Coming, device: Device) -> In
 // The order of a device takes effect, if it is due.
 fn serve_if_due<M: Outside>(machine: &mut M, coming: &mut Coming, device: Device) -> Interlude
     requires { M.is_open machine.old }
-    ensures { Came M.state M.leaves
+    ensures { HasHappened M.state M.leaves
         (run.with_due_order device (scene_at (M.state machine.old) coming.old))
         false result machine.old coming.old machine.new coming.new }
 {
@@ -97,7 +97,7 @@ fn serve_if_due<M: Outside>(machine: &mut M, coming: &mut Coming, device: Device
 // The orders that are due take effect, the reader's first.
 fn serve_due<M: Outside>(machine: &mut M, coming: &mut Coming) -> Interlude
     requires { M.is_open machine.old }
-    ensures { Came M.state M.leaves
+    ensures { HasHappened M.state M.leaves
         (run.with_due_orders (scene_at (M.state machine.old) coming.old))
         false result machine.old coming.old machine.new coming.new }
 {
@@ -109,7 +109,7 @@ fn serve_due<M: Outside>(machine: &mut M, coming: &mut Coming) -> Interlude
 // The order that is due earliest takes effect, if the machine rests.
 fn serve_at_rest<M: Outside>(machine: &mut M, coming: &mut Coming) -> Interlude
     requires { M.is_open machine.old }
-    ensures { Came M.state M.leaves
+    ensures { HasHappened M.state M.leaves
         (run.with_order_at_rest (scene_at (M.state machine.old) coming.old))
         false result machine.old coming.old machine.new coming.new }
 {
@@ -163,7 +163,7 @@ fn first_words(first: Option<[u64; 8]>, later: Option<[u64; 8]>) -> Option<[u64;
 
 // One thing came after another.
 fn joined(first: Interlude, later: Interlude) -> Interlude
-    ensures { result ≡ both_of first later }
+    ensures { result ≡ joined_of first later }
 {
     Interlude {
         card: first.card || later.card,
@@ -175,7 +175,7 @@ fn joined(first: Interlude, later: Interlude) -> Interlude
 // What ends a wait comes: orders, then signals.
 fn end_wait<M: Outside>(machine: &mut M, coming: &mut Coming) -> Interlude
     requires { M.is_open machine.old }
-    ensures { Came M.state M.leaves
+    ensures { HasHappened M.state M.leaves
         (run.with_wait (scene_at (M.state machine.old) coming.old))
         false result machine.old coming.old machine.new coming.new }
 {
@@ -188,7 +188,7 @@ fn end_wait<M: Outside>(machine: &mut M, coming: &mut Coming) -> Interlude
 /// What comes between two steps comes: the signals and orders that are due, and what ends a wait.
 pub fn between<M: Outside>(machine: &mut M, coming: &mut Coming) -> Interlude
     requires { M.is_open machine.old }
-    ensures { Came M.state M.leaves
+    ensures { HasHappened M.state M.leaves
         (run.interlude (scene_at (M.state machine.old) coming.old))
         (rests (run.with_due_orders
         (run.with_due_signals (M.state machine.old) coming.old.signals coming.old.cards)).scene.machine)

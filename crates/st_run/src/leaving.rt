@@ -5,7 +5,7 @@ ghost use Rattle.st_ahead.specs.Overlap.{levels_of};
 ghost use Rattle.st_ahead.specs.Calls.{MayServe};
 ghost use Rattle.st_run.specs.Events.{address_ahead};
 ghost use Rattle.st_run.specs.Together.{IsBehindEntry, moment_of};
-ghost use Rattle.st_run.specs.Outside.{ends};
+ghost use Rattle.st_run.specs.Outside.{ends_by};
 ghost use Rattle.st_run.specs.Leaving.{IsDecided, nothing_decided};
 ghost use Rattle.st_run.specs.Between.{IsChoice, IsQuiet, choice_of, signal_due};
 
@@ -58,7 +58,7 @@ fn levels_in<const N: usize>(ring: &SpecRing<N>) -> ArrayVec<(u32, u64), 8>
 
 // Whether what came ends the segment.
 fn is_over(came: Interlude) -> bool
-    ensures { result ≡ ends came }
+    ensures { result ≡ ends_by came }
 {
     came.waited || came.card
 }
