@@ -28,7 +28,7 @@ use Rattle.st_plain.specs.declared.known.Known.{Known}
 use Rattle.st_plain.specs.declared.rows.Row.{Row}
 use Rattle.st_account.specs.declared.last.Last.{Last}
 use Rattle.st_account.specs.Standing.{guessing, IsLast, IsStanding}
-use Rattle.st_lines.specs.EntryLines.{done_lines}
+use Rattle.st_lines.specs.EntryLines.{done_entry_lines}
 use Rattle.st_account.specs.Text.{lines_of_entry}
 use Rattle.st_account.proofs.LastLemmas.{next-last}
 
@@ -57,7 +57,7 @@ pub entry-written : (before after : OutputState) (ds : List ℕ) (n : ℕ) (p : 
     (missed : Bool) (q : Prepared) (known : Known) (answer : Result (Unit {0}) Failed) → IsStanding p s l → taken ≡ interrupt s → a ≡ address s
     → r.ticks ≡ row_of_entry ds n l.front (entry taken s) → r.level_wait ≡ level_wait ds n l.front (entry taken s) → i ≡ s.done + 1
     → missed ≡ is_missed (plan s taken) s → q ≡ plan s taken → known ≡ known_at taken s
-    → WritesLines before after (done_lines i a r.ticks r.level_wait missed q known l.tick l.front.c) answer
+    → WritesLines before after (done_entry_lines i a r.ticks r.level_wait missed q known l.tick l.front.c) answer
     → WritesLines before after (lines_of_entry ds n p) answer
 unfolding lines_of_entry
 entry-written before after ds n p s l taken a r i missed q known answer is is_taken is_address is_row is_wait number guessed planned is_known h =
@@ -65,20 +65,20 @@ entry-written before after ds n p s l taken a r i missed q known answer is is_ta
     let e = plan m (interrupt m) in
     let k = known_at (interrupt m) m in
     let d = level_wait ds n p.front (entry (interrupt m) m) in
-    let same : done_lines i a r.ticks r.level_wait missed q known l.tick l.front.c
-    ≡ done_lines (m.done + 1) (address m) (next_row ds n p) d (is_missed e m) e k p.tick p.front.c =
-    ap (λ y. done_lines i a y r.level_wait missed q known l.tick l.front.c) (row-is ds n p s l taken r.ticks is is_taken is_row)
-    ∙ ap (λ y. done_lines i a (next_row ds n p) y missed q known l.tick l.front.c) (wait-is ds n p s l taken r.level_wait is is_taken is_wait)
-    ∙ ap (λ y. done_lines y a (next_row ds n p) d missed q known l.tick l.front.c) (number ∙ ap (λ (m : Machine). m.done + 1) (sym is.machine))
-    ∙ ap (λ y. done_lines (m.done + 1) y (next_row ds n p) d missed q known l.tick l.front.c) (is_address ∙ ap address (sym is.machine))
-    ∙ ap (λ b. done_lines (m.done + 1) (address m) (next_row ds n p) d b q known l.tick l.front.c)
+    let same : done_entry_lines i a r.ticks r.level_wait missed q known l.tick l.front.c
+    ≡ done_entry_lines (m.done + 1) (address m) (next_row ds n p) d (is_missed e m) e k p.tick p.front.c =
+    ap (λ y. done_entry_lines i a y r.level_wait missed q known l.tick l.front.c) (row-is ds n p s l taken r.ticks is is_taken is_row)
+    ∙ ap (λ y. done_entry_lines i a (next_row ds n p) y missed q known l.tick l.front.c) (wait-is ds n p s l taken r.level_wait is is_taken is_wait)
+    ∙ ap (λ y. done_entry_lines y a (next_row ds n p) d missed q known l.tick l.front.c) (number ∙ ap (λ (m : Machine). m.done + 1) (sym is.machine))
+    ∙ ap (λ y. done_entry_lines (m.done + 1) y (next_row ds n p) d missed q known l.tick l.front.c) (is_address ∙ ap address (sym is.machine))
+    ∙ ap (λ b. done_entry_lines (m.done + 1) (address m) (next_row ds n p) d b q known l.tick l.front.c)
     (guessed ∙ ap (λ t. is_missed (plan s t) s) is_taken ∙ ap (λ u. is_missed (plan u (interrupt u)) u) (sym is.machine))
-    ∙ ap (λ y. done_lines (m.done + 1) (address m) (next_row ds n p) d (is_missed e m) y known l.tick l.front.c)
+    ∙ ap (λ y. done_entry_lines (m.done + 1) (address m) (next_row ds n p) d (is_missed e m) y known l.tick l.front.c)
     (planned ∙ ap (plan s) is_taken ∙ ap (λ u. plan u (interrupt u)) (sym is.machine))
-    ∙ ap (λ y. done_lines (m.done + 1) (address m) (next_row ds n p) d (is_missed e m) e y l.tick l.front.c)
+    ∙ ap (λ y. done_entry_lines (m.done + 1) (address m) (next_row ds n p) d (is_missed e m) e y l.tick l.front.c)
     (is_known ∙ ap (λ t. known_at t s) is_taken ∙ ap (λ u. known_at (interrupt u) u) (sym is.machine))
-    ∙ ap (λ y. done_lines (m.done + 1) (address m) (next_row ds n p) d (is_missed e m) e k y l.front.c) (sym is.tick)
-    ∙ ap (λ f. done_lines (m.done + 1) (address m) (next_row ds n p) d (is_missed e m) e k p.tick f.c) (sym is.front) in
+    ∙ ap (λ y. done_entry_lines (m.done + 1) (address m) (next_row ds n p) d (is_missed e m) e k y l.front.c) (sym is.tick)
+    ∙ ap (λ f. done_entry_lines (m.done + 1) (address m) (next_row ds n p) d (is_missed e m) e k p.tick f.c) (sym is.front) in
     subst (λ ls. WritesLines before after ls answer) same h
 
 pub entry-sums : (ds : List ℕ) (n : ℕ) (p : Standing) (s : Machine) (l : Last) (taken : Option ℕ) (r : EntryTicks) (stage : Stage) (old new : ℕ)

@@ -18,7 +18,7 @@ use Rattle.st_ledger.specs.Totals.{stages, sums_by, sum_lines}
 use Rattle.st_plain.specs.declared.looking.Ahead.{Ahead}
 use Rattle.st_plain.specs.Looking.{known_at, level_wait, seen_ahead, first_late}
 use Rattle.st_lines.specs.Lines.{start_line}
-use Rattle.st_lines.specs.EntryLines.{done_lines}
+use Rattle.st_lines.specs.EntryLines.{done_entry_lines}
 use Rattle.st_lines.specs.BorderLines.{segment_end_lines, marks_lines, state_lines, machine_lines}
 use Rattle.st_lines.specs.declared.lines.Why.{Why}
 use Rattle.st_lines.specs.declared.lines.Why.TheVariants.{Run, Interrupt, Missed, Card}
@@ -88,7 +88,7 @@ unfoldable pub lines_of_entry : List ℕ → ℕ → Standing → List (List ℕ
 lines_of_entry ds n p =
     let s = p.scene.machine in
     let e = plan s (interrupt s) in
-    done_lines (s.done + 1) (address s) (next_row ds n p)
+    done_entry_lines (s.done + 1) (address s) (next_row ds n p)
     (level_wait ds n p.front (entry (interrupt s) s)) (is_missed e s) e (known_at (interrupt s) s)
     p.tick p.front.c
 

@@ -53,8 +53,8 @@ prints_lines [] = []
 prints_lines (words ∷ more) = prt_line (line_of_words words) ∷ prints_lines more
 
 -- a word, where it is not zero
-unfoldable pub word_lines : Machine → ℕ → List (List ℕ)
-word_lines s w = if nat_eq (word s w) 0 then [] else word_line w (word s w) ∷ []
+unfoldable pub nonzero_word_lines : Machine → ℕ → List (List ℕ)
+nonzero_word_lines s w = if nat_eq (word s w) 0 then [] else word_line w (word s w) ∷ []
 
 -- a word that is no longer what it was; these are all words before
 unfoldable pub change_lines : List ℕ → Machine → ℕ → List (List ℕ)
@@ -65,7 +65,7 @@ change_lines old s w =
 -- by their addresses: at the start of the run all that are not zero, and then all that changed
 unfoldable pub words_lines : ℕ → List ℕ → Machine → List (List ℕ)
 words_lines k old s =
-    if nat_eq k 0 then lines_for (word_lines s) WORDS 0 else lines_for (change_lines old s) WORDS 0
+    if nat_eq k 0 then lines_for (nonzero_word_lines s) WORDS 0 else lines_for (change_lines old s) WORDS 0
 
 -- what was printed, the counter, whether interrupts are enabled, and the words; before the entry
 -- interrupts were enabled or not, and these were the words

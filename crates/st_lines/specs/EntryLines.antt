@@ -81,8 +81,8 @@ level_lines d = if nat_eq d 0 then [] else level_line d ∷ []
 
 -- those of the i-th entry, which is done, at an address, with its row: the last one before it was
 -- done at the tick `before`, and the segment of both starts at the tick `start`
-unfoldable pub done_lines : ℕ → ℕ → EntryTicks → ℕ → Bool → Prepared → Known → ℕ → ℕ →
+unfoldable pub done_entry_lines : ℕ → ℕ → EntryTicks → ℕ → Bool → Prepared → Known → ℕ → ℕ →
     List (List ℕ)
-done_lines i address row level missed p k before start =
+done_entry_lines i address row level missed p k before start =
     row_stage_line i address row ∷ ((missed_lines missed ++ facts_lines p k)
     ++ (charge_lines (charges_behind before (parts_of_row start row)) ++ level_lines level))

@@ -6,7 +6,7 @@ ghost use Rattle.st_state.specs.Interrupts.{first_from};
 ghost use Rattle.st_io.specs.Lines.{WritesLines};
 ghost use Rattle.st_ledger.specs.Charges.{parts_of_row, charges_behind};
 ghost use Rattle.st_ledger.specs.Lines.{charge_lines};
-ghost use Rattle.st_lines.specs.EntryLines.{alone_for as alone_of, alone_by as alone_why, alone_lines, suppressed_by as suppressed_of, suppressed_lines, code_lines, run_lines, writes_lines, index_lines, facts_lines, missed_lines, level_lines, done_lines};
+ghost use Rattle.st_lines.specs.EntryLines.{alone_for as alone_of, alone_by as alone_why, alone_lines, suppressed_by as suppressed_of, suppressed_lines, code_lines, run_lines, writes_lines, index_lines, facts_lines, missed_lines, level_lines, done_entry_lines};
 
 use crate::digits::{fill_code, fill_index};
 use crate::lines::{Alone, line_alone, line_level, line_missed, line_suppressed, line_writes};
@@ -290,7 +290,7 @@ pub fn write_done<K: Sink>(
     start: u64,
 ) -> Result<(), Failed>
     ensures { WritesLines (K.output out.old) (K.output out.new)
-        (done_lines n address row.now.ticks row.now.level_wait missed p.now known.now before start)
+        (done_entry_lines n address row.now.ticks row.now.level_wait missed p.now known.now before start)
         result }
 {
     write_row(out, n, address, &row.ticks)?;

@@ -9,7 +9,7 @@ ghost use Rattle.st_report.specs.Line.{prt_line, ic_line, en_line, end_line as r
 ghost use Rattle.st_lines.specs.Lines.{ledger_levels_line, delays_line, delays_by, start_line, segment_end_line, dropped_line, begun_line};
 ghost use Rattle.st_lines.specs.EntryLines.{facts_lines};
 ghost use Rattle.st_lines.specs.Changes.{IsLeft};
-ghost use Rattle.st_lines.specs.BorderLines.{drop_lines, late_lines, segment_end_lines, differs, en_lines, prints_lines, word_lines, change_lines, words_lines, marks_lines, taken_by, state_lines, machine_lines};
+ghost use Rattle.st_lines.specs.BorderLines.{drop_lines, late_lines, segment_end_lines, differs, en_lines, prints_lines, nonzero_word_lines, change_lines, words_lines, marks_lines, taken_by, state_lines, machine_lines};
 
 use crate::changes::{Changeable, keep_words, write_changed};
 use crate::facts::write_facts;
@@ -261,10 +261,10 @@ fn write_counter<K: Sink>(
 }
 
 // Writes a word of storage or a register, where it is not zero.
-#[tactic(auto, unfolding(crate::specs::BorderLines::word_lines), using(st_io::proofs::Progress::wrote_nothing, st_bits::specs::Storage::words_of_storage_is))]
+#[tactic(auto, unfolding(crate::specs::BorderLines::nonzero_word_lines), using(st_io::proofs::Progress::wrote_nothing, st_bits::specs::Storage::words_of_storage_is))]
 fn write_word<K: Sink>(out: &mut K, state: &State, w: u32) -> Result<(), Failed>
     requires { w < WORDS }
-    ensures { WritesLines (K.output out.old) (K.output out.new) (word_lines state.now w) result }
+    ensures { WritesLines (K.output out.old) (K.output out.new) (nonzero_word_lines state.now w) result }
 {
     let word = state.word(w);
     if word == 0 {
@@ -276,7 +276,7 @@ fn write_word<K: Sink>(out: &mut K, state: &State, w: u32) -> Result<(), Failed>
 // Writes all words that are not zero.
 fn write_each_word<K: Sink>(out: &mut K, state: &State) -> Result<(), Failed>
     ensures { WritesLines (K.output out.old) (K.output out.new)
-        (lines_for (word_lines state.now) WORDS 0) result }
+        (lines_for (nonzero_word_lines state.now) WORDS 0) result }
 {
     for w in 0..WORDS {
         write_word(out, state, w)?;
@@ -296,7 +296,7 @@ fn write_words<K: Sink>(
     requires left { starts ≡ false → (v : ℕ) → v < WORDS → IsLeft v may.now →
         slice_index old.old.items v ≡ word state.now v }
     ensures lines { WritesLines (K.output out.old) (K.output out.new)
-        (if starts then lines_for (word_lines state.now) WORDS 0
+        (if starts then lines_for (nonzero_word_lines state.now) WORDS 0
         else lines_for (change_lines old.old.items state.now) WORDS 0) result }
     ensures words { IsOk result → old.new.items ≡ state.now.words }
 {

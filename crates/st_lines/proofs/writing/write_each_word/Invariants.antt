@@ -2,9 +2,9 @@ use Rattle.std.proofs.Common.{◌-◌}
 use Rattle.st_bits.specs.declared.limits.TheConstants.{WORDS}
 use Rattle.st_io.specs.Lines.{lines_for}
 use Rattle.st_io.proofs.Progress.{LinesSoFar}
-use Rattle.st_lines.specs.BorderLines.{word_lines}
+use Rattle.st_lines.specs.BorderLines.{nonzero_word_lines}
 use Rattle.st_lines.proofs.writing.write_each_word.Given as goal
 
 abbrev pub invariant-loop-w : goal.invariant-loop-w
 invariant-loop-w g l =
-    LinesSoFar (g.K.Sink.output l.fn.out) (g.K.Sink.output l.out) (lines_for (word_lines l.state) WORDS 0) (lines_for (word_lines l.state) (WORDS - l.w) l.w)
+    LinesSoFar (g.K.Sink.output l.fn.out) (g.K.Sink.output l.out) (lines_for (nonzero_word_lines l.state) WORDS 0) (lines_for (nonzero_word_lines l.state) (WORDS - l.w) l.w)
