@@ -104,7 +104,8 @@ pub(crate) fn look_behind(
         HasReads delays.now last.now.tick reads bus last.now.front.bus log.old →
         result ≡ (made_before delays.now last.now.tick
         (reads ++ reads_before delays.now levels last.now.tick
-        (ahead delays.now levels (suc levels) None (guessing last.now.ic state.old) last.now.front)) bus).banks }
+        (ahead delays.now levels (suc levels) None
+        (guessing last.now.ic state.old) last.now.front)) bus).banks }
     ensures soon { (reads : List Read) (bus : BusOf) →
         HasReads delays.now last.now.tick reads bus last.now.front.bus log.old →
         All (λ t. t ≤ last.now.tick + 255) result.ticks }
@@ -163,7 +164,8 @@ pub(crate) fn look_if(
         HasReads delays.now last.now.tick reads bus last.now.front.bus log.old →
         result ≡ (made_before delays.now last.now.tick
         (reads ++ reads_before delays.now levels last.now.tick
-        (ahead delays.now levels (suc levels) None (guessing last.now.ic state.old) last.now.front)) bus).banks }
+        (ahead delays.now levels (suc levels) None
+        (guessing last.now.ic state.old) last.now.front)) bus).banks }
     ensures soon { (reads : List Read) (bus : BusOf) →
         HasReads delays.now last.now.tick reads bus last.now.front.bus log.old →
         All (λ t. t ≤ last.now.tick + 255) result.ticks }

@@ -235,7 +235,8 @@ fn write_entry<K: Sink>(
     requires within { AreWithin last.old.tick sums.old }
 
     ensures lines { (p : Standing) → IsStanding p state.old last.old →
-        WritesLines (K.output out.old) (K.output out.new) (lines_of_entry delays.now levels p) result }
+        WritesLines (K.output out.old) (K.output out.new)
+        (lines_of_entry delays.now levels p) result }
     ensures state { state.new ≡ step_of state.old }
     ensures last { (p : Standing) → IsStanding p state.old last.old →
         IsLast delays.now levels (next_moment delays.now levels p) last.new log.new }
@@ -404,7 +405,8 @@ fn write_last<K: Sink>(
         slice_index old.old.items v ≡ word state.now v }
 
     ensures { (ds : List ℕ) (n : ℕ) (b : Machine) (m : Moment) → b.enabled ≡ last.now.enabled →
-        (k ≢ 0 → old.old.items ≡ b.words) → printed.now.items ≡ words_behind m → m.tick ≡ last.now.tick → next_state m ≡ state.now →
+        (k ≢ 0 → old.old.items ≡ b.words) → printed.now.items ≡ words_behind m → m.tick ≡
+        last.now.tick → next_state m ≡ state.now →
         found.now.items ≡ map seen_ahead m.dropped →
         (k ≢ 0 → late.now ∷ [] ≡ late_at ds n b m) → WritesLines (K.output out.old)
         (K.output out.new) (last_lines ds n k b m) result }
@@ -436,7 +438,8 @@ fn write_run<K: Sink>(
     requires none { AreWithin 0 sums.old }
 
     ensures lines { WritesLines (K.output out.old) (K.output out.new)
-        (lines_from delays.now levels budget 0 state.old (start_of (at_hand state.old signals.now cards.old))) result }
+        (lines_from delays.now levels budget 0 state.old (start_of (at_hand state.old signals.now
+        cards.old))) result }
     ensures sums { (s : Stage) → IsOk result → sum_at s sums.new
         ≡ ticks_for s (all_charges delays.now levels (entries_from delays.now levels budget
         (start_of (at_hand state.old signals.now cards.old)))) }

@@ -68,7 +68,8 @@ fn serve_due_printer(state: &mut State, printed: &mut Printed)
     requires room { length printed.old.items + 1 ≤ 3 }
     ensures printed { (xs : List SignalOf) (cards : List (List ℕ)) → printed.new.items
         ≡ printed.old.items
-        ++ words_printed (with_printer (if_due state.old.done state.old.printer) (at_hand state.old xs cards)).happened }
+        ++ words_printed (with_printer (if_due state.old.done state.old.printer) (at_hand state.old
+        xs cards)).happened }
     ensures few { length printed.new.items ≤ length printed.old.items + 1 }
     ensures scene { (xs : List SignalOf) (cards : List (List ℕ)) →
         (with_printer (if_due state.old.done state.old.printer)

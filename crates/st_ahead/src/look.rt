@@ -83,7 +83,8 @@ impl<const N: usize> Lookahead<N> {
             (answers_before now self.old).ticks }
         ensures opened { (ds : List ℕ) (tick : ℕ) (t : Option ℕ) (s : Machine) (f : FrontOf) →
             IsLook ds N tick now t s f self.old → index_words_of s ≡ index_words_of state.now →
-            IsOpened table state.now (opening_front (answers_before now self.old) (now + 1 + count self.old)) self.new }
+            IsOpened table state.now (opening_front (answers_before now self.old) (now + 1 + count
+            self.old)) self.new }
     {
         let mut banks = self.next.words.bus.banks;
         self.log.undo(&mut banks, now);
@@ -103,7 +104,8 @@ impl<const N: usize> Lookahead<N> {
         ensures dropped { result ≡ count self.old }
         ensures opened { (ds : List ℕ) (tick : ℕ) (t : Option ℕ) (s : Machine) (f : FrontOf) →
             IsLook ds N tick now t s f self.old → index_words_of s ≡ index_words_of state.now →
-            IsOpened table state.now (opening_front idle_banks (now + 1 + count self.old)) self.new }
+            IsOpened table state.now (opening_front idle_banks
+            (now + 1 + count self.old)) self.new }
     {
         let count = self.levels.undo();
         let start = now + 1 + u64::from(count);

@@ -29,8 +29,8 @@ impl<const N: usize> Lookahead<N> {
     /// Makes ticks and goes on behind each, up to the tick `last`, below 2^63, until an entry is
     /// done behind which something may come: `count` instructions are done by then, an order is
     /// due, or the next decision is not that it goes on. The result is what was done, with its
-    /// tick. The rows of those that are done before it wait, as far as there is room. `taken` is the
-    /// indicator whose table instruction comes next. Fewer than 2^63 instructions are done, and
+    /// tick. The rows of those that are done before it wait, as far as there is room. `taken` is
+    /// the indicator whose table instruction comes next. Fewer than 2^63 instructions are done, and
     /// `count` is 2^63 at most.
     #[inline(never)]
     pub fn run_to(
@@ -52,7 +52,8 @@ impl<const N: usize> Lookahead<N> {
         ensures { (f : FrontOf) (now : ℕ) →
             IsLook delays.now N (now - 1) now taken.old state.old f self.old → now ≤ last →
             IsAwake taken.old state.old →
-            HasRunTo delays.now N count last now taken.old state.old f taken.new state.new self.new result
+            HasRunTo delays.now N count last now taken.old state.old f taken.new state.new
+            self.new result
             × (rows.new ≡ queue_with (rows_in_ticks (ticks_run last now result)
             (machine_between_ticks delays.now N state.old taken.old f now)) rows.old) }
     {

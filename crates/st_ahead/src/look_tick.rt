@@ -44,7 +44,8 @@ impl<const N: usize> Lookahead<N> {
     pub(crate) fn complete(&mut self, state: &mut State) -> Completed
         requires some { 0 < count self.old }
         requires few { state.old.done < 2 ^ 63 }
-        ensures { (ds : List ℕ) (tick now : ℕ) (t : Option ℕ) (f : FrontOf) → AreDelaysUpTo MOST_DELAY ds →
+        ensures { (ds : List ℕ) (tick now : ℕ) (t : Option ℕ) (f : FrontOf) → AreDelaysUpTo
+            MOST_DELAY ds →
             IsOutlook ds N tick now t state.old f self.old →
             (row_of_entry ds N f (entry t state.old)).c ≡ now →
             (state.new ≡ state_after_execution t state.old) × IsCompleted ds N t state.old f result

@@ -35,9 +35,11 @@ impl<const N: usize> Model for Machine<N> {
 
     ghost Value = { Overlap };
 
-    ghost view = { λ a. overlap_of N a.delays a.state a.taken a.behind a.now a.owed a.ended a.stopped a.fresh a.look };
+    ghost view = { λ a. overlap_of N a.delays a.state a.taken a.behind a.now a.owed a.ended
+        a.stopped a.fresh a.look };
 
-    ghost invariant = { λ a. IsInside (overlap_of N a.delays a.state a.taken a.behind a.now a.owed a.ended a.stopped a.fresh a.look) a.fresh a.look };
+    ghost invariant = { λ a. IsInside (overlap_of N a.delays a.state a.taken a.behind a.now a.owed
+        a.ended a.stopped a.fresh a.look) a.fresh a.look };
 }
 
 impl<const N: usize> Machine<N> {
@@ -109,9 +111,9 @@ impl<const N: usize> Machine<N> {
     /// is done behind which something may come: `count` instructions are done by then, an order is
     /// due, or what `settle` would decide is not that the machine goes on. Its row is the result,
     /// and that decision is owed. Where none is up to the tick `last`, that tick is made and
-    /// settled too. The rows of the entries that are done before wait behind those in `rows`, as far
-    /// as there is room. No settle is owed; `last` and the number of instructions done are below 2^63,
-    /// and `count` is 2^63 at most.
+    /// settled too. The rows of the entries that are done before wait behind those in `rows`, as
+    /// far as there is room. No settle is owed; `last` and the number of instructions done are
+    /// below 2^63, and `count` is 2^63 at most.
     pub fn run_to(&mut self, count: u64, last: u64, rows: &mut RowQueue) -> Option<Row>
         requires settled { self.old.owed ≡ false }
         requires count { count ≤ 2 ^ 63 }

@@ -87,7 +87,8 @@ fn push_stroke(
 ) -> Result<(), AllocError>
     requires { 1 ≤ axis.now.span }
     ensures { IfOk result (λ _. out.new.items ≡ out.old.items
-        ++ spec.byte_times (max mark.1 (spec.column axis.now to - spec.column axis.now from)) mark.0) }
+        ++ spec.byte_times (max mark.1
+        (spec.column axis.now to - spec.column axis.now from)) mark.0) }
 {
     let width = column(axis, to).saturating_sub(column(axis, from));
     push_many(out, width.max(mark.1), mark.0)

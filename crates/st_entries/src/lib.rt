@@ -1,5 +1,5 @@
-//! The entries of the timetable that a report tells, and their texts. `docs/chart.md` has the rules.
-//! What takes memory fails for want of it alone.
+//! The entries of the timetable that a report tells, and their texts. `docs/chart.md` has the
+//! rules. What takes memory fails for want of it alone.
 #![tactic(auto)]
 
 mod caption;

@@ -255,8 +255,8 @@ fn start_of(moments: &[Moment]) -> u64
     }
 }
 
-/// The log of entries, in the order of ticks, with the three texts of each from the listing of their
-/// report. It fails for want of memory alone.
+/// The log of entries, in the order of ticks, with the three texts of each from the listing of
+/// their report. It fails for want of memory alone.
 #[tactic(auto, unfolding(crate::specs::Log::log, crate::specs::Log::log_of))]
 pub fn write_log(alloc: Global, report: &[u8], entries: &[Entry]) -> Result<Vec<u8>, AllocError>
     ensures { IfOk result (λ out. out.items ≡ spec.log report.now entries.now) }

@@ -65,7 +65,8 @@ change_lines old s w =
 -- by their addresses: at the start of the run all that are not zero, and then all that changed
 unfoldable pub words_lines : ℕ → List ℕ → Machine → List (List ℕ)
 words_lines k old s =
-    if nat_eq k 0 then lines_for (nonzero_word_lines s) WORDS 0 else lines_for (change_lines old s) WORDS 0
+    if nat_eq k 0 then lines_for (nonzero_word_lines s) WORDS 0
+    else lines_for (change_lines old s) WORDS 0
 
 -- what was printed, the counter, whether interrupts are enabled, and the words; before the entry
 -- interrupts were enabled or not, and these were the words

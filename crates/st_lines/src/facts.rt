@@ -290,7 +290,8 @@ pub fn write_done<K: Sink>(
     start: u64,
 ) -> Result<(), Failed>
     ensures { WritesLines (K.output out.old) (K.output out.new)
-        (done_entry_lines n address row.now.ticks row.now.level_wait missed p.now known.now before start)
+        (done_entry_lines n address row.now.ticks row.now.level_wait missed p.now
+        known.now before start)
         result }
 {
     write_row(out, n, address, &row.ticks)?;

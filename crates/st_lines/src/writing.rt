@@ -264,7 +264,8 @@ fn write_counter<K: Sink>(
 #[tactic(auto, unfolding(crate::specs::BorderLines::nonzero_word_lines), using(st_io::proofs::Progress::wrote_nothing, st_bits::specs::Storage::words_of_storage_is))]
 fn write_word<K: Sink>(out: &mut K, state: &State, w: u32) -> Result<(), Failed>
     requires { w < WORDS }
-    ensures { WritesLines (K.output out.old) (K.output out.new) (nonzero_word_lines state.now w) result }
+    ensures { WritesLines (K.output out.old) (K.output out.new)
+        (nonzero_word_lines state.now w) result }
 {
     let word = state.word(w);
     if word == 0 {

@@ -43,7 +43,8 @@ fn unclosed(group: &[u8]) -> &[u8]
 }
 
 /// The data description that stands behind an operation, a group in parentheses, and what stands
-/// behind it. It is empty where there is none: a first group that spells a progressive form is none.
+/// behind it. It is empty where there is none: a first group that spells a progressive form is
+/// none.
 #[tactic(auto, unfolding(crate::specs::Forming::description_in, crate::specs::Forming::behind_description))]
 pub fn split_description(text: &[u8]) -> (&[u8], &[u8])
     ensures description { result.0.now ≡ spec.description_in text.now }

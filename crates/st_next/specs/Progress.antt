@@ -12,7 +12,8 @@ use Rattle.st_next.specs.Known.{IsStateBefore}
 use Rattle.st_next.specs.Words.{AreFirstWords, words_so_far, asked_so_far}
 use Rattle.st_next.specs.declared.next.Next.{Next}
 
--- ---- the entry that is prepared next: t says whether it is a table instruction, u is the state before it, and f the front
+-- ---- the entry that is prepared next: t says whether it is a table instruction, u is the state
+-- before it, and f the front
 
 -- so many of its words are asked for, and the bus is behind them until the entry is planned
 pub record IsReadOn (ds : List ℕ) (t : Option ℕ) (u : Machine) (f : Front)
@@ -58,8 +59,9 @@ reads_so_far ds f next =
     asked_so_far ds f next.own next.target
     ++ (if next.planned then side_asked f.past next.entry.side next.formed.a else [])
 
--- ---- that nothing more of it can be known before a tick: the entry is planned; or the words so far are not answered before, or an entry that
--- writes one of them is not done; or it is EX, whose target waits for the entry before
+-- ---- that nothing more of it can be known before a tick: the entry is planned; or the words so
+-- far are not answered before, or an entry that writes one of them is not done; or it is EX, whose
+-- target waits for the entry before
 
 -- the words of the target wait for the last entry, once one of them is asked for
 abbrev pub target_waits : Front → WordRun → ℕ

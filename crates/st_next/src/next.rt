@@ -175,7 +175,8 @@ impl Next {
         } }
         ensures log { log.new ≡ log_after_reads delays.now (word_asked
             (tick_of self.old.words.bus.held.words w) w
-            (max (max from self.old.words.answered) self.old.words.awaited)) self.old.words.bus log.old }
+            (max (max from self.old.words.answered) self.old.words.awaited))
+            self.old.words.bus log.old }
     {
         self.words.word(log, delays, &front.past, w, from);
     }
@@ -192,7 +193,8 @@ impl Next {
         } }
         ensures log { log.new ≡ log_after_reads delays.now (word_asked
             (tick_of self.old.words.bus.held.words w) w
-            (max (max (wanted_from front.now) self.old.words.answered) self.old.words.awaited)) self.old.words.bus log.old }
+            (max (max (wanted_from front.now) self.old.words.answered) self.old.words.awaited))
+            self.old.words.bus log.old }
     {
         self.ask(w, front.wanted_from(), front, delays, log);
         self.own = with_word(self.own, w);
@@ -443,7 +445,8 @@ impl Next {
         requires place { IsPlace self.now.place }
         requires words { IsEntryInTime (words_alone self.now.own self.now.target) }
         ensures { IfSome result (λ r. (x : List ℕ) → is_execute (instruction_of r.0 r.1) ≡ false →
-            given_of (left_after (reading_at_place x (word state.now 3) state.now.enabled self.now.place)
+            given_of (left_after (reading_at_place x (word state.now 3) state.now.enabled
+            self.now.place)
             (map (word state.now) (words_of_run self.now.own ++ words_of_run self.now.target)))
             ≡ FoundAll (fetched_plain (decoded_entry r.0 r.1))) }
     {

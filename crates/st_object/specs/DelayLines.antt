@@ -24,8 +24,8 @@ other_lines text = filter (λ line. not (is_delay_line line)) (pieces_of line_en
 abbrev pub with_delay_lines : List ℕ → List (List ℕ) → List (List ℕ)
 with_delay_lines delays [] = []
 with_delay_lines delays (line ∷ lines) =
-    if is_budget_line line then line ∷ map (λ d. line_text (Ask (Delay d))) delays ++ lines else line
-    ∷ with_delay_lines delays lines
+    if is_budget_line line then line ∷ map (λ d. line_text (Ask (Delay d))) delays ++ lines
+    else line ∷ with_delay_lines delays lines
 
 -- two object texts have the same lines, in the same order, once the lines of delays are taken out
 -- of both

@@ -228,9 +228,11 @@ fn second_half(h: u32, content: u64, state: &State) -> Option<Second>
     requires address { h < 2 ^ 19 }
     requires allowed { forbidden_by (word state.now 3) state.now.enabled AccessOf.Fetch (h / 2)
         ≡ None }
-    ensures { IfSome result (λ r. (first : ℕ) (k : Use) → IsReadOver (word state.now) (with_second_of
+    ensures { IfSome result (λ r. (first : ℕ) (k : Use) → IsReadOver (word state.now)
+        (with_second_of
         (forbidden_by (word state.now 3) state.now.enabled AccessOf.Fetch ((h + 1) / 2)) false first
-        (h + 1) (h / 2) content k) (k (allowed_found first r.half)) (if_more r.more ((h + 1) / 2))) }
+        (h + 1) (h / 2) content k) (k (allowed_found first r.half)) (if_more r.more
+        ((h + 1) / 2))) }
 {
     if (h + 1) / 2 == h / 2 {
         return Some(Second {
@@ -258,7 +260,8 @@ fn halves_in(h: u32, content: u64, state: &State) -> Option<Spelled>
         ≡ None }
     ensures { IfSome result (λ r. (k : Use) → IsReadOver (word state.now)
         (with_first_of false (word state.now 3)
-        state.now.enabled h content k) (k (allowed_found r.first r.second)) (if_more r.more ((h + 1) / 2))) }
+        state.now.enabled h content k) (k (allowed_found r.first r.second))
+        (if_more r.more ((h + 1) / 2))) }
 {
     let first = half_of(content, h);
     if length_in_halves(first) == 2 {
@@ -474,7 +477,8 @@ fn plan_other(x: &[u64; 16], state: &State, p: &mut Prepared) -> Planned
     ensures planned { let r = reading_of state.now p.old.place in
         IsPlannedAt state.now x.now p.old.place (fetched_of state.now p.old.place)
         (run_by (take (own_words r (word state.now)) (words_read r (word state.now))))
-        (run_by (drop (own_words r (word state.now)) (words_read r (word state.now)))) p.new result }
+        (run_by (drop (own_words r (word state.now)) (words_read r
+        (word state.now)))) p.new result }
     ensures ranges { IsPrepared p.new }
 {
     let table = p.place.table;
@@ -498,7 +502,8 @@ fn plan_spelled(spelled: Spelled, x: &[u64; 16], state: &State, p: &mut Prepared
     ensures planned { let r = reading_of state.now p.old.place in
         IsPlannedAt state.now x.now p.old.place (fetched_of state.now p.old.place)
         (run_by (take (own_words r (word state.now)) (words_read r (word state.now))))
-        (run_by (drop (own_words r (word state.now)) (words_read r (word state.now)))) p.new result }
+        (run_by (drop (own_words r (word state.now)) (words_read r
+        (word state.now)))) p.new result }
     ensures ranges { IsPrepared p.new }
 {
     let format = format_of(spelled.first, spelled.second);

@@ -77,13 +77,16 @@ pub fn look(
 
     ensures state { state.new ≡ state.old }
     ensures found { found.new.items ≡ found.old.items
-        ++ map seen_ahead (prepared_before tick (ahead_of delays.now levels more None state.old front.old)) }
+        ++ map seen_ahead (prepared_before tick
+        (ahead_of delays.now levels more None state.old front.old)) }
     ensures late { late.new ∷ [] ≡ map seen_ahead (first_late tick
         (ahead_of delays.now levels (suc more) None state.old front.old)) }
     ensures log { log.new ≡ log_after_reads delays.now
-        (reads_up_to delays.now levels tick (ahead_of delays.now levels (suc more) None state.old front.old)) front.old.bus log.old }
+        (reads_up_to delays.now levels tick (ahead_of delays.now levels (suc more) None state.old
+        front.old)) front.old.bus log.old }
     ensures bus { front.new.bus ≡ bus_after_reads delays.now
-        (reads_up_to delays.now levels tick (ahead_of delays.now levels (suc more) None state.old front.old)) front.old.bus }
+        (reads_up_to delays.now levels tick (ahead_of delays.now levels (suc more) None state.old
+        front.old)) front.old.bus }
 {
     delays.shape();
     state.shape();

@@ -327,7 +327,8 @@ pub fn fetch_on(place: &Place, x: &[u64; 16], contents: &[u64], state: &State) -
 }
 
 /// What is fetched at a place, its instruction and, of EX, the target, and the indicator that
-/// forbids one of their words: all these words are read from the state, and `x` are the index words.
+/// forbids one of their words: all these words are read from the state, and `x` are the index
+/// words.
 #[inline(always)]
 pub fn fetch_all(place: &Place, x: &[u64; 16], state: &State) -> Fetched
     requires { IsPlace place.now }

@@ -24,7 +24,8 @@ opening_front banks start = record {
   past = replicate 8 (record { c = 0; writes = no_runs });
 }
 
--- ---- instruction words: each is wanted once the words before it are answered and the entries are done that write them
+-- ---- instruction words: each is wanted once the words before it are answered and the entries are
+-- done that write them
 
 -- the word w, wanted from the tick `from` on
 unfoldable pub fetch_word : List ℕ → List Past → Fetching → ℕ → ℕ → Fetching
@@ -52,8 +53,9 @@ words_tick ds f e =
     (wanted_from f) e.own.first e.own.len)
     (max (wanted_from f) f.c) e.target.first e.target.len
 
--- ---- the address: one tick after the words are there and all that is awaited is done, and after the reads of the
--- entries before; an entry that is done alone, and the one behind it, await the last entry
+-- ---- the address: one tick after the words are there and all that is awaited is done, and after
+-- the reads of the entries before; an entry that is done alone, and the one behind it, await the
+-- last entry
 
 -- the tick at which the address is formed
 unfoldable pub address_tick : Front → Entry → ℕ → ℕ → ℕ
@@ -61,7 +63,8 @@ address_tick f e answered awaited =
     max (max (max (max answered awaited) f.p) (if e.serial || f.serial then f.c else 0)
     + 1) f.bus.free
 
--- ---- the index-side word: it is read, or comes from its latest writer where that is not done at the address's tick
+-- ---- the index-side word: it is read, or comes from its latest writer where that is not done at
+-- the address's tick
 
 -- the latest writer of the word w is not done at the tick
 abbrev pub is_forwarded : List Past → ℕ → ℕ → Bool

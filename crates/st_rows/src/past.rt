@@ -49,7 +49,8 @@ impl Model for LastEntries {
 
     ghost view = { λ last. window last.head 8 last.entries };
 
-    ghost invariant = { λ last. IsEntryRing last.head last.entries last.writers last.bounds.low last.bounds.high };
+    ghost invariant = { λ last. IsEntryRing last.head last.entries last.writers last.bounds.low
+        last.bounds.high };
 }
 
 impl Default for LastEntries {

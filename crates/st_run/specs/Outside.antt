@@ -60,8 +60,8 @@ ends_by i = i.waited || i.card
 -- What came to a machine: its scene is the one that is reached; the words are what was printed, if
 -- that is no more than one area; whether a card came, and whether the machine waited; and what is
 -- left of the rest of the machine
-pub record HasHappened {A : Type 0} (state : A → Machine) (leaves : Bool → A → A → Type 0) (r : Transition)
-    (waited : Bool) (i : Interlude)
+pub record HasHappened {A : Type 0} (state : A → Machine) (leaves : Bool → A → A → Type 0)
+    (r : Transition) (waited : Bool) (i : Interlude)
     (old : A) (o : Coming) (new : A) (n : Coming) : Type 0 where
   pub scene : scene_at (state new) n ≡ r.scene
   pub told : length r.happened ≤ 1 → AreTexts (option_map line_of_words i.words) r.happened

@@ -40,7 +40,8 @@ fn read_card<M: Outside>(machine: &mut M, coming: &mut Coming) -> Interlude
     requires order { IsSome (M.state machine.old).reader }
     requires turn { M.is_open machine.old }
     ensures { HasHappened M.state M.leaves
-        (run.with_order Reader (M.state machine.old).reader (scene_at (M.state machine.old) coming.old))
+        (run.with_order Reader (M.state machine.old).reader (scene_at
+        (M.state machine.old) coming.old))
         false result machine.old coming.old machine.new coming.new }
 {
     let card = coming.next_card();
@@ -57,7 +58,8 @@ fn print_line<M: Outside>(machine: &mut M, coming: &Coming) -> Interlude
     requires order { IsSome (M.state machine.old).printer }
     requires turn { M.is_open machine.old }
     ensures { HasHappened M.state M.leaves
-        (run.with_order Printer (M.state machine.old).printer (scene_at (M.state machine.old) coming.now))
+        (run.with_order Printer (M.state machine.old).printer (scene_at
+        (M.state machine.old) coming.now))
         false result machine.old coming.now machine.new coming.now }
 {
     Interlude {
@@ -72,7 +74,8 @@ fn serve<M: Outside>(machine: &mut M, coming: &mut Coming, device: Device) -> In
     requires order { IsSome (run.order_of device (M.state machine.old)) }
     requires turn { M.is_open machine.old }
     ensures { HasHappened M.state M.leaves
-        (run.with_order device (run.order_of device (M.state machine.old)) (scene_at (M.state machine.old) coming.old))
+        (run.with_order device (run.order_of device (M.state machine.old)) (scene_at (M.state
+        machine.old) coming.old))
         false result machine.old coming.old machine.new coming.new }
 {
     match device {
@@ -191,7 +194,8 @@ pub fn between<M: Outside>(machine: &mut M, coming: &mut Coming) -> Interlude
     ensures { HasHappened M.state M.leaves
         (run.interlude (scene_at (M.state machine.old) coming.old))
         (rests (run.with_due_orders
-        (run.with_due_signals (M.state machine.old) coming.old.signals coming.old.cards)).scene.machine)
+        (run.with_due_signals (M.state machine.old) coming.old.signals
+        coming.old.cards)).scene.machine)
         result machine.old coming.old machine.new coming.new }
 {
     take_due_signals(machine, coming);

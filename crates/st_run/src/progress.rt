@@ -47,15 +47,20 @@ pub(crate) fn tell_next<const N: usize>(
     run: &mut Progress<N>,
     rows: &mut RowQueue,
 ) -> Option<TimedRunEvent>
-    requires run { IsRun run.old.turn run.old.left run.old.tick run.old.snaps.now run.old.waiting run.old.driven }
+    requires run { IsRun run.old.turn run.old.left run.old.tick run.old.snaps.now run.old.waiting
+        run.old.driven }
     requires shut { rows.old.room ≡ 0 }
     ensures rows { rows.new ≡ rows.old }
-    ensures kept { IsRun run.new.turn run.new.left run.new.tick run.new.snaps.now run.new.waiting run.new.driven }
+    ensures kept { IsRun run.new.turn run.new.left run.new.tick run.new.snaps.now run.new.waiting
+        run.new.driven }
     ensures told { MatchOption result
-        (rest_of run.old.turn run.old.left run.old.tick run.old.snaps.now run.old.waiting run.old.driven ≡ [])
-        (λ t. rest_of run.old.turn run.old.left run.old.tick run.old.snaps.now run.old.waiting run.old.driven
+        (rest_of run.old.turn run.old.left run.old.tick run.old.snaps.now run.old.waiting
+        run.old.driven ≡ [])
+        (λ t. rest_of run.old.turn run.old.left run.old.tick run.old.snaps.now
+        run.old.waiting run.old.driven
         ≡ told_with t run.new.driven.machine run.new.printed.bytes
-        ∷ rest_of run.new.turn run.new.left run.new.tick run.new.snaps.now run.new.waiting run.new.driven) }
+        ∷ rest_of run.new.turn run.new.left run.new.tick run.new.snaps.now run.new.waiting
+        run.new.driven) }
 {
     if let Some(what) = run.waiting.next(&mut run.printed) {
         return Some(at_once(&run.driven, run.tick, what));
@@ -75,16 +80,22 @@ pub(crate) fn pass_entries<const N: usize>(
     run: &mut Progress<N>,
     rows: &mut RowQueue,
 ) -> Option<TimedRunEvent>
-    requires run { IsRun run.old.turn run.old.left run.old.tick run.old.snaps.now run.old.waiting run.old.driven }
+    requires run { IsRun run.old.turn run.old.left run.old.tick run.old.snaps.now run.old.waiting
+        run.old.driven }
     requires shut { rows.old.room ≡ 0 }
     ensures rows { rows.new ≡ rows.old }
-    ensures kept { IsRun run.new.turn run.new.left run.new.tick run.new.snaps.now run.new.waiting run.new.driven }
+    ensures kept { IsRun run.new.turn run.new.left run.new.tick run.new.snaps.now run.new.waiting
+        run.new.driven }
     ensures told { MatchOption result
-        (rest_of run.new.turn run.new.left run.new.tick run.new.snaps.now run.new.waiting run.new.driven
-        ≡ rest_of run.old.turn run.old.left run.old.tick run.old.snaps.now run.old.waiting run.old.driven)
+        (rest_of run.new.turn run.new.left run.new.tick run.new.snaps.now
+        run.new.waiting run.new.driven
+        ≡ rest_of run.old.turn run.old.left run.old.tick run.old.snaps.now run.old.waiting
+        run.old.driven)
         (λ t. AreLeftOut (told_with t run.new.driven.machine run.new.printed.bytes)
-        (rest_of run.old.turn run.old.left run.old.tick run.old.snaps.now run.old.waiting run.old.driven)
-        (rest_of run.new.turn run.new.left run.new.tick run.new.snaps.now run.new.waiting run.new.driven)) }
+        (rest_of run.old.turn run.old.left run.old.tick run.old.snaps.now run.old.waiting
+        run.old.driven)
+        (rest_of run.new.turn run.new.left run.new.tick run.new.snaps.now run.new.waiting
+        run.new.driven)) }
 {
     if !may_go_far(run) {
         return None;
@@ -96,18 +107,22 @@ pub(crate) fn pass_entries<const N: usize>(
     Some(told_of(row))
 }
 
-// Where nothing else is told next, entries are done, as long as nothing else comes between them, and
-// their rows wait; there is room for all of them.
+// Where nothing else is told next, entries are done, as long as nothing else comes between them,
+// and their rows wait; there is room for all of them.
 #[inline(never)]
 pub(crate) fn make_rows<const N: usize>(run: &mut Progress<N>, rows: &mut RowQueue)
-    requires run { IsRun run.old.turn run.old.left run.old.tick run.old.snaps.now run.old.waiting run.old.driven }
+    requires run { IsRun run.old.turn run.old.left run.old.tick run.old.snaps.now run.old.waiting
+        run.old.driven }
     requires none { rows.old.rows ≡ [] }
     requires shut { rows.old.room ≡ 0 }
-    ensures kept { IsRun run.new.turn run.new.left run.new.tick run.new.snaps.now run.new.waiting run.new.driven }
+    ensures kept { IsRun run.new.turn run.new.left run.new.tick run.new.snaps.now run.new.waiting
+        run.new.driven }
     ensures shut { rows.new.room ≡ 0 }
-    ensures told { rest_of run.old.turn run.old.left run.old.tick run.old.snaps.now run.old.waiting run.old.driven
+    ensures told { rest_of run.old.turn run.old.left run.old.tick run.old.snaps.now
+        run.old.waiting run.old.driven
         ≡ rows_then rows.new.rows
-        (rest_of run.new.turn run.new.left run.new.tick run.new.snaps.now run.new.waiting run.new.driven) }
+        (rest_of run.new.turn run.new.left run.new.tick run.new.snaps.now run.new.waiting
+        run.new.driven) }
 {
     if !may_go_far(run) {
         return;
@@ -144,17 +159,21 @@ fn go_far<const N: usize>(
     most: u64,
     rows: &mut RowQueue,
 ) -> Option<Row>
-    requires run { IsRun turns.Before run.old.left run.old.tick run.old.snaps.now run.old.waiting run.old.driven }
+    requires run { IsRun turns.Before run.old.left run.old.tick run.old.snaps.now run.old.waiting
+        run.old.driven }
     requires turn { run.old.turn ≡ turns.Before }
     requires waits { (s : Machine) → whats run.old.waiting s ≡ [] }
     requires snaps { run.old.snaps.now ≡ [] }
     requires done { done ≡ run.old.driven.machine.state.done }
 
-    ensures kept { IsRun run.new.turn run.new.left run.new.tick run.new.snaps.now run.new.waiting run.new.driven }
+    ensures kept { IsRun run.new.turn run.new.left run.new.tick run.new.snaps.now run.new.waiting
+        run.new.driven }
     ensures told { GoesFar done most result
-        (told_events (timed_behind run.old.driven.machine.delays run.old.driven.machine.levels run.old.left
+        (told_events (timed_behind run.old.driven.machine.delays
+        run.old.driven.machine.levels run.old.left
         (standing_of run.old.tick run.old.driven) run.old.snaps.now))
-        (rest_of run.new.turn run.new.left run.new.tick run.new.snaps.now run.new.waiting run.new.driven)
+        (rest_of run.new.turn run.new.left run.new.tick run.new.snaps.now run.new.waiting
+        run.new.driven)
         rows.old rows.new }
 {
     let count = count_of(&run.driven, done, run.left, most);
@@ -217,17 +236,20 @@ pub(crate) fn told_of(row: Row) -> TimedRunEvent
 
 // Before the next entry: a snapshot, or that entry is done.
 fn go<const N: usize>(run: &mut Progress<N>, rows: &mut RowQueue) -> TimedRunEvent
-    requires run { IsRun turns.Before run.old.left run.old.tick run.old.snaps.now run.old.waiting run.old.driven }
+    requires run { IsRun turns.Before run.old.left run.old.tick run.old.snaps.now run.old.waiting
+        run.old.driven }
     requires turn { run.old.turn ≡ turns.Before }
     requires waits { (s : Machine) → whats run.old.waiting s ≡ [] }
     requires shut { rows.old.room ≡ 0 }
     ensures rows { rows.new ≡ rows.old }
-    ensures kept { IsRun run.new.turn run.new.left run.new.tick run.new.snaps.now run.new.waiting run.new.driven }
+    ensures kept { IsRun run.new.turn run.new.left run.new.tick run.new.snaps.now run.new.waiting
+        run.new.driven }
     ensures told { told_events
         (timed_behind run.old.driven.machine.delays run.old.driven.machine.levels run.old.left
         (standing_of run.old.tick run.old.driven) run.old.snaps.now)
         ≡ told_with result run.new.driven.machine run.new.printed.bytes
-        ∷ rest_of run.new.turn run.new.left run.new.tick run.new.snaps.now run.new.waiting run.new.driven }
+        ∷ rest_of run.new.turn run.new.left run.new.tick run.new.snaps.now run.new.waiting
+        run.new.driven }
 {
     let snap = first_of(run.snaps);
     let Some(row) = run_until(&mut run.driven, snap, rows) else {
@@ -242,12 +264,14 @@ fn show<const N: usize>(run: &mut Progress<N>) -> TimedRunEvent
     requires shown { IsShown run.old.left run.old.tick run.old.snaps.now run.old.driven }
     requires turn { run.old.turn ≡ turns.Before }
     requires waits { (s : Machine) → whats run.old.waiting s ≡ [] }
-    ensures kept { IsRun run.new.turn run.new.left run.new.tick run.new.snaps.now run.new.waiting run.new.driven }
+    ensures kept { IsRun run.new.turn run.new.left run.new.tick run.new.snaps.now run.new.waiting
+        run.new.driven }
     ensures told { told_events
         (timed_behind run.old.driven.machine.delays run.old.driven.machine.levels run.old.left
         (standing_of run.old.tick run.old.driven) run.old.snaps.now)
         ≡ told_with result run.new.driven.machine run.new.printed.bytes
-        ∷ rest_of run.new.turn run.new.left run.new.tick run.new.snaps.now run.new.waiting run.new.driven }
+        ∷ rest_of run.new.turn run.new.left run.new.tick run.new.snaps.now run.new.waiting
+        run.new.driven }
 {
     let Some((at, after)) = split_first(run.snaps) else {
         return at_once(&run.driven, run.tick, RunEvent::Shown(0));
@@ -262,11 +286,13 @@ fn leave_entry<const N: usize>(run: &mut Progress<N>, tick: u64)
     requires left { IsLeft run.old.left run.old.snaps.now tick run.old.driven }
     requires turn { run.old.turn ≡ turns.Before }
     requires waits { (s : Machine) → whats run.old.waiting s ≡ [] }
-    ensures kept { IsRun run.new.turn run.new.left run.new.tick run.new.snaps.now run.new.waiting run.new.driven }
+    ensures kept { IsRun run.new.turn run.new.left run.new.tick run.new.snaps.now run.new.waiting
+        run.new.driven }
     ensures told { told_events
         (timed_from run.old.driven.machine.delays run.old.driven.machine.levels run.old.left
         (moment_of run.old.driven) run.old.snaps.now)
-        ≡ rest_of run.new.turn run.new.left run.new.tick run.new.snaps.now run.new.waiting run.new.driven }
+        ≡ rest_of run.new.turn run.new.left run.new.tick run.new.snaps.now run.new.waiting
+        run.new.driven }
 {
     if !pass_on(&mut run.driven, run.left) {
         leave_fully(run, tick);
@@ -280,11 +306,13 @@ fn leave_entry<const N: usize>(run: &mut Progress<N>, tick: u64)
 #[inline(never)]
 fn leave_fully<const N: usize>(run: &mut Progress<N>, tick: u64)
     requires left { IsLeft run.old.left run.old.snaps.now tick run.old.driven }
-    ensures kept { IsRun run.new.turn run.new.left run.new.tick run.new.snaps.now run.new.waiting run.new.driven }
+    ensures kept { IsRun run.new.turn run.new.left run.new.tick run.new.snaps.now run.new.waiting
+        run.new.driven }
     ensures told { told_events
         (timed_from run.old.driven.machine.delays run.old.driven.machine.levels run.old.left
         (moment_of run.old.driven) run.old.snaps.now)
-        ≡ rest_of run.new.turn run.new.left run.new.tick run.new.snaps.now run.new.waiting run.new.driven }
+        ≡ rest_of run.new.turn run.new.left run.new.tick run.new.snaps.now run.new.waiting
+        run.new.driven }
 {
     let mut drops = levels_ahead(&run.driven);
     let decided = leave(&mut run.driven, run.left);
@@ -307,10 +335,12 @@ fn finish<const N: usize>(run: &mut Progress<N>, rests: bool) -> TimedRunEvent
         (told_at_end rests run.old.tick run.old.snaps.now run.old.driven.machine.state) }
     requires waits { (s : Machine) → whats run.old.waiting s ≡ [] }
 
-    ensures kept { IsRun run.new.turn run.new.left run.new.tick run.new.snaps.now run.new.waiting run.new.driven }
+    ensures kept { IsRun run.new.turn run.new.left run.new.tick run.new.snaps.now run.new.waiting
+        run.new.driven }
     ensures told { told_at_end rests run.old.tick run.old.snaps.now run.old.driven.machine.state
         ≡ told_with result run.new.driven.machine run.new.printed.bytes
-        ∷ rest_of run.new.turn run.new.left run.new.tick run.new.snaps.now run.new.waiting run.new.driven }
+        ∷ rest_of run.new.turn run.new.left run.new.tick run.new.snaps.now run.new.waiting
+        run.new.driven }
 {
     let Some((at, after)) = split_due(run.snaps, run.tick) else {
         run.turn = Turn::Over;

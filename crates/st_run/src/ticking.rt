@@ -41,7 +41,8 @@ pub(crate) fn run_many<const N: usize>(
     requires count { count ≤ 2 ^ 63 }
     ensures made { AreMadeUpTo count result driven.old driven.new }
     ensures rows { rows.new ≡ queue_with
-        (rows_in_ticks (ticks_passed (last_for None) driven.old.machine.now result) driven.old.machine)
+        (rows_in_ticks (ticks_passed (last_for None) driven.old.machine.now result)
+        driven.old.machine)
         rows.old }
 {
     driven.machine.run_to(count, LAST, rows)

@@ -17,7 +17,8 @@ RunAhead (suc k) table s = ((plan s table).serial ≡ false) × RunAhead k None 
 -- one of the next k entries writes the word w
 unfoldable pub is_word_written : ℕ → Option ℕ → Machine → ℕ → Bool
 is_word_written zero table s w = false
-is_word_written (suc k) table s w = is_among w (entry table s).writes || is_word_written k None (guess table s) w
+is_word_written (suc k) table s w =
+    is_among w (entry table s).writes || is_word_written k None (guess table s) w
 
 -- n words from the word w on
 unfoldable pub word_list_from : ℕ → ℕ → List ℕ

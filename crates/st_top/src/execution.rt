@@ -80,7 +80,8 @@ fn write_output<K: Sink>(
         (events_of_run program.now.controls start)
         → StandsAtStart program.now.controls.back start past.old
         → WritesEvents (K.output out.old) (K.output out.new)
-        (at_moment 0 0 (front_lines made job.now (assembly_parts program.now)) ++ run_report program.now.controls start)
+        (at_moment 0 0 (front_lines made job.now (assembly_parts program.now)) ++ run_report
+        program.now.controls start)
         (moment_at_end program.now.controls start) moment.new result }
 {
     write_front(out, made, job, cards, program)?;
@@ -250,7 +251,8 @@ fn answer_run<K: Sink>(
         (events_of_run program.now.controls start)
         → StandsAtStart program.now.controls.back start past.old
         → Writes result.status (K.output out.old) (K.output out.new)
-        (output_of_run (front_lines made job.now (assembly_parts program.now)) program.now.controls start) result }
+        (output_of_run (front_lines made job.now (assembly_parts program.now)) program.now.controls
+        start) result }
 {
     let mut moment = Moment::start();
     let written = write_output(out, made, job, cards, program, run, past, &mut moment);

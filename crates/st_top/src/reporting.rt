@@ -58,7 +58,8 @@ fn write_back<K: Sink>(
     ensures { (start : SceneOf)
         → StandsAtEnd controls.now.back controls.now.budget start past.old
         → WritesLines (K.output out.old) (K.output out.new)
-        (lines_of_steps_back controls.now (states controls.now.budget start) (last_state controls.now start)) result }
+        (lines_of_steps_back controls.now (states controls.now.budget start) (last_state
+        controls.now start)) result }
 {
     let Some(past) = past.as_mut() else {
         return Ok(());
@@ -86,7 +87,8 @@ fn write_past<K: Sink>(
     requires ready { IfSome past.old IsBesideReady }
     ensures { (start : SceneOf) → StandsAtStart controls.now.back start past.old
         → WritesLines (K.output out.old) (K.output out.new)
-        (lines_of_steps_back controls.now (states controls.now.budget start) (last_state controls.now start)) result }
+        (lines_of_steps_back controls.now (states controls.now.budget start) (last_state
+        controls.now start)) result }
 {
     run_beside(past, budget(controls));
     write_back(out, past, controls)
