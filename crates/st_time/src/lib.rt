@@ -17,6 +17,7 @@ pub fn chart(row: &Row) -> Line
 }
 
 /// The same, filled into a line; what the line had is gone.
+#[inline(always)]
 pub fn fill_chart(line: &mut LineFromEnd, row: &Row)
     ensures { line.new ≡ row_line row.now.number row.now.address row.now.p row.now.r row.now.c }
 {
