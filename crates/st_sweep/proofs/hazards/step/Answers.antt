@@ -1,4 +1,5 @@
-use Rattle.std.proofs.Common.{◌∷◌, ◌∙◌, ap, subst}
+use Rattle.std.proofs.Common.{ℕ, Option, ◌∷◌, ◌∙◌, ap, subst}
+use Rattle.st_prep.specs.declared.entries.Prepared.{Prepared}
 use Rattle.st_prep.specs.Plan.{plan}
 use Rattle.st_segment.specs.Entries.{words_to_write}
 use Rattle.st_sweep.specs.Marks.{AreMarks}
@@ -12,7 +13,7 @@ returns-clause-state c =
 pub returns-clause-entry : goal.returns-clause-entry
 returns-clause-entry c = λ earlier are. (
   subst (λ w. AreMarks (words_to_write w ∷ earlier) c.put.new.self)
-      (ap (λ p. p.writes) (c.plan_in-side.ensures.value ∙ ap (λ t. plan c.args.state.now t) c.interrupt-taken.ensures.value)) (c.put.ensures earlier are),
+      (ap (λ (p : Prepared). p.writes) (c.plan_in-side.ensures.value ∙ ap (λ (t : Option ℕ). plan c.args.state.now t) c.interrupt-taken.ensures.value)) (c.put.ensures earlier are),
   c.is_fresh.ensures
       ∙ entry-hazard_free earlier _ _ _ _ _ _ _ c.interrupt-taken.ensures.value c.plan_in-side.ensures.value c.plan_in-side.ensures.side
       c.goes_straight-straight.ensures (c.has_side-side.ensures earlier are) (c.has_words-words.ensures earlier are),
