@@ -43,6 +43,28 @@ same-change : (old now : List ℕ) (m : Machine) (w : ℕ) → slice_index now w
 unfolding change_lines
 same-change old now m w same = rw same refl
 
+-- ---- some words
+
+-- the words from w on and below c did not change; c is at most the first word behind the registers
+pub record AreSame (old : List ℕ) (m : Machine) (w c : ℕ) : Type 0 where
+  pub least : w ≤ c
+  pub most : c ≤ 32
+  pub between : (v : ℕ) → w ≤ v → v < c → slice_index old v ≡ word m v
+
+pub same-starts : (old : List ℕ) (m : Machine) (w : ℕ) → w ≤ 32 → AreSame old m w w
+same-starts old m w few = record { least = omega arith; most = few; between = λ v low below. absurd (omega (arith, low, below)) }
+
+pub same-turn : (old : List ℕ) (m : Machine) (w c : ℕ) → AreSame old m w c → c < 32 → slice_index old c ≡ word m c → AreSame old m w (c + 1)
+same-turn old m w c h few same = record {
+  least = omega (arith, h.least);
+  most = omega arith;
+  between = λ v low below.
+      elim (eqb_tells v c) [
+        | inl e ↦ subst (λ k. slice_index old k ≡ word m k) (sym e.1) same
+        | inr e ↦ h.between v low (omega (arith, e.1, below))
+      ];
+}
+
 -- ---- all of them
 
 -- So far the changes of the words below w are written, and these words are as the machine has them.
@@ -62,6 +84,22 @@ change-starts s old m size = record {
   left = λ v from. refl;
 }
 
+-- words that did not change are passed over
+pub change-passes : (s t : OutputState) (old now : List ℕ) (m : Machine) (w c : ℕ) → IsChanging s t old now m w → w ≤ c → c ≤ WORDS
+    → ((v : ℕ) → w ≤ v → v < c → slice_index now v ≡ word m v) → IsChanging s t old now m c
+change-passes s t old now m w c h from most between = record {
+  so_far = subst (LinesSoFar s t (lines_for (change_lines old m) WORDS 0))
+      (passed (change_lines old m) WORDS w c from most (λ v low below. none-change old m v (sym (h.left v low) ∙ between v low below))) h.so_far;
+  most = most;
+  size = h.size;
+  kept = λ v below.
+      elim (leb_tells w v) [
+        | inl p ↦ between v p.1 below
+        | inr p ↦ h.kept v (omega (arith, p.1))
+      ];
+  left = λ v low. h.left v (omega (arith, low, from));
+}
+
 module _ (s t : OutputState) (old now : List ℕ) (m : Machine) (w : ℕ) (h : IsChanging s t old now m w) (some : w < WORDS) where
   next : LinesSoFar s t (lines_for (change_lines old m) WORDS 0) (change_lines old m w ++ lines_for (change_lines old m) (WORDS - (w + 1)) (w + 1))
   next = lines_for_next s t (lines_for (change_lines old m) WORDS 0) (change_lines old m) WORDS w some h.so_far
@@ -76,9 +114,7 @@ module _ (s t : OutputState) (old now : List ℕ) (m : Machine) (w : ℕ) (h : I
       lines_failed s t u (lines_for (change_lines old m) WORDS 0) (change_lines old m w) (lines_for (change_lines old m) (WORDS - (w + 1)) (w + 1)) r f
       next failed.err
 
-  module _ (u : OutputState) (new : List ℕ) (c : ℕ) (x : Unit {0}) (may : Changeable) (same : (v : ℕ) → v < WORDS → IsLeft v may → slice_index old v ≡ word m v)
-      (wrote : WritesLines t u (change_lines now m w) (Ok x)) (is : new ≡ slice_set now w (word m w)) (from : w + 1 ≤ c) (most : c ≤ WORDS)
-      (between : (v : ℕ) → w + 1 ≤ v → v < c → IsLeft v may) where
+  module _ (u : OutputState) (new : List ℕ) (x : Unit {0}) (wrote : WritesLines t u (change_lines now m w) (Ok x)) (is : new ≡ slice_set now w (word m w)) where
     made : LinesSoFar s u (lines_for (change_lines old m) WORDS 0) (lines_for (change_lines old m) (WORDS - (w + 1)) (w + 1))
     made =
         let done = subst (λ ls. WritesLines t u ls (Ok x)) here wrote in
@@ -93,25 +129,29 @@ module _ (s t : OutputState) (old now : List ℕ) (m : Machine) (w : ℕ) (h : I
     at : slice_index new w ≡ word m w
     at = ap (λ xs. slice_index xs w) is ∙ get_or-set_same now w (word m w) 0 inside
 
-    kept : (v : ℕ) → v < c → slice_index new v ≡ word m v
-    kept v below = elim (leb_tells (w + 1) v) [
-      | inl p ↦ other v (omega (arith, p.1)) ∙ h.left v (omega (arith, p.1)) ∙ same v (omega arith) (between v p.1 below)
-      | inr p ↦
-          elim (eqb_tells v w) [
-            | inl e ↦ subst (λ k. slice_index new k ≡ word m k) (sym e.1) at
-            | inr e ↦ other v e.1 ∙ h.kept v (omega (arith, p.1, e.1))
-          ]
-    ]
+    kept : (v : ℕ) → v < w + 1 → slice_index new v ≡ word m v
+    kept v below =
+        elim (eqb_tells v w) [
+          | inl e ↦ subst (λ k. slice_index new k ≡ word m k) (sym e.1) at
+          | inr e ↦ other v e.1 ∙ h.kept v (omega (arith, e.1, below))
+        ]
 
-    pub change-turn : IsChanging s u old new m c
-    change-turn = record {
-      so_far = subst (LinesSoFar s u (lines_for (change_lines old m) WORDS 0))
-          (passed (change_lines old m) WORDS (w + 1) c from most (λ v low below. none-change old m v (same v (omega arith) (between v low below)))) made;
-      most = most;
+    -- behind the word
+    pub change-made : IsChanging s u old new m (w + 1)
+    change-made = record {
+      so_far = made;
+      most = omega arith;
       size = ap length is ∙ length-set now w (word m w) ∙ h.size;
       kept = kept;
       left = λ v low. other v (omega arith) ∙ h.left v (omega arith);
     }
+
+    pub change-size : length new ≡ words_of_storage
+    change-size = change-made.size
+
+    pub change-left : (may : Changeable) → ((v : ℕ) → v < WORDS → IsLeft v may → slice_index old v ≡ word m v)
+        → (v : ℕ) → w + 1 ≤ v → v < WORDS → IsLeft v may → slice_index new v ≡ word m v
+    change-left may same v low below left = change-made.left v low ∙ same v below left
 
 -- at the end
 module _ (s t : OutputState) (old now : List ℕ) (m : Machine) (w : ℕ) (h : IsChanging s t old now m w) (end : WORDS ≤ w) where

@@ -1,7 +1,11 @@
 -- Hexadecimal digits, eight at a time.
-use Rattle.std.proofs.Common.{◌≡◌, ℕ, ◌/◌, ◌^◌, List, [], ◌++◌, refl, ◌∙◌, ap, sym, append_assoc, arith}
+use Rattle.std.specs.Prelude.{Bool, nat_eq, ◌&&◌}
+use Rattle.std.proofs.lemmas.Bool.{and_parts}
+use Rattle.std.proofs.lemmas.Bool.Decides.{eqb_tells, nat_tests}
+use Rattle.std.proofs.Common.{zero, suc, true, inl, inr, ◌+◌, ◌*◌, ◌%◌, ◌<◌, ◌∷◌, get_or, ◌≡◌, ℕ, ◌/◌, ◌^◌, List, [], ◌++◌, refl, ◌∙◌, ap, sym, append_assoc, arith}
 use Rattle.std.proofs.lemmas.List.{append-nil}
-use Rattle.st_text.specs.Numerals.{hex_text, hex_word}
+use Rattle.st_text.specs.Numerals.{hex_digit, hex_text, hex_word}
+use Rattle.st_lines.specs.declared.digits.TheConstants.{PAIRS}
 
 pub hex-halves : (x : ℕ) → hex_text 8 (x / 2 ^ 32) ++ hex_text 8 x ≡ hex_word x
 unfolding hex_text
@@ -22,3 +26,44 @@ word_pieces x y old mid new half one two =
 pub four_pieces : (a b c d l0 l1 l2 l3 l4 : List ℕ) → l0 ≡ [] → l1 ≡ d ++ l0 → l2 ≡ c ++ l1 → l3 ≡ b ++ l2 → l4 ≡ a ++ l3
     → l4 ≡ a ++ b ++ c ++ d
 four_pieces a b c d l0 l1 l2 l3 l4 e0 e1 e2 e3 e4 = rw (e4, e3, e2, e1, e0) (simp (append_assoc, append-nil) refl)
+
+-- ---- two digits at a time
+
+abbrev are_pairs : ℕ → Bool
+are_pairs zero = true
+are_pairs (suc p) =
+    (nat_eq (get_or PAIRS (p * 2) 0) (hex_digit (p / 16)) && nat_eq (get_or PAIRS (p * 2 + 1) 0) (hex_digit (p % 16))) && are_pairs p
+
+same : (a b : ℕ) → nat_eq a b ≡ true → a ≡ b
+same a b h = grind (arith, nat_tests, h)
+
+below : (n p : ℕ) → are_pairs n ≡ true → p < n → (get_or PAIRS (p * 2) 0 ≡ hex_digit (p / 16)) × (get_or PAIRS (p * 2 + 1) 0 ≡ hex_digit (p % 16))
+below zero p are few = absurd (omega arith)
+below (suc n) p are few =
+    let parts = and_parts _ (are_pairs n) are in
+    elim (eqb_tells p n) [
+      | inl e ↦ let both = and_parts _ _ parts.0 in rw (e.1) (same _ _ both.0, same _ _ both.1)
+      | inr e ↦ below n p parts.1 (omega (arith, e.1))
+    ]
+
+pub pair-text : (n : ℕ) → get_or PAIRS (n % 256 * 2) 0 ∷ get_or PAIRS (n % 256 * 2 + 1) 0 ∷ [] ≡ hex_text 2 n
+unfolding hex_text
+pair-text n =
+    let p = below 256 (n % 256) refl (omega arith) in
+    let high : n % 256 / 16 ≡ n / 16 % 16 = omega arith in
+    let low : n % 256 % 16 ≡ n % 16 = omega arith in
+    rw (p.0, p.1, high, low) refl
+
+eight-digits : (n : ℕ) (old : List ℕ)
+    → hex_text 2 (n / 16777216) ++ (hex_text 2 (n / 65536) ++ (hex_text 2 (n / 256) ++ (hex_text 2 n ++ old))) ≡ hex_text 8 n ++ old
+unfolding hex_text
+eight-digits n old =
+    let one : n / 256 ≡ n / 16 / 16 = omega arith in
+    let two : n / 65536 ≡ n / 16 / 16 / 16 / 16 = omega arith in
+    let three : n / 16777216 ≡ n / 16 / 16 / 16 / 16 / 16 / 16 = omega arith in
+    rw (three, two, one) refl
+
+pub digit_pieces : (n x y z : ℕ) (p q r t old l1 l2 l3 l4 : List ℕ) → x ≡ n / 256 → y ≡ n / 65536 → z ≡ n / 16777216 → p ≡ hex_text 2 n
+    → q ≡ hex_text 2 x → r ≡ hex_text 2 y → t ≡ hex_text 2 z → l1 ≡ p ++ old → l2 ≡ q ++ l1 → l3 ≡ r ++ l2 → l4 ≡ t ++ l3 → l4 ≡ hex_text 8 n ++ old
+digit_pieces n x y z p q r t old l1 l2 l3 l4 ex ey ez ep eq er et e1 e2 e3 e4 =
+    rw (e4, e3, e2, e1, et, er, eq, ep, ez, ey, ex) (eight-digits n old)

@@ -52,21 +52,60 @@ fn next_of_card(card: Option<u32>, w: u32) -> u32
     }
 }
 
-// The first word from `w` on that may have changed, at most `WORDS`.
+// The first word from `w` on, which is no register, that may have changed, at most `WORDS`.
 fn next_word(may: &Changeable, w: u32) -> u32
-    requires { w ≤ WORDS }
+    requires above { 32 ≤ w }
+    requires most { w ≤ WORDS }
     ensures least { w ≤ result }
     ensures most { result ≤ WORDS }
     ensures between { (v : ℕ) → w ≤ v → v < result → IsLeft v may.now }
 {
-    if w < FIRST_STORAGE_WORD {
-        return w;
-    }
     let writes = may.writes;
     let one = next_in(writes.first, writes.len, w);
     let two = next_in(writes.first2, writes.len2, w);
     let card = next_of_card(may.card, w);
     one.min(two).min(card)
+}
+
+// The first register from `w` on that changed, or else the first word behind them.
+#[tactic(auto, using(st_bits::specs::Storage::words_of_storage_is))]
+fn next_register(old: &Vec<u64>, state: &State, w: u32) -> u32
+    requires size { length old.now.items ≡ words_of_storage }
+    requires most { w ≤ 32 }
+    ensures least { w ≤ result }
+    ensures most { result ≤ 32 }
+    ensures between { (v : ℕ) → w ≤ v → v < result →
+        slice_index old.now.items v ≡ word_of state.now v }
+{
+    let mut r = w;
+    'registers: while r < FIRST_STORAGE_WORD {
+        if old[r as usize] != state.word(r) {
+            return r;
+        }
+        r += 1;
+    }
+    r
+}
+
+// The first word from `w` on that may have changed, at most `WORDS`.
+fn next_changed(old: &Vec<u64>, state: &State, may: &Changeable, w: u32) -> u32
+    requires size { length old.now.items ≡ words_of_storage }
+    requires most { w ≤ WORDS }
+    requires left { (v : ℕ) → w ≤ v → v < WORDS → IsLeft v may.now →
+        slice_index old.now.items v ≡ word_of state.now v }
+    ensures least { w ≤ result }
+    ensures most { result ≤ WORDS }
+    ensures between { (v : ℕ) → w ≤ v → v < result →
+        slice_index old.now.items v ≡ word_of state.now v }
+{
+    if w >= FIRST_STORAGE_WORD {
+        return next_word(may, w);
+    }
+    let r = next_register(old, state, w);
+    if r < FIRST_STORAGE_WORD {
+        return r;
+    }
+    next_word(may, r)
 }
 
 // Writes word `w`, where it changed, and keeps what it is now.
@@ -110,10 +149,12 @@ pub(crate) fn write_changed<K: Sink>(
     ensures words { IsOk result → old.new.items ≡ state.now.words }
 {
     state.shape();
-    let mut w = 0;
+    let first = next_changed(old, state, may, 0);
+    let mut w = first;
     'words: while w < WORDS {
         write_change(out, old, state, w)?;
-        w = next_word(may, w + 1);
+        let next = next_changed(old, state, may, w + 1);
+        w = next;
     }
     Ok(())
 }

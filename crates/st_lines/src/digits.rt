@@ -1,47 +1,29 @@
 //! Lines with hexadecimal digits, put together from their end.
 ghost use Rattle.std.specs.Prelude.{◌≡◌, ◌+◌, ◌%◌, ◌<◌, ◌≤◌, ◌++◌, length};
-ghost use Rattle.st_text.specs.Numerals.{hex_digit, hex_text, hex_word};
+ghost use Rattle.st_text.specs.Numerals.{hex_text, hex_word};
 ghost use Rattle.st_lines.specs.Lines.{changed_line, index_line, second_text, code_line};
 
 use st_plain::Code;
 use st_prep::IndexChange;
 use st_report::LineFromEnd;
 
-// The last hexadecimal digit of a number.
-#[inline(always)]
-fn digit_of(n: u64) -> u8
-    ensures { result ≡ hex_digit (n % 16) }
-{
-    let digit = (n % 16) as u8;
-    if digit < 10 {
-        b'0' + digit
-    } else {
-        b'A' + (digit - 10)
-    }
-}
+// The hexadecimal digits of the numbers below 256, two for each.
+static PAIRS: [u8; 512] = *b"000102030405060708090A0B0C0D0E0F101112131415161718191A1B1C1D1E1F\
+    202122232425262728292A2B2C2D2E2F303132333435363738393A3B3C3D3E3F\
+    404142434445464748494A4B4C4D4E4F505152535455565758595A5B5C5D5E5F\
+    606162636465666768696A6B6C6D6E6F707172737475767778797A7B7C7D7E7F\
+    808182838485868788898A8B8C8D8E8F909192939495969798999A9B9C9D9E9F\
+    A0A1A2A3A4A5A6A7A8A9AAABACADAEAFB0B1B2B3B4B5B6B7B8B9BABBBCBDBEBF\
+    C0C1C2C3C4C5C6C7C8C9CACBCCCDCECFD0D1D2D3D4D5D6D7D8D9DADBDCDDDEDF\
+    E0E1E2E3E4E5E6E7E8E9EAEBECEDEEEFF0F1F2F3F4F5F6F7F8F9FAFBFCFDFEFF";
 
-// The last eight hexadecimal digits of a number.
+// The last two hexadecimal digits of a number.
 #[inline(always)]
-#[tactic(auto, unfolding(st_text::specs::Numerals::hex_text))]
-fn digits_of(n: u64) -> [u8; 8]
-    ensures { result ≡ hex_text 8 n }
+fn pair_of(n: u64) -> [u8; 2]
+    ensures { result ≡ hex_text 2 n }
 {
-    let b = n / 16;
-    let c = b / 16;
-    let d = c / 16;
-    let e = d / 16;
-    let f = e / 16;
-    let g = f / 16;
-    [
-        digit_of(g / 16),
-        digit_of(g),
-        digit_of(f),
-        digit_of(e),
-        digit_of(d),
-        digit_of(c),
-        digit_of(b),
-        digit_of(n),
-    ]
+    let from = (n % 256) as usize * 2;
+    [PAIRS[from], PAIRS[from + 1]]
 }
 
 // Puts the last eight hexadecimal digits of a number before a line.
@@ -51,7 +33,10 @@ fn put_digits(line: &mut LineFromEnd, n: u64)
     ensures bytes { line.new ≡ hex_text 8 n ++ line.old }
     ensures room { length line.new ≡ length line.old + 8 }
 {
-    line.put(&digits_of(n));
+    line.put(&pair_of(n));
+    line.put(&pair_of(n / 256));
+    line.put(&pair_of(n / 65_536));
+    line.put(&pair_of(n / 16_777_216));
 }
 
 // Puts a word before a line.

@@ -3,7 +3,7 @@ use Rattle.st_lines.proofs.changes.next_word.Goals as goal
 
 pub returns-clause-between : goal.returns-clause-between
 returns-clause-between c v low below = record {
-  above = omega (arith, low, c.if-w-lt-FIRST_STORAGE_WORD.false);
+  above = omega (arith, low, c.requires.above);
   unwritten = record {
     first = c.next_in-one.ensures.between v low (omega (arith, below, c.min.ensures, c.min-2.ensures));
     second = c.next_in-two.ensures.between v low (omega (arith, below, c.min.ensures, c.min-2.ensures));
