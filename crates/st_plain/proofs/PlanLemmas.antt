@@ -9,14 +9,14 @@ use Rattle.st_prep.specs.declared.entries.Place.{Place}
 use Rattle.st_prep.specs.declared.entries.Prepared.{Prepared}
 use Rattle.st_segment.specs.Entries.{run_of, instruction_words, own_count, entry}
 use Rattle.st_plain.specs.Looking.{side_at, executes_at, code_at, known_at}
-use Rattle.st_plain.specs.Straight.{entry_shown, IsPlannedAt}
+use Rattle.st_plain.specs.Straight.{entry_shown, IsEntryPlanned}
 use Rattle.st_plain.specs.declared.entries.Planned.{Planned}
 
 -- it is planned at this place, by all that it reads
 abbrev pub IsPlannedAt : Machine → List ℕ → Place → Prepared → Planned → Type 0
 IsPlannedAt s x q p e =
     let r = reading_of s q in
-    IsPlannedAt s x q (words_fetched s q) (run_of (take (own_words r (word s)) (words_read r (word s))))
+    IsEntryPlanned s x q (words_fetched s q) (run_of (take (own_words r (word s)) (words_read r (word s))))
     (run_of (drop (own_words r (word s)) (words_read r (word s)))) p e
 
 module _ (s : Machine) (table : Option ℕ) (q : Place) (x : List ℕ) (p : Prepared) (e : Planned) (at : q ≡ place_of s table)

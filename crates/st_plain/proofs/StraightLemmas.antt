@@ -12,7 +12,7 @@ use Rattle.st_prep.specs.declared.entries.Prepared.{Prepared}
 use Rattle.st_plain.specs.declared.entries.Planned.{Planned}
 use Rattle.st_rows.specs.declared.entry.WordRun.{WordRun}
 use Rattle.st_segment.specs.Entries.{run_of}
-use Rattle.st_plain.specs.Straight.{IsReadOver, IsPlannedAt}
+use Rattle.st_plain.specs.Straight.{IsReadOver, IsEntryPlanned}
 
 -- ---- one instruction
 
@@ -109,13 +109,13 @@ module _ (s : Machine) (x : List ℕ) (q : Place) (first second : ℕ) (ws : Lis
   is-target : target ≡ run_of (drop (own_words (reading_of s q) (word s)) (words_read (reading_of s q) (word s)))
   is-target = t ∙ ap run_of (sym (lead-target (word s) (reading_of s q) _ ws here))
 
-  pub planned-spelled : IsPlannedAt s x q (fetched_plain (decoded_entry first second)) own target p e
-      → IsPlannedAt s x q (words_fetched s q) (run_of (take (own_words (reading_of s q) (word s)) (words_read (reading_of s q) (word s))))
+  pub planned-spelled : IsEntryPlanned s x q (fetched_plain (decoded_entry first second)) own target p e
+      → IsEntryPlanned s x q (words_fetched s q) (run_of (take (own_words (reading_of s q) (word s)) (words_read (reading_of s q) (word s))))
       (run_of (drop (own_words (reading_of s q) (word s)) (words_read (reading_of s q) (word s)))) p e
   planned-spelled h =
-      subst (λ r. IsPlannedAt s x q (words_fetched s q) (run_of (take (own_words (reading_of s q) (word s)) (words_read (reading_of s q) (word s)))) r p e) is-target
-      (subst (λ r. IsPlannedAt s x q (words_fetched s q) r target p e) is-own
-      (subst (λ f. IsPlannedAt s x q f own target p e) is-fetched h))
+      subst (λ r. IsEntryPlanned s x q (words_fetched s q) (run_of (take (own_words (reading_of s q) (word s)) (words_read (reading_of s q) (word s)))) r p e) is-target
+      (subst (λ r. IsEntryPlanned s x q (words_fetched s q) r target p e) is-own
+      (subst (λ f. IsEntryPlanned s x q f own target p e) is-fetched h))
 
 pub none-run : record { first = 0; len = 0 } ≡ run_of []
 unfolding run_of

@@ -9,7 +9,7 @@ ghost use Rattle.st_prep.specs.Plan.{needs as needs_of, plan as plan_of, prepare
 ghost use Rattle.st_prep.specs.Ranges.{HasFields, IsPlace, IsFetched, IsNeeds, IsPrepared};
 ghost use Rattle.st_prep.specs.Reading.{Use, words_read, own_words, half_of as half_by, with_second as with_second_of, with_first as with_first_of, instruction_at, is_execute as is_execute_of, fetched_plain, allowed_found};
 ghost use Rattle.st_plain.specs.Looking.{code_found as code_found_of, known_at};
-ghost use Rattle.st_plain.specs.Straight.{IsReadOver, if_more, entry_shown, IsPlannedAt};
+ghost use Rattle.st_plain.specs.Straight.{IsReadOver, if_more, entry_shown, IsEntryPlanned};
 ghost use Rattle.st_segment.specs.Entries.{run_of as run_by, above_registers as above_registers_of, words_to_read as words_to_read_of, words_to_write as words_to_write_of, side_to_read as side_to_read_of, entry as entry_of};
 
 use crate::known::{Code, Known, code_found, code_in};
@@ -383,7 +383,7 @@ fn plan_own(
     requires place { IsPlace p.old.place }
     requires fields { HasFields own.instr }
     requires code { code ≡ code_found_of (fetched_plain own) }
-    ensures planned { IsPlannedAt state.now x.now p.old.place (fetched_plain own) words
+    ensures planned { IsEntryPlanned state.now x.now p.old.place (fetched_plain own) words
         (record { first = 0; len = 0 }) p.new result }
     ensures ranges { IsPrepared p.new }
 {
@@ -411,7 +411,7 @@ fn plan_as(
 ) -> Planned
     requires place { IsPlace p.old.place }
     requires format { spelled_as format halves.0 halves.1 ≡ instruction_of halves.0 halves.1 }
-    ensures planned { IsPlannedAt state.now x.now p.old.place
+    ensures planned { IsEntryPlanned state.now x.now p.old.place
         (fetched_plain (decoded_entry halves.0 halves.1)) words (record { first = 0; len = 0 })
         p.new result }
     ensures ranges { IsPrepared p.new }
@@ -432,7 +432,7 @@ fn plan_cold(
 ) -> Planned
     requires place { IsPlace p.old.place }
     requires format { spelled_as format halves.0 halves.1 ≡ instruction_of halves.0 halves.1 }
-    ensures planned { IsPlannedAt state.now x.now p.old.place
+    ensures planned { IsEntryPlanned state.now x.now p.old.place
         (fetched_plain (decoded_entry halves.0 halves.1)) words (record { first = 0; len = 0 })
         p.new result }
     ensures ranges { IsPrepared p.new }
@@ -453,7 +453,7 @@ fn plan_known(
 ) -> Planned
     requires place { IsPlace p.old.place }
     requires format { spelled_as format halves.0 halves.1 ≡ instruction_of halves.0 halves.1 }
-    ensures planned { IsPlannedAt state.now x.now p.old.place
+    ensures planned { IsEntryPlanned state.now x.now p.old.place
         (fetched_plain (decoded_entry halves.0 halves.1)) words (record { first = 0; len = 0 })
         p.new result }
     ensures ranges { IsPrepared p.new }
@@ -475,7 +475,7 @@ fn plan_other(x: &[u64; 16], state: &State, p: &mut Prepared) -> Planned
     requires place { IsPlace p.old.place }
     requires words { x.now ≡ index_words_of state.now }
     ensures planned { let r = reading_of state.now p.old.place in
-        IsPlannedAt state.now x.now p.old.place (fetched_of state.now p.old.place)
+        IsEntryPlanned state.now x.now p.old.place (fetched_of state.now p.old.place)
         (run_by (take (own_words r (word state.now)) (words_read r (word state.now))))
         (run_by (drop (own_words r (word state.now)) (words_read r
         (word state.now)))) p.new result }
@@ -500,7 +500,7 @@ fn plan_spelled(spelled: Spelled, x: &[u64; 16], state: &State, p: &mut Prepared
         p.old.place.address k) (k (allowed_found spelled.first spelled.second))
         (p.old.place.address / 2 ∷ if_more spelled.more ((p.old.place.address + 1) / 2)) }
     ensures planned { let r = reading_of state.now p.old.place in
-        IsPlannedAt state.now x.now p.old.place (fetched_of state.now p.old.place)
+        IsEntryPlanned state.now x.now p.old.place (fetched_of state.now p.old.place)
         (run_by (take (own_words r (word state.now)) (words_read r (word state.now))))
         (run_by (drop (own_words r (word state.now)) (words_read r
         (word state.now)))) p.new result }
