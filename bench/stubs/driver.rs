@@ -2,7 +2,7 @@
 //! the last state. All eight machines are in it, as in the program that is proved: what they share has eight callers.
 use crate::st_banks::Delays;
 use crate::st_exch::Hopper;
-use crate::st_run::{Run, What};
+use crate::st_run::{Run, RunEvent};
 use crate::st_state::State;
 use crate::stubs::Global;
 
@@ -52,7 +52,7 @@ fn tell<const N: usize>(state: State, delays: Delays, budget: u64) {
         told += 1;
         done = next.done;
         tick = next.tick;
-        if let What::Done { address, p, r } = next.what {
+        if let RunEvent::Done { address, p, r } = next.what {
             rows = rows.wrapping_mul(31).wrapping_add(p * 3 + r * 5 + tick * 7 + u64::from(address));
         }
     }
