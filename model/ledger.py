@@ -132,7 +132,7 @@ def source(use, end):
         return f'FORWARDED ROW {use.row} DONE {use.done}'
     read = use.read
     if use.how == 'HELD':
-        return f'HELD ROW {read.row} ANSWER {read.answer}'
+        return f'HELD ANSWER {read.answer}'
     return (f'READ BANK {read.bank} WANT {read.want} TURN {read.turn} FREE {read.free} ACCEPT {read.accept} '
             f'ANSWER {read.answer} MADE {int(end is None or read.accept < end)}')
 
@@ -176,13 +176,19 @@ def charge_lines(known, walk, start, done, sums):
     if walk.level_wait:
         yield f'LEVEL {walk.level_wait}'
     if shown:
-        because = walk.because
-        by, late = ('-' if number is None else number for number in (because.row, because.late))
-        yield f'BECAUSE {because.why} ROW {by} TICK {because.tick} LATE {late}'
+        yield because_line(walk.because)
+
+
+def because_line(because):
+    """Which row asked for a word that was prefetched, and when, is to be seen from its uses."""
+    if because.why == 'PREFETCH':
+        return f'BECAUSE PREFETCH WORD {because.word} LATE {because.late}'
+    by, late = ('-' if number is None else number for number in (because.row, because.late))
+    return f'BECAUSE {because.why} ROW {by} TICK {because.tick} LATE {late}'
 
 
 def which(read):
-    return f'READ {read.word} ROW {read.row} BANK {read.bank}'
+    return f'READ {read.word} BANK {read.bank}'
 
 
 # ---- the whole

@@ -21,9 +21,10 @@ class Wait:
 @dataclass
 class Because:
     why: str
-    row: int                    # None for the start of a segment, as `late`
+    row: int                    # None for the start of a segment, as `late`, and for a word that was prefetched
     tick: int
     late: int
+    word: int = None            # of `PREFETCH`, the word that was asked for
 
 
 class Walk:
@@ -79,7 +80,7 @@ class Walk:
         read = words[place].read
         self.back(read, 'INSTRUCTION')
         if read.row != self.number:
-            return Because('PREFETCH', read.row, read.want, tick - self.front.p)
+            return Because('PREFETCH', None, None, tick - self.front.p, read.word)
         earlier, of_target = words[:place], self.entry.is_ex and place >= self.entry.own
         return (self.by_completion([use.word for use in earlier], read.want, of_target)
                 or self.by_answer(earlier, read.want)

@@ -8,6 +8,7 @@ PARTED = ("instruction", "index", "operand")        # stages whose ticks lines W
 REASONS = ("start", "serial", "store", "level", "forwarding", "bus", "prefetch", "order")
 # Of the first row of a segment, in place of `start`, by the words of the lines.
 SEGMENT_REASONS = {"RUN": "start", "INTERRUPT": "interrupt", "MISSED": "wrong_guess", "CARD": "card"}
+FETCHED = ("instruction", "following")      # reads by which a word is held
 REACH = 512                 # no read waits, or keeps a bank busy, for so many ticks
 
 
@@ -171,6 +172,7 @@ class Ledger:
         self.done = 0               # C of the row before
         self.reads = {}             # of the segment, by the tick at which they are accepted
         self.last = {}              # of the segment, the last read of each bank
+        self.fetched = {}           # of the segment, the last read of each instruction word
 
     def rows(self):
         for line in self.lines:
@@ -199,7 +201,7 @@ class Ledger:
             return
         indicator = int(words[8]) if words[7] == "INTERRUPT" else None
         self.segment = Segment(int(words[1]), int(words[3]), words[5] == "1", SEGMENT_REASONS[words[7]], indicator)
-        self.reads, self.last = {}, {}
+        self.reads, self.last, self.fetched = {}, {}, {}
 
     def take_row(self, words, line):
         self.row = self.entry = Row(*named(words), c=int(words[10]), segment=self.segment, before=self.done)
@@ -235,7 +237,9 @@ class Ledger:
             ticks = (int(words[k]) for k in range(5, 16, 2))
             use.read = Read(self.entry.row, use.kind, use.word, *ticks, words[17] == "1")
             self.note(use.read)
-        elif use.how != "register":
+        elif use.how == "held":
+            use.row, use.tick = self.fetched[use.word].row, int(words[5])
+        elif use.how == "forwarded":
             use.row, use.tick = int(words[5]), int(words[7])
         self.entry.uses.append(use)
 
@@ -243,6 +247,8 @@ class Ledger:
         """Keeps a read for the waits of rows that come soon."""
         read.holder = self.last.get(read.bank)
         self.last[read.bank] = read.row, read.word, read.kind
+        if read.kind in FETCHED:
+            self.fetched[read.word] = read
         self.reads[read.accept] = read
         if len(self.reads) > 2 * REACH:
             self.reads = {tick: one for tick, one in self.reads.items() if tick > read.accept - REACH}
@@ -263,12 +269,24 @@ class Ledger:
         charge, waits = self.row.charges[-1]
         start, end, why = int(words[1]), int(words[2]), words[3].lower()
         piece = Piece(start, end, "%s_%s" % (charge.cause, why), int(words[5]))
-        piece.read = int(words[9]), int(words[7]), int(words[11])
+        read = self.waited_for(charge.cause, why, start, end, piece.word)
+        piece.read = read.row, int(words[7]), int(words[9])
         if why == "turn":
-            piece.kind = self.reads[start].kind
+            piece.kind = read.kind
         elif why == "bank":
-            piece.holder = self.reads[end].holder
+            piece.holder = read.holder
         waits.append(piece)
+
+    def waited_for(self, stage, why, start, end, word):
+        """The read that was accepted at a tick, or that stood first, or that is on its way."""
+        if why == "turn":
+            return self.reads[start]
+        if why == "bank":
+            return self.reads[end]
+        if stage == "instruction":
+            return self.fetched[word]
+        reads = [use.read for use in self.row.uses if use.read]
+        return [read for read in reads if read.word == word and read.answer == end][0]
 
     def take_level(self, words, line):
         self.row.level_wait = int(words[1])
@@ -277,7 +295,11 @@ class Ledger:
         reason = words[1].lower()
         if reason not in REASONS:
             raise ValueError(reason)
-        self.row.because = Because(reason, number(words[3]), int(words[5]), number(words[7]))
+        if reason == "prefetch":
+            read = self.fetched[int(words[3])]
+            self.row.because = Because(reason, read.row, read.want, number(words[5]))
+        else:
+            self.row.because = Because(reason, number(words[3]), int(words[5]), number(words[7]))
 
     # ---- the state, and the end
 
