@@ -1,8 +1,9 @@
 //! A line that is put together from its end.
 
-ghost use Rattle.std.specs.Prelude.{◌≡◌, ◌+◌, ◌*◌, ◌<◌, ◌≤◌, ◌++◌, [], length, codes, decimal};
+ghost use Rattle.std.specs.Prelude.{◌≡◌, ◌+◌, ◌*◌, ◌<◌, ◌≤◌, ◌++◌, [], length, drop, codes, decimal};
 ghost use Rattle.st_text.specs.Numerals.{half_address};
 
+use crate::kept::{KeptDigits, two_digits};
 use itoa::write_digits;
 use std::marker::Model;
 
@@ -74,6 +75,36 @@ impl LineFromEnd {
         ensures room { length self.new ≤ length self.old + 20 }
     {
         self.start = write_digits(n, &mut self.bytes, self.start);
+    }
+
+    // Puts the end of a piece before the line, without its first bytes, of which there are so many.
+    #[inline(always)]
+    fn put_end(&mut self, piece: &[u8; 16], before: usize)
+        requires few { before ≤ 16 }
+        requires room { length self.old + 16 ≤ 128 }
+        ensures { self.new ≡ drop before piece.now ++ self.old }
+    {
+        self.put(piece);
+        self.start += before;
+    }
+
+    /// Puts a number in decimal digits before the line, as `put_decimal` does. All but the last two
+    /// are those that are kept, where it has these; else its own are kept.
+    #[inline(always)]
+    pub fn put_near(&mut self, n: u64, kept: &mut KeptDigits)
+        requires { length self.old + 20 ≤ 128 }
+        ensures bytes { self.new ≡ decimal n ++ self.old }
+        ensures room { length self.new ≤ length self.old + 20 }
+    {
+        let past = kept.past(n);
+        if past >= 100 {
+            kept.keep(n);
+            self.put_decimal(n);
+            return;
+        }
+        self.put(&two_digits(past));
+        let (digits, start) = kept.digits();
+        self.put_end(digits, start);
     }
 
     // Puts the bit at which a half of a word begins before the line.
