@@ -77,14 +77,23 @@ impl LineFromEnd {
         self.start = write_digits(n, &mut self.bytes, self.start);
     }
 
+    /// Puts a word before the line. It is a copy, so that no test is made whether it is of the line.
+    #[inline(always)]
+    pub fn put_word<const K: usize>(&mut self, word: [u8; K])
+        requires { K + length self.old ≤ 128 }
+        ensures { self.new ≡ word.entry ++ self.old }
+    {
+        self.put(&word);
+    }
+
     // Puts the end of a piece before the line, without its first bytes, of which there are so many.
     #[inline(always)]
-    fn put_end(&mut self, piece: &[u8; 16], before: usize)
+    fn put_end(&mut self, piece: [u8; 16], before: usize)
         requires few { before ≤ 16 }
         requires room { length self.old + 16 ≤ 128 }
-        ensures { self.new ≡ drop before piece.now ++ self.old }
+        ensures { self.new ≡ drop before piece ++ self.old }
     {
-        self.put(piece);
+        self.put(&piece);
         self.start += before;
     }
 
@@ -104,7 +113,7 @@ impl LineFromEnd {
         }
         self.put(&two_digits(past));
         let (digits, start) = kept.digits();
-        self.put_end(digits, start);
+        self.put_end(*digits, start);
     }
 
     // Puts the bit at which a half of a word begins before the line.
@@ -116,9 +125,9 @@ impl LineFromEnd {
         ensures room { length self.new ≤ length self.old + 3 }
     {
         if half == 0 {
-            self.put(b".0");
+            self.put_word(*b".0");
         } else {
-            self.put(b".32");
+            self.put_word(*b".32");
         }
     }
 

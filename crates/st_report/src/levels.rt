@@ -31,17 +31,17 @@ pub fn fill_row(line: &mut EntryLine, n: u64, address: u32, p: u64, r: u64, c: u
     ensures { line.new.bytes ≡ row_line n address p r c }
 {
     line.bytes.clear();
-    line.bytes.put(b"\n");
+    line.bytes.put_word(*b"\n");
     line.bytes.put_near(c, &mut line.c);
-    line.bytes.put(b" C ");
+    line.bytes.put_word(*b" C ");
     line.bytes.put_near(r, &mut line.r);
-    line.bytes.put(b" R ");
+    line.bytes.put_word(*b" R ");
     line.bytes.put_near(p, &mut line.p);
-    line.bytes.put(b" P ");
+    line.bytes.put_word(*b" P ");
     line.bytes.put_half_address(address);
-    line.bytes.put(b" ");
+    line.bytes.put_word(*b" ");
     line.bytes.put_near(n, &mut line.number);
-    line.bytes.put(b"ROW ");
+    line.bytes.put_word(*b"ROW ");
 }
 
 /// `DROP a P p`: a dropped entry, its half-word address, and the tick at which it was prepared.

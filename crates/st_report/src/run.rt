@@ -24,11 +24,11 @@ pub fn fill_trc(line: &mut EntryLine, n: u64, address: u32)
     ensures { line.new.bytes ≡ trc_line n address }
 {
     line.bytes.clear();
-    line.bytes.put(b"\n");
+    line.bytes.put_word(*b"\n");
     line.bytes.put_half_address(address);
-    line.bytes.put(b" ");
+    line.bytes.put_word(*b" ");
     line.bytes.put_near(n, &mut line.number);
-    line.bytes.put(b"TRC ");
+    line.bytes.put_word(*b"TRC ");
 }
 
 /// `PRT text`: a line that the printer prints. The text may be empty.
