@@ -25,7 +25,10 @@ impl Model for RowQueue {
 
     ghost Value = { Queue };
 
-    ghost view = { λ q. record { rows = drop q.first (take q.end q.rows); room = q.limit - q.end } };
+    ghost view = { λ q. record {
+      rows = drop q.first (take q.end q.rows);
+      room = q.limit - q.end;
+    } };
 
     ghost invariant = { λ q. (q.first ≤ q.end) × (q.end ≤ q.limit) × (q.limit ≤ 64)
         × (length q.rows ≡ 64) };
