@@ -77,7 +77,7 @@ impl LineFromEnd {
         self.start = write_digits(n, &mut self.bytes, self.start);
     }
 
-    /// Puts a word before the line. It is a copy, so that no test is made whether it is of the line.
+    /// Puts a word before the line. It is a copy, so no test is made whether it is of the line.
     #[inline(always)]
     pub fn put_word<const K: usize>(&mut self, word: [u8; K])
         requires { K + length self.old ≤ 128 }
