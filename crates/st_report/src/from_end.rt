@@ -111,6 +111,18 @@ impl LineFromEnd {
             self.put_decimal(n);
             return;
         }
+        self.put_kept(n, past, kept);
+    }
+
+    /// The same of a number that has the digits that are kept, and is so much past their hundred.
+    #[inline(always)]
+    pub fn put_kept(&mut self, n: u64, past: u64, kept: &KeptDigits)
+        requires few { past < 100 }
+        requires near { (1 ≤ kept.now) × (n ≡ 100 * kept.now + past) }
+        requires room { length self.old + 20 ≤ 128 }
+        ensures bytes { self.new ≡ decimal n ++ self.old }
+        ensures room { length self.new ≤ length self.old + 20 }
+    {
         self.put(&two_digits(past));
         let (digits, start) = kept.digits();
         self.put_end(*digits, start);

@@ -23,11 +23,30 @@ pub fn line_trc(n: u64, address: u32) -> Line
 pub fn fill_trc(line: &mut EntryLine, n: u64, address: u32)
     ensures { line.new.bytes ≡ trc_line n address }
 {
+    let past = line.number.past(n);
+    if past >= 100 {
+        fill_trc_anew(line, n, address);
+        return;
+    }
     line.bytes.clear();
     line.bytes.put_word(*b"\n");
     line.bytes.put_half_address(address);
     line.bytes.put_word(*b" ");
-    line.bytes.put_near(n, &mut line.number);
+    line.bytes.put_kept(n, past, &line.number);
+    line.bytes.put_word(*b"TRC ");
+}
+
+// The same of a number whose digits are not kept. It is apart, so that the other makes no call.
+#[inline(never)]
+fn fill_trc_anew(line: &mut EntryLine, n: u64, address: u32)
+    ensures { line.new.bytes ≡ trc_line n address }
+{
+    line.number.keep(n);
+    line.bytes.clear();
+    line.bytes.put_word(*b"\n");
+    line.bytes.put_half_address(address);
+    line.bytes.put_word(*b" ");
+    line.bytes.put_decimal(n);
     line.bytes.put_word(*b"TRC ");
 }
 
