@@ -1,7 +1,8 @@
 -- Rows of the entries that are done in ticks, and rows that wait.
-use Rattle.std.specs.Prelude.{take}
-use Rattle.std.proofs.Common.{◌≡◌, ℕ, zero, suc, ◌+◌, ◌-◌, ◌<◌, ◌≤◌, Bool, true, false, List, [], ◌∷◌, ◌++◌, length, Option, None, Some, refl, sym, subst, ◌∙◌, ap, arith, append_assoc}
-use Rattle.std.proofs.lemmas.List.{append-nil}
+use Rattle.std.specs.Prelude.{take, drop, nat_eq}
+use Rattle.std.proofs.Common.{◌≡◌, ℕ, zero, suc, ◌+◌, ◌-◌, ◌≤◌, Bool, true, false, List, [], ◌∷◌, ◌++◌, length, inl, inr, refl, sym, ◌∙◌, ap, arith, append_assoc, length-drop}
+use Rattle.std.proofs.lemmas.Bool.{cases_eq, eq-eqb, ne_eqb}
+use Rattle.std.proofs.lemmas.List.{append-nil, length-take}
 use Rattle.st_ahead.specs.Overlap.{Overlap}
 use Rattle.st_ahead.specs.Calls.{is_done, row_done, machine_after_tick, machine_after_settling}
 use Rattle.st_ahead.specs.RunTo.{after_ticks, IsPassed, ArePassed}
@@ -40,6 +41,17 @@ queue-none q =
     let rows : q.rows ++ take {A = Row} q.room [] ≡ q.rows = ap (λ rest. q.rows ++ rest) none ∙ append-nil q.rows in
     let room : q.room - 0 ≡ q.room = omega arith in
     rw (rows, room) refl
+
+-- none waits where as many were taken as there were
+pub none-left : (first end : ℕ) (slots rows : List Row) → first ≤ end → end ≤ length slots → drop first (take end slots) ≡ rows
+    → nat_eq first end ≡ nat_eq (length rows) 0
+none-left first end slots rows order within are =
+    let taken = length-take end slots in
+    let left = sym (ap length are) ∙ length-drop first (take end slots) in
+    elim (cases_eq first end) [
+      | inl same ↦ eq-eqb first end same ∙ sym (eq-eqb (length rows) 0 (omega (arith, taken, left, same)))
+      | inr other ↦ ne_eqb first end other ∙ sym (ne_eqb (length rows) 0 (λ none. other (omega (arith, taken, left, none))))
+    ]
 
 -- ---- rows of ticks
 

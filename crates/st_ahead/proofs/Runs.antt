@@ -20,7 +20,7 @@ use Rattle.st_ring.specs.declared.levels.Completed.{Completed}
 use Rattle.st_ring.proofs.RestLemmas.{ahead-rests}
 use Rattle.st_ahead.specs.Overlap.{Overlap, state_ahead, oldest_row, interrupt_due, banks_at_its_end}
 use Rattle.st_ahead.specs.Calls.{is_done, row_done, machine_after_completion, machine_after_tick, machine_after_pass, machine_after_settling, answer, answer_by}
-use Rattle.st_ahead.specs.RunTo.{after_ticks, may_come, ArePassed}
+use Rattle.st_ahead.specs.RunTo.{may_come, ArePassed}
 use Rattle.st_ahead.specs.RowsDone.{Queue, queue_with, rows_in_ticks}
 use Rattle.st_ahead.specs.Running.{machine_between_ticks, IsAwake, may_come_from_outside, IsRunning, HasPassed}
 use Rattle.st_ahead.specs.Look.{LookView, IsLook, IsOutlook}

@@ -23,7 +23,7 @@ use Rattle.st_ring.specs.declared.levels.Completed.{Completed}
 use Rattle.st_ring.specs.declared.plans.Plan.{Plan}
 use Rattle.st_ring.specs.declared.level.Level.{Level}
 use Rattle.st_ahead.specs.Overlap.{Overlap, machine_at_start, state_ahead, with_counter, oldest_row, banks_at_its_end}
-use Rattle.st_ahead.specs.Calls.{is_done, row_done, machine_after_completion, machine_after_tick, machine_after_segment}
+use Rattle.st_ahead.specs.Calls.{is_done, row_done, machine_after_completion, machine_after_tick}
 use Rattle.st_ahead.specs.Look.{LookView, IsLook, IsOpened}
 use Rattle.st_ahead.specs.Ticked.{IsPassedBy, IsDoneAt}
 use Rattle.st_ahead.specs.Inside.{overlap_of, answers_before, IsInside}

@@ -2,15 +2,14 @@
 use Rattle.std.specs.Prelude.{◌-◌, ◌^◌}
 use Rattle.std.proofs.Common.{◌≡◌, ℕ, ◌+◌, ◌<◌, Bool, true, false, List, Option, None, Some, refl, sym, subst, ◌∙◌, ap, arith}
 use Rattle.st_state.specs.Machine.{Machine}
-use Rattle.st_prep.specs.Plan.{plan}
 use Rattle.st_exec.specs.Completion.{state_after_execution, guess}
-use Rattle.st_rows.specs.Rows.{row_of_entry, front_after_entry}
+use Rattle.st_rows.specs.Rows.{front_after_entry}
 use Rattle.st_rows.specs.declared.front.Front.{Front}
 use Rattle.st_segment.specs.Entries.{entry}
 use Rattle.st_ring.specs.Levels.{oldest_front}
 use Rattle.st_ring.specs.declared.levels.Completed.{Completed}
-use Rattle.st_ahead.specs.Overlap.{Overlap, state_ahead, oldest_row, with_counter}
-use Rattle.st_ahead.specs.Calls.{row_done, machine_after_completion, machine_after_tick, answer}
+use Rattle.st_ahead.specs.Overlap.{Overlap, state_ahead, with_counter}
+use Rattle.st_ahead.specs.Calls.{machine_after_completion, machine_after_tick, answer}
 use Rattle.st_ahead.specs.RunTo.{may_come, ArePassed, StopsAt}
 use Rattle.st_ahead.specs.Running.{machine_between_ticks, IsAwake, HasPassed, HasStopped}
 use Rattle.st_ahead.specs.Look.{LookView, IsLook}

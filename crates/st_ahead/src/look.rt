@@ -1,10 +1,9 @@
 //! What runs ahead of a state: levels, the front behind them, a log of reads, and the entry that is
 //! prepared next.
-ghost use Rattle.std.specs.Prelude.{◌≡◌, ℕ, ◌+◌, ◌*◌, ◌<◌, ◌≤◌, ◌-◌, ◌^◌, length, true, false, Option, None, Some, IfSome, All, List};
+ghost use Rattle.std.specs.Prelude.{◌≡◌, ℕ, ◌+◌, ◌<◌, ◌≤◌, ◌-◌, ◌^◌, Option, IfSome, All, List};
 ghost use Rattle.st_bits.specs.declared.limits.TheConstants.{MOST_DELAY};
-ghost use Rattle.st_state.specs.Machine.{Machine, IsMachine};
+ghost use Rattle.st_state.specs.Machine.{Machine};
 ghost use Rattle.st_prep.specs.Fetch.{index_words as index_words_of};
-ghost use Rattle.st_rows.specs.Notes.{answers_left};
 ghost use Rattle.st_rows.specs.Rows.{opening_front};
 ghost use Rattle.st_rows.specs.declared.front.Front.{Front as FrontOf};
 ghost use Rattle.st_ahead.specs.Overlap.{idle_banks};

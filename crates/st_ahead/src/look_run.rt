@@ -1,5 +1,5 @@
 //! What runs ahead makes ticks, up to an entry that is done behind which something may come.
-ghost use Rattle.std.specs.Prelude.{◌≡◌, ℕ, ◌+◌, ◌-◌, ◌<◌, ◌≤◌, ◌^◌, true, false, None};
+ghost use Rattle.std.specs.Prelude.{◌≡◌, ℕ, ◌-◌, ◌<◌, ◌≤◌, ◌^◌, true, false, None};
 ghost use Rattle.st_exec.specs.Step.{interrupt as interrupt_of, rests};
 ghost use Rattle.st_rows.specs.declared.front.Front.{Front as FrontOf};
 ghost use Rattle.st_ahead.specs.Running.{IsAwake, may_come_from_outside};

@@ -1,5 +1,5 @@
 //! The overlapped machine, and the calls that drive it.
-ghost use Rattle.std.specs.Prelude.{◌≡◌, ℕ, ◌+◌, ◌-◌, ◌<◌, ◌≤◌, ◌^◌, true, false, is_some, IsSome, IfSome, None, Some, get_or, length, ◌||◌};
+ghost use Rattle.std.specs.Prelude.{◌≡◌, ◌<◌, ◌≤◌, ◌^◌, true, false, is_some, IsSome, IfSome, None, Some, get_or, length, ◌||◌};
 
 use crate::events::{Event, LevelView, Row, Settled, View};
 use crate::look::Lookahead;

@@ -1,5 +1,5 @@
 //! Rows that wait to be told.
-ghost use Rattle.std.specs.Prelude.{◌≡◌, true, [], ◌∷◌, MatchOption};
+ghost use Rattle.std.specs.Prelude.{◌≡◌, ◌==◌, [], ◌∷◌, length, MatchOption};
 ghost use Rattle.st_ahead.specs.RowsDone.{queue_with};
 
 use crate::events::Row;
@@ -11,23 +11,27 @@ const ROOM: usize = 64;
 /// Rows that wait to be told, the first one done first, and room for more; at most 64 in all.
 #[derive(Debug, Drop)]
 pub struct RowQueue {
-    // Those that wait stand from `first` up to `end`.
+    // Those that wait stand from `first` up to `end`, and there is room up to `limit`.
     rows: [Row; ROOM],
     first: usize,
     end: usize,
-    room: usize,
+    limit: usize,
 }
 
 // Clauses see the rows that wait, and for how many more there is room.
 impl Model for RowQueue {
-    ghost use Rattle.std.specs.Prelude.{◌+◌, ◌≤◌, drop, take};
+    ghost use Rattle.std.specs.Prelude.{◌≡◌, ◌-◌, ◌≤◌, length, drop, take};
     ghost use Rattle.st_ahead.specs.RowsDone.{Queue};
 
     ghost Value = { Queue };
 
-    ghost view = { λ q. record { rows = drop q.first (take q.end q.rows); room = q.room } };
+    ghost view = { λ q. record {
+      rows = drop q.first (take q.end q.rows);
+      room = q.limit - q.end;
+    } };
 
-    ghost invariant = { λ q. (q.first ≤ q.end) × (q.end + q.room ≤ 64) };
+    ghost invariant = { λ q. (q.first ≤ q.end) × (q.end ≤ q.limit) × (q.limit ≤ 64)
+        × (length q.rows ≡ 64) };
 }
 
 impl RowQueue {
@@ -39,7 +43,7 @@ impl RowQueue {
             rows: [Row::default(); ROOM],
             first: 0,
             end: 0,
-            room: 0,
+            limit: 0,
         }
     }
 
@@ -50,20 +54,20 @@ impl RowQueue {
     {
         self.first = 0;
         self.end = 0;
-        self.room = ROOM;
+        self.limit = ROOM;
     }
 
     /// Leaves room for no more rows.
     pub fn shut(&mut self)
         ensures { self.new ≡ record self.old { room = 0 } }
     {
-        self.room = 0;
+        self.limit = self.end;
     }
 
     /// Whether no row waits.
     #[inline(always)]
     pub fn is_empty(&self) -> bool
-        ensures { result ≡ true → self.now.rows ≡ [] }
+        ensures { result ≡ (length self.now.rows == 0) }
     {
         self.first == self.end
     }
@@ -73,12 +77,11 @@ impl RowQueue {
     pub fn put(&mut self, row: Row)
         ensures { self.new ≡ queue_with (row ∷ []) self.old }
     {
-        if self.room == 0 {
+        if self.end == self.limit {
             return;
         }
         self.rows[self.end] = row;
         self.end += 1;
-        self.room -= 1;
     }
 
     /// The row that waits first, which waits no longer.

@@ -1,9 +1,7 @@
 -- Hexadecimal digits, eight at a time.
-use Rattle.std.specs.Prelude.{Bool, nat_eq, ◌&&◌}
-use Rattle.std.proofs.lemmas.Bool.{and_parts}
-use Rattle.std.proofs.lemmas.Bool.Decides.{eqb_tells, nat_tests}
-use Rattle.std.proofs.Common.{zero, suc, true, inl, inr, ◌+◌, ◌*◌, ◌%◌, ◌<◌, ◌∷◌, get_or, ◌≡◌, ℕ, ◌/◌, ◌^◌, List, [], ◌++◌, refl, ◌∙◌, ap, sym, append_assoc, arith}
+use Rattle.std.proofs.Common.{◌+◌, ◌*◌, ◌%◌, ◌∷◌, get_or, ◌≡◌, ℕ, ◌/◌, ◌^◌, List, [], ◌++◌, refl, ◌∙◌, ap, sym, append_assoc, arith}
 use Rattle.std.proofs.lemmas.List.{append-nil}
+use Rattle.st_report.proofs.PairTables.{pair-at}
 use Rattle.st_text.specs.Numerals.{hex_digit, hex_text, hex_word}
 use Rattle.st_lines.specs.declared.digits.TheConstants.{PAIRS}
 
@@ -29,27 +27,10 @@ four_pieces a b c d l0 l1 l2 l3 l4 e0 e1 e2 e3 e4 = rw (e4, e3, e2, e1, e0) (sim
 
 -- ---- two digits at a time
 
-abbrev are_pairs : ℕ → Bool
-are_pairs zero = true
-are_pairs (suc p) =
-    (nat_eq (get_or PAIRS (p * 2) 0) (hex_digit (p / 16)) && nat_eq (get_or PAIRS (p * 2 + 1) 0) (hex_digit (p % 16))) && are_pairs p
-
-same : (a b : ℕ) → nat_eq a b ≡ true → a ≡ b
-same a b h = grind (arith, nat_tests, h)
-
-below : (n p : ℕ) → are_pairs n ≡ true → p < n → (get_or PAIRS (p * 2) 0 ≡ hex_digit (p / 16)) × (get_or PAIRS (p * 2 + 1) 0 ≡ hex_digit (p % 16))
-below zero p are few = absurd (omega arith)
-below (suc n) p are few =
-    let parts = and_parts _ (are_pairs n) are in
-    elim (eqb_tells p n) [
-      | inl e ↦ let both = and_parts _ _ parts.0 in rw (e.1) (same _ _ both.0, same _ _ both.1)
-      | inr e ↦ below n p parts.1 (omega (arith, e.1))
-    ]
-
 pub pair-text : (n : ℕ) → get_or PAIRS (n % 256 * 2) 0 ∷ get_or PAIRS (n % 256 * 2 + 1) 0 ∷ [] ≡ hex_text 2 n
 unfolding hex_text
 pair-text n =
-    let p = below 256 (n % 256) refl (omega arith) in
+    let p = pair-at hex_digit 16 PAIRS 256 (n % 256) refl (omega arith) in
     let high : n % 256 / 16 ≡ n / 16 % 16 = omega arith in
     let low : n % 256 % 16 ≡ n % 16 = omega arith in
     rw (p.0, p.1, high, low) refl

@@ -1,6 +1,6 @@
 -- The reads of a segment, and those that are accepted before a tick.
 use Rattle.std.specs.Prelude.{All, IfSome, nat_lt, max, if◌then◌else◌}
-use Rattle.std.proofs.Common.{◌≡◌, ℕ, zero, suc, ◌+◌, ◌<◌, ◌≤◌, Bool, true, false, List, [], ◌∷◌, ◌++◌, append_assoc, append-nil, inl, inr, Option, None, Some, refl, sym, subst, ◌∙◌, ap, arith}
+use Rattle.std.proofs.Common.{◌≡◌, ℕ, zero, suc, ◌<◌, ◌≤◌, Bool, true, false, List, [], ◌∷◌, ◌++◌, append_assoc, append-nil, inl, inr, Option, None, Some, refl, sym, subst, ◌∙◌, ap, arith}
 use Rattle.std.proofs.lemmas.List.Elements.{All-nil, All-cons, All-append}
 use Rattle.std.proofs.lemmas.Bool.{ltb-false}
 use Rattle.st_state.specs.Machine.{Machine}
@@ -9,7 +9,7 @@ use Rattle.st_banks.specs.declared.answers.LastAnswers.{LastAnswers}
 use Rattle.st_rows.specs.Asked.{Read, reads_of_entry, fetches_asked, data_of, bus_after_reads, after_one, made_before}
 use Rattle.st_rows.specs.BusTimes.{accept_at}
 use Rattle.st_rows.specs.Notes.{notes_of_reads, note}
-use Rattle.st_rows.specs.Rows.{row_of_entry, front_after_entry, wanted_from, address_tick, preparation_tick, operands, tick_a, tick_p}
+use Rattle.st_rows.specs.Rows.{row_of_entry, front_after_entry, wanted_from, address_tick, operands, tick_a, tick_p}
 use Rattle.st_rows.specs.declared.bus.Bus.{Bus}
 use Rattle.st_rows.specs.declared.entry.Entry.{Entry}
 use Rattle.st_rows.specs.declared.front.Front.{Front}

@@ -1,2 +1,4 @@
 pub mod FromEndLemmas
+pub mod KeptLemmas
+pub mod PairTables
 pub mod Shifts

@@ -1,8 +1,9 @@
 //! A line that is put together from its end.
 
-ghost use Rattle.std.specs.Prelude.{◌≡◌, ◌+◌, ◌*◌, ◌<◌, ◌≤◌, ◌++◌, [], length, codes, decimal};
+ghost use Rattle.std.specs.Prelude.{◌≡◌, ◌+◌, ◌*◌, ◌<◌, ◌≤◌, ◌++◌, [], length, drop, codes, decimal};
 ghost use Rattle.st_text.specs.Numerals.{half_address};
 
+use crate::kept::{KeptDigits, two_digits};
 use itoa::write_digits;
 use std::marker::Model;
 
@@ -76,6 +77,57 @@ impl LineFromEnd {
         self.start = write_digits(n, &mut self.bytes, self.start);
     }
 
+    /// Puts a word before the line. It is a copy, so no test is made whether it is of the line.
+    #[inline(always)]
+    pub fn put_word<const K: usize>(&mut self, word: [u8; K])
+        requires { K + length self.old ≤ 128 }
+        ensures { self.new ≡ word.entry ++ self.old }
+    {
+        self.put(&word);
+    }
+
+    // Puts the end of a piece before the line, without its first bytes, of which there are so many.
+    #[inline(always)]
+    fn put_end(&mut self, piece: [u8; 16], before: usize)
+        requires few { before ≤ 16 }
+        requires room { length self.old + 16 ≤ 128 }
+        ensures { self.new ≡ drop before piece ++ self.old }
+    {
+        self.put(&piece);
+        self.start += before;
+    }
+
+    /// Puts a number in decimal digits before the line, as `put_decimal` does. All but the last two
+    /// are those that are kept, where it has these; else its own are kept.
+    #[inline(always)]
+    pub fn put_near(&mut self, n: u64, kept: &mut KeptDigits)
+        requires { length self.old + 20 ≤ 128 }
+        ensures bytes { self.new ≡ decimal n ++ self.old }
+        ensures room { length self.new ≤ length self.old + 20 }
+    {
+        let past = kept.past(n);
+        if past >= 100 {
+            kept.keep(n);
+            self.put_decimal(n);
+            return;
+        }
+        self.put_kept(n, past, kept);
+    }
+
+    /// The same of a number that has the digits that are kept, and is so much past their hundred.
+    #[inline(always)]
+    pub fn put_kept(&mut self, n: u64, past: u64, kept: &KeptDigits)
+        requires few { past < 100 }
+        requires near { (1 ≤ kept.now) × (n ≡ 100 * kept.now + past) }
+        requires room { length self.old + 20 ≤ 128 }
+        ensures bytes { self.new ≡ decimal n ++ self.old }
+        ensures room { length self.new ≤ length self.old + 20 }
+    {
+        self.put(&two_digits(past));
+        let (digits, start) = kept.digits();
+        self.put_end(*digits, start);
+    }
+
     // Puts the bit at which a half of a word begins before the line.
     #[inline(always)]
     fn put_half(&mut self, half: u32)
@@ -85,9 +137,9 @@ impl LineFromEnd {
         ensures room { length self.new ≤ length self.old + 3 }
     {
         if half == 0 {
-            self.put(b".0");
+            self.put_word(*b".0");
         } else {
-            self.put(b".32");
+            self.put_word(*b".32");
         }
     }
 

@@ -5,7 +5,7 @@ ghost use Rattle.arrayvec.specs.ArrayString.{array_string_len};
 ghost use Rattle.st_report.specs.Line.{row_line, drop_line, snap_line, change_text, lev_line};
 
 use crate::pieces::ended;
-use crate::{Line, LineFromEnd};
+use crate::{EntryLine, Line};
 use st_text::{begun, push_decimal, push_flag, push_half_address, push_hex, push_short_decimal};
 
 /// `ROW n a P p R r C c`: the n-th instruction done, its half-word address, and the ticks at
@@ -27,21 +27,21 @@ pub fn line_row(n: u64, address: u32, p: u64, r: u64, c: u64) -> Line
 }
 
 /// The same, filled into a line; what the line had is gone.
-pub fn fill_row(line: &mut LineFromEnd, n: u64, address: u32, p: u64, r: u64, c: u64)
-    ensures { line.new ≡ row_line n address p r c }
+pub fn fill_row(line: &mut EntryLine, n: u64, address: u32, p: u64, r: u64, c: u64)
+    ensures { line.new.bytes ≡ row_line n address p r c }
 {
-    line.clear();
-    line.put(b"\n");
-    line.put_decimal(c);
-    line.put(b" C ");
-    line.put_decimal(r);
-    line.put(b" R ");
-    line.put_decimal(p);
-    line.put(b" P ");
-    line.put_half_address(address);
-    line.put(b" ");
-    line.put_decimal(n);
-    line.put(b"ROW ");
+    line.bytes.clear();
+    line.bytes.put_word(*b"\n");
+    line.bytes.put_near(c, &mut line.c);
+    line.bytes.put_word(*b" C ");
+    line.bytes.put_near(r, &mut line.r);
+    line.bytes.put_word(*b" R ");
+    line.bytes.put_near(p, &mut line.p);
+    line.bytes.put_word(*b" P ");
+    line.bytes.put_half_address(address);
+    line.bytes.put_word(*b" ");
+    line.bytes.put_near(n, &mut line.number);
+    line.bytes.put_word(*b"ROW ");
 }
 
 /// `DROP a P p`: a dropped entry, its half-word address, and the tick at which it was prepared.

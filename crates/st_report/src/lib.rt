@@ -4,8 +4,10 @@
 #![tactic(auto)]
 
 mod cards;
+mod entry_line;
 mod from_end;
 mod job;
+mod kept;
 mod levels;
 mod pieces;
 mod run;
@@ -13,6 +15,7 @@ mod state_block;
 mod sweep;
 
 pub use cards::{line_listed, line_symbol};
+pub use entry_line::EntryLine;
 pub use from_end::LineFromEnd;
 pub use job::{line_fault, line_soak};
 pub use levels::{fill_row, line_drop, line_lev, line_row, line_snap};

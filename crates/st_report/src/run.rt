@@ -4,7 +4,7 @@ ghost use Rattle.std.specs.Prelude.{◌≡◌};
 ghost use Rattle.st_report.specs.Line.{trc_line, prt_line, int_line, time_line, end_line, done_line, ticks_line, back_line};
 
 use crate::pieces::ended;
-use crate::{Line, LineFromEnd};
+use crate::{EntryLine, Line};
 use arrayvec::ArrayString;
 use st_text::{begun, push_decimal, push_half_address, push_short_decimal};
 
@@ -20,15 +20,34 @@ pub fn line_trc(n: u64, address: u32) -> Line
 }
 
 /// The same, filled into a line; what the line had is gone.
-pub fn fill_trc(line: &mut LineFromEnd, n: u64, address: u32)
-    ensures { line.new ≡ trc_line n address }
+pub fn fill_trc(line: &mut EntryLine, n: u64, address: u32)
+    ensures { line.new.bytes ≡ trc_line n address }
 {
-    line.clear();
-    line.put(b"\n");
-    line.put_half_address(address);
-    line.put(b" ");
-    line.put_decimal(n);
-    line.put(b"TRC ");
+    let past = line.number.past(n);
+    if past >= 100 {
+        fill_trc_anew(line, n, address);
+        return;
+    }
+    line.bytes.clear();
+    line.bytes.put_word(*b"\n");
+    line.bytes.put_half_address(address);
+    line.bytes.put_word(*b" ");
+    line.bytes.put_kept(n, past, &line.number);
+    line.bytes.put_word(*b"TRC ");
+}
+
+// The same of a number whose digits are not kept. It is apart, so that the other makes no call.
+#[inline(never)]
+fn fill_trc_anew(line: &mut EntryLine, n: u64, address: u32)
+    ensures { line.new.bytes ≡ trc_line n address }
+{
+    line.number.keep(n);
+    line.bytes.clear();
+    line.bytes.put_word(*b"\n");
+    line.bytes.put_half_address(address);
+    line.bytes.put_word(*b" ");
+    line.bytes.put_decimal(n);
+    line.bytes.put_word(*b"TRC ");
 }
 
 /// `PRT text`: a line that the printer prints. The text may be empty.

@@ -1,26 +1,25 @@
 -- Entries that are done one after another, between which nothing comes.
-use Rattle.std.specs.Prelude.{All, IfSome, is_some, nat_le, length, map}
-use Rattle.std.proofs.Common.{◌≡◌, ◌≢◌, ℕ, zero, suc, ◌+◌, ◌-◌, ◌<◌, ◌≤◌, ◌^◌, ◌||◌, Bool, true, false, List, [], ◌∷◌, ◌++◌, Option, None, Some, refl, sym, ◌∙◌, ap, subst, arith, append_assoc}
+use Rattle.std.specs.Prelude.{All, is_some, nat_le, length, map}
+use Rattle.std.proofs.Common.{◌≡◌, ◌≢◌, ℕ, zero, suc, ◌+◌, ◌-◌, ◌<◌, ◌≤◌, ◌||◌, Bool, true, false, List, [], ◌∷◌, ◌++◌, Option, None, Some, refl, sym, ◌∙◌, ap, subst, arith}
 use Rattle.std.proofs.lemmas.Bool.Decides.{nat_tests}
-use Rattle.std.proofs.lemmas.List.Elements.{All-nil, All-cons, All-append}
+use Rattle.std.proofs.lemmas.List.Elements.{All-nil, All-cons}
 use Rattle.st_state.specs.Machine.{Machine}
 use Rattle.st_state.specs.Orders.{is_due}
 use Rattle.st_exec.specs.Step.{rests}
-use Rattle.st_card.specs.declared.control_cards.Signal.{Signal}
-use Rattle.st_ahead.specs.Overlap.{Overlap, oldest_row, interrupt_due}
+use Rattle.st_ahead.specs.Overlap.{Overlap, interrupt_due}
 use Rattle.st_ahead.specs.Calls.{is_done, row_done, machine_after_completion, machine_after_tick, machine_after_pass, machine_after_settling, answer, answer_by}
-use Rattle.st_ahead.specs.RunTo.{after_ticks, may_come, IsPassed, ArePassed, StopsAt, RunsTo}
-use Rattle.st_ahead.specs.RowsDone.{Queue, queue_with, rows_in_ticks, ticks_passed}
+use Rattle.st_ahead.specs.RunTo.{after_ticks, may_come, IsPassed, ArePassed}
+use Rattle.st_ahead.specs.RowsDone.{Queue, queue_with, rows_in_ticks}
 use Rattle.st_ahead.specs.declared.events.Row.{Row}
 use Rattle.st_ahead.specs.declared.events.Settled.TheVariants.{Goes}
 use Rattle.st_ahead.proofs.NotedRows.{row-one, row-late, rows-first, no-rows, queue-all}
-use Rattle.st_run.specs.Moments.{Moment, next_moment}
+use Rattle.st_run.specs.Moments.{Moment}
 use Rattle.st_run.specs.TimedRun.{timed_from, timed_behind}
 use Rattle.st_run.specs.Order.{AreRising}
 use Rattle.st_run.specs.Told.{Told, told_of_events}
 use Rattle.st_run.specs.Between.{IsQuiet, signal_due}
 use Rattle.st_run.specs.Leaving.{IsDecided, nothing_decided}
-use Rattle.st_run.specs.Together.{Together, IsBeforeEntry, scene_of, standing_of, moment_of, at_tick}
+use Rattle.st_run.specs.Together.{Together, IsBeforeEntry, standing_of, moment_of}
 use Rattle.st_run.specs.Telling.{Waiting, whats, row_told, rows_then, IsDone, AreLeftOut, HasGoneFar, IsLeft, IsRun, AreInTime, rest_of}
 use Rattle.st_run.specs.Ticking.{AreMade, AreMadeUpTo, at_completion, last_for}
 use Rattle.st_run.specs.declared.turn.Turn.TheVariants as turns

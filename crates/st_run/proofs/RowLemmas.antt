@@ -1,12 +1,19 @@
 -- Rows that wait to be told, and what is told behind them.
-use Rattle.std.specs.Prelude.{MatchOption}
-use Rattle.std.proofs.Common.{◌≡◌, ℕ, List, [], ◌∷◌, Option, None, Some, refl, sym, ◌∙◌, ap}
+use Rattle.std.specs.Prelude.{MatchOption, Bool, true, ◌==◌}
+use Rattle.std.proofs.lemmas.Bool.{eqb-true}
+use Rattle.std.proofs.Common.{◌≡◌, length, arith, List, [], ◌∷◌, Option, None, Some, refl, sym, ◌∙◌, ap}
 use Rattle.st_ahead.specs.RowsDone.{Queue}
 use Rattle.st_ahead.specs.declared.events.Row.{Row}
 use Rattle.st_run.specs.Told.{Told}
 use Rattle.st_run.specs.Telling.{row_told, rows_then, AreLeftOut}
 
 -- none waits
+pub none-waits : (rows : List Row) (b : Bool) → b ≡ (length rows == 0) → b ≡ true → rows ≡ []
+none-waits [] b is empty = refl
+none-waits (row ∷ rows) b is empty =
+    let none : length (row ∷ rows) ≡ 0 = eqb-true (length (row ∷ rows)) 0 (sym is ∙ empty) in
+    let no : ⊥ = omega (arith, none) in absurd no
+
 pub told-behind : {X : Type 0} (o : Option X) (rows new : List Row) (rest more : List Told) (tell : X → Told) → rows ≡ [] → new ≡ rows
     → MatchOption o (rest ≡ []) (λ x. rest ≡ tell x ∷ more)
     → MatchOption o (rows_then rows rest ≡ []) (λ x. rows_then rows rest ≡ tell x ∷ rows_then new more)

@@ -1,14 +1,13 @@
 -- The laws of runs.
-use Rattle.std.specs.Prelude.{if◌then◌else◌, All, map, reverse}
-use Rattle.std.proofs.Common.{◌≡◌, ℕ, zero, suc, ◌+◌, ◌≤◌, Bool, true, false, List, [], ◌∷◌, ◌++◌, append_assoc, ◌*◌, refl, sym, subst, ◌∙◌, ap, arith}
+use Rattle.std.specs.Prelude.{All, map, reverse}
+use Rattle.std.proofs.Common.{◌≡◌, ℕ, zero, suc, ◌+◌, ◌≤◌, List, [], ◌∷◌, ◌++◌, append_assoc, ◌*◌, refl, sym, subst, ◌∙◌, ap, arith}
 use Rattle.std.proofs.lemmas.List.Elements.{All-nil, All-cons, All-append}
-use Rattle.st_state.specs.Machine.{Machine}
 use Rattle.st_prep.proofs.Choices.{of_choice}
 use Rattle.st_exec.specs.Step.{interrupt, rests}
 use Rattle.st_exec.proofs.StepLemmas.{step-done}
-use Rattle.st_run.specs.Run.{Scene, PlainEvent, Ends, Execution, interlude, interrupts_by, scene_after_step, execution_at_end, goes_on, run}
+use Rattle.st_run.specs.Run.{Scene, Ends, Execution, interlude, interrupts_by, scene_after_step, execution_at_end, goes_on, run}
 use Rattle.st_run.specs.Events.{Timed, drop_of}
-use Rattle.st_run.specs.Moments.{Moment, Standing, moment_at_start, next_scene, next_state, ends_segment, standing_at, next_moment}
+use Rattle.st_run.specs.Moments.{Moment, Standing, moment_at_start, next_state, ends_segment, standing_at, next_moment}
 use Rattle.st_run.specs.TimedRun.{event_at, ticks_before, snapshots_from, drops, drops_if_ends, happening_at, events_between, snapshot_at, completion, until_done, last_snapshot_at, last_events, timed_from}
 use Rattle.st_rows.specs.Ranges.{AreDelaysUpTo}
 use Rattle.st_run.specs.RunLaws.{RunsKeepTheirBudget, AreNear, CompletionsAreNear}

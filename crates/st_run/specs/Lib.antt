@@ -7,6 +7,7 @@ pub mod Order
 pub mod Told
 pub mod Together
 pub mod Telling
+pub mod Progress
 pub mod Protocol
 pub mod Ticking
 pub mod Outside

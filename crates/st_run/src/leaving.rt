@@ -1,5 +1,5 @@
 //! What comes between two entries, and the decision how the run goes on.
-ghost use Rattle.std.specs.Prelude.{◌≡◌, ◌≤◌, ◌||◌, true, false, None, length, map, option_map};
+ghost use Rattle.std.specs.Prelude.{◌≡◌, ◌≤◌, true, false, length, map, option_map};
 ghost use Rattle.st_exch.specs.Printer.{line_of_words};
 ghost use Rattle.st_ahead.specs.Overlap.{levels_of};
 ghost use Rattle.st_ahead.specs.Calls.{MayServe};

@@ -1,12 +1,9 @@
 //! How far a run has come, and how it goes on.
 ghost use Rattle.std.specs.Prelude.{◌≡◌, ◌+◌, ◌-◌, ◌<◌, ◌≤◌, ◌^◌, ℕ, true, false, if◌then◌else◌, [], ◌∷◌, MatchOption, IfSome};
-ghost use Rattle.st_state.specs.Machine.{Machine};
 ghost use Rattle.st_ahead.specs.Overlap.{levels_of};
-ghost use Rattle.st_run.specs.TimedRun.{timed_from, timed_behind};
-ghost use Rattle.st_run.specs.Told.{told_of_events as told_events};
-ghost use Rattle.st_run.specs.Together.{moment_of, standing_of};
 ghost use Rattle.st_run.specs.Between.{signal_due};
-ghost use Rattle.st_run.specs.Telling.{whats, told_at_end, rest_of, told_with, snapshot_tick, AreLeftOut, GoesFar, rows_then, IsRun, IsShown, IsLeft, AreInTime};
+ghost use Rattle.st_run.specs.Telling.{told_at_end, snapshot_tick, AreLeftOut, GoesFar, rows_then, IsShown, IsLeft, AreInTime};
+ghost use Rattle.st_run.specs.Progress.{rest_behind, told_ahead, told_after, told_by, IsBeforeNext, IsTold, IsUnderWay};
 ghost use Rattle.st_run.specs.declared.told.RunEvent.TheVariants as tells;
 ghost use Rattle.st_run.specs.declared.turn.Turn.TheVariants as turns;
 
@@ -47,20 +44,12 @@ pub(crate) fn tell_next<const N: usize>(
     run: &mut Progress<N>,
     rows: &mut RowQueue,
 ) -> Option<TimedRunEvent>
-    requires run { IsRun run.old.turn run.old.left run.old.tick run.old.snaps.now run.old.waiting
-        run.old.driven }
+    requires run { IsUnderWay run.old }
     requires shut { rows.old.room ≡ 0 }
     ensures rows { rows.new ≡ rows.old }
-    ensures kept { IsRun run.new.turn run.new.left run.new.tick run.new.snaps.now run.new.waiting
-        run.new.driven }
-    ensures told { MatchOption result
-        (rest_of run.old.turn run.old.left run.old.tick run.old.snaps.now run.old.waiting
-        run.old.driven ≡ [])
-        (λ t. rest_of run.old.turn run.old.left run.old.tick run.old.snaps.now
-        run.old.waiting run.old.driven
-        ≡ told_with t run.new.driven.machine run.new.printed.bytes
-        ∷ rest_of run.new.turn run.new.left run.new.tick run.new.snaps.now run.new.waiting
-        run.new.driven) }
+    ensures kept { IsUnderWay run.new }
+    ensures told { MatchOption result (rest_behind run.old ≡ [])
+        (λ t. rest_behind run.old ≡ told_by t run.new ∷ rest_behind run.new) }
 {
     if let Some(what) = run.waiting.next(&mut run.printed) {
         return Some(at_once(&run.driven, run.tick, what));
@@ -80,22 +69,12 @@ pub(crate) fn pass_entries<const N: usize>(
     run: &mut Progress<N>,
     rows: &mut RowQueue,
 ) -> Option<TimedRunEvent>
-    requires run { IsRun run.old.turn run.old.left run.old.tick run.old.snaps.now run.old.waiting
-        run.old.driven }
+    requires run { IsUnderWay run.old }
     requires shut { rows.old.room ≡ 0 }
     ensures rows { rows.new ≡ rows.old }
-    ensures kept { IsRun run.new.turn run.new.left run.new.tick run.new.snaps.now run.new.waiting
-        run.new.driven }
-    ensures told { MatchOption result
-        (rest_of run.new.turn run.new.left run.new.tick run.new.snaps.now
-        run.new.waiting run.new.driven
-        ≡ rest_of run.old.turn run.old.left run.old.tick run.old.snaps.now run.old.waiting
-        run.old.driven)
-        (λ t. AreLeftOut (told_with t run.new.driven.machine run.new.printed.bytes)
-        (rest_of run.old.turn run.old.left run.old.tick run.old.snaps.now run.old.waiting
-        run.old.driven)
-        (rest_of run.new.turn run.new.left run.new.tick run.new.snaps.now run.new.waiting
-        run.new.driven)) }
+    ensures kept { IsUnderWay run.new }
+    ensures told { MatchOption result (rest_behind run.new ≡ rest_behind run.old)
+        (λ t. AreLeftOut (told_by t run.new) (rest_behind run.old) (rest_behind run.new)) }
 {
     if !may_go_far(run) {
         return None;
@@ -111,18 +90,12 @@ pub(crate) fn pass_entries<const N: usize>(
 // and their rows wait; there is room for all of them.
 #[inline(never)]
 pub(crate) fn make_rows<const N: usize>(run: &mut Progress<N>, rows: &mut RowQueue)
-    requires run { IsRun run.old.turn run.old.left run.old.tick run.old.snaps.now run.old.waiting
-        run.old.driven }
+    requires run { IsUnderWay run.old }
     requires none { rows.old.rows ≡ [] }
     requires shut { rows.old.room ≡ 0 }
-    ensures kept { IsRun run.new.turn run.new.left run.new.tick run.new.snaps.now run.new.waiting
-        run.new.driven }
+    ensures kept { IsUnderWay run.new }
     ensures shut { rows.new.room ≡ 0 }
-    ensures told { rest_of run.old.turn run.old.left run.old.tick run.old.snaps.now
-        run.old.waiting run.old.driven
-        ≡ rows_then rows.new.rows
-        (rest_of run.new.turn run.new.left run.new.tick run.new.snaps.now run.new.waiting
-        run.new.driven) }
+    ensures told { rest_behind run.old ≡ rows_then rows.new.rows (rest_behind run.new) }
 {
     if !may_go_far(run) {
         return;
@@ -139,7 +112,7 @@ pub(crate) fn make_rows<const N: usize>(run: &mut Progress<N>, rows: &mut RowQue
 // Whether an entry is done next, and no snapshot is to come.
 fn may_go_far<const N: usize>(run: &Progress<N>) -> bool
     ensures { result ≡ true → (run.now.turn ≡ turns.Before) × (run.now.snaps.now ≡ [])
-        × ((s : Machine) → whats run.now.waiting s ≡ []) }
+        × IsTold run.now }
 {
     let Turn::Before = run.turn else {
         return false;
@@ -159,21 +132,14 @@ fn go_far<const N: usize>(
     most: u64,
     rows: &mut RowQueue,
 ) -> Option<Row>
-    requires run { IsRun turns.Before run.old.left run.old.tick run.old.snaps.now run.old.waiting
-        run.old.driven }
+    requires run { IsBeforeNext run.old }
     requires turn { run.old.turn ≡ turns.Before }
-    requires waits { (s : Machine) → whats run.old.waiting s ≡ [] }
+    requires waits { IsTold run.old }
     requires snaps { run.old.snaps.now ≡ [] }
     requires done { done ≡ run.old.driven.machine.state.done }
 
-    ensures kept { IsRun run.new.turn run.new.left run.new.tick run.new.snaps.now run.new.waiting
-        run.new.driven }
-    ensures told { GoesFar done most result
-        (told_events (timed_behind run.old.driven.machine.delays
-        run.old.driven.machine.levels run.old.left
-        (standing_of run.old.tick run.old.driven) run.old.snaps.now))
-        (rest_of run.new.turn run.new.left run.new.tick run.new.snaps.now run.new.waiting
-        run.new.driven)
+    ensures kept { IsUnderWay run.new }
+    ensures told { GoesFar done most result (told_ahead run.old) (rest_behind run.new)
         rows.old rows.new }
 {
     let count = count_of(&run.driven, done, run.left, most);
@@ -236,20 +202,13 @@ pub(crate) fn told_of(row: Row) -> TimedRunEvent
 
 // Before the next entry: a snapshot, or that entry is done.
 fn go<const N: usize>(run: &mut Progress<N>, rows: &mut RowQueue) -> TimedRunEvent
-    requires run { IsRun turns.Before run.old.left run.old.tick run.old.snaps.now run.old.waiting
-        run.old.driven }
+    requires run { IsBeforeNext run.old }
     requires turn { run.old.turn ≡ turns.Before }
-    requires waits { (s : Machine) → whats run.old.waiting s ≡ [] }
+    requires waits { IsTold run.old }
     requires shut { rows.old.room ≡ 0 }
     ensures rows { rows.new ≡ rows.old }
-    ensures kept { IsRun run.new.turn run.new.left run.new.tick run.new.snaps.now run.new.waiting
-        run.new.driven }
-    ensures told { told_events
-        (timed_behind run.old.driven.machine.delays run.old.driven.machine.levels run.old.left
-        (standing_of run.old.tick run.old.driven) run.old.snaps.now)
-        ≡ told_with result run.new.driven.machine run.new.printed.bytes
-        ∷ rest_of run.new.turn run.new.left run.new.tick run.new.snaps.now run.new.waiting
-        run.new.driven }
+    ensures kept { IsUnderWay run.new }
+    ensures told { told_ahead run.old ≡ told_by result run.new ∷ rest_behind run.new }
 {
     let snap = first_of(run.snaps);
     let Some(row) = run_until(&mut run.driven, snap, rows) else {
@@ -263,15 +222,9 @@ fn go<const N: usize>(run: &mut Progress<N>, rows: &mut RowQueue) -> TimedRunEve
 fn show<const N: usize>(run: &mut Progress<N>) -> TimedRunEvent
     requires shown { IsShown run.old.left run.old.tick run.old.snaps.now run.old.driven }
     requires turn { run.old.turn ≡ turns.Before }
-    requires waits { (s : Machine) → whats run.old.waiting s ≡ [] }
-    ensures kept { IsRun run.new.turn run.new.left run.new.tick run.new.snaps.now run.new.waiting
-        run.new.driven }
-    ensures told { told_events
-        (timed_behind run.old.driven.machine.delays run.old.driven.machine.levels run.old.left
-        (standing_of run.old.tick run.old.driven) run.old.snaps.now)
-        ≡ told_with result run.new.driven.machine run.new.printed.bytes
-        ∷ rest_of run.new.turn run.new.left run.new.tick run.new.snaps.now run.new.waiting
-        run.new.driven }
+    requires waits { IsTold run.old }
+    ensures kept { IsUnderWay run.new }
+    ensures told { told_ahead run.old ≡ told_by result run.new ∷ rest_behind run.new }
 {
     let Some((at, after)) = split_first(run.snaps) else {
         return at_once(&run.driven, run.tick, RunEvent::Shown(0));
@@ -285,14 +238,9 @@ fn show<const N: usize>(run: &mut Progress<N>) -> TimedRunEvent
 fn leave_entry<const N: usize>(run: &mut Progress<N>, tick: u64)
     requires left { IsLeft run.old.left run.old.snaps.now tick run.old.driven }
     requires turn { run.old.turn ≡ turns.Before }
-    requires waits { (s : Machine) → whats run.old.waiting s ≡ [] }
-    ensures kept { IsRun run.new.turn run.new.left run.new.tick run.new.snaps.now run.new.waiting
-        run.new.driven }
-    ensures told { told_events
-        (timed_from run.old.driven.machine.delays run.old.driven.machine.levels run.old.left
-        (moment_of run.old.driven) run.old.snaps.now)
-        ≡ rest_of run.new.turn run.new.left run.new.tick run.new.snaps.now run.new.waiting
-        run.new.driven }
+    requires waits { IsTold run.old }
+    ensures kept { IsUnderWay run.new }
+    ensures told { told_after run.old ≡ rest_behind run.new }
 {
     if !pass_on(&mut run.driven, run.left) {
         leave_fully(run, tick);
@@ -306,13 +254,8 @@ fn leave_entry<const N: usize>(run: &mut Progress<N>, tick: u64)
 #[inline(never)]
 fn leave_fully<const N: usize>(run: &mut Progress<N>, tick: u64)
     requires left { IsLeft run.old.left run.old.snaps.now tick run.old.driven }
-    ensures kept { IsRun run.new.turn run.new.left run.new.tick run.new.snaps.now run.new.waiting
-        run.new.driven }
-    ensures told { told_events
-        (timed_from run.old.driven.machine.delays run.old.driven.machine.levels run.old.left
-        (moment_of run.old.driven) run.old.snaps.now)
-        ≡ rest_of run.new.turn run.new.left run.new.tick run.new.snaps.now run.new.waiting
-        run.new.driven }
+    ensures kept { IsUnderWay run.new }
+    ensures told { told_after run.old ≡ rest_behind run.new }
 {
     let mut drops = levels_ahead(&run.driven);
     let decided = leave(&mut run.driven, run.left);
@@ -333,14 +276,11 @@ fn finish<const N: usize>(run: &mut Progress<N>, rests: bool) -> TimedRunEvent
     requires levels { levels_of run.old.driven.machine ≡ [] }
     requires in_time { AreInTime
         (told_at_end rests run.old.tick run.old.snaps.now run.old.driven.machine.state) }
-    requires waits { (s : Machine) → whats run.old.waiting s ≡ [] }
+    requires waits { IsTold run.old }
 
-    ensures kept { IsRun run.new.turn run.new.left run.new.tick run.new.snaps.now run.new.waiting
-        run.new.driven }
+    ensures kept { IsUnderWay run.new }
     ensures told { told_at_end rests run.old.tick run.old.snaps.now run.old.driven.machine.state
-        ≡ told_with result run.new.driven.machine run.new.printed.bytes
-        ∷ rest_of run.new.turn run.new.left run.new.tick run.new.snaps.now run.new.waiting
-        run.new.driven }
+        ≡ told_by result run.new ∷ rest_behind run.new }
 {
     let Some((at, after)) = split_due(run.snaps, run.tick) else {
         run.turn = Turn::Over;

@@ -1,6 +1,7 @@
 //! A run with the rows that wait to be told.
 ghost use Rattle.std.specs.Prelude.{◌≡◌, [], ◌∷◌, MatchOption};
-ghost use Rattle.st_run.specs.Telling.{rest_of, rows_then, row_told, told_with, AreLeftOut, IsRun};
+ghost use Rattle.st_run.specs.Telling.{row_told, AreLeftOut};
+ghost use Rattle.st_run.specs.Progress.{rest_with_rows, told_by, IsUnderWay};
 
 use crate::progress::{Progress, make_rows, pass_entries, tell_next, told_of};
 use crate::told::TimedRunEvent;
@@ -17,28 +18,13 @@ pub(crate) struct Teller<'a, const N: usize> {
 // The next thing that is told: the first row that waits, or else what comes behind. `None` exactly
 // where all is told.
 pub(crate) fn next_of<const N: usize>(teller: &mut Teller<N>) -> Option<TimedRunEvent>
-    requires run { IsRun teller.old.progress.turn teller.old.progress.left
-        teller.old.progress.tick teller.old.progress.snaps.now teller.old.progress.waiting
-        teller.old.progress.driven }
+    requires run { IsUnderWay teller.old.progress }
     requires shut { teller.old.rows.room ≡ 0 }
-    ensures kept { IsRun teller.new.progress.turn teller.new.progress.left
-        teller.new.progress.tick teller.new.progress.snaps.now teller.new.progress.waiting
-        teller.new.progress.driven }
+    ensures kept { IsUnderWay teller.new.progress }
     ensures shut { teller.new.rows.room ≡ 0 }
-    ensures told { MatchOption result
-        (rows_then teller.old.rows.rows
-        (rest_of teller.old.progress.turn teller.old.progress.left
-        teller.old.progress.tick teller.old.progress.snaps.now teller.old.progress.waiting
-        teller.old.progress.driven) ≡ [])
-        (λ t. rows_then teller.old.rows.rows
-        (rest_of teller.old.progress.turn teller.old.progress.left
-        teller.old.progress.tick teller.old.progress.snaps.now teller.old.progress.waiting
-        teller.old.progress.driven)
-        ≡ told_with t teller.new.progress.driven.machine teller.new.progress.printed.bytes
-        ∷ rows_then teller.new.rows.rows
-        (rest_of teller.new.progress.turn teller.new.progress.left
-        teller.new.progress.tick teller.new.progress.snaps.now teller.new.progress.waiting
-        teller.new.progress.driven)) }
+    ensures told { MatchOption result (rest_with_rows teller.old ≡ [])
+        (λ t. rest_with_rows teller.old
+        ≡ told_by t teller.new.progress ∷ rest_with_rows teller.new) }
 {
     if let Some(row) = teller.rows.next() {
         return Some(told_of(row));
@@ -49,22 +35,11 @@ pub(crate) fn next_of<const N: usize>(teller: &mut Teller<N>) -> Option<TimedRun
 // Where no row waits, rows are made, as long as nothing else is told between them.
 #[inline(always)]
 fn make_ready<const N: usize>(teller: &mut Teller<N>)
-    requires run { IsRun teller.old.progress.turn teller.old.progress.left
-        teller.old.progress.tick teller.old.progress.snaps.now teller.old.progress.waiting
-        teller.old.progress.driven }
+    requires run { IsUnderWay teller.old.progress }
     requires shut { teller.old.rows.room ≡ 0 }
-    ensures kept { IsRun teller.new.progress.turn teller.new.progress.left
-        teller.new.progress.tick teller.new.progress.snaps.now teller.new.progress.waiting
-        teller.new.progress.driven }
+    ensures kept { IsUnderWay teller.new.progress }
     ensures shut { teller.new.rows.room ≡ 0 }
-    ensures told { rows_then teller.old.rows.rows
-        (rest_of teller.old.progress.turn teller.old.progress.left
-        teller.old.progress.tick teller.old.progress.snaps.now teller.old.progress.waiting
-        teller.old.progress.driven)
-        ≡ rows_then teller.new.rows.rows
-        (rest_of teller.new.progress.turn teller.new.progress.left
-        teller.new.progress.tick teller.new.progress.snaps.now teller.new.progress.waiting
-        teller.new.progress.driven) }
+    ensures told { rest_with_rows teller.old ≡ rest_with_rows teller.new }
 {
     if !teller.rows.is_empty() {
         return;
@@ -75,30 +50,12 @@ fn make_ready<const N: usize>(teller: &mut Teller<N>)
 // The next thing that is told, where that is a row: the first one that waits, or one that is made.
 #[inline(always)]
 pub(crate) fn next_row_of<const N: usize>(teller: &mut Teller<N>) -> Option<Row>
-    requires run { IsRun teller.old.progress.turn teller.old.progress.left
-        teller.old.progress.tick teller.old.progress.snaps.now teller.old.progress.waiting
-        teller.old.progress.driven }
+    requires run { IsUnderWay teller.old.progress }
     requires shut { teller.old.rows.room ≡ 0 }
-    ensures kept { IsRun teller.new.progress.turn teller.new.progress.left
-        teller.new.progress.tick teller.new.progress.snaps.now teller.new.progress.waiting
-        teller.new.progress.driven }
+    ensures kept { IsUnderWay teller.new.progress }
     ensures shut { teller.new.rows.room ≡ 0 }
-    ensures told { MatchOption result (rows_then teller.new.rows.rows
-        (rest_of teller.new.progress.turn teller.new.progress.left
-        teller.new.progress.tick teller.new.progress.snaps.now teller.new.progress.waiting
-        teller.new.progress.driven)
-        ≡ rows_then teller.old.rows.rows
-        (rest_of teller.old.progress.turn teller.old.progress.left
-        teller.old.progress.tick teller.old.progress.snaps.now teller.old.progress.waiting
-        teller.old.progress.driven))
-        (λ row. rows_then teller.old.rows.rows
-        (rest_of teller.old.progress.turn teller.old.progress.left
-        teller.old.progress.tick teller.old.progress.snaps.now teller.old.progress.waiting
-        teller.old.progress.driven)
-        ≡ row_told row ∷ rows_then teller.new.rows.rows
-        (rest_of teller.new.progress.turn teller.new.progress.left
-        teller.new.progress.tick teller.new.progress.snaps.now teller.new.progress.waiting
-        teller.new.progress.driven)) }
+    ensures told { MatchOption result (rest_with_rows teller.new ≡ rest_with_rows teller.old)
+        (λ row. rest_with_rows teller.old ≡ row_told row ∷ rest_with_rows teller.new) }
 {
     make_ready(teller);
     teller.rows.next()
@@ -106,33 +63,13 @@ pub(crate) fn next_row_of<const N: usize>(teller: &mut Teller<N>) -> Option<Row>
 
 // Passes over entries that are done, where no row waits.
 pub(crate) fn pass_over<const N: usize>(teller: &mut Teller<N>) -> Option<TimedRunEvent>
-    requires run { IsRun teller.old.progress.turn teller.old.progress.left
-        teller.old.progress.tick teller.old.progress.snaps.now teller.old.progress.waiting
-        teller.old.progress.driven }
+    requires run { IsUnderWay teller.old.progress }
     requires shut { teller.old.rows.room ≡ 0 }
-    ensures kept { IsRun teller.new.progress.turn teller.new.progress.left
-        teller.new.progress.tick teller.new.progress.snaps.now teller.new.progress.waiting
-        teller.new.progress.driven }
+    ensures kept { IsUnderWay teller.new.progress }
     ensures shut { teller.new.rows.room ≡ 0 }
-    ensures told { MatchOption result
-        (rows_then teller.new.rows.rows
-        (rest_of teller.new.progress.turn teller.new.progress.left
-        teller.new.progress.tick teller.new.progress.snaps.now teller.new.progress.waiting
-        teller.new.progress.driven)
-        ≡ rows_then teller.old.rows.rows
-        (rest_of teller.old.progress.turn teller.old.progress.left
-        teller.old.progress.tick teller.old.progress.snaps.now teller.old.progress.waiting
-        teller.old.progress.driven))
-        (λ t. AreLeftOut
-        (told_with t teller.new.progress.driven.machine teller.new.progress.printed.bytes)
-        (rows_then teller.old.rows.rows
-        (rest_of teller.old.progress.turn teller.old.progress.left
-        teller.old.progress.tick teller.old.progress.snaps.now teller.old.progress.waiting
-        teller.old.progress.driven))
-        (rows_then teller.new.rows.rows
-        (rest_of teller.new.progress.turn teller.new.progress.left
-        teller.new.progress.tick teller.new.progress.snaps.now teller.new.progress.waiting
-        teller.new.progress.driven))) }
+    ensures told { MatchOption result (rest_with_rows teller.new ≡ rest_with_rows teller.old)
+        (λ t. AreLeftOut (told_by t teller.new.progress)
+        (rest_with_rows teller.old) (rest_with_rows teller.new)) }
 {
     if !teller.rows.is_empty() {
         return None;

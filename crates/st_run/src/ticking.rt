@@ -1,5 +1,5 @@
 //! Ticks up to an entry that is told, or up to a snapshot.
-ghost use Rattle.std.specs.Prelude.{◌≡◌, ◌-◌, ◌<◌, ◌≤◌, ◌^◌, [], None, IfSome};
+ghost use Rattle.std.specs.Prelude.{◌≡◌, ◌-◌, ◌<◌, ◌≤◌, ◌^◌, None, IfSome};
 ghost use Rattle.st_ahead.specs.Overlap.{oldest_row};
 ghost use Rattle.st_run.specs.Together.{IsBeforeEntry};
 ghost use Rattle.st_run.specs.Ticking.{AreMade, AreMadeUpTo, last_for};

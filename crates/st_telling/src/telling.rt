@@ -17,8 +17,7 @@ use st_ahead::{LevelView, Row, View};
 use st_card::Controls;
 use st_io::{Failed, Sink, write_line};
 use st_report::{
-    LineFromEnd, fill_trc, line_done, line_drop, line_end, line_int, line_prt, line_ticks,
-    line_time,
+    EntryLine, fill_trc, line_done, line_drop, line_end, line_int, line_prt, line_ticks, line_time,
 };
 use st_run::{Run, RunEvent, Seen, TimedRunEvent};
 use st_time::{fill_chart, level_line, snap_line};
@@ -67,7 +66,7 @@ fn is_timed(controls: &Controls) -> bool
 #[inline(always)]
 fn write_trace<K: Sink>(
     out: &mut K,
-    line: &mut LineFromEnd,
+    line: &mut EntryLine,
     done: u64,
     address: u32,
     controls: &Controls,
@@ -79,7 +78,7 @@ fn write_trace<K: Sink>(
         return Ok(());
     }
     fill_trc(line, done, address);
-    write_line(out, line.as_bytes())
+    write_line(out, line.bytes.as_bytes())
 }
 
 // Writes the line of a row, where the timetable is asked for. It is put together in `line`.
@@ -87,7 +86,7 @@ fn write_trace<K: Sink>(
 #[inline(always)]
 fn write_row<K: Sink>(
     out: &mut K,
-    line: &mut LineFromEnd,
+    line: &mut EntryLine,
     row: Row,
     controls: &Controls,
 ) -> Result<(), Failed>
@@ -98,14 +97,14 @@ fn write_row<K: Sink>(
         return Ok(());
     }
     fill_chart(line, &row);
-    write_line(out, line.as_bytes())
+    write_line(out, line.bytes.as_bytes())
 }
 
 // Writes the lines of an entry that is done, each put together in `line`.
 #[inline(always)]
 fn write_done<K: Sink>(
     out: &mut K,
-    line: &mut LineFromEnd,
+    line: &mut EntryLine,
     row: Row,
     controls: &Controls,
 ) -> Result<(), Failed>
@@ -320,7 +319,7 @@ fn moment_at(row: &Row) -> Moment
 #[tactic(auto, using(st_io::proofs::Progress::wrote_nothing))]
 fn write_told<K: Sink, const N: usize>(
     out: &mut K,
-    line: &mut LineFromEnd,
+    line: &mut EntryLine,
     run: &Run<'_, N>,
     moment: Moment,
     what: RunEvent,
@@ -377,13 +376,13 @@ fn pass_counted<const N: usize>(run: &mut Run<'_, N>, moment: &mut Moment, contr
     }
 }
 
-// The row of an entry that a run tells next, where it is written.
+// The row of an entry that a run tells next, where such are written.
 #[inline(always)]
-fn next_written<const N: usize>(run: &mut Run<'_, N>, controls: &Controls) -> Option<Row>
+fn next_written<const N: usize>(run: &mut Run<'_, N>, written: bool) -> Option<Row>
     ensures { MatchOption result (run.new.rest ≡ run.old.rest) (λ row. run.old.rest ≡ row_told row
         ∷ run.new.rest) }
 {
-    if !is_written(controls) {
+    if !written {
         return None;
     }
     run.next_row()
@@ -419,9 +418,10 @@ pub fn write_run<K: Sink, const N: usize>(
         (last_moment moment.old run.old.rest) moment.new result }
 {
     // One line for all, since a new one is cleared first.
-    let mut line = LineFromEnd::new();
+    let mut line = EntryLine::new();
+    let written = is_written(controls);
     'telling: loop {
-        if let Some(row) = next_written(run, controls) {
+        if let Some(row) = next_written(run, written) {
             *moment = moment_at(&row);
             write_done(out, &mut line, row, controls)?;
             continue 'telling;

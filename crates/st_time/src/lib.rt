@@ -7,7 +7,7 @@ ghost use Rattle.st_report.specs.Line.{row_line, drop_line as drop_line_of, snap
 ghost use Rattle.st_time.specs.Shown.{levels_standing, change_shown};
 
 use st_ahead::{LevelView, Row, View};
-use st_report::{Line, LineFromEnd, fill_row, line_drop, line_lev, line_row, line_snap};
+use st_report::{EntryLine, Line, fill_row, line_drop, line_lev, line_row, line_snap};
 
 /// `ROW n a P p R r C c`: an entry that is done.
 pub fn chart(row: &Row) -> Line
@@ -18,8 +18,9 @@ pub fn chart(row: &Row) -> Line
 
 /// The same, filled into a line; what the line had is gone.
 #[inline(always)]
-pub fn fill_chart(line: &mut LineFromEnd, row: &Row)
-    ensures { line.new ≡ row_line row.now.number row.now.address row.now.p row.now.r row.now.c }
+pub fn fill_chart(line: &mut EntryLine, row: &Row)
+    ensures { line.new.bytes
+        ≡ row_line row.now.number row.now.address row.now.p row.now.r row.now.c }
 {
     fill_row(line, row.number, row.address, row.p, row.r, row.c);
 }

@@ -9,6 +9,6 @@ returns c =
     let a = c.args in
     eleven_pieces (codes "ROW ") (decimal a.n) (codes " ") (half_address a.address) (codes " P ") (decimal a.p)
     (codes " R ") (decimal a.r) (codes " C ") (decimal a.c) lf
-    _ _ _ _ _ _ _ _ _ _ _ _ c.clear.ensures c.put.ensures c.put_decimal.ensures.bytes c.put-2.ensures c.put_decimal-2.ensures.bytes
-    c.put-3.ensures c.put_decimal-3.ensures.bytes c.put-4.ensures c.put_half_address.ensures.bytes c.put-5.ensures
-    c.put_decimal-4.ensures.bytes c.put-6.ensures
+    _ _ _ _ _ _ _ _ _ _ _ _ c.clear.ensures c.put_word.ensures c.put_near.ensures.bytes c.put_word-2.ensures c.put_near-2.ensures.bytes
+    c.put_word-3.ensures c.put_near-3.ensures.bytes c.put_word-4.ensures c.put_half_address.ensures.bytes c.put_word-5.ensures
+    c.put_near-4.ensures.bytes c.put_word-6.ensures

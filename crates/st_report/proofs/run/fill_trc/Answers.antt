@@ -7,4 +7,4 @@ use Rattle.st_report.proofs.run.fill_trc.Goals as goal
 pub returns : goal.returns
 returns c =
     five_pieces (codes "TRC ") (decimal c.args.n) (codes " ") (half_address c.args.address) lf _ _ _ _ _ _
-    c.clear.ensures c.put.ensures c.put_half_address.ensures.bytes c.put-2.ensures c.put_decimal.ensures.bytes c.put-3.ensures
+    c.clear.ensures c.put_word.ensures c.put_half_address.ensures.bytes c.put_word-2.ensures c.put_kept.ensures.bytes c.put_word-3.ensures

@@ -1,14 +1,7 @@
-use Rattle.std.proofs.Common.{◌≡◌, ℕ, ◌+◌, ◌-◌, ◌<◌, ◌≤◌, ◌∷◌, ◌++◌, Option, None, Some, List, [], refl, ap, ◌∙◌, sym, subst, arith}
-use Rattle.st_ahead.specs.declared.events.Row.{Row}
-use Rattle.st_run.specs.Together.{Together, standing_of}
-use Rattle.st_run.specs.TimedRun.{timed_behind}
-use Rattle.st_run.specs.Told.{Told, told_of_events}
-use Rattle.st_run.specs.Ticking.{AreMadeUpTo}
-use Rattle.st_run.specs.Telling.{AreInTime, IsLeft, AreLeftOut, rest_of, told_with}
-use Rattle.st_run.specs.declared.told.TimedRunEvent.{TimedRunEvent as ToldNext}
-use Rattle.st_run.specs.declared.turn.Turn.TheVariants as turns
+use Rattle.std.proofs.Common.{◌≡◌, ◌-◌, [], arith}
+use Rattle.st_run.specs.Telling.{rest_of}
 use Rattle.st_run.proofs.LeftLemmas.{done-in_time}
-use Rattle.st_run.proofs.PassLemmas.{AreAhead, ahead-is, far-row, far-none, far-left, far-told}
+use Rattle.st_run.proofs.PassLemmas.{ahead-is, far-row, far-none, far-left, far-told}
 use Rattle.st_run.proofs.progress.go_far.Goals as goal
 
 pub count_of-count-requires : goal.count_of-count-requires

@@ -1,4 +1,4 @@
-use Rattle.std.proofs.Common.{ℕ, ◌+◌, ◌-◌, [], refl, sym, ◌∙◌, ap, subst}
+use Rattle.std.proofs.Common.{ℕ, ◌-◌, [], refl, sym, ◌∙◌, ap, subst}
 use Rattle.st_run.specs.Telling.{rest_of, IsRun}
 use Rattle.st_run.specs.Leaving.{nothing_decided}
 use Rattle.st_run.specs.declared.turn.Turn.{Turn}

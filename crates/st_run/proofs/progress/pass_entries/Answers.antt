@@ -1,4 +1,4 @@
-use Rattle.std.proofs.Common.{refl, List, ◌∷◌, sym, subst, ◌∙◌}
+use Rattle.std.proofs.Common.{refl, List, sym, subst, ◌∙◌}
 use Rattle.st_ahead.proofs.NotedRows.{queue-shut}
 use Rattle.st_run.specs.Told.{Told}
 use Rattle.st_run.specs.Telling.{AreLeftOut, rest_of, rest_by, told_with}

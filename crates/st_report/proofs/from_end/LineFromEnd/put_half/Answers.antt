@@ -18,9 +18,9 @@ half_before line k half bit spelled same =
 
 pub returns-then-half-eq0-clause-bytes : goal.returns-then-half-eq0-clause-bytes
 returns-then-half-eq0-clause-bytes c =
-    c.put.ensures ∙ half_before c.args.self.now 0 c.args.half (codes ".0") first_half (sym c.if-half-eq0.true)
+    c.put_word.ensures ∙ half_before c.args.self.now 0 c.args.half (codes ".0") first_half (sym c.if-half-eq0.true)
 
 pub returns-else-half-eq0-clause-bytes : goal.returns-else-half-eq0-clause-bytes
 returns-else-half-eq0-clause-bytes c =
     let one : 1 ≡ c.args.half = omega (arith, c.if-half-eq0.false, c.requires.few) in
-    c.put-else-half-eq0.ensures ∙ half_before c.args.self.now 1 c.args.half (codes ".32") second_half one
+    c.put_word-else-half-eq0.ensures ∙ half_before c.args.self.now 1 c.args.half (codes ".32") second_half one

@@ -1,4 +1,4 @@
-use Rattle.std.proofs.Common.{refl, sym, ◌∙◌, ap, arith}
+use Rattle.std.proofs.Common.{sym, ◌∙◌, ap, arith}
 use Rattle.st_run.specs.Telling.{Waiting, whats}
 use Rattle.st_run.proofs.WaitingLemmas.{whats-none, without-items, none-mapped, none-there}
 use Rattle.st_run.proofs.waiting.Waiting.is_empty.Goals as goal

@@ -1,0 +1,7 @@
+use Rattle.std.proofs.Common.{◌/◌, arith}
+use Rattle.std.proofs.lemmas.Fmt.{length-decimal-le}
+use Rattle.st_report.proofs.kept.KeptDigits.keep.Goals as goal
+
+pub write_digits-self-inside-requires : goal.write_digits-self-inside-requires
+write_digits-self-inside-requires c =
+    (length-decimal-le 16 (c.args.n / 100) (omega arith) (omega arith) (omega arith), omega (arith, c.self.told))
