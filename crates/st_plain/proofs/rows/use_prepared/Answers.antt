@@ -1,6 +1,6 @@
-use Rattle.std.proofs.Common.{◌≡◌, ◌+◌, ◌-◌, ◌*◌, ◌^◌, ap, arith}
+use Rattle.std.proofs.Common.{◌+◌, ◌-◌, ◌*◌, ◌^◌, ap, arith}
 use Rattle.st_rows.specs.BusTimes.{Reading}
-use Rattle.st_rows.specs.Rows.{reading_of_fetch, operands}
+use Rattle.st_rows.specs.Rows.{reading_of_fetch}
 use Rattle.st_rows.proofs.Within.{AreDelays-list, bus-weaker}
 use Rattle.st_rows.proofs.Stages.{bus_a-within, p-within, operands_of-within}
 use Rattle.st_plain.proofs.UseLemmas.{operands-read, prepared-used}

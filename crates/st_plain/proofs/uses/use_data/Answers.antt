@@ -1,11 +1,9 @@
-use Rattle.std.proofs.Common.{◌≡◌, ◌++◌, ◌∙◌, ◌+◌, ◌-◌, ◌*◌, ◌^◌, List, sym, subst, ap, arith}
+use Rattle.std.proofs.Common.{◌+◌, ◌-◌, ◌*◌, ◌^◌, sym, subst, arith}
 use Rattle.st_rows.specs.BusTimes.{Reading}
 use Rattle.st_rows.specs.Ranges.{IsReadingWithin}
 use Rattle.st_rows.specs.Rows.{reading_of_fetch}
 use Rattle.st_rows.proofs.Within.{AreDelays-list, reading-weaker}
 use Rattle.st_rows.proofs.Stages.{read_sixteen-within}
-use Rattle.st_plain.specs.Uses.{run_uses, data_uses}
-use Rattle.st_plain.proofs.UseLemmas.{two-noted}
 use Rattle.st_plain.proofs.uses.use_data.Goals as goal
 
 -- behind the first run

@@ -1,4 +1,4 @@
-use Rattle.std.proofs.Common.{◌≡◌, ◌+◌, ◌-◌, ◌*◌, ◌^◌, ◌∙◌, sym, subst, arith}
+use Rattle.std.proofs.Common.{◌+◌, ◌-◌, ◌*◌, ◌^◌, ◌∙◌, sym, subst, arith}
 use Rattle.st_bits.specs.Storage.{words_of_storage_is}
 use Rattle.st_rows.specs.BusTimes.{Reading}
 use Rattle.st_rows.specs.Ranges.{IsReadingWithin}

@@ -1,4 +1,4 @@
-use Rattle.std.proofs.Common.{◌+◌, ◌-◌, ◌∙◌, arith}
+use Rattle.std.proofs.Common.{◌∙◌, arith}
 use Rattle.st_plain.proofs.UseLemmas.{register-turn, register-end}
 use Rattle.st_plain.proofs.uses.use_registers.Goals as goal
 
