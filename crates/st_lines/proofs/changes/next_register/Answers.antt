@@ -1,4 +1,4 @@
-use Rattle.st_lines.proofs.ChangeLemmas.{same-starts, same-turn}
+use Rattle.st_lines.proofs.ChangeLemmas.{same-starts}
 use Rattle.st_lines.proofs.changes.next_register.Goals as goal
 
 pub registers-init : goal.registers-init

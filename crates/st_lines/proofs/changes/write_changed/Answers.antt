@@ -1,4 +1,3 @@
-use Rattle.std.proofs.Common.{arith}
 use Rattle.st_lines.proofs.ChangeLemmas.{change-starts, change-passes, change-fails, change-made, change-size, change-left, change-ends, words-kept}
 use Rattle.st_lines.proofs.LineLemmas.{not_both}
 use Rattle.st_lines.proofs.changes.write_changed.Goals as goal
