@@ -83,9 +83,9 @@ segment_lines ds n k b m =
 
 -- ---- rows
 
--- those of the next entry
-unfoldable pub lines_of_entry : List ℕ → ℕ → Standing → List (List ℕ)
-lines_of_entry ds n p =
+-- those of the next entry; its segment ends at the tick `end`, or goes on where there is none
+unfoldable pub lines_of_entry : List ℕ → ℕ → Option ℕ → Standing → List (List ℕ)
+lines_of_entry ds n end p =
     let s = p.scene.machine in
     let e = plan s (interrupt s) in
     done_entry_lines (s.done + 1) (address s) (next_row ds n p)
@@ -93,6 +93,18 @@ lines_of_entry ds n p =
     p.tick p.front.c
 
 -- ---- the end
+
+-- the run ends at a moment in which so many entries may still be done
+abbrev pub run_ends : ℕ → Moment → Bool
+run_ends left m = nat_eq left 0 || rests (next_state m)
+
+-- and so does the segment of the entry that has just been done, or it does by itself
+abbrev pub segment_ends : ℕ → Moment → Bool
+segment_ends left m = run_ends left m || ends_segment m
+
+-- the tick at which it ends, where it does
+unfoldable pub segment_end_at : ℕ → Moment → Option ℕ
+segment_end_at left m = if segment_ends left m then Some m.tick else None
 
 -- the last segment ends, and the run
 unfoldable pub last_lines : List ℕ → ℕ → ℕ → Machine → Moment → List (List ℕ)
@@ -111,9 +123,11 @@ totals_lines xs = sum_lines (sums_by (λ s. ticks_for s xs) stages)
 unfoldable pub lines_from : List ℕ → ℕ → ℕ → ℕ → Machine → Moment → List (List ℕ)
 lines_from ds n zero k b m = last_lines ds n k b m
 lines_from ds n (suc left) k b m =
+    let p = standing_at m in
+    let behind = next_moment ds n p in
     if rests (next_state m) then last_lines ds n k b m
-    else (segment_lines ds n k b m ++ lines_of_entry ds n (standing_at m))
-    ++ lines_from ds n left (segment_after k m) (next_state m) (next_moment ds n (standing_at m))
+    else (segment_lines ds n k b m ++ lines_of_entry ds n (segment_end_at left behind) p)
+    ++ lines_from ds n left (segment_after k m) (next_state m) behind
 
 -- the ledger of the run of a scene
 unfoldable pub ledger : List ℕ → ℕ → ℕ → Scene → List (List ℕ)

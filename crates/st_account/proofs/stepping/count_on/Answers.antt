@@ -5,20 +5,20 @@ use Rattle.st_rows.specs.declared.entry.Entry.{Entry}
 use Rattle.st_rows.specs.declared.log.Made.{Made}
 use Rattle.st_segment.proofs.EntryRanges.{entry-ranges}
 use Rattle.st_account.proofs.LastLemmas.{past-kept}
-use Rattle.st_account.proofs.running.count_on.Goals as goal
+use Rattle.st_account.proofs.stepping.count_on.Goals as goal
 
 pub next_row-row-requires-clause-entry : goal.next_row-row-requires-clause-entry
 next_row-row-requires-clause-entry c = rw c.plan_entry-planned.ensures.entry (entry-ranges c.args.taken c.args.state.now c.shape.ensures c.requires.indicator)
 
 pub returns-clause-past : goal.returns-clause-past
 returns-clause-past c =
-    past-kept c.args.delays.now c.args.levels c.args.last.now.front c.plan_entry-planned.result.entry c.next_row-row.result.ticks _ _ _ c.requires.past
+    past-kept c.args.timing.now.delays c.args.timing.now.levels c.args.last.now.front c.plan_entry-planned.result.entry c.next_row-row.result.ticks _ _ _ c.requires.past
     c.next_row-row.ensures.value c.put_past.ensures c.next_row-row.ensures.after
 
 pub returns-clause-log : goal.returns-clause-log
 returns-clause-log c =
-    let ds = c.args.delays.now in
+    let ds = c.args.timing.now.delays in
     let f = c.args.last.now.front in
     c.next_row-row.ensures.log
-    ∙ ap (λ (l : List Made). log_after_reads ds (reads_of_entry ds c.args.levels f c.plan_entry-planned.result.entry) f.bus l) c.clear.ensures
-    ∙ ap (λ (e : Entry). log_after_reads ds (reads_of_entry ds c.args.levels f e) f.bus []) c.plan_entry-planned.ensures.entry
+    ∙ ap (λ (l : List Made). log_after_reads ds (reads_of_entry ds c.args.timing.now.levels f c.plan_entry-planned.result.entry) f.bus l) c.clear.ensures
+    ∙ ap (λ (e : Entry). log_after_reads ds (reads_of_entry ds c.args.timing.now.levels f e) f.bus []) c.plan_entry-planned.ensures.entry
