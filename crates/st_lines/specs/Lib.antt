@@ -1,9 +1,11 @@
 pub mod Lines
+pub mod UseLines
 pub mod EntryLines
 pub mod BorderLines
 pub mod Changes
 pub use Rattle.st_bits.specs.Indicators
 pub use Rattle.st_bits.specs.Storage
+pub use Rattle.st_banks.specs.Bank
 pub use Rattle.st_exch.specs.Printer
 pub use Rattle.st_exec.specs.Ahead
 pub use Rattle.st_io.specs.Output

@@ -5,10 +5,11 @@ mod changes;
 mod digits;
 mod facts;
 mod lines;
+mod uses;
 mod writing;
 
 pub use changes::Changeable;
-pub use facts::write_done;
+pub use facts::{EntryDone, write_done};
 pub use lines::{Alone, Why};
 pub use writing::{
     Border, Printed, counter_of, is_enabled, put, write_border, write_end, write_machine,

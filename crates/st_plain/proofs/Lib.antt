@@ -4,3 +4,5 @@ pub mod RowLemmas
 pub mod LookLemmas
 pub mod StraightLemmas
 pub mod SideLemmas
+pub mod UseLemmas
+pub mod Laws
