@@ -76,12 +76,12 @@ module _ (ds : List ℕ) (n : ℕ) (b : Machine) (m : Moment) (a : Account) (xs 
     asked = end-looks left a.state xs cards m a.last.missed still looks h.scene h.hand.missed is_still is_looks ends
 
     pub dropped-is : (found : List Seen)
-        → (looks ≡ true → found ≡ map seen_ahead (prepared_before a.last.tick (ahead ds n n None (guessing a.last.ic a.state) a.last.front)))
-        → found ≡ map seen_ahead m.dropped
+        → (looks ≡ true → found ≡ map (seen_ahead ds n) (prepared_before a.last.tick (ahead ds n n None (guessing a.last.ic a.state) a.last.front)))
+        → found ≡ map (seen_ahead ds n) m.dropped
     dropped-is found seen =
         seen asked
-        ∙ ap (λ (c : Scene). map seen_ahead (prepared_before a.last.tick (ahead ds n n None (guessing a.last.ic c.machine) a.last.front))) (sym h.scene)
-        ∙ ap (map seen_ahead) (sym h.hand.dropped)
+        ∙ ap (λ (c : Scene). map (seen_ahead ds n) (prepared_before a.last.tick (ahead ds n n None (guessing a.last.ic c.machine) a.last.front))) (sym h.scene)
+        ∙ ap (map (seen_ahead ds n)) (sym h.hand.dropped)
 
     pub banks-is : (banks : LastAnswers) → (looks ≡ true → banks ≡ (made_before ds a.last.tick
         (h.hand.reads ++ reads_before ds n a.last.tick (ahead ds n (suc n) None (guessing a.last.ic a.state) a.last.front)) h.hand.bus).banks)
@@ -94,12 +94,12 @@ module _ (ds : List ℕ) (n : ℕ) (b : Machine) (m : Moment) (a : Account) (xs 
 
     -- the entry that was begun
     pub late-is : (late : List Seen)
-        → (looks ≡ true → late ≡ map seen_ahead (first_late a.last.tick (ahead ds n (suc n) None (guessing a.last.ic a.state) a.last.front)))
+        → (looks ≡ true → late ≡ map (seen_ahead ds n) (first_late a.last.tick (ahead ds n (suc n) None (guessing a.last.ic a.state) a.last.front)))
         → a.k ≢ 0 → late ≡ late_at ds n b m
     unfolding late_at
     late-is late begun some =
         begun asked
-        ∙ ap (λ (c : Scene). map seen_ahead (first_late a.last.tick (ahead ds n (suc n) None (guessing a.last.ic c.machine) a.last.front))) (sym h.scene)
-        ∙ ap (λ u. map seen_ahead (first_late a.last.tick (ahead ds n (suc n) None u a.last.front))) (h.guessed some)
-        ∙ ap (λ t. map seen_ahead (first_late t (ahead ds n (suc n) None (guess (interrupt b) b) a.last.front))) (sym h.hand.tick)
-        ∙ ap (λ f. map seen_ahead (first_late m.tick (ahead ds n (suc n) None (guess (interrupt b) b) f))) (sym h.hand.front)
+        ∙ ap (λ (c : Scene). map (seen_ahead ds n) (first_late a.last.tick (ahead ds n (suc n) None (guessing a.last.ic c.machine) a.last.front))) (sym h.scene)
+        ∙ ap (λ u. map (seen_ahead ds n) (first_late a.last.tick (ahead ds n (suc n) None u a.last.front))) (h.guessed some)
+        ∙ ap (λ t. map (seen_ahead ds n) (first_late t (ahead ds n (suc n) None (guess (interrupt b) b) a.last.front))) (sym h.hand.tick)
+        ∙ ap (λ f. map (seen_ahead ds n) (first_late m.tick (ahead ds n (suc n) None (guess (interrupt b) b) f))) (sym h.hand.front)

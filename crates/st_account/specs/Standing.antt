@@ -70,8 +70,15 @@ pub record IsStanding (p : Standing) (s : Machine) (l : Last) : Type 0 where
 unfoldable pub kept_lines : ℕ → Last → Option ℕ → List (List ℕ)
 kept_lines k l end =
     if nat_eq k 0 then []
-    else done_entry_lines l.done.n l.done.address l.done.row.ticks l.done.row.level_wait
-    l.missed l.plan l.done.known l.done.before l.done.start
+    else done_entry_lines (record {
+      n = l.done.n;
+      address = l.done.address;
+      row = l.done.row;
+      missed = l.missed;
+      before = l.done.before;
+      start = l.done.start;
+      end = end;
+    }) l.plan l.done.known l.uses.items
 
 -- The run stands at the moment, which the entry before made of the state b: this is at hand of it,
 -- and these signals and cards are still to come.
@@ -95,7 +102,7 @@ pub record IsBehindMoment (ds : List ℕ) (n left : ℕ) (b : Machine) (m : Mome
   pub front : m.front ≡ a.last.front
   pub missed : m.missed ≡ a.last.missed
   pub was : b.enabled ≡ a.last.enabled
-  pub dropped : segment_ends left m ≡ true → a.behind.found.items ≡ map seen_ahead m.dropped
+  pub dropped : segment_ends left m ≡ true → a.behind.found.items ≡ map (seen_ahead ds n) m.dropped
   pub late : segment_ends left m ≡ true → a.k ≢ 0 → a.behind.late ∷ [] ≡ late_at ds n b m
   pub banks : segment_ends left m ≡ true → a.behind.banks ≡ m.banks
   pub printed : a.behind.printed.items ≡ words_behind m

@@ -16,7 +16,8 @@ use Rattle.st_ledger.specs.Charges.{ticks_for}
 use Rattle.st_ledger.specs.Ledger.{entries_of, all_charges}
 use Rattle.st_ledger.specs.Totals.{stages, sums_by, sum_lines}
 use Rattle.st_plain.specs.declared.looking.Ahead.{Ahead}
-use Rattle.st_plain.specs.Looking.{known_at, level_wait, seen_ahead, first_late}
+use Rattle.st_plain.specs.Looking.{known_at, level_wait, side_at, seen_ahead, first_late}
+use Rattle.st_plain.specs.Uses.{uses_of_entry}
 use Rattle.st_lines.specs.Lines.{start_line}
 use Rattle.st_lines.specs.EntryLines.{done_entry_lines}
 use Rattle.st_lines.specs.BorderLines.{segment_end_lines, marks_lines, state_lines, machine_lines}
@@ -30,12 +31,12 @@ use Rattle.st_account.specs.Settling.{words_printed}
 -- one that was not prepared by then; b is the state before the entry that was done
 unfoldable pub late_at : List ℕ → ℕ → Machine → Moment → List Ahead
 late_at ds n b m =
-    map seen_ahead (first_late m.tick (ahead ds n (suc n) None (guess (interrupt b) b) m.front))
+    map (seen_ahead ds n) (first_late m.tick (ahead ds n (suc n) None (guess (interrupt b) b) m.front))
 
 -- at a moment
 abbrev pub end_lines_at : List ℕ → ℕ → ℕ → Machine → Moment → List (List ℕ)
 end_lines_at ds n k b m =
-    segment_end_lines k m.tick (m.scene.machine.done + 1) (map seen_ahead m.dropped)
+    segment_end_lines k m.tick (m.scene.machine.done + 1) (map (seen_ahead ds n) m.dropped)
     (late_at ds n b m)
 
 -- where it ends
@@ -88,9 +89,17 @@ unfoldable pub lines_of_entry : List ℕ → ℕ → Option ℕ → Standing →
 lines_of_entry ds n end p =
     let s = p.scene.machine in
     let e = plan s (interrupt s) in
-    done_entry_lines (s.done + 1) (address s) (next_row ds n p)
-    (level_wait ds n p.front (entry (interrupt s) s)) (is_missed e s) e (known_at (interrupt s) s)
-    p.tick p.front.c
+    let x = entry (interrupt s) s in
+    done_entry_lines (record {
+      n = s.done + 1;
+      address = address s;
+      row = record { ticks = next_row ds n p; level_wait = level_wait ds n p.front x };
+      missed = is_missed e s;
+      before = p.tick;
+      start = p.front.c;
+      end = end;
+    }) e (known_at (interrupt s) s)
+    (uses_of_entry ds n p.front x (side_at (interrupt s) s) e.reads)
 
 -- ---- the end
 

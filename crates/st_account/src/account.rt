@@ -42,7 +42,8 @@ use st_exec::{interrupt, is_at_rest, next_address};
 use st_io::{Failed, Sink};
 use st_ledger::Totals;
 use st_lines::{
-    Border, counter_of, is_enabled, write_border, write_done, write_end, write_marks, write_totals,
+    Border, EntryDone, counter_of, is_enabled, write_border, write_done, write_end, write_marks,
+    write_totals,
 };
 use st_rows::Log;
 use st_state::State;
@@ -109,11 +110,11 @@ impl Account {
         requires counter { self.old.last.ic < 2 ^ 19 }
 
         ensures state { self.new.state ≡ self.old.state }
-        ensures found { looks ≡ true → self.new.behind.found.items ≡ map seen_ahead
+        ensures found { looks ≡ true → self.new.behind.found.items ≡ map (seen_ahead timing.now.delays timing.now.levels)
             (prepared_before self.old.last.tick (ahead timing.now.delays timing.now.levels
             timing.now.levels None (guessing self.old.last.ic self.old.state)
             self.old.last.front)) }
-        ensures late { looks ≡ true → self.new.behind.late ∷ [] ≡ map seen_ahead
+        ensures late { looks ≡ true → self.new.behind.late ∷ [] ≡ map (seen_ahead timing.now.delays timing.now.levels)
             (first_late self.old.last.tick (ahead timing.now.delays timing.now.levels
             (suc timing.now.levels) None (guessing self.old.last.ic self.old.state)
             self.old.last.front)) }
@@ -206,16 +207,21 @@ impl Account {
         if k == 0 {
             return Ok(());
         }
+        let done = EntryDone {
+            n: self.last.done.n,
+            address: self.last.done.address,
+            row: self.last.done.row,
+            missed: self.last.missed,
+            before: self.last.done.before,
+            start: self.last.done.start,
+            end,
+        };
         write_done(
             out,
-            self.last.done.n,
-            self.last.done.address,
-            &self.last.done.row,
-            self.last.missed,
+            &done,
             &self.last.plan,
             &self.last.done.known,
-            self.last.done.before,
-            self.last.done.start,
+            self.last.uses.as_slice(),
         )
     }
 

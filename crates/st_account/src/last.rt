@@ -1,11 +1,11 @@
 //! What is at hand when an entry has just been done.
-ghost use Rattle.std.specs.Prelude.{◌≡◌, ◌+◌, ◌≤◌, ◌^◌, ◌∷◌, take, if◌then◌else◌, replicate, All, false};
+ghost use Rattle.std.specs.Prelude.{◌≡◌, ◌+◌, ◌≤◌, ◌^◌, if◌then◌else◌, replicate, All, false};
 ghost use Rattle.st_banks.specs.declared.answers.TheConstants.{BANKS};
 ghost use Rattle.st_rows.specs.Ranges.{IsTight};
 ghost use Rattle.st_rows.specs.Rows.{opening_front};
 
 use st_banks::LastAnswers;
-use st_plain::{Known, Row};
+use st_plain::{Known, Row, Uses};
 use st_prep::Prepared;
 use st_rows::{Front, LastEntries, Past};
 
@@ -44,6 +44,8 @@ pub(crate) struct Last {
     pub plan: Prepared,
     /// What else is told of it.
     pub done: DoneEntry,
+    /// The words that it uses.
+    pub uses: Uses,
 }
 
 // A list of eight entries as a front keeps it, the newest one first.
@@ -77,16 +79,6 @@ pub(crate) fn front_of(last: &Last) -> Front
     }
 }
 
-/// One more entry is kept, and the oldest one given up.
-pub(crate) fn put_past(past: &mut [Past; 8], newest: Past)
-    ensures { past.new ≡ newest ∷ take 7 past.old }
-{
-    let old = *past;
-    *past = [
-        newest, old[0], old[1], old[2], old[3], old[4], old[5], old[6],
-    ];
-}
-
 /// What is at hand before the first entry of a run, whose counter is given, and whether interrupts
 /// are enabled.
 pub(crate) fn at_start(ic: u32, enabled: bool) -> Last
@@ -109,6 +101,7 @@ pub(crate) fn at_start(ic: u32, enabled: bool) -> Last
         enabled,
         plan: Prepared::default(),
         done: DoneEntry::default(),
+        uses: Uses::new(),
     }
 }
 

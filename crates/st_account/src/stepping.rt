@@ -4,7 +4,8 @@ ghost use Rattle.st_bits.specs.declared.limits.TheConstants.{MOST_INSTRUCTIONS};
 ghost use Rattle.st_prep.specs.Plan.{plan as plan_of};
 ghost use Rattle.st_prep.specs.Ranges.{IsPrepared};
 ghost use Rattle.st_exec.specs.Completion.{state_after_execution, guess as guess_of, is_missed as is_missed_of};
-ghost use Rattle.st_plain.specs.Looking.{known_at, level_wait};
+ghost use Rattle.st_plain.specs.Looking.{known_at, level_wait, side_at};
+ghost use Rattle.st_plain.specs.Uses.{uses_of_entry};
 ghost use Rattle.st_rows.specs.Asked.{reads_of_entry as asked_of};
 ghost use Rattle.st_rows.specs.Notes.{log_after_reads};
 ghost use Rattle.st_rows.specs.Ranges.{IsTight};
@@ -14,12 +15,12 @@ ghost use Rattle.st_account.specs.Text.{why_by};
 ghost use Rattle.st_account.specs.Standing.{guessing, has_due, still_by};
 ghost use Rattle.st_lines.specs.declared.lines.Why.TheVariants.{Run as RunBegins};
 
-use crate::last::{Last, put_past};
+use crate::last::Last;
 use crate::timing::Timing;
 use st_card::Signal;
 use st_exec::{complete_in, interrupt, is_missed};
 use st_lines::{Changeable, Why, is_enabled};
-use st_plain::{next_row, plan_entry};
+use st_plain::{next_row, plan_entry, put_past};
 use st_prep::Prepared;
 use st_rows::{Log, Past};
 use st_run::plain::{printer_is_free, reader_is_free};
@@ -112,6 +113,9 @@ pub(crate) fn count_on(
     ensures wait { last.new.done.row.level_wait ≡ level_wait timing.now.delays timing.now.levels
         last.old.front (entry_of taken state.now) }
     ensures known { last.new.done.known ≡ known_at taken state.now }
+    ensures uses { last.new.uses.items ≡ uses_of_entry timing.now.delays timing.now.levels
+        last.old.front (entry_of taken state.now) (side_at taken state.now)
+        (plan_of state.now taken).reads }
     ensures front { last.new.front ≡ after_of timing.now.delays timing.now.levels last.old.front
         (entry_of taken state.now) }
     ensures log { log.new ≡ log_after_reads timing.now.delays
@@ -129,10 +133,13 @@ pub(crate) fn count_on(
     log.clear();
     let row = next_row(
         &mut last.front,
+        &last.past,
         &timing.delays,
         timing.levels as usize,
-        &planned.entry,
+        &planned,
+        last.plan.reads,
         log,
+        &mut last.uses,
     );
     put_past(
         &mut last.past,

@@ -1,4 +1,5 @@
-use Rattle.std.proofs.Common.{ap}
+use Rattle.std.proofs.Common.{sym, ◌∙◌, ap}
+use Rattle.st_rows.specs.declared.front.Front.{Front}
 use Rattle.st_state.specs.Machine.{Machine}
 use Rattle.st_rows.proofs.Within.{AreDelays-list}
 use Rattle.st_account.specs.Standing.{guessing}
@@ -24,3 +25,6 @@ pub returns-clause-few : goal.returns-clause-few
 returns-clause-few c =
     few-found c.args.timing.now.delays c.args.timing.now.levels c.args.last.now.tick c.args.timing.now.levels _ _ c.args.behind.now.found.items c.look.new.found.items c.requires.none
     c.requires.levels.1 c.look.ensures.found
+
+pub look-requires-clause-past : goal.look-requires-clause-past
+look-requires-clause-past c = c.requires.past ∙ ap (λ (f : Front). f.past) (sym c.front_of-front.ensures)

@@ -12,7 +12,7 @@ pub returns-clause-lines : goal.returns-clause-lines
 returns-clause-lines c p end some is =
     let rest = c.execute.ensures.rest in
     kept-some _ _ end some
-    ∙ entry-lines c.args.timing.now.delays c.args.timing.now.levels p end c.args.self.now.state c.args.self.now.last c.interrupt-taken.result _ _ _ _ _ _ _ _ is
+    ∙ entry-lines c.args.timing.now.delays c.args.timing.now.levels p end c.args.self.now.state c.args.self.now.last c.interrupt-taken.result _ _ _ _ _ _ _ _ _ is
     c.interrupt-taken.ensures.value
     (ap (λ (l : Last). l.done.address) rest ∙ c.count_on.ensures.address ∙ c.next_address-self.ensures.value)
     (ap (λ (l : Last). l.done.row.ticks) rest ∙ c.count_on.ensures.row)
@@ -23,6 +23,7 @@ returns-clause-lines c p end some is =
     (ap (λ (l : Last). l.done.known) rest ∙ c.count_on.ensures.known)
     (ap (λ (l : Last). l.done.before) rest ∙ c.count_on.ensures.before)
     (ap (λ (l : Last). l.done.start) rest ∙ c.count_on.ensures.start)
+    (ap (λ (l : Last). l.uses.items) rest ∙ c.count_on.ensures.uses)
 
 pub returns-clause-state : goal.returns-clause-state
 returns-clause-state c = entry-step c.args.self.now.state _ c.interrupt-taken.result c.interrupt-taken.ensures.value c.execute.ensures.state
