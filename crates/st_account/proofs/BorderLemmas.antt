@@ -1,6 +1,6 @@
 -- The lines where a segment ends and the next one begins, and the front behind.
 use Rattle.std.specs.Prelude.{Bool, if◌then◌else◌, nat_eq, ◌||◌, is_some, map}
-use Rattle.std.proofs.Common.{◌≡◌, ◌≢◌, ℕ, zero, suc, ◌+◌, true, false, List, [], ◌∷◌, ◌++◌, length, Option, refl, sym, ◌∙◌, ap, arith}
+use Rattle.std.proofs.Common.{◌≡◌, ◌≢◌, ℕ, zero, suc, ◌+◌, true, false, List, [], ◌∷◌, ◌++◌, length, Option, None, Some, refl, sym, ◌∙◌, ap, arith}
 use Rattle.std.proofs.lemmas.List.{length-map}
 use Rattle.st_banks.specs.declared.answers.LastAnswers.{LastAnswers}
 use Rattle.st_state.specs.Machine.{Machine}
@@ -12,14 +12,18 @@ use Rattle.st_run.specs.Moments.{Moment, next_state, has_card, has_waited, ends_
 use Rattle.st_run.proofs.DoneLemmas.{settled-done}
 use Rattle.st_plain.specs.declared.looking.Ahead.{Ahead}
 use Rattle.st_plain.specs.Looking.{seen_ahead}
+use Rattle.st_card.specs.declared.control_cards.Signal.{Signal}
+use Rattle.st_run.specs.Run.{Scene}
+use Rattle.st_account.specs.declared.account.Account.{Account}
 use Rattle.st_account.specs.declared.last.Last.{Last}
 use Rattle.st_lines.specs.declared.lines.Why.{Why}
+use Rattle.st_lines.specs.declared.writing.Border.{Border}
 use Rattle.st_lines.specs.declared.lines.Why.TheVariants.{Run}
 use Rattle.st_lines.specs.Lines.{start_line}
-use Rattle.st_account.specs.Standing.{IsBehindMoment}
+use Rattle.st_account.specs.Standing.{kept_lines, IsBehindMoment}
 use Rattle.st_lines.proofs.LineLemmas.{end-same}
 use Rattle.st_lines.specs.BorderLines.{segment_end_lines, taken_by, en_lines, prints_lines, words_lines, marks_lines, state_lines}
-use Rattle.st_account.specs.Text.{late_at, state_lines_at, words_behind, why_by, why, segment_lines, segment_after, last_lines}
+use Rattle.st_account.specs.Text.{run_ends, segment_ends, segment_end_at, late_at, state_lines_at, words_behind, why_by, why, segment_lines, segment_after, last_lines}
 
 choice-lines : (b : Bool) (xs ys : List (List ℕ)) → (b ≡ true → xs ≡ ys) → (if b then xs else []) ≡ (if b then ys else [])
 choice-lines true xs ys same = same refl
@@ -44,8 +48,39 @@ state-words : (ws : List (List ℕ)) (k : ℕ) (was : Bool) (xs ys : List ℕ) (
 unfolding state_lines
 state-words ws k was xs ys s taken done same = ap (λ (ls : List (List ℕ)). ls ++ taken_by (nat_eq k 0) taken done) (marks-words ws k was xs ys s same)
 
-module _ (m : Moment) (s : Machine) (l : Last) (found : List Ahead) (banks : LastAnswers) (card waited : Bool)
-    (is : IsBehindMoment m s l found banks card waited) where
+-- what is at hand where a segment ends or goes on
+pub record IsBorder (ds : List ℕ) (levels : ℕ) (m : Moment) (s : Machine) (l : Last) (found : List Ahead) (held : LastAnswers) (came rested : Bool) : Type 0 where
+  pub tick : m.tick ≡ l.tick
+  pub front : m.front ≡ l.front
+  pub missed : m.missed ≡ l.missed
+  pub dropped : ends_segment m ≡ true → found ≡ map (seen_ahead ds levels) m.dropped
+  pub banks : ends_segment m ≡ true → held ≡ m.banks
+  pub state : next_state m ≡ s
+  pub card : came ≡ has_card m
+  pub waited : rested ≡ has_waited m
+
+either-ends : (a b : Bool) → b ≡ true → (a || b) ≡ true
+either-ends true b on = refl
+either-ends false b on = on
+
+pub ends-by : (left : ℕ) (m : Moment) → ends_segment m ≡ true → segment_ends left m ≡ true
+ends-by left m on = either-ends (run_ends left m) (ends_segment m) on
+
+pub border-of : (ds : List ℕ) (n left : ℕ) (b : Machine) (m : Moment) (a : Account) (xs : List Signal) (cards : List (List ℕ))
+    → IsBehindMoment ds n left b m a xs cards → IsBorder ds n m a.state a.last a.behind.found.items a.behind.banks a.behind.card a.behind.waited
+border-of ds n left b m a xs cards h = record {
+  tick = h.tick;
+  front = h.front;
+  missed = h.missed;
+  dropped = λ on. h.dropped (ends-by left m on);
+  banks = λ on. h.banks (ends-by left m on);
+  state = ap (λ (c : Scene). c.machine) h.scene;
+  card = h.card;
+  waited = h.waited;
+}
+
+module _ (ds : List ℕ) (levels : ℕ) (m : Moment) (s : Machine) (l : Last) (found : List Ahead) (banks : LastAnswers) (card waited : Bool)
+    (is : IsBorder ds levels m s l found banks card waited) where
   ends-is : (taken : Option ℕ) (ends : Bool) → taken ≡ interrupt s → ends ≡ (l.missed || card || waited || is_some taken) → ends ≡ ends_segment m
   unfolding ends_segment
   ends-is taken ends is_taken is_ends =
@@ -67,7 +102,7 @@ module _ (m : Moment) (s : Machine) (l : Last) (found : List Ahead) (banks : Las
         ∙ choice (ends_segment m) (λ yes.
         ap (λ b. opening_front b (l.tick + 1 + length found)) (is.banks yes)
         ∙ ap (λ xs. opening_front m.banks (l.tick + 1 + length xs)) (is.dropped yes)
-        ∙ ap (λ k. opening_front m.banks (l.tick + 1 + k)) (length-map m.dropped seen_ahead)
+        ∙ ap (λ k. opening_front m.banks (l.tick + 1 + k)) (length-map m.dropped (seen_ahead ds levels))
         ∙ ap (λ t. opening_front m.banks (t + 1 + length m.dropped)) (sym is.tick)) (sym is.front)
       where
         choice : {x y u v : Front} (b : Bool) → (b ≡ true → x ≡ u) → y ≡ v → (if b then x else y) ≡ (if b then u else v)
@@ -77,13 +112,13 @@ module _ (m : Moment) (s : Machine) (l : Last) (found : List Ahead) (banks : Las
     pub after-is : (k : ℕ) (begins : Bool) → begins ≡ (nat_eq k 0 || ends) → (if begins then k + 1 else k) ≡ segment_after k m
     after-is k begins is_begins = ap (λ b. if b then k + 1 else k) (is_begins ∙ ap (λ b. nat_eq k 0 || b) e)
 
-    pub border-lines : (ds : List ℕ) (levels : ℕ) (b : Machine) (was : Bool) (old : List ℕ) (ws : List (List ℕ)) (late : List Ahead) → b.enabled ≡ was → ws ≡ words_behind m
+    pub border-lines : (b : Machine) (was : Bool) (old : List ℕ) (ws : List (List ℕ)) (late : List Ahead) → b.enabled ≡ was → ws ≡ words_behind m
         → (k n start : ℕ) (begins : Bool) (y : Why) → (k ≢ 0 → old ≡ b.words) → (ends_segment m ≡ true → k ≢ 0 → late ≡ late_at ds levels b m) → begins ≡ (nat_eq k 0 || ends) → n ≡ s.done + 1 → start ≡ (next_front m).c
         → y ≡ (if nat_eq k 0 then Run else why_by taken l.missed)
         → (((if ends then segment_end_lines k l.tick n found late else []) ++ state_lines ws k was old s taken s.done)
         ++ (if begins then start_line (k + 1) start waited y ∷ [] else [])) ≡ segment_lines ds levels k b m
     unfolding segment_lines why
-    border-lines ds levels b was old ws late is_was is_printed k n start begins y is_words is_late is_begins is_n is_start is_why =
+    border-lines b was old ws late is_was is_printed k n start begins y is_words is_late is_begins is_n is_start is_why =
         let all = is_begins ∙ ap (λ b. nat_eq k 0 || b) e in
         let number : n ≡ m.scene.machine.done + 1 = is_n ∙ ap (λ d. d + 1) (same-done m s is.state) in
         let name : y ≡ (if nat_eq k 0 then Run else why_by (interrupt (next_state m)) m.missed) =
@@ -99,24 +134,120 @@ module _ (m : Moment) (s : Machine) (l : Last) (found : List Ahead) (banks : Las
         ap (λ b. ((if b then segment_end_lines k l.tick n found late else []) ++ state_lines ws k was old s taken s.done)
         ++ (if begins then start_line (k + 1) start waited y ∷ [] else [])) e
         ∙ ap (λ xs. (xs ++ state_lines ws k was old s taken s.done) ++ (if begins then start_line (k + 1) start waited y ∷ [] else []))
-        (choice-lines (ends_segment m) (segment_end_lines k l.tick n found late) (segment_end_lines k m.tick (m.scene.machine.done + 1) (map seen_ahead m.dropped) (late_at ds levels b m)) (λ yes.
+        (choice-lines (ends_segment m) (segment_end_lines k l.tick n found late) (segment_end_lines k m.tick (m.scene.machine.done + 1) (map (seen_ahead ds levels) m.dropped) (late_at ds levels b m)) (λ yes.
         end-same k l.tick n found late (late_at ds levels b m) (is_late yes)
         ∙ ap (λ xs. segment_end_lines k l.tick n xs (late_at ds levels b m)) (is.dropped yes)
-        ∙ ap (λ t. segment_end_lines k t n (map seen_ahead m.dropped) (late_at ds levels b m)) (sym is.tick)
-        ∙ ap (λ j. segment_end_lines k m.tick j (map seen_ahead m.dropped) (late_at ds levels b m)) number))
-        ∙ ap (λ xs. ((if ends_segment m then segment_end_lines k m.tick (m.scene.machine.done + 1) (map seen_ahead m.dropped) (late_at ds levels b m) else []) ++ xs)
+        ∙ ap (λ t. segment_end_lines k t n (map (seen_ahead ds levels) m.dropped) (late_at ds levels b m)) (sym is.tick)
+        ∙ ap (λ j. segment_end_lines k m.tick j (map (seen_ahead ds levels) m.dropped) (late_at ds levels b m)) number))
+        ∙ ap (λ xs. ((if ends_segment m then segment_end_lines k m.tick (m.scene.machine.done + 1) (map (seen_ahead ds levels) m.dropped) (late_at ds levels b m) else []) ++ xs)
         ++ (if begins then start_line (k + 1) start waited y ∷ [] else [])) state
-        ∙ ap (λ q. ((if ends_segment m then segment_end_lines k m.tick (m.scene.machine.done + 1) (map seen_ahead m.dropped) (late_at ds levels b m) else []) ++ state_lines_at (words_behind m) k b (next_state m))
+        ∙ ap (λ q. ((if ends_segment m then segment_end_lines k m.tick (m.scene.machine.done + 1) (map (seen_ahead ds levels) m.dropped) (late_at ds levels b m) else []) ++ state_lines_at (words_behind m) k b (next_state m))
         ++ (if q then start_line (k + 1) start waited y ∷ [] else [])) all
-        ∙ ap (λ t. ((if ends_segment m then segment_end_lines k m.tick (m.scene.machine.done + 1) (map seen_ahead m.dropped) (late_at ds levels b m) else []) ++ state_lines_at (words_behind m) k b (next_state m))
+        ∙ ap (λ t. ((if ends_segment m then segment_end_lines k m.tick (m.scene.machine.done + 1) (map (seen_ahead ds levels) m.dropped) (late_at ds levels b m) else []) ++ state_lines_at (words_behind m) k b (next_state m))
         ++ (if nat_eq k 0 || ends_segment m then start_line (k + 1) t waited y ∷ [] else [])) is_start
-        ∙ ap (λ w. ((if ends_segment m then segment_end_lines k m.tick (m.scene.machine.done + 1) (map seen_ahead m.dropped) (late_at ds levels b m) else []) ++ state_lines_at (words_behind m) k b (next_state m))
+        ∙ ap (λ w. ((if ends_segment m then segment_end_lines k m.tick (m.scene.machine.done + 1) (map (seen_ahead ds levels) m.dropped) (late_at ds levels b m) else []) ++ state_lines_at (words_behind m) k b (next_state m))
         ++ (if nat_eq k 0 || ends_segment m then start_line (k + 1) (next_front m).c w y ∷ [] else [])) is.waited
-        ∙ ap (λ z. ((if ends_segment m then segment_end_lines k m.tick (m.scene.machine.done + 1) (map seen_ahead m.dropped) (late_at ds levels b m) else []) ++ state_lines_at (words_behind m) k b (next_state m))
+        ∙ ap (λ z. ((if ends_segment m then segment_end_lines k m.tick (m.scene.machine.done + 1) (map (seen_ahead ds levels) m.dropped) (late_at ds levels b m) else []) ++ state_lines_at (words_behind m) k b (next_state m))
         ++ (if nat_eq k 0 || ends_segment m then start_line (k + 1) (next_front m).c (has_waited m) z ∷ [] else [])) name
 
+-- ---- the border of an account
+
+-- the lines of a border
+abbrev border_text : Border → List (List ℕ) → List ℕ → Machine → List Ahead → List Ahead → List (List ℕ)
+border_text x printed old s found late =
+    ((if x.ends then segment_end_lines x.k x.tick x.n found late else []) ++ state_lines printed x.k x.was old s x.taken x.done)
+    ++ (if x.begins then start_line (x.k + 1) x.start x.waited x.why ∷ [] else [])
+
+module _ (ds : List ℕ) (n left : ℕ) (b : Machine) (m : Moment) (a : Account) (xs : List Signal) (cards : List (List ℕ))
+    (is : IsBehindMoment ds n left b m a xs cards) (o : Account) (x : Border) (opened : o ≡ record a { last = o.last; k = o.k })
+    (border : x ≡ record {
+      ends = x.ends;
+      begins = x.begins;
+      k = a.k;
+      tick = a.last.tick;
+      n = a.state.done + 1;
+      start = o.last.front.c;
+      waited = a.behind.waited;
+      why = if nat_eq a.k 0 then Run else why_by (interrupt a.state) a.last.missed;
+      was = a.last.enabled;
+      taken = interrupt a.state;
+      done = a.state.done;
+    })
+    (ends : x.ends ≡ (a.last.missed || a.behind.card || a.behind.waited || is_some (interrupt a.state)))
+    (begins : x.begins ≡ (nat_eq a.k 0 || x.ends)) where
+  at : IsBorder ds n m a.state a.last a.behind.found.items a.behind.banks a.behind.card a.behind.waited
+  at = border-of ds n left b m a xs cards is
+
+  here : x.ends ≡ ends_segment m
+  here = ends-is ds n m a.state a.last a.behind.found.items a.behind.banks a.behind.card a.behind.waited at (interrupt a.state) x.ends refl ends
+
+  pub segment-is : o.k ≡ (if x.begins then a.k + 1 else a.k) → o.k ≡ segment_after a.k m
+  segment-is is_number =
+      is_number
+      ∙ after-is ds n m a.state a.last a.behind.found.items a.behind.banks a.behind.card a.behind.waited at (interrupt a.state) x.ends refl ends a.k x.begins begins
+
+  pub front-after : o.last.front ≡ (if x.ends then opening_front a.behind.banks (a.last.tick + 1 + length a.behind.found.items) else a.last.front)
+      → o.last.front ≡ next_front m
+  front-after is_front =
+      front-is ds n m a.state a.last a.behind.found.items a.behind.banks a.behind.card a.behind.waited at (interrupt a.state) x.ends refl ends o.last.front is_front
+
+  -- the lines of the last entry
+  module _ (going : run_ends left m ≡ false) (last : o.last ≡ record a.last { front = o.last.front; past = o.last.past })
+      (end : Option ℕ) (is_end : end ≡ (if x.ends then Some x.tick else None)) where
+    until-same : end ≡ segment_end_at left m
+    unfolding segment_end_at
+    until-same =
+        is_end
+        ∙ ap (λ t. if x.ends then Some t else None) (ap (λ (y : Border). y.tick) border ∙ sym is.tick)
+        ∙ ap (λ (y : Bool). if y then Some m.tick else None) (here ∙ ap (λ y. y || ends_segment m) (sym going))
+
+    pub row-same : kept_lines x.k o.last end ≡ kept_lines a.k a.last (segment_end_at left m)
+    unfolding kept_lines
+    row-same =
+        ap (λ k. kept_lines k o.last end) (ap (λ (y : Border). y.k) border)
+        ∙ ap (λ (l : Last). kept_lines a.k l end) last
+        ∙ ap (kept_lines a.k a.last) until-same
+
+  -- those of the border
+  pub crossed : (found : List Ahead) → found ≡ o.behind.found.items → o.last.front ≡ next_front m
+      → border_text x o.behind.printed.items o.words.items o.state found (o.behind.late ∷ []) ≡ segment_lines ds n a.k b m
+  crossed found is_found front =
+      ap (λ (y : Border). border_text y o.behind.printed.items o.words.items o.state found (o.behind.late ∷ [])) border
+      ∙ ap (λ (fs : List Ahead). border_text (record {
+        ends = x.ends;
+        begins = x.begins;
+        k = a.k;
+        tick = a.last.tick;
+        n = a.state.done + 1;
+        start = o.last.front.c;
+        waited = a.behind.waited;
+        why = if nat_eq a.k 0 then Run else why_by (interrupt a.state) a.last.missed;
+        was = a.last.enabled;
+        taken = interrupt a.state;
+        done = a.state.done;
+      }) o.behind.printed.items o.words.items o.state fs (o.behind.late ∷ [])) is_found
+      ∙ ap (λ (y : Account). border_text (record {
+        ends = x.ends;
+        begins = x.begins;
+        k = a.k;
+        tick = a.last.tick;
+        n = a.state.done + 1;
+        start = o.last.front.c;
+        waited = a.behind.waited;
+        why = if nat_eq a.k 0 then Run else why_by (interrupt a.state) a.last.missed;
+        was = a.last.enabled;
+        taken = interrupt a.state;
+        done = a.state.done;
+      }) y.behind.printed.items y.words.items y.state y.behind.found.items (y.behind.late ∷ [])) opened
+      ∙ border-lines ds n m a.state a.last a.behind.found.items a.behind.banks a.behind.card a.behind.waited at (interrupt a.state) x.ends refl ends b a.last.enabled
+      a.words.items a.behind.printed.items (a.behind.late ∷ []) is.was is.printed a.k (a.state.done + 1) o.last.front.c x.begins
+      (if nat_eq a.k 0 then Run else why_by (interrupt a.state) a.last.missed) is.words (λ on some. is.late (ends-by left m on) some) begins refl
+      (ap (λ (f : Front). f.c) front) refl
+
+-- ---- the end of the run
+
 pub last-is : (ds : List ℕ) (levels : ℕ) (b : Machine) (was : Bool) → b.enabled ≡ was → (m : Moment) (ws : List (List ℕ)) → ws ≡ words_behind m → (s : Machine) (k tick n : ℕ) (found late : List Ahead) → m.tick ≡ tick
-    → next_state m ≡ s → found ≡ map seen_ahead m.dropped → (k ≢ 0 → late ≡ late_at ds levels b m) → n ≡ s.done + 1 → (old : List ℕ) → (k ≢ 0 → old ≡ b.words)
+    → next_state m ≡ s → found ≡ map (seen_ahead ds levels) m.dropped → (k ≢ 0 → late ≡ late_at ds levels b m) → n ≡ s.done + 1 → (old : List ℕ) → (k ≢ 0 → old ≡ b.words)
     → ((segment_end_lines k tick n found late ++ marks_lines ws k was old s) ++ run_end_line (rests s) ∷ done_line s.done ∷ ticks_line tick ∷ []) ≡ last_lines ds levels k b m
 unfolding last_lines
 last-is ds levels b was is_was m ws is_printed s k tick n found late is_tick state seen is_late is_n old is_words =
@@ -125,12 +256,12 @@ last-is ds levels b was is_was m ws is_printed s k tick n found late is_tick sta
     ap (λ xs. (segment_end_lines k tick n found late ++ marks_lines xs k was old s) ++ rest s tick) is_printed
     ∙ ap (λ xs. (xs ++ marks_lines (words_behind m) k was old s) ++ rest s tick) (end-same k tick n found late (late_at ds levels b m) is_late)
     ∙ ap (λ xs. (segment_end_lines k tick n xs (late_at ds levels b m) ++ marks_lines (words_behind m) k was old s) ++ rest s tick) seen
-    ∙ ap (λ j. (segment_end_lines k tick j (map seen_ahead m.dropped) (late_at ds levels b m) ++ marks_lines (words_behind m) k was old s) ++ rest s tick) number
-    ∙ ap (λ w. (segment_end_lines k tick (m.scene.machine.done + 1) (map seen_ahead m.dropped) (late_at ds levels b m) ++ marks_lines (words_behind m) k w old s) ++ rest s tick) (sym is_was)
-    ∙ ap (λ ls. (segment_end_lines k tick (m.scene.machine.done + 1) (map seen_ahead m.dropped) (late_at ds levels b m) ++ ls) ++ rest s tick)
+    ∙ ap (λ j. (segment_end_lines k tick j (map (seen_ahead ds levels) m.dropped) (late_at ds levels b m) ++ marks_lines (words_behind m) k was old s) ++ rest s tick) number
+    ∙ ap (λ w. (segment_end_lines k tick (m.scene.machine.done + 1) (map (seen_ahead ds levels) m.dropped) (late_at ds levels b m) ++ marks_lines (words_behind m) k w old s) ++ rest s tick) (sym is_was)
+    ∙ ap (λ ls. (segment_end_lines k tick (m.scene.machine.done + 1) (map (seen_ahead ds levels) m.dropped) (late_at ds levels b m) ++ ls) ++ rest s tick)
     (marks-words (words_behind m) k b.enabled old b.words s is_words)
-    ∙ ap (λ t. (segment_end_lines k tick (m.scene.machine.done + 1) (map seen_ahead m.dropped) (late_at ds levels b m) ++ marks_lines (words_behind m) k b.enabled b.words t) ++ rest t tick) (sym state)
-    ∙ ap (λ i. (segment_end_lines k i (m.scene.machine.done + 1) (map seen_ahead m.dropped) (late_at ds levels b m) ++ marks_lines (words_behind m) k b.enabled b.words (next_state m))
+    ∙ ap (λ t. (segment_end_lines k tick (m.scene.machine.done + 1) (map (seen_ahead ds levels) m.dropped) (late_at ds levels b m) ++ marks_lines (words_behind m) k b.enabled b.words t) ++ rest t tick) (sym state)
+    ∙ ap (λ i. (segment_end_lines k i (m.scene.machine.done + 1) (map (seen_ahead ds levels) m.dropped) (late_at ds levels b m) ++ marks_lines (words_behind m) k b.enabled b.words (next_state m))
     ++ rest (next_state m) i) (sym is_tick)
 
 pub totals-is : (s : Machine) (resting : Bool) (done tick : ℕ) → resting ≡ rests s → done ≡ s.done
@@ -138,3 +269,21 @@ pub totals-is : (s : Machine) (resting : Bool) (done tick : ℕ) → resting ≡
 totals-is s resting done tick is_rest is_done =
     ap (λ b. run_end_line b ∷ done_line done ∷ ticks_line tick ∷ []) is_rest
     ∙ ap (λ d. run_end_line (rests s) ∷ done_line d ∷ ticks_line tick ∷ []) is_done
+
+-- where the run ends, of an account
+module _ (ds : List ℕ) (n left : ℕ) (b : Machine) (m : Moment) (a : Account) (xs : List Signal) (cards : List (List ℕ))
+    (is : IsBehindMoment ds n left b m a xs cards) (over : run_ends left m ≡ true) where
+  ends-there : segment_ends left m ≡ true
+  ends-there = ap (λ y. y || ends_segment m) over
+
+  pub last-row : (end : Option ℕ) → end ≡ Some a.last.tick → kept_lines a.k a.last end ≡ kept_lines a.k a.last (segment_end_at left m)
+  unfolding segment_end_at
+  last-row end is_end =
+      ap (kept_lines a.k a.last) (is_end ∙ ap Some (sym is.tick) ∙ ap (λ (y : Bool). if y then Some m.tick else None) (sym ends-there))
+
+  pub last-lines : (i : ℕ) (found : List Ahead) → i ≡ a.state.done + 1 → found ≡ a.behind.found.items
+      → ((segment_end_lines a.k a.last.tick i found (a.behind.late ∷ []) ++ marks_lines a.behind.printed.items a.k a.last.enabled a.words.items a.state)
+      ++ run_end_line (rests a.state) ∷ done_line a.state.done ∷ ticks_line a.last.tick ∷ []) ≡ last_lines ds n a.k b m
+  last-lines i found number is_found =
+      last-is ds n b a.last.enabled is.was m a.behind.printed.items is.printed a.state a.k a.last.tick i found (a.behind.late ∷ []) is.tick
+      (ap (λ (c : Scene). c.machine) is.scene) (is_found ∙ is.dropped ends-there) (is.late ends-there) number a.words.items is.words

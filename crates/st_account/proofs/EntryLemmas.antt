@@ -1,20 +1,19 @@
 -- An entry that is done, and its lines.
-use Rattle.std.specs.Prelude.{Bool, Result}
-use Rattle.std.proofs.Common.{◌≡◌, ℕ, ◌+◌, ◌<◌, ◌≤◌, ◌^◌, List, [], Option, sym, ◌∙◌, ap, subst}
+use Rattle.std.specs.Prelude.{Bool, nat_eq}
+use Rattle.std.proofs.lemmas.Bool.Decides.{nat_tests}
+use Rattle.std.proofs.Common.{◌≡◌, ◌≢◌, ℕ, zero, suc, false, refl, arith, ◌+◌, ◌<◌, ◌≤◌, ◌^◌, List, [], Option, sym, ◌∙◌, ap, subst}
 use Rattle.st_state.specs.Machine.{Machine}
 use Rattle.st_prep.specs.Plan.{plan}
 use Rattle.st_prep.specs.declared.entries.Prepared.{Prepared}
 use Rattle.st_exec.specs.Completion.{state_after_execution, guess, is_missed}
 use Rattle.st_exec.specs.Step.{interrupt, step, address}
-use Rattle.st_io.specs.Output.{OutputState}
-use Rattle.st_io.specs.declared.Failed.{Failed}
-use Rattle.st_io.specs.Lines.{WritesLines}
 use Rattle.st_rows.specs.Asked.{reads_of_entry}
 use Rattle.st_rows.specs.Notes.{log_after_reads}
 use Rattle.st_rows.specs.Ranges.{AreDelaysUpTo, IsEntryInTime, IsTight}
 use Rattle.st_rows.specs.declared.log.Made.{Made}
 use Rattle.st_rows.specs.Rows.{row_of_entry, front_after_entry}
 use Rattle.st_rows.specs.declared.front.EntryTicks.{EntryTicks}
+use Rattle.st_rows.specs.declared.front.Front.{Front}
 use Rattle.st_segment.specs.Entries.{entry}
 use Rattle.st_run.specs.Moments.{Standing, next_row, next_moment}
 use Rattle.st_ledger.specs.declared.charges.Stage.{Stage}
@@ -23,11 +22,13 @@ use Rattle.st_ledger.specs.Charges.{parts_of_row, charges_behind, ticks_for, all
 use Rattle.st_ledger.specs.Ledger.{charges_at}
 use Rattle.st_ledger.specs.Totals.{AreWithin}
 use Rattle.st_ledger.proofs.Rows.{row-sum}
-use Rattle.st_plain.specs.Looking.{known_at, level_wait}
+use Rattle.st_plain.specs.Looking.{known_at, level_wait, side_at}
+use Rattle.st_plain.specs.Uses.{uses_of_entry}
+use Rattle.st_plain.specs.declared.uses.Use.{Use}
 use Rattle.st_plain.specs.declared.known.Known.{Known}
 use Rattle.st_plain.specs.declared.rows.Row.{Row}
 use Rattle.st_account.specs.declared.last.Last.{Last}
-use Rattle.st_account.specs.Standing.{guessing, IsLast, IsStanding}
+use Rattle.st_account.specs.Standing.{guessing, kept_lines, IsLast, IsStanding}
 use Rattle.st_lines.specs.EntryLines.{done_entry_lines}
 use Rattle.st_account.specs.Text.{lines_of_entry}
 use Rattle.st_account.proofs.LastLemmas.{next-last}
@@ -35,6 +36,34 @@ use Rattle.st_account.proofs.LastLemmas.{next-last}
 pub entry-step : (s u : Machine) (taken : Option ℕ) → taken ≡ interrupt s → u ≡ state_after_execution taken s → u ≡ step s
 unfolding step
 entry-step s u taken is made = made ∙ ap (λ t. state_after_execution t s) is
+
+-- the lines of the last entry
+pub kept-none : (k : ℕ) (l : Last) (end : Option ℕ) → k ≡ 0 → kept_lines k l end ≡ []
+unfolding kept_lines
+kept-none k l end none = rw none refl
+
+-- those of an entry that is done, part by part
+abbrev pub told_lines : ℕ → ℕ → EntryTicks → ℕ → Bool → Prepared → Known → ℕ → ℕ → Option ℕ → List Use → List (List ℕ)
+told_lines i a ticks wait missed q known before start end uses =
+    done_entry_lines (record { n = i; address = a; row = record { ticks = ticks; level_wait = wait }; missed = missed; before = before; start = start; end = end }) q known uses
+
+pub kept-some : (k : ℕ) (l : Last) (end : Option ℕ) → k ≢ 0
+    → kept_lines k l end
+    ≡ told_lines l.done.n l.done.address l.done.row.ticks l.done.row.level_wait l.missed l.plan l.done.known l.done.before l.done.start end l.uses.items
+unfolding kept_lines done_entry_lines
+kept-some zero l end some = absurd (some refl)
+kept-some (suc k) l end some = rw (not-zero k) refl
+  where
+    not-zero : (k : ℕ) → nat_eq (suc k) 0 ≡ false
+    not-zero k = grind (arith, nat_tests)
+
+-- by the row as it stands
+pub kept-row : (k : ℕ) (l : Last) (end : Option ℕ) → k ≢ 0
+    → done_entry_lines (record { n = l.done.n; address = l.done.address; row = l.done.row; missed = l.missed; before = l.done.before; start = l.done.start; end = end })
+    l.plan l.done.known l.uses.items
+    ≡ kept_lines k l end
+unfolding done_entry_lines
+kept-row k l end some = sym (kept-some k l end some)
 
 row-is : (ds : List ℕ) (n : ℕ) (p : Standing) (s : Machine) (l : Last) (taken : Option ℕ) (r : EntryTicks) → IsStanding p s l → taken ≡ interrupt s
     → r ≡ row_of_entry ds n l.front (entry taken s) → r ≡ next_row ds n p
@@ -53,33 +82,42 @@ wait-is ds n p s l taken d is is_taken is_wait =
     ∙ ap (λ m. level_wait ds n l.front (entry (interrupt m) m)) (sym is.machine)
     ∙ ap (λ f. level_wait ds n f (entry (interrupt p.scene.machine) p.scene.machine)) (sym is.front)
 
-pub entry-written : (before after : OutputState) (ds : List ℕ) (n : ℕ) (p : Standing) (s : Machine) (l : Last) (taken : Option ℕ) (a : ℕ) (r : Row) (i : ℕ)
-    (missed : Bool) (q : Prepared) (known : Known) (answer : Result (Unit {0}) Failed) → IsStanding p s l → taken ≡ interrupt s → a ≡ address s
+uses-is : (ds : List ℕ) (n : ℕ) (p : Standing) (s : Machine) (l : Last) (taken : Option ℕ) (us : List Use) → IsStanding p s l → taken ≡ interrupt s
+    → us ≡ uses_of_entry ds n l.front (entry taken s) (side_at taken s) (plan s taken).reads
+    → us ≡ uses_of_entry ds n p.front (entry (interrupt p.scene.machine) p.scene.machine) (side_at (interrupt p.scene.machine) p.scene.machine)
+    (plan p.scene.machine (interrupt p.scene.machine)).reads
+uses-is ds n p s l taken us is is_taken is_uses =
+    is_uses
+    ∙ ap (λ t. uses_of_entry ds n l.front (entry t s) (side_at t s) (plan s t).reads) is_taken
+    ∙ ap (λ m. uses_of_entry ds n l.front (entry (interrupt m) m) (side_at (interrupt m) m) (plan m (interrupt m)).reads) (sym is.machine)
+    ∙ ap (λ f. uses_of_entry ds n f (entry (interrupt p.scene.machine) p.scene.machine) (side_at (interrupt p.scene.machine) p.scene.machine)
+    (plan p.scene.machine (interrupt p.scene.machine)).reads) (sym is.front)
+
+pub entry-lines : (ds : List ℕ) (n : ℕ) (p : Standing) (end : Option ℕ) (s : Machine) (l : Last) (taken : Option ℕ) (a : ℕ) (r : Row) (i : ℕ)
+    (missed : Bool) (q : Prepared) (known : Known) (t start : ℕ) (us : List Use) → IsStanding p s l → taken ≡ interrupt s → a ≡ address s
     → r.ticks ≡ row_of_entry ds n l.front (entry taken s) → r.level_wait ≡ level_wait ds n l.front (entry taken s) → i ≡ s.done + 1
-    → missed ≡ is_missed (plan s taken) s → q ≡ plan s taken → known ≡ known_at taken s
-    → WritesLines before after (done_entry_lines i a r.ticks r.level_wait missed q known l.tick l.front.c) answer
-    → WritesLines before after (lines_of_entry ds n p) answer
+    → missed ≡ is_missed (plan s taken) s → q ≡ plan s taken → known ≡ known_at taken s → t ≡ l.tick → start ≡ l.front.c
+    → us ≡ uses_of_entry ds n l.front (entry taken s) (side_at taken s) (plan s taken).reads
+    → told_lines i a r.ticks r.level_wait missed q known t start end us ≡ lines_of_entry ds n end p
 unfolding lines_of_entry
-entry-written before after ds n p s l taken a r i missed q known answer is is_taken is_address is_row is_wait number guessed planned is_known h =
+entry-lines ds n p end s l taken a r i missed q known t start us is is_taken is_address is_row is_wait number guessed planned is_known at since is_uses =
     let m = p.scene.machine in
     let e = plan m (interrupt m) in
     let k = known_at (interrupt m) m in
     let d = level_wait ds n p.front (entry (interrupt m) m) in
-    let same : done_entry_lines i a r.ticks r.level_wait missed q known l.tick l.front.c
-    ≡ done_entry_lines (m.done + 1) (address m) (next_row ds n p) d (is_missed e m) e k p.tick p.front.c =
-    ap (λ y. done_entry_lines i a y r.level_wait missed q known l.tick l.front.c) (row-is ds n p s l taken r.ticks is is_taken is_row)
-    ∙ ap (λ y. done_entry_lines i a (next_row ds n p) y missed q known l.tick l.front.c) (wait-is ds n p s l taken r.level_wait is is_taken is_wait)
-    ∙ ap (λ y. done_entry_lines y a (next_row ds n p) d missed q known l.tick l.front.c) (number ∙ ap (λ (m : Machine). m.done + 1) (sym is.machine))
-    ∙ ap (λ y. done_entry_lines (m.done + 1) y (next_row ds n p) d missed q known l.tick l.front.c) (is_address ∙ ap address (sym is.machine))
-    ∙ ap (λ b. done_entry_lines (m.done + 1) (address m) (next_row ds n p) d b q known l.tick l.front.c)
+    ap (λ y. told_lines i a y r.level_wait missed q known t start end us) (row-is ds n p s l taken r.ticks is is_taken is_row)
+    ∙ ap (λ y. told_lines i a (next_row ds n p) y missed q known t start end us) (wait-is ds n p s l taken r.level_wait is is_taken is_wait)
+    ∙ ap (λ y. told_lines y a (next_row ds n p) d missed q known t start end us) (number ∙ ap (λ (m : Machine). m.done + 1) (sym is.machine))
+    ∙ ap (λ y. told_lines (m.done + 1) y (next_row ds n p) d missed q known t start end us) (is_address ∙ ap address (sym is.machine))
+    ∙ ap (λ b. told_lines (m.done + 1) (address m) (next_row ds n p) d b q known t start end us)
     (guessed ∙ ap (λ t. is_missed (plan s t) s) is_taken ∙ ap (λ u. is_missed (plan u (interrupt u)) u) (sym is.machine))
-    ∙ ap (λ y. done_entry_lines (m.done + 1) (address m) (next_row ds n p) d (is_missed e m) y known l.tick l.front.c)
+    ∙ ap (λ y. told_lines (m.done + 1) (address m) (next_row ds n p) d (is_missed e m) y known t start end us)
     (planned ∙ ap (plan s) is_taken ∙ ap (λ u. plan u (interrupt u)) (sym is.machine))
-    ∙ ap (λ y. done_entry_lines (m.done + 1) (address m) (next_row ds n p) d (is_missed e m) e y l.tick l.front.c)
+    ∙ ap (λ y. told_lines (m.done + 1) (address m) (next_row ds n p) d (is_missed e m) e y t start end us)
     (is_known ∙ ap (λ t. known_at t s) is_taken ∙ ap (λ u. known_at (interrupt u) u) (sym is.machine))
-    ∙ ap (λ y. done_entry_lines (m.done + 1) (address m) (next_row ds n p) d (is_missed e m) e k y l.front.c) (sym is.tick)
-    ∙ ap (λ f. done_entry_lines (m.done + 1) (address m) (next_row ds n p) d (is_missed e m) e k p.tick f.c) (sym is.front) in
-    subst (λ ls. WritesLines before after ls answer) same h
+    ∙ ap (λ y. told_lines (m.done + 1) (address m) (next_row ds n p) d (is_missed e m) e k y start end us) (at ∙ sym is.tick)
+    ∙ ap (λ y. told_lines (m.done + 1) (address m) (next_row ds n p) d (is_missed e m) e k p.tick y end us) (since ∙ ap (λ (f : Front). f.c) (sym is.front))
+    ∙ ap (λ y. told_lines (m.done + 1) (address m) (next_row ds n p) d (is_missed e m) e k p.tick p.front.c end y) (uses-is ds n p s l taken us is is_taken is_uses)
 
 pub entry-sums : (ds : List ℕ) (n : ℕ) (p : Standing) (s : Machine) (l : Last) (taken : Option ℕ) (r : EntryTicks) (stage : Stage) (old new : ℕ)
     → IsStanding p s l → taken ≡ interrupt s → r ≡ row_of_entry ds n l.front (entry taken s)

@@ -184,10 +184,10 @@ prepared-few t (a ∷ rest) =
     of_choice (λ xs. length xs ≤ suc (length rest)) (nat_lt a.row.p t) (a ∷ prepared_before t rest) [] (omega arith) (omega arith)
 
 pub few-found : (ds : List ℕ) (n t k : ℕ) (s : Machine) (f : Front) (old new : List Seen) → length old ≡ 0 → k ≤ 8
-    → new ≡ old ++ map seen_ahead (prepared_before t (ahead ds n k None s f)) → length new ≤ 8
+    → new ≡ old ++ map (seen_ahead ds n) (prepared_before t (ahead ds n k None s f)) → length new ≤ 8
 few-found ds n t k s f old new none few is =
     let found = prepared_before t (ahead ds n k None s f) in
-    omega (arith, ap length is ∙ length-append old (map seen_ahead found), length-map found seen_ahead, none, few, prepared-few t (ahead ds n k None s f), ahead-few ds n k None s f)
+    omega (arith, ap length is ∙ length-append old (map (seen_ahead ds n) found), length-map found (seen_ahead ds n), none, few, prepared-few t (ahead ds n k None s f), ahead-few ds n k None s f)
 
 -- the last entries behind one more
 pub past-kept : (ds : List ℕ) (n : ℕ) (f : Front) (e : Entry) (r : EntryTicks) (old new : List Past) (g : Front) → old ≡ f.past → r ≡ row_of_entry ds n f e

@@ -1,11 +1,11 @@
 pub mod LastLemmas
 pub mod ReadLemmas
-pub mod AnswerLemmas
 pub mod RunLemmas
 pub mod BorderLemmas
 pub mod EntryLemmas
 pub mod ProgramLemmas
 pub mod LoopLemmas
+pub mod PassLemmas
 pub mod TurnLemmas
 pub mod LedgerLemmas
 pub mod Stages

@@ -1,6 +1,7 @@
 -- One turn of the run.
-use Rattle.std.specs.Prelude.{Bool, if◌then◌else◌, Result, Ok, Err, IsErr}
-use Rattle.std.proofs.Common.{◌≡◌, ◌≢◌, ℕ, ◌+◌, ◌-◌, ◌≤◌, ◌⊎◌, true, false, List, ◌++◌, ◌∙◌, subst, append_assoc, arith}
+use Rattle.std.specs.Prelude.{Bool, ◌||◌, nat_eq, if◌then◌else◌, Result, Ok, Err, IsErr}
+use Rattle.std.proofs.lemmas.Bool.Decides.{nat_tests}
+use Rattle.std.proofs.Common.{◌≡◌, ◌≢◌, ℕ, zero, suc, ◌+◌, ◌-◌, ◌≤◌, ◌⊎◌, inl, inr, true, false, List, ◌++◌, refl, sym, ◌∙◌, ap, subst, append_assoc, arith}
 use Rattle.st_state.specs.Machine.{Machine}
 use Rattle.st_io.specs.Output.{OutputState}
 use Rattle.st_io.specs.declared.Failed.{Failed}
@@ -8,7 +9,7 @@ use Rattle.st_io.specs.Lines.{WritesLines}
 use Rattle.st_io.proofs.Progress.{LinesSoFar, lines_more, lines_failed, lines_last}
 use Rattle.st_exec.specs.Step.{rests}
 use Rattle.st_run.specs.Moments.{Moment, next_state, standing_at, next_moment}
-use Rattle.st_account.specs.Text.{begins_segment, segment_lines, segment_after, lines_of_entry, last_lines, lines_from}
+use Rattle.st_account.specs.Text.{begins_segment, segment_end_at, segment_lines, segment_after, lines_of_entry, last_lines, lines_from}
 use Rattle.st_ledger.specs.declared.charges.Stage.{Stage}
 use Rattle.st_ledger.specs.declared.charges.Stage.TheVariants.{Restart, Instruction, Address, Index, Preparing, Operand, Executing}
 use Rattle.st_ledger.specs.declared.totals.Totals.{Totals}
@@ -17,37 +18,34 @@ use Rattle.st_ledger.specs.Ledger.{entries_from, charges_at, all_charges}
 use Rattle.st_ledger.specs.Totals.{sum_at, AreWithin}
 use Rattle.st_account.proofs.RunLemmas.{lines-end, lines-on, charges-end, charges-on}
 
-module _ (ds : List ℕ) (n left k : ℕ) (b : Machine) (m : Moment) (s t : OutputState) (all : List (List ℕ))
-    (so_far : LinesSoFar s t all (lines_from ds n left k b m)) where
+module _ (ds : List ℕ) (n left k : ℕ) (b : Machine) (m : Moment) (s t : OutputState) (all row : List (List ℕ))
+    (so_far : LinesSoFar s t all (row ++ lines_from ds n left k b m)) where
   -- the run ends
-  pub run-ends : (u : OutputState) (r : Result (Unit {0}) Failed) → (left ≡ 0) ⊎ (rests (next_state m) ≡ true) → WritesLines t u (last_lines ds n k b m) r
+  pub run-ends : (u : OutputState) (r : Result (Unit {0}) Failed) → (left ≡ 0) ⊎ (rests (next_state m) ≡ true) → WritesLines t u (row ++ last_lines ds n k b m) r
       → WritesLines s u all r
-  run-ends u r end h = lines_last s t u all (last_lines ds n k b m) r (subst (LinesSoFar s t all) (lines-end ds n left k b m end) so_far) h
+  run-ends u r end h =
+      lines_last s t u all (row ++ last_lines ds n k b m) r (subst (λ ls. LinesSoFar s t all (row ++ ls)) (lines-end ds n left k b m end) so_far) h
 
   module _ (some : left ≢ 0) (going : rests (next_state m) ≡ false) where
+    abbrev entry : List (List ℕ)
+    entry = lines_of_entry ds n (segment_end_at (left - 1) (next_moment ds n (standing_at m))) (standing_at m)
+
     abbrev rest : List (List ℕ)
     rest = lines_from ds n (left - 1) (segment_after k m) (next_state m) (next_moment ds n (standing_at m))
 
-    both : LinesSoFar s t all (segment_lines ds n k b m ++ (lines_of_entry ds n (standing_at m) ++ rest))
-    both = subst (LinesSoFar s t all) (lines-on ds n left k b m some going ∙ append_assoc (segment_lines ds n k b m) (lines_of_entry ds n (standing_at m)) rest) so_far
+    both : LinesSoFar s t all ((row ++ segment_lines ds n k b m) ++ (entry ++ rest))
+    both = subst (LinesSoFar s t all)
+        (ap (λ ls. row ++ ls) (lines-on ds n left k b m some going ∙ append_assoc (segment_lines ds n k b m) entry rest)
+        ∙ sym (append_assoc row (segment_lines ds n k b m) (entry ++ rest))) so_far
 
-    -- a write fails, of the lines of a border
-    pub border-fails : (u : OutputState) (e : Failed) (r : Result (Unit {0}) Failed) → IsErr r → WritesLines t u (segment_lines ds n k b m) (Err e) → WritesLines s u all r
-    border-fails u e r f h = lines_failed s t u all (segment_lines ds n k b m) (lines_of_entry ds n (standing_at m) ++ rest) r f both h.err
-
-    -- of the lines of an entry
-    pub entry-fails : (u v : OutputState) (x : Unit {0}) (e : Failed) (r : Result (Unit {0}) Failed) → IsErr r → WritesLines t u (segment_lines ds n k b m) (Ok x)
-        → WritesLines u v (lines_of_entry ds n (standing_at m)) (Err e) → WritesLines s v all r
-    entry-fails u v x e r f h later =
-        lines_failed s u v all (lines_of_entry ds n (standing_at m)) rest r f
-        (lines_more s t u all (segment_lines ds n k b m) (lines_of_entry ds n (standing_at m) ++ rest) both h.ok) later.err
+    -- a write fails, of the lines of a row or of a border
+    pub border-fails : (u : OutputState) (e : Failed) (r : Result (Unit {0}) Failed) → IsErr r → WritesLines t u (row ++ segment_lines ds n k b m) (Err e)
+        → WritesLines s u all r
+    border-fails u e r f h = lines_failed s t u all (row ++ segment_lines ds n k b m) (entry ++ rest) r f both h.err
 
     -- none fails
-    pub turn-made : (u v : OutputState) (x y : Unit {0}) → WritesLines t u (segment_lines ds n k b m) (Ok x) → WritesLines u v (lines_of_entry ds n (standing_at m)) (Ok y)
-        → LinesSoFar s v all rest
-    turn-made u v x y h later =
-        lines_more s u v all (lines_of_entry ds n (standing_at m)) rest
-        (lines_more s t u all (segment_lines ds n k b m) (lines_of_entry ds n (standing_at m) ++ rest) both h.ok) later.ok
+    pub turn-made : (u : OutputState) (x : Unit {0}) → WritesLines t u (row ++ segment_lines ds n k b m) (Ok x) → LinesSoFar s u all (entry ++ rest)
+    turn-made u x h = lines_more s t u all (row ++ segment_lines ds n k b m) (entry ++ rest) both h.ok
 
 -- ---- numbers of a turn
 
@@ -66,6 +64,30 @@ after-most false k = omega arith
 
 pub number-next : (k next : ℕ) (m : Moment) (d e : ℕ) → next ≡ segment_after k m → k ≤ d → e ≡ d + 1 → next ≤ e
 number-next k next m d e is few one = omega (arith, is, few, one, after-most (begins_segment k m) k)
+
+-- behind the first entry there is a segment
+pub number-some : (k next : ℕ) (m : Moment) → next ≡ segment_after k m → next ≢ 0
+number-some zero next m is = λ none. omega (arith, is, none)
+number-some (suc k) next m is = λ none. omega (arith, is, none, least (begins_segment (suc k) m))
+  where
+    least : (b : Bool) → 1 ≤ (if b then suc k + 1 else suc k)
+    least true = omega arith
+    least false = omega arith
+
+-- a run that does not end
+pub left-some : (left : ℕ) (resting : Bool) → (nat_eq left 0 || resting) ≡ false → left ≢ 0
+left-some zero resting going = absurd (cc)
+left-some (suc left) resting going = λ none. omega (arith, none)
+
+pub rests-not : (left resting : Bool) → (left || resting) ≡ false → resting ≡ false
+rests-not true resting going = absurd (cc)
+rests-not false resting going = going
+
+-- one that does
+pub ends-one : (left : ℕ) (resting : Bool) → (nat_eq left 0 || resting) ≡ true → (left ≡ 0) ⊎ (resting ≡ true)
+ends-one zero resting end = inl refl
+ends-one (suc left) true end = inr refl
+ends-one (suc left) false end = grind (arith, nat_tests)
 
 pub sums-next : (ds : List ℕ) (n left : ℕ) (m : Moment) (s : Stage) (a b total : ℕ) → left ≢ 0 → rests (next_state m) ≡ false
     → a + ticks_for s (all_charges ds n (entries_from ds n left m)) ≡ total → b ≡ a + ticks_for s (charges_at ds n (standing_at m))

@@ -2,11 +2,8 @@
 use Rattle.std.specs.Prelude.{Bool, nat_lt, nat_eq, not, ◌||◌, map, is_some, is_none, Option, Some}
 use Rattle.std.proofs.lemmas.Bool.{and_parts, not-true}
 use Rattle.std.proofs.lemmas.Bool.Decides.{nat_tests}
-use Rattle.st_rows.specs.Asked.{made_before}
-use Rattle.st_rows.specs.declared.log.Made.{Made}
 use Rattle.std.proofs.Common.{◌≡◌, ◌≢◌, ℕ, zero, suc, ◌+◌, ◌-◌, ◌*◌, ◌^◌, ◌≤◌, ◌⊎◌, inl, inr, true, false, List, [], ◌∷◌, ◌++◌, length, None, refl, sym, ◌∙◌, ap, arith}
 use Rattle.st_bits.specs.declared.limits.TheConstants.{MOST_INSTRUCTIONS}
-use Rattle.st_banks.specs.declared.answers.LastAnswers.{LastAnswers}
 use Rattle.st_state.specs.Machine.{Machine}
 use Rattle.st_exec.specs.Step.{rests, step, interrupt}
 use Rattle.st_card.specs.declared.control_cards.Signal.{Signal}
@@ -15,17 +12,13 @@ use Rattle.st_run.specs.Moments.{Moment, Standing, next_scene, next_state, stand
 use Rattle.st_run.proofs.Bounds.{HasTime}
 use Rattle.st_run.proofs.DoneLemmas.{settled-done}
 use Rattle.st_rows.specs.Rows.{row_of_entry, front_after_entry}
-use Rattle.st_segment.specs.Ahead.{ahead, prepared_before, reads_before}
 use Rattle.st_ledger.specs.declared.charges.Stage.{Stage}
 use Rattle.st_ledger.specs.Charges.{ticks_for}
 use Rattle.st_ledger.specs.Ledger.{entries_from, charges_at, all_charges}
 use Rattle.st_ledger.proofs.Runs.{ticks_for-append}
 use Rattle.st_account.specs.Settling.{at_hand}
-use Rattle.st_plain.specs.Looking.{seen_ahead}
-use Rattle.st_plain.specs.declared.looking.Ahead.{Ahead as Seen}
-use Rattle.st_account.specs.declared.last.Last.{Last}
-use Rattle.st_account.specs.Standing.{guessing, has_due, still_by, IsLast, IsBehindMoment}
-use Rattle.st_account.specs.Text.{segment_lines, segment_after, lines_of_entry, last_lines, lines_from}
+use Rattle.st_account.specs.Standing.{has_due, still_by}
+use Rattle.st_account.specs.Text.{segment_ends, segment_end_at, segment_lines, segment_after, lines_of_entry, last_lines, lines_from}
 
 none-is : {A : Type 0} (o : Option A) → is_none o ≡ true → o ≡ None
 none-is None h = refl
@@ -60,14 +53,15 @@ module _ (ds : List ℕ) (n : ℕ) where
 
   pub lines-on : (left k : ℕ) (b : Machine) (m : Moment) → left ≢ 0 → rests (next_state m) ≡ false
       → lines_from ds n left k b m
-      ≡ (segment_lines ds n k b m ++ lines_of_entry ds n (standing_at m))
+      ≡ (segment_lines ds n k b m ++ lines_of_entry ds n (segment_end_at (left - 1) (next_moment ds n (standing_at m))) (standing_at m))
       ++ lines_from ds n (left - 1) (segment_after k m) (next_state m) (next_moment ds n (standing_at m))
   unfolding lines_from
   lines-on zero k b m some going = absurd (some refl)
   lines-on (suc left) k b m some going =
       let one : left ≡ suc left - 1 = omega arith in
       rw going
-      (ap (λ j. (segment_lines ds n k b m ++ lines_of_entry ds n (standing_at m)) ++ lines_from ds n j (segment_after k m) (next_state m) (next_moment ds n (standing_at m))) one)
+      (ap (λ j. (segment_lines ds n k b m ++ lines_of_entry ds n (segment_end_at j (next_moment ds n (standing_at m))) (standing_at m))
+      ++ lines_from ds n j (segment_after k m) (next_state m) (next_moment ds n (standing_at m))) one)
 
   -- ---- the charges
 
@@ -101,38 +95,6 @@ module _ (m : Moment) (s t : Machine) (xs ys : List Signal) (ps qs : List (List 
 
   pub same-done : t.done ≡ s.done
   same-done = ap (λ c. c.machine.done) (sym came) ∙ settled-done (at_hand s xs ps)
-
-  pub seen-dropped : (ds : List ℕ) (n : ℕ) (l : Last) (log : List Made) (found : List Seen) → IsLast ds n m l log
-      → found ≡ map seen_ahead (prepared_before l.tick (ahead ds n n None (guessing l.ic s) l.front)) → found ≡ map seen_ahead m.dropped
-  seen-dropped ds n l log found is seen =
-      seen
-      ∙ ap (λ c. map seen_ahead (prepared_before l.tick (ahead ds n n None (guessing l.ic c.machine) l.front))) (sym scene)
-      ∙ ap (map seen_ahead) (sym is.dropped)
-
-  pub behind-is : (ds : List ℕ) (n : ℕ) (l : Last) (log : List Made) (found : List Seen) (banks : LastAnswers) (card waited looks : Bool) (is : IsLast ds n m l log)
-      → (looks ≡ true → found ≡ map seen_ahead (prepared_before l.tick (ahead ds n n None (guessing l.ic s) l.front)))
-      → (looks ≡ true → banks ≡ (made_before ds l.tick
-      (is.reads ++ reads_before ds n l.tick (ahead ds n (suc n) None (guessing l.ic s) l.front)) is.bus).banks)
-      → (ends_segment m ≡ true → looks ≡ true)
-      → card ≡ nat_lt (length qs) (length ps) → waited ≡ rests (with_due_orders (with_due_signals s xs ps)).scene.machine
-      → IsBehindMoment m t l found banks card waited
-  behind-is ds n l log found banks card waited looks is seen held ends is_card is_waited = record {
-    tick = is.tick;
-    front = is.front;
-    missed = is.missed;
-    dropped = λ e. seen-dropped ds n l log found is (seen (ends e));
-    banks = λ e.
-        held (ends e)
-        ∙ ap (λ c. (made_before ds l.tick
-        (is.reads ++ reads_before ds n l.tick (ahead ds n (suc n) None (guessing l.ic c.machine) l.front)) is.bus).banks) (sym scene)
-        ∙ sym is.banks;
-    state = next-machine;
-    card =
-        is_card
-        ∙ ap (λ c. nat_lt (length c.cards) (length ps)) (sym next-scene)
-        ∙ ap (λ c. nat_lt (length (next_scene m).cards) (length c.cards)) (sym scene);
-    waited = is_waited ∙ ap (λ c. rests (with_due_orders (with_due_signals c.machine c.signals c.cards)).scene.machine) (sym scene);
-  }
 
 -- ---- where nothing comes
 
@@ -211,23 +173,18 @@ module _ (s : Machine) (missed : Bool) (xs : List Signal) (still : still_by s mi
 -- where a segment ends, it is looked at what ran ahead
 pub end-looks : (left : ℕ) (s : Machine) (xs : List Signal) (cards : List (List ℕ)) (m : Moment) (missed still looks : Bool)
     → m.scene ≡ at_hand s xs cards → m.missed ≡ missed
-    → still ≡ still_by s missed xs → looks ≡ (nat_eq left 0 || not still) → ends_segment m ≡ true → looks ≡ true
+    → still ≡ still_by s missed xs → looks ≡ (nat_eq left 0 || not still) → segment_ends left m ≡ true → looks ≡ true
 end-looks left s xs cards m missed true looks scene guessed is_still is_looks ends =
-    let no : true ≡ false = sym ends ∙ no-end s missed xs (sym is_still) m cards scene guessed in absurd (cc)
-end-looks left s xs cards m missed false looks scene guessed is_still is_looks ends = is_looks ∙ or-true (nat_eq left 0)
+    is_looks
+    ∙ by_test (nat_eq left 0) (rests (next_state m)) (ends_segment m) (going-still s missed xs (sym is_still) m cards scene guessed)
+    (no-end s missed xs (sym is_still) m cards scene guessed) ends
   where
-    or-true : (b : Bool) → (b || true) ≡ true
-    or-true true = refl
-    or-true false = refl
-
--- and so where the run ends
-pub rest-looks : (left : ℕ) (s : Machine) (xs : List Signal) (cards : List (List ℕ)) (m : Moment) (missed still looks : Bool)
-    → m.scene ≡ at_hand s xs cards → m.missed ≡ missed
-    → still ≡ still_by s missed xs → looks ≡ (nat_eq left 0 || not still) → (left ≡ 0) ⊎ (rests (next_state m) ≡ true) → looks ≡ true
-rest-looks left s xs cards m missed still looks scene guessed is_still is_looks (inl none) = is_looks ∙ rw none refl
-rest-looks left s xs cards m missed true looks scene guessed is_still is_looks (inr resting) =
-    let no : true ≡ false = sym resting ∙ going-still s missed xs (sym is_still) m cards scene guessed in absurd (cc)
-rest-looks left s xs cards m missed false looks scene guessed is_still is_looks (inr resting) = is_looks ∙ or-true (nat_eq left 0)
+    by_test : (a b c : Bool) → b ≡ false → c ≡ false → ((a || b) || c) ≡ true → (a || false) ≡ true
+    by_test true b c going none some = refl
+    by_test false true c going none some = absurd (cc)
+    by_test false false true going none some = absurd (cc)
+    by_test false false false going none some = some
+end-looks left s xs cards m missed false looks scene guessed is_still is_looks ends = is_looks ∙ or-true (nat_eq left 0)
   where
     or-true : (b : Bool) → (b || true) ≡ true
     or-true true = refl

@@ -1,9 +1,8 @@
 -- The run at the head of its loop, and what one turn makes of it.
-use Rattle.std.specs.Prelude.{slice_index, Result, Ok, Err, IsErr, nat_lt, nat_eq, ◌||◌, not, Bool, map, All}
-use Rattle.std.proofs.Common.{◌≡◌, ◌≢◌, ℕ, suc, ◌+◌, ◌-◌, ◌*◌, ◌^◌, ◌≤◌, ◌<◌, ◌⊎◌, inl, inr, true, false, None, List, [], ◌∷◌, ◌++◌, length, refl, sym, ◌∙◌, ap, subst, arith}
+use Rattle.std.specs.Prelude.{Bool, Result, Ok, Err, IsErr, nat_eq, ◌||◌, All, replicate}
+use Rattle.std.proofs.Common.{◌≡◌, ◌≢◌, ℕ, ◌+◌, ◌-◌, ◌*◌, ◌^◌, ◌≤◌, ◌<◌, true, false, Option, List, [], ◌∷◌, ◌++◌, length, refl, sym, ◌∙◌, ap, subst, arith}
 use Rattle.std.specs.List.{AllPass}
 use Rattle.st_bits.specs.declared.limits.TheConstants.{MOST_INSTRUCTIONS}
-use Rattle.st_banks.specs.declared.answers.LastAnswers.{LastAnswers}
 use Rattle.st_card.specs.Limits.{is_signal}
 use Rattle.st_card.specs.declared.control_cards.Signal.{Signal}
 use Rattle.st_io.specs.Output.{OutputState}
@@ -11,63 +10,49 @@ use Rattle.st_io.specs.declared.Failed.{Failed}
 use Rattle.st_io.specs.Lines.{WritesLines}
 use Rattle.st_io.proofs.Progress.{LinesSoFar, lines_none}
 use Rattle.st_bits.specs.Storage.{words_of_storage}
-use Rattle.st_bits.specs.declared.limits.TheConstants.{WORDS}
 use Rattle.st_state.specs.Machine.{Machine, IsMachine, word}
-use Rattle.st_prep.specs.declared.entries.Prepared.{Prepared}
 use Rattle.st_exec.specs.Ahead.{IsNotAmong}
-use Rattle.st_lines.specs.Changes.{IsLeft}
-use Rattle.st_lines.specs.declared.changes.Changeable.{Changeable}
-use Rattle.st_account.proofs.LeftLemmas.{area, between-left}
 use Rattle.st_exec.specs.Completion.{guess}
 use Rattle.st_exec.specs.Step.{rests, step, interrupt}
-use Rattle.st_rows.specs.Asked.{made_before}
 use Rattle.st_rows.specs.Ranges.{AreDelaysUpTo, IsTight}
 use Rattle.st_rows.specs.Rows.{opening_front}
 use Rattle.st_rows.specs.declared.front.Front.{Front}
-use Rattle.st_rows.specs.declared.log.Made.{Made}
-use Rattle.st_segment.specs.Ahead.{ahead, prepared_before, reads_before}
-use Rattle.st_run.specs.Run.{Scene, interlude, with_due_signals, with_due_orders}
+use Rattle.st_run.specs.Run.{Scene}
 use Rattle.st_run.specs.Reached.{IsCard}
-use Rattle.st_run.specs.Moments.{Moment, Standing, moment_at_start, answers_at_start, ends_segment, next_state, next_front, standing_at, next_moment}
+use Rattle.st_run.specs.Moments.{Moment, Standing, moment_at_start, answers_at_start, next_state, next_front, standing_at, next_moment}
 use Rattle.st_exec.proofs.StepLemmas.{step-done}
 use Rattle.st_run.proofs.DoneLemmas.{settled-done}
 use Rattle.st_run.proofs.Bounds.{IsMoment, HasTime, start-is, next-is, next-time}
 use Rattle.st_ledger.specs.declared.charges.Stage.{Stage}
-use Rattle.st_ledger.specs.declared.totals.Totals.{Totals}
 use Rattle.st_ledger.specs.Charges.{ticks_for}
 use Rattle.st_ledger.specs.Ledger.{charges_at, entries_from, all_charges}
 use Rattle.st_ledger.specs.Totals.{sum_at, AreWithin}
-use Rattle.st_plain.specs.Looking.{seen_ahead, first_late}
-use Rattle.st_plain.specs.declared.looking.Ahead.{Ahead as Seen}
+use Rattle.st_account.specs.declared.account.Account.{Account}
 use Rattle.st_account.specs.declared.last.Last.{Last}
-use Rattle.st_account.specs.Settling.{at_hand, words_printed}
-use Rattle.st_account.specs.Standing.{guessing, still_by, IsLast, IsStanding, IsBehindMoment}
-use Rattle.st_account.specs.Text.{words_behind, late_at, segment_lines, segment_after, lines_of_entry, last_lines, lines_from}
+use Rattle.st_account.specs.Settling.{at_hand}
+use Rattle.st_account.specs.Standing.{guessing, kept_lines, IsLast, IsStanding, IsAt, IsBehindMoment}
+use Rattle.st_account.specs.Text.{run_ends, segment_end_at, segment_lines, segment_after, lines_of_entry, last_lines, lines_from}
 use Rattle.st_account.proofs.LastLemmas.{start-last}
-use Rattle.st_account.proofs.RunLemmas.{next-scene, next-machine, same-done, seen-dropped, behind-is, end-looks, rest-looks, next-stepped, next-at, early-tick}
-use Rattle.st_account.proofs.LoopLemmas.{run-ends, border-fails, entry-fails, turn-made, sums-none, number-next, sums-next, sums-end}
+use Rattle.st_account.proofs.EntryLemmas.{kept-none}
+use Rattle.st_account.proofs.RunLemmas.{next-stepped, next-at, early-tick}
+use Rattle.st_account.proofs.LoopLemmas.{run-ends, border-fails, turn-made, sums-none, number-next, number-some, left-some, rests-not, ends-one, sums-next, sums-end}
 
--- So far lines are written, and the rest of a moment is left. The sums of what is left and of what was added are the total.
-pub record IsRunning (s t : OutputState) (all : List (List ℕ)) (ds : List ℕ) (n : ℕ) (total : Stage → ℕ) (state : Machine) (rest : List Signal)
-    (cards : List (List ℕ)) (last : Last) (log : List Made) (k left : ℕ) (sums : Totals) (old : List ℕ) (q : Prepared) : Type 0 where
+-- So far lines are written, and those of the last entry and the rest of a moment are left. The sums of what is left and of what was added are the total.
+pub record IsRunning (s t : OutputState) (all : List (List ℕ)) (ds : List ℕ) (n : ℕ) (total : Stage → ℕ) (a : Account) (rest : List Signal)
+    (cards : List (List ℕ)) (left : ℕ) : Type 0 where
   pub m : Moment
   pub b : Machine
-  pub was : b.enabled ≡ last.enabled
-  pub scene : m.scene ≡ at_hand state rest cards
-  pub hand : IsLast ds n m last log
-  pub guessed : k ≢ 0 → guessing last.ic m.scene.machine ≡ guess (interrupt b) b
+  pub at : IsAt ds n b m a rest cards
   pub bounds : IsMoment 255 n m
-  pub at : m.front.c ≡ m.tick
+  pub meets : m.front.c ≡ m.tick
   pub time : HasTime (64 * (255 + 4)) m.tick m.scene.machine
-  pub so_far : LinesSoFar s t all (lines_from ds n left k b m)
-  pub number : k ≤ m.scene.machine.done
+  pub so_far : LinesSoFar s t all (kept_lines a.k a.last (segment_end_at left m) ++ lines_from ds n left a.k b m)
+  pub number : a.k ≤ m.scene.machine.done
   pub few : m.scene.machine.done + left ≤ MOST_INSTRUCTIONS
-  pub within : AreWithin last.tick sums
-  pub sum : (x : Stage) → sum_at x sums + ticks_for x (all_charges ds n (entries_from ds n left m)) ≡ total x
+  pub within : AreWithin a.last.tick a.sums
+  pub sum : (x : Stage) → sum_at x a.sums + ticks_for x (all_charges ds n (entries_from ds n left m)) ≡ total x
   pub passes : AllPass is_signal rest
-  pub size : length old ≡ words_of_storage
-  pub words : k ≢ 0 → old ≡ b.words
-  pub unwritten : k ≢ 0 → (w : ℕ) → 32 ≤ w → IsNotAmong w q.writes → word state w ≡ word b w
+  pub size : length a.words.items ≡ words_of_storage
 
 next-done : (ds : List ℕ) (n : ℕ) (m : Moment) → (next_moment ds n (standing_at m)).scene.machine.done ≡ m.scene.machine.done + 1
 unfolding next_moment
@@ -75,194 +60,179 @@ next-done ds n m = step-done (next_state m) ∙ ap (λ d. d + 1) (settled-done m
 
 -- ---- the start
 
-pub run-starts : (s : OutputState) (ds : List ℕ) (n budget : ℕ) (state : Machine) (signals : List Signal) (cards : List (List ℕ)) (last : Last) (log : List Made)
-    (sums : Totals) (old : List ℕ) (q : Prepared) → length old ≡ words_of_storage → AreDelaysUpTo 255 ds → n ≤ 8 → IsMachine state → All IsCard cards → state.done ≡ 0 → budget ≤ MOST_INSTRUCTIONS → AreWithin 0 sums
-    → AllPass is_signal signals → last.tick ≡ 0 → last.front ≡ opening_front answers_at_start 0 → last.past ≡ last.front.past → last.missed ≡ false
-    → last.ic ≡ state.ic → last.enabled ≡ state.enabled → last.ic < 2 ^ 19 → log ≡ [] → IsTight 255 last.front
+pub run-starts : (s : OutputState) (ds : List ℕ) (n budget : ℕ) (state : Machine) (signals : List Signal) (cards : List (List ℕ)) (a : Account)
+    → length a.words.items ≡ words_of_storage → AreDelaysUpTo 255 ds → n ≤ 8 → IsMachine state → All IsCard cards → state.done ≡ 0 → budget ≤ MOST_INSTRUCTIONS
+    → AreWithin 0 a.sums → AllPass is_signal signals → a.state ≡ state → a.k ≡ 0 → a.last.tick ≡ 0 → a.last.front ≡ opening_front answers_at_start 0
+    → a.last.past ≡ a.last.front.past → a.last.missed ≡ false → a.last.ic ≡ state.ic → a.last.enabled ≡ state.enabled → a.last.ic < 2 ^ 19 → a.log ≡ []
+    → IsTight 255 a.last.front
     → IsRunning s s (lines_from ds n budget 0 state (moment_at_start (at_hand state signals cards))) ds n
-    (λ x. ticks_for x (all_charges ds n (entries_from ds n budget (moment_at_start (at_hand state signals cards))))) state signals cards last log 0 budget sums old q
-run-starts s ds n budget state signals cards last log sums old q size are few machine each fresh limit none passes tick front past missed ic enabled counter empty tight =
+    (λ x. ticks_for x (all_charges ds n (entries_from ds n budget (moment_at_start (at_hand state signals cards))))) a signals cards budget
+run-starts s ds n budget state signals cards a size are few machine each fresh limit none passes is number tick front past missed ic enabled counter empty tight =
     let c = at_hand state signals cards in
+    let m = moment_at_start c in
+    let all = lines_from ds n budget 0 state m in
     record {
-      m = moment_at_start c;
+      m = m;
       b = state;
-      was = sym enabled;
-      scene = refl;
-      hand = start-last ds n c last log tick front past missed ic counter empty tight;
-      guessed = λ some. absurd (some refl);
+      at = record {
+        scene = ap (λ u. at_hand u signals cards) (sym is);
+        each = each;
+        hand = start-last ds n c a.last a.log tick front past missed ic counter empty tight;
+        was = sym enabled;
+        guessed = λ some. absurd (some number);
+        words = λ some. absurd (some number);
+        unwritten = λ some. absurd (some number);
+      };
       bounds = start-is 255 n ds are few c (record { machine = machine; cards = each });
-      at = refl;
+      meets = refl;
       time = omega arith;
-      so_far = lines_none s (lines_from ds n budget 0 state (moment_at_start c));
-      number = omega arith;
+      so_far = subst (LinesSoFar s s all)
+          (sym (ap (λ ls. ls ++ lines_from ds n budget a.k state m) (kept-none a.k a.last (segment_end_at budget m) number)
+          ∙ ap (λ k. lines_from ds n budget k state m) number))
+          (lines_none s all);
+      number = omega (arith, number);
       few = omega (arith, fresh, limit);
-      within = subst (λ t. AreWithin t sums) (sym tick) none;
-      sum = λ x. sums-none sums x _ none;
+      within = subst (λ t. AreWithin t a.sums) (sym tick) none;
+      sum = λ x. sums-none a.sums x _ none;
       passes = passes;
       size = size;
-      words = λ some. absurd (some refl);
-      unwritten = λ some. absurd (some refl);
     }
+
+-- the signals and the budget as they are taken up
+pub run-taken : (s t : OutputState) (all : List (List ℕ)) (ds : List ℕ) (n : ℕ) (total : Stage → ℕ) (a : Account) (xs ys : List Signal) (cards : List (List ℕ))
+    (left budget : ℕ) → ys ≡ xs → left ≡ budget → IsRunning s t all ds n total a xs cards budget → IsRunning s t all ds n total a ys cards left
+run-taken s t all ds n total a xs ys cards left budget is same h =
+    subst (λ zs. IsRunning s t all ds n total a zs cards left) (sym is) (subst (λ k. IsRunning s t all ds n total a xs cards k) (sym same) h)
 
 -- ---- what holds at the head of the loop
 
-module _ (s t : OutputState) (all : List (List ℕ)) (ds : List ℕ) (n : ℕ) (total : Stage → ℕ) (state : Machine) (rest : List Signal) (cards : List (List ℕ))
-    (last : Last) (log : List Made) (k left : ℕ) (sums : Totals) (old : List ℕ) (q : Prepared)
-    (h : IsRunning s t all ds n total state rest cards last log k left sums old q) where
-  done : h.m.scene.machine.done ≡ state.done
-  done = ap (λ (c : Scene). c.machine.done) h.scene
+module _ (s t : OutputState) (all : List (List ℕ)) (ds : List ℕ) (n : ℕ) (total : Stage → ℕ) (a : Account) (xs : List Signal) (cards : List (List ℕ)) (left : ℕ)
+    (h : IsRunning s t all ds n total a xs cards left) where
+  done : h.m.scene.machine.done ≡ a.state.done
+  done = ap (λ (c : Scene). c.machine.done) h.at.scene
 
-  pub tight-is : IsTight 255 last.front
-  tight-is = subst (IsTight 255) h.hand.front h.bounds.tight
+  pub tight-is : IsTight 255 a.last.front
+  tight-is = subst (IsTight 255) h.at.hand.front h.bounds.tight
 
-  pub at-is : last.front.c ≡ last.tick
-  at-is = ap (λ (f : Front). f.c) (sym h.hand.front) ∙ h.at ∙ h.hand.tick
+  pub at-is : a.last.front.c ≡ a.last.tick
+  at-is = ap (λ (f : Front). f.c) (sym h.at.hand.front) ∙ h.meets ∙ h.at.hand.tick
 
-  pub few-is : state.done + left ≤ MOST_INSTRUCTIONS
+  pub few-is : a.state.done + left ≤ MOST_INSTRUCTIONS
   few-is = omega (arith, h.few, done)
 
-  pub number-is : k ≤ state.done
-  number-is = omega (arith, h.number, done)
-
-  pub early-is : last.tick ≤ 2 ^ 40
-  early-is = early-tick h.m last.tick state.done h.hand.tick h.time done (omega (arith, few-is))
+  pub early-is : a.last.tick ≤ 2 ^ 40
+  early-is = early-tick h.m a.last.tick a.state.done h.at.hand.tick h.time done (omega (arith, few-is))
 
   -- ---- what comes is over
 
-  module _ (state' : Machine) (rest' : List Signal) (cards' : List (List ℕ)) (mid : Machine) (same : mid ≡ state)
-      (after : (interlude (at_hand mid rest cards)).scene ≡ at_hand state' rest' cards') where
-    came : (interlude (at_hand state rest cards)).scene ≡ at_hand state' rest' cards'
-    came = ap (λ u. (interlude (at_hand u rest cards)).scene) (sym same) ∙ after
+  module _ (a' : Account) (ys : List Signal) (cards' : List (List ℕ)) (same : a' ≡ record a { state = a'.state; log = a'.log; behind = a'.behind })
+      (behind : IsBehindMoment ds n left h.b h.m a' ys cards') where
+    last : a'.last ≡ a.last
+    last = ap (λ (x : Account). x.last) same
 
-    pub done-is : state'.done ≡ state.done
-    done-is = same-done h.m state state' rest rest' cards cards' h.scene came
+    segment : a'.k ≡ a.k
+    segment = ap (λ (x : Account). x.k) same
 
-    next : next_state h.m ≡ state'
-    next = next-machine h.m state state' rest rest' cards cards' h.scene came
+    next : next_state h.m ≡ a'.state
+    next = ap (λ (c : Scene). c.machine) behind.scene
 
-    pub printed-is : (ws : List (List ℕ)) → ws ≡ words_printed (interlude (at_hand mid rest cards)).happened → ws ≡ words_behind h.m
-    printed-is ws is =
-        is
-        ∙ ap (λ u. words_printed (interlude (at_hand u rest cards)).happened) same
-        ∙ ap (λ c. words_printed (interlude c).happened) (sym h.scene)
+    pub few-then : a'.state.done + left ≤ MOST_INSTRUCTIONS
+    few-then = omega (arith, h.few, ap (λ (u : Machine). u.done) (sym next) ∙ settled-done h.m.scene)
 
-    -- a word that nothing may have changed
-    pub left-is : (may : Changeable) → may ≡ record { writes = q.writes; card = area mid.reader } → k ≢ 0 → (v : ℕ) → v < WORDS → IsLeft v may
-        → slice_index old v ≡ word state' v
-    left-is may is some v inside left =
-        let l : IsLeft v (record { writes = q.writes; card = area mid.reader }) = subst (IsLeft v) is left in
-        let each : All IsCard cards = subst (λ (c : Scene). All IsCard c.cards) h.scene h.bounds.scene.cards in
-        ap (λ (xs : List ℕ). slice_index xs v) (h.words some)
-        ∙ sym (h.unwritten some v l.above l.unwritten)
-        ∙ ap (λ (u : Machine). word u v) (sym same)
-        ∙ sym (between-left (at_hand mid rest cards) each v l.above l.beside)
-        ∙ ap (λ (c : Scene). word c.machine v) after
+    pub soon-then : All (λ t. t ≤ a.last.tick + 255) a'.behind.banks.ticks → All (λ t. t ≤ a'.last.tick + 255) a'.behind.banks.ticks
+    soon-then soon = subst (λ (l : Last). All (λ t. t ≤ l.tick + 255) a'.behind.banks.ticks) (sym last) soon
 
-    -- the entry that was begun
-    late-is : (late : List Seen) → late ≡ map seen_ahead (first_late last.tick (ahead ds n (suc n) None (guessing last.ic state) last.front))
-        → k ≢ 0 → late ≡ late_at ds n h.b h.m
-    unfolding late_at
-    late-is late is some =
-        is
-        ∙ ap (λ c. map seen_ahead (first_late last.tick (ahead ds n (suc n) None (guessing last.ic c.machine) last.front))) (sym h.scene)
-        ∙ ap (λ u. map seen_ahead (first_late last.tick (ahead ds n (suc n) None u last.front))) (h.guessed some)
-        ∙ ap (λ t. map seen_ahead (first_late t (ahead ds n (suc n) None (guess (interrupt h.b) h.b) last.front))) (sym h.hand.tick)
-        ∙ ap (λ f. map seen_ahead (first_late h.m.tick (ahead ds n (suc n) None (guess (interrupt h.b) h.b) f))) (sym h.hand.front)
+    -- whether the run ends
+    pub over-is : (over : Bool) → over ≡ (nat_eq left 0 || rests a'.state) → over ≡ run_ends left h.m
+    over-is over is = is ∙ ap (λ u. nat_eq left 0 || rests u) (sym next)
 
-    -- the run ends
-    pub finishes : (ws : List (List ℕ)) → ws ≡ words_printed (interlude (at_hand mid rest cards)).happened → (u : OutputState) (r : Result (Unit {0}) Failed) (found late : List Seen) (still looks : Bool) → (left ≡ 0) ⊎ (rests state' ≡ true)
-        → still ≡ still_by state last.missed rest → looks ≡ (nat_eq left 0 || not still)
-        → (looks ≡ true → found ≡ map seen_ahead (prepared_before last.tick (ahead ds n n None (guessing last.ic state) last.front)))
-        → (looks ≡ true → late ≡ map seen_ahead (first_late last.tick (ahead ds n (suc n) None (guessing last.ic state) last.front)))
-        → ((ds : List ℕ) (n : ℕ) (b : Machine) (m : Moment) → b.enabled ≡ last.enabled → (k ≢ 0 → old ≡ b.words) → ws ≡ words_behind m → m.tick ≡ last.tick → next_state m ≡ state' → found ≡ map seen_ahead m.dropped
-        → (k ≢ 0 → late ≡ late_at ds n b m) → WritesLines t u (last_lines ds n k b m) r)
-        → WritesLines s u all r
-    finishes ws is_printed u r found late still looks end is_still is_looks seen begun writes =
-        let ending : (left ≡ 0) ⊎ (rests (next_state h.m) ≡ true) = at_end end in
-        let yes = rest-looks left state rest cards h.m last.missed still looks h.scene h.hand.missed is_still is_looks ending in
-        run-ends ds n left k h.b h.m s t all h.so_far u r ending
-        (writes ds n h.b h.m h.was h.words (printed-is ws is_printed) h.hand.tick next
-        (seen-dropped h.m state state' rest rest' cards cards' h.scene came ds n last log found h.hand
-        (seen yes)) (late-is late (begun yes)))
-      where
-        at_end : (left ≡ 0) ⊎ (rests state' ≡ true) → (left ≡ 0) ⊎ (rests (next_state h.m) ≡ true)
-        at_end (inl none) = inl none
-        at_end (inr resting) = inr (ap rests next ∙ resting)
+    kept : (end : Option ℕ) → kept_lines a'.k a'.last end ≡ kept_lines a.k a.last end
+    kept end = ap (λ (x : Account). kept_lines x.k x.last end) same
 
-    pub sums-are : (x : Stage) → (left ≡ 0) ⊎ (rests state' ≡ true) → sum_at x sums ≡ total x
-    sums-are x end = sums-end ds n left h.m x (sum_at x sums) (total x) (at_end end) (h.sum x)
-      where
-        at_end : (left ≡ 0) ⊎ (rests state' ≡ true) → (left ≡ 0) ⊎ (rests (next_state h.m) ≡ true)
-        at_end (inl none) = inl none
-        at_end (inr resting) = inr (ap rests next ∙ resting)
+    pub finishes : (u : OutputState) (r : Result (Unit {0}) Failed) → run_ends left h.m ≡ true
+        → WritesLines t u (kept_lines a'.k a'.last (segment_end_at left h.m) ++ last_lines ds n a'.k h.b h.m) r → WritesLines s u all r
+    finishes u r end writes =
+        run-ends ds n left a.k h.b h.m s t all (kept_lines a.k a.last (segment_end_at left h.m)) h.so_far u r (ends-one left (rests (next_state h.m)) end)
+        (subst (λ ls. WritesLines t u ls r)
+        (ap (λ ls. ls ++ last_lines ds n a'.k h.b h.m) (kept (segment_end_at left h.m))
+        ∙ ap (λ k. kept_lines a.k a.last (segment_end_at left h.m) ++ last_lines ds n k h.b h.m) segment) writes)
+
+    pub sums-are : (x : Stage) → run_ends left h.m ≡ true → sum_at x a'.sums ≡ total x
+    sums-are x end =
+        ap (λ (y : Account). sum_at x y.sums) same
+        ∙ sums-end ds n left h.m x (sum_at x a.sums) (total x) (ends-one left (rests (next_state h.m)) end) (h.sum x)
 
     -- it goes on
-    module _ (some : left ≢ 0) (going : rests state' ≡ false) where
+    module _ (going : run_ends left h.m ≡ false) where
+      pub some : left ≢ 0
+      some = left-some left (rests (next_state h.m)) going
+
       on : rests (next_state h.m) ≡ false
-      on = ap rests next ∙ going
+      on = rests-not (nat_eq left 0) (rests (next_state h.m)) going
 
-      pub behind : (found : List Seen) (banks : LastAnswers) (card waited still looks : Bool)
-          → still ≡ still_by state last.missed rest → looks ≡ (nat_eq left 0 || not still)
-          → (looks ≡ true → found ≡ map seen_ahead (prepared_before last.tick (ahead ds n n None (guessing last.ic state) last.front)))
-          → (looks ≡ true → banks ≡ (made_before ds last.tick
-          (h.hand.reads ++ reads_before ds n last.tick (ahead ds n (suc n) None (guessing last.ic state) last.front)) h.hand.bus).banks)
-          → card ≡ nat_lt (length cards') (length cards) → waited ≡ rests (with_due_orders (with_due_signals mid rest cards)).scene.machine
-          → IsBehindMoment h.m state' last found banks card waited
-      behind found banks card waited still looks is_still is_looks seen held is_card is_waited =
-          behind-is h.m state state' rest rest' cards cards' h.scene came ds n last log found banks card waited looks h.hand seen held
-          (end-looks left state rest cards h.m last.missed still looks h.scene h.hand.missed is_still is_looks) is_card
-          (is_waited ∙ ap (λ u. rests (with_due_orders (with_due_signals u rest cards)).scene.machine) same)
+      abbrev row : List (List ℕ)
+      row = kept_lines a.k a.last (segment_end_at left h.m)
 
-      pub late-behind : (late : List Seen) (still looks : Bool)
-          → still ≡ still_by state last.missed rest → looks ≡ (nat_eq left 0 || not still)
-          → (looks ≡ true → late ≡ map seen_ahead (first_late last.tick (ahead ds n (suc n) None (guessing last.ic state) last.front)))
-          → ends_segment h.m ≡ true → k ≢ 0 → late ≡ late_at ds n h.b h.m
-      late-behind late still looks is_still is_looks begun ends =
-          late-is late (begun (end-looks left state rest cards h.m last.missed still looks h.scene h.hand.missed is_still is_looks ends))
+      crossed : (u : OutputState) (r : Result (Unit {0}) Failed) → WritesLines t u (kept_lines a'.k a'.last (segment_end_at left h.m) ++ segment_lines ds n a'.k h.b h.m) r
+          → WritesLines t u (row ++ segment_lines ds n a.k h.b h.m) r
+      crossed u r writes = subst (λ ls. WritesLines t u ls r)
+          (ap (λ ls. ls ++ segment_lines ds n a'.k h.b h.m) (kept (segment_end_at left h.m))
+          ∙ ap (λ k. kept_lines a.k a.last (segment_end_at left h.m) ++ segment_lines ds n k h.b h.m) segment) writes
 
-      pub crossing-fails : (u : OutputState) (e : Failed) (r : Result (Unit {0}) Failed) → IsErr r → WritesLines t u (segment_lines ds n k h.b h.m) (Err e) → WritesLines s u all r
-      crossing-fails u e r f w = border-fails ds n left k h.b h.m s t all h.so_far some on u e r f w
+      pub crossing-fails : (u : OutputState) (e : Failed) (r : Result (Unit {0}) Failed) → IsErr r
+          → WritesLines t u (kept_lines a'.k a'.last (segment_end_at left h.m) ++ segment_lines ds n a'.k h.b h.m) (Err e) → WritesLines s u all r
+      crossing-fails u e r f w =
+          border-fails ds n left a.k h.b h.m s t all (kept_lines a.k a.last (segment_end_at left h.m)) h.so_far some on u e r f (crossed u (Err e) w)
 
-      module _ (last' : Last) (front : last'.front ≡ next_front h.m) (tick : last'.tick ≡ last.tick) where
-        pub stands : IsStanding (standing_at h.m) state' last'
-        stands = record { machine = next; tick = h.hand.tick ∙ sym tick; front = sym front }
+      module _ (c : Account) (number : c.k ≡ segment_after a'.k h.m) (front : c.last.front ≡ next_front h.m) (tick : c.last.tick ≡ a'.last.tick)
+          (state : c.state ≡ a'.state) where
+        pub stands : IsStanding (standing_at h.m) c.state c.last
+        stands = record { machine = next ∙ sym state; tick = behind.tick ∙ sym tick; front = sym front }
 
-        module _ (u : OutputState) (x : Unit {0}) (segment : WritesLines t u (segment_lines ds n k h.b h.m) (Ok x)) where
-          pub row-fails : (v : OutputState) (e : Failed) (r : Result (Unit {0}) Failed) → IsErr r
-              → ((p : Standing) → IsStanding p state' last' → WritesLines u v (lines_of_entry ds n p) (Err e)) → WritesLines s v all r
-          row-fails v e r f w = entry-fails ds n left k h.b h.m s t all h.so_far some on u v x e r f segment (w (standing_at h.m) stands)
+        after : c.k ≡ segment_after a.k h.m
+        after = number ∙ ap (λ k. segment_after k h.m) segment
 
-          pub goes : (v : OutputState) (y : Unit {0}) (k' : ℕ) (state'' : Machine) (last'' : Last) (log' : List Made) (sums' : Totals) (old' : List ℕ) (q' : Prepared)
-              → length old' ≡ words_of_storage → old' ≡ state'.words
-              → ((w : ℕ) → 32 ≤ w → IsNotAmong w q'.writes → word state'' w ≡ word state' w)
-              → AreDelaysUpTo 255 ds → n ≤ 8 → k' ≡ segment_after k h.m → state'' ≡ step state'
-              → ((p : Standing) → IsStanding p state' last' → IsLast ds n (next_moment ds n p) last'' log')
-              → ((p : Standing) → IsStanding p state' last' → WritesLines u v (lines_of_entry ds n p) (Ok y))
-              → ((p : Standing) (x : Stage) → IsStanding p state' last' → sum_at x sums' ≡ sum_at x sums + ticks_for x (charges_at ds n p))
-              → AreWithin last''.tick sums' → last''.enabled ≡ state'.enabled → guessing last''.ic state'' ≡ guess (interrupt state') state' → AllPass is_signal rest'
-              → IsRunning s v all ds n total state'' rest' cards' last'' log' k' (left - 1) sums' old' q'
-          goes v y k' state'' last'' log' sums' old' q' size words unwritten are few number made hand entry added within enabled guessed passes =
-              let more = next-done ds n h.m in
-              let scene = next-stepped ds n h.m state' state'' rest' cards' (next-scene h.m state state' rest rest' cards cards' h.scene came) made in
-              record {
-                m = next_moment ds n (standing_at h.m);
-                b = next_state h.m;
-                was = ap (λ (u : Machine). u.enabled) next ∙ sym enabled;
+        pub goes : (u : OutputState) (x : Unit {0}) (d : Account)
+            → WritesLines t u (kept_lines a'.k a'.last (segment_end_at left h.m) ++ segment_lines ds n a'.k h.b h.m) (Ok x)
+            → c.words.items ≡ a'.state.words → c.sums ≡ a'.sums → length c.words.items ≡ words_of_storage → AreDelaysUpTo 255 ds → n ≤ 8 → AllPass is_signal ys
+            → ((p : Standing) (end : Option ℕ) → c.k ≢ 0 → IsStanding p c.state c.last → kept_lines d.k d.last end ≡ lines_of_entry ds n end p)
+            → d.state ≡ step c.state → ((p : Standing) → IsStanding p c.state c.last → IsLast ds n (next_moment ds n p) d.last d.log)
+            → ((p : Standing) (x : Stage) → IsStanding p c.state c.last → sum_at x d.sums ≡ sum_at x c.sums + ticks_for x (charges_at ds n p))
+            → AreWithin d.last.tick d.sums → d.last.enabled ≡ c.state.enabled → guessing d.last.ic d.state ≡ guess (interrupt c.state) c.state
+            → ((w : ℕ) → 32 ≤ w → IsNotAmong w d.last.plan.writes → word d.state w ≡ word c.state w) → d.words.items ≡ c.words.items → d.k ≡ c.k
+            → IsRunning s u all ds n total d ys cards' (left - 1)
+        goes u x d writes words sums size are few passes entry made hand added within enabled guessed unwritten kept_words segment' =
+            let m' = next_moment ds n (standing_at h.m) in
+            let bounds = next-is 255 n ds are few h.m h.bounds in
+            let more = next-done ds n h.m in
+            let scene = next-stepped ds n h.m a'.state d.state ys cards' behind.scene (made ∙ ap step state) in
+            let here : next_state h.m ≡ c.state = next ∙ sym state in
+            let stored : d.words.items ≡ (next_state h.m).words = kept_words ∙ words ∙ ap (λ (u : Machine). u.words) (sym next) in
+            record {
+              m = m';
+              b = next_state h.m;
+              at = record {
                 scene = scene;
+                each = bounds.scene.cards;
                 hand = hand (standing_at h.m) stands;
-                guessed = λ some.
-                    ap (λ c. guessing last''.ic c.machine) scene ∙ guessed ∙ ap (λ u. guess (interrupt u) u) (sym next);
-                bounds = next-is 255 n ds are few h.m h.bounds;
-                at = next-at ds n (standing_at h.m);
-                time = next-time 255 n ds are few h.m h.bounds h.time;
-                so_far = subst (λ j. LinesSoFar s v all (lines_from ds n (left - 1) j (next_state h.m) (next_moment ds n (standing_at h.m)))) (sym number)
-                    (turn-made ds n left k h.b h.m s t all h.so_far some on u v x y segment (entry (standing_at h.m) stands));
-                number = number-next k k' h.m h.m.scene.machine.done _ number h.number more;
-                few = omega (arith, more, h.few, some);
-                within = within;
-                sum = λ z. sums-next ds n left h.m z (sum_at z sums) (sum_at z sums') (total z) some on (h.sum z) (added (standing_at h.m) z stands);
-                passes = passes;
-                size = size;
-                words = λ some. words ∙ ap (λ (u : Machine). u.words) (sym next);
-                unwritten = λ some w above among. unwritten w above among ∙ ap (λ (u : Machine). word u w) (sym next);
-              }
+                was = ap (λ (u : Machine). u.enabled) here ∙ sym enabled;
+                guessed = λ later. ap (λ (c : Scene). guessing d.last.ic c.machine) scene ∙ guessed ∙ ap (λ u. guess (interrupt u) u) (sym here);
+                words = λ later. stored;
+                unwritten = λ later w above among. unwritten w above among ∙ ap (λ (u : Machine). word u w) (sym here);
+              };
+              bounds = bounds;
+              meets = next-at ds n (standing_at h.m);
+              time = next-time 255 n ds are few h.m h.bounds h.time;
+              so_far = subst (LinesSoFar s u all)
+                  (ap (λ ls. ls ++ lines_from ds n (left - 1) (segment_after a.k h.m) (next_state h.m) m')
+                  (sym (entry (standing_at h.m) (segment_end_at (left - 1) m') (number-some a.k c.k h.m after) stands))
+                  ∙ ap (λ k. kept_lines d.k d.last (segment_end_at (left - 1) m') ++ lines_from ds n (left - 1) k (next_state h.m) m') (sym (segment' ∙ after)))
+                  (turn-made ds n left a.k h.b h.m s t all (kept_lines a.k a.last (segment_end_at left h.m)) h.so_far some on u x (crossed u (Ok x) writes));
+              number = number-next a.k d.k h.m h.m.scene.machine.done _ (segment' ∙ after) h.number more;
+              few = omega (arith, more, h.few, some);
+              within = within;
+              sum = λ z. sums-next ds n left h.m z (sum_at z a.sums) (sum_at z d.sums) (total z) some on (h.sum z)
+                  (added (standing_at h.m) z stands ∙ ap (λ t. sum_at z t + ticks_for z (charges_at ds n (standing_at h.m))) (sums ∙ ap (λ (x : Account). x.sums) same));
+              passes = passes;
+              size = ap length kept_words ∙ size;
+            }

@@ -1,8 +1,10 @@
 -- What is at hand of a moment of a run, besides its scene. The machine has the delays ds and n
 -- levels.
-use Rattle.std.specs.Prelude.{ℕ, suc, ◌≡◌, ◌<◌, ◌≤◌, ◌^◌, length, true, false, not, ◌&&◌, nat_le, is_none, Bool, List, [], ◌∷◌, ◌++◌, map, None, Result, Ok, Err}
-use Rattle.st_banks.specs.declared.answers.LastAnswers.{LastAnswers}
-use Rattle.st_state.specs.Machine.{Machine}
+use Rattle.std.specs.Prelude.{ℕ, suc, ◌≡◌, ◌≢◌, ◌<◌, ◌≤◌, ◌^◌, length, true, false, not, ◌&&◌, nat_le, nat_eq, if◌then◌else◌, is_none, Bool, List, [], ◌∷◌, ◌++◌, map, slice_index, All, Option, None}
+use Rattle.st_bits.specs.declared.limits.TheConstants.{WORDS}
+use Rattle.st_state.specs.Machine.{Machine, word}
+use Rattle.st_exec.specs.Ahead.{IsNotAmong}
+use Rattle.st_exec.specs.Completion.{guess}
 use Rattle.st_rows.specs.Asked.{Read, bus_after_reads, made_before}
 use Rattle.st_rows.specs.Notes.{IsLogged}
 use Rattle.st_rows.specs.Ranges.{IsNear}
@@ -11,10 +13,15 @@ use Rattle.st_rows.specs.declared.log.Made.{Made}
 use Rattle.st_segment.specs.Ahead.{ahead, prepared_before, reads_before}
 use Rattle.st_exec.specs.Step.{interrupt}
 use Rattle.st_card.specs.declared.control_cards.Signal.{Signal}
-use Rattle.st_run.specs.Moments.{Moment, Standing, next_state, has_card, has_waited, ends_segment}
+use Rattle.st_run.specs.Moments.{Moment, Standing, next_scene, has_card, has_waited}
+use Rattle.st_run.specs.Reached.{IsCard}
+use Rattle.st_lines.specs.Changes.{IsLeft}
+use Rattle.st_lines.specs.EntryLines.{done_entry_lines}
 use Rattle.st_plain.specs.Looking.{seen_ahead}
-use Rattle.st_plain.specs.declared.looking.Ahead.{Ahead}
+use Rattle.st_account.specs.declared.account.Account.{Account}
 use Rattle.st_account.specs.declared.last.Last.{Last}
+use Rattle.st_account.specs.Settling.{at_hand}
+use Rattle.st_account.specs.Text.{late_at, words_behind, segment_ends}
 
 -- the state from which guessed steps go on: the counter is that of the guess
 abbrev pub guessing : ℕ → Machine → Machine
@@ -58,18 +65,52 @@ pub record IsStanding (p : Standing) (s : Machine) (l : Last) : Type 0 where
   pub tick : p.tick ≡ l.tick
   pub front : p.front ≡ l.front
 
--- what comes behind the moment is over, with this state; this is at hand of the moment, and of what
--- came
-pub record IsBehindMoment (m : Moment) (s : Machine) (l : Last) (found : List Ahead)
-    (b : LastAnswers) (c w : Bool) : Type 0 where
-  pub tick : m.tick ≡ l.tick
-  pub front : m.front ≡ l.front
-  pub missed : m.missed ≡ l.missed
-  pub dropped : ends_segment m ≡ true → found ≡ map seen_ahead m.dropped
-  pub banks : ends_segment m ≡ true → b ≡ m.banks
-  pub state : next_state m ≡ s
-  pub card : c ≡ has_card m
-  pub waited : w ≡ has_waited m
+-- the lines of the entry that was done last, in a segment k; before the first one there are none.
+-- Its segment ends at the tick `end`, or goes on
+unfoldable pub kept_lines : ℕ → Last → Option ℕ → List (List ℕ)
+kept_lines k l end =
+    if nat_eq k 0 then []
+    else done_entry_lines (record {
+      n = l.done.n;
+      address = l.done.address;
+      row = l.done.row;
+      missed = l.missed;
+      before = l.done.before;
+      start = l.done.start;
+      end = end;
+    }) l.plan l.done.known l.uses.items
+
+-- The run stands at the moment, which the entry before made of the state b: this is at hand of it,
+-- and these signals and cards are still to come.
+pub record IsAt (ds : List ℕ) (n : ℕ) (b : Machine) (m : Moment) (a : Account) (xs : List Signal)
+    (cards : List (List ℕ)) : Type 0 where
+  pub scene : m.scene ≡ at_hand a.state xs cards
+  pub each : All IsCard m.scene.cards
+  pub hand : IsLast ds n m a.last a.log
+  pub was : b.enabled ≡ a.last.enabled
+  pub guessed : a.k ≢ 0 → guessing a.last.ic m.scene.machine ≡ guess (interrupt b) b
+  pub words : a.k ≢ 0 → a.words.items ≡ b.words
+  pub unwritten : a.k ≢ 0 → (w : ℕ) → 32 ≤ w → IsNotAmong w a.last.plan.writes →
+      word a.state w ≡ word b w
+
+-- What comes behind the moment is over, and so many entries may still be done: this is at hand of
+-- it, and of what came.
+pub record IsBehindMoment (ds : List ℕ) (n left : ℕ) (b : Machine) (m : Moment) (a : Account)
+    (xs : List Signal) (cards : List (List ℕ)) : Type 0 where
+  pub scene : next_scene m ≡ at_hand a.state xs cards
+  pub tick : m.tick ≡ a.last.tick
+  pub front : m.front ≡ a.last.front
+  pub missed : m.missed ≡ a.last.missed
+  pub was : b.enabled ≡ a.last.enabled
+  pub dropped : segment_ends left m ≡ true → a.behind.found.items ≡ map (seen_ahead ds n) m.dropped
+  pub late : segment_ends left m ≡ true → a.k ≢ 0 → a.behind.late ∷ [] ≡ late_at ds n b m
+  pub banks : segment_ends left m ≡ true → a.behind.banks ≡ m.banks
+  pub printed : a.behind.printed.items ≡ words_behind m
+  pub card : a.behind.card ≡ has_card m
+  pub waited : a.behind.waited ≡ has_waited m
+  pub words : a.k ≢ 0 → a.words.items ≡ b.words
+  pub unchanged : a.k ≢ 0 → (v : ℕ) → v < WORDS → IsLeft v a.behind.may →
+      slice_index a.words.items v ≡ word a.state v
 
 -- a signal is due
 abbrev pub has_due : List Signal → ℕ → Bool
@@ -82,8 +123,3 @@ abbrev pub still_by : Machine → Bool → List Signal → Bool
 still_by s missed xs =
     not missed && not (has_due xs s.done) && is_none s.reader && is_none s.printer && not s.waiting
     && is_none (interrupt s)
-
--- an answer without what it gives
-abbrev pub outcome_of : {X E : Type 0} → Result X E → Result (Unit {0}) E
-outcome_of (Ok x) = Ok tt
-outcome_of (Err e) = Err e

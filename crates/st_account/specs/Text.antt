@@ -16,7 +16,8 @@ use Rattle.st_ledger.specs.Charges.{ticks_for}
 use Rattle.st_ledger.specs.Ledger.{entries_of, all_charges}
 use Rattle.st_ledger.specs.Totals.{stages, sums_by, sum_lines}
 use Rattle.st_plain.specs.declared.looking.Ahead.{Ahead}
-use Rattle.st_plain.specs.Looking.{known_at, level_wait, seen_ahead, first_late}
+use Rattle.st_plain.specs.Looking.{known_at, level_wait, side_at, seen_ahead, first_late}
+use Rattle.st_plain.specs.Uses.{uses_of_entry}
 use Rattle.st_lines.specs.Lines.{start_line}
 use Rattle.st_lines.specs.EntryLines.{done_entry_lines}
 use Rattle.st_lines.specs.BorderLines.{segment_end_lines, marks_lines, state_lines, machine_lines}
@@ -30,12 +31,12 @@ use Rattle.st_account.specs.Settling.{words_printed}
 -- one that was not prepared by then; b is the state before the entry that was done
 unfoldable pub late_at : List ℕ → ℕ → Machine → Moment → List Ahead
 late_at ds n b m =
-    map seen_ahead (first_late m.tick (ahead ds n (suc n) None (guess (interrupt b) b) m.front))
+    map (seen_ahead ds n) (first_late m.tick (ahead ds n (suc n) None (guess (interrupt b) b) m.front))
 
 -- at a moment
 abbrev pub end_lines_at : List ℕ → ℕ → ℕ → Machine → Moment → List (List ℕ)
 end_lines_at ds n k b m =
-    segment_end_lines k m.tick (m.scene.machine.done + 1) (map seen_ahead m.dropped)
+    segment_end_lines k m.tick (m.scene.machine.done + 1) (map (seen_ahead ds n) m.dropped)
     (late_at ds n b m)
 
 -- where it ends
@@ -83,16 +84,36 @@ segment_lines ds n k b m =
 
 -- ---- rows
 
--- those of the next entry
-unfoldable pub lines_of_entry : List ℕ → ℕ → Standing → List (List ℕ)
-lines_of_entry ds n p =
+-- those of the next entry; its segment ends at the tick `end`, or goes on where there is none
+unfoldable pub lines_of_entry : List ℕ → ℕ → Option ℕ → Standing → List (List ℕ)
+lines_of_entry ds n end p =
     let s = p.scene.machine in
     let e = plan s (interrupt s) in
-    done_entry_lines (s.done + 1) (address s) (next_row ds n p)
-    (level_wait ds n p.front (entry (interrupt s) s)) (is_missed e s) e (known_at (interrupt s) s)
-    p.tick p.front.c
+    let x = entry (interrupt s) s in
+    done_entry_lines (record {
+      n = s.done + 1;
+      address = address s;
+      row = record { ticks = next_row ds n p; level_wait = level_wait ds n p.front x };
+      missed = is_missed e s;
+      before = p.tick;
+      start = p.front.c;
+      end = end;
+    }) e (known_at (interrupt s) s)
+    (uses_of_entry ds n p.front x (side_at (interrupt s) s) e.reads)
 
 -- ---- the end
+
+-- the run ends at a moment in which so many entries may still be done
+abbrev pub run_ends : ℕ → Moment → Bool
+run_ends left m = nat_eq left 0 || rests (next_state m)
+
+-- and so does the segment of the entry that has just been done, or it does by itself
+abbrev pub segment_ends : ℕ → Moment → Bool
+segment_ends left m = run_ends left m || ends_segment m
+
+-- the tick at which it ends, where it does
+unfoldable pub segment_end_at : ℕ → Moment → Option ℕ
+segment_end_at left m = if segment_ends left m then Some m.tick else None
 
 -- the last segment ends, and the run
 unfoldable pub last_lines : List ℕ → ℕ → ℕ → Machine → Moment → List (List ℕ)
@@ -111,9 +132,11 @@ totals_lines xs = sum_lines (sums_by (λ s. ticks_for s xs) stages)
 unfoldable pub lines_from : List ℕ → ℕ → ℕ → ℕ → Machine → Moment → List (List ℕ)
 lines_from ds n zero k b m = last_lines ds n k b m
 lines_from ds n (suc left) k b m =
+    let p = standing_at m in
+    let behind = next_moment ds n p in
     if rests (next_state m) then last_lines ds n k b m
-    else (segment_lines ds n k b m ++ lines_of_entry ds n (standing_at m))
-    ++ lines_from ds n left (segment_after k m) (next_state m) (next_moment ds n (standing_at m))
+    else (segment_lines ds n k b m ++ lines_of_entry ds n (segment_end_at left behind) p)
+    ++ lines_from ds n left (segment_after k m) (next_state m) behind
 
 -- the ledger of the run of a scene
 unfoldable pub ledger : List ℕ → ℕ → ℕ → Scene → List (List ℕ)

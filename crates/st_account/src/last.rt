@@ -1,18 +1,29 @@
 //! What is at hand when an entry has just been done.
-ghost use Rattle.std.specs.Prelude.{◌≡◌, List, suc, ◌+◌, ◌≤◌, ◌<◌, ◌^◌, ◌++◌, ◌∷◌, [], map, take, true, length, if◌then◌else◌, replicate, None, All, false};
+ghost use Rattle.std.specs.Prelude.{◌≡◌, ◌+◌, ◌≤◌, ◌^◌, if◌then◌else◌, replicate, All, false};
 ghost use Rattle.st_banks.specs.declared.answers.TheConstants.{BANKS};
-ghost use Rattle.st_rows.specs.Asked.{Read, made_before};
 ghost use Rattle.st_rows.specs.Ranges.{IsTight};
 ghost use Rattle.st_rows.specs.Rows.{opening_front};
-ghost use Rattle.st_segment.specs.Ahead.{ahead, prepared_before, reads_before};
-ghost use Rattle.st_rows.specs.declared.bus.Bus.{Bus as BusOf};
-ghost use Rattle.st_plain.specs.Looking.{seen_ahead, first_late};
-ghost use Rattle.st_account.specs.Standing.{guessing, HasReads};
 
-use st_banks::{Delays, LastAnswers};
-use st_plain::{Ahead, Aheads, look};
-use st_rows::{Front, LastEntries, Log, Past};
-use st_state::State;
+use st_banks::LastAnswers;
+use st_plain::{Known, Row, Uses};
+use st_prep::Prepared;
+use st_rows::{Front, LastEntries, Past};
+
+/// What is told of an entry that has been done, besides how it was prepared.
+#[derive(Clone, Copy, Debug, Default, PartialEq, Eq)]
+pub(crate) struct DoneEntry {
+    /// The number of its row.
+    pub n: u32,
+    /// Its half-word address.
+    pub address: u32,
+    pub row: Row,
+    /// What is known of it by itself.
+    pub known: Known,
+    /// The tick at which the entry before it was done.
+    pub before: u64,
+    /// The tick at which its segment starts, if it is the first one of that.
+    pub start: u64,
+}
 
 /// What is at hand when an entry has just been done.
 #[derive(Drop)]
@@ -29,6 +40,12 @@ pub(crate) struct Last {
     pub ic: u32,
     /// Whether interrupts were enabled before it.
     pub enabled: bool,
+    /// How it was prepared.
+    pub plan: Prepared,
+    /// What else is told of it.
+    pub done: DoneEntry,
+    /// The words that it uses.
+    pub uses: Uses,
 }
 
 // A list of eight entries as a front keeps it, the newest one first.
@@ -47,8 +64,8 @@ fn entries_of(past: &[Past; 8]) -> LastEntries
     entries
 }
 
-// The same front once more.
-fn front_of(last: &Last) -> Front
+/// The same front once more.
+pub(crate) fn front_of(last: &Last) -> Front
     requires { last.now.past ≡ last.now.front.past }
     ensures { result ≡ last.now.front }
 {
@@ -60,122 +77,6 @@ fn front_of(last: &Last) -> Front
         serial: front.serial,
         past: entries_of(&last.past),
     }
-}
-
-/// One more entry is kept, and the oldest one given up.
-pub(crate) fn put_past(past: &mut [Past; 8], newest: Past)
-    ensures { past.new ≡ newest ∷ take 7 past.old }
-{
-    let old = *past;
-    *past = [
-        newest, old[0], old[1], old[2], old[3], old[4], old[5], old[6],
-    ];
-}
-
-/// Looks at what ran ahead of the entry that has just been done, whose reads the log has: `found`
-/// are then the entries that were prepared before it was done, on a machine with `levels` levels, 1
-/// to 8, `late` is the one behind them, and the result is the last answers of the banks, where the
-/// segment ends here. The state stays as it was; the log is used up.
-pub(crate) fn look_behind(
-    state: &mut State,
-    last: &Last,
-    delays: &Delays,
-    levels: u8,
-    log: &mut Log,
-    found: &mut Aheads,
-    late: &mut Ahead,
-) -> LastAnswers
-    requires few { state.old.done + 8 < 2 ^ 63 }
-    requires tight { IsTight 255 last.now.front }
-    requires early { last.now.front.c ≤ 2 ^ 63 }
-    requires late { last.now.tick ≤ last.now.front.c }
-    requires levels { (1 ≤ levels) × (levels ≤ 8) }
-    requires past { last.now.past ≡ last.now.front.past }
-    requires counter { last.now.ic < 2 ^ 19 }
-    requires none { length found.old.items ≡ 0 }
-
-    ensures state { state.new ≡ state.old }
-    ensures found { found.new.items ≡ map seen_ahead (prepared_before last.now.tick
-        (ahead delays.now levels levels None (guessing last.now.ic state.old) last.now.front)) }
-    ensures late { late.new ∷ [] ≡ map seen_ahead (first_late last.now.tick
-        (ahead delays.now levels (suc levels) None (guessing last.now.ic state.old)
-        last.now.front)) }
-    ensures banks { (reads : List Read) (bus : BusOf) →
-        HasReads delays.now last.now.tick reads bus last.now.front.bus log.old →
-        result ≡ (made_before delays.now last.now.tick
-        (reads ++ reads_before delays.now levels last.now.tick
-        (ahead delays.now levels (suc levels) None
-        (guessing last.now.ic state.old) last.now.front)) bus).banks }
-    ensures soon { (reads : List Read) (bus : BusOf) →
-        HasReads delays.now last.now.tick reads bus last.now.front.bus log.old →
-        All (λ t. t ≤ last.now.tick + 255) result.ticks }
-    ensures few { length found.new.items ≤ 8 }
-{
-    delays.shape();
-    let ic = state.ic;
-    let tick = last.tick;
-    let mut front = front_of(last);
-    state.ic = last.ic;
-    state.shape();
-    look(
-        state,
-        &mut front,
-        delays,
-        levels as usize,
-        levels,
-        tick,
-        log,
-        found,
-        late,
-    );
-    state.ic = ic;
-    let mut banks = front.bus.banks;
-    log.undo(&mut banks, tick);
-    banks
-}
-
-/// The same where it is asked for, whatever was found before; else no entry is found, and the banks
-/// have no answers.
-pub(crate) fn look_if(
-    looks: bool,
-    state: &mut State,
-    last: &Last,
-    delays: &Delays,
-    levels: u8,
-    log: &mut Log,
-    found: &mut Aheads,
-    late: &mut Ahead,
-) -> LastAnswers
-    requires few { state.old.done + 8 < 2 ^ 63 }
-    requires tight { IsTight 255 last.now.front }
-    requires early { last.now.front.c ≤ 2 ^ 63 }
-    requires late { last.now.tick ≤ last.now.front.c }
-    requires levels { (1 ≤ levels) × (levels ≤ 8) }
-    requires past { last.now.past ≡ last.now.front.past }
-    requires counter { last.now.ic < 2 ^ 19 }
-
-    ensures state { state.new ≡ state.old }
-    ensures found { looks ≡ true → found.new.items ≡ map seen_ahead (prepared_before last.now.tick
-        (ahead delays.now levels levels None (guessing last.now.ic state.old) last.now.front)) }
-    ensures late { looks ≡ true → late.new ∷ [] ≡ map seen_ahead (first_late last.now.tick
-        (ahead delays.now levels (suc levels) None (guessing last.now.ic state.old)
-        last.now.front)) }
-    ensures banks { (reads : List Read) (bus : BusOf) → looks ≡ true →
-        HasReads delays.now last.now.tick reads bus last.now.front.bus log.old →
-        result ≡ (made_before delays.now last.now.tick
-        (reads ++ reads_before delays.now levels last.now.tick
-        (ahead delays.now levels (suc levels) None
-        (guessing last.now.ic state.old) last.now.front)) bus).banks }
-    ensures soon { (reads : List Read) (bus : BusOf) →
-        HasReads delays.now last.now.tick reads bus last.now.front.bus log.old →
-        All (λ t. t ≤ last.now.tick + 255) result.ticks }
-    ensures few { length found.new.items ≤ 8 }
-{
-    found.clear();
-    if !looks {
-        return LastAnswers::new();
-    }
-    look_behind(state, last, delays, levels, log, found, late)
 }
 
 /// What is at hand before the first entry of a run, whose counter is given, and whether interrupts
@@ -198,6 +99,9 @@ pub(crate) fn at_start(ic: u32, enabled: bool) -> Last
         missed: false,
         ic,
         enabled,
+        plan: Prepared::default(),
+        done: DoneEntry::default(),
+        uses: Uses::new(),
     }
 }
 
@@ -210,8 +114,10 @@ pub(crate) fn open_segment(last: &mut Last, banks: LastAnswers, dropped: u64)
     ensures front { last.new.front ≡ opening_front banks (last.old.tick + 1 + dropped) }
     ensures past { last.new.past ≡ last.new.front.past }
     ensures tight { IsTight 255 last.new.front }
-    ensures tick { last.new.tick ≡ last.old.tick }
-    ensures missed { last.new.missed ≡ last.old.missed }
+    ensures rest { last.new ≡ record last.old {
+      front = last.new.front;
+      past = last.new.past;
+    } }
 {
     let start = last.tick + 1 + dropped;
     last.front = Front::new(banks, start);
@@ -231,8 +137,10 @@ pub(crate) fn open_if(ends: bool, last: &mut Last, banks: LastAnswers, dropped: 
         ≡ (if ends then opening_front banks (last.old.tick + 1 + dropped) else last.old.front) }
     ensures past { last.new.past ≡ last.new.front.past }
     ensures tight { IsTight 255 last.new.front }
-    ensures tick { last.new.tick ≡ last.old.tick }
-    ensures missed { last.new.missed ≡ last.old.missed }
+    ensures rest { last.new ≡ record last.old {
+      front = last.new.front;
+      past = last.new.past;
+    } }
     ensures order { last.new.tick ≤ last.new.front.c }
     ensures bound { last.new.front.c ≤ last.new.tick + 9 }
 {

@@ -1,12 +1,17 @@
 //! The ledger of a run: where its ticks went, line by line. `docs/ledger.md` has the rules.
 #![tactic(auto, using(st_bits::specs::Storage::words_of_storage_is))]
 
+mod account;
+mod behind;
 mod last;
 mod program;
 mod running;
 mod settling;
 mod status;
+mod stepping;
+mod timing;
 
 pub use program::ledger;
-pub use running::write_ledger;
+pub use running::{Ready, write_ledger};
 pub use status::Status;
+pub use timing::Timing;

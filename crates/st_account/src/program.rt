@@ -15,12 +15,13 @@ ghost use Rattle.st_run.specs.Reached.{IsCard};
 ghost use Rattle.st_state.specs.Machine.{opening_state};
 ghost use Rattle.st_account.specs.Answers.{levels_by, levels_asked, lines_by, status_by, ledger_lines_of, status_of, Writes, Did, IsAnswer};
 
-use crate::running::write_ledger;
+use crate::running::{Ready, write_ledger};
 use crate::status::Status;
+use crate::timing::Timing;
 use st_asm::{AsmError, Assembled, assemble_cards};
 use st_banks::Delays;
 use st_bits::NoMemory;
-use st_card::{Card, Controls, Fault, Signal, split};
+use st_card::{Card, Controls, Fault, split};
 use st_exch::Hopper;
 use st_io::{Failed, ReadError, Sink, Source, read_all};
 use st_lines::put;
@@ -80,27 +81,6 @@ fn refuse<K: Sink>(out: &mut K, card: u32, fault: Fault) -> Status
     }
 }
 
-// The signals that are asked for.
-fn signals(controls: &Controls) -> &[Signal]
-    ensures { result.now ≡ controls.now.signals }
-{
-    controls.signals.as_slice()
-}
-
-// The delays of storage that are asked for.
-fn list(controls: &Controls) -> &[u8]
-    ensures { result.now ≡ controls.now.delays }
-{
-    controls.delays.as_slice()
-}
-
-// The most instructions of a run.
-fn budget(controls: &Controls) -> u64
-    ensures { result ≡ controls.now.budget }
-{
-    controls.budget
-}
-
 // The delays of storage that are asked for, ready for use.
 fn delays(alloc: Global, controls: &Controls) -> Result<Delays, NoMemory>
     requires some { 1 ≤ length controls.now.delays }
@@ -132,42 +112,34 @@ fn words(alloc: Global, image: &[u64]) -> Result<Vec<u64>, NoMemory>
     }
 }
 
-// A run that is ready to be written.
-#[derive(Drop)]
-struct Ready {
-    state: State,
-    words: Vec<u64>,
-    hopper: Hopper,
-    delays: Delays,
-}
-
-// Takes all memory of a run.
+// Takes all memory of a run on a machine with so many levels.
 fn prepare(
     alloc: Global,
+    levels: u8,
     job: &[u8],
     cards: &[Card],
-    image: &[u64],
-    start: u32,
-    controls: &Controls,
+    program: &Assembled,
 ) -> Result<Ready, NoMemory>
     requires cards { cards.now ≡ cards_of job.now }
-    requires whole { length image.now ≡ words_of_storage }
-    requires registers { (w : ℕ) → w < FIRST_STORAGE_WORD → slice_index image.now w ≡ 0 }
-    requires counter { start < 2 ^ 19 }
-    requires limits { IsWithinLimits controls.now }
-    requires delays { 1 ≤ length controls.now.delays }
+    requires sound { IsAssemblySound (length (cards_of job.now)) (assembly_parts program.now) }
 
-    ensures state { IfOk result (λ r. r.state ≡ opening_state image.now start) }
+    ensures state { IfOk result (λ r. r.state ≡ opening_state program.now.image.items
+        program.now.start) }
     ensures words { IfOk result (λ r. length r.words.items ≡ words_of_storage) }
-    ensures reader { IfOk result (λ r. r.hopper ≡ reader_cards job.now) }
-    ensures cards { IfOk result (λ r. All IsCard r.hopper) }
-    ensures delays { IfOk result (λ r. r.delays ≡ controls.now.delays) }
+    ensures reader { IfOk result (λ r. r.cards ≡ reader_cards job.now) }
+    ensures cards { IfOk result (λ r. All IsCard r.cards) }
+    ensures delays { IfOk result (λ r. r.timing.delays ≡ program.now.controls.delays) }
+    ensures levels { IfOk result (λ r. r.timing.levels ≡ levels) }
 {
+    let image = program.image.as_slice();
     Ok(Ready {
-        state: State::new(alloc, image, start)?,
+        state: State::new(alloc, image, program.start)?,
         words: words(alloc, image)?,
-        hopper: reader(alloc, job, cards)?,
-        delays: delays(alloc, controls)?,
+        cards: reader(alloc, job, cards)?,
+        timing: Timing {
+            delays: delays(alloc, &program.controls)?,
+            levels,
+        },
     })
 }
 
@@ -186,29 +158,10 @@ fn run_program<K: Sink>(
     ensures { Writes result (K.output out.old) (K.output out.new)
         (lines_by n job.now (Ok (assembly_parts program.now))) Status.Done }
 {
-    let controls = &program.controls;
-    let image = program.image.as_slice();
-    let Ok(ready) = prepare(alloc, job, cards, image, program.start, controls) else {
+    let Ok(ready) = prepare(alloc, n, job, cards, program) else {
         return Status::NoMemory;
     };
-    let Ready {
-        mut state,
-        mut words,
-        mut hopper,
-        delays,
-    } = ready;
-    let written = write_ledger(
-        out,
-        &mut state,
-        signals(controls),
-        &mut hopper,
-        list(controls),
-        &delays,
-        n,
-        budget(controls),
-        &mut words,
-    );
-    match written {
+    match write_ledger(out, ready, &program.controls) {
         Ok(()) => Status::Done,
         Err(_) => Status::WriteFault,
     }

@@ -7,6 +7,7 @@ ghost use Rattle.st_exec.specs.Step.{rests};
 ghost use Rattle.st_run.specs.Run.{with_due_signals, with_reader, with_printer, if_due, with_due_orders, with_order_at_rest, interlude};
 ghost use Rattle.st_account.specs.Settling.{at_hand, with_orders_at_rest, words_printed};
 
+use crate::stepping::either;
 use st_card::Signal;
 use st_exch::Hopper;
 use st_exec::{is_at_rest, print_out, read_in};
@@ -123,13 +124,6 @@ fn serve_at_rest(state: &mut State, cards: &mut Hopper, printed: &mut Printed) -
             false
         }
     }
-}
-
-// Whether one of both is so.
-fn either(one: bool, two: bool) -> bool
-    ensures { result ≡ (one || two) }
-{
-    one || two
 }
 
 // The orders take effect that end a wait. The result says whether a card came.

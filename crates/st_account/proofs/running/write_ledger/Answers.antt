@@ -1,20 +1,23 @@
-use Rattle.std.proofs.Common.{refl}
+use Rattle.std.proofs.Common.{refl, sym, ◌∙◌}
 use Rattle.st_account.specs.Settling.{at_hand}
 use Rattle.st_account.proofs.LedgerLemmas.{machine-fails, run-fails, all-written}
 use Rattle.st_account.proofs.running.write_ledger.Goals as goal
 
 pub returns-in_err-write_machine : goal.returns-in_err-write_machine
 returns-in_err-write_machine g c =
-    machine-fails c.args.delays.now c.args.levels c.args.budget (at_hand c.args.state.now c.args.signals.now c.args.cards.now) _ _ c.args.list.now c.requires.list
+    machine-fails c.args.ready.timing.delays c.args.ready.timing.levels c.args.controls.now.budget
+    (at_hand c.args.ready.state c.args.controls.now.signals c.args.ready.cards) _ _ _ (c.list.ensures ∙ sym c.requires.delays)
     _ c.from_residual.result c.from_residual.ensures.0 c.in_err-write_machine.ensures
 
 pub returns-in_err-write_run : goal.returns-in_err-write_run
 returns-in_err-write_run g c =
-    run-fails c.args.delays.now c.args.levels c.args.budget (at_hand c.args.state.now c.args.signals.now c.args.cards.now) _ _ c.args.list.now c.requires.list
+    run-fails c.args.ready.timing.delays c.args.ready.timing.levels c.args.controls.now.budget
+    (at_hand c.args.ready.state c.args.controls.now.signals c.args.ready.cards) _ _ _ (c.list.ensures ∙ sym c.requires.delays)
     _ _ _ c.from_residual-in_err-write_run.result c.from_residual-in_err-write_run.ensures.0 c.in_ok-write_machine.ensures c.in_err-write_run.ensures.lines
 
 pub returns : goal.returns
 returns g c =
-    all-written c.args.delays.now c.args.levels c.args.budget (at_hand c.args.state.now c.args.signals.now c.args.cards.now) _ _ c.args.list.now c.requires.list
+    all-written c.args.ready.timing.delays c.args.ready.timing.levels c.args.controls.now.budget
+    (at_hand c.args.ready.state c.args.controls.now.signals c.args.ready.cards) _ _ _ (c.list.ensures ∙ sym c.requires.delays)
     _ _ _ _ c.write_sums.result c.write_run.new.sums c.in_ok-write_machine.ensures c.in_ok-write_run.ensures.lines
     (λ stage. c.in_ok-write_run.ensures.sums stage refl) c.write_sums.ensures

@@ -8,9 +8,11 @@ use Rattle.st_account.proofs.running.write_run.Given as goal
 
 abbrev pub invariant-entries : goal.invariant-entries
 invariant-entries g l =
-    let c = moment_at_start (at_hand l.fn.state l.signals l.fn.cards) in
-    IsRunning (g.K.Sink.output l.fn.out) (g.K.Sink.output l.out) (lines_from l.delays l.levels l.budget 0 l.fn.state c) l.delays l.levels
-    (λ x. ticks_for x (all_charges l.delays l.levels (entries_from l.delays l.levels l.budget c))) l.state l.rest l.cards l.last l.log l.k l.left l.sums l.old.items l.p
+    let c = moment_at_start (at_hand l.fn.ready.state l.controls.signals l.fn.ready.cards) in
+    IsRunning (g.K.Sink.output l.fn.out) (g.K.Sink.output l.out) (lines_from l.timing.delays l.timing.levels l.controls.budget 0 l.fn.ready.state c)
+    l.timing.delays l.timing.levels
+    (λ x. ticks_for x (all_charges l.timing.delays l.timing.levels (entries_from l.timing.delays l.timing.levels l.controls.budget c)))
+    l.account l.rest l.cards l.left
 
 abbrev pub decreases-entries : goal.decreases-entries
 decreases-entries g l = l.left

@@ -1,7 +1,7 @@
 use Rattle.std.proofs.Common.{◌∙◌, ap, if◌then◌else◌}
 use Rattle.st_prep.specs.declared.entries.Prepared.{Prepared}
 use Rattle.st_account.proofs.LastLemmas.{guess-is}
-use Rattle.st_account.proofs.running.execute.Goals as goal
+use Rattle.st_account.proofs.stepping.execute.Goals as goal
 
 pub returns-clause-guess : goal.returns-clause-guess
 returns-clause-guess c =

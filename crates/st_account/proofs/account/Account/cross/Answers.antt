@@ -1,0 +1,48 @@
+use Rattle.std.proofs.Common.{length, ◌∙◌, ap}
+use Rattle.st_io.proofs.Progress.{lines_cut, lines_then}
+use Rattle.st_lines.proofs.LineLemmas.{same_lines}
+use Rattle.st_account.specs.declared.account.Account.{Account}
+use Rattle.st_account.proofs.BorderLemmas.{segment-is, front-after, row-same, crossed}
+use Rattle.st_account.proofs.account.Account.cross.Goals as goal
+
+pub returns-in_err-write_row-clause-lines : goal.returns-in_err-write_row-clause-lines
+returns-in_err-write_row-clause-lines g c ds n left b m xs cards is going =
+    lines_cut _ _ _ _ _ c.from_residual.result c.from_residual.ensures.0
+    (same_lines _ _ _ _ _
+    (row-same ds n left b m c.args.self.now xs cards is c.open-border.new.self c.open-border.result c.open-border.ensures.rest c.open-border.ensures.border
+    c.open-border.ensures.ends c.open-border.ensures.begins going c.open-border.ensures.last c.end_of.result c.end_of.ensures) c.in_err-write_row.ensures)
+
+pub returns-in_err-write_row-clause-number : goal.returns-in_err-write_row-clause-number
+returns-in_err-write_row-clause-number g c ds n left b m xs cards is =
+    segment-is ds n left b m c.args.self.now xs cards is c.open-border.new.self c.open-border.result c.open-border.ensures.rest c.open-border.ensures.border
+    c.open-border.ensures.ends c.open-border.ensures.begins c.open-border.ensures.segment
+
+pub returns-in_err-write_row-clause-front : goal.returns-in_err-write_row-clause-front
+returns-in_err-write_row-clause-front g c ds n left b m xs cards is going =
+    front-after ds n left b m c.args.self.now xs cards is c.open-border.new.self c.open-border.result c.open-border.ensures.rest c.open-border.ensures.border
+    c.open-border.ensures.ends c.open-border.ensures.begins c.open-border.ensures.front
+
+pub returns-clause-lines : goal.returns-clause-lines
+returns-clause-lines g c ds n left b m xs cards is going =
+    lines_then _ _ _ _ _ _ _
+    (same_lines _ _ _ _ _
+    (row-same ds n left b m c.args.self.now xs cards is c.open-border.new.self c.open-border.result c.open-border.ensures.rest c.open-border.ensures.border
+    c.open-border.ensures.ends c.open-border.ensures.begins going c.open-border.ensures.last c.end_of.result c.end_of.ensures) c.in_ok-write_row.ensures)
+    (same_lines _ _ _ _ _
+    (crossed ds n left b m c.args.self.now xs cards is c.open-border.new.self c.open-border.result c.open-border.ensures.rest c.open-border.ensures.border
+    c.open-border.ensures.ends c.open-border.ensures.begins c.as_slice.result.now c.as_slice.ensures.value
+    (front-after ds n left b m c.args.self.now xs cards is c.open-border.new.self c.open-border.result c.open-border.ensures.rest c.open-border.ensures.border
+    c.open-border.ensures.ends c.open-border.ensures.begins c.open-border.ensures.front)) c.write_border.ensures.lines)
+
+pub returns-clause-number : goal.returns-clause-number
+returns-clause-number g c ds n left b m xs cards is =
+    segment-is ds n left b m c.args.self.now xs cards is c.open-border.new.self c.open-border.result c.open-border.ensures.rest c.open-border.ensures.border
+    c.open-border.ensures.ends c.open-border.ensures.begins c.open-border.ensures.segment
+
+pub returns-clause-front : goal.returns-clause-front
+returns-clause-front g c ds n left b m xs cards is going =
+    front-after ds n left b m c.args.self.now xs cards is c.open-border.new.self c.open-border.result c.open-border.ensures.rest c.open-border.ensures.border
+    c.open-border.ensures.ends c.open-border.ensures.begins c.open-border.ensures.front
+
+pub returns-clause-size : goal.returns-clause-size
+returns-clause-size g c good = ap length (c.write_border.ensures.words good) ∙ ap (λ (x : Account). length x.state.words) c.open-border.ensures.rest ∙ c.shape.ensures.size

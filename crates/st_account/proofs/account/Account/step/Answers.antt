@@ -1,0 +1,62 @@
+use Rattle.std.proofs.Common.{◌∙◌, ap, subst}
+use Rattle.st_exec.specs.Ahead.{IsNotAmong}
+use Rattle.st_exec.specs.Completion.{guess}
+use Rattle.st_rows.proofs.Within.{AreDelays-list}
+use Rattle.st_segment.proofs.EntryRanges.{entry-ranges}
+use Rattle.st_account.specs.declared.last.Last.{Last}
+use Rattle.st_account.proofs.EntryLemmas.{entry-lines, entry-last, entry-sums, entry-within, entry-step, kept-some}
+use Rattle.st_account.proofs.LeftLemmas.{entry-left}
+use Rattle.st_account.proofs.account.Account.step.Goals as goal
+
+pub returns-clause-lines : goal.returns-clause-lines
+returns-clause-lines c p end some is =
+    let rest = c.execute.ensures.rest in
+    kept-some _ _ end some
+    ∙ entry-lines c.args.timing.now.delays c.args.timing.now.levels p end c.args.self.now.state c.args.self.now.last c.interrupt-taken.result _ _ _ _ _ _ _ _ _ is
+    c.interrupt-taken.ensures.value
+    (ap (λ (l : Last). l.done.address) rest ∙ c.count_on.ensures.address ∙ c.next_address-self.ensures.value)
+    (ap (λ (l : Last). l.done.row.ticks) rest ∙ c.count_on.ensures.row)
+    (ap (λ (l : Last). l.done.row.level_wait) rest ∙ c.count_on.ensures.wait)
+    (ap (λ (l : Last). l.done.n) rest ∙ c.count_on.ensures.number ∙ c.row_number-self.ensures)
+    (ap (λ (l : Last). l.missed) rest)
+    (ap (λ (l : Last). l.plan) rest ∙ c.count_on.ensures.plan)
+    (ap (λ (l : Last). l.done.known) rest ∙ c.count_on.ensures.known)
+    (ap (λ (l : Last). l.done.before) rest ∙ c.count_on.ensures.before)
+    (ap (λ (l : Last). l.done.start) rest ∙ c.count_on.ensures.start)
+    (ap (λ (l : Last). l.uses.items) rest ∙ c.count_on.ensures.uses)
+
+pub returns-clause-state : goal.returns-clause-state
+returns-clause-state c = entry-step c.args.self.now.state _ c.interrupt-taken.result c.interrupt-taken.ensures.value c.execute.ensures.state
+
+pub returns-clause-last : goal.returns-clause-last
+returns-clause-last c p is =
+    entry-last c.args.timing.now.delays (AreDelays-list c.args.timing.now.delays c.shape.ensures) c.args.timing.now.levels p c.args.self.now.state
+    c.execute.new.state c.args.self.now.last
+    c.count_on.new.last c.execute.new.last c.count_on.new.log c.interrupt-taken.result c.count_on.new.last.done.row.ticks is c.requires.tight c.interrupt-taken.ensures.value
+    (entry-ranges c.interrupt-taken.result c.args.self.now.state c.shape-2.ensures c.interrupt-taken.ensures.bound) c.execute.ensures.state c.execute.ensures.guess
+    c.execute.ensures.counter c.count_on.ensures.row c.count_on.ensures.tick c.count_on.ensures.front c.count_on.ensures.log
+    c.count_on.ensures.past c.execute.ensures.rest
+
+pub returns-clause-sums : goal.returns-clause-sums
+returns-clause-sums c p s is =
+    entry-sums c.args.timing.now.delays c.args.timing.now.levels p c.args.self.now.state c.args.self.now.last c.interrupt-taken.result
+    c.count_on.new.last.done.row.ticks s _ _ is
+    c.interrupt-taken.ensures.value c.count_on.ensures.row (c.add_row.ensures.sums s)
+
+pub returns-clause-within : goal.returns-clause-within
+returns-clause-within c =
+    entry-within c.args.timing.now.delays c.args.timing.now.levels c.args.self.now.state c.args.self.now.last c.execute.new.last.tick c.interrupt-taken.result
+    c.count_on.new.last.done.row.ticks _
+    c.requires.order c.count_on.ensures.row (ap (λ (l : Last). l.tick) c.execute.ensures.rest ∙ c.count_on.ensures.tick) c.add_row.ensures.within
+
+pub returns-clause-enabled : goal.returns-clause-enabled
+returns-clause-enabled c = ap (λ (l : Last). l.enabled) c.execute.ensures.rest
+
+pub returns-clause-guess : goal.returns-clause-guess
+returns-clause-guess c =
+    c.execute.ensures.guess ∙ ap (λ t. guess t c.args.self.now.state) c.interrupt-taken.ensures.value
+
+pub returns-clause-left : goal.returns-clause-left
+returns-clause-left c w above among =
+    entry-left c.args.self.now.state _ c.interrupt-taken.result c.count_on.new.last.plan c.shape-2.ensures c.count_on.ensures.prepared
+    c.count_on.ensures.plan c.execute.ensures.state w above (subst (λ (l : Last). IsNotAmong w l.plan.writes) c.execute.ensures.rest among)

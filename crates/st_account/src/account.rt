@@ -1,0 +1,457 @@
+//! The ledger of a run as far as it is written, and how it goes on from one entry to the next.
+ghost use Rattle.std.specs.Prelude.{◌≡◌, ◌≢◌, List, true, false, ℕ, ◌+◌, ◌<◌, ◌≤◌, ◌^◌, ◌∷◌, ◌++◌, ◌||◌, nat_eq, suc, [], if◌then◌else◌, length, map, replicate, All, IsOk, is_some, None, Option, slice_index};
+ghost use Rattle.std.specs.List.{AllPass};
+ghost use Rattle.st_bits.specs.declared.limits.TheConstants.{MOST_INSTRUCTIONS, WORDS};
+ghost use Rattle.st_bits.specs.Storage.{words_of_storage};
+ghost use Rattle.st_banks.specs.declared.answers.TheConstants.{BANKS};
+ghost use Rattle.st_card.specs.Limits.{is_signal};
+ghost use Rattle.st_card.specs.declared.control_cards.Signal.{Signal as SignalOf};
+ghost use Rattle.st_exec.specs.Ahead.{IsNotAmong};
+ghost use Rattle.st_exec.specs.Completion.{guess as guess_of};
+ghost use Rattle.st_exec.specs.Step.{step as step_of, interrupt as interrupt_of, rests};
+ghost use Rattle.st_io.specs.Lines.{WritesLines};
+ghost use Rattle.st_ledger.specs.Charges.{ticks_for};
+ghost use Rattle.st_ledger.specs.Ledger.{charges_at};
+ghost use Rattle.st_ledger.specs.Totals.{sum_at, AreWithin};
+ghost use Rattle.st_ledger.specs.declared.charges.Stage.{Stage};
+ghost use Rattle.st_lines.specs.Changes.{IsLeft};
+ghost use Rattle.st_lines.specs.declared.lines.Why.TheVariants.{Run as RunBegins};
+ghost use Rattle.st_plain.specs.Looking.{seen_ahead, first_late};
+ghost use Rattle.st_rows.specs.Asked.{Read, made_before};
+ghost use Rattle.st_rows.specs.Ranges.{IsTight};
+ghost use Rattle.st_rows.specs.Rows.{opening_front};
+ghost use Rattle.st_rows.specs.declared.bus.Bus.{Bus as BusOf};
+ghost use Rattle.st_run.specs.Moments.{Moment, Standing, next_front, next_moment};
+ghost use Rattle.st_segment.specs.Ahead.{ahead, prepared_before, reads_before};
+ghost use Rattle.st_state.specs.Machine.{Machine, word};
+ghost use Rattle.st_account.specs.Text.{why_by, run_ends, segment_end_at, segment_after, segment_lines, lines_of_entry, last_lines};
+ghost use Rattle.st_account.specs.Standing.{guessing, kept_lines, HasReads, IsLast, IsStanding, IsAt, IsBehindMoment};
+
+use crate::behind::{Behind, look_behind, nothing_came};
+use crate::last::{Last, at_start, open_if};
+use crate::settling::settle;
+use crate::stepping::{
+    changeable, count_on, done_of, either, end_of, execute, is_end, is_end_near, is_still,
+    next_number, row_number, why_of,
+};
+use crate::timing::Timing;
+use st_banks::LastAnswers;
+use st_card::Signal;
+use st_exch::Hopper;
+use st_exec::{interrupt, is_at_rest, next_address};
+use st_io::{Failed, Sink};
+use st_ledger::Totals;
+use st_lines::{
+    Border, EntryDone, counter_of, is_enabled, write_border, write_done, write_end, write_marks,
+    write_totals,
+};
+use st_rows::Log;
+use st_state::State;
+
+/// The ledger of a run as far as it is written: the lines of the entry that was done last, and all
+/// that comes behind them, are to be written.
+#[derive(Drop)]
+pub(crate) struct Account {
+    /// The state that the last entry has left, and then what came behind it.
+    pub state: State,
+    /// The words of storage and the registers, as they were told last.
+    pub words: Vec<u64>,
+    /// What is at hand of the last entry.
+    pub last: Last,
+    /// Its reads.
+    pub log: Log,
+    /// What came behind it.
+    pub behind: Behind,
+    /// The ticks of each stage so far.
+    pub sums: Totals,
+    /// The number of its segment, 0 before the first entry.
+    pub k: u32,
+}
+
+impl Account {
+    /// Before the first entry of a machine in which nothing has happened; the words are as many as
+    /// storage has, whatever they are.
+    pub fn new(state: State, words: Vec<u64>) -> Account
+        ensures state { result.state ≡ state }
+        ensures words { result.words.items ≡ words.items }
+        ensures tick { result.last.tick ≡ 0 }
+        ensures front { result.last.front
+            ≡ opening_front (record { ticks = replicate BANKS 0 }) 0 }
+        ensures past { result.last.past ≡ result.last.front.past }
+        ensures missed { result.last.missed ≡ false }
+        ensures counter { result.last.ic ≡ state.ic }
+        ensures below { result.last.ic < 2 ^ 19 }
+        ensures enabled { result.last.enabled ≡ state.enabled }
+        ensures tight { IsTight 255 result.last.front }
+        ensures log { result.log ≡ [] }
+        ensures none { AreWithin 0 result.sums }
+        ensures number { result.k ≡ 0 }
+    {
+        let last = at_start(counter_of(&state), is_enabled(&state));
+        Account {
+            state,
+            words,
+            last,
+            log: Log::new(),
+            behind: nothing_came(),
+            sums: Totals::default(),
+            k: 0,
+        }
+    }
+
+    // Looks at what ran ahead of the last entry, where it is asked for.
+    fn look_if(&mut self, timing: &Timing, looks: bool)
+        requires few { self.old.state.done + 8 < 2 ^ 63 }
+        requires tight { IsTight 255 self.old.last.front }
+        requires early { self.old.last.front.c ≤ 2 ^ 63 }
+        requires late { self.old.last.tick ≤ self.old.last.front.c }
+        requires levels { (1 ≤ timing.now.levels) × (timing.now.levels ≤ 8) }
+        requires past { self.old.last.past ≡ self.old.last.front.past }
+        requires counter { self.old.last.ic < 2 ^ 19 }
+
+        ensures state { self.new.state ≡ self.old.state }
+        ensures found { looks ≡ true → self.new.behind.found.items ≡ map (seen_ahead timing.now.delays timing.now.levels)
+            (prepared_before self.old.last.tick (ahead timing.now.delays timing.now.levels
+            timing.now.levels None (guessing self.old.last.ic self.old.state)
+            self.old.last.front)) }
+        ensures late { looks ≡ true → self.new.behind.late ∷ [] ≡ map (seen_ahead timing.now.delays timing.now.levels)
+            (first_late self.old.last.tick (ahead timing.now.delays timing.now.levels
+            (suc timing.now.levels) None (guessing self.old.last.ic self.old.state)
+            self.old.last.front)) }
+        ensures banks { (reads : List Read) (bus : BusOf) → looks ≡ true → HasReads
+            timing.now.delays self.old.last.tick reads bus self.old.last.front.bus self.old.log →
+            self.new.behind.banks ≡ (made_before timing.now.delays self.old.last.tick
+            (reads ++ reads_before timing.now.delays timing.now.levels self.old.last.tick
+            (ahead timing.now.delays timing.now.levels (suc timing.now.levels) None
+            (guessing self.old.last.ic self.old.state) self.old.last.front)) bus).banks }
+        ensures soon { (reads : List Read) (bus : BusOf) → HasReads timing.now.delays
+            self.old.last.tick reads bus self.old.last.front.bus self.old.log →
+            All (λ t. t ≤ self.old.last.tick + 255) self.new.behind.banks.ticks }
+        ensures few { length self.new.behind.found.items ≤ 8 }
+        ensures rest { self.new ≡ record self.old {
+          state = self.new.state;
+          log = self.new.log;
+          behind = self.new.behind;
+        } }
+    {
+        self.behind.found.clear();
+        self.behind.banks = LastAnswers::new();
+        if !looks {
+            return;
+        }
+        look_behind(
+            &mut self.state,
+            &self.last,
+            timing,
+            &mut self.log,
+            &mut self.behind,
+        );
+    }
+
+    /// What comes behind the last entry takes effect: of the signals and cards that are still to
+    /// come what is due, and what ends a wait. The result are the signals that are then still to
+    /// come. So many entries may still be done.
+    pub fn pass<'a>(
+        &mut self,
+        timing: &Timing,
+        left: u64,
+        signals: &'a [Signal],
+        cards: &mut Hopper,
+    ) -> &'a [Signal]
+        requires few { self.old.state.done + 8 < 2 ^ 63 }
+        requires tight { IsTight 255 self.old.last.front }
+        requires early { self.old.last.front.c ≤ 2 ^ 63 }
+        requires late { self.old.last.tick ≤ self.old.last.front.c }
+        requires levels { (1 ≤ timing.now.levels) × (timing.now.levels ≤ 8) }
+        requires past { self.old.last.past ≡ self.old.last.front.past }
+        requires counter { self.old.last.ic < 2 ^ 19 }
+        requires passes { AllPass is_signal signals.now }
+
+        ensures came { (b : Machine) (m : Moment) →
+            IsAt timing.now.delays timing.now.levels b m self.old signals.now cards.old →
+            IsBehindMoment timing.now.delays timing.now.levels left b m self.new result.now
+            cards.new }
+        ensures soon { (b : Machine) (m : Moment) →
+            IsAt timing.now.delays timing.now.levels b m self.old signals.now cards.old →
+            All (λ t. t ≤ self.old.last.tick + 255) self.new.behind.banks.ticks }
+        ensures few { length self.new.behind.found.items ≤ 8 }
+        ensures passes { AllPass is_signal result.now }
+        ensures rest { self.new ≡ record self.old {
+          state = self.new.state;
+          log = self.new.log;
+          behind = self.new.behind;
+        } }
+    {
+        let still = is_still(&self.state, self.last.missed, signals);
+        self.look_if(timing, is_end_near(left, still));
+        self.behind.may = changeable(&self.last.plan, &self.state);
+        let settled = settle(&mut self.state, signals, cards, &mut self.behind.printed);
+        self.behind.card = settled.card;
+        self.behind.waited = settled.waited;
+        settled.signals
+    }
+
+    /// Whether the run ends, where so many entries may still be done.
+    pub fn is_over(&self, left: u64) -> bool
+        ensures { result ≡ (nat_eq left 0 || rests self.now.state) }
+    {
+        left == 0 || is_at_rest(&self.state)
+    }
+
+    // Writes the lines of the last entry, whose segment, k, ends at a tick or not; before the first
+    // entry there are none.
+    fn write_row<K: Sink>(&self, out: &mut K, k: u32, end: Option<u64>) -> Result<(), Failed>
+        ensures { WritesLines (K.output out.old) (K.output out.new)
+            (kept_lines k self.now.last end) result }
+    {
+        if k == 0 {
+            return Ok(());
+        }
+        let done = EntryDone {
+            n: self.last.done.n,
+            address: self.last.done.address,
+            row: self.last.done.row,
+            missed: self.last.missed,
+            before: self.last.done.before,
+            start: self.last.done.start,
+            end,
+        };
+        write_done(
+            out,
+            &done,
+            &self.last.plan,
+            &self.last.done.known,
+            self.last.uses.as_slice(),
+        )
+    }
+
+    // What stands between the last entry and the next one; the front and the segment are then those
+    // of the next one.
+    fn open(&mut self) -> Border
+        requires few { self.old.state.done ≤ MOST_INSTRUCTIONS }
+        requires number { self.old.k ≤ MOST_INSTRUCTIONS }
+        requires early { self.old.last.tick ≤ 2 ^ 62 }
+        requires dropped { length self.old.behind.found.items ≤ 8 }
+        requires soon { All (λ t. t ≤ self.old.last.tick + 255) self.old.behind.banks.ticks }
+        requires past { self.old.last.past ≡ self.old.last.front.past }
+        requires tight { IsTight 255 self.old.last.front }
+        requires done { self.old.last.front.c ≡ self.old.last.tick }
+
+        ensures border { result ≡ record {
+          ends = result.ends;
+          begins = result.begins;
+          k = self.old.k;
+          tick = self.old.last.tick;
+          n = self.old.state.done + 1;
+          start = self.new.last.front.c;
+          waited = self.old.behind.waited;
+          why = if nat_eq self.old.k 0 then RunBegins
+              else why_by (interrupt_of self.old.state) self.old.last.missed;
+          was = self.old.last.enabled;
+          taken = interrupt_of self.old.state;
+          done = self.old.state.done;
+        } }
+        ensures ends { result.ends ≡ (self.old.last.missed || self.old.behind.card
+            || self.old.behind.waited || is_some (interrupt_of self.old.state)) }
+        ensures begins { result.begins ≡ (nat_eq self.old.k 0 || result.ends) }
+
+        ensures front { self.new.last.front ≡ (if result.ends then opening_front
+            self.old.behind.banks (self.old.last.tick + 1 + length self.old.behind.found.items)
+            else self.old.last.front) }
+        ensures past { self.new.last.past ≡ self.new.last.front.past }
+        ensures tight { IsTight 255 self.new.last.front }
+        ensures order { self.new.last.tick ≤ self.new.last.front.c }
+        ensures bound { self.new.last.front.c ≤ self.new.last.tick + 9 }
+        ensures segment { self.new.k ≡ (if result.begins then self.old.k + 1 else self.old.k) }
+        ensures last { self.new.last ≡ record self.old.last {
+          front = self.new.last.front;
+          past = self.new.last.past;
+        } }
+        ensures rest { self.new ≡ record self.old { last = self.new.last; k = self.new.k } }
+    {
+        let taken = interrupt(&self.state);
+        let missed = self.last.missed;
+        let was = self.last.enabled;
+        let tick = self.last.tick;
+        let k = self.k;
+        let ends = is_end(missed, self.behind.card, self.behind.waited, taken);
+        let begins = either(k == 0, ends);
+        open_if(
+            ends,
+            &mut self.last,
+            self.behind.banks,
+            self.behind.found.len() as u64,
+        );
+        self.k = next_number(begins, k);
+        Border {
+            ends,
+            begins,
+            k,
+            tick,
+            n: row_number(&self.state),
+            start: self.last.front.c,
+            waited: self.behind.waited,
+            why: why_of(k == 0, taken, missed),
+            was,
+            taken,
+            done: done_of(&self.state),
+        }
+    }
+
+    /// Writes the lines of the last entry and of what came behind it, and where a segment ends or
+    /// begins. The front and the segment are then those of the next entry.
+    pub fn cross<K: Sink>(&mut self, out: &mut K) -> Result<(), Failed>
+        requires few { self.old.state.done ≤ MOST_INSTRUCTIONS }
+        requires number { self.old.k ≤ MOST_INSTRUCTIONS }
+        requires early { self.old.last.tick ≤ 2 ^ 62 }
+        requires dropped { length self.old.behind.found.items ≤ 8 }
+        requires soon { All (λ t. t ≤ self.old.last.tick + 255) self.old.behind.banks.ticks }
+        requires past { self.old.last.past ≡ self.old.last.front.past }
+        requires tight { IsTight 255 self.old.last.front }
+        requires done { self.old.last.front.c ≡ self.old.last.tick }
+        requires size { length self.old.words.items ≡ words_of_storage }
+        requires left { self.old.k ≢ 0 → (v : ℕ) → v < WORDS → IsLeft v self.old.behind.may →
+            slice_index self.old.words.items v ≡ word self.old.state v }
+
+        ensures lines { (ds : List ℕ) (n left : ℕ) (b : Machine) (m : Moment)
+            (xs : List SignalOf) (cards : List (List ℕ)) →
+            IsBehindMoment ds n left b m self.old xs cards → run_ends left m ≡ false →
+            WritesLines (K.output out.old) (K.output out.new)
+            (kept_lines self.old.k self.old.last (segment_end_at left m)
+            ++ segment_lines ds n self.old.k b m) result }
+        ensures number { (ds : List ℕ) (n left : ℕ) (b : Machine) (m : Moment)
+            (xs : List SignalOf) (cards : List (List ℕ)) →
+            IsBehindMoment ds n left b m self.old xs cards →
+            self.new.k ≡ segment_after self.old.k m }
+        ensures front { (ds : List ℕ) (n left : ℕ) (b : Machine) (m : Moment)
+            (xs : List SignalOf) (cards : List (List ℕ)) →
+            IsBehindMoment ds n left b m self.old xs cards → run_ends left m ≡ false →
+            self.new.last.front ≡ next_front m }
+        ensures past { self.new.last.past ≡ self.new.last.front.past }
+        ensures tick { self.new.last.tick ≡ self.old.last.tick }
+        ensures tight { IsTight 255 self.new.last.front }
+        ensures order { self.new.last.tick ≤ self.new.last.front.c }
+        ensures bound { self.new.last.front.c ≤ self.new.last.tick + 9 }
+        ensures words { IsOk result → self.new.words.items ≡ self.old.state.words }
+        ensures size { IsOk result → length self.new.words.items ≡ words_of_storage }
+        ensures state { self.new.state ≡ self.old.state }
+        ensures sums { self.new.sums ≡ self.old.sums }
+    {
+        self.state.shape();
+        let border = self.open();
+        self.write_row(out, border.k, end_of(border.ends, border.tick))?;
+        write_border(
+            out,
+            border,
+            &self.behind.printed,
+            &mut self.words,
+            &self.state,
+            &self.behind.may,
+            self.behind.found.as_slice(),
+            &self.behind.late,
+        )
+    }
+
+    /// Writes the lines of the last entry, of what came behind it, and of the end of the run.
+    pub fn finish<K: Sink>(&mut self, out: &mut K) -> Result<(), Failed>
+        requires few { self.old.state.done ≤ MOST_INSTRUCTIONS }
+        requires dropped { length self.old.behind.found.items ≤ 8 }
+        requires size { length self.old.words.items ≡ words_of_storage }
+        requires left { self.old.k ≢ 0 → (v : ℕ) → v < WORDS → IsLeft v self.old.behind.may →
+            slice_index self.old.words.items v ≡ word self.old.state v }
+
+        ensures lines { (ds : List ℕ) (n left : ℕ) (b : Machine) (m : Moment)
+            (xs : List SignalOf) (cards : List (List ℕ)) →
+            IsBehindMoment ds n left b m self.old xs cards → run_ends left m ≡ true →
+            WritesLines (K.output out.old) (K.output out.new)
+            (kept_lines self.old.k self.old.last (segment_end_at left m)
+            ++ last_lines ds n self.old.k b m) result }
+        ensures sums { self.new.sums ≡ self.old.sums }
+    {
+        self.write_row(out, self.k, end_of(true, self.last.tick))?;
+        self.write_last(out)
+    }
+
+    // Writes what came behind the last entry, and the end of the run.
+    fn write_last<K: Sink>(&mut self, out: &mut K) -> Result<(), Failed>
+        requires few { self.old.state.done ≤ MOST_INSTRUCTIONS }
+        requires dropped { length self.old.behind.found.items ≤ 8 }
+        requires size { length self.old.words.items ≡ words_of_storage }
+        requires left { self.old.k ≢ 0 → (v : ℕ) → v < WORDS → IsLeft v self.old.behind.may →
+            slice_index self.old.words.items v ≡ word self.old.state v }
+
+        ensures lines { (ds : List ℕ) (n left : ℕ) (b : Machine) (m : Moment)
+            (xs : List SignalOf) (cards : List (List ℕ)) →
+            IsBehindMoment ds n left b m self.old xs cards → run_ends left m ≡ true →
+            WritesLines (K.output out.old) (K.output out.new)
+            (last_lines ds n self.old.k b m) result }
+        ensures sums { self.new.sums ≡ self.old.sums }
+    {
+        write_end(
+            out,
+            self.k,
+            self.last.tick,
+            row_number(&self.state),
+            self.behind.found.as_slice(),
+            &self.behind.late,
+        )?;
+        write_marks(
+            out,
+            &self.behind.printed,
+            self.k,
+            self.last.enabled,
+            &mut self.words,
+            &self.state,
+            &self.behind.may,
+        )?;
+        write_totals(
+            out,
+            is_at_rest(&self.state),
+            done_of(&self.state),
+            self.last.tick,
+        )
+    }
+
+    /// The next entry is executed; its lines are then to be written.
+    pub fn step(&mut self, timing: &Timing)
+        requires few { self.old.state.done < MOST_INSTRUCTIONS }
+        requires levels { (1 ≤ timing.now.levels) × (timing.now.levels ≤ 8) }
+        requires tight { IsTight 255 self.old.last.front }
+        requires early { self.old.last.front.c ≤ 2 ^ 63 }
+        requires order { self.old.last.tick ≤ self.old.last.front.c }
+        requires past { self.old.last.past ≡ self.old.last.front.past }
+        requires within { AreWithin self.old.last.tick self.old.sums }
+
+        ensures lines { (p : Standing) (end : Option ℕ) → self.old.k ≢ 0 →
+            IsStanding p self.old.state self.old.last → kept_lines self.new.k self.new.last end
+            ≡ lines_of_entry timing.now.delays timing.now.levels end p }
+        ensures state { self.new.state ≡ step_of self.old.state }
+        ensures last { (p : Standing) → IsStanding p self.old.state self.old.last →
+            IsLast timing.now.delays timing.now.levels
+            (next_moment timing.now.delays timing.now.levels p) self.new.last self.new.log }
+        ensures sums { (p : Standing) (s : Stage) → IsStanding p self.old.state self.old.last →
+            sum_at s self.new.sums ≡ sum_at s self.old.sums
+            + ticks_for s (charges_at timing.now.delays timing.now.levels p) }
+        ensures within { AreWithin self.new.last.tick self.new.sums }
+        ensures enabled { self.new.last.enabled ≡ self.old.state.enabled }
+        ensures guess { guessing self.new.last.ic self.new.state
+            ≡ guess_of (interrupt_of self.old.state) self.old.state }
+        ensures left { (w : ℕ) → 32 ≤ w → IsNotAmong w self.new.last.plan.writes →
+            word self.new.state w ≡ word self.old.state w }
+        ensures words { self.new.words.items ≡ self.old.words.items }
+        ensures number { self.new.k ≡ self.old.k }
+    {
+        timing.delays.shape();
+        self.state.shape();
+        let taken = interrupt(&self.state);
+        let before = self.last.tick;
+        let start = self.last.front.c;
+        self.last.done.n = row_number(&self.state);
+        self.last.done.address = next_address(&self.state);
+        self.last.done.before = before;
+        self.last.done.start = start;
+        count_on(&self.state, taken, timing, &mut self.last, &mut self.log);
+        self.sums.add_row(&self.last.done.row.ticks, before, start);
+        execute(&mut self.state, taken, &mut self.last);
+    }
+}

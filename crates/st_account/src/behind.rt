@@ -1,0 +1,111 @@
+//! What comes behind an entry that has been done, and what ran ahead of it.
+ghost use Rattle.std.specs.Prelude.{◌≡◌, List, suc, ◌+◌, ◌≤◌, ◌<◌, ◌^◌, ◌++◌, ◌∷◌, [], map, length, None, All};
+ghost use Rattle.st_rows.specs.Asked.{Read, made_before};
+ghost use Rattle.st_rows.specs.Ranges.{IsTight};
+ghost use Rattle.st_segment.specs.Ahead.{ahead, prepared_before, reads_before};
+ghost use Rattle.st_rows.specs.declared.bus.Bus.{Bus as BusOf};
+ghost use Rattle.st_plain.specs.Looking.{seen_ahead, first_late};
+ghost use Rattle.st_account.specs.Standing.{guessing, HasReads};
+
+use crate::last::{Last, front_of};
+use crate::timing::Timing;
+use st_banks::LastAnswers;
+use st_lines::{Changeable, Printed};
+use st_plain::{Ahead, Aheads, look};
+use st_rows::Log;
+use st_state::State;
+
+/// What comes behind an entry that has been done, and what ran ahead of it.
+#[derive(Drop)]
+pub(crate) struct Behind {
+    /// The entries that were prepared before it was done, the oldest first, where its segment ends.
+    pub found: Aheads,
+    /// The one behind them.
+    pub late: Ahead,
+    /// The last answers of the banks, where its segment ends.
+    pub banks: LastAnswers,
+    /// What is printed.
+    pub printed: Printed,
+    /// Whether a card came into storage.
+    pub card: bool,
+    /// Whether the machine waited once all was there that was due.
+    pub waited: bool,
+    /// The words that may have changed since the entry before it.
+    pub may: Changeable,
+}
+
+/// Nothing has come.
+pub(crate) fn nothing_came() -> Behind
+    ensures { length result.found.items ≡ 0 }
+{
+    Behind {
+        found: Aheads::new(),
+        late: Ahead::default(),
+        banks: LastAnswers::new(),
+        printed: Printed::new(),
+        card: false,
+        waited: false,
+        may: Changeable::default(),
+    }
+}
+
+/// Looks at what ran ahead of the entry that has just been done, whose reads the log has: the
+/// entries that were prepared before it was done, the one behind them, and the last answers of the
+/// banks, where the segment ends here. The state stays as it was; the log is used up.
+pub(crate) fn look_behind(
+    state: &mut State,
+    last: &Last,
+    timing: &Timing,
+    log: &mut Log,
+    behind: &mut Behind,
+)
+    requires few { state.old.done + 8 < 2 ^ 63 }
+    requires tight { IsTight 255 last.now.front }
+    requires early { last.now.front.c ≤ 2 ^ 63 }
+    requires late { last.now.tick ≤ last.now.front.c }
+    requires levels { (1 ≤ timing.now.levels) × (timing.now.levels ≤ 8) }
+    requires past { last.now.past ≡ last.now.front.past }
+    requires counter { last.now.ic < 2 ^ 19 }
+    requires none { length behind.old.found.items ≡ 0 }
+
+    ensures state { state.new ≡ state.old }
+    ensures found { behind.new.found.items ≡ map (seen_ahead timing.now.delays timing.now.levels) (prepared_before last.now.tick
+        (ahead timing.now.delays timing.now.levels timing.now.levels None
+        (guessing last.now.ic state.old) last.now.front)) }
+    ensures late { behind.new.late ∷ [] ≡ map (seen_ahead timing.now.delays timing.now.levels) (first_late last.now.tick
+        (ahead timing.now.delays timing.now.levels (suc timing.now.levels) None
+        (guessing last.now.ic state.old) last.now.front)) }
+    ensures banks { (reads : List Read) (bus : BusOf) →
+        HasReads timing.now.delays last.now.tick reads bus last.now.front.bus log.old →
+        behind.new.banks ≡ (made_before timing.now.delays last.now.tick
+        (reads ++ reads_before timing.now.delays timing.now.levels last.now.tick
+        (ahead timing.now.delays timing.now.levels (suc timing.now.levels) None
+        (guessing last.now.ic state.old) last.now.front)) bus).banks }
+    ensures soon { (reads : List Read) (bus : BusOf) →
+        HasReads timing.now.delays last.now.tick reads bus last.now.front.bus log.old →
+        All (λ t. t ≤ last.now.tick + 255) behind.new.banks.ticks }
+    ensures few { length behind.new.found.items ≤ 8 }
+{
+    timing.delays.shape();
+    let ic = state.ic;
+    let tick = last.tick;
+    let mut front = front_of(last);
+    state.ic = last.ic;
+    state.shape();
+    look(
+        state,
+        &mut front,
+        &last.past,
+        &timing.delays,
+        timing.levels as usize,
+        timing.levels,
+        tick,
+        log,
+        &mut behind.found,
+        &mut behind.late,
+    );
+    state.ic = ic;
+    let mut banks = front.bus.banks;
+    log.undo(&mut banks, tick);
+    behind.banks = banks;
+}

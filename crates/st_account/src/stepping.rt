@@ -1,0 +1,231 @@
+//! What is asked of a state and of an entry on the way from one entry to the next.
+ghost use Rattle.std.specs.Prelude.{◌≡◌, ◌+◌, ◌<◌, ◌≤◌, ◌^◌, ◌||◌, [], not, nat_eq, if◌then◌else◌, is_some, option_map, Some, None, IfSome};
+ghost use Rattle.st_bits.specs.declared.limits.TheConstants.{MOST_INSTRUCTIONS};
+ghost use Rattle.st_prep.specs.Plan.{plan as plan_of};
+ghost use Rattle.st_prep.specs.Ranges.{IsPrepared};
+ghost use Rattle.st_exec.specs.Completion.{state_after_execution, guess as guess_of, is_missed as is_missed_of};
+ghost use Rattle.st_plain.specs.Looking.{known_at, level_wait, side_at};
+ghost use Rattle.st_plain.specs.Uses.{uses_of_entry};
+ghost use Rattle.st_rows.specs.Asked.{reads_of_entry as asked_of};
+ghost use Rattle.st_rows.specs.Notes.{log_after_reads};
+ghost use Rattle.st_rows.specs.Ranges.{IsTight};
+ghost use Rattle.st_rows.specs.Rows.{row_of_entry as row_of, front_after_entry as after_of};
+ghost use Rattle.st_segment.specs.Entries.{entry as entry_of};
+ghost use Rattle.st_account.specs.Text.{why_by};
+ghost use Rattle.st_account.specs.Standing.{guessing, has_due, still_by};
+ghost use Rattle.st_lines.specs.declared.lines.Why.TheVariants.{Run as RunBegins};
+
+use crate::last::Last;
+use crate::timing::Timing;
+use st_card::Signal;
+use st_exec::{complete_in, interrupt, is_missed};
+use st_lines::{Changeable, Why, is_enabled};
+use st_plain::{next_row, plan_entry, put_past};
+use st_prep::Prepared;
+use st_rows::{Log, Past};
+use st_run::plain::{printer_is_free, reader_is_free};
+use st_state::State;
+
+/// Why a segment begins: the run does, or an interrupt is taken, a guess was wrong, or else a card
+/// came.
+pub(crate) fn why_of(first: bool, taken: Option<u8>, missed: bool) -> Why
+    ensures { result ≡ (if first then RunBegins else why_by taken missed) }
+{
+    if first {
+        return Why::Run;
+    }
+    match taken {
+        Some(i) => Why::Interrupt(i),
+        None => { if missed { Why::Missed } else { Why::Card } }
+    }
+}
+
+/// Whether a segment ends.
+pub(crate) fn is_end(missed: bool, card: bool, waited: bool, taken: Option<u8>) -> bool
+    ensures { result ≡ (missed || card || waited || is_some taken) }
+{
+    missed || card || waited || taken.is_some()
+}
+
+/// Whether one of both is so.
+pub(crate) fn either(one: bool, two: bool) -> bool
+    ensures { result ≡ (one || two) }
+{
+    one || two
+}
+
+/// The tick at which a segment ends, where it does.
+pub(crate) fn end_of(ends: bool, tick: u64) -> Option<u64>
+    ensures { result ≡ (if ends then Some tick else None) }
+{
+    if ends { Some(tick) } else { None }
+}
+
+// Whether a signal is due.
+fn is_signal_due(signals: &[Signal], done: u64) -> bool
+    ensures { result ≡ has_due signals.now done }
+{
+    match signals {
+        [first, ..] => first.count <= done,
+        [] => false,
+    }
+}
+
+/// Whether nothing comes between the last entry and the next one, and the guess was right.
+pub(crate) fn is_still(state: &State, missed: bool, signals: &[Signal]) -> bool
+    ensures { result ≡ still_by state.now missed signals.now }
+{
+    let taken = interrupt(state);
+    let signal = is_signal_due(signals, state.done);
+    !missed
+        && !signal
+        && reader_is_free(state)
+        && printer_is_free(state)
+        && !state.waiting
+        && taken.is_none()
+}
+
+/// Whether it is to be seen what ran ahead: where a segment or the run may end.
+pub(crate) fn is_end_near(left: u64, still: bool) -> bool
+    ensures { result ≡ (nat_eq left 0 || not still) }
+{
+    left == 0 || !still
+}
+
+/// The numbers of the next entry, and what is at hand behind it.
+pub(crate) fn count_on(
+    state: &State,
+    taken: Option<u8>,
+    timing: &Timing,
+    last: &mut Last,
+    log: &mut Log,
+)
+    requires indicator { IfSome taken (λ i. i < 64) }
+    requires levels { (1 ≤ timing.now.levels) × (timing.now.levels ≤ 8) }
+    requires tight { IsTight 255 last.old.front }
+    requires early { last.old.front.c ≤ 2 ^ 63 }
+    requires past { last.old.past ≡ last.old.front.past }
+
+    ensures plan { last.new.plan ≡ plan_of state.now taken }
+    ensures prepared { IsPrepared last.new.plan }
+    ensures row { last.new.done.row.ticks ≡ row_of timing.now.delays timing.now.levels
+        last.old.front (entry_of taken state.now) }
+    ensures wait { last.new.done.row.level_wait ≡ level_wait timing.now.delays timing.now.levels
+        last.old.front (entry_of taken state.now) }
+    ensures known { last.new.done.known ≡ known_at taken state.now }
+    ensures uses { last.new.uses.items ≡ uses_of_entry timing.now.delays timing.now.levels
+        last.old.front (entry_of taken state.now) (side_at taken state.now)
+        (plan_of state.now taken).reads }
+    ensures front { last.new.front ≡ after_of timing.now.delays timing.now.levels last.old.front
+        (entry_of taken state.now) }
+    ensures log { log.new ≡ log_after_reads timing.now.delays
+        (asked_of timing.now.delays timing.now.levels last.old.front (entry_of taken state.now))
+        last.old.front.bus [] }
+    ensures past { last.new.past ≡ last.new.front.past }
+    ensures tick { last.new.tick ≡ last.new.done.row.ticks.c }
+    ensures number { last.new.done.n ≡ last.old.done.n }
+    ensures address { last.new.done.address ≡ last.old.done.address }
+    ensures before { last.new.done.before ≡ last.old.done.before }
+    ensures start { last.new.done.start ≡ last.old.done.start }
+{
+    state.shape();
+    let planned = plan_entry(taken, state, &mut last.plan);
+    log.clear();
+    let row = next_row(
+        &mut last.front,
+        &last.past,
+        &timing.delays,
+        timing.levels as usize,
+        &planned,
+        last.plan.reads,
+        log,
+        &mut last.uses,
+    );
+    put_past(
+        &mut last.past,
+        Past {
+            c: row.ticks.c,
+            writes: planned.entry.writes,
+        },
+    );
+    last.tick = row.ticks.c;
+    last.done.row = row;
+    last.done.known = planned.known;
+}
+
+// The counter by the guess of an entry that was prepared as `p` and is now done.
+fn guessed_counter(p: &Prepared, state: &State) -> u32
+    requires counter { p.now.following < 2 ^ 19 }
+    ensures value { result ≡ (if p.now.serial then state.now.ic else p.now.following) }
+    ensures below { result < 2 ^ 19 }
+{
+    state.shape();
+    if p.serial { state.ic } else { p.following }
+}
+
+/// The next entry is executed, which is prepared as it stands in `last`.
+pub(crate) fn execute(state: &mut State, taken: Option<u8>, last: &mut Last)
+    requires prepared { IsPrepared last.old.plan }
+    requires plan { last.old.plan ≡ plan_of state.old taken }
+    requires few { state.old.done < 2 ^ 63 }
+
+    ensures state { state.new ≡ state_after_execution taken state.old }
+    ensures guess { guessing last.new.ic state.new ≡ guess_of taken state.old }
+    ensures counter { last.new.ic < 2 ^ 19 }
+    ensures rest { last.new ≡ record last.old {
+      missed = is_missed_of (plan_of state.old taken) state.old;
+      ic = last.new.ic;
+      enabled = state.old.enabled;
+    } }
+{
+    last.enabled = is_enabled(state);
+    last.missed = is_missed(&last.plan, state);
+    complete_in(&last.plan, state);
+    last.ic = guessed_counter(&last.plan, state);
+}
+
+/// The number of instructions that a state has done.
+pub(crate) fn done_of(state: &State) -> u64
+    ensures { result ≡ state.now.done }
+{
+    state.done
+}
+
+/// The number of the next row.
+pub(crate) fn row_number(state: &State) -> u32
+    requires { state.now.done ≤ MOST_INSTRUCTIONS }
+    ensures { result ≡ state.now.done + 1 }
+{
+    state.done as u32 + 1
+}
+
+/// The number of the segment of the next entry.
+pub(crate) fn next_number(begins: bool, k: u32) -> u32
+    requires { k + 1 < 2 ^ 32 }
+    ensures { result ≡ (if begins then k + 1 else k) }
+{
+    if begins { k + 1 } else { k }
+}
+
+// Where the area begins into which the reader may bring a card, where it has an order.
+fn card_area(state: &State) -> Option<u32>
+    ensures { result ≡ option_map (λ order. order.word) state.now.reader }
+{
+    match state.reader {
+        Some(order) => Some(order.word),
+        None => None,
+    }
+}
+
+/// The words that may change behind an entry that is prepared as `p` and has left a state.
+pub(crate) fn changeable(p: &Prepared, state: &State) -> Changeable
+    ensures { result ≡ record {
+      writes = p.now.writes;
+      card = option_map (λ order. order.word) state.now.reader;
+    } }
+{
+    Changeable {
+        writes: p.writes,
+        card: card_area(state),
+    }
+}
