@@ -80,7 +80,7 @@ impl LineFromEnd {
     /// Puts a word before the line. It is a copy, so no test is made whether it is of the line.
     #[inline(always)]
     pub fn put_word<const K: usize>(&mut self, word: [u8; K])
-        requires { K + length self.old ≤ 128 }
+        requires { K + length self.old ≤ 192 }
         ensures { self.new ≡ word.entry ++ self.old }
     {
         self.put(&word);
@@ -90,7 +90,7 @@ impl LineFromEnd {
     #[inline(always)]
     fn put_end(&mut self, piece: [u8; 16], before: usize)
         requires few { before ≤ 16 }
-        requires room { length self.old + 16 ≤ 128 }
+        requires room { length self.old + 16 ≤ 192 }
         ensures { self.new ≡ drop before piece ++ self.old }
     {
         self.put(&piece);
@@ -101,7 +101,7 @@ impl LineFromEnd {
     /// are those that are kept, where it has these; else its own are kept.
     #[inline(always)]
     pub fn put_near(&mut self, n: u64, kept: &mut KeptDigits)
-        requires { length self.old + 20 ≤ 128 }
+        requires { length self.old + 20 ≤ 192 }
         ensures bytes { self.new ≡ decimal n ++ self.old }
         ensures room { length self.new ≤ length self.old + 20 }
     {
@@ -119,7 +119,7 @@ impl LineFromEnd {
     pub fn put_kept(&mut self, n: u64, past: u64, kept: &KeptDigits)
         requires few { past < 100 }
         requires near { (1 ≤ kept.now) × (n ≡ 100 * kept.now + past) }
-        requires room { length self.old + 20 ≤ 128 }
+        requires room { length self.old + 20 ≤ 192 }
         ensures bytes { self.new ≡ decimal n ++ self.old }
         ensures room { length self.new ≤ length self.old + 20 }
     {
