@@ -31,7 +31,8 @@ use Rattle.st_account.specs.Settling.{words_printed}
 -- one that was not prepared by then; b is the state before the entry that was done
 unfoldable pub late_at : List ℕ → ℕ → Machine → Moment → List Ahead
 late_at ds n b m =
-    map (seen_ahead ds n) (first_late m.tick (ahead ds n (suc n) None (guess (interrupt b) b) m.front))
+    map (seen_ahead ds n)
+    (first_late m.tick (ahead ds n (suc n) None (guess (interrupt b) b) m.front))
 
 -- at a moment
 abbrev pub end_lines_at : List ℕ → ℕ → ℕ → Machine → Moment → List (List ℕ)

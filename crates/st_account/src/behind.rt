@@ -69,10 +69,12 @@ pub(crate) fn look_behind(
     requires none { length behind.old.found.items ≡ 0 }
 
     ensures state { state.new ≡ state.old }
-    ensures found { behind.new.found.items ≡ map (seen_ahead timing.now.delays timing.now.levels) (prepared_before last.now.tick
+    ensures found { behind.new.found.items
+        ≡ map (seen_ahead timing.now.delays timing.now.levels) (prepared_before last.now.tick
         (ahead timing.now.delays timing.now.levels timing.now.levels None
         (guessing last.now.ic state.old) last.now.front)) }
-    ensures late { behind.new.late ∷ [] ≡ map (seen_ahead timing.now.delays timing.now.levels) (first_late last.now.tick
+    ensures late { behind.new.late ∷ []
+        ≡ map (seen_ahead timing.now.delays timing.now.levels) (first_late last.now.tick
         (ahead timing.now.delays timing.now.levels (suc timing.now.levels) None
         (guessing last.now.ic state.old) last.now.front)) }
     ensures banks { (reads : List Read) (bus : BusOf) →
