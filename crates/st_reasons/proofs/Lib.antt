@@ -1,0 +1,4 @@
+pub mod Added
+pub mod Laws
+pub mod Pieces
+pub mod Stands
