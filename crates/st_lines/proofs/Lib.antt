@@ -1,4 +1,5 @@
 pub mod LineLemmas
+pub mod UseLemmas
 pub mod FactLemmas
 pub mod DigitLemmas
 pub mod ChangeLemmas

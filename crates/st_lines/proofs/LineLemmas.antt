@@ -1,5 +1,5 @@
 -- Lines that are written one after another.
-use Rattle.std.specs.Prelude.{Bool, if◌then◌else◌, nat_eq, Result, Ok, Err, IsErr, IsOk, IfOk, codes, decimal}
+use Rattle.std.specs.Prelude.{Some, Bool, if◌then◌else◌, nat_eq, Result, Ok, Err, IsErr, IsOk, IfOk, codes, decimal}
 use Rattle.std.proofs.Common.{◌≡◌, ◌≢◌, ℕ, zero, suc, ◌+◌, ◌-◌, ◌≤◌, inl, inr, min, true, false, List, [], ◌∷◌, ◌++◌, length, take, drop, refl, sym, ◌∙◌, ap, subst, append_assoc, arith}
 use Rattle.std.proofs.lemmas.Bool.Decides.{leb_tells, nat_tests}
 use Rattle.std.proofs.lemmas.List.{take_min, append-nil, length-drop}
@@ -21,33 +21,33 @@ no_lines s o = record { ok = wrote_nothing s; err = tt }
 
 -- ---- entries that are dropped
 
-drops-first : (n : ℕ) (found xs : List Ahead) (x : Ahead) → found ≡ x ∷ xs
-    → drop_lines n found ≡ (dropped_line n x.plan.place.address x.row ∷ facts_lines x.plan x.known) ++ drop_lines (n + 1) xs
+drops-first : (n tick : ℕ) (found xs : List Ahead) (x : Ahead) → found ≡ x ∷ xs
+    → drop_lines n tick found ≡ (dropped_line n x.plan.place.address x.row ∷ facts_lines n (Some tick) x.plan x.known x.uses.items) ++ drop_lines (n + 1) tick xs
 unfolding drop_lines
-drops-first n found xs x is = rw is refl
+drops-first n tick found xs x is = rw is refl
 
-pub drops_cut : (s u : OutputState) (n : ℕ) (found xs : List Ahead) (x : Ahead) (e : Failed) (r : Result (Unit {0}) Failed) → IsErr r
-    → found ≡ x ∷ xs → WritesLines s u (dropped_line n x.plan.place.address x.row ∷ facts_lines x.plan x.known) (Err e) → WritesLines s u (drop_lines n found) r
-drops_cut s u n found xs x e r f is h =
-    subst (λ ls. WritesLines s u ls r) (sym (drops-first n found xs x is))
-    (lines_cut s u (dropped_line n x.plan.place.address x.row ∷ facts_lines x.plan x.known) (drop_lines (n + 1) xs) e r f h)
+pub drops_cut : (s u : OutputState) (n tick : ℕ) (found xs : List Ahead) (x : Ahead) (e : Failed) (r : Result (Unit {0}) Failed) → IsErr r
+    → found ≡ x ∷ xs → WritesLines s u (dropped_line n x.plan.place.address x.row ∷ facts_lines n (Some tick) x.plan x.known x.uses.items) (Err e) → WritesLines s u (drop_lines n tick found) r
+drops_cut s u n tick found xs x e r f is h =
+    subst (λ ls. WritesLines s u ls r) (sym (drops-first n tick found xs x is))
+    (lines_cut s u (dropped_line n x.plan.place.address x.row ∷ facts_lines n (Some tick) x.plan x.known x.uses.items) (drop_lines (n + 1) tick xs) e r f h)
 
-pub drops_then : (s v u : OutputState) (n : ℕ) (found xs : List Ahead) (x : Ahead) (o : Unit {0}) (r : Result (Unit {0}) Failed)
-    → found ≡ x ∷ xs → WritesLines s v (dropped_line n x.plan.place.address x.row ∷ facts_lines x.plan x.known) (Ok o)
-    → WritesLines v u (drop_lines (n + 1) xs) r → WritesLines s u (drop_lines n found) r
-drops_then s v u n found xs x o r is h k =
-    subst (λ ls. WritesLines s u ls r) (sym (drops-first n found xs x is))
-    (lines_then s v u (dropped_line n x.plan.place.address x.row ∷ facts_lines x.plan x.known) (drop_lines (n + 1) xs) o r h k)
+pub drops_then : (s v u : OutputState) (n tick : ℕ) (found xs : List Ahead) (x : Ahead) (o : Unit {0}) (r : Result (Unit {0}) Failed)
+    → found ≡ x ∷ xs → WritesLines s v (dropped_line n x.plan.place.address x.row ∷ facts_lines n (Some tick) x.plan x.known x.uses.items) (Ok o)
+    → WritesLines v u (drop_lines (n + 1) tick xs) r → WritesLines s u (drop_lines n tick found) r
+drops_then s v u n tick found xs x o r is h k =
+    subst (λ ls. WritesLines s u ls r) (sym (drops-first n tick found xs x is))
+    (lines_then s v u (dropped_line n x.plan.place.address x.row ∷ facts_lines n (Some tick) x.plan x.known x.uses.items) (drop_lines (n + 1) tick xs) o r h k)
 
-pub drops_none : (s : OutputState) (n : ℕ) (found : List Ahead) (o : Unit {0}) → found ≡ [] → WritesLines s s (drop_lines n found) (Ok o)
+pub drops_none : (s : OutputState) (n tick : ℕ) (found : List Ahead) (o : Unit {0}) → found ≡ [] → WritesLines s s (drop_lines n tick found) (Ok o)
 unfolding drop_lines
-drops_none s n found o is = rw is (no_lines s o)
+drops_none s n tick found o is = rw is (no_lines s o)
 
 -- ---- the end of a segment
 
-pub late-one : (n : ℕ) (x : Ahead) → late_lines n (x ∷ []) ≡ (begun_line n x.plan.place.address x.row ∷ []) ++ facts_lines x.plan x.known
+pub late-one : (n tick : ℕ) (x : Ahead) → late_lines n tick (x ∷ []) ≡ (begun_line n x.plan.place.address x.row ∷ []) ++ facts_lines n (Some tick) x.plan x.known x.uses.items
 unfolding late_lines
-late-one n x = refl
+late-one n tick x = refl
 
 pub end-none : (k tick n : ℕ) (found late : List Ahead) → k ≡ 0 → segment_end_lines k tick n found late ≡ []
 unfolding segment_end_lines
@@ -58,7 +58,7 @@ end-same zero tick n found xs ys same = end-none zero tick n found xs refl ∙ s
 end-same (suc k) tick n found xs ys same = ap (segment_end_lines (suc k) tick n found) (same (λ none. omega (arith, none)))
 
 pub end-some : (k tick n : ℕ) (found late : List Ahead) → k ≢ 0
-    → segment_end_lines k tick n found late ≡ (segment_end_line k tick ∷ []) ++ (drop_lines n found ++ late_lines (n + length found) late)
+    → segment_end_lines k tick n found late ≡ (segment_end_line k tick ∷ []) ++ (drop_lines n tick found ++ late_lines (n + length found) tick late)
 unfolding segment_end_lines
 end-some zero tick n found late some = absurd (some refl)
 end-some (suc k) tick n found late some = rw (not-zero k) refl

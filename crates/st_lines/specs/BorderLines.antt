@@ -12,23 +12,23 @@ use Rattle.st_lines.specs.EntryLines.{facts_lines}
 
 -- ---- where a segment ends
 
--- entries that are dropped, the oldest first; the first of them is the n-th entry
-unfoldable pub drop_lines : ℕ → List Ahead → List (List ℕ)
-drop_lines n [] = []
-drop_lines n (a ∷ more) = dropped_line n a.plan.place.address a.row
-    ∷ (facts_lines a.plan a.known ++ drop_lines (n + 1) more)
+-- entries that are dropped at a tick, the oldest first; the first of them is the n-th entry
+unfoldable pub drop_lines : ℕ → ℕ → List Ahead → List (List ℕ)
+drop_lines n tick [] = []
+drop_lines n tick (a ∷ more) = dropped_line n a.plan.place.address a.row
+    ∷ (facts_lines n (Some tick) a.plan a.known a.uses.items ++ drop_lines (n + 1) tick more)
 
 -- the entry that was begun behind them, which is the n-th entry, if there is one
-unfoldable pub late_lines : ℕ → List Ahead → List (List ℕ)
-late_lines n [] = []
-late_lines n (a ∷ more) = begun_line n a.plan.place.address a.row
-    ∷ facts_lines a.plan a.known
+unfoldable pub late_lines : ℕ → ℕ → List Ahead → List (List ℕ)
+late_lines n tick [] = []
+late_lines n tick (a ∷ more) = begun_line n a.plan.place.address a.row
+    ∷ facts_lines n (Some tick) a.plan a.known a.uses.items
 
 -- the segment k ends at a tick, what ran ahead is dropped, and so is what was begun; before the
 -- first segment there is none
 unfoldable pub segment_end_lines : ℕ → ℕ → ℕ → List Ahead → List Ahead → List (List ℕ)
 segment_end_lines k tick n dropped late = if nat_eq k 0 then [] else segment_end_line k tick
-    ∷ (drop_lines n dropped ++ late_lines (n + length dropped) late)
+    ∷ (drop_lines n tick dropped ++ late_lines (n + length dropped) tick late)
 
 -- ---- the state behind an entry
 

@@ -6,12 +6,14 @@ use Rattle.st_prep.specs.Entry.{is_register, has_register}
 use Rattle.st_prep.specs.declared.entries.IndexChange.{IndexChange}
 use Rattle.st_prep.specs.declared.entries.Prepared.{Prepared}
 use Rattle.st_prep.specs.declared.entries.Words.{Words}
-use Rattle.st_rows.specs.declared.front.EntryTicks.{EntryTicks}
 use Rattle.st_plain.specs.declared.known.Code.{Code}
 use Rattle.st_plain.specs.declared.known.Known.{Known}
+use Rattle.st_plain.specs.declared.uses.Use.{Use}
 use Rattle.st_ledger.specs.Charges.{parts_of_row, charges_behind}
 use Rattle.st_ledger.specs.Lines.{row_stage_line, charge_lines}
 use Rattle.st_lines.specs.Lines.{missed_line, alone_line, suppressed_line, code_line, writes_line, index_line, level_line}
+use Rattle.st_lines.specs.UseLines.{use_lines}
+use Rattle.st_lines.specs.declared.facts.EntryDone.{EntryDone}
 use Rattle.st_lines.specs.declared.lines.Alone.{Alone}
 use Rattle.st_lines.specs.declared.lines.Alone.TheVariants.{Table, Execute, Register, Operation}
 
@@ -61,12 +63,13 @@ unfoldable pub code_lines : Option Code → List (List ℕ)
 code_lines None = []
 code_lines (Some code) = code_line code ∷ []
 
--- what is known of it by itself
-unfoldable pub facts_lines : Prepared → Known → List (List ℕ)
-facts_lines p k =
+-- what is known by itself of the n-th entry, whose segment ends at a tick, or goes on
+unfoldable pub facts_lines : ℕ → Option ℕ → Prepared → Known → List Use → List (List ℕ)
+facts_lines n end p k uses =
     alone_lines (alone_by p k.side k.execute)
     ++ (suppressed_lines (suppressed_by p)
-    ++ (code_lines k.code ++ (writes_lines p.writes ++ index_lines p.index)))
+    ++ (code_lines k.code
+    ++ (use_lines n end uses ++ (writes_lines p.writes ++ index_lines p.index))))
 
 -- ---- its row
 
@@ -79,10 +82,10 @@ missed_lines false = []
 unfoldable pub level_lines : ℕ → List (List ℕ)
 level_lines d = if nat_eq d 0 then [] else level_line d ∷ []
 
--- those of the i-th entry, which is done, at an address, with its row: the last one before it was
--- done at the tick `before`, and the segment of both starts at the tick `start`
-unfoldable pub done_entry_lines : ℕ → ℕ → EntryTicks → ℕ → Bool → Prepared → Known → ℕ → ℕ →
-    List (List ℕ)
-done_entry_lines i address row level missed p k before start =
-    row_stage_line i address row ∷ ((missed_lines missed ++ facts_lines p k)
-    ++ (charge_lines (charges_behind before (parts_of_row start row)) ++ level_lines level))
+-- those of an entry that is done
+unfoldable pub done_entry_lines : EntryDone → Prepared → Known → List Use → List (List ℕ)
+done_entry_lines d p k uses =
+    row_stage_line d.n d.address d.row.ticks
+    ∷ ((missed_lines d.missed ++ facts_lines d.n d.end p k uses)
+    ++ (charge_lines (charges_behind d.before (parts_of_row d.start d.row.ticks))
+    ++ level_lines d.row.level_wait))

@@ -7,15 +7,17 @@ ghost use Rattle.st_io.specs.Lines.{WritesLines};
 ghost use Rattle.st_ledger.specs.Charges.{parts_of_row, charges_behind};
 ghost use Rattle.st_ledger.specs.Lines.{charge_lines};
 ghost use Rattle.st_lines.specs.EntryLines.{alone_for as alone_of, alone_by as alone_why, alone_lines, suppressed_by as suppressed_of, suppressed_lines, code_lines, run_lines, writes_lines, index_lines, facts_lines, missed_lines, level_lines, done_entry_lines};
+ghost use Rattle.st_lines.specs.UseLines.{use_lines};
 
 use crate::digits::{fill_code, fill_index};
 use crate::lines::{Alone, line_alone, line_level, line_missed, line_suppressed, line_writes};
+use crate::uses::write_uses;
 use crate::writing::put;
 use st_bits::indicator;
 use st_bits::register::FIRST_STORAGE_WORD;
 use st_io::{Failed, Sink, write_line};
 use st_ledger::{write_charges, write_row};
-use st_plain::{Code, Known, Row};
+use st_plain::{Code, Known, Row, Use};
 use st_prep::{IndexChange, Prepared, Words};
 use st_report::LineFromEnd;
 
@@ -180,33 +182,90 @@ fn write_code<K: Sink>(out: &mut K, code: Option<Code>) -> Result<(), Failed>
     }
 }
 
-// Writes the half-words that an entry executes, what it writes, and the index word that it changes
-// early.
-fn write_doing<K: Sink>(out: &mut K, p: &Prepared, code: Option<Code>) -> Result<(), Failed>
+// Writes what the n-th entry uses and what it writes, and the index word that it changes early.
+fn write_words<K: Sink>(
+    out: &mut K,
+    n: u32,
+    end: Option<u64>,
+    p: &Prepared,
+    uses: &[Use],
+) -> Result<(), Failed>
     ensures { WritesLines (K.output out.old) (K.output out.new)
-        (code_lines code ++ (writes_lines p.now.writes ++ index_lines p.now.index)) result }
+        (use_lines n end uses.now ++ (writes_lines p.now.writes ++ index_lines p.now.index))
+        result }
 {
-    write_code(out, code)?;
+    write_uses(out, n, end, uses)?;
     write_changes(out, p)
 }
 
-// Writes that an entry is suppressed, and what it does.
-fn write_effects<K: Sink>(out: &mut K, p: &Prepared, code: Option<Code>) -> Result<(), Failed>
+// Writes the half-words that the n-th entry executes, and its words.
+fn write_doing<K: Sink>(
+    out: &mut K,
+    n: u32,
+    end: Option<u64>,
+    p: &Prepared,
+    code: Option<Code>,
+    uses: &[Use],
+) -> Result<(), Failed>
     ensures { WritesLines (K.output out.old) (K.output out.new)
-        (suppressed_lines (suppressed_of p.now) ++ (code_lines code ++ (writes_lines p.now.writes
-        ++ index_lines p.now.index))) result }
+        (code_lines code ++ (use_lines n end uses.now
+        ++ (writes_lines p.now.writes ++ index_lines p.now.index))) result }
 {
-    write_suppressed(out, suppressed_by(p))?;
-    write_doing(out, p, code)
+    write_code(out, code)?;
+    write_words(out, n, end, p, uses)
 }
 
-/// Writes what is known of an entry by itself.
-pub(crate) fn write_facts<K: Sink>(out: &mut K, p: &Prepared, known: &Known) -> Result<(), Failed>
+// Writes that the n-th entry is suppressed, and what it does.
+fn write_effects<K: Sink>(
+    out: &mut K,
+    n: u32,
+    end: Option<u64>,
+    p: &Prepared,
+    code: Option<Code>,
+    uses: &[Use],
+) -> Result<(), Failed>
     ensures { WritesLines (K.output out.old) (K.output out.new)
-        (facts_lines p.now known.now) result }
+        (suppressed_lines (suppressed_of p.now) ++ (code_lines code ++ (use_lines n end uses.now
+        ++ (writes_lines p.now.writes ++ index_lines p.now.index)))) result }
+{
+    write_suppressed(out, suppressed_by(p))?;
+    write_doing(out, n, end, p, code, uses)
+}
+
+/// Writes what is known by itself of the n-th entry, whose segment ends at the tick `end`, or goes
+/// on.
+pub(crate) fn write_facts<K: Sink>(
+    out: &mut K,
+    n: u32,
+    end: Option<u64>,
+    p: &Prepared,
+    known: &Known,
+    uses: &[Use],
+) -> Result<(), Failed>
+    ensures { WritesLines (K.output out.old) (K.output out.new)
+        (facts_lines n end p.now known.now uses.now) result }
 {
     write_alone(out, alone_by(p, known.side, known.execute))?;
-    write_effects(out, p, known.code)
+    write_effects(out, n, end, p, known.code, uses)
+}
+
+/// An entry that is done.
+#[derive(Clone, Copy, Debug)]
+pub struct EntryDone {
+    /// Its number.
+    pub n: u32,
+    /// Its half-word address.
+    pub address: u32,
+    /// Its row.
+    pub row: Row,
+    /// It is a branch that was guessed wrongly.
+    pub missed: bool,
+    /// The tick at which the last one before it was done.
+    pub before: u64,
+    /// The tick at which its segment starts, if it is the first one of that.
+    pub start: u64,
+    /// The tick at which its segment ends, if that ends with it.
+    pub end: Option<u64>,
 }
 
 // Writes that a branch was guessed wrongly, where it was.
@@ -223,15 +282,17 @@ fn write_missed<K: Sink>(out: &mut K, missed: bool) -> Result<(), Failed>
 // Writes what is known of an entry that is done, by itself.
 fn write_known<K: Sink>(
     out: &mut K,
-    missed: bool,
+    done: &EntryDone,
     p: &Prepared,
     known: &Known,
+    uses: &[Use],
 ) -> Result<(), Failed>
     ensures { WritesLines (K.output out.old) (K.output out.new)
-        (missed_lines missed ++ facts_lines p.now known.now) result }
+        (missed_lines done.now.missed
+        ++ facts_lines done.now.n done.now.end p.now known.now uses.now) result }
 {
-    write_missed(out, missed)?;
-    write_facts(out, p, known)
+    write_missed(out, done.missed)?;
+    write_facts(out, done.n, done.end, p, known, uses)
 }
 
 // Writes for how many ticks an entry waited for a level, where it did.
@@ -258,42 +319,34 @@ fn write_waits<K: Sink>(out: &mut K, row: &Row, before: u64, start: u64) -> Resu
 // What is known of an entry that is done, and what was spent on it.
 fn write_spent<K: Sink>(
     out: &mut K,
-    row: &Row,
-    missed: bool,
+    done: &EntryDone,
     p: &Prepared,
     known: &Known,
-    before: u64,
-    start: u64,
+    uses: &[Use],
 ) -> Result<(), Failed>
     ensures { WritesLines (K.output out.old) (K.output out.new)
-        ((missed_lines missed ++ facts_lines p.now known.now)
-        ++ (charge_lines (charges_behind before (parts_of_row start row.now.ticks))
-        ++ level_lines row.now.level_wait)) result }
+        ((missed_lines done.now.missed
+        ++ facts_lines done.now.n done.now.end p.now known.now uses.now)
+        ++ (charge_lines (charges_behind done.now.before
+        (parts_of_row done.now.start done.now.row.ticks))
+        ++ level_lines done.now.row.level_wait)) result }
 {
-    write_known(out, missed, p, known)?;
-    write_waits(out, row, before, start)
+    write_known(out, done, p, known, uses)?;
+    write_waits(out, &done.row, done.before, done.start)
 }
 
-/// Writes the lines of the n-th entry, which is done, at a half-word address, with its row: the
-/// last one before it was done at the tick `before`, and its segment starts at `start`, if it is
-/// the first one of that. `missed` is whether it is a branch that was guessed wrongly, `p` how it
-/// is prepared, and `known` what else is known of it.
+/// Writes the lines of an entry that is done: `p` is how it is prepared, `known` what else is known
+/// of it, and `uses` are the words that it uses.
 pub fn write_done<K: Sink>(
     out: &mut K,
-    n: u32,
-    address: u32,
-    row: &Row,
-    missed: bool,
+    done: &EntryDone,
     p: &Prepared,
     known: &Known,
-    before: u64,
-    start: u64,
+    uses: &[Use],
 ) -> Result<(), Failed>
     ensures { WritesLines (K.output out.old) (K.output out.new)
-        (done_entry_lines n address row.now.ticks row.now.level_wait missed p.now
-        known.now before start)
-        result }
+        (done_entry_lines done.now p.now known.now uses.now) result }
 {
-    write_row(out, n, address, &row.ticks)?;
-    write_spent(out, row, missed, p, known, before, start)
+    write_row(out, done.n, done.address, &done.row.ticks)?;
+    write_spent(out, done, p, known, uses)
 }

@@ -1,5 +1,5 @@
 //! The lines where a segment ends, and where one begins.
-ghost use Rattle.std.specs.Prelude.{◌≡◌, ◌+◌, ◌<◌, ◌≤◌, ◌^◌, ℕ, ◌∷◌, ◌++◌, [], if◌then◌else◌, ◌||◌, length, min, MatchOption, IfSome, ◌≢◌, false, slice_index, IsOk};
+ghost use Rattle.std.specs.Prelude.{◌≡◌, ◌+◌, ◌<◌, ◌≤◌, ◌^◌, ℕ, ◌∷◌, ◌++◌, [], if◌then◌else◌, ◌||◌, length, min, MatchOption, IfSome, Some, ◌≢◌, false, slice_index, IsOk};
 ghost use Rattle.st_io.specs.Lines.{WritesLines, lines_for};
 ghost use Rattle.st_bits.specs.Storage.{words_of_storage};
 ghost use Rattle.st_state.specs.Machine.{word};
@@ -54,12 +54,12 @@ pub fn put<K: Sink>(out: &mut K, line: &Line) -> Result<(), Failed>
 }
 
 // The first of some entries, and those behind it.
-fn first_ahead(found: &[Ahead]) -> Option<(Ahead, &[Ahead])>
-    ensures parts { MatchOption result (found.now ≡ []) (λ r. found.now ≡ r.0 ∷ r.1.now) }
+fn first_ahead(found: &[Ahead]) -> Option<(&Ahead, &[Ahead])>
+    ensures parts { MatchOption result (found.now ≡ []) (λ r. found.now ≡ r.0.now ∷ r.1.now) }
     ensures fewer { IfSome result (λ r. length r.1.now + 1 ≡ length found.now) }
 {
     match found {
-        [first, more @ ..] => Some((*first, more)),
+        [first, more @ ..] => Some((first, more)),
         [] => None,
     }
 }
@@ -72,27 +72,35 @@ fn write_drop_line<K: Sink>(out: &mut K, n: u32, ahead: &Ahead) -> Result<(), Fa
     put(out, &line_drop(n, ahead.plan.place.address, &ahead.row))
 }
 
-// The same, and what is known of it by itself.
-fn write_drop<K: Sink>(out: &mut K, n: u32, ahead: &Ahead) -> Result<(), Failed>
+// The same, and what is known of it by itself, where it is dropped at a tick.
+fn write_drop<K: Sink>(out: &mut K, n: u32, tick: u64, ahead: &Ahead) -> Result<(), Failed>
     ensures { WritesLines (K.output out.old) (K.output out.new)
         (dropped_line n ahead.now.plan.place.address ahead.now.row
-        ∷ facts_lines ahead.now.plan ahead.now.known) result }
+        ∷ facts_lines n (Some tick) ahead.now.plan ahead.now.known ahead.now.uses.items) result }
 {
     write_drop_line(out, n, ahead)?;
-    write_facts(out, &ahead.plan, &ahead.known)
+    write_facts(
+        out,
+        n,
+        Some(tick),
+        &ahead.plan,
+        &ahead.known,
+        ahead.uses.as_slice(),
+    )
 }
 
-// Writes the lines of entries that are dropped; the first of them is the n-th entry.
+// Writes the lines of entries that are dropped at a tick; the first of them is the n-th entry.
 #[tactic(auto, using(st_io::proofs::Progress::wrote_nothing))]
-fn write_drops<K: Sink>(out: &mut K, n: u32, found: &[Ahead]) -> Result<(), Failed>
+fn write_drops<K: Sink>(out: &mut K, n: u32, tick: u64, found: &[Ahead]) -> Result<(), Failed>
     requires { n + length found.now < 2 ^ 32 }
-    ensures { WritesLines (K.output out.old) (K.output out.new) (drop_lines n found.now) result }
+    ensures { WritesLines (K.output out.old) (K.output out.new)
+        (drop_lines n tick found.now) result }
 {
     let Some((first, more)) = first_ahead(found) else {
         return Ok(());
     };
-    write_drop(out, n, &first)?;
-    write_drops(out, n + 1, more)
+    write_drop(out, n, tick, first)?;
+    write_drops(out, n + 1, tick, more)
 }
 
 // Writes the line of the entry that was begun, which is the n-th entry.
@@ -104,12 +112,19 @@ fn write_late_line<K: Sink>(out: &mut K, n: u32, late: &Ahead) -> Result<(), Fai
 }
 
 // The same, and what is known of it by itself.
-fn write_late<K: Sink>(out: &mut K, n: u32, late: &Ahead) -> Result<(), Failed>
+fn write_late<K: Sink>(out: &mut K, n: u32, tick: u64, late: &Ahead) -> Result<(), Failed>
     ensures { WritesLines (K.output out.old) (K.output out.new)
-        (late_lines n (late.now ∷ [])) result }
+        (late_lines n tick (late.now ∷ [])) result }
 {
     write_late_line(out, n, late)?;
-    write_facts(out, &late.plan, &late.known)
+    write_facts(
+        out,
+        n,
+        Some(tick),
+        &late.plan,
+        &late.known,
+        late.uses.as_slice(),
+    )
 }
 
 // The number behind those of some entries, the first of which is the n-th entry.
@@ -120,16 +135,23 @@ fn number_behind(n: u32, found: &[Ahead]) -> u32
     n + found.len() as u32
 }
 
-// Writes the lines of entries that are dropped, the first of which is the n-th entry, and of the
-// one that was begun behind them.
-fn write_ahead<K: Sink>(out: &mut K, n: u32, found: &[Ahead], late: &Ahead) -> Result<(), Failed>
+// Writes the lines of entries that are dropped at a tick, the first of which is the n-th entry, and
+// of the one that was begun behind them.
+fn write_ahead<K: Sink>(
+    out: &mut K,
+    n: u32,
+    tick: u64,
+    found: &[Ahead],
+    late: &Ahead,
+) -> Result<(), Failed>
     requires { n + length found.now < 2 ^ 32 }
     ensures { WritesLines (K.output out.old) (K.output out.new)
-        (drop_lines n found.now ++ late_lines (n + length found.now) (late.now ∷ [])) result }
+        (drop_lines n tick found.now
+        ++ late_lines (n + length found.now) tick (late.now ∷ [])) result }
 {
     let behind = number_behind(n, found);
-    write_drops(out, n, found)?;
-    write_late(out, behind, late)
+    write_drops(out, n, tick, found)?;
+    write_late(out, behind, tick, late)
 }
 
 // Writes the line of the end of a segment.
@@ -158,7 +180,7 @@ pub fn write_end<K: Sink>(
         return Ok(());
     }
     write_end_line(out, k, tick)?;
-    write_ahead(out, n, found, late)
+    write_ahead(out, n, tick, found, late)
 }
 
 // The same where the segment ends.

@@ -4,3 +4,4 @@ pub mod RowLemmas
 pub mod LookLemmas
 pub mod StraightLemmas
 pub mod SideLemmas
+pub mod UseLemmas

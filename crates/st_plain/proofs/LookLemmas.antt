@@ -17,6 +17,7 @@ use Rattle.st_rows.proofs.Noted.{noted-two}
 use Rattle.st_rows.proofs.Parts.{served-formed}
 use Rattle.st_rows.proofs.Served.{served-append, served-asked}
 use Rattle.st_rows.specs.declared.front.Front.{Front}
+use Rattle.st_rows.specs.declared.front.EntryTicks.{EntryTicks}
 use Rattle.st_segment.specs.Entries.{entry}
 use Rattle.st_rows.specs.declared.bus.Bus.{Bus}
 use Rattle.st_segment.specs.Ahead.{Ahead, ahead, next_ahead, prepared_before}
@@ -74,19 +75,19 @@ module _ (ds : List ℕ) (n t : ℕ) (s : Machine) (f : Front) where
       let one : suc k ≡ suc (suc k - 1) = omega arith in
       rw (lt-ltb _ t early) (ap (λ j. first_late t (ahead ds n j None (guess None s) (front_after_entry ds n f (entry None s)))) one)
 
-  pub begun-here : (k : ℕ) (x : Seen) → t ≤ (row_of_entry ds n f (entry None s)).p → x ≡ seen_ahead (next_ahead ds n None s f)
-      → x ∷ [] ≡ map seen_ahead (first_late t (ahead ds n (suc k) None s f))
-  begun-here k x late is = ap (λ y. y ∷ []) is ∙ ap (map seen_ahead) (sym (late-here k late))
+  pub begun-here : (k : ℕ) (x : Seen) → t ≤ (row_of_entry ds n f (entry None s)).p → x ≡ seen_ahead ds n (next_ahead ds n None s f)
+      → x ∷ [] ≡ map (seen_ahead ds n) (first_late t (ahead ds n (suc k) None s f))
+  begun-here k x late is = ap (λ y. y ∷ []) is ∙ ap (map (seen_ahead ds n)) (sym (late-here k late))
 
   pub begun-behind : (u : Machine) (g : Front) (k : ℕ) (xs : List Seen) → 1 ≤ k → (row_of_entry ds n f (entry None s)).p < t
       → u ≡ guess None s → g ≡ front_after_entry ds n f (entry None s)
-      → xs ≡ map seen_ahead (first_late t (ahead ds n (suc (k - 1)) None u g))
-      → xs ≡ map seen_ahead (first_late t (ahead ds n (suc k) None s f))
+      → xs ≡ map (seen_ahead ds n) (first_late t (ahead ds n (suc (k - 1)) None u g))
+      → xs ≡ map (seen_ahead ds n) (first_late t (ahead ds n (suc k) None s f))
   begun-behind u g k xs some early next behind rest =
       rest
-      ∙ ap (λ v. map seen_ahead (first_late t (ahead ds n (suc (k - 1)) None v g))) next
-      ∙ ap (λ h. map seen_ahead (first_late t (ahead ds n (suc (k - 1)) None (guess None s) h))) behind
-      ∙ ap (map seen_ahead) (sym (late-next k some early))
+      ∙ ap (λ v. map (seen_ahead ds n) (first_late t (ahead ds n (suc (k - 1)) None v g))) next
+      ∙ ap (λ h. map (seen_ahead ds n) (first_late t (ahead ds n (suc (k - 1)) None (guess None s) h))) behind
+      ∙ ap (map (seen_ahead ds n)) (sym (late-next k some early))
 
   -- the reads that are made
   pub looked-late : (k : ℕ) → t ≤ (row_of_entry ds n f (entry None s)).p → reads_up_to ds n t (ahead ds n (suc k) None s f) ≡ formed_asked ds f (entry None s)
@@ -104,23 +105,23 @@ module _ (ds : List ℕ) (n t : ℕ) (s : Machine) (f : Front) where
       (ap (λ j. reads_of_entry ds n f (entry None s) ++ reads_up_to ds n t (ahead ds n j None (guess None s) (front_after_entry ds n f (entry None s)))) one)
 
 -- what is found, and what is made
-pub found-same : (xs : List Seen) (ys : List Ahead) → ys ≡ [] → xs ≡ xs ++ map seen_ahead ys
-found-same xs ys none = rw none (sym (append-nil xs))
+pub found-same : (ds : List ℕ) (n : ℕ) (xs : List Seen) (ys : List Ahead) → ys ≡ [] → xs ≡ xs ++ map (seen_ahead ds n) ys
+found-same ds n xs ys none = rw none (sym (append-nil xs))
 
 module _ (ds : List ℕ) (n t : ℕ) (s : Machine) (f : Front) where
   pub found-look : (u : Machine) (g : Front) (k : ℕ) (xs ys ws : List Seen) (x : Seen) → 1 ≤ k → (row_of_entry ds n f (entry None s)).p < t
-      → x ≡ seen_ahead (next_ahead ds n None s f) → u ≡ guess None s → g ≡ front_after_entry ds n f (entry None s) → ys ≡ xs ++ x ∷ []
-      → ws ≡ ys ++ map seen_ahead (prepared_before t (ahead ds n (k - 1) None u g))
-      → ws ≡ xs ++ map seen_ahead (prepared_before t (ahead ds n k None s f))
+      → x ≡ seen_ahead ds n (next_ahead ds n None s f) → u ≡ guess None s → g ≡ front_after_entry ds n f (entry None s) → ys ≡ xs ++ x ∷ []
+      → ws ≡ ys ++ map (seen_ahead ds n) (prepared_before t (ahead ds n (k - 1) None u g))
+      → ws ≡ xs ++ map (seen_ahead ds n) (prepared_before t (ahead ds n k None s f))
   found-look u g k xs ys ws x some early is next behind one rest =
-      let later : List Seen = map seen_ahead (prepared_before t (ahead ds n (k - 1) None (guess None s) (front_after_entry ds n f (entry None s)))) in
+      let later : List Seen = map (seen_ahead ds n) (prepared_before t (ahead ds n (k - 1) None (guess None s) (front_after_entry ds n f (entry None s)))) in
       rest
-      ∙ ap (λ v. ys ++ map seen_ahead (prepared_before t (ahead ds n (k - 1) None v g))) next
-      ∙ ap (λ h. ys ++ map seen_ahead (prepared_before t (ahead ds n (k - 1) None (guess None s) h))) behind
+      ∙ ap (λ v. ys ++ map (seen_ahead ds n) (prepared_before t (ahead ds n (k - 1) None v g))) next
+      ∙ ap (λ h. ys ++ map (seen_ahead ds n) (prepared_before t (ahead ds n (k - 1) None (guess None s) h))) behind
       ∙ ap (λ l. l ++ later) one
       ∙ append_assoc xs (x ∷ []) later
       ∙ ap (λ y. xs ++ y ∷ later) is
-      ∙ ap (λ l. xs ++ map seen_ahead l) (sym (found-next ds n t s f k some early))
+      ∙ ap (λ l. xs ++ map (seen_ahead ds n) l) (sym (found-next ds n t s f k some early))
 
   -- nothing is read behind the entry that comes too late
   pub bus-late : (k : ℕ) (b : Bus) → t ≤ (row_of_entry ds n f (entry None s)).p → b ≡ bus_a ds f (entry None s)
@@ -218,3 +219,9 @@ row-p ds n f e = refl
 pub after-c : (ds : List ℕ) (n : ℕ) (f : Front) (e : Entry) → (front_after_entry ds n f e).c ≡ tick_c ds n f e
 unfolding front_after_entry
 after-c ds n f e = refl
+
+-- the last entries behind one more
+pub past-kept : (ds : List ℕ) (n : ℕ) (f : Front) (e : Entry) (r : EntryTicks) (old new : List Past) (g : Front) → old ≡ f.past → r ≡ row_of_entry ds n f e
+    → new ≡ record { c = r.c; writes = e.writes } ∷ take 7 old → g ≡ front_after_entry ds n f e → new ≡ g.past
+unfolding row_of_entry front_after_entry
+past-kept ds n f e r old new g same is kept behind = rw (behind, kept, is, same) refl

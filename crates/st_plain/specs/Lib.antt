@@ -1,5 +1,6 @@
 pub mod Looking
 pub mod Straight
+pub mod Uses
 pub use Rattle.st_exec.specs.Completion
 pub use Rattle.st_format.specs.Formats
 pub use Rattle.st_format.specs.Halves

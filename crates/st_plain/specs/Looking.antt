@@ -16,6 +16,7 @@ use Rattle.st_segment.specs.Ahead.{Ahead, plan_of}
 use Rattle.st_plain.specs.declared.known.Code.{Code}
 use Rattle.st_plain.specs.declared.known.Known.{Known}
 use Rattle.st_plain.specs.declared.looking.Ahead.{Ahead as Seen}
+use Rattle.st_plain.specs.Uses.{uses_of_entry}
 
 -- the index-side word of the next entry of a state, or of its table instruction
 unfoldable pub side_at : Option ℕ → Machine → Option ℕ
@@ -45,12 +46,16 @@ known_at table s = record {
   code = code_at table s;
 }
 
--- an entry ahead: how it is prepared, its row, and what else is known of it
-abbrev pub seen_ahead : Ahead → Seen
-seen_ahead a = record {
+-- an entry ahead: how it is prepared, its row, what else is known of it, and the words that it
+-- uses, on a machine with the delays ds and with n levels
+abbrev pub seen_ahead : List ℕ → ℕ → Ahead → Seen
+seen_ahead ds n a = record {
   plan = plan_of a;
   row = a.row;
   known = known_at a.table a.state;
+  uses = record {
+    items = uses_of_entry ds n a.front a.entry (side_at a.table a.state) (plan_of a).reads;
+  };
 }
 
 -- the first entry of a list that is not prepared before the tick t

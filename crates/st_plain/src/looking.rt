@@ -12,17 +12,18 @@ ghost use Rattle.st_plain.specs.Looking.{seen_ahead, first_late, reads_up_to};
 
 use crate::entries::plan_entry;
 use crate::known::Known;
-use crate::rows::{begin, finish};
+use crate::rows::{begin, finish, put_past};
+use crate::uses::Uses;
 use arrayvec::ArrayVec;
 use st_back::{keep, undo};
 use st_banks::Delays;
 use st_exec::complete_in;
 use st_prep::Prepared;
-use st_rows::{EntryTicks, Front, Log};
+use st_rows::{EntryTicks, Front, Log, Past};
 use st_state::State;
 
 /// An entry that runs ahead.
-#[derive(Clone, Copy, Debug, Default, PartialEq, Eq)]
+#[derive(Debug, Default, Drop)]
 pub struct Ahead {
     /// The entry as it is prepared.
     pub plan: Prepared,
@@ -30,6 +31,8 @@ pub struct Ahead {
     pub row: EntryTicks,
     /// What else is known of it.
     pub known: Known,
+    /// The words that it uses.
+    pub uses: Uses,
 }
 
 /// Entries that run ahead, the oldest first. There are as many as levels at most.
@@ -53,11 +56,12 @@ pub fn guess(p: &Prepared, state: &mut State)
 /// made on the front's bus and noted, and those of the one behind them up to its address; `late` is
 /// that one, with the ticks that it would have. The last entry before them is done at that tick or
 /// later, and where some were found already, so is the first of those, which is the last one that
-/// may be as many before as there are levels. The state is then as it was; of the front the bus
-/// alone is of use.
+/// may be as many before as there are levels; `past` are the last entries of the front. The state
+/// is then as it was; of the front the bus alone is of use.
 pub fn look(
     state: &mut State,
     front: &mut Front,
+    past: &[Past; 8],
     delays: &Delays,
     levels: usize,
     more: u8,
@@ -74,12 +78,13 @@ pub fn look(
     requires late { tick ≤ front.old.c }
     requires first { more < levels → tick ≤ done_before (levels - more) front.old.past }
     requires space { length found.old.items + more ≤ 8 }
+    requires past { past.now ≡ front.old.past }
 
     ensures state { state.new ≡ state.old }
     ensures found { found.new.items ≡ found.old.items
-        ++ map seen_ahead (prepared_before tick
+        ++ map (seen_ahead delays.now levels) (prepared_before tick
         (ahead_of delays.now levels more None state.old front.old)) }
-    ensures late { late.new ∷ [] ≡ map seen_ahead (first_late tick
+    ensures late { late.new ∷ [] ≡ map (seen_ahead delays.now levels) (first_late tick
         (ahead_of delays.now levels (suc more) None state.old front.old)) }
     ensures log { log.new ≡ log_after_reads delays.now
         (reads_up_to delays.now levels tick (ahead_of delays.now levels (suc more) None state.old
@@ -92,29 +97,55 @@ pub fn look(
     state.shape();
     let mut p = Prepared::default();
     let planned = plan_entry(None, state, &mut p);
-    let begun = begin(front, delays, levels, &planned.entry, log);
+    let entry = &planned.entry;
+    let mut uses = Uses::new();
+    let side = planned.known.side;
+    let begun = begin(front, past, delays, levels, entry, side, log, &mut uses);
     if begun.formed.p >= tick {
         let mut scratch = Log::new();
-        let ticks = finish(front, delays, levels, &planned.entry, begun, &mut scratch);
+        let ticks = finish(
+            front,
+            past,
+            delays,
+            levels,
+            entry,
+            p.reads,
+            begun,
+            &mut scratch,
+            &mut uses,
+        );
         *late = Ahead {
             plan: p,
             row: ticks,
             known: planned.known,
+            uses,
         };
         front.bus = begun.words.bus;
         return;
     }
-    let row = finish(front, delays, levels, &planned.entry, begun, log);
+    let row = finish(
+        front, past, delays, levels, entry, p.reads, begun, log, &mut uses,
+    );
     found.push(Ahead {
         plan: p,
         row,
         known: planned.known,
+        uses,
     });
+    let mut behind = *past;
+    put_past(
+        &mut behind,
+        Past {
+            c: row.c,
+            writes: entry.writes,
+        },
+    );
     let kept = keep(&p, state);
     guess(&p, state);
     look(
         state,
         front,
+        &behind,
         delays,
         levels,
         more - 1,

@@ -1,5 +1,5 @@
 //! The row of an entry, with its reads noted in a log.
-ghost use Rattle.std.specs.Prelude.{◌≡◌, ℕ, ◌+◌, ◌-◌, ◌<◌, ◌≤◌, ◌^◌, List, length, IfSome};
+ghost use Rattle.std.specs.Prelude.{◌≡◌, ℕ, ◌+◌, ◌-◌, ◌<◌, ◌≤◌, ◌^◌, ◌∷◌, ◌++◌, List, length, take, IfSome};
 ghost use Rattle.st_bits.specs.declared.limits.TheConstants.{MOST_DELAY};
 ghost use Rattle.st_rows.specs.Asked.{words_asked, fetches_asked, formed_asked, reads_of_entry as asked_of};
 ghost use Rattle.st_rows.specs.Notes.{log_after_reads};
@@ -10,11 +10,26 @@ ghost use Rattle.st_rows.specs.declared.bus.Bus.{Bus as BusOf};
 ghost use Rattle.st_rows.specs.Rows.{fetch_words, words_tick, bus_sided, side_there as side_there_of, bus_a, tick_a, tick_p, row_of_entry as row_of, front_after_entry as after_of};
 ghost use Rattle.st_rows.specs.Ranges.{IsEntryInTime, IsTight, IsFetchingWithin, ArePastWithin, IsReadable, most_ticks_of_entry};
 ghost use Rattle.st_rows.specs.declared.log.Made.{Made};
+ghost use Rattle.st_prep.specs.Ranges.{IsRuns};
+ghost use Rattle.st_plain.specs.Uses.{instruction_uses, fetch_uses, formed_uses, prepared_uses, uses_of_entry};
 
+use crate::entries::Planned;
+use crate::uses::{Role, Uses, fetch_supply, note, use_data, use_following, use_side};
 use st_banks::{BANKS, Delays, LastAnswers};
-use st_rows::{Entry, EntryTicks, Fetching, Formed, Front, LastEntries, Log, WordRun};
+use st_prep::Words;
+use st_rows::{Entry, EntryTicks, Fetching, Formed, Front, LastEntries, Log, Past, WordRun};
 
-// The instruction words of a run are fetched.
+/// One more entry is kept, and the oldest one given up.
+pub fn put_past(past: &mut [Past; 8], newest: Past)
+    ensures { past.new ≡ newest ∷ take 7 past.old }
+{
+    let old = *past;
+    *past = [
+        newest, old[0], old[1], old[2], old[3], old[4], old[5], old[6],
+    ];
+}
+
+// The instruction words of a run are fetched, and noted.
 fn fetch_run(
     words: &mut Fetching,
     delays: &Delays,
@@ -22,44 +37,62 @@ fn fetch_run(
     run: WordRun,
     from: u64,
     log: &mut Log,
+    uses: &mut Uses,
 )
     requires room { IsFetchingWithin (2 ^ 64 - 2 ^ 16) words.old }
     requires before { ArePastWithin (2 ^ 64 - 2 ^ 16) past.now }
     requires early { from ≤ 2 ^ 64 - 2 ^ 16 }
     requires words { IsReadable run }
     requires few { run.len ≤ 16 }
+    requires space { length uses.old.items + run.len ≤ 48 }
 
     ensures words { words.new ≡ fetch_words delays.now past.now words.old from run.first run.len }
     ensures log { log.new
         ≡ log_after_reads delays.now
         (words_asked delays.now past.now words.old from run.first run.len)
         words.old.bus log.old }
+    ensures uses { uses.new.items ≡ uses.old.items
+        ++ instruction_uses delays.now past.now words.old from run.first run.len }
+    ensures noted { length uses.new.items ≤ length uses.old.items + run.len }
 {
     delays.shape();
     let mut w = run.first;
     let mut left = run.len;
     'words: while left > 0 {
+        let want = from.max(words.answered).max(words.awaited);
+        let supply = fetch_supply(&words.bus, delays, w, want);
+        note(uses, Role::Instruction, w, supply);
         words.word(log, delays, past, w, from);
         w += 1;
         left -= 1;
     }
 }
 
-// All instruction words of the next entry are fetched.
-#[tactic(auto, unfolding(st_rows::specs::Rows::words_tick, st_rows::specs::Asked::fetches_asked))]
-fn fetch_all(front: &Front, delays: &Delays, entry: &Entry, log: &mut Log) -> Fetching
+// All instruction words of the next entry are fetched, and noted.
+#[tactic(auto, unfolding(st_rows::specs::Rows::words_tick, st_rows::specs::Asked::fetches_asked, crate::specs::Uses::fetch_uses))]
+fn fetch_all(
+    front: &Front,
+    delays: &Delays,
+    entry: &Entry,
+    log: &mut Log,
+    uses: &mut Uses,
+) -> Fetching
     requires entry { IsEntryInTime entry.now }
     requires tight { IsTight MOST_DELAY front.now }
     requires early { front.now.c ≤ 2 ^ 63 + 2 ^ 20 }
+    requires space { length uses.old.items + 4 ≤ 48 }
     ensures words { result ≡ words_tick delays.now front.now entry.now }
     ensures log { log.new
         ≡ log_after_reads delays.now
         (fetches_asked delays.now front.now entry.now) front.now.bus log.old }
+    ensures uses { uses.new.items
+        ≡ uses.old.items ++ fetch_uses delays.now front.now entry.now }
+    ensures noted { length uses.new.items ≤ length uses.old.items + 4 }
 {
     delays.shape();
     let mut words = Fetching::new(front.bus);
     let from = front.wanted_from();
-    fetch_run(&mut words, delays, &front.past, entry.own, from, log);
+    fetch_run(&mut words, delays, &front.past, entry.own, from, log, uses);
     fetch_run(
         &mut words,
         delays,
@@ -67,6 +100,7 @@ fn fetch_all(front: &Front, delays: &Delays, entry: &Entry, log: &mut Log) -> Fe
         entry.target,
         from.max(front.c),
         log,
+        uses,
     );
     words
 }
@@ -80,12 +114,24 @@ pub struct Begun {
     pub formed: Formed,
 }
 
-/// Forms the address of the next entry behind a front.
-pub fn begin(front: &Front, delays: &Delays, levels: usize, entry: &Entry, log: &mut Log) -> Begun
+/// Forms the address of the next entry behind a front, whose last entries are `past` and whose
+/// index-side word is `side`, and notes the words that it uses until then.
+pub fn begin(
+    front: &Front,
+    past: &[Past; 8],
+    delays: &Delays,
+    levels: usize,
+    entry: &Entry,
+    side: Option<u32>,
+    log: &mut Log,
+    uses: &mut Uses,
+) -> Begun
     requires entry { IsEntryInTime entry.now }
     requires tight { IsTight MOST_DELAY front.now }
     requires early { front.now.c ≤ 2 ^ 63 + 2 ^ 20 }
     requires levels { (1 ≤ levels) × (levels ≤ 8) }
+    requires past { past.now ≡ front.now.past }
+    requires space { length uses.old.items + 5 ≤ 48 }
 
     ensures address { result.formed.a ≡ tick_a delays.now front.now entry.now }
     ensures tick { result.formed.p ≡ tick_p delays.now levels front.now entry.now }
@@ -93,20 +139,64 @@ pub fn begin(front: &Front, delays: &Delays, levels: usize, entry: &Entry, log: 
     ensures log { log.new
         ≡ log_after_reads delays.now
         (formed_asked delays.now front.now entry.now) front.now.bus log.old }
+    ensures uses { uses.new.items
+        ≡ uses.old.items ++ formed_uses delays.now front.now entry.now side }
+    ensures noted { length uses.new.items ≤ length uses.old.items + 5 }
 {
-    let mut words = fetch_all(front, delays, entry, log);
+    delays.shape();
+    let mut words = fetch_all(front, delays, entry, log, uses);
+    let bus = words.bus;
     let formed = front.form(delays, levels, entry, &mut words, log);
+    use_side(uses, &bus, delays, &front.past, past, side, formed.a);
     Begun { words, formed }
 }
 
-/// Goes on behind the next entry, whose address is formed as `begin` says, and gives its row.
-pub fn finish(
-    front: &mut Front,
+// Notes the words that the next entry uses from its preparation on, whose address is formed as
+// `begin` says, and whose operand words are `reads`.
+#[inline(always)]
+#[tactic(auto, unfolding(st_rows::specs::Rows::operands))]
+fn use_prepared(
+    front: &Front,
+    past: &[Past; 8],
     delays: &Delays,
     levels: usize,
     entry: &Entry,
+    reads: Words,
+    begun: &Begun,
+    uses: &mut Uses,
+)
+    requires entry { IsEntryInTime entry.now }
+    requires tight { IsTight MOST_DELAY front.now }
+    requires early { front.now.c ≤ 2 ^ 63 + 2 ^ 20 }
+    requires past { past.now ≡ front.now.past }
+    requires runs { IsRuns reads }
+    requires space { length uses.old.items + 34 ≤ 48 }
+    requires tick { begun.now.formed.p ≡ tick_p delays.now levels front.now entry.now }
+    requires bus { begun.now.words.bus ≡ bus_a delays.now front.now entry.now }
+
+    ensures { uses.new.items ≡ uses.old.items
+        ++ prepared_uses delays.now levels front.now entry.now reads }
+{
+    delays.shape();
+    let p = begun.formed.p;
+    let mut words = begun.words;
+    words.answered = p;
+    use_data(uses, &mut words, delays, &front.past, past, entry, reads, p);
+    use_following(uses, &mut words.bus, delays, entry, p);
+}
+
+/// Goes on behind the next entry, whose address is formed as `begin` says, gives its row, and notes
+/// the words that it uses from its preparation on.
+pub fn finish(
+    front: &mut Front,
+    past: &[Past; 8],
+    delays: &Delays,
+    levels: usize,
+    entry: &Entry,
+    reads: Words,
     begun: Begun,
     log: &mut Log,
+    uses: &mut Uses,
 ) -> EntryTicks
     requires entry { IsEntryInTime entry.now }
     requires tight { IsTight MOST_DELAY front.old }
@@ -115,6 +205,9 @@ pub fn finish(
     requires address { begun.formed.a ≡ tick_a delays.now front.old entry.now }
     requires tick { begun.formed.p ≡ tick_p delays.now levels front.old entry.now }
     requires bus { begun.words.bus ≡ bus_a delays.now front.old entry.now }
+    requires past { past.now ≡ front.old.past }
+    requires runs { IsRuns reads }
+    requires space { length uses.old.items + 34 ≤ 48 }
 
     ensures value { result ≡ row_of delays.now levels front.old entry.now }
     ensures after { front.new ≡ after_of delays.now levels front.old entry.now }
@@ -122,10 +215,13 @@ pub fn finish(
         (formed_asked delays.now front.old entry.now) front.old.bus before →
         log.new ≡ log_after_reads delays.now
         (asked_of delays.now levels front.old entry.now) front.old.bus before }
+    ensures uses { uses.new.items ≡ uses.old.items
+        ++ prepared_uses delays.now levels front.old entry.now reads }
     ensures tight { IsTight MOST_DELAY front.new }
     ensures bound { front.new.c ≤ front.old.c + most_ticks_of_entry }
 {
     delays.shape();
+    use_prepared(front, past, delays, levels, entry, reads, &begun, uses);
     let mut words = begun.words;
     let filled = front.fill(delays, levels, entry, begun.formed, &mut words, log);
     front.pass(entry, &filled.row, &words.bus);
@@ -186,30 +282,43 @@ pub struct Row {
 }
 
 /// Goes on behind the next entry, and gives its row. The log has its reads, which are made on the
-/// front's bus.
+/// front's bus, and `uses` the words that it uses: the last entries of the front are `past`, and
+/// `reads` are its operand words, registers among them.
+#[tactic(auto, unfolding(crate::specs::Uses::uses_of_entry))]
 pub fn next_row(
     front: &mut Front,
+    past: &[Past; 8],
     delays: &Delays,
     levels: usize,
-    entry: &Entry,
+    planned: &Planned,
+    reads: Words,
     log: &mut Log,
+    uses: &mut Uses,
 ) -> Row
-    requires entry { IsEntryInTime entry.now }
+    requires entry { IsEntryInTime planned.now.entry }
     requires tight { IsTight MOST_DELAY front.old }
     requires early { front.old.c ≤ 2 ^ 63 + 2 ^ 20 }
     requires levels { (1 ≤ levels) × (levels ≤ 8) }
+    requires past { past.now ≡ front.old.past }
+    requires runs { IsRuns reads }
 
-    ensures value { result.ticks ≡ row_of delays.now levels front.old entry.now }
-    ensures wait { result.level_wait ≡ level_wait_of delays.now levels front.old entry.now }
-    ensures after { front.new ≡ after_of delays.now levels front.old entry.now }
+    ensures value { result.ticks ≡ row_of delays.now levels front.old planned.now.entry }
+    ensures wait { result.level_wait
+        ≡ level_wait_of delays.now levels front.old planned.now.entry }
+    ensures after { front.new ≡ after_of delays.now levels front.old planned.now.entry }
     ensures log { log.new
         ≡ log_after_reads delays.now
-        (asked_of delays.now levels front.old entry.now) front.old.bus log.old }
+        (asked_of delays.now levels front.old planned.now.entry) front.old.bus log.old }
+    ensures uses { uses.new.items ≡ uses_of_entry delays.now levels front.old planned.now.entry
+        planned.now.known.side reads }
     ensures tight { IsTight MOST_DELAY front.new }
     ensures bound { front.new.c ≤ front.old.c + most_ticks_of_entry }
 {
-    let begun = begin(front, delays, levels, entry, log);
+    uses.clear();
+    let entry = &planned.entry;
+    let side = planned.known.side;
+    let begun = begin(front, past, delays, levels, entry, side, log, uses);
     let level_wait = level_wait(front, levels, entry, &begun);
-    let ticks = finish(front, delays, levels, entry, begun, log);
+    let ticks = finish(front, past, delays, levels, entry, reads, begun, log, uses);
     Row { ticks, level_wait }
 }

@@ -1,6 +1,21 @@
 //! The words that an entry uses, and where each of them comes from.
+ghost use Rattle.std.specs.Prelude.{◌≡◌, ◌+◌, ◌*◌, ◌-◌, ◌<◌, ◌≤◌, ◌^◌, ◌∷◌, ◌++◌, [], length, IfSome};
+ghost use Rattle.std.specs.List.{position};
+ghost use Rattle.st_fetch.specs.Planned.{tick_of};
+ghost use Rattle.st_prep.specs.Ranges.{IsRuns};
+ghost use Rattle.st_rows.specs.BusTimes.{bus_after_read};
+ghost use Rattle.st_rows.specs.Entries.{is_among};
+ghost use Rattle.st_rows.specs.Ranges.{IsBusWithin, IsReadingWithin, ArePastWithin, IsReadable, IsEntryInTime};
+ghost use Rattle.st_rows.specs.Rows.{reading_of_fetch, read_word, read_words, operands_read, request_inside as request_inside_of};
+ghost use Rattle.st_plain.specs.declared.uses.Role.TheVariants.{Operand};
+ghost use Rattle.st_plain.specs.Uses.{read_ticks as read_ticks_of, fetch_supply as fetch_supply_of, writer_back as back_of, storage_supply as storage_supply_of, side_supply as side_supply_of, side_uses, register_uses, operand_uses, run_uses, data_uses, inside_uses, following_uses};
 
 use arrayvec::ArrayVec;
+use st_banks::Delays;
+use st_bits::WORDS;
+use st_bits::register::FIRST_STORAGE_WORD;
+use st_prep::Words;
+use st_rows::{Bus, Entry, Fetching, LastEntries, Past, WordRun};
 
 /// What a word is used as.
 #[derive(Clone, Copy, Debug, PartialEq, Eq)]
@@ -89,3 +104,354 @@ pub struct Use {
 /// The words that an entry uses, in the order of their reads. There are 39 at most: four
 /// instruction words, the index-side word, 32 operand words and two following ones.
 pub type Uses = ArrayVec<Use, 48>;
+
+/// Notes a word that is used.
+#[inline(always)]
+pub(crate) fn note(uses: &mut Uses, role: Role, word: u32, supply: Supply)
+    requires { length uses.old.items < 48 }
+    ensures items { uses.new.items
+        ≡ uses.old.items ++ record { role = role; word = word; supply = supply } ∷ [] }
+    ensures room { length uses.new.items ≡ length uses.old.items + 1 }
+{
+    uses.push(Use { role, word, supply });
+}
+
+// The ticks of a read of the word `w` on a bus, which is wanted from the tick `want` on.
+#[inline(always)]
+fn read_ticks(bus: &Bus, delays: &Delays, w: u32, want: u64) -> ReadTicks
+    requires room { IsBusWithin (2 ^ 64 - 512) bus.now }
+    requires early { want ≤ 2 ^ 64 - 512 }
+    ensures { result ≡ read_ticks_of delays.now bus.now w want }
+{
+    let accept = bus.banks.accept_tick(w, bus.free, want);
+    ReadTicks {
+        want,
+        turn: bus.free,
+        free: bus.banks.of(w),
+        accept,
+        answer: delays.answer(accept),
+    }
+}
+
+/// Where an instruction word comes from that is wanted from the tick `want` on.
+#[inline(always)]
+pub(crate) fn fetch_supply(bus: &Bus, delays: &Delays, w: u32, want: u64) -> Supply
+    requires room { IsBusWithin (2 ^ 64 - 512) bus.now }
+    requires early { want ≤ 2 ^ 64 - 512 }
+    ensures { result
+        ≡ fetch_supply_of (tick_of bus.now.held.words w) delays.now bus.now w want }
+{
+    match bus.held.tick_of(w) {
+        Some(tick) => Supply::Held(tick),
+        None => Supply::Read(read_ticks(bus, delays, w, want)),
+    }
+}
+
+// The place of the first of some entries that writes the word `w`.
+fn writer_at(past: &[Past], w: u32) -> Option<usize>
+    ensures value { result ≡ position (λ entry. is_among w entry.writes) past.now }
+    ensures bound { IfSome result (λ k. k < length past.now) }
+{
+    past.iter().position(|entry| entry.writes.has(w))
+}
+
+// How many entries before the latest one lies that writes the word `w`, 0 where none does.
+fn writer_back(past: &[Past; 8], w: u32) -> u8
+    ensures { result ≡ back_of past.now w }
+{
+    match writer_at(past, w) {
+        Some(k) => k as u8 + 1,
+        None => 0,
+    }
+}
+
+// Where a word of storage comes from that is wanted at a tick.
+#[inline(always)]
+fn storage_supply(
+    bus: &Bus,
+    delays: &Delays,
+    last: &LastEntries,
+    past: &[Past; 8],
+    w: u32,
+    tick: u64,
+) -> Supply
+    requires room { IsBusWithin (2 ^ 64 - 512) bus.now }
+    requires early { tick ≤ 2 ^ 64 - 512 }
+    requires storage { 32 ≤ w }
+    requires past { past.now ≡ last.now }
+    ensures { result ≡ storage_supply_of delays.now last.now bus.now w tick }
+{
+    let done = last.latest_done(w);
+    if done > tick {
+        return Supply::Forwarded(Writer {
+            back: writer_back(past, w),
+            done,
+        });
+    }
+    Supply::Read(read_ticks(bus, delays, w, tick))
+}
+
+// Where an index-side word comes from, which is wanted at the tick at which the address is formed.
+fn side_supply(
+    bus: &Bus,
+    delays: &Delays,
+    last: &LastEntries,
+    past: &[Past; 8],
+    w: u32,
+    a: u64,
+) -> Supply
+    requires room { IsBusWithin (2 ^ 64 - 512) bus.now }
+    requires early { a ≤ 2 ^ 64 - 512 }
+    requires past { past.now ≡ last.now }
+    ensures { result ≡ side_supply_of delays.now last.now bus.now w a }
+{
+    if w < FIRST_STORAGE_WORD {
+        return Supply::Register;
+    }
+    storage_supply(bus, delays, last, past, w, a)
+}
+
+/// Notes the index-side word, if there is one, of an entry whose address is formed at `a`.
+#[inline(always)]
+#[tactic(auto, unfolding(crate::specs::Uses::side_uses))]
+pub(crate) fn use_side(
+    uses: &mut Uses,
+    bus: &Bus,
+    delays: &Delays,
+    last: &LastEntries,
+    past: &[Past; 8],
+    side: Option<u32>,
+    a: u64,
+)
+    requires space { length uses.old.items < 48 }
+    requires room { IsBusWithin (2 ^ 64 - 512) bus.now }
+    requires early { a ≤ 2 ^ 64 - 512 }
+    requires past { past.now ≡ last.now }
+
+    ensures items { uses.new.items
+        ≡ uses.old.items ++ side_uses delays.now last.now bus.now side a }
+    ensures room { length uses.new.items ≤ length uses.old.items + 1 }
+{
+    let Some(w) = side else {
+        return;
+    };
+    let supply = side_supply(bus, delays, last, past, w, a);
+    note(uses, Role::Index, w, supply);
+}
+
+// Notes operand words that are registers, as many as `count`.
+fn use_registers(uses: &mut Uses, first: u32, count: u8)
+    requires space { length uses.old.items + count ≤ 48 }
+    requires start { first < 2 ^ 18 }
+    ensures items { uses.new.items ≡ uses.old.items ++ register_uses first count }
+    ensures room { length uses.new.items ≤ length uses.old.items + count }
+{
+    let mut w = first;
+    let mut left = count;
+    'words: while left > 0 {
+        note(uses, Role::Operand, w, Supply::Register);
+        w += 1;
+        left -= 1;
+    }
+}
+
+// Notes an operand word that is no register, and reads it, unless it is forwarded.
+#[inline(always)]
+#[tactic(auto, unfolding(st_rows::specs::Rows::read_word, st_rows::specs::BusTimes::bus_after_read))]
+fn use_operand(
+    uses: &mut Uses,
+    words: &mut Fetching,
+    delays: &Delays,
+    last: &LastEntries,
+    past: &[Past; 8],
+    w: u32,
+    p: u64,
+)
+    requires space { length uses.old.items < 48 }
+    requires room { IsReadingWithin (2 ^ 64 - 512) (reading_of_fetch words.old) }
+    requires early { p ≤ 2 ^ 64 - 512 }
+    requires storage { 32 ≤ w }
+    requires past { past.now ≡ last.now }
+
+    ensures after { reading_of_fetch words.new
+        ≡ read_word delays.now last.now (reading_of_fetch words.old) w p }
+    ensures items { uses.new.items ≡ uses.old.items ++ record {
+      role = Operand;
+      word = w;
+      supply = storage_supply_of delays.now last.now words.old.bus w p;
+    } ∷ [] }
+    ensures room { length uses.new.items ≡ length uses.old.items + 1 }
+{
+    let done = last.latest_done(w);
+    if done > p {
+        let back = writer_back(past, w);
+        note(
+            uses,
+            Role::Operand,
+            w,
+            Supply::Forwarded(Writer { back, done }),
+        );
+        return;
+    }
+    let ticks = read_ticks(&words.bus, delays, w, p);
+    words.bus.banks.answer(w, ticks.answer);
+    words.bus.free = ticks.accept + 1;
+    words.answered = words.answered.max(ticks.answer);
+    note(uses, Role::Operand, w, Supply::Read(ticks));
+}
+
+// Notes the operand words of a run that are no registers, and reads them.
+#[inline(always)]
+#[tactic(auto, unfolding(st_rows::specs::Rows::read_words))]
+fn use_operands(
+    uses: &mut Uses,
+    words: &mut Fetching,
+    delays: &Delays,
+    last: &LastEntries,
+    past: &[Past; 8],
+    run: WordRun,
+    p: u64,
+)
+    requires space { length uses.old.items + run.len ≤ 48 }
+    requires room { IsReadingWithin (2 ^ 64 - 2 ^ 16) (reading_of_fetch words.old) }
+    requires early { p ≤ 2 ^ 64 - 2 ^ 16 }
+    requires words { IsReadable run }
+    requires few { run.len ≤ 16 }
+    requires past { past.now ≡ last.now }
+
+    ensures after { reading_of_fetch words.new ≡ read_words delays.now last.now
+        (reading_of_fetch words.old) p run.first run.len }
+    ensures items { uses.new.items ≡ uses.old.items ++ operand_uses delays.now last.now
+        (reading_of_fetch words.old) p run.first run.len }
+    ensures room { length uses.new.items ≤ length uses.old.items + run.len }
+{
+    delays.shape();
+    let mut w = run.first;
+    let mut left = run.len;
+    'words: while left > 0 {
+        use_operand(uses, words, delays, last, past, w, p);
+        w += 1;
+        left -= 1;
+    }
+}
+
+// Notes the operand words of a run, of which `run` has those that are no registers, and reads
+// these.
+#[inline(always)]
+fn use_run(
+    uses: &mut Uses,
+    words: &mut Fetching,
+    delays: &Delays,
+    last: &LastEntries,
+    past: &[Past; 8],
+    all: WordRun,
+    run: WordRun,
+    p: u64,
+)
+    requires space { length uses.old.items + 16 ≤ 48 }
+    requires start { all.first < 2 ^ 18 }
+    requires all { all.len ≤ 16 }
+    requires room { IsReadingWithin (2 ^ 64 - 2 ^ 16) (reading_of_fetch words.old) }
+    requires early { p ≤ 2 ^ 64 - 2 ^ 16 }
+    requires words { IsReadable run }
+    requires few { run.len ≤ 16 }
+    requires past { past.now ≡ last.now }
+
+    ensures after { reading_of_fetch words.new ≡ read_words delays.now last.now
+        (reading_of_fetch words.old) p run.first run.len }
+    ensures items { uses.new.items ≡ uses.old.items ++ run_uses delays.now last.now
+        (reading_of_fetch words.old) p all.first all.len run }
+    ensures room { length uses.new.items ≤ length uses.old.items + 16 }
+{
+    use_registers(uses, all.first, all.len.saturating_sub(run.len));
+    use_operands(uses, words, delays, last, past, run, p);
+}
+
+/// Notes the operand words of an entry that is prepared at `p`, and reads those that are no
+/// registers.
+#[inline(always)]
+#[tactic(auto, unfolding(crate::specs::Uses::data_uses, st_rows::specs::Rows::operands_read))]
+pub(crate) fn use_data(
+    uses: &mut Uses,
+    words: &mut Fetching,
+    delays: &Delays,
+    last: &LastEntries,
+    past: &[Past; 8],
+    entry: &Entry,
+    reads: Words,
+    p: u64,
+)
+    requires space { length uses.old.items + 32 ≤ 48 }
+    requires runs { IsRuns reads }
+    requires entry { IsEntryInTime entry.now }
+    requires room { IsBusWithin (2 ^ 64 - 2 ^ 17) words.old.bus }
+    requires early { p ≤ 2 ^ 64 - 2 ^ 17 }
+    requires start { words.old.answered ≡ p }
+    requires past { past.now ≡ last.now }
+
+    ensures after { reading_of_fetch words.new
+        ≡ operands_read delays.now last.now words.old.bus entry.now.reads p }
+    ensures items { uses.new.items ≡ uses.old.items ++ data_uses delays.now last.now
+        words.old.bus p reads entry.now.reads }
+    ensures room { length uses.new.items ≤ length uses.old.items + 32 }
+{
+    delays.shape();
+    let one = WordRun {
+        first: reads.first,
+        len: reads.len,
+    };
+    let two = WordRun {
+        first: reads.first2,
+        len: reads.len2,
+    };
+    use_run(uses, words, delays, last, past, one, entry.reads.one, p);
+    use_run(uses, words, delays, last, past, two, entry.reads.two, p);
+}
+
+// Notes a following word, and asks for it, if it is a word of storage.
+#[inline(always)]
+#[tactic(auto, unfolding(crate::specs::Uses::inside_uses, st_rows::specs::BusTimes::bus_after_read, st_rows::specs::BusTimes::bus_after_request), using(st_bits::specs::Storage::words_of_storage_is))]
+fn use_inside(uses: &mut Uses, bus: &mut Bus, delays: &Delays, w: u32, p: u64)
+    requires space { length uses.old.items < 48 }
+    requires room { IsBusWithin (2 ^ 64 - 512) bus.old }
+    requires early { p ≤ 2 ^ 64 - 512 }
+
+    ensures after { bus.new ≡ request_inside_of delays.now bus.old w p }
+    ensures items { uses.new.items ≡ uses.old.items ++ inside_uses delays.now bus.old w p }
+    ensures room { length uses.new.items ≤ length uses.old.items + 1 }
+{
+    if w >= WORDS {
+        return;
+    }
+    match bus.held.tick_of(w) {
+        Some(tick) => note(uses, Role::Following, w, Supply::Held(tick)),
+        None => {
+            let ticks = read_ticks(bus, delays, w, p);
+            bus.banks.answer(w, ticks.answer);
+            bus.free = ticks.accept + 1;
+            bus.held.request(w, ticks.answer);
+            note(uses, Role::Following, w, Supply::Read(ticks));
+        }
+    }
+}
+
+/// Notes the words that follow an entry that is prepared at `p`, where it asks for them.
+#[inline(always)]
+#[tactic(auto, unfolding(crate::specs::Uses::following_uses))]
+pub(crate) fn use_following(uses: &mut Uses, bus: &mut Bus, delays: &Delays, entry: &Entry, p: u64)
+    requires space { length uses.old.items + 2 ≤ 48 }
+    requires entry { IsEntryInTime entry.now }
+    requires room { IsBusWithin (2 ^ 64 - 1024) bus.old }
+    requires early { p ≤ 2 ^ 64 - 1024 }
+
+    ensures items { uses.new.items
+        ≡ uses.old.items ++ following_uses delays.now bus.old entry.now p }
+{
+    delays.shape();
+    if !entry.follows {
+        return;
+    }
+    let w = entry.own.first + u32::from(entry.own.len);
+    use_inside(uses, bus, delays, w, p);
+    use_inside(uses, bus, delays, w + 1, p);
+}

@@ -7,9 +7,9 @@ use itoa::write_digits;
 use std::marker::Model;
 
 // Room for a line.
-const ROOM: usize = 128;
+const ROOM: usize = 192;
 
-/// A line of at most 128 bytes that is put together from its end: each piece comes before those
+/// A line of at most 192 bytes that is put together from its end: each piece comes before those
 /// that stand there. So a number's digits are written where they stay, and the line is never moved.
 #[derive(Debug, Drop)]
 pub struct LineFromEnd {
@@ -24,7 +24,7 @@ impl Model for LineFromEnd {
 
     ghost view = { λ l. drop l.start l.bytes };
 
-    ghost invariant = { λ l. l.start ≤ 128 };
+    ghost invariant = { λ l. l.start ≤ 192 };
 }
 
 impl LineFromEnd {
@@ -58,7 +58,7 @@ impl LineFromEnd {
     /// Puts a piece before the line.
     #[inline(always)]
     pub fn put(&mut self, piece: &[u8])
-        requires { length piece.now + length self.old ≤ 128 }
+        requires { length piece.now + length self.old ≤ 192 }
         ensures { self.new ≡ piece.now ++ self.old }
     {
         let start = self.start - piece.len();
@@ -69,7 +69,7 @@ impl LineFromEnd {
     /// Puts a number in decimal digits before the line, of which there are at most 20.
     #[inline(always)]
     pub fn put_decimal(&mut self, n: u64)
-        requires { length self.old + 20 ≤ 128 }
+        requires { length self.old + 20 ≤ 192 }
         ensures bytes { self.new ≡ decimal n ++ self.old }
         ensures room { length self.new ≤ length self.old + 20 }
     {
@@ -80,7 +80,7 @@ impl LineFromEnd {
     #[inline(always)]
     fn put_half(&mut self, half: u32)
         requires few { half < 2 }
-        requires room { length self.old + 3 ≤ 128 }
+        requires room { length self.old + 3 ≤ 192 }
         ensures bytes { self.new ≡ (codes "." ++ decimal (32 * half)) ++ self.old }
         ensures room { length self.new ≤ length self.old + 3 }
     {
@@ -94,7 +94,7 @@ impl LineFromEnd {
     /// Puts a half-word address before the line, as word.bit.
     #[inline(always)]
     pub fn put_half_address(&mut self, address: u32)
-        requires { length self.old + 23 ≤ 128 }
+        requires { length self.old + 23 ≤ 192 }
         ensures bytes { self.new ≡ half_address address ++ self.old }
         ensures room { length self.new ≤ length self.old + 23 }
     {

@@ -3,11 +3,11 @@ use Rattle.st_lines.proofs.writing.+write_drops.Goals as goal
 
 pub returns-in_err-write_drop : goal.returns-in_err-write_drop
 returns-in_err-write_drop g t c =
-    drops_cut _ _ c.args.n c.args.found.now _ _ _ _ c.from_residual.ensures.0 c.in-Some.ensures.parts c.in_err-write_drop.ensures
+    drops_cut _ _ c.args.n c.args.tick c.args.found.now _ _ _ _ c.from_residual.ensures.0 c.in-Some.ensures.parts c.in_err-write_drop.ensures
 
 pub returns : goal.returns
 returns g t c =
-    drops_then _ _ _ c.args.n c.args.found.now _ _ _ _ c.in-Some.ensures.parts c.in_ok-write_drop.ensures c.write_drops.ensures
+    drops_then _ _ _ c.args.n c.args.tick c.args.found.now _ _ _ _ c.in-Some.ensures.parts c.in_ok-write_drop.ensures c.write_drops.ensures
 
 pub returns-in_default : goal.returns-in_default
-returns-in_default g t c = drops_none _ c.args.n c.args.found.now _ c.in_default.ensures.parts
+returns-in_default g t c = drops_none _ c.args.n c.args.tick c.args.found.now _ c.in_default.ensures.parts

@@ -12,11 +12,11 @@ returns-then-k-eq0 g c =
 pub returns-in_err-write_end_line : goal.returns-in_err-write_end_line
 returns-in_err-write_end_line g c =
     same_lines _ _ _ _ _ (sym (end-some c.args.k c.args.tick c.args.n c.args.found.now (c.args.late.now ∷ []) c.if-k-eq0.false))
-    (lines_cut _ _ (segment_end_line c.args.k c.args.tick ∷ []) (drop_lines c.args.n c.args.found.now ++ late_lines (c.args.n + length c.args.found.now) (c.args.late.now ∷ [])) _ c.from_residual.result
+    (lines_cut _ _ (segment_end_line c.args.k c.args.tick ∷ []) (drop_lines c.args.n c.args.tick c.args.found.now ++ late_lines (c.args.n + length c.args.found.now) c.args.tick (c.args.late.now ∷ [])) _ c.from_residual.result
     c.from_residual.ensures.0 c.in_err-write_end_line.ensures)
 
 pub returns : goal.returns
 returns g c =
     same_lines _ _ _ _ _ (sym (end-some c.args.k c.args.tick c.args.n c.args.found.now (c.args.late.now ∷ []) c.if-k-eq0.false))
-    (lines_then _ _ _ (segment_end_line c.args.k c.args.tick ∷ []) (drop_lines c.args.n c.args.found.now ++ late_lines (c.args.n + length c.args.found.now) (c.args.late.now ∷ [])) _ _ c.in_ok-write_end_line.ensures
+    (lines_then _ _ _ (segment_end_line c.args.k c.args.tick ∷ []) (drop_lines c.args.n c.args.tick c.args.found.now ++ late_lines (c.args.n + length c.args.found.now) c.args.tick (c.args.late.now ∷ [])) _ _ c.in_ok-write_end_line.ensures
     c.write_ahead.ensures)

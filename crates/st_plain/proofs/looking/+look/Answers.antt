@@ -1,4 +1,4 @@
-use Rattle.std.proofs.Common.{ℕ, ◌<◌, Bool, length, Option, None, ◌∙◌, ap, arith}
+use Rattle.std.proofs.Common.{◌≡◌, ◌<◌, length, None, ◌∙◌, ap, arith}
 use Rattle.std.proofs.lemmas.List.{length_push}
 use Rattle.st_exec.specs.Completion.{guessed_state}
 use Rattle.st_state.specs.Machine.{Machine}
@@ -15,10 +15,18 @@ use Rattle.st_rows.proofs.Tight.{later-c}
 use Rattle.st_rows.proofs.Within.{AreDelays-list}
 use Rattle.st_segment.specs.Entries.{entry}
 use Rattle.st_segment.proofs.EntryRanges.{entry-ranges}
+use Rattle.arrayvec.specs.ArrayVec.{ArrayVec}
+use Rattle.st_plain.specs.Looking.{side_at, known_at}
+use Rattle.st_plain.specs.Uses.{uses_of_entry}
 use Rattle.st_plain.specs.declared.known.Known.{Known}
+use Rattle.st_plain.specs.declared.uses.Use.{Use}
 use Rattle.st_plain.specs.declared.looking.Ahead.{Ahead as Seen}
-use Rattle.st_plain.proofs.LookLemmas.{guess-counted, guess-done, found-late, found-same, found-look, begun-here, begun-behind, bus-late, log-late, bus-look, log-look, first-next, some-more, row-p, after-c}
+use Rattle.st_plain.proofs.LookLemmas.{guess-counted, guess-done, found-late, found-same, found-look, begun-here, begun-behind, bus-late, log-late, bus-look, log-look, first-next, some-more, row-p, after-c, past-kept}
+use Rattle.st_plain.proofs.UseLemmas.{all-used}
 use Rattle.st_plain.proofs.looking.+look.Goals as goal
+
+abbrev Uses : Type 0
+Uses = ArrayVec Use
 
 pub begin-begun-requires-clause-entry : goal.begin-begun-requires-clause-entry
 begin-begun-requires-clause-entry t c = rw c.plan_entry-planned.ensures.entry (entry-ranges None c.args.state.now c.shape-2.ensures tt)
@@ -39,11 +47,17 @@ returns-then-begun-tick-clause-late t c =
     let s = c.args.state.now in
     let p = ap (tick_p ds n f) c.plan_entry-planned.ensures.entry in
     let is = c.finish-ticks.ensures.value ∙ ap (row_of_entry ds n f) c.plan_entry-planned.ensures.entry in
-    let at : Prepared → EntryTicks → Known → Seen = λ q r known. record { plan = q; row = r; known = known } in
+    let at : Prepared → EntryTicks → Known → Uses → Seen = λ q r known uses. record { plan = q; row = r; known = known; uses = uses } in
+    let plan_is = c.plan_entry-planned.ensures.plan in
+    let known_is = c.plan_entry-planned.ensures.known in
+    let uses_are : c.finish-ticks.new.uses.items ≡ uses_of_entry ds n f (entry None s) (side_at None s) (plan s None).reads =
+    all-used ds n f _ _ _ _ _ _ _ _ _ c.plan_entry-planned.ensures.entry (ap (λ (k : Known). k.side) known_is) (ap (λ (q : Prepared). q.reads) plan_is)
+    c.new-uses.ensures c.begin-begun.ensures.uses c.finish-ticks.ensures.uses in
     begun-here ds n c.args.tick s f c.args.more _ (omega (arith, row-p ds n f (entry None s), p, c.begin-begun.ensures.tick, c.if-begun-tick.true))
-    (ap (λ q. at q c.finish-ticks.result c.plan_entry-planned.result.known) c.plan_entry-planned.ensures.plan
-    ∙ ap (λ r. at (plan s None) r c.plan_entry-planned.result.known) is
-    ∙ ap (at (plan s None) (row_of_entry ds n f (entry None s))) c.plan_entry-planned.ensures.known)
+    (ap (λ q. at q c.finish-ticks.result c.plan_entry-planned.result.known c.finish-ticks.new.uses) plan_is
+    ∙ ap (λ r. at (plan s None) r c.plan_entry-planned.result.known c.finish-ticks.new.uses) is
+    ∙ ap (λ known. at (plan s None) (row_of_entry ds n f (entry None s)) known c.finish-ticks.new.uses) known_is
+    ∙ ap (λ xs. at (plan s None) (row_of_entry ds n f (entry None s)) (known_at None s) (record { items = xs })) uses_are)
 
 pub returns-then-begun-tick-clause-found : goal.returns-then-begun-tick-clause-found
 returns-then-begun-tick-clause-found t c =
@@ -52,7 +66,7 @@ returns-then-begun-tick-clause-found t c =
     let f = c.args.front.now in
     let s = c.args.state.now in
     let p = ap (tick_p ds n f) c.plan_entry-planned.ensures.entry in
-    found-same c.args.found.now.items _
+    found-same ds n c.args.found.now.items _
     (found-late ds n c.args.tick s f c.args.more (omega (arith, row-p ds n f (entry None s), p, c.begin-begun.ensures.tick, c.if-begun-tick.true)))
 
 pub returns-then-begun-tick-clause-log : goal.returns-then-begun-tick-clause-log
@@ -125,7 +139,10 @@ look-requires t c =
                   (
                     first-next ds n n c.args.more c.args.tick f c.finish-row.new.front e c.requires.levels.1 some c.requires.left c.requires.late rises
                         c.requires.first c.finish-row.ensures.after,
-                    omega (arith, more, c.requires.space, some),
+                    (
+                      omega (arith, more, c.requires.space, some),
+                      past-kept ds n f e c.finish-row.result _ _ _ c.requires.past c.finish-row.ensures.value c.put_past.ensures c.finish-row.ensures.after,
+                    ),
                   ),
                 ),
               ),
@@ -150,12 +167,18 @@ returns-clause-found t c =
     (omega (arith, c.begin-begun.ensures.tick, c.if-begun-tick.false)) in
     let p = ap (tick_p ds n f) c.plan_entry-planned.ensures.entry in
     let is = c.finish-row.ensures.value ∙ ap (row_of_entry ds n f) c.plan_entry-planned.ensures.entry in
-    let at : Prepared → EntryTicks → Known → Seen = λ q r known. record { plan = q; row = r; known = known } in
+    let at : Prepared → EntryTicks → Known → Uses → Seen = λ q r known uses. record { plan = q; row = r; known = known; uses = uses } in
+    let plan_is = c.plan_entry-planned.ensures.plan in
+    let known_is = c.plan_entry-planned.ensures.known in
+    let uses_are : c.finish-row.new.uses.items ≡ uses_of_entry ds n f (entry None s) (side_at None s) (plan s None).reads =
+    all-used ds n f _ _ _ _ _ _ _ _ _ c.plan_entry-planned.ensures.entry (ap (λ (k : Known). k.side) known_is) (ap (λ (q : Prepared). q.reads) plan_is)
+    c.new-uses.ensures c.begin-begun.ensures.uses c.finish-row.ensures.uses in
     found-look ds n c.args.tick s f _ _ c.args.more _ _ _ _ some
     (omega (arith, row-p ds n f (entry None s), p, c.begin-begun.ensures.tick, c.if-begun-tick.false))
-    (ap (λ q. at q c.finish-row.result c.plan_entry-planned.result.known) c.plan_entry-planned.ensures.plan
-    ∙ ap (λ r. at (plan s None) r c.plan_entry-planned.result.known) is
-    ∙ ap (at (plan s None) (row_of_entry ds n f (entry None s))) c.plan_entry-planned.ensures.known)
+    (ap (λ q. at q c.finish-row.result c.plan_entry-planned.result.known c.finish-row.new.uses) plan_is
+    ∙ ap (λ r. at (plan s None) r c.plan_entry-planned.result.known c.finish-row.new.uses) is
+    ∙ ap (λ known. at (plan s None) (row_of_entry ds n f (entry None s)) known c.finish-row.new.uses) known_is
+    ∙ ap (λ xs. at (plan s None) (row_of_entry ds n f (entry None s)) (known_at None s) (record { items = xs })) uses_are)
     (c.guess.ensures ∙ ap (λ q. guessed_state q s) c.plan_entry-planned.ensures.plan)
     (c.finish-row.ensures.after ∙ ap (front_after_entry ds n f) c.plan_entry-planned.ensures.entry)
     c.push.ensures.items c.look.ensures.found

@@ -3,6 +3,7 @@ use Rattle.st_rows.specs.Ranges.{IsFetchingWithin}
 use Rattle.st_rows.proofs.Within.{AreDelays-list, past-weaker, fetching-weaker}
 use Rattle.st_rows.proofs.Stages.{tight-bus, wanted-early, fetch_two-within}
 use Rattle.st_plain.proofs.RowLemmas.{noted-fetches}
+use Rattle.st_plain.proofs.UseLemmas.{fetches-used}
 use Rattle.st_plain.proofs.rows.fetch_all.Goals as goal
 
 -- behind the entry's own words
@@ -27,3 +28,9 @@ returns-clause-log c =
     noted-fetches c.args.delays.now c.args.front.now c.args.entry.now c.new-words.result c.fetch_run.new.words c.wanted_from-from.result _ c.args.log.now
     c.fetch_run.new.log c.fetch_run-2.new.log c.new-words.ensures c.wanted_from-from.ensures c.max.ensures c.fetch_run.ensures.words c.fetch_run.ensures.log
     c.fetch_run-2.ensures.log
+
+pub returns-clause-uses : goal.returns-clause-uses
+returns-clause-uses c =
+    fetches-used c.args.delays.now c.args.front.now c.args.entry.now c.new-words.result c.fetch_run.new.words c.wanted_from-from.result _ c.args.uses.now.items
+    c.fetch_run.new.uses.items c.fetch_run-2.new.uses.items c.new-words.ensures c.wanted_from-from.ensures c.max.ensures c.fetch_run.ensures.words c.fetch_run.ensures.uses
+    c.fetch_run-2.ensures.uses

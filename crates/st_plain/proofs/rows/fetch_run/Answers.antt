@@ -2,6 +2,7 @@ use Rattle.std.proofs.Common.{◌+◌, ◌-◌, ◌*◌, ◌^◌, ◌∙◌, ari
 use Rattle.st_bits.specs.Storage.{words_of_storage_is}
 use Rattle.st_rows.proofs.Within.{AreDelays-list, past-weaker, fetching-weaker, fetch_word-within}
 use Rattle.st_plain.proofs.RowLemmas.{fetch-turn, noted-turn, noted-end, fetch-end}
+use Rattle.st_plain.proofs.UseLemmas.{instruction-turn, instruction-end}
 use Rattle.st_plain.proofs.rows.fetch_run.Goals as goal
 
 pub overflow_add-w : goal.overflow_add-w
@@ -21,6 +22,10 @@ words-preserved c =
       log = noted-turn c.args.delays.now c.args.past.now c.args.from c.words.w c.words.words c.word.new.self c.words.left c.words.log c.word.new.log
           c.word.ensures.after c.word.ensures.log (omega arith)
           ∙ c.words.invariant.log;
+      uses = instruction-turn c.args.delays.now c.args.past.now c.args.from c.words.w c.words.words c.word.new.self c.words.left c.words.uses.items c.note.new.uses.items _
+          c.word.ensures.after (rw (c.max-want.ensures, c.max.ensures) at c.fetch_supply-supply.ensures) c.note.ensures.items (omega arith)
+          ∙ c.words.invariant.uses;
+      space = omega (arith, c.note.ensures.room, c.words.invariant.space);
       room = fetching-weaker (m + 256) _ c.word.new.self (omega arith)
           (rw c.word.ensures.after
           (fetch_word-within 255 c.args.delays.now are m (m + 256) (omega arith) c.args.past.now c.words.words c.words.w c.args.from before
@@ -38,3 +43,8 @@ pub returns-clause-log : goal.returns-clause-log
 returns-clause-log c =
     noted-end c.args.delays.now c.args.past.now c.args.from c.words.w c.words.words c.words.left c.words.log _ (omega (arith, c.words-test.false))
     c.words.invariant.log
+
+pub returns-clause-uses : goal.returns-clause-uses
+returns-clause-uses c =
+    instruction-end c.args.delays.now c.args.past.now c.args.from c.words.w c.words.words c.words.left c.words.uses.items _ (omega (arith, c.words-test.false))
+    c.words.invariant.uses

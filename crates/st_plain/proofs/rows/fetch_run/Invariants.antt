@@ -1,18 +1,22 @@
-use Rattle.std.proofs.Common.{◌≡◌, ◌+◌, ◌-◌, ◌*◌, ◌^◌, ◌≤◌}
+use Rattle.std.proofs.Common.{◌≡◌, ◌+◌, ◌-◌, ◌*◌, ◌^◌, ◌≤◌, ◌++◌, length}
 use Rattle.st_bits.specs.Storage.{words_of_storage}
 use Rattle.st_rows.specs.Asked.{words_asked}
 use Rattle.st_rows.specs.Notes.{log_after_reads}
 use Rattle.st_rows.specs.Ranges.{IsFetchingWithin}
 use Rattle.st_rows.specs.Rows.{fetch_words}
+use Rattle.st_plain.specs.Uses.{instruction_uses}
 use Rattle.st_plain.proofs.rows.fetch_run.Given as goal
 
--- the words that are left make of it and of the log what all words make of what they were; there is time left for each
+-- the words that are left make of it, of the log and of the uses what all words make of what they were; there is time and room left for each
 abbrev pub invariant-words : goal.invariant-words
 invariant-words l = record {
   value : fetch_words l.delays l.past l.words l.from l.w l.left
       ≡ fetch_words l.delays l.past l.fn.words l.from l.fn.run.first l.fn.run.len;
   log : log_after_reads l.delays (words_asked l.delays l.past l.words l.from l.w l.left) l.words.bus l.log
       ≡ log_after_reads l.delays (words_asked l.delays l.past l.fn.words l.from l.fn.run.first l.fn.run.len) l.fn.words.bus l.fn.log;
+  uses : l.uses.items ++ instruction_uses l.delays l.past l.words l.from l.w l.left
+      ≡ l.fn.uses.items ++ instruction_uses l.delays l.past l.fn.words l.from l.fn.run.first l.fn.run.len;
+  space : length l.uses.items + l.left ≤ length l.fn.uses.items + l.fn.run.len;
   room : IsFetchingWithin (2 ^ 64 - 512 - 256 * l.left) l.words;
   few : l.left ≤ 16;
   above : 1 ≤ l.left → 32 ≤ l.w;

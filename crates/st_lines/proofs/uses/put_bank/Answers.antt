@@ -1,0 +1,6 @@
+use Rattle.st_lines.proofs.UseLemmas.{bank_digit}
+use Rattle.st_lines.proofs.uses.put_bank.Goals as goal
+
+pub returns-clause-bytes : goal.returns-clause-bytes
+returns-clause-bytes c =
+    bank_digit c.args.w c.bank_number.result _ _ _ c.bank_number.ensures.value c.bank_number.ensures.digit c.put.ensures c.put-2.ensures

@@ -1,0 +1,17 @@
+use Rattle.std.specs.Prelude.{Bool}
+use Rattle.std.proofs.Common.{◌++◌, ◌∙◌, ap, codes, decimal}
+use Rattle.st_text.specs.Numerals.{flag}
+use Rattle.st_banks.specs.Bank.{bank_of}
+use Rattle.st_lines.specs.UseLines.{is_before}
+use Rattle.st_lines.proofs.UseLemmas.{seven_pairs}
+use Rattle.st_lines.proofs.uses.put_read.Goals as goal
+
+pub returns-clause-bytes : goal.returns-clause-bytes
+returns-clause-bytes c =
+    let t = c.args.ticks.now in
+    seven_pairs (codes " READ BANK ") (decimal (bank_of c.args.w)) (codes " WANT ") (decimal t.want) (codes " TURN ") (decimal t.turn)
+    (codes " FREE ") (decimal t.free) (codes " ACCEPT ") (decimal t.accept) (codes " ANSWER ") (decimal t.answer)
+    (codes " MADE ") (flag (is_before c.args.end t.accept)) _ _ _ _ _ _ _ _ _ _ _ _ _
+    (c.put_made.ensures.bytes ∙ ap (λ (b : Bool). (codes " MADE " ++ flag b) ++ c.args.line.now) c.is_before.ensures)
+    c.put_decimal.ensures.bytes c.put.ensures c.put_decimal-2.ensures.bytes c.put-2.ensures c.put_decimal-3.ensures.bytes c.put-3.ensures
+    c.put_decimal-4.ensures.bytes c.put-4.ensures c.put_decimal-5.ensures.bytes c.put-5.ensures c.put_bank.ensures.bytes

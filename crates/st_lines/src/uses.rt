@@ -1,0 +1,184 @@
+//! The lines of the words that an entry uses.
+ghost use Rattle.std.specs.Prelude.{◌≡◌, ◌+◌, ◌-◌, ◌<◌, ◌≤◌, ◌∷◌, ◌++◌, [], length, codes, decimal, if◌then◌else◌};
+ghost use Rattle.st_banks.specs.Bank.{bank_of};
+ghost use Rattle.st_io.specs.Lines.{WritesLines};
+ghost use Rattle.st_text.specs.Numerals.{flag};
+ghost use Rattle.st_lines.specs.UseLines.{role_text, is_before as is_before_of, ticks_text, supply_text, use_line, is_told as is_told_of, use_lines};
+
+use st_io::{Failed, Sink, write_line};
+use st_plain::{ReadTicks, Role, Supply, Use, Writer};
+use st_report::LineFromEnd;
+
+// Whether a tick lies before the end of a segment, or that goes on.
+#[inline(always)]
+fn is_before(end: Option<u64>, tick: u64) -> bool
+    ensures { result ≡ is_before_of end tick }
+{
+    match end {
+        None => true,
+        Some(end) => tick < end,
+    }
+}
+
+// Puts the kind of a line, and what a word is used as, before a line.
+#[inline(always)]
+fn put_role(line: &mut LineFromEnd, role: Role)
+    requires { length line.old + 16 ≤ 192 }
+    ensures { line.new ≡ (codes "USE " ++ role_text role ++ codes " ") ++ line.old }
+{
+    match role {
+        Role::Instruction => line.put(b"USE INSTRUCTION "),
+        Role::Index => line.put(b"USE INDEX "),
+        Role::Operand => line.put(b"USE OPERAND "),
+        Role::Following => line.put(b"USE FOLLOWING "),
+    }
+}
+
+/// The number of the bank of a word.
+#[inline(always)]
+#[tactic(auto, unfolding(st_banks::specs::Bank::bank_of))]
+pub(crate) fn bank_number(w: u32) -> u8
+    ensures value { result ≡ bank_of w }
+    ensures digit { result < 10 }
+{
+    if w < 65_536 {
+        (w % 4) as u8
+    } else {
+        4 + (w % 2) as u8
+    }
+}
+
+// Puts the bank of a word before a line.
+#[inline(always)]
+fn put_bank(line: &mut LineFromEnd, w: u32)
+    requires { length line.old + 12 ≤ 192 }
+    ensures bytes { line.new ≡ (codes " READ BANK " ++ decimal (bank_of w)) ++ line.old }
+    ensures room { length line.new ≡ length line.old + 12 }
+{
+    line.put(&[b'0' + bank_number(w)]);
+    line.put(b" READ BANK ");
+}
+
+// Puts whether a read is made before a line.
+#[inline(always)]
+fn put_made(line: &mut LineFromEnd, made: bool)
+    requires { length line.old + 7 ≤ 192 }
+    ensures bytes { line.new ≡ (codes " MADE " ++ flag made) ++ line.old }
+    ensures room { length line.new ≡ length line.old + 7 }
+{
+    if made {
+        line.put(b" MADE 1");
+    } else {
+        line.put(b" MADE 0");
+    }
+}
+
+// Puts the read of word w before a line.
+#[inline(always)]
+fn put_read(line: &mut LineFromEnd, end: Option<u64>, w: u32, ticks: &ReadTicks)
+    requires { length line.old + 153 ≤ 192 }
+    ensures bytes { line.new ≡ ticks_text end w ticks.now ++ line.old }
+    ensures room { length line.new ≤ length line.old + 153 }
+{
+    put_made(line, is_before(end, ticks.accept));
+    line.put_decimal(ticks.answer);
+    line.put(b" ANSWER ");
+    line.put_decimal(ticks.accept);
+    line.put(b" ACCEPT ");
+    line.put_decimal(ticks.free);
+    line.put(b" FREE ");
+    line.put_decimal(ticks.turn);
+    line.put(b" TURN ");
+    line.put_decimal(ticks.want);
+    line.put(b" WANT ");
+    put_bank(line, w);
+}
+
+// Puts the writer of a word before a line, which the n-th entry uses.
+#[inline(always)]
+fn put_writer(line: &mut LineFromEnd, n: u32, writer: Writer)
+    requires { length line.old + 61 ≤ 192 }
+    ensures bytes { line.new ≡ (codes " FORWARDED ROW " ++ decimal (n - writer.back)
+        ++ codes " DONE " ++ decimal writer.done) ++ line.old }
+    ensures room { length line.new ≤ length line.old + 61 }
+{
+    line.put_decimal(writer.done);
+    line.put(b" DONE ");
+    line.put_decimal(u64::from(n.saturating_sub(u32::from(writer.back))));
+    line.put(b" FORWARDED ROW ");
+}
+
+// Puts where word w comes from before a line.
+#[inline(always)]
+fn put_supply(line: &mut LineFromEnd, n: u32, end: Option<u64>, w: u32, supply: &Supply)
+    requires { length line.old + 153 ≤ 192 }
+    ensures bytes { line.new ≡ supply_text n end w supply.now ++ line.old }
+    ensures room { length line.new ≤ length line.old + 153 }
+{
+    match supply {
+        Supply::Read(ticks) => put_read(line, end, w, ticks),
+        Supply::Held(answer) => {
+            line.put_decimal(*answer);
+            line.put(b" HELD ANSWER ");
+        }
+        Supply::Forwarded(writer) => put_writer(line, n, *writer),
+        Supply::Register => line.put(b" REGISTER"),
+    }
+}
+
+// A word that the n-th entry uses, filled into a line. What the line had is gone.
+fn fill_use(line: &mut LineFromEnd, n: u32, end: Option<u64>, used: &Use)
+    ensures { line.new ≡ use_line n end used.now }
+{
+    line.clear();
+    line.put(b"\n");
+    put_supply(line, n, end, used.word, &used.supply);
+    line.put_decimal(u64::from(used.word));
+    put_role(line, used.role);
+}
+
+// Whether a word is told, by where it comes from.
+#[inline(always)]
+fn is_told(end: Option<u64>, supply: &Supply) -> bool
+    ensures { result ≡ is_told_of end supply.now }
+{
+    match supply {
+        Supply::Read(ticks) => is_before(end, ticks.want),
+        Supply::Held(_) | Supply::Forwarded(_) | Supply::Register => true,
+    }
+}
+
+// Writes the line of a word, where it is told.
+#[tactic(auto, using(st_io::proofs::Progress::wrote_nothing))]
+fn write_use<K: Sink>(
+    out: &mut K,
+    line: &mut LineFromEnd,
+    n: u32,
+    end: Option<u64>,
+    used: &Use,
+) -> Result<(), Failed>
+    ensures { WritesLines (K.output out.old) (K.output out.new)
+        (if is_told_of end used.now.supply then use_line n end used.now ∷ [] else []) result }
+{
+    if !is_told(end, &used.supply) {
+        return Ok(());
+    }
+    fill_use(line, n, end, used);
+    write_line(out, line.as_bytes())
+}
+
+/// Writes the words that the n-th entry uses, whose segment ends at the tick `end`, or goes on.
+pub(crate) fn write_uses<K: Sink>(
+    out: &mut K,
+    n: u32,
+    end: Option<u64>,
+    uses: &[Use],
+) -> Result<(), Failed>
+    ensures { WritesLines (K.output out.old) (K.output out.new) (use_lines n end uses.now) result }
+{
+    let mut line = LineFromEnd::new();
+    for used in uses {
+        write_use(out, &mut line, n, end, used)?;
+    }
+    Ok(())
+}

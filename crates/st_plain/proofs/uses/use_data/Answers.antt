@@ -1,0 +1,17 @@
+use Rattle.std.proofs.Common.{◌+◌, ◌-◌, ◌*◌, ◌^◌, sym, subst, arith}
+use Rattle.st_rows.specs.BusTimes.{Reading}
+use Rattle.st_rows.specs.Ranges.{IsReadingWithin}
+use Rattle.st_rows.specs.Rows.{reading_of_fetch}
+use Rattle.st_rows.proofs.Within.{AreDelays-list, reading-weaker}
+use Rattle.st_rows.proofs.Stages.{read_sixteen-within}
+use Rattle.st_plain.proofs.uses.use_data.Goals as goal
+
+-- behind the first run
+pub use_run-requires-2-clause-room : goal.use_run-requires-2-clause-room
+use_run-requires-2-clause-room c =
+    let m = 2 ^ 64 - 2 ^ 17 in
+    let start : IsReadingWithin m (reading_of_fetch c.args.words.now) = record { bus = c.requires.room; answered = omega (arith, c.requires.start, c.requires.early) } in
+    subst (λ (s : Reading). IsReadingWithin (2 ^ 64 - 2 ^ 16) s) (sym c.use_run.ensures.after)
+    (reading-weaker (m + 16 * 256) (2 ^ 64 - 2 ^ 16) _ (omega arith)
+    (read_sixteen-within 255 c.args.delays.now (AreDelays-list c.args.delays.now c.shape.ensures) c.args.last.now c.args.p
+    c.args.entry.now.reads.one.first c.args.entry.now.reads.one.len m _ c.requires.entry.one_few start c.requires.early))

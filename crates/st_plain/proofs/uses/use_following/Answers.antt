@@ -1,0 +1,20 @@
+use Rattle.std.proofs.Common.{◌-◌, ◌^◌, arith}
+use Rattle.st_bits.specs.Storage.{words_of_storage_is}
+use Rattle.st_rows.proofs.Within.{AreDelays-list, request_inside-within}
+use Rattle.st_plain.proofs.uses.use_following.Goals as goal
+
+pub overflow_add-w : goal.overflow_add-w
+overflow_add-w c =
+    let some = c.requires.entry.follows c.if-not-entry.false in
+    omega (arith, words_of_storage_is, c.requires.entry.own.inside some)
+
+pub overflow_add-w-2 : goal.overflow_add-w-2
+overflow_add-w-2 c =
+    let some = c.requires.entry.follows c.if-not-entry.false in
+    omega (arith, words_of_storage_is, c.requires.entry.own.inside some)
+
+pub use_inside-requires-2-clause-room : goal.use_inside-requires-2-clause-room
+use_inside-requires-2-clause-room c =
+    rw c.use_inside.ensures.after
+    (request_inside-within 255 c.args.delays.now (AreDelays-list c.args.delays.now c.shape.ensures) (2 ^ 64 - 1024) (2 ^ 64 - 512) (omega arith)
+    c.args.bus.now _ c.args.p c.requires.room c.requires.early)

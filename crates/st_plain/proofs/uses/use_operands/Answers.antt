@@ -1,0 +1,41 @@
+use Rattle.std.proofs.Common.{◌+◌, ◌-◌, ◌*◌, ◌^◌, ◌∙◌, sym, subst, arith}
+use Rattle.st_bits.specs.Storage.{words_of_storage_is}
+use Rattle.st_rows.specs.BusTimes.{Reading}
+use Rattle.st_rows.specs.Ranges.{IsReadingWithin}
+use Rattle.st_rows.specs.Rows.{reading_of_fetch}
+use Rattle.st_rows.proofs.Turns.{read-turn}
+use Rattle.st_rows.proofs.Within.{AreDelays-list, reading-weaker, read_word-within}
+use Rattle.st_plain.proofs.UseLemmas.{operand-turn, operand-end}
+use Rattle.st_plain.proofs.uses.use_operands.Goals as goal
+
+pub overflow_add-w : goal.overflow_add-w
+overflow_add-w c = omega (arith, words_of_storage_is, c.words.invariant.inside (omega arith))
+
+pub use_operand-requires-clause-storage : goal.use_operand-requires-clause-storage
+use_operand-requires-clause-storage c = c.words.invariant.above (omega arith)
+
+pub words-preserved : goal.words-preserved
+words-preserved c =
+    let m = 2 ^ 64 - 512 - 256 * c.words.left in
+    let are = AreDelays-list c.args.delays.now c.shape.ensures in
+    let s = reading_of_fetch c.words.words in
+    let t = reading_of_fetch c.use_operand.new.words in
+    record {
+      value = read-turn c.args.delays.now c.args.last.now c.words.w c.args.p s t c.words.left c.use_operand.ensures.after (omega arith)
+          ∙ c.words.invariant.value;
+      uses = operand-turn c.args.delays.now c.args.last.now c.args.p c.words.w s t c.words.left c.words.uses.items c.use_operand.new.uses.items
+          c.use_operand.ensures.after c.use_operand.ensures.items (omega arith)
+          ∙ c.words.invariant.uses;
+      space = omega (arith, c.use_operand.ensures.room, c.words.invariant.space);
+      room = reading-weaker (m + 256) _ t (omega arith)
+          (subst (λ (r : Reading). IsReadingWithin (m + 256) r) (sym c.use_operand.ensures.after)
+          (read_word-within 255 c.args.delays.now are c.args.last.now s c.words.w c.args.p m c.words.invariant.room (omega arith)));
+      few = omega (arith, c.words.invariant.few);
+      above = λ some. omega (arith, c.words.invariant.above (omega arith));
+      inside = λ some. omega (arith, c.words.invariant.inside (omega arith));
+    }
+
+pub returns-clause-items : goal.returns-clause-items
+returns-clause-items c =
+    operand-end c.args.delays.now c.args.last.now c.args.p c.words.w (reading_of_fetch c.words.words) c.words.left c.words.uses.items _
+    (omega (arith, c.words-test.false)) c.words.invariant.uses

@@ -1,0 +1,160 @@
+-- The words that an entry uses, in the order of their reads, and where each of them comes from.
+use Rattle.std.specs.Prelude.{ℕ, zero, suc, ◌+◌, ◌-◌, max, nat_lt, if◌then◌else◌, List, [], ◌∷◌, ◌++◌, Option, None, Some}
+use Rattle.std.specs.List.{position}
+use Rattle.st_bits.specs.Storage.{words_of_storage}
+use Rattle.st_bits.specs.declared.register.TheConstants.{FIRST_STORAGE_WORD}
+use Rattle.st_banks.specs.Bank.{last_of}
+use Rattle.st_fetch.specs.Planned.{tick_of}
+use Rattle.st_prep.specs.declared.entries.Words.{Words}
+use Rattle.st_rows.specs.BusTimes.{Reading, accept_at, answer_at}
+use Rattle.st_rows.specs.Entries.{is_among, latest_done}
+use Rattle.st_rows.specs.Rows.{fetch_word, fetch_words, wanted_from, words_tick, is_forwarded, read_word, read_words, request_inside, tick_a, bus_a, tick_p, operands}
+use Rattle.st_rows.specs.declared.bus.Bus.{Bus}
+use Rattle.st_rows.specs.declared.entry.Entry.{Entry}
+use Rattle.st_rows.specs.declared.entry.WordRun.{WordRun}
+use Rattle.st_rows.specs.declared.entry.WordRuns.{WordRuns}
+use Rattle.st_rows.specs.declared.fetching.Fetching.{Fetching}
+use Rattle.st_rows.specs.declared.front.Front.{Front}
+use Rattle.st_rows.specs.declared.past.Past.{Past}
+use Rattle.st_plain.specs.declared.uses.ReadTicks.{ReadTicks}
+use Rattle.st_plain.specs.declared.uses.Role.TheVariants.{Instruction, Index, Operand, Following}
+use Rattle.st_plain.specs.declared.uses.Supply.{Supply}
+use Rattle.st_plain.specs.declared.uses.Supply.TheVariants.{Read, Held, Forwarded, Register}
+use Rattle.st_plain.specs.declared.uses.Use.{Use}
+
+-- ---- where a word comes from
+
+-- the read of the word w that is wanted from a tick on, on the bus before it
+abbrev pub read_ticks : List ℕ → Bus → ℕ → ℕ → ReadTicks
+read_ticks ds b w want = record {
+  want = want;
+  turn = b.free;
+  free = last_of b.banks.ticks w;
+  accept = accept_at b w want;
+  answer = answer_at ds b w want;
+}
+
+-- an instruction word, given the tick of its answer if it is held
+abbrev pub fetch_supply : Option ℕ → List ℕ → Bus → ℕ → ℕ → Supply
+fetch_supply (Some tick) ds b w want = Held tick
+fetch_supply None ds b w want = Read (read_ticks ds b w want)
+
+-- how many entries before the latest one lies that writes the word w, 0 where none does; they stand
+-- newest first
+abbrev pub one_behind : Option ℕ → ℕ
+one_behind None = 0
+one_behind (Some k) = k + 1
+
+abbrev pub writer_back : List Past → ℕ → ℕ
+writer_back past w = one_behind (position (λ entry. is_among w entry.writes) past)
+
+-- a word of storage that is wanted at a tick: from its latest writer where that is not done by then
+abbrev pub storage_supply : List ℕ → List Past → Bus → ℕ → ℕ → Supply
+storage_supply ds past b w tick =
+    if is_forwarded past w tick
+    then Forwarded (record { back = writer_back past w; done = latest_done past w })
+    else Read (read_ticks ds b w tick)
+
+-- ---- its instruction words
+
+-- n of them from the word w on
+unfoldable pub instruction_uses : List ℕ → List Past → Fetching → ℕ → ℕ → ℕ → List Use
+instruction_uses ds past s from w zero = []
+instruction_uses ds past s from w (suc n) =
+    record {
+      role = Instruction;
+      word = w;
+      supply = fetch_supply (tick_of s.bus.held.words w) ds s.bus w
+          (max (max from s.answered) s.awaited);
+    }
+    ∷ instruction_uses ds past (fetch_word ds past s w from) from (w + 1) n
+
+-- its own, and behind them those of the target of EX
+unfoldable pub fetch_uses : List ℕ → Front → Entry → List Use
+fetch_uses ds f e =
+    instruction_uses ds f.past (record { bus = f.bus; answered = 0; awaited = 0 })
+    (wanted_from f) e.own.first e.own.len
+    ++ instruction_uses ds f.past
+    (fetch_words ds f.past (record { bus = f.bus; answered = 0; awaited = 0 })
+    (wanted_from f) e.own.first e.own.len)
+    (max (wanted_from f) f.c) e.target.first e.target.len
+
+-- ---- its index-side word
+
+-- it is a register, or a word of storage
+abbrev pub side_supply : List ℕ → List Past → Bus → ℕ → ℕ → Supply
+side_supply ds past b w a = if nat_lt w FIRST_STORAGE_WORD then Register
+    else storage_supply ds past b w a
+
+-- the word, wanted at the address's tick, if there is one
+unfoldable pub side_uses : List ℕ → List Past → Bus → Option ℕ → ℕ → List Use
+side_uses ds past b None a = []
+side_uses ds past b (Some w) a =
+    record { role = Index; word = w; supply = side_supply ds past b w a } ∷ []
+
+-- ---- its operand words
+
+-- n registers from the word w on
+unfoldable pub register_uses : ℕ → ℕ → List Use
+register_uses w zero = []
+register_uses w (suc n) = record { role = Operand; word = w; supply = Register }
+    ∷ register_uses (w + 1) n
+
+-- n words of storage from the word w on, wanted at preparation
+unfoldable pub operand_uses : List ℕ → List Past → Reading → ℕ → ℕ → ℕ → List Use
+operand_uses ds past s p w zero = []
+operand_uses ds past s p w (suc n) =
+    record { role = Operand; word = w; supply = storage_supply ds past s.bus w p }
+    ∷ operand_uses ds past (read_word ds past s w p) p (w + 1) n
+
+-- n words from the word w on: registers come first, and the run has the words of storage
+abbrev pub run_uses : List ℕ → List Past → Reading → ℕ → ℕ → ℕ → WordRun → List Use
+run_uses ds past s p w n run =
+    register_uses w (n - run.len) ++ operand_uses ds past s p run.first run.len
+
+-- those of both runs, where the bus is b when it is prepared at p; `runs` has the words of storage
+unfoldable pub data_uses : List ℕ → List Past → Bus → ℕ → Words → WordRuns → List Use
+data_uses ds past b p reads runs =
+    run_uses ds past (record { bus = b; answered = p }) p reads.first reads.len runs.one
+    ++ run_uses ds past
+    (read_words ds past (record { bus = b; answered = p }) p runs.one.first runs.one.len)
+    p reads.first2 reads.len2 runs.two
+
+-- ---- the words that follow it
+
+-- one of the two, if it lies in storage
+unfoldable pub inside_uses : List ℕ → Bus → ℕ → ℕ → List Use
+inside_uses ds b w p =
+    if nat_lt w words_of_storage
+    then record {
+      role = Following;
+      word = w;
+      supply = fetch_supply (tick_of b.held.words w) ds b w p;
+    } ∷ []
+    else []
+
+-- both of them, where the entry has following words
+unfoldable pub following_uses : List ℕ → Bus → Entry → ℕ → List Use
+following_uses ds b e p =
+    if e.follows
+    then inside_uses ds b (e.own.first + e.own.len) p
+    ++ inside_uses ds (request_inside ds b (e.own.first + e.own.len) p)
+    (e.own.first + e.own.len + 1) p
+    else []
+
+-- ---- all words of the entry e behind the front f, whose index-side word and operand words are
+-- given with the registers among them
+
+-- those that are wanted until its address is formed
+abbrev pub formed_uses : List ℕ → Front → Entry → Option ℕ → List Use
+formed_uses ds f e side =
+    fetch_uses ds f e ++ side_uses ds f.past (words_tick ds f e).bus side (tick_a ds f e)
+
+-- and those from its preparation on
+abbrev pub prepared_uses : List ℕ → ℕ → Front → Entry → Words → List Use
+prepared_uses ds n f e reads =
+    data_uses ds f.past (bus_a ds f e) (tick_p ds n f e) reads e.reads
+    ++ following_uses ds (operands ds n f e).bus e (tick_p ds n f e)
+
+unfoldable pub uses_of_entry : List ℕ → ℕ → Front → Entry → Option ℕ → Words → List Use
+uses_of_entry ds n f e side reads = formed_uses ds f e side ++ prepared_uses ds n f e reads
