@@ -107,11 +107,7 @@ fn write_each_wait<K: Sink>(
 }
 
 // Writes a charge.
-fn write_charge<K: Sink>(
-    out: &mut K,
-    line: &mut LineFromEnd,
-    charge: Charge,
-) -> Result<(), Failed>
+fn write_charge<K: Sink>(out: &mut K, line: &mut LineFromEnd, charge: Charge) -> Result<(), Failed>
     ensures { WritesLines (K.output out.old) (K.output out.new) (charge_line charge ∷ []) result }
 {
     fill_charge(line, charge);
