@@ -62,7 +62,8 @@ reason_name Order = codes "ORDER"
 
 -- what kept the n-th entry back
 abbrev pub because_line : ℕ → Because → List ℕ
-because_line n (Start tick) = codes "BECAUSE START ROW - TICK " ++ decimal tick ++ codes " LATE -" ++ lf
+because_line n (Start tick) =
+    codes "BECAUSE START ROW - TICK " ++ decimal tick ++ codes " LATE -" ++ lf
 because_line n (Prefetch x) =
     codes "BECAUSE PREFETCH WORD " ++ decimal x.word ++ codes " LATE " ++ decimal x.late ++ lf
 because_line n (Earlier x) =

@@ -193,10 +193,10 @@ fn write_parts<K: Sink>(
     write_parts(out, later(from, part.end), more, uses, before, waiting)
 }
 
-/// Writes the charges of an entry that is done, each with its waits, and adds these to the sums. Its
-/// row and the words that it uses are given, and the words that the entry before it in its segment
-/// uses. The last entry before it was done at the tick `done`, and its segment starts at `start`, if
-/// it is the first one of that.
+/// Writes the charges of an entry that is done, each with its waits, and adds these to the sums.
+/// Its row and the words that it uses are given, and those that the entry before it in its segment
+/// uses, none for the first one. The last entry before it was done at the tick `done`, and its
+/// segment starts at `start`, if it is the first one of that.
 pub fn write_charged<K: Sink>(
     out: &mut K,
     row: &EntryTicks,

@@ -19,7 +19,8 @@ use Rattle.st_reasons.specs.declared.waits.Wait.{Wait}
 -- read of the word v
 unfoldable pub piece : ℕ → ℕ → Stall → ℕ → ℕ → List Wait
 piece from to why w v =
-    if nat_lt from to then record { from = from; to = to; why = why; word = w; read = v } ∷ [] else []
+    if nat_lt from to then record { from = from; to = to; why = why; word = w; read = v } ∷ []
+    else []
 
 -- ---- a read
 
@@ -58,8 +59,8 @@ data_waits role from t before (u ∷ earlier) =
     if decides role t u earlier then read_waits from t u (earlier ++ before)
     else data_waits role from t before earlier
 
--- an instruction word that is held: its read, where it is one of the row before, or else that it was
--- on its way
+-- an instruction word that is held: its read, where it is one of the row before, or else that it
+-- was on its way
 unfoldable pub held_waits : ℕ → ℕ → ℕ → List Use → List Wait
 held_waits from t w [] = piece from t Storage w w
 held_waits from t w (u ∷ older) =
@@ -94,7 +95,8 @@ fetch_waits from t before (u ∷ earlier) =
 -- those of a stage, behind a tick up to another; the words stand in the order of their reads, and
 -- the first four have all instruction words among them
 unfoldable pub stage_waits : Stage → ℕ → ℕ → List Use → List Use → List Wait
-stage_waits AtInstruction from t uses before = fetch_waits from t (reverse before) (reverse (take 4 uses))
+stage_waits AtInstruction from t uses before =
+    fetch_waits from t (reverse before) (reverse (take 4 uses))
 stage_waits AtIndex from t uses before = data_waits Index from t (reverse before) (reverse uses)
 stage_waits AtOperand from t uses before = data_waits Operand from t (reverse before) (reverse uses)
 stage_waits Restart from t uses before = []

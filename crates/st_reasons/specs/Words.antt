@@ -70,7 +70,7 @@ decides role t u earlier = is_due role t u && not (list_any (is_due role t) earl
 
 -- ---- what holds of words
 
--- one that is read is accepted when it is wanted or later, and answered when it is accepted or later
+-- one that is read is accepted when it is wanted or later, and answered no earlier than that
 pub record IsReadInTime (u : Use) : Type 0 where
   pub wanted : (read_of u.supply).want ≤ (read_of u.supply).accept
   pub answered : (read_of u.supply).accept ≤ (read_of u.supply).answer

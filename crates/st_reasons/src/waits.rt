@@ -145,7 +145,8 @@ fn add_all_turns(waits: &mut Waits, from: u64, read: Accepted, earlier: &[Use], 
 // Adds the waits of a word that is read, behind the tick `from` up to that of its answer.
 #[tactic(auto, unfolding(crate::specs::Waits::read_waits, crate::specs::Waits::accepted))]
 fn add_read(waits: &mut Waits, from: u64, t: u64, one: &Use, earlier: &[Use], before: &[Use])
-    requires room { length waits.old.items + 2 * (length earlier.now + length before.now) + 2 ≤ 514 }
+    requires room { length waits.old.items + 2 * (length earlier.now + length before.now) + 2
+        ≤ 514 }
     ensures items { waits.new.items ≡ waits.old.items
         ++ read_waits from t one.now (reverse earlier.now ++ reverse before.now) }
     ensures room { length waits.new.items
