@@ -1,5 +1,5 @@
 //! What is known of an entry by itself.
-ghost use Rattle.std.specs.Prelude.{◌≡◌, ◌-◌, ◌≤◌, ◌==◌, ◌||◌, ◌∷◌, ◌++◌, []};
+ghost use Rattle.std.specs.Prelude.{◌≡◌, ◌-◌, ◌≤◌, ◌==◌, ◌||◌, ◌++◌};
 ghost use Rattle.st_bits.specs.Indicators.{indicator as indicator_of};
 ghost use Rattle.st_prep.specs.Entry.{is_register as is_register_of, has_register as has_register_of};
 ghost use Rattle.st_state.specs.Interrupts.{first_from};

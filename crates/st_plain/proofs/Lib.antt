@@ -5,3 +5,4 @@ pub mod LookLemmas
 pub mod StraightLemmas
 pub mod SideLemmas
 pub mod UseLemmas
+pub mod Laws

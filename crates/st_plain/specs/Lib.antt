@@ -1,6 +1,7 @@
 pub mod Looking
 pub mod Straight
 pub mod Uses
+pub mod Laws
 pub use Rattle.st_exec.specs.Completion
 pub use Rattle.st_format.specs.Formats
 pub use Rattle.st_format.specs.Halves

@@ -1,11 +1,10 @@
 //! The words that an entry uses, and where each of them comes from.
-ghost use Rattle.std.specs.Prelude.{◌≡◌, ◌+◌, ◌*◌, ◌-◌, ◌<◌, ◌≤◌, ◌^◌, ◌∷◌, ◌++◌, [], length, IfSome};
+ghost use Rattle.std.specs.Prelude.{◌≡◌, ◌+◌, ◌-◌, ◌<◌, ◌≤◌, ◌^◌, ◌∷◌, ◌++◌, [], length, IfSome};
 ghost use Rattle.std.specs.List.{position};
 ghost use Rattle.st_fetch.specs.Planned.{tick_of};
 ghost use Rattle.st_prep.specs.Ranges.{IsRuns};
-ghost use Rattle.st_rows.specs.BusTimes.{bus_after_read};
 ghost use Rattle.st_rows.specs.Entries.{is_among};
-ghost use Rattle.st_rows.specs.Ranges.{IsBusWithin, IsReadingWithin, ArePastWithin, IsReadable, IsEntryInTime};
+ghost use Rattle.st_rows.specs.Ranges.{IsBusWithin, IsReadingWithin, IsReadable, IsEntryInTime};
 ghost use Rattle.st_rows.specs.Rows.{reading_of_fetch, read_word, read_words, operands_read, request_inside as request_inside_of};
 ghost use Rattle.st_plain.specs.declared.uses.Role.TheVariants.{Operand};
 ghost use Rattle.st_plain.specs.Uses.{read_ticks as read_ticks_of, fetch_supply as fetch_supply_of, writer_back as back_of, storage_supply as storage_supply_of, side_supply as side_supply_of, side_uses, register_uses, operand_uses, run_uses, data_uses, inside_uses, following_uses};

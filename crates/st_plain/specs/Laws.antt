@@ -1,0 +1,51 @@
+-- What holds of the words that entries use.
+use Rattle.std.specs.Prelude.{◌≡◌, ℕ, ◌+◌, ◌≤◌, max, List, [], ◌∷◌, Option}
+use Rattle.st_prep.specs.declared.entries.Words.{Words}
+use Rattle.st_rows.specs.declared.entry.Entry.{Entry}
+use Rattle.st_rows.specs.declared.front.Front.{Front}
+use Rattle.st_segment.specs.Entries.{side_to_read}
+use Rattle.st_plain.specs.Uses.{uses_of_entry}
+use Rattle.st_plain.specs.declared.uses.ReadTicks.{ReadTicks}
+use Rattle.st_plain.specs.declared.uses.Supply.{Supply}
+use Rattle.st_plain.specs.declared.uses.Supply.TheVariants.{Read, Held, Forwarded, Register}
+use Rattle.st_plain.specs.declared.uses.Use.{Use}
+
+-- the next read is wanted from the tick w on at the earliest, and made from the tick t on: when it
+-- is wanted, and the bus and its bank are free
+pub record IsReadFrom (w t : ℕ) (r : ReadTicks) : Type 0 where
+  pub wanted : w ≤ r.want
+  pub turned : t ≤ r.turn
+  pub accepted : r.accept ≡ max (max r.want r.turn) r.free
+
+-- where a word is read, that read; the others ask nothing of the bus
+abbrev pub IsInTurn : ℕ → ℕ → Supply → Type 0
+IsInTurn w t (Read r) = IsReadFrom w t r
+IsInTurn w t (Held answer) = Unit {0}
+IsInTurn w t (Forwarded writer) = Unit {0}
+IsInTurn w t Register = Unit {0}
+
+-- from when on the next read is wanted and made behind a word
+abbrev pub want_behind : ℕ → Supply → ℕ
+want_behind w (Read r) = r.want
+want_behind w (Held answer) = w
+want_behind w (Forwarded writer) = w
+want_behind w Register = w
+
+abbrev pub turn_behind : ℕ → Supply → ℕ
+turn_behind t (Read r) = r.accept + 1
+turn_behind t (Held answer) = t
+turn_behind t (Forwarded writer) = t
+turn_behind t Register = t
+
+-- the reads among some words come one after another
+unfoldable pub AreInTurn : ℕ → ℕ → List Use → Type 0
+AreInTurn w t [] = Unit {0}
+AreInTurn w t (u ∷ more) = IsInTurn w t u.supply
+    × AreInTurn (want_behind w u.supply) (turn_behind t u.supply) more
+
+-- Each read of an entry is accepted at the greatest of its three ticks; along its reads wants never
+-- fall, and each has its turn behind the acceptance of the one before it.
+abbrev pub ReadsOfAnEntryComeInTurn : Type 0
+ReadsOfAnEntryComeInTurn = (ds : List ℕ) (n : ℕ) (f : Front) (e : Entry) (side : Option ℕ)
+    (reads : Words) → e.side ≡ side_to_read side →
+    AreInTurn 0 f.bus.free (uses_of_entry ds n f e side reads)
