@@ -1,3 +1,4 @@
+pub mod InTime
 pub mod Added
 pub mod Laws
 pub mod Pieces
