@@ -69,3 +69,8 @@ because_line n (Prefetch x) =
 because_line n (Earlier x) =
     codes "BECAUSE " ++ reason_name x.reason ++ codes " ROW " ++ decimal (n - x.back)
     ++ codes " TICK " ++ decimal x.tick ++ codes " LATE " ++ decimal x.late ++ lf
+
+-- where it has another charge than that of executing: the last entry before it was done before its
+-- operands were there, at the tick r
+unfoldable pub because_lines : ℕ → ℕ → ℕ → Because → List (List ℕ)
+because_lines n done r b = if nat_lt done r then because_line n b ∷ [] else []

@@ -11,7 +11,7 @@ ghost use Rattle.st_reasons.specs.declared.because.Because.TheVariants.{Start as
 ghost use Rattle.st_reasons.specs.declared.waits.Stall.{Stall as StallOf};
 ghost use Rattle.st_reasons.specs.Words.{AreWordsInTime};
 ghost use Rattle.st_reasons.specs.Sums.{AreWaitsWithin, is_parted, waited_at, row_stalled, wait_sums_by};
-ghost use Rattle.st_lines.specs.WaitLines.{stall_name, wait_line, wait_lines, charged_lines, wait_sum_line, wait_sum_lines, reason_name, because_line};
+ghost use Rattle.st_lines.specs.WaitLines.{stall_name, wait_line, wait_lines, charged_lines, wait_sum_line, wait_sum_lines, reason_name, because_line, because_lines};
 
 use crate::uses::bank_number;
 use crate::writing::put;
@@ -361,12 +361,31 @@ fn fill_because(line: &mut LineFromEnd, n: u32, because: &Because)
     }
 }
 
-/// Writes what kept the n-th entry back.
-pub fn write_because<K: Sink>(out: &mut K, n: u32, because: &Because) -> Result<(), Failed>
+// Writes what kept the n-th entry back.
+fn put_because<K: Sink>(out: &mut K, n: u32, because: &Because) -> Result<(), Failed>
     ensures { WritesLines (K.output out.old) (K.output out.new)
         (because_line n because.now ∷ []) result }
 {
     let mut line = LineFromEnd::new();
     fill_because(&mut line, n, because);
     write_line(out, line.as_bytes())
+}
+
+/// Writes what kept the n-th entry back, where it has another charge than that of executing: the
+/// last entry before it was done at the tick `done`, and its operands were there at the tick `r`.
+#[tactic(auto, unfolding(crate::specs::WaitLines::because_lines), using(st_io::proofs::Progress::wrote_nothing))]
+pub fn write_because<K: Sink>(
+    out: &mut K,
+    n: u32,
+    done: u64,
+    r: u64,
+    because: &Because,
+) -> Result<(), Failed>
+    ensures { WritesLines (K.output out.old) (K.output out.new)
+        (because_lines n done r because.now) result }
+{
+    if r <= done {
+        return Ok(());
+    }
+    put_because(out, n, because)
 }
