@@ -1,11 +1,13 @@
 -- The lines of the words that an entry uses, and their pieces.
 use Rattle.std.specs.Prelude.{if◌then◌else◌, Option, codes, decimal}
-use Rattle.std.proofs.Common.{◌≡◌, ℕ, ◌+◌, ◌<◌, List, [], ◌∷◌, ◌++◌, length, drop, get_or, refl, sym, ◌∙◌, ap, subst, append_assoc, drop-cons, add-one}
+use Rattle.std.proofs.Common.{◌≡◌, ℕ, ◌+◌, ◌<◌, ◌≤◌, List, [], ◌∷◌, ◌++◌, length, drop, get_or, refl, sym, ◌∙◌, ap, subst, append_assoc, drop-cons, add-one}
 use Rattle.std.proofs.lemmas.Fmt.{decimal_digit}
 use Rattle.std.proofs.lemmas.List.{append-nil}
+use Rattle.std.proofs.Math.ListN.{drop_of_length-le}
 use Rattle.st_banks.specs.Bank.{bank_of}
-use Rattle.st_io.specs.Output.{OutputState}
-use Rattle.st_io.proofs.Progress.{LinesSoFar}
+use Rattle.st_io.specs.Lines.{text}
+use Rattle.st_io.specs.Output.{OutputState, Wrote}
+use Rattle.st_io.proofs.Progress.{LinesSoFar, lines_whole}
 use Rattle.st_plain.specs.declared.uses.Use.{Use}
 use Rattle.st_lines.specs.UseLines.{is_told, use_line, use_lines}
 
@@ -49,3 +51,12 @@ pub uses_next : (s t : OutputState) (all : List (List ℕ)) (n : ℕ) (end : Opt
     → LinesSoFar s t all
     ((if is_told end (get_or uses i u).supply then use_line n end (get_or uses i u) ∷ [] else []) ++ use_lines n end (drop (i + 1) uses))
 uses_next s t all n end uses i u here h = subst (LinesSoFar s t all) (uses-next n end uses i u here) h
+
+-- none is left
+uses-end : (n : ℕ) (end : Option ℕ) (uses : List Use) (i : ℕ) → length uses ≤ i → use_lines n end (drop i uses) ≡ []
+unfolding use_lines
+uses-end n end uses i done = rw (drop_of_length-le uses done) refl
+
+pub uses_whole : (s t : OutputState) (all : List (List ℕ)) (n : ℕ) (end : Option ℕ) (uses : List Use) (i : ℕ) → length uses ≤ i
+    → LinesSoFar s t all (use_lines n end (drop i uses)) → Wrote s t (text all)
+uses_whole s t all n end uses i done h = lines_whole s t all (subst (LinesSoFar s t all) (uses-end n end uses i done) h)

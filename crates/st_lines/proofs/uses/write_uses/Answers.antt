@@ -1,5 +1,5 @@
 use Rattle.st_io.proofs.Progress.{lines_more, lines_failed}
-use Rattle.st_lines.proofs.UseLemmas.{uses_next}
+use Rattle.st_lines.proofs.UseLemmas.{uses_next, uses_whole}
 use Rattle.st_lines.proofs.uses.write_uses.Goals as goal
 
 pub returns-in_err-write_use : goal.returns-in_err-write_use
@@ -13,3 +13,9 @@ loop-used-preserved g c =
     lines_more _ _ _ _ _ _
     (uses_next _ _ _ c.args.n c.args.end c.args.uses.now c.loop-used.used-index _ c.loop-used-test.true c.loop-used.invariant)
     c.in_ok-write_use.ensures.ok
+
+pub returns : goal.returns
+returns g c = record {
+  ok = uses_whole _ _ _ c.args.n c.args.end c.args.uses.now c.loop-used.used-index c.loop-used-test.false c.loop-used.invariant;
+  err = tt;
+}

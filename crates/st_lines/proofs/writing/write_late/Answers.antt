@@ -1,4 +1,4 @@
-use Rattle.std.proofs.Common.{sym, [], ◌∷◌, Some}
+use Rattle.std.proofs.Common.{sym, ap, [], ◌∷◌, Some}
 use Rattle.st_io.proofs.Progress.{lines_then, lines_cut}
 use Rattle.st_lines.specs.Lines.{begun_line}
 use Rattle.st_lines.specs.EntryLines.{facts_lines}
@@ -15,4 +15,5 @@ pub returns : goal.returns
 returns g c =
     same_lines _ _ _ _ _ (sym (late-one c.args.n c.args.tick c.args.late.now))
     (lines_then _ _ _ (begun_line c.args.n c.args.late.now.plan.place.address c.args.late.now.row ∷ []) (facts_lines c.args.n (Some c.args.tick) c.args.late.now.plan c.args.late.now.known c.args.late.now.uses.items) _ _
-    c.in_ok-write_late_line.ensures c.write_facts.ensures)
+    c.in_ok-write_late_line.ensures
+    (same_lines _ _ _ _ _ (ap (facts_lines c.args.n (Some c.args.tick) c.args.late.now.plan c.args.late.now.known) c.as_slice.ensures.value) c.write_facts.ensures))
