@@ -124,22 +124,26 @@ part-reach t x = elim (lt-cases t x.end) [
   | inr n ↦ rw n.0 (omega (arith, n.1))
 ]
 
-pub reach-more : (t late : ℕ) (parts xs : List Part) (x : Part) (a : Totals) → parts ≡ x ∷ xs → late ≡ max t x.end
-    → AreWithin (late + all_ticks (charges_behind late xs)) a → AreWithin (t + all_ticks (charges_behind t parts)) a
-reach-more t late parts xs x a is top within =
+pub reach-later : (t late : ℕ) (parts xs : List Part) (x : Part) → parts ≡ x ∷ xs → late ≡ max t x.end
+    → late + all_ticks (charges_behind late xs) ≡ t + all_ticks (charges_behind t parts)
+reach-later t late parts xs x is top =
     let all : all_ticks (charges_behind t parts) ≡ all_ticks (part_charges t x) + all_ticks (charges_behind (max t x.end) xs) =
     ap (λ ps. all_ticks (charges_behind t ps)) is
     ∙ ap all_ticks (charged-parts t x xs)
     ∙ all-append (part_charges t x) (charges_behind (max t x.end) xs) in
     let later : all_ticks (charges_behind late xs) ≡ all_ticks (charges_behind (max t x.end) xs) = ap (λ u. all_ticks (charges_behind u xs)) top in
-    let same : late + all_ticks (charges_behind late xs) ≡ t + all_ticks (charges_behind t parts) = omega (arith, all, later, top, part-reach t x) in
-    subst (λ m. AreWithin m a) same within
+    omega (arith, all, later, top, part-reach t x)
+
+pub reach-end : (t : ℕ) (parts : List Part) → parts ≡ [] → t ≡ t + all_ticks (charges_behind t parts)
+unfolding charges_behind all_ticks
+reach-end t parts none = rw none (omega arith)
+
+pub reach-more : (t late : ℕ) (parts xs : List Part) (x : Part) (a : Totals) → parts ≡ x ∷ xs → late ≡ max t x.end
+    → AreWithin (late + all_ticks (charges_behind late xs)) a → AreWithin (t + all_ticks (charges_behind t parts)) a
+reach-more t late parts xs x a is top within = subst (λ m. AreWithin m a) (reach-later t late parts xs x is top) within
 
 pub reach-none : (t : ℕ) (parts : List Part) (a : Totals) → parts ≡ [] → AreWithin t a → AreWithin (t + all_ticks (charges_behind t parts)) a
-unfolding charges_behind all_ticks
-reach-none t parts a none within =
-    let same : t ≡ t + all_ticks (charges_behind t parts) = rw none (omega arith) in
-    subst (λ m. AreWithin m a) same within
+reach-none t parts a none within = subst (λ m. AreWithin m a) (reach-end t parts none) within
 
 -- ---- lines
 

@@ -19,8 +19,8 @@ fn ended(mut line: Line) -> Line
     line
 }
 
-// The name of a stage.
-fn name_of(stage: Stage) -> &'static str
+/// The name of a stage.
+pub fn name_of(stage: Stage) -> &'static str
     ensures name { result.now ≡ stage_name stage }
     ensures short { length result.now ≤ 11 }
 {

@@ -17,9 +17,9 @@ fn part(stage: Stage, end: u64) -> Part
     Part { stage, end }
 }
 
-// The stages of a row in their order, each with the tick at which it ends; the segment starts at
-// `start`.
-pub(crate) fn parts(start: u64, row: &EntryTicks) -> [Part; 7]
+/// The stages of a row in their order, each with the tick at which it ends; the segment starts at
+/// `start`.
+pub fn parts(start: u64, row: &EntryTicks) -> [Part; 7]
     ensures { result ≡ parts_of start row.now }
 {
     [
@@ -54,8 +54,8 @@ fn write_part<K: Sink>(out: &mut K, from: u64, part: Part) -> Result<(), Failed>
     write_line(out, line.as_bytes())
 }
 
-// The first of some stages, and those behind it.
-pub(crate) fn first_part(parts: &[Part]) -> Option<(Part, &[Part])>
+/// The first of some stages, and those behind it.
+pub fn first_part(parts: &[Part]) -> Option<(Part, &[Part])>
     ensures parts { MatchOption result (parts.now ≡ []) (λ r. parts.now ≡ r.0 ∷ r.1.now) }
     ensures fewer { IfSome result (λ r. length r.1.now < length parts.now) }
 {
@@ -65,8 +65,8 @@ pub(crate) fn first_part(parts: &[Part]) -> Option<(Part, &[Part])>
     }
 }
 
-// The later of two ticks.
-pub(crate) fn later(a: u64, b: u64) -> u64
+/// The later of two ticks.
+pub fn later(a: u64, b: u64) -> u64
     ensures { result ≡ max a b }
 {
     a.max(b)

@@ -3,3 +3,4 @@ pub mod UseLemmas
 pub mod FactLemmas
 pub mod DigitLemmas
 pub mod ChangeLemmas
+pub mod WaitLemmas

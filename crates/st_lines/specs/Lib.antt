@@ -1,5 +1,6 @@
 pub mod Lines
 pub mod UseLines
+pub mod WaitLines
 pub mod EntryLines
 pub mod BorderLines
 pub mod Changes
@@ -11,6 +12,9 @@ pub use Rattle.st_exec.specs.Ahead
 pub use Rattle.st_io.specs.Output
 pub use Rattle.st_ledger.specs.Charges
 pub use Rattle.st_prep.specs.Entry
+pub use Rattle.st_reasons.specs.Reasons
+pub use Rattle.st_reasons.specs.Sums
+pub use Rattle.st_reasons.specs.Waits
 pub use Rattle.st_report.specs.Line
 pub use Rattle.st_state.specs.Interrupts
 pub use Rattle.st_state.specs.Machine

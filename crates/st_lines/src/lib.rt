@@ -6,11 +6,13 @@ mod digits;
 mod facts;
 mod lines;
 mod uses;
+mod waits;
 mod writing;
 
 pub use changes::Changeable;
 pub use facts::{EntryDone, write_done};
 pub use lines::{Alone, Why};
+pub use waits::{Waiting, write_because, write_charged, write_wait_sums};
 pub use writing::{
     Border, Printed, counter_of, is_enabled, put, write_border, write_end, write_machine,
     write_marks, write_totals,

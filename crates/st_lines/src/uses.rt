@@ -34,10 +34,10 @@ fn put_role(line: &mut LineFromEnd, role: Role)
     }
 }
 
-// The number of the bank of a word.
+/// The number of the bank of a word.
 #[inline(always)]
 #[tactic(auto, unfolding(st_banks::specs::Bank::bank_of))]
-fn bank_number(w: u32) -> u8
+pub(crate) fn bank_number(w: u32) -> u8
     ensures value { result ≡ bank_of w }
     ensures digit { result < 10 }
 {

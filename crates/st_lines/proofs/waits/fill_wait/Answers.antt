@@ -1,0 +1,16 @@
+use Rattle.std.proofs.Common.{◌++◌, ◌∙◌, refl, ap, codes, decimal}
+use Rattle.st_text.specs.Bytes.{lf}
+use Rattle.st_banks.specs.Bank.{bank_of}
+use Rattle.st_ledger.proofs.FromEnd.{thirteen_pieces}
+use Rattle.st_lines.specs.WaitLines.{stall_name}
+use Rattle.st_lines.proofs.waits.fill_wait.Goals as goal
+
+pub returns : goal.returns
+returns c =
+    let x = c.args.wait.now in
+    thirteen_pieces (codes "WAIT ") (decimal x.from) (codes " ") (decimal x.to) (codes " ") (stall_name x.why) (codes " WORD ") (decimal x.word)
+    (codes " READ ") (decimal x.read) (codes " BANK ") (decimal (bank_of x.read)) lf
+    _ _ (decimal (bank_of x.read) ++ c.put.new.self) _ _ _ _ _ _ _ _ _ _ _ c.clear.ensures c.put.ensures refl c.put_bank_of.ensures.bytes
+    (c.put_decimal.ensures.bytes ∙ ap (λ n. decimal n ++ c.put_bank_of.new.line) c.from.ensures) c.put-2.ensures
+    (c.put_decimal-2.ensures.bytes ∙ ap (λ n. decimal n ++ c.put-2.new.self) c.from-2.ensures) c.put-3.ensures c.put_stall.ensures.bytes
+    c.put-4.ensures c.put_decimal-3.ensures.bytes c.put-5.ensures c.put_decimal-4.ensures.bytes c.put-6.ensures

@@ -1,0 +1,76 @@
+-- The lines that tell what a row waited for, and what kept it back.
+use Rattle.std.specs.Prelude.{ℕ, ◌-◌, List, [], ◌∷◌, ◌++◌, nat_lt, if◌then◌else◌, codes, decimal}
+use Rattle.st_text.specs.Bytes.{lf}
+use Rattle.st_banks.specs.Bank.{bank_of}
+use Rattle.st_plain.specs.declared.uses.Use.{Use}
+use Rattle.st_ledger.specs.Lines.{stage_name, charge_line}
+use Rattle.st_ledger.specs.declared.charges.Charge.{Charge}
+use Rattle.st_reasons.specs.Waits.{charge_waits}
+use Rattle.st_reasons.specs.declared.because.Because.{Because}
+use Rattle.st_reasons.specs.declared.because.Because.TheVariants.{Start, Prefetch, Earlier}
+use Rattle.st_reasons.specs.declared.because.Reason.{Reason}
+use Rattle.st_reasons.specs.declared.because.Reason.TheVariants.{Serial, Store, Level, Forwarding, Bus, Order}
+use Rattle.st_reasons.specs.declared.sums.WaitSum.{WaitSum}
+use Rattle.st_reasons.specs.declared.waits.Stall.{Stall}
+use Rattle.st_reasons.specs.declared.waits.Stall.TheVariants.{Turn, Bank, Storage}
+use Rattle.st_reasons.specs.declared.waits.Wait.{Wait}
+
+-- ---- waits
+
+-- what is waited for
+abbrev pub stall_name : Stall → List ℕ
+stall_name Turn = codes "TURN"
+stall_name Bank = codes "BANK"
+stall_name Storage = codes "STORAGE"
+
+-- a part of the ticks of a charge
+abbrev pub wait_line : Wait → List ℕ
+wait_line x =
+    codes "WAIT " ++ decimal x.from ++ codes " " ++ decimal x.to ++ codes " " ++ stall_name x.why
+    ++ codes " WORD " ++ decimal x.word ++ codes " READ " ++ decimal x.read
+    ++ codes " BANK " ++ decimal (bank_of x.read) ++ lf
+
+unfoldable pub wait_lines : List Wait → List (List ℕ)
+wait_lines [] = []
+wait_lines (x ∷ xs) = wait_line x ∷ wait_lines xs
+
+-- charges, each with its waits, of a row that uses some words, and the row before it others
+unfoldable pub charged_lines : List Use → List Use → List Charge → List (List ℕ)
+charged_lines uses before [] = []
+charged_lines uses before (x ∷ xs) =
+    (charge_line x ∷ wait_lines (charge_waits x uses before)) ++ charged_lines uses before xs
+
+-- the ticks of the waits of a stage for one thing
+abbrev pub wait_sum_line : WaitSum → List ℕ
+wait_sum_line x =
+    codes "SUM " ++ stage_name x.stage ++ codes " " ++ stall_name x.why ++ codes " "
+    ++ decimal x.ticks ++ lf
+
+unfoldable pub wait_sum_lines : List WaitSum → List (List ℕ)
+wait_sum_lines [] = []
+wait_sum_lines (x ∷ xs) = wait_sum_line x ∷ wait_sum_lines xs
+
+-- ---- reasons
+
+abbrev pub reason_name : Reason → List ℕ
+reason_name Serial = codes "SERIAL"
+reason_name Store = codes "STORE"
+reason_name Level = codes "LEVEL"
+reason_name Forwarding = codes "FORWARDING"
+reason_name Bus = codes "BUS"
+reason_name Order = codes "ORDER"
+
+-- what kept the n-th entry back
+abbrev pub because_line : ℕ → Because → List ℕ
+because_line n (Start tick) =
+    codes "BECAUSE START ROW - TICK " ++ decimal tick ++ codes " LATE -" ++ lf
+because_line n (Prefetch x) =
+    codes "BECAUSE PREFETCH WORD " ++ decimal x.word ++ codes " LATE " ++ decimal x.late ++ lf
+because_line n (Earlier x) =
+    codes "BECAUSE " ++ reason_name x.reason ++ codes " ROW " ++ decimal (n - x.back)
+    ++ codes " TICK " ++ decimal x.tick ++ codes " LATE " ++ decimal x.late ++ lf
+
+-- where it has another charge than that of executing: the last entry before it was done before its
+-- operands were there, at the tick r
+unfoldable pub because_lines : ℕ → ℕ → ℕ → Because → List (List ℕ)
+because_lines n done r b = if nat_lt done r then because_line n b ∷ [] else []

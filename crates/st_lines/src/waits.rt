@@ -1,0 +1,391 @@
+//! The lines that tell what a row waited for, and what kept it back.
+ghost use Rattle.std.specs.Prelude.{◌≡◌, ◌+◌, ◌<◌, ◌≤◌, ◌∷◌, ◌++◌, [], length, codes, decimal, true, max, MatchOption, IfSome, IsOk};
+ghost use Rattle.arrayvec.specs.ArrayString.{array_string_len};
+ghost use Rattle.st_text.specs.Bytes.{lf};
+ghost use Rattle.st_banks.specs.Bank.{bank_of};
+ghost use Rattle.st_io.specs.Lines.{WritesLines};
+ghost use Rattle.st_ledger.specs.declared.charges.Stage.{Stage as StageOf};
+ghost use Rattle.st_ledger.specs.Charges.{parts_of_row, charges_behind, part_charges, all_ticks};
+ghost use Rattle.st_ledger.specs.Lines.{charge_line};
+ghost use Rattle.st_reasons.specs.declared.because.Because.TheVariants.{Start as StartOf, Prefetch as PrefetchOf, Earlier as EarlierOf};
+ghost use Rattle.st_reasons.specs.declared.waits.Stall.{Stall as StallOf};
+ghost use Rattle.st_reasons.specs.Words.{AreWordsInTime};
+ghost use Rattle.st_reasons.specs.Sums.{AreWaitsWithin, is_parted, waited_at, row_stalled, wait_sums_by};
+ghost use Rattle.st_lines.specs.WaitLines.{stall_name, wait_line, wait_lines, charged_lines, wait_sum_line, wait_sum_lines, reason_name, because_line, because_lines};
+
+use crate::uses::bank_number;
+use crate::writing::put;
+use st_io::{Failed, Sink, write_line};
+use st_ledger::{Charge, Part, fill_charge, first_part, later, name_of, parts};
+use st_plain::Use;
+use st_reasons::{
+    Because, Cause, Prefetched, Reason, Stall, Wait, WaitSum, WaitTotals, Waits, fill_waits,
+    wait_sums,
+};
+use st_report::LineFromEnd;
+use st_rows::EntryTicks;
+use st_text::{Line, begun, push_decimal};
+
+// Puts the bank of the word of a read before a line.
+#[inline(always)]
+fn put_bank_of(line: &mut LineFromEnd, w: u32)
+    requires { length line.old + 7 ≤ 128 }
+    ensures bytes { line.new ≡ (codes " BANK " ++ decimal (bank_of w)) ++ line.old }
+    ensures room { length line.new ≡ length line.old + 7 }
+{
+    line.put(&[b'0' + bank_number(w)]);
+    line.put(b" BANK ");
+}
+
+// Puts what is waited for before a line.
+#[inline(always)]
+fn put_stall(line: &mut LineFromEnd, why: Stall)
+    requires { length line.old + 7 ≤ 128 }
+    ensures bytes { line.new ≡ stall_name why ++ line.old }
+    ensures room { length line.new ≤ length line.old + 7 }
+{
+    match why {
+        Stall::Turn => line.put(b"TURN"),
+        Stall::Bank => line.put(b"BANK"),
+        Stall::Storage => line.put(b"STORAGE"),
+    }
+}
+
+// `WAIT f t why WORD w READ v BANK b`, filled into a line. What the line had is gone.
+fn fill_wait(line: &mut LineFromEnd, wait: &Wait)
+    ensures { line.new ≡ wait_line wait.now }
+{
+    line.clear();
+    line.put(b"\n");
+    put_bank_of(line, wait.read);
+    line.put_decimal(u64::from(wait.read));
+    line.put(b" READ ");
+    line.put_decimal(u64::from(wait.word));
+    line.put(b" WORD ");
+    put_stall(line, wait.why);
+    line.put(b" ");
+    line.put_decimal(wait.to);
+    line.put(b" ");
+    line.put_decimal(wait.from);
+    line.put(b"WAIT ");
+}
+
+// The first of some waits, and those behind it.
+#[inline(always)]
+fn first_wait(waits: &[Wait]) -> Option<(&Wait, &[Wait])>
+    ensures parts { MatchOption result (waits.now ≡ []) (λ r. waits.now ≡ r.0.now ∷ r.1.now) }
+    ensures fewer { IfSome result (λ r. length r.1.now < length waits.now) }
+{
+    match waits {
+        [first, more @ ..] => Some((first, more)),
+        [] => None,
+    }
+}
+
+// Writes a wait.
+fn write_wait<K: Sink>(out: &mut K, line: &mut LineFromEnd, wait: &Wait) -> Result<(), Failed>
+    ensures { WritesLines (K.output out.old) (K.output out.new) (wait_line wait.now ∷ []) result }
+{
+    fill_wait(line, wait);
+    write_line(out, line.as_bytes())
+}
+
+// Writes waits.
+#[tactic(auto, using(st_io::proofs::Progress::wrote_nothing))]
+fn write_each_wait<K: Sink>(
+    out: &mut K,
+    line: &mut LineFromEnd,
+    waits: &[Wait],
+) -> Result<(), Failed>
+    ensures { WritesLines (K.output out.old) (K.output out.new) (wait_lines waits.now) result }
+{
+    let Some((wait, more)) = first_wait(waits) else {
+        return Ok(());
+    };
+    write_wait(out, line, wait)?;
+    write_each_wait(out, line, more)
+}
+
+// Writes a charge.
+fn write_charge<K: Sink>(out: &mut K, line: &mut LineFromEnd, charge: Charge) -> Result<(), Failed>
+    ensures { WritesLines (K.output out.old) (K.output out.new) (charge_line charge ∷ []) result }
+{
+    fill_charge(line, charge);
+    write_line(out, line.as_bytes())
+}
+
+// Writes a charge with its waits.
+fn write_charge_with<K: Sink>(out: &mut K, charge: Charge, waits: &[Wait]) -> Result<(), Failed>
+    ensures { WritesLines (K.output out.old) (K.output out.new)
+        (charge_line charge ∷ wait_lines waits.now) result }
+{
+    let mut line = LineFromEnd::new();
+    write_charge(out, &mut line, charge)?;
+    write_each_wait(out, &mut line, waits)
+}
+
+/// The waits of a charge, and the sums of those so far.
+pub struct Waiting {
+    /// What is filled with the waits of one charge after another.
+    pub waits: Waits,
+    /// The sums of all of them.
+    pub totals: WaitTotals,
+}
+
+// Writes the charge of a stage behind the tick `from`, where it ends later, and its waits, and adds
+// them to the sums.
+fn write_part<K: Sink>(
+    out: &mut K,
+    from: u64,
+    part: Part,
+    uses: &[Use],
+    before: &[Use],
+    waiting: &mut Waiting,
+) -> Result<(), Failed>
+    requires uses { AreWordsInTime uses.now }
+    requires before { AreWordsInTime before.now }
+    requires within { AreWaitsWithin from waiting.old.totals }
+    ensures lines { WritesLines (K.output out.old) (K.output out.new)
+        (charged_lines uses.now before.now (part_charges from part)) result }
+    ensures within { IsOk result → AreWaitsWithin (max from part.end) waiting.new.totals }
+    ensures sums { IsOk result → (r : StageOf) (s : StallOf) → is_parted r ≡ true →
+        waited_at r s waiting.new.totals ≡ waited_at r s waiting.old.totals
+        + row_stalled r s uses.now before.now (part_charges from part) }
+{
+    if part.end <= from {
+        return Ok(());
+    }
+    let charge = Charge {
+        from,
+        to: part.end,
+        stage: part.stage,
+    };
+    fill_waits(&mut waiting.waits, charge, uses, before);
+    waiting.totals.add(charge, waiting.waits.as_slice());
+    write_charge_with(out, charge, waiting.waits.as_slice())
+}
+
+// Writes the charges of stages behind the tick `from`, each with its waits, and adds these to the
+// sums.
+fn write_parts<K: Sink>(
+    out: &mut K,
+    from: u64,
+    parts: &[Part],
+    uses: &[Use],
+    before: &[Use],
+    waiting: &mut Waiting,
+) -> Result<(), Failed>
+    requires uses { AreWordsInTime uses.now }
+    requires before { AreWordsInTime before.now }
+    requires within { AreWaitsWithin from waiting.old.totals }
+    ensures lines { WritesLines (K.output out.old) (K.output out.new)
+        (charged_lines uses.now before.now (charges_behind from parts.now)) result }
+    ensures within { IsOk result →
+        AreWaitsWithin (from + all_ticks (charges_behind from parts.now)) waiting.new.totals }
+    ensures sums { IsOk result → (r : StageOf) (s : StallOf) → is_parted r ≡ true →
+        waited_at r s waiting.new.totals ≡ waited_at r s waiting.old.totals
+        + row_stalled r s uses.now before.now (charges_behind from parts.now) }
+{
+    let Some((part, more)) = first_part(parts) else {
+        return Ok(());
+    };
+    write_part(out, from, part, uses, before, waiting)?;
+    write_parts(out, later(from, part.end), more, uses, before, waiting)
+}
+
+/// Writes the charges of an entry that is done, each with its waits, and adds these to the sums.
+/// Its row and the words that it uses are given, and those that the entry before it in its segment
+/// uses, none for the first one. The last entry before it was done at the tick `done`, and its
+/// segment starts at `start`, if it is the first one of that.
+pub fn write_charged<K: Sink>(
+    out: &mut K,
+    row: &EntryTicks,
+    done: u64,
+    start: u64,
+    uses: &[Use],
+    before: &[Use],
+    waiting: &mut Waiting,
+) -> Result<(), Failed>
+    requires uses { AreWordsInTime uses.now }
+    requires before { AreWordsInTime before.now }
+    requires within { AreWaitsWithin done waiting.old.totals }
+    ensures lines { WritesLines (K.output out.old) (K.output out.new)
+        (charged_lines uses.now before.now (charges_behind done (parts_of_row start row.now)))
+        result }
+    ensures within { IsOk result → AreWaitsWithin
+        (done + all_ticks (charges_behind done (parts_of_row start row.now))) waiting.new.totals }
+    ensures sums { IsOk result → (r : StageOf) (s : StallOf) → is_parted r ≡ true →
+        waited_at r s waiting.new.totals ≡ waited_at r s waiting.old.totals
+        + row_stalled r s uses.now before.now (charges_behind done (parts_of_row start row.now)) }
+{
+    write_parts(out, done, &parts(start, row), uses, before, waiting)
+}
+
+// The name of what is waited for.
+fn stall_name_of(why: Stall) -> &'static str
+    ensures name { result.now ≡ stall_name why }
+    ensures short { length result.now ≤ 7 }
+{
+    match why {
+        Stall::Turn => "TURN",
+        Stall::Bank => "BANK",
+        Stall::Storage => "STORAGE",
+    }
+}
+
+// The line with its line end.
+fn ended(mut line: Line) -> Line
+    requires { array_string_len line < 128 }
+    ensures { result.bytes ≡ line.bytes ++ lf }
+{
+    line.push_str("\n");
+    line
+}
+
+// `SUM stage why n`: the ticks of one thing that was waited for in a stage.
+fn line_wait_sum(sum: &WaitSum) -> Line
+    ensures { result.bytes ≡ wait_sum_line sum.now }
+{
+    let mut line = begun("SUM ");
+    line.push_str(name_of(sum.stage));
+    line.push_str(" ");
+    line.push_str(stall_name_of(sum.why));
+    line.push_str(" ");
+    push_decimal(&mut line, sum.ticks);
+    ended(line)
+}
+
+// The first of some sums, and those behind it.
+fn first_wait_sum(sums: &[WaitSum]) -> Option<(&WaitSum, &[WaitSum])>
+    ensures parts { MatchOption result (sums.now ≡ []) (λ r. sums.now ≡ r.0.now ∷ r.1.now) }
+    ensures fewer { IfSome result (λ r. length r.1.now < length sums.now) }
+{
+    match sums {
+        [first, more @ ..] => Some((first, more)),
+        [] => None,
+    }
+}
+
+// Writes the line of a sum.
+fn write_wait_sum<K: Sink>(out: &mut K, sum: &WaitSum) -> Result<(), Failed>
+    ensures { WritesLines (K.output out.old) (K.output out.new)
+        (wait_sum_line sum.now ∷ []) result }
+{
+    put(out, &line_wait_sum(sum))
+}
+
+// Writes the lines of sums.
+#[tactic(auto, using(st_io::proofs::Progress::wrote_nothing))]
+fn write_each_sum<K: Sink>(out: &mut K, sums: &[WaitSum]) -> Result<(), Failed>
+    ensures { WritesLines (K.output out.old) (K.output out.new) (wait_sum_lines sums.now) result }
+{
+    let Some((sum, more)) = first_wait_sum(sums) else {
+        return Ok(());
+    };
+    write_wait_sum(out, sum)?;
+    write_each_sum(out, more)
+}
+
+/// Writes the lines `SUM stage why n`, in their order.
+pub fn write_wait_sums<K: Sink>(out: &mut K, totals: &WaitTotals) -> Result<(), Failed>
+    ensures { WritesLines (K.output out.old) (K.output out.new)
+        (wait_sum_lines (wait_sums_by (λ r s. waited_at r s totals.now))) result }
+{
+    write_each_sum(out, &wait_sums(totals))
+}
+
+// Puts the name of a reason before a line.
+#[inline(always)]
+fn put_reason(line: &mut LineFromEnd, reason: Reason)
+    requires { length line.old + 10 ≤ 128 }
+    ensures bytes { line.new ≡ reason_name reason ++ line.old }
+    ensures room { length line.new ≤ length line.old + 10 }
+{
+    match reason {
+        Reason::Serial => line.put(b"SERIAL"),
+        Reason::Store => line.put(b"STORE"),
+        Reason::Level => line.put(b"LEVEL"),
+        Reason::Forwarding => line.put(b"FORWARDING"),
+        Reason::Bus => line.put(b"BUS"),
+        Reason::Order => line.put(b"ORDER"),
+    }
+}
+
+// `BECAUSE START ROW - TICK t LATE -`, filled into a line. What the line had is gone.
+fn fill_start(line: &mut LineFromEnd, n: u32, tick: u64)
+    ensures { line.new ≡ because_line n (StartOf tick) }
+{
+    line.clear();
+    line.put(b"\n");
+    line.put(b" LATE -");
+    line.put_decimal(tick);
+    line.put(b"BECAUSE START ROW - TICK ");
+}
+
+// `BECAUSE PREFETCH WORD w LATE l`, filled into a line. What the line had is gone.
+fn fill_prefetch(line: &mut LineFromEnd, n: u32, asked: &Prefetched)
+    ensures { line.new ≡ because_line n (PrefetchOf asked.now) }
+{
+    line.clear();
+    line.put(b"\n");
+    line.put_decimal(asked.late);
+    line.put(b" LATE ");
+    line.put_decimal(u64::from(asked.word));
+    line.put(b"BECAUSE PREFETCH WORD ");
+}
+
+// `BECAUSE why ROW j TICK t LATE l`, filled into a line. What the line had is gone.
+fn fill_earlier(line: &mut LineFromEnd, n: u32, cause: &Cause)
+    ensures { line.new ≡ because_line n (EarlierOf cause.now) }
+{
+    line.clear();
+    line.put(b"\n");
+    line.put_decimal(cause.late);
+    line.put(b" LATE ");
+    line.put_decimal(cause.tick);
+    line.put(b" TICK ");
+    line.put_decimal(u64::from(n.saturating_sub(u32::from(cause.back))));
+    line.put(b" ROW ");
+    put_reason(line, cause.reason);
+    line.put(b"BECAUSE ");
+}
+
+// What kept the n-th entry back, filled into a line. What the line had is gone.
+fn fill_because(line: &mut LineFromEnd, n: u32, because: &Because)
+    ensures { line.new ≡ because_line n because.now }
+{
+    match because {
+        Because::Start(tick) => fill_start(line, n, *tick),
+        Because::Prefetch(asked) => fill_prefetch(line, n, asked),
+        Because::Earlier(cause) => fill_earlier(line, n, cause),
+    }
+}
+
+// Writes what kept the n-th entry back.
+fn put_because<K: Sink>(out: &mut K, n: u32, because: &Because) -> Result<(), Failed>
+    ensures { WritesLines (K.output out.old) (K.output out.new)
+        (because_line n because.now ∷ []) result }
+{
+    let mut line = LineFromEnd::new();
+    fill_because(&mut line, n, because);
+    write_line(out, line.as_bytes())
+}
+
+/// Writes what kept the n-th entry back, where it has another charge than that of executing: the
+/// last entry before it was done at the tick `done`, and its operands were there at the tick `r`.
+#[tactic(auto, unfolding(crate::specs::WaitLines::because_lines), using(st_io::proofs::Progress::wrote_nothing))]
+pub fn write_because<K: Sink>(
+    out: &mut K,
+    n: u32,
+    done: u64,
+    r: u64,
+    because: &Because,
+) -> Result<(), Failed>
+    ensures { WritesLines (K.output out.old) (K.output out.new)
+        (because_lines n done r because.now) result }
+{
+    if r <= done {
+        return Ok(());
+    }
+    put_because(out, n, because)
+}

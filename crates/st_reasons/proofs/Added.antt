@@ -1,0 +1,31 @@
+-- What waits add to the sums.
+use Rattle.std.proofs.Common.{◌≡◌, ℕ, ◌+◌, ◌-◌, ◌≤◌, List, [], ◌∷◌, arith}
+use Rattle.std.proofs.lemmas.Bool.{cond_both}
+use Rattle.st_reasons.specs.declared.sums.Shares.{Shares}
+use Rattle.st_reasons.specs.declared.waits.Stall.{Stall}
+use Rattle.st_reasons.specs.declared.waits.Stall.TheVariants.{Turn, Bank, Storage}
+use Rattle.st_reasons.specs.declared.waits.Wait.{Wait}
+use Rattle.st_reasons.specs.Sums.{all_stalled, stalled_for, is_stall, share_at, AreSharesWithin}
+
+stalled-most : (s : Stall) (xs : List Wait) → stalled_for s xs ≤ all_stalled xs
+unfolding stalled_for all_stalled
+stalled-most s [] = omega arith
+stalled-most s (x ∷ xs) =
+    cond_both (is_stall s x.why) (x.to - x.from) 0 (λ n. n + stalled_for s xs ≤ (x.to - x.from) + all_stalled xs)
+    (λ same. omega (arith, stalled-most s xs))
+    (λ other. omega (arith, stalled-most s xs))
+
+pub shares-later : (t u : ℕ) (a : Shares) → t ≤ u → AreSharesWithin t a → AreSharesWithin u a
+shares-later t u a late is = record {
+  turn = omega (arith, late, is.turn);
+  bank = omega (arith, late, is.bank);
+  storage = omega (arith, late, is.storage);
+}
+
+pub shares-more : (t u : ℕ) (a b : Shares) (xs : List Wait) → t + all_stalled xs ≤ u → AreSharesWithin t a
+    → ((s : Stall) → share_at s b ≡ share_at s a + stalled_for s xs) → AreSharesWithin u b
+shares-more t u a b xs few is sums = record {
+  turn = omega (arith, few, is.turn, sums Turn, stalled-most Turn xs);
+  bank = omega (arith, few, is.bank, sums Bank, stalled-most Bank xs);
+  storage = omega (arith, few, is.storage, sums Storage, stalled-most Storage xs);
+}

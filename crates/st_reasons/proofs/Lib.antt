@@ -1,0 +1,5 @@
+pub mod InTime
+pub mod Added
+pub mod Laws
+pub mod Pieces
+pub mod Stands

@@ -1,0 +1,149 @@
+-- How many ticks waits have.
+use Rattle.std.specs.Prelude.{true, ◌&&◌, nat_eq, All, reverse}
+use Rattle.std.proofs.Common.{◌≡◌, ℕ, ◌+◌, ◌-◌, ◌≤◌, max, List, [], ◌∷◌, ◌++◌, sym, subst, arith}
+use Rattle.std.proofs.lemmas.Bool.{cond_both, and_parts, eqb-true}
+use Rattle.std.proofs.lemmas.Bool.Decides.{nat_tests}
+use Rattle.std.proofs.lemmas.List.{reverse-append}
+use Rattle.std.proofs.lemmas.List.Elements.{All-nil, All-cons, All-head, All-tail, All-append}
+use Rattle.st_plain.specs.declared.uses.Role.{Role}
+use Rattle.st_plain.specs.declared.uses.Role.TheVariants.{Instruction}
+use Rattle.st_plain.specs.declared.uses.Supply.{Supply}
+use Rattle.st_plain.specs.declared.uses.Supply.TheVariants.{Read, Held, Forwarded, Register}
+use Rattle.st_plain.specs.declared.uses.Use.{Use}
+use Rattle.st_reasons.specs.declared.waits.Accepted.{Accepted}
+use Rattle.st_reasons.specs.declared.waits.Stall.{Stall}
+use Rattle.st_reasons.specs.declared.waits.Stall.TheVariants.{Turn, Bank, Storage}
+use Rattle.st_reasons.specs.declared.waits.Wait.{Wait}
+use Rattle.st_reasons.specs.Words.{IsReadInTime, is_read, read_of, is_answered, is_due, decides}
+use Rattle.st_reasons.specs.Waits.{piece, accepted, is_between, turns, read_waits, data_waits, held_waits, bus_waits, fetch_waits}
+use Rattle.st_reasons.specs.Sums.{all_stalled}
+use Rattle.st_reasons.proofs.Stands.{is_between-parts}
+
+-- ---- pieces
+
+all-append : (xs ys : List Wait) → all_stalled (xs ++ ys) ≡ all_stalled xs + all_stalled ys
+unfolding all_stalled
+all-append [] ys = omega arith
+all-append (x ∷ xs) ys = omega (arith, all-append xs ys)
+
+piece-ticks : (from to : ℕ) (why : Stall) (w v : ℕ) → all_stalled (piece from to why w v) ≡ to - from
+unfolding piece all_stalled
+piece-ticks from to why w v = grind (arith, nat_tests)
+
+-- ---- a read
+
+turns-ticks : (from w : ℕ) (next : Accepted) (older : List Use) → all_stalled (turns from w next older) ≡ next.tick - from
+unfolding turns
+turns-ticks from w next [] = piece-ticks from next.tick Bank w next.word
+turns-ticks from w next (u ∷ older) =
+    cond_both (is_between from next.tick u.supply) _ _ (λ xs. all_stalled xs ≡ next.tick - from)
+    (λ is.
+    let ends = is_between-parts from next.tick u is in
+    omega (
+      arith,
+      ends.0,
+      ends.1,
+      all-append (piece ((accepted u).tick + 1) next.tick Bank w next.word)
+          (piece (accepted u).tick ((accepted u).tick + 1) Turn w u.word ++ turns from w (accepted u) older),
+      all-append (piece (accepted u).tick ((accepted u).tick + 1) Turn w u.word) (turns from w (accepted u) older),
+      piece-ticks ((accepted u).tick + 1) next.tick Bank w next.word,
+      piece-ticks (accepted u).tick ((accepted u).tick + 1) Turn w u.word,
+      turns-ticks from w (accepted u) older,
+    ))
+    (λ is_not. turns-ticks from w next older)
+
+-- from its answer back to its want
+read-ticks : (from t : ℕ) (u : Use) (older : List Use) → IsReadInTime u → (read_of u.supply).accept ≤ t
+    → all_stalled (read_waits from t u older) ≡ t - max from (read_of u.supply).want
+unfolding read_waits accepted
+read-ticks from t u older is early =
+    omega (
+      arith,
+      is.wanted,
+      early,
+      all-append (piece (max from (read_of u.supply).accept) t Storage u.word u.word)
+          (turns (max from (read_of u.supply).want) u.word (accepted u) older),
+      piece-ticks (max from (read_of u.supply).accept) t Storage u.word u.word,
+      turns-ticks (max from (read_of u.supply).want) u.word (accepted u) older,
+    )
+
+-- a word that is answered at a tick is accepted by then
+answered-by : (t : ℕ) (s : Supply) → (read_of s).accept ≤ (read_of s).answer → is_answered t s ≡ true → (read_of s).accept ≤ t
+unfolding is_answered read_of
+answered-by t (Read r) order is = omega (arith, order, eqb-true _ _ is)
+answered-by t (Held answer) order is = omega arith
+answered-by t (Forwarded w) order is = omega arith
+answered-by t Register order is = omega arith
+
+decided-by : (role : Role) (t : ℕ) (u : Use) (earlier : List Use) → IsReadInTime u → decides role t u earlier ≡ true
+    → (read_of u.supply).accept ≤ t
+unfolding is_due
+decided-by role t u earlier is due = answered-by t u.supply is.answered (and_parts _ _ (and_parts _ _ due).0).1
+
+-- ---- what a row waits for
+
+pub data-ticks : (role : Role) (from t : ℕ) (before uses : List Use) → All IsReadInTime uses
+    → all_stalled (data_waits role from t before uses) ≤ t - from
+unfolding data_waits all_stalled
+data-ticks role from t before [] all = omega arith
+data-ticks role from t before (u ∷ earlier) all =
+    cond_both (decides role t u earlier) _ _ (λ xs. all_stalled xs ≤ t - from)
+    (λ due.
+    let is = All-head IsReadInTime u earlier all in
+    omega (arith, read-ticks from t u (earlier ++ before) is (decided-by role t u earlier is due)))
+    (λ not_due. data-ticks role from t before earlier (All-tail IsReadInTime u earlier all))
+
+held-ticks : (from t w : ℕ) (before : List Use) → All IsReadInTime before → all_stalled (held_waits from t w before) ≤ t - from
+unfolding held_waits
+held-ticks from t w [] all = omega (arith, piece-ticks from t Storage w w)
+held-ticks from t w (u ∷ older) all =
+    cond_both (is_read u.supply && (nat_eq u.word w && nat_eq (read_of u.supply).answer t)) _ _ (λ xs. all_stalled xs ≤ t - from)
+    (λ yes_read.
+    let is = All-head IsReadInTime u older all in
+    let at : (read_of u.supply).answer ≡ t = eqb-true _ _ (and_parts _ _ (and_parts _ _ yes_read).1).1 in
+    omega (arith, read-ticks from t u older is (omega (arith, at, is.answered))))
+    (λ no_read. held-ticks from t w older (All-tail IsReadInTime u older all))
+
+accepted-ticks : (from t : ℕ) (u : Use) (older : List Use) → (read_of u.supply).accept ≡ t
+    → all_stalled (turns (max from (read_of u.supply).want) u.word (accepted u) older) ≤ t - from
+unfolding accepted
+accepted-ticks from t u older at = omega (arith, at, turns-ticks (max from (read_of u.supply).want) u.word (accepted u) older)
+
+bus-ticks : (from t : ℕ) (before : List Use) → all_stalled (bus_waits from t before) ≤ t - from
+unfolding bus_waits all_stalled
+bus-ticks from t [] = omega arith
+bus-ticks from t (u ∷ older) =
+    cond_both (is_read u.supply) _ _ (λ xs. all_stalled xs ≤ t - from)
+    (λ yes_read. cond_both (nat_eq (read_of u.supply).accept t) _ _ (λ xs. all_stalled xs ≤ t - from)
+    (λ at. accepted-ticks from t u older (eqb-true _ _ at))
+    (λ not_at. omega arith))
+    (λ no_read. bus-ticks from t older)
+
+pub fetch-ticks : (from t : ℕ) (before words : List Use) → All IsReadInTime before → All IsReadInTime words
+    → all_stalled (fetch_waits from t before words) ≤ t - from
+unfolding fetch_waits
+fetch-ticks from t before [] old all = bus-ticks from t before
+fetch-ticks from t before (u ∷ earlier) old all =
+    let is = All-head IsReadInTime u earlier all in
+    let rest = All-tail IsReadInTime u earlier all in
+    cond_both (decides Instruction t u earlier) _ _ (λ xs. all_stalled xs ≤ t - from)
+    (λ due. cond_both (is_read u.supply) _ _ (λ xs. all_stalled xs ≤ t - from)
+    (λ yes_read.
+    let early = decided-by Instruction t u earlier is due in
+    omega (
+      arith,
+      early,
+      is.wanted,
+      all-append (read_waits from t u (earlier ++ before)) (fetch_waits from (read_of u.supply).want before earlier),
+      read-ticks from t u (earlier ++ before) is early,
+      fetch-ticks from (read_of u.supply).want before earlier old rest,
+    ))
+    (λ no_read. held-ticks from t u.word before old))
+    (λ not_due. fetch-ticks from t before earlier old rest)
+
+pub all-reversed : (xs : List Use) → All IsReadInTime xs → All IsReadInTime (reverse xs)
+all-reversed [] all = All-nil IsReadInTime
+all-reversed (x ∷ xs) all =
+    subst (All IsReadInTime) (sym (reverse-append (x ∷ []) xs))
+    (All-append IsReadInTime (reverse xs) (x ∷ []) (all-reversed xs (All-tail IsReadInTime x xs all))
+    (All-cons IsReadInTime x [] (All-head IsReadInTime x xs all) (All-nil IsReadInTime)))

@@ -1,0 +1,79 @@
+-- Waits that are filled in from the youngest word back.
+use Rattle.std.specs.Prelude.{Bool, true, false, if◌then◌else◌}
+use Rattle.std.proofs.Common.{◌≡◌, ℕ, ◌+◌, ◌≤◌, ◌<◌, List, [], ◌∷◌, ◌++◌, refl, sym, ◌∙◌, ap, append_assoc}
+use Rattle.std.proofs.lemmas.Bool.{and_parts, leb-true, ltb-true}
+use Rattle.std.proofs.lemmas.List.{append-nil}
+use Rattle.st_plain.specs.declared.uses.Use.{Use}
+use Rattle.st_reasons.specs.declared.waits.Accepted.{Accepted}
+use Rattle.st_reasons.specs.declared.waits.Stall.TheVariants.{Turn, Bank}
+use Rattle.st_reasons.specs.declared.waits.Wait.{Wait}
+use Rattle.st_reasons.specs.Waits.{piece, accepted, is_between, turns}
+
+pub is_between-parts : (from before : ℕ) (u : Use) → is_between from before u.supply ≡ true
+    → (from ≤ (accepted u).tick) × ((accepted u).tick < before)
+unfolding is_between accepted
+is_between-parts from before u is =
+    let both = and_parts _ _ is in
+    let ends = and_parts _ _ both.1 in
+    (leb-true _ _ ends.0, ltb-true _ _ ends.1)
+
+-- no word more
+pub turns_none : (from w : ℕ) (next : Accepted) (all older : List Use) (ws : List Wait) → all ≡ []
+    → ws ++ turns from w next older ≡ ws ++ turns from w next (all ++ older)
+turns_none from w next all older ws is = ap (λ us. ws ++ turns from w next (us ++ older)) (sym is)
+
+-- the next word, which stands before the acceptance or not
+by_word : ℕ → ℕ → Accepted → Use → List Use → Bool → List Wait
+by_word from w next u older b =
+    if b
+    then piece ((accepted u).tick + 1) next.tick Bank w next.word
+    ++ (piece (accepted u).tick ((accepted u).tick + 1) Turn w u.word
+    ++ turns from w (accepted u) older)
+    else turns from w next older
+
+word_first : (from w : ℕ) (next : Accepted) (u : Use) (all rest older : List Use) (b : Bool) → all ≡ u ∷ rest
+    → is_between from next.tick u.supply ≡ b → turns from w next (all ++ older) ≡ by_word from w next u (rest ++ older) b
+unfolding turns by_word
+word_first from w next u all rest older b is same =
+    ap (λ us. turns from w next (us ++ older)) is ∙ ap (λ c. by_word from w next u (rest ++ older) c) same
+
+pub turns_past : (from w : ℕ) (next behind : Accepted) (u : Use) (all rest older : List Use) (ws now : List Wait) → all ≡ u ∷ rest
+    → is_between from next.tick u.supply ≡ false
+    → now ++ turns from w behind older ≡ ws ++ turns from w next (rest ++ older)
+    → now ++ turns from w behind older ≡ ws ++ turns from w next (all ++ older)
+unfolding by_word
+turns_past from w next behind u all rest older ws now is no_one h =
+    h ∙ ap (λ xs. ws ++ xs) (sym (word_first from w next u all rest older false is no_one))
+
+one_here : (from w : ℕ) (next behind : Accepted) (u : Use) (all rest older : List Use) (ws one two now : List Wait) → all ≡ u ∷ rest
+    → is_between from next.tick u.supply ≡ true
+    → one ≡ ws ++ piece ((accepted u).tick + 1) next.tick Bank w next.word
+    → two ≡ one ++ piece (accepted u).tick ((accepted u).tick + 1) Turn w u.word
+    → now ++ turns from w behind older ≡ two ++ turns from w (accepted u) (rest ++ older)
+    → now ++ turns from w behind older ≡ ws ++ turns from w next (all ++ older)
+unfolding by_word
+one_here from w next behind u all rest older ws one two now is is_one h k l =
+    let here = word_first from w next u all rest older true is is_one in
+    l ∙ rw (k, h) (simp append_assoc refl) ∙ ap (λ xs. ws ++ xs) (sym here)
+
+pub turns_one : (from w tick : ℕ) (next behind read : Accepted) (u : Use) (all rest older : List Use) (ws one two now : List Wait) → all ≡ u ∷ rest
+    → is_between from next.tick u.supply ≡ true → read ≡ accepted u → tick ≡ read.tick + 1
+    → one ≡ ws ++ piece tick next.tick Bank w next.word
+    → two ≡ one ++ piece read.tick tick Turn w u.word
+    → now ++ turns from w behind older ≡ two ++ turns from w read (rest ++ older)
+    → now ++ turns from w behind older ≡ ws ++ turns from w next (all ++ older)
+turns_one from w tick next behind read u all rest older ws one two now is is_one same is_tick h k l =
+    one_here from w next behind u all rest older ws one two now is is_one
+    (h ∙ ap (λ n. ws ++ piece n next.tick Bank w next.word) is_tick ∙ ap (λ r. ws ++ piece (r.tick + 1) next.tick Bank w next.word) same)
+    (k ∙ ap (λ n. one ++ piece read.tick n Turn w u.word) is_tick ∙ ap (λ r. one ++ piece r.tick (r.tick + 1) Turn w u.word) same)
+    (l ∙ ap (λ r. two ++ turns from w r (rest ++ older)) same)
+
+-- the words of the row, and then those of the row before
+pub turns_all : (from w : ℕ) (next here there : Accepted) (earlier before : List Use) (ws one two now : List Wait)
+    → one ++ turns from w here (before ++ []) ≡ ws ++ turns from w next (earlier ++ (before ++ []))
+    → two ++ turns from w there [] ≡ one ++ turns from w here (before ++ [])
+    → now ≡ two ++ piece from there.tick Bank w there.word
+    → now ≡ ws ++ turns from w next (earlier ++ before)
+unfolding turns
+turns_all from w next here there earlier before ws one two now h k l =
+    l ∙ k ∙ h ∙ ap (λ us. ws ++ turns from w next (earlier ++ us)) (append-nil before)

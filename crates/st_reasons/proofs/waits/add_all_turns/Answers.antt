@@ -1,0 +1,9 @@
+use Rattle.std.proofs.Common.{[], ◌++◌, reverse}
+use Rattle.st_reasons.proofs.Stands.{turns_all}
+use Rattle.st_reasons.proofs.waits.add_all_turns.Goals as goal
+
+pub returns-clause-items : goal.returns-clause-items
+returns-clause-items c =
+    turns_all c.args.from c.args.read.word c.args.read c.add_turns-here.result c.add_turns-there.result (reverse c.args.earlier.now)
+    (reverse c.args.before.now) c.args.waits.now.items c.add_turns-here.new.waits.items c.add_turns-there.new.waits.items _
+    (c.add_turns-here.ensures.items (reverse c.args.before.now ++ [])) (c.add_turns-there.ensures.items []) c.add_piece.ensures.items

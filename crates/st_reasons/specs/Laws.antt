@@ -1,0 +1,23 @@
+-- What holds of the waits of a charge, and of the words that they are found from.
+use Rattle.std.specs.Prelude.{ℕ, ◌-◌, ◌≤◌, List, All, Option}
+use Rattle.st_ledger.specs.declared.charges.Charge.{Charge}
+use Rattle.st_prep.specs.declared.entries.Words.{Words}
+use Rattle.st_rows.specs.declared.entry.Entry.{Entry}
+use Rattle.st_rows.specs.declared.front.Front.{Front}
+use Rattle.st_plain.specs.Uses.{uses_of_entry}
+use Rattle.st_plain.specs.declared.uses.Use.{Use}
+use Rattle.st_reasons.specs.Words.{IsReadInTime}
+use Rattle.st_reasons.specs.Waits.{charge_waits}
+use Rattle.st_reasons.specs.Sums.{all_stalled}
+
+-- The waits of a charge are no more ticks than it has.
+abbrev pub WaitsAreWithinTheirCharge : Type 0
+WaitsAreWithinTheirCharge = (x : Charge) (uses before : List Use) →
+    All IsReadInTime uses → All IsReadInTime before →
+    all_stalled (charge_waits x uses before) ≤ x.to - x.from
+
+-- Each word of an entry that is read is accepted when it is wanted or later, and answered no
+-- earlier than that.
+abbrev pub ReadsOfAnEntryAreInTime : Type 0
+ReadsOfAnEntryAreInTime = (ds : List ℕ) (n : ℕ) (f : Front) (e : Entry) (side : Option ℕ)
+    (reads : Words) → All IsReadInTime (uses_of_entry ds n f e side reads)

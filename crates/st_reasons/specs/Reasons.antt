@@ -1,0 +1,132 @@
+-- What kept a row from being prepared earlier: where the path ends that goes back from its
+-- completion. Words stand youngest first: those of the row, and those of the row before it.
+use Rattle.std.specs.Prelude.{ℕ, zero, suc, ◌+◌, ◌-◌, Bool, ◌&&◌, ◌||◌, nat_eq, nat_le, nat_lt, if◌then◌else◌, List, [], ◌∷◌, length, take, reverse, Option, None, Some}
+use Rattle.std.specs.List.{list_any}
+use Rattle.st_bits.specs.declared.register.TheConstants.{FIRST_STORAGE_WORD}
+use Rattle.st_rows.specs.Entries.{latest_done}
+use Rattle.st_rows.specs.Rows.{done_before}
+use Rattle.st_rows.specs.declared.entry.Entry.{Entry}
+use Rattle.st_rows.specs.declared.front.Front.{Front}
+use Rattle.st_rows.specs.declared.past.Past.{Past}
+use Rattle.st_plain.specs.declared.rows.Row.{Row}
+use Rattle.st_plain.specs.declared.uses.Role.TheVariants.{Instruction}
+use Rattle.st_plain.specs.declared.uses.Supply.{Supply}
+use Rattle.st_plain.specs.declared.uses.Supply.TheVariants.{Read, Held, Forwarded, Register}
+use Rattle.st_plain.specs.declared.uses.Use.{Use}
+use Rattle.st_plain.specs.declared.uses.Writer.{Writer}
+use Rattle.st_reasons.specs.Words.{is_read, read_of, is_instruction, is_index, decides}
+use Rattle.st_reasons.specs.declared.because.Because.{Because}
+use Rattle.st_reasons.specs.declared.because.Because.TheVariants.{Start, Prefetch, Earlier}
+use Rattle.st_reasons.specs.declared.because.Reason.{Reason}
+use Rattle.st_reasons.specs.declared.because.Reason.TheVariants.{Serial, Store, Level, Forwarding, Bus, Order}
+
+-- it is an earlier row, or what the row itself is: how many rows before, the tick at which the path
+-- ends, and by how many ticks at most the row was later for it
+abbrev pub row_reason : Reason → ℕ → ℕ → ℕ → Because
+row_reason reason back tick late =
+    Earlier (record { reason = reason; back = back; tick = tick; late = late })
+
+-- how many entries before, from the k-th on of so many, the one lies that is done at the tick t; 0
+-- where there is none
+unfoldable pub back_from : ℕ → List Past → ℕ → ℕ → ℕ
+back_from t past k zero = 0
+back_from t past k (suc left) = if nat_eq (done_before k past) t then k
+    else back_from t past (k + 1) left
+
+-- among the last eight
+abbrev pub back_to : ℕ → List Past → ℕ
+back_to t past = back_from t past 1 8
+
+-- no entry of the segment lies before it
+abbrev pub is_first : Front → Bool
+is_first f = nat_eq (done_before 1 f.past) 0
+
+-- ---- what came at a tick
+
+-- the latest writer of the word w is done at the tick t; registers are left out
+abbrev pub is_written : List Past → ℕ → ℕ → Bool
+is_written past t w = nat_le FIRST_STORAGE_WORD w && nat_eq (latest_done past w) t
+
+-- and it is an instruction word
+unfoldable pub is_stored : List Past → ℕ → Use → Bool
+is_stored past t u = is_instruction u.role && is_written past t u.word
+
+-- the entry before was done, where it is done alone or something is awaited that has to be behind
+-- it; or an entry that wrote one of these words
+unfoldable pub reason_done : Front → Bool → ℕ → List Use → Option Because
+reason_done f alone t words =
+    if is_first f then None
+    else if nat_eq t f.c && (alone || f.serial)
+    then Some (row_reason Serial (if f.serial then 1 else 0) t (t - f.p))
+    else if list_any (is_stored f.past t) words
+    then Some (row_reason Store (back_to t f.past) t (t - f.p))
+    else None
+
+-- the segment starts, or the entry before was prepared
+unfoldable pub reason_in_order : Front → Because
+reason_in_order f = if is_first f then Start f.p else row_reason Order 1 f.p 0
+
+-- the last read of the row before was accepted, where that is later than its preparation
+unfoldable pub reason_of_bus : Front → ℕ → List Use → Because
+reason_of_bus f t [] = reason_in_order f
+reason_of_bus f t (u ∷ older) =
+    if is_read u.supply
+    then if nat_eq (read_of u.supply).accept t && nat_lt f.p t
+    then row_reason Bus 1 (read_of u.supply).want (t - f.p)
+    else reason_in_order f
+    else reason_of_bus f t older
+
+-- ---- the path
+
+-- the first of these reasons, if there is one
+abbrev pub reason_or : Option Because → Because → Because
+reason_or (Some reason) other = reason
+reason_or None other = other
+
+-- an instruction word was answered at the tick t: an earlier row asked for it, or the path goes on
+-- at its want; `own` is how many instruction words are none of the target of EX, which have to be
+-- behind the entry before
+unfoldable pub reason_of_words : Front → ℕ → List Use → ℕ → List Use → Because
+reason_of_words f own before t [] = reason_of_bus f t before
+reason_of_words f own before t (u ∷ earlier) =
+    if decides Instruction t u earlier
+    then if is_read u.supply
+    then reason_or
+    (reason_done f (nat_le own (length earlier)) (read_of u.supply).want earlier)
+    (reason_of_words f own before (read_of u.supply).want earlier)
+    else Prefetch (record { word = u.word; late = t - f.p })
+    else reason_of_words f own before t earlier
+
+-- from the tick t on, at which all was there that the address is formed from
+abbrev pub reason_of_address : Front → Entry → ℕ → List Use → List Use → Because
+reason_of_address f e t before words =
+    reason_or (reason_done f e.serial t words) (reason_of_words f e.own.len before t words)
+
+-- ---- the row
+
+-- the writer of a word that is forwarded
+unfoldable pub writer_of : Supply → Option Writer
+writer_of (Read r) = None
+writer_of (Held answer) = None
+writer_of (Forwarded w) = Some w
+writer_of Register = None
+
+-- that of the index-side word, if it is
+unfoldable pub side_writer : List Use → Option Writer
+side_writer [] = None
+side_writer (u ∷ uses) = if is_index u.role then writer_of u.supply else side_writer uses
+
+abbrev pub reason_of_side : Option Writer → ℕ → Because → Because
+reason_of_side (Some w) a other = row_reason Forwarding w.back w.done (w.done - a)
+reason_of_side None a other = other
+
+-- what kept the entry e behind the front f back, with its row: for want of a level, for its
+-- index-side word, or else what its address awaited. It uses some words, and the row before it
+-- others, none where it is the first one of its segment; the words stand in the order of their
+-- reads, and the first four have all instruction words among them
+unfoldable pub because : Front → Entry → Row → List Use → List Use → Because
+because f e row uses before =
+    if nat_lt 0 row.level_wait
+    then row_reason Level (back_to (row.ticks.p - 1) f.past) (row.ticks.p - 1) row.level_wait
+    else reason_of_side (side_writer uses) row.ticks.a
+    (reason_of_address f e (row.ticks.a - 1) (reverse before) (reverse (take 4 uses)))

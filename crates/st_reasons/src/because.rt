@@ -1,0 +1,295 @@
+//! What kept a row from being prepared earlier.
+ghost use Rattle.std.specs.Prelude.{◌≡◌, ◌+◌, ◌-◌, ◌≤◌, ◌<◌, ◌∷◌, ◌++◌, [], reverse, length, if◌then◌else◌, ◌&&◌, ◌||◌, Some, None, MatchOption, IfSome};
+ghost use Rattle.st_reasons.specs.declared.because.Because.TheVariants.{Prefetch as PrefetchOf};
+ghost use Rattle.std.specs.List.{list_any};
+ghost use Rattle.st_rows.specs.Rows.{done_before};
+ghost use Rattle.st_reasons.specs.Reasons.{row_reason, back_from, back_to as back_by, is_first as is_first_of, is_written as is_written_of, is_stored as is_stored_of, reason_done, reason_in_order, reason_of_bus, reason_of_words, reason_of_address, writer_of as writer_by, side_writer as side_writer_of, reason_of_side, because as because_of};
+
+use crate::uses::{decides, is_index, is_instruction, is_read, last_use, read_of};
+use crate::waits::first_four;
+use st_bits::register::FIRST_STORAGE_WORD;
+use st_plain::{Role, Row, Supply, Use, Writer};
+use st_rows::{Entry, Front, LastEntries};
+
+/// What kept a row back, of what ties it to a row before it.
+#[derive(Clone, Copy, Debug, PartialEq, Eq)]
+pub enum Reason {
+    /// The row before was done, and that or this one is done alone.
+    Serial,
+    /// A row was done that wrote one of its instruction words.
+    Store,
+    /// A row was done whose level it takes over.
+    Level,
+    /// A row was done that wrote its index-side word.
+    Forwarding,
+    /// The row before made reads, of which the last one was accepted before its own.
+    Bus,
+    /// The row before was prepared.
+    Order,
+}
+
+/// A reason with its row.
+#[derive(Clone, Copy, Debug, PartialEq, Eq)]
+pub struct Cause {
+    pub reason: Reason,
+    /// How many rows before it lies, 0 where it is the row itself.
+    pub back: u8,
+    /// The tick at which the path to the completion begins.
+    pub tick: u64,
+    /// By how many ticks at most the row was later for it.
+    pub late: u64,
+}
+
+/// An instruction word that an earlier row asked for.
+#[derive(Clone, Copy, Debug, PartialEq, Eq)]
+pub struct Prefetched {
+    /// Its address.
+    pub word: u32,
+    /// By how many ticks at most the row was later for it.
+    pub late: u64,
+}
+
+/// What kept a row from being prepared earlier.
+#[derive(Clone, Copy, Debug, PartialEq, Eq)]
+pub enum Because {
+    /// Its segment starts at this tick.
+    Start(u64),
+    /// An earlier row asked for one of its instruction words.
+    Prefetch(Prefetched),
+    /// An earlier row, or what the row itself is.
+    Earlier(Cause),
+}
+
+// A reason with its row.
+#[inline(always)]
+fn earlier_reason(reason: Reason, back: u8, tick: u64, late: u64) -> Because
+    ensures { result ≡ row_reason reason back tick late }
+{
+    Because::Earlier(Cause {
+        reason,
+        back,
+        tick,
+        late,
+    })
+}
+
+// How many entries before the one lies that is done at the tick, from `k` on and up to 8; 0 where
+// there is none.
+#[tactic(auto, unfolding(crate::specs::Reasons::back_from))]
+fn back_of(t: u64, past: &LastEntries, k: u8) -> u8
+    requires { (1 ≤ k) × (k ≤ 9) }
+    ensures { result ≡ back_from t past.now k (9 - k) }
+{
+    if k == 9 {
+        return 0;
+    }
+    if past.done_before(usize::from(k)) == t {
+        return k;
+    }
+    back_of(t, past, k + 1)
+}
+
+// The same among the last eight.
+fn back_to(t: u64, past: &LastEntries) -> u8
+    ensures { result ≡ back_by t past.now }
+{
+    back_of(t, past, 1)
+}
+
+// Whether an entry is the first one of its segment.
+#[inline(always)]
+fn is_first(front: &Front) -> bool
+    ensures { result ≡ is_first_of front.now }
+{
+    front.past.done_before(1) == 0
+}
+
+// Whether the latest writer of a word of storage is done at the tick.
+#[inline(always)]
+fn is_written(past: &LastEntries, t: u64, w: u32) -> bool
+    ensures { result ≡ is_written_of past.now t w }
+{
+    w >= FIRST_STORAGE_WORD && past.latest_done(w) == t
+}
+
+// Whether a word is an instruction word that was written by an entry that is done at the tick.
+#[inline(always)]
+#[tactic(auto, unfolding(crate::specs::Reasons::is_stored))]
+fn is_stored(past: &LastEntries, t: u64, one: &Use) -> bool
+    ensures { result ≡ is_stored_of past.now t one.now }
+{
+    is_instruction(one.role) && is_written(past, t, one.word)
+}
+
+// Whether one of some words is.
+fn is_any_stored(past: &LastEntries, t: u64, uses: &[Use]) -> bool
+    ensures { result ≡ list_any (is_stored_of past.now t) (reverse uses.now) }
+{
+    let Some((last, earlier)) = last_use(uses) else {
+        return false;
+    };
+    if is_stored(past, t, last) {
+        return true;
+    }
+    is_any_stored(past, t, earlier)
+}
+
+// What was done at the tick: the entry before, where that or this one is done alone, or one that
+// wrote one of these words.
+#[tactic(auto, unfolding(crate::specs::Reasons::reason_done))]
+fn done_at(front: &Front, alone: bool, t: u64, words: &[Use]) -> Option<Because>
+    ensures { result ≡ reason_done front.now alone t (reverse words.now) }
+{
+    if is_first(front) {
+        return None;
+    }
+    let late = t.saturating_sub(front.p);
+    if t == front.c && (alone || front.serial) {
+        return Some(earlier_reason(Reason::Serial, u8::from(front.serial), t, late));
+    }
+    if is_any_stored(&front.past, t, words) {
+        return Some(earlier_reason(Reason::Store, back_to(t, &front.past), t, late));
+    }
+    None
+}
+
+// The start of the segment, or the entry before.
+#[tactic(auto, unfolding(crate::specs::Reasons::reason_in_order))]
+fn in_order(front: &Front) -> Because
+    ensures { result ≡ reason_in_order front.now }
+{
+    if is_first(front) {
+        return Because::Start(front.p);
+    }
+    earlier_reason(Reason::Order, 1, front.p, 0)
+}
+
+// The last read of the row before, where it was accepted at the tick and later than that row was
+// prepared, or else what the order is.
+#[tactic(auto, unfolding(crate::specs::Reasons::reason_of_bus))]
+fn bus_or_order(front: &Front, t: u64, before: &[Use]) -> Because
+    ensures { result ≡ reason_of_bus front.now t (reverse before.now) }
+{
+    let Some((last, earlier)) = last_use(before) else {
+        return in_order(front);
+    };
+    if !is_read(&last.supply) {
+        return bus_or_order(front, t, earlier);
+    }
+    let read = read_of(&last.supply);
+    if read.accept == t && front.p < t {
+        return earlier_reason(Reason::Bus, 1, read.want, t.saturating_sub(front.p));
+    }
+    in_order(front)
+}
+
+// An instruction word that an earlier row asked for.
+#[inline(always)]
+fn asked_before(front: &Front, word: u32, t: u64) -> Because
+    ensures { result ≡ PrefetchOf (record { word = word; late = t - front.now.p }) }
+{
+    Because::Prefetch(Prefetched {
+        word,
+        late: t.saturating_sub(front.p),
+    })
+}
+
+// What the words awaited that were asked for so far, where the path is at the tick `t`.
+#[tactic(auto, unfolding(crate::specs::Reasons::reason_of_words))]
+fn of_words(front: &Front, own: u8, t: u64, words: &[Use], before: &[Use]) -> Because
+    ensures { result
+        ≡ reason_of_words front.now own (reverse before.now) t (reverse words.now) }
+{
+    let Some((last, earlier)) = last_use(words) else {
+        return bus_or_order(front, t, before);
+    };
+    if !decides(Role::Instruction, t, last, earlier) {
+        return of_words(front, own, t, earlier, before);
+    }
+    if !is_read(&last.supply) {
+        return asked_before(front, last.word, t);
+    }
+    let want = read_of(&last.supply).want;
+    let of_target = usize::from(own) <= earlier.len();
+    match done_at(front, of_target, want, earlier) {
+        Some(reason) => reason,
+        None => of_words(front, own, want, earlier, before),
+    }
+}
+
+// What the address awaited, which is formed one tick behind the tick `t`.
+fn of_address(front: &Front, entry: &Entry, t: u64, words: &[Use], before: &[Use]) -> Because
+    ensures { result ≡ reason_of_address front.now entry.now t (reverse before.now)
+        (reverse words.now) }
+{
+    match done_at(front, entry.serial, t, words) {
+        Some(reason) => reason,
+        None => of_words(front, entry.own.len, t, words, before),
+    }
+}
+
+// The writer of a word that is forwarded.
+#[inline(always)]
+#[tactic(auto, unfolding(crate::specs::Reasons::writer_of))]
+fn writer_of(supply: &Supply) -> Option<Writer>
+    ensures { result ≡ writer_by supply.now }
+{
+    match supply {
+        Supply::Forwarded(writer) => Some(*writer),
+        Supply::Read(_) | Supply::Held(_) | Supply::Register => None,
+    }
+}
+
+// The first of some uses, and those behind it.
+#[inline(always)]
+fn first_use(uses: &[Use]) -> Option<(&Use, &[Use])>
+    ensures parts { MatchOption result (uses.now ≡ []) (λ r. uses.now ≡ r.0.now ∷ r.1.now) }
+    ensures fewer { IfSome result (λ r. length r.1.now + 1 ≡ length uses.now) }
+{
+    match uses {
+        [first, more @ ..] => Some((first, more)),
+        [] => None,
+    }
+}
+
+// The writer of the index-side word, if that is forwarded.
+#[tactic(auto, unfolding(crate::specs::Reasons::side_writer))]
+fn side_writer(uses: &[Use]) -> Option<Writer>
+    ensures { result ≡ side_writer_of uses.now }
+{
+    let Some((first, more)) = first_use(uses) else {
+        return None;
+    };
+    if is_index(first.role) {
+        return writer_of(&first.supply);
+    }
+    side_writer(more)
+}
+
+/// What kept the entry behind a front from being prepared earlier, whose row this is. It uses some
+/// words, and the row before it in its segment the words `before`; the first row of a segment has
+/// none before it.
+#[tactic(auto, unfolding(crate::specs::Reasons::because))]
+pub fn find_reason(front: &Front, entry: &Entry, row: &Row, uses: &[Use], before: &[Use]) -> Because
+    ensures { result ≡ because_of front.now entry.now row.now uses.now before.now }
+{
+    if row.level_wait > 0 {
+        let done = row.ticks.p.saturating_sub(1);
+        return earlier_reason(
+            Reason::Level,
+            back_to(done, &front.past),
+            done,
+            row.level_wait,
+        );
+    }
+    let a = row.ticks.a;
+    match side_writer(uses) {
+        Some(writer) => earlier_reason(
+            Reason::Forwarding,
+            writer.back,
+            writer.done,
+            writer.done.saturating_sub(a),
+        ),
+        None => of_address(front, entry, a.saturating_sub(1), first_four(uses), before),
+    }
+}

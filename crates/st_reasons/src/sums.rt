@@ -1,0 +1,135 @@
+//! The ticks of waits, by stage and by what was waited for.
+ghost use Rattle.std.specs.Prelude.{◌≡◌, ◌+◌, ◌-◌, ◌≤◌, ◌<◌, ◌^◌, ◌∷◌, [], length, true, if◌then◌else◌, MatchOption, IfSome};
+ghost use Rattle.st_ledger.specs.declared.charges.Stage.{Stage as StageOf};
+ghost use Rattle.st_ledger.specs.Charges.{is_stage};
+ghost use Rattle.st_reasons.specs.declared.waits.Stall.{Stall as StallOf};
+ghost use Rattle.st_reasons.specs.Sums.{stall_number as stall_number_of, stalled_for, all_stalled, share_at, AreWaitsWithin, is_parted, waited_at, wait_sums_by};
+
+use crate::waits::{Stall, Wait};
+use st_ledger::{Charge, Stage};
+
+/// The ticks of waits, by what was waited for.
+#[derive(Clone, Copy, Debug, Default, PartialEq, Eq)]
+pub struct Shares {
+    pub turn: u64,
+    pub bank: u64,
+    pub storage: u64,
+}
+
+/// The ticks of the waits of charges, stage by stage.
+#[derive(Clone, Copy, Debug, Default, PartialEq, Eq)]
+pub struct WaitTotals {
+    pub instruction: Shares,
+    pub index: Shares,
+    pub operand: Shares,
+}
+
+// The first of some waits, and those behind it.
+#[inline(always)]
+fn first_wait(waits: &[Wait]) -> Option<(&Wait, &[Wait])>
+    ensures parts { MatchOption result (waits.now ≡ []) (λ r. waits.now ≡ r.0.now ∷ r.1.now) }
+    ensures fewer { IfSome result (λ r. length r.1.now < length waits.now) }
+{
+    match waits {
+        [first, more @ ..] => Some((first, more)),
+        [] => None,
+    }
+}
+
+// The number of a thing that is waited for.
+#[inline(always)]
+fn stall_number(why: Stall) -> u8
+    ensures { result ≡ stall_number_of why }
+{
+    match why {
+        Stall::Turn => 0,
+        Stall::Bank => 1,
+        Stall::Storage => 2,
+    }
+}
+
+// The ticks of waits for one thing.
+#[tactic(auto, unfolding(crate::specs::Sums::stalled_for, crate::specs::Sums::all_stalled))]
+fn stalled(why: Stall, waits: &[Wait]) -> u64
+    requires { all_stalled waits.now < 2 ^ 64 }
+    ensures value { result ≡ stalled_for why waits.now }
+    ensures most { result ≤ all_stalled waits.now }
+{
+    let Some((wait, more)) = first_wait(waits) else {
+        return 0;
+    };
+    let ticks = wait.to.saturating_sub(wait.from);
+    let behind = stalled(why, more);
+    if stall_number(why) == stall_number(wait.why) {
+        return ticks + behind;
+    }
+    behind
+}
+
+impl Shares {
+    // Adds waits.
+    fn add(&mut self, waits: &[Wait])
+        requires turn { self.old.turn + all_stalled waits.now < 2 ^ 64 }
+        requires bank { self.old.bank + all_stalled waits.now < 2 ^ 64 }
+        requires storage { self.old.storage + all_stalled waits.now < 2 ^ 64 }
+        ensures sums { (s : StallOf) → share_at s self.new
+            ≡ share_at s self.old + stalled_for s waits.now }
+    {
+        self.turn += stalled(Stall::Turn, waits);
+        self.bank += stalled(Stall::Bank, waits);
+        self.storage += stalled(Stall::Storage, waits);
+    }
+}
+
+impl WaitTotals {
+    /// Adds the waits of a charge, which are no more ticks than that has. No sum is greater than
+    /// the tick at which it begins.
+    pub fn add(&mut self, charge: Charge, waits: &[Wait])
+        requires within { AreWaitsWithin charge.from self.old }
+        requires few { charge.from + all_stalled waits.now ≤ charge.to }
+        ensures within { AreWaitsWithin charge.to self.new }
+        ensures sums { (r : StageOf) (s : StallOf) → is_parted r ≡ true →
+            waited_at r s self.new ≡ waited_at r s self.old
+            + (if is_stage r charge.stage then stalled_for s waits.now else 0) }
+    {
+        match charge.stage {
+            Stage::Instruction => self.instruction.add(waits),
+            Stage::Index => self.index.add(waits),
+            Stage::Operand => self.operand.add(waits),
+            Stage::Restart | Stage::Address | Stage::Preparing | Stage::Executing => {}
+        }
+    }
+}
+
+/// The ticks of one thing that was waited for in a stage, in the whole run.
+#[derive(Clone, Copy, Debug, PartialEq, Eq)]
+pub struct WaitSum {
+    pub stage: Stage,
+    pub why: Stall,
+    pub ticks: u64,
+}
+
+// The sum of one thing in a stage.
+#[inline(always)]
+fn made_sum(stage: Stage, why: Stall, ticks: u64) -> WaitSum
+    ensures { result ≡ record { stage = stage; why = why; ticks = ticks } }
+{
+    WaitSum { stage, why, ticks }
+}
+
+/// The sums in their order.
+pub fn wait_sums(totals: &WaitTotals) -> [WaitSum; 8]
+    ensures { result ≡ wait_sums_by (λ r s. waited_at r s totals.now) }
+{
+    let (first, side, data) = (&totals.instruction, &totals.index, &totals.operand);
+    [
+        made_sum(Stage::Instruction, Stall::Turn, first.turn),
+        made_sum(Stage::Instruction, Stall::Bank, first.bank),
+        made_sum(Stage::Instruction, Stall::Storage, first.storage),
+        made_sum(Stage::Index, Stall::Bank, side.bank),
+        made_sum(Stage::Index, Stall::Storage, side.storage),
+        made_sum(Stage::Operand, Stall::Turn, data.turn),
+        made_sum(Stage::Operand, Stall::Bank, data.bank),
+        made_sum(Stage::Operand, Stall::Storage, data.storage),
+    ]
+}

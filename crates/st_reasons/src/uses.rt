@@ -1,0 +1,139 @@
+//! Uses as their waits see them.
+ghost use Rattle.std.specs.Prelude.{◌≡◌, ◌<◌, ◌+◌, ◌∷◌, [], length, reverse, not, ◌&&◌, MatchOption, IfSome};
+ghost use Rattle.std.specs.List.{list_any};
+ghost use Rattle.st_reasons.specs.Words.{is_read as is_read_of, read_of as read_by, is_instruction as is_instruction_of, is_index as is_index_of, is_operand as is_operand_of, is_role as is_role_of, is_answered as is_answered_of, is_due as is_due_of, decides as decides_of};
+
+use st_plain::{ReadTicks, Role, Supply, Use};
+
+/// The last of some uses, and those before it.
+#[inline(always)]
+pub(crate) fn last_use(uses: &[Use]) -> Option<(&Use, &[Use])>
+    ensures parts { MatchOption result (reverse uses.now ≡ [])
+        (λ r. reverse uses.now ≡ r.0.now ∷ reverse r.1.now) }
+    ensures fewer { IfSome result (λ r. length r.1.now + 1 ≡ length uses.now) }
+{
+    match uses {
+        [earlier @ .., last] => Some((last, earlier)),
+        [] => None,
+    }
+}
+
+/// Whether a word is read.
+#[inline(always)]
+#[tactic(auto, unfolding(crate::specs::Words::is_read))]
+pub(crate) fn is_read(supply: &Supply) -> bool
+    ensures { result ≡ is_read_of supply.now }
+{
+    match supply {
+        Supply::Read(_) => true,
+        Supply::Held(_) | Supply::Forwarded(_) | Supply::Register => false,
+    }
+}
+
+/// The ticks of the read of a word, all 0 where it is not read.
+#[inline(always)]
+#[tactic(auto, unfolding(crate::specs::Words::read_of))]
+pub(crate) fn read_of(supply: &Supply) -> ReadTicks
+    ensures { result ≡ read_by supply.now }
+{
+    match supply {
+        Supply::Read(ticks) => *ticks,
+        Supply::Held(_) | Supply::Forwarded(_) | Supply::Register => ReadTicks {
+            want: 0,
+            turn: 0,
+            free: 0,
+            accept: 0,
+            answer: 0,
+        },
+    }
+}
+
+/// Whether a word is used as an instruction word.
+#[inline(always)]
+pub(crate) fn is_instruction(role: Role) -> bool
+    ensures { result ≡ is_instruction_of role }
+{
+    match role {
+        Role::Instruction => true,
+        Role::Index | Role::Operand | Role::Following => false,
+    }
+}
+
+/// Whether it is used as the index-side word.
+#[inline(always)]
+pub(crate) fn is_index(role: Role) -> bool
+    ensures { result ≡ is_index_of role }
+{
+    match role {
+        Role::Index => true,
+        Role::Instruction | Role::Operand | Role::Following => false,
+    }
+}
+
+// Whether it is used as an operand word.
+#[inline(always)]
+fn is_operand(role: Role) -> bool
+    ensures { result ≡ is_operand_of role }
+{
+    match role {
+        Role::Operand => true,
+        Role::Instruction | Role::Index | Role::Following => false,
+    }
+}
+
+// Whether it is of a role that a row waits for.
+#[inline(always)]
+fn is_role(role: Role, other: Role) -> bool
+    ensures { result ≡ is_role_of role other }
+{
+    match role {
+        Role::Instruction => is_instruction(other),
+        Role::Index => is_index(other),
+        Role::Operand => is_operand(other),
+        Role::Following => false,
+    }
+}
+
+// Whether a word is answered at the tick.
+#[inline(always)]
+#[tactic(auto, unfolding(crate::specs::Words::is_answered))]
+fn is_answered(t: u64, supply: &Supply) -> bool
+    ensures { result ≡ is_answered_of t supply.now }
+{
+    match supply {
+        Supply::Read(ticks) => ticks.answer == t,
+        Supply::Held(answer) => *answer == t,
+        Supply::Forwarded(_) | Supply::Register => false,
+    }
+}
+
+// Whether a word has this role and is answered at the tick.
+#[inline(always)]
+#[tactic(auto, unfolding(crate::specs::Words::is_due))]
+fn is_due(role: Role, t: u64, one: &Use) -> bool
+    ensures { result ≡ is_due_of role t one.now }
+{
+    is_role(role, one.role) && is_answered(t, &one.supply)
+}
+
+// Whether one of some words has this role and is answered at the tick.
+fn is_any_due(role: Role, t: u64, uses: &[Use]) -> bool
+    ensures { result ≡ list_any (is_due_of role t) (reverse uses.now) }
+{
+    let Some((last, earlier)) = last_use(uses) else {
+        return false;
+    };
+    if is_due(role, t, last) {
+        return true;
+    }
+    is_any_due(role, t, earlier)
+}
+
+/// Whether a word is the first one of its role that is answered at the tick; these are those before
+/// it.
+#[inline(always)]
+pub(crate) fn decides(role: Role, t: u64, one: &Use, earlier: &[Use]) -> bool
+    ensures { result ≡ decides_of role t one.now (reverse earlier.now) }
+{
+    is_due(role, t, one) && !is_any_due(role, t, earlier)
+}

@@ -1,0 +1,285 @@
+//! What the ticks of a charge were waited for.
+ghost use Rattle.std.specs.Prelude.{◌≡◌, ◌+◌, ◌*◌, ◌≤◌, ◌<◌, ◌++◌, ◌∷◌, [], List, length, take, reverse, max, if◌then◌else◌, nat_eq, ◌&&◌};
+ghost use Rattle.st_plain.specs.declared.uses.Use.{Use as UseOf};
+ghost use Rattle.st_reasons.specs.Words.{is_read as is_read_of, read_of as read_by};
+ghost use Rattle.st_reasons.specs.Waits.{piece, accepted as accepted_of, is_between as is_between_of, turns, read_waits, data_waits, held_waits, bus_waits, fetch_waits, stage_waits, charge_waits};
+
+use crate::uses::{decides, is_read, last_use, read_of};
+use arrayvec::ArrayVec;
+use st_ledger::{Charge, Stage};
+use st_plain::{Role, Supply, Use};
+
+/// Why a word is waited for.
+#[derive(Clone, Copy, Debug, PartialEq, Eq)]
+pub enum Stall {
+    /// Another read has its turn on the bus.
+    Turn,
+    /// The read that is next on the bus waits for its bank.
+    Bank,
+    /// Its read is on its way.
+    Storage,
+}
+
+impl Default for Stall {
+    ghost use Rattle.std.specs.Prelude.{◌≡◌};
+    ghost use Rattle.st_reasons.specs.declared.waits.Stall.TheVariants.{Turn as FirstStall};
+
+    ghost is_default = { λ stall. stall ≡ FirstStall };
+
+    fn default() -> Stall {
+        Stall::Turn
+    }
+}
+
+/// The ticks behind `from`, up to and with `to`, in which a word is waited for.
+#[derive(Clone, Copy, Debug, Default, PartialEq, Eq)]
+pub struct Wait {
+    pub from: u64,
+    pub to: u64,
+    pub why: Stall,
+    /// The address of the word that is waited for.
+    pub word: u32,
+    /// That of the word whose read is on its way, is next on the bus, or has its turn.
+    pub read: u32,
+}
+
+/// A read that was accepted.
+#[derive(Clone, Copy, Debug, Default, PartialEq, Eq)]
+pub struct Accepted {
+    /// The address of its word.
+    pub word: u32,
+    /// When it was accepted.
+    pub tick: u64,
+}
+
+/// The waits of a charge, the last one first.
+pub type Waits = ArrayVec<Wait, 514>;
+
+// Adds the ticks behind one, up to another, where there are any.
+#[inline(always)]
+#[tactic(auto, unfolding(crate::specs::Waits::piece))]
+fn add_piece(waits: &mut Waits, from: u64, to: u64, why: Stall, word: u32, read: u32)
+    requires { length waits.old.items < 514 }
+    ensures items { waits.new.items ≡ waits.old.items ++ piece from to why word read }
+    ensures room { length waits.new.items ≤ length waits.old.items + 1 }
+{
+    if to <= from {
+        return;
+    }
+    waits.push(Wait {
+        from,
+        to,
+        why,
+        word,
+        read,
+    });
+}
+
+// The read of a word.
+#[inline(always)]
+#[tactic(auto, unfolding(crate::specs::Waits::accepted))]
+fn acceptance(one: &Use) -> Accepted
+    ensures { result ≡ accepted_of one.now }
+{
+    Accepted {
+        word: one.word,
+        tick: read_of(&one.supply).accept,
+    }
+}
+
+// Whether a word is read, and accepted from the tick `from` on and before another.
+#[inline(always)]
+#[tactic(auto, unfolding(crate::specs::Waits::is_between))]
+fn is_between(from: u64, before: u64, supply: &Supply) -> bool
+    ensures { result ≡ is_between_of from before supply.now }
+{
+    let accept = read_of(supply).accept;
+    is_read(supply) && from <= accept && accept < before
+}
+
+// The tick behind one that lies before another.
+#[inline(always)]
+fn tick_behind(tick: u64, before: u64) -> u64
+    requires { tick < before }
+    ensures { result ≡ tick + 1 }
+{
+    tick + 1
+}
+
+// Adds what stands before the acceptance of a read, from the tick `from` on, as far as it is told
+// by some words, the last one first. The result is the read that is then next.
+fn add_turns(waits: &mut Waits, from: u64, word: u32, next: Accepted, uses: &[Use]) -> Accepted
+    requires room { length waits.old.items + 2 * length uses.now ≤ 514 }
+    ensures items { (older : List UseOf) →
+        waits.new.items ++ turns from word result older
+        ≡ waits.old.items ++ turns from word next (reverse uses.now ++ older) }
+    ensures room { length waits.new.items ≤ length waits.old.items + 2 * length uses.now }
+{
+    let Some((last, earlier)) = last_use(uses) else {
+        return next;
+    };
+    if is_between(from, next.tick, &last.supply) {
+        let read = acceptance(last);
+        let behind = tick_behind(read.tick, next.tick);
+        add_piece(waits, behind, next.tick, Stall::Bank, word, next.word);
+        add_piece(waits, read.tick, behind, Stall::Turn, word, last.word);
+        return add_turns(waits, from, word, read, earlier);
+    }
+    add_turns(waits, from, word, next, earlier)
+}
+
+// Adds all that stands before the acceptance of a read, from the tick `from` on, behind words of
+// its row and words of the row before.
+fn add_all_turns(waits: &mut Waits, from: u64, read: Accepted, earlier: &[Use], before: &[Use])
+    requires room { length waits.old.items + 2 * (length earlier.now + length before.now) < 514 }
+    ensures items { waits.new.items ≡ waits.old.items
+        ++ turns from read.word read (reverse earlier.now ++ reverse before.now) }
+    ensures room { length waits.new.items
+        ≤ length waits.old.items + 2 * (length earlier.now + length before.now) + 1 }
+{
+    let here = add_turns(waits, from, read.word, read, earlier);
+    let there = add_turns(waits, from, read.word, here, before);
+    add_piece(waits, from, there.tick, Stall::Bank, read.word, there.word);
+}
+
+// Adds the waits of a word that is read, behind the tick `from` up to that of its answer.
+#[tactic(auto, unfolding(crate::specs::Waits::read_waits, crate::specs::Waits::accepted))]
+fn add_read(waits: &mut Waits, from: u64, t: u64, one: &Use, earlier: &[Use], before: &[Use])
+    requires room { length waits.old.items + 2 * (length earlier.now + length before.now) + 2
+        ≤ 514 }
+    ensures items { waits.new.items ≡ waits.old.items
+        ++ read_waits from t one.now (reverse earlier.now ++ reverse before.now) }
+    ensures room { length waits.new.items
+        ≤ length waits.old.items + 2 * (length earlier.now + length before.now) + 2 }
+{
+    let ticks = read_of(&one.supply);
+    let start = from.max(ticks.accept);
+    add_piece(waits, start, t, Stall::Storage, one.word, one.word);
+    add_all_turns(
+        waits,
+        from.max(ticks.want),
+        acceptance(one),
+        earlier,
+        before,
+    );
+}
+
+// Adds the waits of the first word of a role that is answered at the tick `t`.
+#[tactic(auto, unfolding(crate::specs::Waits::data_waits))]
+fn add_data(waits: &mut Waits, role: Role, from: u64, t: u64, uses: &[Use], before: &[Use])
+    requires room { length waits.old.items + 2 * (length uses.now + length before.now) + 2 ≤ 514 }
+    ensures items { waits.new.items ≡ waits.old.items
+        ++ data_waits role from t (reverse before.now) (reverse uses.now) }
+{
+    let Some((last, earlier)) = last_use(uses) else {
+        return;
+    };
+    if decides(role, t, last, earlier) {
+        add_read(waits, from, t, last, earlier, before);
+        return;
+    }
+    add_data(waits, role, from, t, earlier, before);
+}
+
+// Whether a word is read of which this is the address, and answered at the tick.
+#[inline(always)]
+fn is_read_at(word: u32, t: u64, one: &Use) -> bool
+    ensures { result ≡ (is_read_of one.now.supply
+        && (nat_eq one.now.word word && nat_eq (read_by one.now.supply).answer t)) }
+{
+    is_read(&one.supply) && one.word == word && read_of(&one.supply).answer == t
+}
+
+// Adds the waits of an instruction word that is held and answered at the tick `t`, by the words of
+// the row before.
+#[tactic(auto, unfolding(crate::specs::Waits::held_waits))]
+fn add_held(waits: &mut Waits, from: u64, t: u64, word: u32, before: &[Use])
+    requires room { length waits.old.items + 2 * length before.now + 2 ≤ 514 }
+    ensures items { waits.new.items ≡ waits.old.items
+        ++ held_waits from t word (reverse before.now) }
+    ensures room { length waits.new.items ≤ length waits.old.items + 2 * length before.now + 2 }
+{
+    let Some((last, earlier)) = last_use(before) else {
+        add_piece(waits, from, t, Stall::Storage, word, word);
+        return;
+    };
+    if is_read_at(word, t, last) {
+        add_read(waits, from, t, last, &[], earlier);
+        return;
+    }
+    add_held(waits, from, t, word, earlier);
+}
+
+// Adds what stands before the acceptance of the last read of the row before, where that is at the
+// tick `t`.
+#[tactic(auto, unfolding(crate::specs::Waits::bus_waits, crate::specs::Waits::accepted))]
+fn add_bus(waits: &mut Waits, from: u64, t: u64, before: &[Use])
+    requires room { length waits.old.items + 2 * length before.now + 2 ≤ 514 }
+    ensures items { waits.new.items ≡ waits.old.items ++ bus_waits from t (reverse before.now) }
+    ensures room { length waits.new.items ≤ length waits.old.items + 2 * length before.now + 2 }
+{
+    let Some((last, earlier)) = last_use(before) else {
+        return;
+    };
+    if !is_read(&last.supply) {
+        add_bus(waits, from, t, earlier);
+        return;
+    }
+    let ticks = read_of(&last.supply);
+    if ticks.accept == t {
+        add_all_turns(waits, from.max(ticks.want), acceptance(last), &[], earlier);
+    }
+}
+
+// Adds the waits of instruction words: of the first one that is answered at the tick `t`, and from
+// its want on of those before it.
+#[tactic(auto, unfolding(crate::specs::Waits::fetch_waits))]
+fn add_fetches(waits: &mut Waits, from: u64, t: u64, words: &[Use], before: &[Use])
+    requires words { length words.now ≤ 4 }
+    requires before { length before.now ≤ 48 }
+    requires room { length waits.old.items + 104 * length words.now + 98 ≤ 514 }
+    ensures items { waits.new.items ≡ waits.old.items
+        ++ fetch_waits from t (reverse before.now) (reverse words.now) }
+{
+    let Some((last, earlier)) = last_use(words) else {
+        add_bus(waits, from, t, before);
+        return;
+    };
+    if !decides(Role::Instruction, t, last, earlier) {
+        add_fetches(waits, from, t, earlier, before);
+        return;
+    }
+    if !is_read(&last.supply) {
+        add_held(waits, from, t, last.word, before);
+        return;
+    }
+    add_read(waits, from, t, last, earlier, before);
+    add_fetches(waits, from, read_of(&last.supply).want, earlier, before);
+}
+
+/// The first four of some words.
+#[inline(always)]
+pub(crate) fn first_four(uses: &[Use]) -> &[Use]
+    ensures value { result.now ≡ take 4 uses.now }
+    ensures few { length result.now ≤ 4 }
+{
+    &uses[..uses.len().min(4)]
+}
+
+/// Fills a list with the waits of a charge of a row that uses these words, where those of the row
+/// before it in its segment are `before`, none for the first row of one. What the list had is gone.
+#[tactic(auto, unfolding(crate::specs::Waits::stage_waits))]
+pub fn fill_waits(waits: &mut Waits, charge: Charge, uses: &[Use], before: &[Use])
+    requires uses { length uses.now ≤ 48 }
+    requires before { length before.now ≤ 48 }
+    ensures { waits.new.items ≡ charge_waits charge uses.now before.now }
+{
+    waits.clear();
+    let (from, t) = (charge.from, charge.to);
+    match charge.stage {
+        Stage::Instruction => add_fetches(waits, from, t, first_four(uses), before),
+        Stage::Index => add_data(waits, Role::Index, from, t, uses, before),
+        Stage::Operand => add_data(waits, Role::Operand, from, t, uses, before),
+        Stage::Restart | Stage::Address | Stage::Preparing | Stage::Executing => {}
+    }
+}
