@@ -57,13 +57,15 @@ kept-some (suc k) l end some = rw (not-zero k) refl
     not-zero : (k : ℕ) → nat_eq (suc k) 0 ≡ false
     not-zero k = grind (arith, nat_tests)
 
--- by the row as it stands
-pub kept-row : (k : ℕ) (l : Last) (end : Option ℕ) → k ≢ 0
+-- by the row and the words as they stand
+pub kept-row : (k : ℕ) (l : Last) (end : Option ℕ) (us : List Use) → us ≡ l.uses.items → k ≢ 0
     → done_entry_lines (record { n = l.done.n; address = l.done.address; row = l.done.row; missed = l.missed; before = l.done.before; start = l.done.start; end = end })
-    l.plan l.done.known l.uses.items
+    l.plan l.done.known us
     ≡ kept_lines k l end
 unfolding done_entry_lines
-kept-row k l end some = sym (kept-some k l end some)
+kept-row k l end us is some =
+    ap (λ (xs : List Use). told_lines l.done.n l.done.address l.done.row.ticks l.done.row.level_wait l.missed l.plan l.done.known l.done.before l.done.start end xs) is
+    ∙ sym (kept-some k l end some)
 
 row-is : (ds : List ℕ) (n : ℕ) (p : Standing) (s : Machine) (l : Last) (taken : Option ℕ) (r : EntryTicks) → IsStanding p s l → taken ≡ interrupt s
     → r ≡ row_of_entry ds n l.front (entry taken s) → r ≡ next_row ds n p
