@@ -8,7 +8,7 @@ from .lines import Off, place
 # What the program `ledger` of crates/ writes: None as long as there is none, the kinds of its lines, or ALL of them.
 # All other lines are those of model/ledger.
 ALL = "all"
-WRITES = set("LEVELS DELAYS PRT IC EN WORD SEGMENT ROW MISSED ALONE SUPPRESSED CODE USE WRITES INDEX CHARGE LEVEL DROP BEGUN INT END DONE TICKS SUM".split())
+WRITES = set("LEVELS DELAYS PRT IC EN WORD SEGMENT ROW MISSED ALONE SUPPRESSED CODE USE WRITES INDEX CHARGE WAIT LEVEL BECAUSE DROP BEGUN INT END DONE TICKS SUM".split())
 HOME = os.path.join(os.path.dirname(os.path.realpath(__file__)), "..", "..")
 MOST_LEVELS = 8
 OWN = 4             # the levels of the machine of `run`
@@ -106,9 +106,7 @@ def compared(lines, others, kinds):
 
 
 def kind_of(line):
-    """The first word; of sums of waits two."""
-    words = line.split(" ")
-    return "SUM WAIT" if words[0] == "SUM" and len(words) == 4 else words[0]
+    return line.split(" ")[0]
 
 
 def output(process):

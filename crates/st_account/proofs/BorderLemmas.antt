@@ -12,18 +12,20 @@ use Rattle.st_run.specs.Moments.{Moment, next_state, has_card, has_waited, ends_
 use Rattle.st_run.proofs.DoneLemmas.{settled-done}
 use Rattle.st_plain.specs.declared.looking.Ahead.{Ahead}
 use Rattle.st_plain.specs.Looking.{seen_ahead}
+use Rattle.st_plain.specs.declared.uses.Use.{Use}
 use Rattle.st_card.specs.declared.control_cards.Signal.{Signal}
 use Rattle.st_run.specs.Run.{Scene}
 use Rattle.st_account.specs.declared.account.Account.{Account}
 use Rattle.st_account.specs.declared.last.Last.{Last}
 use Rattle.st_lines.specs.declared.lines.Why.{Why}
+use Rattle.st_lines.specs.declared.waits.Waiting.{Waiting}
 use Rattle.st_lines.specs.declared.writing.Border.{Border}
 use Rattle.st_lines.specs.declared.lines.Why.TheVariants.{Run}
 use Rattle.st_lines.specs.Lines.{start_line}
 use Rattle.st_account.specs.Standing.{kept_lines, IsBehindMoment}
 use Rattle.st_lines.proofs.LineLemmas.{end-same}
 use Rattle.st_lines.specs.BorderLines.{segment_end_lines, taken_by, en_lines, prints_lines, words_lines, marks_lines, state_lines}
-use Rattle.st_account.specs.Text.{run_ends, segment_ends, segment_end_at, late_at, state_lines_at, words_behind, why_by, why, segment_lines, segment_after, last_lines}
+use Rattle.st_account.specs.Text.{run_ends, segment_ends, segment_end_at, late_at, state_lines_at, words_behind, why_by, why, segment_lines, segment_after, words_before, last_lines}
 
 choice-lines : (b : Bool) (xs ys : List (List ℕ)) → (b ≡ true → xs ≡ ys) → (if b then xs else []) ≡ (if b then ys else [])
 choice-lines true xs ys same = same refl
@@ -287,3 +289,32 @@ module _ (ds : List ℕ) (n left : ℕ) (b : Machine) (m : Moment) (a : Account)
   last-lines i found number is_found =
       last-is ds n b a.last.enabled is.was m a.behind.printed.items is.printed a.state a.k a.last.tick i found (a.behind.late ∷ []) is.tick
       (ap (λ (c : Scene). c.machine) is.scene) (is_found ∙ is.dropped ends-there) (is.late ends-there) number a.words.items is.words
+
+-- the words of the last entry, of which none count where a segment ends
+pub words-left : (ds : List ℕ) (n left : ℕ) (b : Machine) (m : Moment) (a : Account) (xs : List Signal) (cards : List (List ℕ)) → IsBehindMoment ds n left b m a xs cards
+    → (ends : Bool) (old us new : List Use) → ends ≡ (a.last.missed || a.behind.card || a.behind.waited || is_some (interrupt a.state)) → us ≡ old
+    → new ≡ (if ends then [] else us) → new ≡ words_before m old
+words-left ds n left b m a xs cards is ends old us new is_ends same is_new =
+    is_new
+    ∙ ap (λ vs. if ends then [] else vs) same
+    ∙ ap (λ y. if y then [] else old)
+    (ends-is ds n m a.state a.last a.behind.found.items a.behind.banks a.behind.card a.behind.waited (border-of ds n left b m a xs cards is) (interrupt a.state) ends refl is_ends)
+
+-- the sums of waits do not count
+pub behind-same : (ds : List ℕ) (n left : ℕ) (b : Machine) (m : Moment) (a : Account) (xs : List Signal) (cards : List (List ℕ)) (w : Waiting)
+    → IsBehindMoment ds n left b m a xs cards → IsBehindMoment ds n left b m (record a { waiting = w }) xs cards
+behind-same ds n left b m a xs cards w is = record {
+  scene = is.scene;
+  tick = is.tick;
+  front = is.front;
+  missed = is.missed;
+  was = is.was;
+  dropped = is.dropped;
+  late = is.late;
+  banks = is.banks;
+  printed = is.printed;
+  card = is.card;
+  waited = is.waited;
+  words = is.words;
+  unchanged = is.unchanged;
+}

@@ -30,7 +30,10 @@ use Rattle.st_plain.specs.declared.rows.Row.{Row}
 use Rattle.st_account.specs.declared.last.Last.{Last}
 use Rattle.st_account.specs.Standing.{guessing, kept_lines, IsLast, IsStanding}
 use Rattle.st_lines.specs.EntryLines.{done_entry_lines}
-use Rattle.st_account.specs.Text.{lines_of_entry}
+use Rattle.st_rows.specs.declared.entry.Entry.{Entry}
+use Rattle.st_reasons.specs.Reasons.{because}
+use Rattle.st_reasons.specs.declared.because.Because.{Because}
+use Rattle.st_account.specs.Text.{uses_at, lines_of_entry}
 use Rattle.st_account.proofs.LastLemmas.{next-last}
 
 pub entry-step : (s u : Machine) (taken : Option ℕ) → taken ≡ interrupt s → u ≡ state_after_execution taken s → u ≡ step s
@@ -43,13 +46,14 @@ unfolding kept_lines
 kept-none k l end none = rw none refl
 
 -- those of an entry that is done, part by part
-abbrev pub told_lines : ℕ → ℕ → EntryTicks → ℕ → Bool → Prepared → Known → ℕ → ℕ → Option ℕ → List Use → List (List ℕ)
-told_lines i a ticks wait missed q known before start end uses =
-    done_entry_lines (record { n = i; address = a; row = record { ticks = ticks; level_wait = wait }; missed = missed; before = before; start = start; end = end }) q known uses
+abbrev pub told_lines : ℕ → ℕ → EntryTicks → ℕ → Bool → Prepared → Known → ℕ → ℕ → Option ℕ → Because → List Use → List Use → List (List ℕ)
+told_lines i a ticks wait missed q known before start end why uses earlier =
+    done_entry_lines (record { n = i; address = a; row = record { ticks = ticks; level_wait = wait }; missed = missed; before = before; start = start; end = end; because = why })
+    q known uses earlier
 
 pub kept-some : (k : ℕ) (l : Last) (end : Option ℕ) → k ≢ 0
     → kept_lines k l end
-    ≡ told_lines l.done.n l.done.address l.done.row.ticks l.done.row.level_wait l.missed l.plan l.done.known l.done.before l.done.start end l.uses.items
+    ≡ told_lines l.done.n l.done.address l.done.row.ticks l.done.row.level_wait l.missed l.plan l.done.known l.done.before l.done.start end l.because l.uses.items l.before.items
 unfolding kept_lines done_entry_lines
 kept-some zero l end some = absurd (some refl)
 kept-some (suc k) l end some = rw (not-zero k) refl
@@ -57,17 +61,24 @@ kept-some (suc k) l end some = rw (not-zero k) refl
     not-zero : (k : ℕ) → nat_eq (suc k) 0 ≡ false
     not-zero k = grind (arith, nat_tests)
 
--- by the row and the words as they stand
-pub kept-row : (k : ℕ) (l : Last) (end : Option ℕ) (us : List Use) → us ≡ l.uses.items → k ≢ 0
-    → done_entry_lines (record { n = l.done.n; address = l.done.address; row = l.done.row; missed = l.missed; before = l.done.before; start = l.done.start; end = end })
-    l.plan l.done.known us
+-- by the row as it stands
+pub kept-row : (k : ℕ) (l : Last) (end : Option ℕ) (us bs : List Use) → k ≢ 0 → us ≡ l.uses.items → bs ≡ l.before.items
+    → done_entry_lines (record {
+      n = l.done.n;
+      address = l.done.address;
+      row = l.done.row;
+      missed = l.missed;
+      before = l.done.before;
+      start = l.done.start;
+      end = end;
+      because = l.because;
+    })
+    l.plan l.done.known us bs
     ≡ kept_lines k l end
 unfolding done_entry_lines
-kept-row k l end us is some =
-    ap (λ (xs : List Use). told_lines l.done.n l.done.address l.done.row.ticks l.done.row.level_wait l.missed l.plan l.done.known l.done.before l.done.start end xs) is
-    ∙ sym (kept-some k l end some)
+kept-row k l end us bs some used earlier = rw (used, earlier) (sym (kept-some k l end some))
 
-row-is : (ds : List ℕ) (n : ℕ) (p : Standing) (s : Machine) (l : Last) (taken : Option ℕ) (r : EntryTicks) → IsStanding p s l → taken ≡ interrupt s
+pub row-is : (ds : List ℕ) (n : ℕ) (p : Standing) (s : Machine) (l : Last) (taken : Option ℕ) (r : EntryTicks) → IsStanding p s l → taken ≡ interrupt s
     → r ≡ row_of_entry ds n l.front (entry taken s) → r ≡ next_row ds n p
 unfolding next_row
 row-is ds n p s l taken r is is_taken is_row =
@@ -84,10 +95,9 @@ wait-is ds n p s l taken d is is_taken is_wait =
     ∙ ap (λ m. level_wait ds n l.front (entry (interrupt m) m)) (sym is.machine)
     ∙ ap (λ f. level_wait ds n f (entry (interrupt p.scene.machine) p.scene.machine)) (sym is.front)
 
-uses-is : (ds : List ℕ) (n : ℕ) (p : Standing) (s : Machine) (l : Last) (taken : Option ℕ) (us : List Use) → IsStanding p s l → taken ≡ interrupt s
-    → us ≡ uses_of_entry ds n l.front (entry taken s) (side_at taken s) (plan s taken).reads
-    → us ≡ uses_of_entry ds n p.front (entry (interrupt p.scene.machine) p.scene.machine) (side_at (interrupt p.scene.machine) p.scene.machine)
-    (plan p.scene.machine (interrupt p.scene.machine)).reads
+pub uses-is : (ds : List ℕ) (n : ℕ) (p : Standing) (s : Machine) (l : Last) (taken : Option ℕ) (us : List Use) → IsStanding p s l → taken ≡ interrupt s
+    → us ≡ uses_of_entry ds n l.front (entry taken s) (side_at taken s) (plan s taken).reads → us ≡ uses_at ds n p
+unfolding uses_at
 uses-is ds n p s l taken us is is_taken is_uses =
     is_uses
     ∙ ap (λ t. uses_of_entry ds n l.front (entry t s) (side_at t s) (plan s t).reads) is_taken
@@ -95,31 +105,63 @@ uses-is ds n p s l taken us is is_taken is_uses =
     ∙ ap (λ f. uses_of_entry ds n f (entry (interrupt p.scene.machine) p.scene.machine) (side_at (interrupt p.scene.machine) p.scene.machine)
     (plan p.scene.machine (interrupt p.scene.machine)).reads) (sym is.front)
 
+-- what kept it back
+abbrev why_of : Front → Entry → EntryTicks → ℕ → List Use → List Use → Because
+why_of f e ticks wait uses earlier = because f e (record { ticks = ticks; level_wait = wait }) uses earlier
+
+because-parts : (f : Front) (e : Entry) (r : Row) (us bs : List Use) → because f e r us bs ≡ why_of f e r.ticks r.level_wait us bs
+unfolding because
+because-parts f e r us bs = refl
+
+because-is : (ds : List ℕ) (n : ℕ) (p : Standing) (s : Machine) (l : Last) (taken : Option ℕ) (r : Row) (us bs : List Use) (why : Because) → IsStanding p s l
+    → taken ≡ interrupt s
+    → r.ticks ≡ row_of_entry ds n l.front (entry taken s) → r.level_wait ≡ level_wait ds n l.front (entry taken s)
+    → us ≡ uses_of_entry ds n l.front (entry taken s) (side_at taken s) (plan s taken).reads
+    → why ≡ because l.front (entry taken s) r us bs
+    → why ≡ why_of p.front (entry (interrupt p.scene.machine) p.scene.machine) (next_row ds n p)
+    (level_wait ds n p.front (entry (interrupt p.scene.machine) p.scene.machine)) (uses_at ds n p) bs
+because-is ds n p s l taken r us bs why is is_taken is_row is_wait is_uses is_why =
+    is_why
+    ∙ because-parts l.front (entry taken s) r us bs
+    ∙ ap (λ y. why_of l.front (entry taken s) y r.level_wait us bs) (row-is ds n p s l taken r.ticks is is_taken is_row)
+    ∙ ap (λ y. why_of l.front (entry taken s) (next_row ds n p) y us bs) (wait-is ds n p s l taken r.level_wait is is_taken is_wait)
+    ∙ ap (λ y. why_of l.front (entry taken s) (next_row ds n p) (level_wait ds n p.front (entry (interrupt p.scene.machine) p.scene.machine)) y bs)
+    (uses-is ds n p s l taken us is is_taken is_uses)
+    ∙ ap (λ t. why_of l.front (entry t s) (next_row ds n p) (level_wait ds n p.front (entry (interrupt p.scene.machine) p.scene.machine)) (uses_at ds n p) bs) is_taken
+    ∙ ap (λ m. why_of l.front (entry (interrupt m) m) (next_row ds n p) (level_wait ds n p.front (entry (interrupt p.scene.machine) p.scene.machine)) (uses_at ds n p) bs)
+    (sym is.machine)
+    ∙ ap (λ f. why_of f (entry (interrupt p.scene.machine) p.scene.machine) (next_row ds n p)
+    (level_wait ds n p.front (entry (interrupt p.scene.machine) p.scene.machine)) (uses_at ds n p) bs) (sym is.front)
+
 pub entry-lines : (ds : List ℕ) (n : ℕ) (p : Standing) (end : Option ℕ) (s : Machine) (l : Last) (taken : Option ℕ) (a : ℕ) (r : Row) (i : ℕ)
-    (missed : Bool) (q : Prepared) (known : Known) (t start : ℕ) (us : List Use) → IsStanding p s l → taken ≡ interrupt s → a ≡ address s
+    (missed : Bool) (q : Prepared) (known : Known) (t start : ℕ) (why : Because) (us bs : List Use) → IsStanding p s l → taken ≡ interrupt s → a ≡ address s
     → r.ticks ≡ row_of_entry ds n l.front (entry taken s) → r.level_wait ≡ level_wait ds n l.front (entry taken s) → i ≡ s.done + 1
     → missed ≡ is_missed (plan s taken) s → q ≡ plan s taken → known ≡ known_at taken s → t ≡ l.tick → start ≡ l.front.c
     → us ≡ uses_of_entry ds n l.front (entry taken s) (side_at taken s) (plan s taken).reads
-    → told_lines i a r.ticks r.level_wait missed q known t start end us ≡ lines_of_entry ds n end p
+    → why ≡ because l.front (entry taken s) r us bs
+    → told_lines i a r.ticks r.level_wait missed q known t start end why us bs ≡ lines_of_entry ds n end bs p
 unfolding lines_of_entry
-entry-lines ds n p end s l taken a r i missed q known t start us is is_taken is_address is_row is_wait number guessed planned is_known at since is_uses =
+entry-lines ds n p end s l taken a r i missed q known t start why us bs is is_taken is_address is_row is_wait number guessed planned is_known at since is_uses is_why =
     let m = p.scene.machine in
     let e = plan m (interrupt m) in
     let k = known_at (interrupt m) m in
     let d = level_wait ds n p.front (entry (interrupt m) m) in
-    ap (λ y. told_lines i a y r.level_wait missed q known t start end us) (row-is ds n p s l taken r.ticks is is_taken is_row)
-    ∙ ap (λ y. told_lines i a (next_row ds n p) y missed q known t start end us) (wait-is ds n p s l taken r.level_wait is is_taken is_wait)
-    ∙ ap (λ y. told_lines y a (next_row ds n p) d missed q known t start end us) (number ∙ ap (λ (m : Machine). m.done + 1) (sym is.machine))
-    ∙ ap (λ y. told_lines (m.done + 1) y (next_row ds n p) d missed q known t start end us) (is_address ∙ ap address (sym is.machine))
-    ∙ ap (λ b. told_lines (m.done + 1) (address m) (next_row ds n p) d b q known t start end us)
+    let w = why_of p.front (entry (interrupt m) m) (next_row ds n p) d (uses_at ds n p) bs in
+    ap (λ y. told_lines i a r.ticks r.level_wait missed q known t start end y us bs)
+    (because-is ds n p s l taken r us bs why is is_taken is_row is_wait is_uses is_why)
+    ∙ ap (λ y. told_lines i a y r.level_wait missed q known t start end w us bs) (row-is ds n p s l taken r.ticks is is_taken is_row)
+    ∙ ap (λ y. told_lines i a (next_row ds n p) y missed q known t start end w us bs) (wait-is ds n p s l taken r.level_wait is is_taken is_wait)
+    ∙ ap (λ y. told_lines y a (next_row ds n p) d missed q known t start end w us bs) (number ∙ ap (λ (m : Machine). m.done + 1) (sym is.machine))
+    ∙ ap (λ y. told_lines (m.done + 1) y (next_row ds n p) d missed q known t start end w us bs) (is_address ∙ ap address (sym is.machine))
+    ∙ ap (λ b. told_lines (m.done + 1) (address m) (next_row ds n p) d b q known t start end w us bs)
     (guessed ∙ ap (λ t. is_missed (plan s t) s) is_taken ∙ ap (λ u. is_missed (plan u (interrupt u)) u) (sym is.machine))
-    ∙ ap (λ y. told_lines (m.done + 1) (address m) (next_row ds n p) d (is_missed e m) y known t start end us)
+    ∙ ap (λ y. told_lines (m.done + 1) (address m) (next_row ds n p) d (is_missed e m) y known t start end w us bs)
     (planned ∙ ap (plan s) is_taken ∙ ap (λ u. plan u (interrupt u)) (sym is.machine))
-    ∙ ap (λ y. told_lines (m.done + 1) (address m) (next_row ds n p) d (is_missed e m) e y t start end us)
+    ∙ ap (λ y. told_lines (m.done + 1) (address m) (next_row ds n p) d (is_missed e m) e y t start end w us bs)
     (is_known ∙ ap (λ t. known_at t s) is_taken ∙ ap (λ u. known_at (interrupt u) u) (sym is.machine))
-    ∙ ap (λ y. told_lines (m.done + 1) (address m) (next_row ds n p) d (is_missed e m) e k y start end us) (at ∙ sym is.tick)
-    ∙ ap (λ y. told_lines (m.done + 1) (address m) (next_row ds n p) d (is_missed e m) e k p.tick y end us) (since ∙ ap (λ (f : Front). f.c) (sym is.front))
-    ∙ ap (λ y. told_lines (m.done + 1) (address m) (next_row ds n p) d (is_missed e m) e k p.tick p.front.c end y) (uses-is ds n p s l taken us is is_taken is_uses)
+    ∙ ap (λ y. told_lines (m.done + 1) (address m) (next_row ds n p) d (is_missed e m) e k y start end w us bs) (at ∙ sym is.tick)
+    ∙ ap (λ y. told_lines (m.done + 1) (address m) (next_row ds n p) d (is_missed e m) e k p.tick y end w us bs) (since ∙ ap (λ (f : Front). f.c) (sym is.front))
+    ∙ ap (λ y. told_lines (m.done + 1) (address m) (next_row ds n p) d (is_missed e m) e k p.tick p.front.c end w y bs) (uses-is ds n p s l taken us is is_taken is_uses)
 
 pub entry-sums : (ds : List ℕ) (n : ℕ) (p : Standing) (s : Machine) (l : Last) (taken : Option ℕ) (r : EntryTicks) (stage : Stage) (old new : ℕ)
     → IsStanding p s l → taken ≡ interrupt s → r ≡ row_of_entry ds n l.front (entry taken s)

@@ -3,6 +3,7 @@ pub mod ReadLemmas
 pub mod RunLemmas
 pub mod BorderLemmas
 pub mod EntryLemmas
+pub mod StallLemmas
 pub mod ProgramLemmas
 pub mod LoopLemmas
 pub mod PassLemmas

@@ -9,33 +9,36 @@ use Rattle.st_io.specs.Lines.{WritesLines}
 use Rattle.st_io.proofs.Progress.{LinesSoFar, lines_more, lines_failed, lines_last}
 use Rattle.st_exec.specs.Step.{rests}
 use Rattle.st_run.specs.Moments.{Moment, next_state, standing_at, next_moment}
-use Rattle.st_account.specs.Text.{begins_segment, segment_end_at, segment_lines, segment_after, lines_of_entry, last_lines, lines_from}
+use Rattle.st_account.specs.Text.{begins_segment, segment_end_at, segment_lines, segment_after, uses_at, words_before, lines_of_entry, last_lines, lines_from, stalled_from}
 use Rattle.st_ledger.specs.declared.charges.Stage.{Stage}
 use Rattle.st_ledger.specs.declared.charges.Stage.TheVariants.{Restart, Instruction, Address, Index, Preparing, Operand, Executing}
 use Rattle.st_ledger.specs.declared.totals.Totals.{Totals}
 use Rattle.st_ledger.specs.Charges.{ticks_for}
 use Rattle.st_ledger.specs.Ledger.{entries_from, charges_at, all_charges}
 use Rattle.st_ledger.specs.Totals.{sum_at, AreWithin}
-use Rattle.st_account.proofs.RunLemmas.{lines-end, lines-on, charges-end, charges-on}
+use Rattle.st_plain.specs.declared.uses.Use.{Use}
+use Rattle.st_reasons.specs.Sums.{row_stalled}
+use Rattle.st_reasons.specs.declared.waits.Stall.{Stall}
+use Rattle.st_account.proofs.RunLemmas.{lines-end, lines-on, waits-end, waits-on, charges-end, charges-on}
 
-module _ (ds : List ℕ) (n left k : ℕ) (b : Machine) (m : Moment) (s t : OutputState) (all row : List (List ℕ))
-    (so_far : LinesSoFar s t all (row ++ lines_from ds n left k b m)) where
+module _ (ds : List ℕ) (n left k : ℕ) (b : Machine) (us : List Use) (m : Moment) (s t : OutputState) (all row : List (List ℕ))
+    (so_far : LinesSoFar s t all (row ++ lines_from ds n left k b us m)) where
   -- the run ends
   pub run-ends : (u : OutputState) (r : Result (Unit {0}) Failed) → (left ≡ 0) ⊎ (rests (next_state m) ≡ true) → WritesLines t u (row ++ last_lines ds n k b m) r
       → WritesLines s u all r
   run-ends u r end h =
-      lines_last s t u all (row ++ last_lines ds n k b m) r (subst (λ ls. LinesSoFar s t all (row ++ ls)) (lines-end ds n left k b m end) so_far) h
+      lines_last s t u all (row ++ last_lines ds n k b m) r (subst (λ ls. LinesSoFar s t all (row ++ ls)) (lines-end ds n left k b us m end) so_far) h
 
   module _ (some : left ≢ 0) (going : rests (next_state m) ≡ false) where
     abbrev entry : List (List ℕ)
-    entry = lines_of_entry ds n (segment_end_at (left - 1) (next_moment ds n (standing_at m))) (standing_at m)
+    entry = lines_of_entry ds n (segment_end_at (left - 1) (next_moment ds n (standing_at m))) (words_before m us) (standing_at m)
 
     abbrev rest : List (List ℕ)
-    rest = lines_from ds n (left - 1) (segment_after k m) (next_state m) (next_moment ds n (standing_at m))
+    rest = lines_from ds n (left - 1) (segment_after k m) (next_state m) (uses_at ds n (standing_at m)) (next_moment ds n (standing_at m))
 
     both : LinesSoFar s t all ((row ++ segment_lines ds n k b m) ++ (entry ++ rest))
     both = subst (LinesSoFar s t all)
-        (ap (λ ls. row ++ ls) (lines-on ds n left k b m some going ∙ append_assoc (segment_lines ds n k b m) entry rest)
+        (ap (λ ls. row ++ ls) (lines-on ds n left k b us m some going ∙ append_assoc (segment_lines ds n k b m) entry rest)
         ∙ sym (append_assoc row (segment_lines ds n k b m) (entry ++ rest))) so_far
 
     -- a write fails, of the lines of a row or of a border
@@ -99,3 +102,16 @@ sums-next ds n left m s a b total some going so_far more =
 pub sums-end : (ds : List ℕ) (n left : ℕ) (m : Moment) (s : Stage) (a total : ℕ) → (left ≡ 0) ⊎ (rests (next_state m) ≡ true)
     → a + ticks_for s (all_charges ds n (entries_from ds n left m)) ≡ total → a ≡ total
 sums-end ds n left m s a total end so_far = omega (arith, so_far, charges-end ds n s left m end)
+
+pub waits-next : (ds : List ℕ) (n left : ℕ) (us us' : List Use) (m : Moment) (r : Stage) (s : Stall) (a k b k' total : ℕ) → left ≢ 0 → rests (next_state m) ≡ false
+    → a + (k + stalled_from r s ds n left us m) ≡ total → b ≡ a + k
+    → k' ≡ row_stalled r s (uses_at ds n (standing_at m)) (words_before m us) (charges_at ds n (standing_at m)) → us' ≡ uses_at ds n (standing_at m)
+    → b + (k' + stalled_from r s ds n (left - 1) us' (next_moment ds n (standing_at m))) ≡ total
+waits-next ds n left us us' m r s a k b k' total some going so_far more kept is =
+    let on = waits-on ds n r s left us m some going in
+    let same = ap (λ xs. stalled_from r s ds n (left - 1) xs (next_moment ds n (standing_at m))) is in
+    omega (arith, so_far, more, kept, on, same)
+
+pub waits-last : (ds : List ℕ) (n left : ℕ) (us : List Use) (m : Moment) (r : Stage) (s : Stall) (a k b total : ℕ) → (left ≡ 0) ⊎ (rests (next_state m) ≡ true)
+    → a + (k + stalled_from r s ds n left us m) ≡ total → b ≡ a + k → b ≡ total
+waits-last ds n left us m r s a k b total end so_far more = omega (arith, so_far, more, waits-end ds n r s left us m end)

@@ -1,5 +1,5 @@
 -- A run as far as it is written.
-use Rattle.std.specs.Prelude.{Bool, nat_lt, nat_eq, not, ◌||◌, map, is_some, is_none, Option, Some}
+use Rattle.std.specs.Prelude.{Bool, nat_lt, nat_eq, not, ◌||◌, is_some, is_none, Option, Some}
 use Rattle.std.proofs.lemmas.Bool.{and_parts, not-true}
 use Rattle.std.proofs.lemmas.Bool.Decides.{nat_tests}
 use Rattle.std.proofs.Common.{◌≡◌, ◌≢◌, ℕ, zero, suc, ◌+◌, ◌-◌, ◌*◌, ◌^◌, ◌≤◌, ◌⊎◌, inl, inr, true, false, List, [], ◌∷◌, ◌++◌, length, None, refl, sym, ◌∙◌, ap, arith}
@@ -16,9 +16,12 @@ use Rattle.st_ledger.specs.declared.charges.Stage.{Stage}
 use Rattle.st_ledger.specs.Charges.{ticks_for}
 use Rattle.st_ledger.specs.Ledger.{entries_from, charges_at, all_charges}
 use Rattle.st_ledger.proofs.Runs.{ticks_for-append}
+use Rattle.st_plain.specs.declared.uses.Use.{Use}
+use Rattle.st_reasons.specs.Sums.{row_stalled}
+use Rattle.st_reasons.specs.declared.waits.Stall.{Stall}
 use Rattle.st_account.specs.Settling.{at_hand}
 use Rattle.st_account.specs.Standing.{has_due, still_by}
-use Rattle.st_account.specs.Text.{segment_ends, segment_end_at, segment_lines, segment_after, lines_of_entry, last_lines, lines_from}
+use Rattle.st_account.specs.Text.{segment_ends, segment_end_at, segment_lines, segment_after, uses_at, words_before, lines_of_entry, last_lines, lines_from, stalled_from}
 
 none-is : {A : Type 0} (o : Option A) → is_none o ≡ true → o ≡ None
 none-is None h = refl
@@ -45,23 +48,45 @@ rest-none s (x ∷ xs) cards awake = rw awake refl
 module _ (ds : List ℕ) (n : ℕ) where
   -- ---- the lines
 
-  pub lines-end : (left k : ℕ) (b : Machine) (m : Moment) → (left ≡ 0) ⊎ (rests (next_state m) ≡ true) → lines_from ds n left k b m ≡ last_lines ds n k b m
+  pub lines-end : (left k : ℕ) (b : Machine) (us : List Use) (m : Moment) → (left ≡ 0) ⊎ (rests (next_state m) ≡ true)
+      → lines_from ds n left k b us m ≡ last_lines ds n k b m
   unfolding lines_from
-  lines-end zero k b m end = refl
-  lines-end (suc left) k b m (inl none) = let no : ⊥ = omega arith in absurd no
-  lines-end (suc left) k b m (inr resting) = rw resting refl
+  lines-end zero k b us m end = refl
+  lines-end (suc left) k b us m (inl none) = let no : ⊥ = omega arith in absurd no
+  lines-end (suc left) k b us m (inr resting) = rw resting refl
 
-  pub lines-on : (left k : ℕ) (b : Machine) (m : Moment) → left ≢ 0 → rests (next_state m) ≡ false
-      → lines_from ds n left k b m
-      ≡ (segment_lines ds n k b m ++ lines_of_entry ds n (segment_end_at (left - 1) (next_moment ds n (standing_at m))) (standing_at m))
-      ++ lines_from ds n (left - 1) (segment_after k m) (next_state m) (next_moment ds n (standing_at m))
+  pub lines-on : (left k : ℕ) (b : Machine) (us : List Use) (m : Moment) → left ≢ 0 → rests (next_state m) ≡ false
+      → lines_from ds n left k b us m
+      ≡ (segment_lines ds n k b m ++ lines_of_entry ds n (segment_end_at (left - 1) (next_moment ds n (standing_at m))) (words_before m us) (standing_at m))
+      ++ lines_from ds n (left - 1) (segment_after k m) (next_state m) (uses_at ds n (standing_at m)) (next_moment ds n (standing_at m))
   unfolding lines_from
-  lines-on zero k b m some going = absurd (some refl)
-  lines-on (suc left) k b m some going =
+  lines-on zero k b us m some going = absurd (some refl)
+  lines-on (suc left) k b us m some going =
       let one : left ≡ suc left - 1 = omega arith in
       rw going
-      (ap (λ j. (segment_lines ds n k b m ++ lines_of_entry ds n (segment_end_at j (next_moment ds n (standing_at m))) (standing_at m))
-      ++ lines_from ds n j (segment_after k m) (next_state m) (next_moment ds n (standing_at m))) one)
+      (ap (λ j. (segment_lines ds n k b m ++ lines_of_entry ds n (segment_end_at j (next_moment ds n (standing_at m))) (words_before m us) (standing_at m))
+      ++ lines_from ds n j (segment_after k m) (next_state m) (uses_at ds n (standing_at m)) (next_moment ds n (standing_at m))) one)
+
+  -- ---- the waits
+
+  pub waits-end : (r : Stage) (s : Stall) (left : ℕ) (us : List Use) (m : Moment) → (left ≡ 0) ⊎ (rests (next_state m) ≡ true)
+      → stalled_from r s ds n left us m ≡ 0
+  unfolding stalled_from
+  waits-end r s zero us m end = refl
+  waits-end r s (suc left) us m (inl none) = let no : ⊥ = omega arith in absurd no
+  waits-end r s (suc left) us m (inr resting) = rw resting refl
+
+  pub waits-on : (r : Stage) (s : Stall) (left : ℕ) (us : List Use) (m : Moment) → left ≢ 0 → rests (next_state m) ≡ false
+      → stalled_from r s ds n left us m
+      ≡ row_stalled r s (uses_at ds n (standing_at m)) (words_before m us) (charges_at ds n (standing_at m))
+      + stalled_from r s ds n (left - 1) (uses_at ds n (standing_at m)) (next_moment ds n (standing_at m))
+  unfolding stalled_from
+  waits-on r s zero us m some going = absurd (some refl)
+  waits-on r s (suc left) us m some going =
+      let one : left ≡ suc left - 1 = omega arith in
+      rw going
+      (ap (λ j. row_stalled r s (uses_at ds n (standing_at m)) (words_before m us) (charges_at ds n (standing_at m))
+      + stalled_from r s ds n j (uses_at ds n (standing_at m)) (next_moment ds n (standing_at m))) one)
 
   -- ---- the charges
 

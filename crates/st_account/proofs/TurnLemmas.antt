@@ -1,6 +1,6 @@
 -- The run at the head of its loop, and what one turn makes of it.
-use Rattle.std.specs.Prelude.{Bool, Result, Ok, Err, IsErr, nat_eq, ◌||◌, All, replicate}
-use Rattle.std.proofs.Common.{◌≡◌, ◌≢◌, ℕ, ◌+◌, ◌-◌, ◌*◌, ◌^◌, ◌≤◌, ◌<◌, true, false, Option, List, [], ◌∷◌, ◌++◌, length, refl, sym, ◌∙◌, ap, subst, arith}
+use Rattle.std.specs.Prelude.{Bool, Result, Ok, Err, IsErr, nat_eq, ◌||◌, All}
+use Rattle.std.proofs.Common.{◌≡◌, ◌≢◌, ℕ, ◌+◌, ◌-◌, ◌*◌, ◌^◌, ◌≤◌, ◌<◌, true, false, Option, List, [], ◌++◌, length, refl, sym, ◌∙◌, ap, subst, arith}
 use Rattle.std.specs.List.{AllPass}
 use Rattle.st_bits.specs.declared.limits.TheConstants.{MOST_INSTRUCTIONS}
 use Rattle.st_card.specs.Limits.{is_signal}
@@ -30,15 +30,19 @@ use Rattle.st_ledger.specs.Totals.{sum_at, AreWithin}
 use Rattle.st_account.specs.declared.account.Account.{Account}
 use Rattle.st_account.specs.declared.last.Last.{Last}
 use Rattle.st_account.specs.Settling.{at_hand}
-use Rattle.st_account.specs.Standing.{guessing, kept_lines, IsLast, IsStanding, IsAt, IsBehindMoment}
-use Rattle.st_account.specs.Text.{run_ends, segment_end_at, segment_lines, segment_after, lines_of_entry, last_lines, lines_from}
+use Rattle.st_reasons.specs.Sums.{AreWaitsWithin, is_parted, waited_at, row_stalled}
+use Rattle.st_reasons.specs.declared.sums.WaitTotals.{WaitTotals}
+use Rattle.st_reasons.specs.declared.waits.Stall.{Stall}
+use Rattle.st_account.specs.Standing.{guessing, kept_lines, kept_stalled, IsWaiting, IsLast, IsStanding, IsAt, IsBehindMoment}
+use Rattle.st_account.specs.Text.{run_ends, segment_end_at, segment_lines, segment_after, uses_at, words_before, lines_of_entry, last_lines, lines_from, stalled_from}
 use Rattle.st_account.proofs.LastLemmas.{start-last}
 use Rattle.st_account.proofs.EntryLemmas.{kept-none}
 use Rattle.st_account.proofs.RunLemmas.{next-stepped, next-at, early-tick}
-use Rattle.st_account.proofs.LoopLemmas.{run-ends, border-fails, turn-made, sums-none, number-next, number-some, left-some, rests-not, ends-one, sums-next, sums-end}
+use Rattle.st_account.proofs.LoopLemmas.{run-ends, border-fails, turn-made, sums-none, number-next, number-some, left-some, rests-not, ends-one, sums-next, sums-end, waits-next, waits-last}
+use Rattle.st_account.proofs.StallLemmas.{waited-none, kept-stalled-none}
 
 -- So far lines are written, and those of the last entry and the rest of a moment are left. The sums of what is left and of what was added are the total.
-pub record IsRunning (s t : OutputState) (all : List (List ℕ)) (ds : List ℕ) (n : ℕ) (total : Stage → ℕ) (a : Account) (rest : List Signal)
+pub record IsRunning (s t : OutputState) (all : List (List ℕ)) (ds : List ℕ) (n : ℕ) (total : Stage → ℕ) (waited : Stage → Stall → ℕ) (a : Account) (rest : List Signal)
     (cards : List (List ℕ)) (left : ℕ) : Type 0 where
   pub m : Moment
   pub b : Machine
@@ -46,11 +50,14 @@ pub record IsRunning (s t : OutputState) (all : List (List ℕ)) (ds : List ℕ)
   pub bounds : IsMoment 255 n m
   pub meets : m.front.c ≡ m.tick
   pub time : HasTime (64 * (255 + 4)) m.tick m.scene.machine
-  pub so_far : LinesSoFar s t all (kept_lines a.k a.last (segment_end_at left m) ++ lines_from ds n left a.k b m)
+  pub so_far : LinesSoFar s t all (kept_lines a.k a.last (segment_end_at left m) ++ lines_from ds n left a.k b a.last.uses.items m)
   pub number : a.k ≤ m.scene.machine.done
   pub few : m.scene.machine.done + left ≤ MOST_INSTRUCTIONS
   pub within : AreWithin a.last.tick a.sums
   pub sum : (x : Stage) → sum_at x a.sums + ticks_for x (all_charges ds n (entries_from ds n left m)) ≡ total x
+  pub waiting : IsWaiting a.last a.waiting.totals
+  pub waits : (r : Stage) (z : Stall) → is_parted r ≡ true
+      → waited_at r z a.waiting.totals + (kept_stalled r z a.k a.last + stalled_from r z ds n left a.last.uses.items m) ≡ waited r z
   pub passes : AllPass is_signal rest
   pub size : length a.words.items ≡ words_of_storage
 
@@ -64,13 +71,14 @@ pub run-starts : (s : OutputState) (ds : List ℕ) (n budget : ℕ) (state : Mac
     → length a.words.items ≡ words_of_storage → AreDelaysUpTo 255 ds → n ≤ 8 → IsMachine state → All IsCard cards → state.done ≡ 0 → budget ≤ MOST_INSTRUCTIONS
     → AreWithin 0 a.sums → AllPass is_signal signals → a.state ≡ state → a.k ≡ 0 → a.last.tick ≡ 0 → a.last.front ≡ opening_front answers_at_start 0
     → a.last.past ≡ a.last.front.past → a.last.missed ≡ false → a.last.ic ≡ state.ic → a.last.enabled ≡ state.enabled → a.last.ic < 2 ^ 19 → a.log ≡ []
-    → IsTight 255 a.last.front
-    → IsRunning s s (lines_from ds n budget 0 state (moment_at_start (at_hand state signals cards))) ds n
-    (λ x. ticks_for x (all_charges ds n (entries_from ds n budget (moment_at_start (at_hand state signals cards))))) a signals cards budget
-run-starts s ds n budget state signals cards a size are few machine each fresh limit none passes is number tick front past missed ic enabled counter empty tight =
+    → IsTight 255 a.last.front → a.last.uses.items ≡ [] → IsWaiting a.last a.waiting.totals → AreWaitsWithin 0 a.waiting.totals
+    → IsRunning s s (lines_from ds n budget 0 state [] (moment_at_start (at_hand state signals cards))) ds n
+    (λ x. ticks_for x (all_charges ds n (entries_from ds n budget (moment_at_start (at_hand state signals cards)))))
+    (λ r z. stalled_from r z ds n budget [] (moment_at_start (at_hand state signals cards))) a signals cards budget
+run-starts s ds n budget state signals cards a size are few machine each fresh limit none passes is number tick front past missed ic enabled counter empty tight unused waiting unwaited =
     let c = at_hand state signals cards in
     let m = moment_at_start c in
-    let all = lines_from ds n budget 0 state m in
+    let all = lines_from ds n budget 0 state [] m in
     record {
       m = m;
       b = state;
@@ -87,27 +95,34 @@ run-starts s ds n budget state signals cards a size are few machine each fresh l
       meets = refl;
       time = omega arith;
       so_far = subst (LinesSoFar s s all)
-          (sym (ap (λ ls. ls ++ lines_from ds n budget a.k state m) (kept-none a.k a.last (segment_end_at budget m) number)
-          ∙ ap (λ k. lines_from ds n budget k state m) number))
+          (sym (ap (λ ls. ls ++ lines_from ds n budget a.k state a.last.uses.items m) (kept-none a.k a.last (segment_end_at budget m) number)
+          ∙ ap (λ k. lines_from ds n budget k state a.last.uses.items m) number
+          ∙ ap (λ us. lines_from ds n budget 0 state us m) unused))
           (lines_none s all);
       number = omega (arith, number);
       few = omega (arith, fresh, limit);
       within = subst (λ t. AreWithin t a.sums) (sym tick) none;
       sum = λ x. sums-none a.sums x _ none;
+      waiting = waiting;
+      waits = λ r z parted.
+          let nothing = waited-none a.waiting.totals r z unwaited in
+          let unkept = kept-stalled-none r z a.k a.last number in
+          let same = ap (λ us. stalled_from r z ds n budget us m) unused in
+          omega (arith, nothing, unkept, same);
       passes = passes;
       size = size;
     }
 
 -- the signals and the budget as they are taken up
-pub run-taken : (s t : OutputState) (all : List (List ℕ)) (ds : List ℕ) (n : ℕ) (total : Stage → ℕ) (a : Account) (xs ys : List Signal) (cards : List (List ℕ))
-    (left budget : ℕ) → ys ≡ xs → left ≡ budget → IsRunning s t all ds n total a xs cards budget → IsRunning s t all ds n total a ys cards left
-run-taken s t all ds n total a xs ys cards left budget is same h =
-    subst (λ zs. IsRunning s t all ds n total a zs cards left) (sym is) (subst (λ k. IsRunning s t all ds n total a xs cards k) (sym same) h)
+pub run-taken : (s t : OutputState) (all : List (List ℕ)) (ds : List ℕ) (n : ℕ) (total : Stage → ℕ) (waited : Stage → Stall → ℕ) (a : Account) (xs ys : List Signal) (cards : List (List ℕ))
+    (left budget : ℕ) → ys ≡ xs → left ≡ budget → IsRunning s t all ds n total waited a xs cards budget → IsRunning s t all ds n total waited a ys cards left
+run-taken s t all ds n total waited a xs ys cards left budget is same h =
+    subst (λ zs. IsRunning s t all ds n total waited a zs cards left) (sym is) (subst (λ k. IsRunning s t all ds n total waited a xs cards k) (sym same) h)
 
 -- ---- what holds at the head of the loop
 
-module _ (s t : OutputState) (all : List (List ℕ)) (ds : List ℕ) (n : ℕ) (total : Stage → ℕ) (a : Account) (xs : List Signal) (cards : List (List ℕ)) (left : ℕ)
-    (h : IsRunning s t all ds n total a xs cards left) where
+module _ (s t : OutputState) (all : List (List ℕ)) (ds : List ℕ) (n : ℕ) (total : Stage → ℕ) (waited : Stage → Stall → ℕ) (a : Account) (xs : List Signal)
+    (cards : List (List ℕ)) (left : ℕ) (h : IsRunning s t all ds n total waited a xs cards left) where
   done : h.m.scene.machine.done ≡ a.state.done
   done = ap (λ (c : Scene). c.machine.done) h.at.scene
 
@@ -152,7 +167,7 @@ module _ (s t : OutputState) (all : List (List ℕ)) (ds : List ℕ) (n : ℕ) (
     pub finishes : (u : OutputState) (r : Result (Unit {0}) Failed) → run_ends left h.m ≡ true
         → WritesLines t u (kept_lines a'.k a'.last (segment_end_at left h.m) ++ last_lines ds n a'.k h.b h.m) r → WritesLines s u all r
     finishes u r end writes =
-        run-ends ds n left a.k h.b h.m s t all (kept_lines a.k a.last (segment_end_at left h.m)) h.so_far u r (ends-one left (rests (next_state h.m)) end)
+        run-ends ds n left a.k h.b a.last.uses.items h.m s t all (kept_lines a.k a.last (segment_end_at left h.m)) h.so_far u r (ends-one left (rests (next_state h.m)) end)
         (subst (λ ls. WritesLines t u ls r)
         (ap (λ ls. ls ++ last_lines ds n a'.k h.b h.m) (kept (segment_end_at left h.m))
         ∙ ap (λ k. kept_lines a.k a.last (segment_end_at left h.m) ++ last_lines ds n k h.b h.m) segment) writes)
@@ -161,6 +176,20 @@ module _ (s t : OutputState) (all : List (List ℕ)) (ds : List ℕ) (n : ℕ) (
     sums-are x end =
         ap (λ (y : Account). sum_at x y.sums) same
         ∙ sums-end ds n left h.m x (sum_at x a.sums) (total x) (ends-one left (rests (next_state h.m)) end) (h.sum x)
+
+    pub waiting-then : IsWaiting a'.last a'.waiting.totals
+    waiting-then = subst (λ (x : Account). IsWaiting x.last x.waiting.totals) (sym same) h.waiting
+
+    waits-then : (r : Stage) (z : Stall) → is_parted r ≡ true
+        → waited_at r z a'.waiting.totals + (kept_stalled r z a'.k a'.last + stalled_from r z ds n left a.last.uses.items h.m) ≡ waited r z
+    waits-then r z parted =
+        subst (λ (x : Account). waited_at r z x.waiting.totals + (kept_stalled r z x.k x.last + stalled_from r z ds n left a.last.uses.items h.m) ≡ waited r z)
+        (sym same) (h.waits r z parted)
+
+    pub waits-are : (r : Stage) (z : Stall) (new : WaitTotals) → is_parted r ≡ true → run_ends left h.m ≡ true
+        → waited_at r z new ≡ waited_at r z a'.waiting.totals + kept_stalled r z a'.k a'.last → waited_at r z new ≡ waited r z
+    waits-are r z new parted end told =
+        waits-last ds n left a.last.uses.items h.m r z _ _ _ (waited r z) (ends-one left (rests (next_state h.m)) end) (waits-then r z parted) told
 
     -- it goes on
     module _ (going : run_ends left h.m ≡ false) where
@@ -182,7 +211,7 @@ module _ (s t : OutputState) (all : List (List ℕ)) (ds : List ℕ) (n : ℕ) (
       pub crossing-fails : (u : OutputState) (e : Failed) (r : Result (Unit {0}) Failed) → IsErr r
           → WritesLines t u (kept_lines a'.k a'.last (segment_end_at left h.m) ++ segment_lines ds n a'.k h.b h.m) (Err e) → WritesLines s u all r
       crossing-fails u e r f w =
-          border-fails ds n left a.k h.b h.m s t all (kept_lines a.k a.last (segment_end_at left h.m)) h.so_far some on u e r f (crossed u (Err e) w)
+          border-fails ds n left a.k h.b a.last.uses.items h.m s t all (kept_lines a.k a.last (segment_end_at left h.m)) h.so_far some on u e r f (crossed u (Err e) w)
 
       module _ (c : Account) (number : c.k ≡ segment_after a'.k h.m) (front : c.last.front ≡ next_front h.m) (tick : c.last.tick ≡ a'.last.tick)
           (state : c.state ≡ a'.state) where
@@ -195,18 +224,28 @@ module _ (s t : OutputState) (all : List (List ℕ)) (ds : List ℕ) (n : ℕ) (
         pub goes : (u : OutputState) (x : Unit {0}) (d : Account)
             → WritesLines t u (kept_lines a'.k a'.last (segment_end_at left h.m) ++ segment_lines ds n a'.k h.b h.m) (Ok x)
             → c.words.items ≡ a'.state.words → c.sums ≡ a'.sums → length c.words.items ≡ words_of_storage → AreDelaysUpTo 255 ds → n ≤ 8 → AllPass is_signal ys
-            → ((p : Standing) (end : Option ℕ) → c.k ≢ 0 → IsStanding p c.state c.last → kept_lines d.k d.last end ≡ lines_of_entry ds n end p)
+            → ((p : Standing) (end : Option ℕ) → c.k ≢ 0 → IsStanding p c.state c.last → kept_lines d.k d.last end ≡ lines_of_entry ds n end c.last.uses.items p)
             → d.state ≡ step c.state → ((p : Standing) → IsStanding p c.state c.last → IsLast ds n (next_moment ds n p) d.last d.log)
             → ((p : Standing) (x : Stage) → IsStanding p c.state c.last → sum_at x d.sums ≡ sum_at x c.sums + ticks_for x (charges_at ds n p))
             → AreWithin d.last.tick d.sums → d.last.enabled ≡ c.state.enabled → guessing d.last.ic d.state ≡ guess (interrupt c.state) c.state
             → ((w : ℕ) → 32 ≤ w → IsNotAmong w d.last.plan.writes → word d.state w ≡ word c.state w) → d.words.items ≡ c.words.items → d.k ≡ c.k
-            → IsRunning s u all ds n total d ys cards' (left - 1)
-        goes u x d writes words sums size are few passes entry made hand added within enabled guessed unwritten kept_words segment' =
+            → c.last.uses.items ≡ words_before h.m a'.last.uses.items → ((p : Standing) → IsStanding p c.state c.last → d.last.uses.items ≡ uses_at ds n p)
+            → IsWaiting d.last d.waiting.totals
+            → ((r : Stage) (z : Stall) → is_parted r ≡ true → waited_at r z c.waiting.totals ≡ waited_at r z a'.waiting.totals + kept_stalled r z a'.k a'.last)
+            → ((p : Standing) (r : Stage) (z : Stall) → c.k ≢ 0 → IsStanding p c.state c.last
+            → kept_stalled r z d.k d.last ≡ row_stalled r z (uses_at ds n p) c.last.uses.items (charges_at ds n p))
+            → d.waiting.totals ≡ c.waiting.totals
+            → IsRunning s u all ds n total waited d ys cards' (left - 1)
+        goes u x d writes words sums size are few passes entry made hand added within enabled guessed unwritten kept_words segment' earlier used waits_new told kept totals =
             let m' = next_moment ds n (standing_at h.m) in
             let bounds = next-is 255 n ds are few h.m h.bounds in
             let more = next-done ds n h.m in
             let scene = next-stepped ds n h.m a'.state d.state ys cards' behind.scene (made ∙ ap step state) in
             let here : next_state h.m ≡ c.state = next ∙ sym state in
+            let p = standing_at h.m in
+            let end = segment_end_at (left - 1) m' in
+            let old : c.last.uses.items ≡ words_before h.m a.last.uses.items = earlier ∙ ap (λ (l : Last). words_before h.m l.uses.items) last in
+            let later = number-some a.k c.k h.m after in
             let stored : d.words.items ≡ (next_state h.m).words = kept_words ∙ words ∙ ap (λ (u : Machine). u.words) (sym next) in
             record {
               m = m';
@@ -224,15 +263,21 @@ module _ (s t : OutputState) (all : List (List ℕ)) (ds : List ℕ) (n : ℕ) (
               meets = next-at ds n (standing_at h.m);
               time = next-time 255 n ds are few h.m h.bounds h.time;
               so_far = subst (LinesSoFar s u all)
-                  (ap (λ ls. ls ++ lines_from ds n (left - 1) (segment_after a.k h.m) (next_state h.m) m')
-                  (sym (entry (standing_at h.m) (segment_end_at (left - 1) m') (number-some a.k c.k h.m after) stands))
-                  ∙ ap (λ k. kept_lines d.k d.last (segment_end_at (left - 1) m') ++ lines_from ds n (left - 1) k (next_state h.m) m') (sym (segment' ∙ after)))
-                  (turn-made ds n left a.k h.b h.m s t all (kept_lines a.k a.last (segment_end_at left h.m)) h.so_far some on u x (crossed u (Ok x) writes));
+                  (ap (λ ls. ls ++ lines_from ds n (left - 1) (segment_after a.k h.m) (next_state h.m) (uses_at ds n p) m')
+                  (ap (λ us. lines_of_entry ds n end us p) (sym old) ∙ sym (entry p end later stands))
+                  ∙ ap (λ us. kept_lines d.k d.last end ++ lines_from ds n (left - 1) (segment_after a.k h.m) (next_state h.m) us m') (sym (used p stands))
+                  ∙ ap (λ k. kept_lines d.k d.last end ++ lines_from ds n (left - 1) k (next_state h.m) d.last.uses.items m') (sym (segment' ∙ after)))
+                  (turn-made ds n left a.k h.b a.last.uses.items h.m s t all (kept_lines a.k a.last (segment_end_at left h.m)) h.so_far some on u x (crossed u (Ok x) writes));
               number = number-next a.k d.k h.m h.m.scene.machine.done _ (segment' ∙ after) h.number more;
               few = omega (arith, more, h.few, some);
               within = within;
               sum = λ z. sums-next ds n left h.m z (sum_at z a.sums) (sum_at z d.sums) (total z) some on (h.sum z)
                   (added (standing_at h.m) z stands ∙ ap (λ t. sum_at z t + ticks_for z (charges_at ds n (standing_at h.m))) (sums ∙ ap (λ (x : Account). x.sums) same));
+              waiting = waits_new;
+              waits = λ r z parted.
+                  waits-next ds n left a.last.uses.items d.last.uses.items h.m r z _ _ _ _ (waited r z) some on (waits-then r z parted)
+                  (ap (waited_at r z) totals ∙ told r z parted)
+                  (kept p r z later stands ∙ ap (λ us. row_stalled r z (uses_at ds n p) us (charges_at ds n p)) old) (used p stands);
               passes = passes;
               size = ap length kept_words ∙ size;
             }

@@ -21,6 +21,8 @@ pub use Rattle.st_ledger.specs.Charges
 pub use Rattle.st_ledger.specs.Ledger
 pub use Rattle.st_ledger.specs.Totals
 pub use Rattle.st_plain.specs.Looking
+pub use Rattle.st_reasons.specs.Reasons
+pub use Rattle.st_reasons.specs.Sums
 pub use Rattle.st_prep.specs.Entry
 pub use Rattle.st_prep.specs.Plan
 pub use Rattle.st_report.specs.Line
@@ -38,3 +40,4 @@ pub use Rattle.st_text.specs.Bytes
 pub use Rattle.st_text.specs.Numerals
 pub use Rattle.st_lines.specs.BorderLines
 pub use Rattle.st_lines.specs.EntryLines
+pub use Rattle.st_lines.specs.WaitLines

@@ -1,6 +1,6 @@
 -- What is at hand of a moment of a run, besides its scene. The machine has the delays ds and n
 -- levels.
-use Rattle.std.specs.Prelude.{ℕ, suc, ◌≡◌, ◌≢◌, ◌<◌, ◌≤◌, ◌^◌, length, true, false, not, ◌&&◌, nat_le, nat_eq, if◌then◌else◌, is_none, Bool, List, [], ◌∷◌, ◌++◌, map, slice_index, All, Option, None}
+use Rattle.std.specs.Prelude.{ℕ, suc, ◌+◌, ◌≡◌, ◌≢◌, ◌<◌, ◌≤◌, ◌^◌, length, true, false, not, ◌&&◌, nat_le, nat_eq, if◌then◌else◌, is_none, Bool, List, [], ◌∷◌, ◌++◌, map, slice_index, All, Option, None}
 use Rattle.st_bits.specs.declared.limits.TheConstants.{WORDS}
 use Rattle.st_state.specs.Machine.{Machine, word}
 use Rattle.st_exec.specs.Ahead.{IsNotAmong}
@@ -15,6 +15,13 @@ use Rattle.st_exec.specs.Step.{interrupt}
 use Rattle.st_card.specs.declared.control_cards.Signal.{Signal}
 use Rattle.st_run.specs.Moments.{Moment, Standing, next_scene, has_card, has_waited}
 use Rattle.st_run.specs.Reached.{IsCard}
+use Rattle.st_ledger.specs.Charges.{parts_of_row, charges_behind, all_ticks}
+use Rattle.st_ledger.specs.declared.charges.Charge.{Charge}
+use Rattle.st_ledger.specs.declared.charges.Stage.{Stage}
+use Rattle.st_reasons.specs.Sums.{AreWaitsWithin, row_stalled}
+use Rattle.st_reasons.specs.Words.{IsReadInTime}
+use Rattle.st_reasons.specs.declared.sums.WaitTotals.{WaitTotals}
+use Rattle.st_reasons.specs.declared.waits.Stall.{Stall}
 use Rattle.st_lines.specs.Changes.{IsLeft}
 use Rattle.st_lines.specs.EntryLines.{done_entry_lines}
 use Rattle.st_plain.specs.Looking.{seen_ahead}
@@ -78,7 +85,25 @@ kept_lines k l end =
       before = l.done.before;
       start = l.done.start;
       end = end;
-    }) l.plan l.done.known l.uses.items
+      because = l.because;
+    }) l.plan l.done.known l.uses.items l.before.items
+
+-- its charges
+abbrev pub charges_kept : Last → List Charge
+charges_kept l = charges_behind l.done.before (parts_of_row l.done.start l.done.row.ticks)
+
+-- the ticks of its waits for one thing in a stage; before the first entry there are none
+unfoldable pub kept_stalled : Stage → Stall → ℕ → Last → ℕ
+kept_stalled r s k l =
+    if nat_eq k 0 then 0 else row_stalled r s l.uses.items l.before.items (charges_kept l)
+
+-- Its waits can be told: its words and those of the entry before it are in time, its charges end
+-- where it was done, and no sum of waits is greater than the tick at which they begin.
+pub record IsWaiting (l : Last) (sums : WaitTotals) : Type 0 where
+  pub uses : All IsReadInTime l.uses.items
+  pub before : All IsReadInTime l.before.items
+  pub reach : l.done.before + all_ticks (charges_kept l) ≡ l.tick
+  pub within : AreWaitsWithin l.done.before sums
 
 -- The run stands at the moment, which the entry before made of the state b: this is at hand of it,
 -- and these signals and cards are still to come.

@@ -1,6 +1,6 @@
 -- The ledger of a run: its lines, from the moments of the run. The machine has the delays ds and n
 -- levels. Segments are numbered from 1 on; k is the number of the segment of the entry that has
--- just been done, 0 before the first one.
+-- just been done, 0 before the first one, and us are the words that it uses.
 use Rattle.std.specs.Prelude.{ℕ, zero, suc, ◌+◌, Bool, true, false, ◌||◌, nat_eq, if◌then◌else◌, List, [], ◌∷◌, ◌++◌, Option, None, Some, map}
 use Rattle.st_state.specs.Machine.{Machine}
 use Rattle.st_prep.specs.Plan.{plan}
@@ -12,14 +12,20 @@ use Rattle.st_run.specs.Run.{Scene, interlude}
 use Rattle.st_run.specs.Moments.{Moment, Standing, moment_at_start, next_state, has_waited, ends_segment, next_front, standing_at, next_row, next_moment}
 use Rattle.st_report.specs.Line.{end_line as run_end_line, done_line, ticks_line}
 use Rattle.st_ledger.specs.declared.charges.Charge.{Charge}
+use Rattle.st_ledger.specs.declared.charges.Stage.{Stage}
 use Rattle.st_ledger.specs.Charges.{ticks_for}
-use Rattle.st_ledger.specs.Ledger.{entries_of, all_charges}
+use Rattle.st_ledger.specs.Ledger.{entries_of, charges_at, all_charges}
 use Rattle.st_ledger.specs.Totals.{stages, sums_by, sum_lines}
 use Rattle.st_plain.specs.declared.looking.Ahead.{Ahead}
 use Rattle.st_plain.specs.Looking.{known_at, level_wait, side_at, seen_ahead, first_late}
 use Rattle.st_plain.specs.Uses.{uses_of_entry}
+use Rattle.st_plain.specs.declared.uses.Use.{Use}
+use Rattle.st_reasons.specs.Reasons.{because}
+use Rattle.st_reasons.specs.Sums.{row_stalled, wait_sums_by}
+use Rattle.st_reasons.specs.declared.waits.Stall.{Stall}
 use Rattle.st_lines.specs.Lines.{start_line}
 use Rattle.st_lines.specs.EntryLines.{done_entry_lines}
+use Rattle.st_lines.specs.WaitLines.{wait_sum_lines}
 use Rattle.st_lines.specs.BorderLines.{segment_end_lines, marks_lines, state_lines, machine_lines}
 use Rattle.st_lines.specs.declared.lines.Why.{Why}
 use Rattle.st_lines.specs.declared.lines.Why.TheVariants.{Run, Interrupt, Missed, Card}
@@ -85,9 +91,21 @@ segment_lines ds n k b m =
 
 -- ---- rows
 
--- those of the next entry; its segment ends at the tick `end`, or goes on where there is none
-unfoldable pub lines_of_entry : List ℕ → ℕ → Option ℕ → Standing → List (List ℕ)
-lines_of_entry ds n end p =
+-- the words that the next entry uses
+unfoldable pub uses_at : List ℕ → ℕ → Standing → List Use
+uses_at ds n p =
+    let s = p.scene.machine in
+    uses_of_entry ds n p.front (entry (interrupt s) s) (side_at (interrupt s) s)
+    (plan s (interrupt s)).reads
+
+-- those of the entry before it in its segment, none where it is the first one of that
+abbrev pub words_before : Moment → List Use → List Use
+words_before m us = if ends_segment m then [] else us
+
+-- the lines of the next entry, where the one before it uses some words; its segment ends at the
+-- tick `end`, or goes on where there is none
+unfoldable pub lines_of_entry : List ℕ → ℕ → Option ℕ → List Use → Standing → List (List ℕ)
+lines_of_entry ds n end before p =
     let s = p.scene.machine in
     let e = plan s (interrupt s) in
     let x = entry (interrupt s) s in
@@ -99,8 +117,10 @@ lines_of_entry ds n end p =
       before = p.tick;
       start = p.front.c;
       end = end;
-    }) e (known_at (interrupt s) s)
-    (uses_of_entry ds n p.front x (side_at (interrupt s) s) e.reads)
+      because = because p.front x
+          (record { ticks = next_row ds n p; level_wait = level_wait ds n p.front x })
+          (uses_at ds n p) before;
+    }) e (known_at (interrupt s) s) (uses_at ds n p) before
 
 -- ---- the end
 
@@ -126,21 +146,37 @@ last_lines ds n k b m =
 abbrev pub totals_lines : List Charge → List (List ℕ)
 totals_lines xs = sum_lines (sums_by (λ s. ticks_for s xs) stages)
 
+-- the ticks of waits for one thing in the charges of a stage, from a moment on, in which so many
+-- entries may still be done
+unfoldable pub stalled_from : Stage → Stall → List ℕ → ℕ → ℕ → List Use → Moment → ℕ
+stalled_from r s ds n zero us m = 0
+stalled_from r s ds n (suc left) us m =
+    let p = standing_at m in
+    if rests (next_state m) then 0
+    else row_stalled r s (uses_at ds n p) (words_before m us) (charges_at ds n p)
+    + stalled_from r s ds n left (uses_at ds n p) (next_moment ds n p)
+
+-- those of each stage and thing
+abbrev pub wait_totals_lines : (Stage → Stall → ℕ) → List (List ℕ)
+wait_totals_lines f = wait_sum_lines (wait_sums_by f)
+
 -- ---- the whole
 
 -- from a moment on, in which so many entries may still be done; a rest is tried before the budget.
 -- b is the state before the entry that has just been done
-unfoldable pub lines_from : List ℕ → ℕ → ℕ → ℕ → Machine → Moment → List (List ℕ)
-lines_from ds n zero k b m = last_lines ds n k b m
-lines_from ds n (suc left) k b m =
+unfoldable pub lines_from : List ℕ → ℕ → ℕ → ℕ → Machine → List Use → Moment → List (List ℕ)
+lines_from ds n zero k b us m = last_lines ds n k b m
+lines_from ds n (suc left) k b us m =
     let p = standing_at m in
     let behind = next_moment ds n p in
     if rests (next_state m) then last_lines ds n k b m
-    else (segment_lines ds n k b m ++ lines_of_entry ds n (segment_end_at left behind) p)
-    ++ lines_from ds n left (segment_after k m) (next_state m) behind
+    else (segment_lines ds n k b m
+    ++ lines_of_entry ds n (segment_end_at left behind) (words_before m us) p)
+    ++ lines_from ds n left (segment_after k m) (next_state m) (uses_at ds n p) behind
 
 -- the ledger of the run of a scene
 unfoldable pub ledger : List ℕ → ℕ → ℕ → Scene → List (List ℕ)
 ledger ds n left c =
-    machine_lines ds n ++ lines_from ds n left 0 c.machine (moment_at_start c)
+    machine_lines ds n ++ lines_from ds n left 0 c.machine [] (moment_at_start c)
     ++ totals_lines (all_charges ds n (entries_of ds n left c))
+    ++ wait_totals_lines (λ r s. stalled_from r s ds n left [] (moment_at_start c))

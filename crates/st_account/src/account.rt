@@ -17,6 +17,9 @@ ghost use Rattle.st_ledger.specs.declared.charges.Stage.{Stage};
 ghost use Rattle.st_lines.specs.Changes.{IsLeft};
 ghost use Rattle.st_lines.specs.declared.lines.Why.TheVariants.{Run as RunBegins};
 ghost use Rattle.st_plain.specs.Looking.{seen_ahead, first_late};
+ghost use Rattle.st_reasons.specs.Sums.{AreWaitsWithin, is_parted, waited_at, row_stalled};
+ghost use Rattle.st_reasons.specs.Words.{IsReadInTime};
+ghost use Rattle.st_reasons.specs.declared.waits.Stall.{Stall};
 ghost use Rattle.st_rows.specs.Asked.{Read, made_before};
 ghost use Rattle.st_rows.specs.Ranges.{IsTight};
 ghost use Rattle.st_rows.specs.Rows.{opening_front};
@@ -24,11 +27,11 @@ ghost use Rattle.st_rows.specs.declared.bus.Bus.{Bus as BusOf};
 ghost use Rattle.st_run.specs.Moments.{Moment, Standing, next_front, next_moment};
 ghost use Rattle.st_segment.specs.Ahead.{ahead, prepared_before, reads_before};
 ghost use Rattle.st_state.specs.Machine.{Machine, word};
-ghost use Rattle.st_account.specs.Text.{why_by, run_ends, segment_end_at, segment_after, segment_lines, lines_of_entry, last_lines};
-ghost use Rattle.st_account.specs.Standing.{guessing, kept_lines, HasReads, IsLast, IsStanding, IsAt, IsBehindMoment};
+ghost use Rattle.st_account.specs.Text.{why_by, run_ends, segment_end_at, segment_after, segment_lines, uses_at, words_before, lines_of_entry, last_lines};
+ghost use Rattle.st_account.specs.Standing.{guessing, kept_lines, kept_stalled, IsWaiting, HasReads, IsLast, IsStanding, IsAt, IsBehindMoment};
 
 use crate::behind::{Behind, look_behind, nothing_came};
-use crate::last::{Last, at_start, open_if};
+use crate::last::{Last, at_start, clear_if, open_if};
 use crate::settling::settle;
 use crate::stepping::{
     changeable, count_on, done_of, either, end_of, execute, is_end, is_end_near, is_still,
@@ -42,9 +45,10 @@ use st_exec::{interrupt, is_at_rest, next_address};
 use st_io::{Failed, Sink};
 use st_ledger::Totals;
 use st_lines::{
-    Border, EntryDone, counter_of, is_enabled, write_border, write_done, write_end, write_marks,
-    write_totals,
+    Border, EntryDone, Waiting, counter_of, is_enabled, write_border, write_done, write_end,
+    write_marks, write_totals,
 };
+use st_reasons::{WaitTotals, Waits};
 use st_rows::Log;
 use st_state::State;
 
@@ -64,8 +68,51 @@ pub(crate) struct Account {
     pub behind: Behind,
     /// The ticks of each stage so far.
     pub sums: Totals,
+    /// What the waits of the last entry are told with, and the sums of those before it.
+    pub waiting: Waiting,
     /// The number of its segment, 0 before the first entry.
     pub k: u32,
+}
+
+// Writes the lines of the last entry, whose segment, k, ends at a tick or not, and adds its waits
+// to the sums; before the first entry there are none.
+fn write_row<K: Sink>(
+    out: &mut K,
+    last: &Last,
+    k: u32,
+    end: Option<u64>,
+    waiting: &mut Waiting,
+) -> Result<(), Failed>
+    requires { IsWaiting last.now waiting.old.totals }
+    ensures lines { WritesLines (K.output out.old) (K.output out.new)
+        (kept_lines k last.now end) result }
+    ensures within { IsOk result → AreWaitsWithin last.now.tick waiting.new.totals }
+    ensures sums { IsOk result → (r : Stage) (s : Stall) → is_parted r ≡ true →
+        waited_at r s waiting.new.totals
+        ≡ waited_at r s waiting.old.totals + kept_stalled r s k last.now }
+{
+    if k == 0 {
+        return Ok(());
+    }
+    let done = EntryDone {
+        n: last.done.n,
+        address: last.done.address,
+        row: last.done.row,
+        missed: last.missed,
+        before: last.done.before,
+        start: last.done.start,
+        end,
+        because: last.because,
+    };
+    write_done(
+        out,
+        &done,
+        &last.plan,
+        &last.done.known,
+        last.uses.as_slice(),
+        last.before.as_slice(),
+        waiting,
+    )
 }
 
 impl Account {
@@ -85,6 +132,9 @@ impl Account {
         ensures tight { IsTight 255 result.last.front }
         ensures log { result.log ≡ [] }
         ensures none { AreWithin 0 result.sums }
+        ensures unused { result.last.uses.items ≡ [] }
+        ensures waiting { IsWaiting result.last result.waiting.totals }
+        ensures unwaited { AreWaitsWithin 0 result.waiting.totals }
         ensures number { result.k ≡ 0 }
     {
         let last = at_start(counter_of(&state), is_enabled(&state));
@@ -95,6 +145,10 @@ impl Account {
             log: Log::new(),
             behind: nothing_came(),
             sums: Totals::default(),
+            waiting: Waiting {
+                waits: Waits::new(),
+                totals: WaitTotals::default(),
+            },
             k: 0,
         }
     }
@@ -199,33 +253,6 @@ impl Account {
         left == 0 || is_at_rest(&self.state)
     }
 
-    // Writes the lines of the last entry, whose segment, k, ends at a tick or not; before the first
-    // entry there are none.
-    fn write_row<K: Sink>(&self, out: &mut K, k: u32, end: Option<u64>) -> Result<(), Failed>
-        ensures { WritesLines (K.output out.old) (K.output out.new)
-            (kept_lines k self.now.last end) result }
-    {
-        if k == 0 {
-            return Ok(());
-        }
-        let done = EntryDone {
-            n: self.last.done.n,
-            address: self.last.done.address,
-            row: self.last.done.row,
-            missed: self.last.missed,
-            before: self.last.done.before,
-            start: self.last.done.start,
-            end,
-        };
-        write_done(
-            out,
-            &done,
-            &self.last.plan,
-            &self.last.done.known,
-            self.last.uses.as_slice(),
-        )
-    }
-
     // What stands between the last entry and the next one; the front and the segment are then those
     // of the next one.
     fn open(&mut self) -> Border
@@ -313,6 +340,7 @@ impl Account {
         requires size { length self.old.words.items ≡ words_of_storage }
         requires left { self.old.k ≢ 0 → (v : ℕ) → v < WORDS → IsLeft v self.old.behind.may →
             slice_index self.old.words.items v ≡ word self.old.state v }
+        requires waiting { IsWaiting self.old.last self.old.waiting.totals }
 
         ensures lines { (ds : List ℕ) (n left : ℕ) (b : Machine) (m : Moment)
             (xs : List SignalOf) (cards : List (List ℕ)) →
@@ -337,10 +365,22 @@ impl Account {
         ensures size { IsOk result → length self.new.words.items ≡ words_of_storage }
         ensures state { self.new.state ≡ self.old.state }
         ensures sums { self.new.sums ≡ self.old.sums }
+        ensures earlier { (ds : List ℕ) (n left : ℕ) (b : Machine) (m : Moment)
+            (xs : List SignalOf) (cards : List (List ℕ)) →
+            IsBehindMoment ds n left b m self.old xs cards → IsOk result →
+            self.new.last.uses.items ≡ words_before m self.old.last.uses.items }
+        ensures read { IsOk result → All IsReadInTime self.new.last.uses.items }
+        ensures within { IsOk result → AreWaitsWithin self.new.last.tick
+            self.new.waiting.totals }
+        ensures stalled { IsOk result → (r : Stage) (s : Stall) → is_parted r ≡ true →
+            waited_at r s self.new.waiting.totals ≡ waited_at r s self.old.waiting.totals
+            + kept_stalled r s self.old.k self.old.last }
     {
         self.state.shape();
         let border = self.open();
-        self.write_row(out, border.k, end_of(border.ends, border.tick))?;
+        let end = end_of(border.ends, border.tick);
+        write_row(out, &self.last, border.k, end, &mut self.waiting)?;
+        clear_if(border.ends, &mut self.last.uses);
         write_border(
             out,
             border,
@@ -360,6 +400,7 @@ impl Account {
         requires size { length self.old.words.items ≡ words_of_storage }
         requires left { self.old.k ≢ 0 → (v : ℕ) → v < WORDS → IsLeft v self.old.behind.may →
             slice_index self.old.words.items v ≡ word self.old.state v }
+        requires waiting { IsWaiting self.old.last self.old.waiting.totals }
 
         ensures lines { (ds : List ℕ) (n left : ℕ) (b : Machine) (m : Moment)
             (xs : List SignalOf) (cards : List (List ℕ)) →
@@ -368,8 +409,12 @@ impl Account {
             (kept_lines self.old.k self.old.last (segment_end_at left m)
             ++ last_lines ds n self.old.k b m) result }
         ensures sums { self.new.sums ≡ self.old.sums }
+        ensures stalled { IsOk result → (r : Stage) (s : Stall) → is_parted r ≡ true →
+            waited_at r s self.new.waiting.totals ≡ waited_at r s self.old.waiting.totals
+            + kept_stalled r s self.old.k self.old.last }
     {
-        self.write_row(out, self.k, end_of(true, self.last.tick))?;
+        let end = end_of(true, self.last.tick);
+        write_row(out, &self.last, self.k, end, &mut self.waiting)?;
         self.write_last(out)
     }
 
@@ -387,6 +432,7 @@ impl Account {
             WritesLines (K.output out.old) (K.output out.new)
             (last_lines ds n self.old.k b m) result }
         ensures sums { self.new.sums ≡ self.old.sums }
+        ensures waits { self.new.waiting ≡ self.old.waiting }
     {
         write_end(
             out,
@@ -422,10 +468,21 @@ impl Account {
         requires order { self.old.last.tick ≤ self.old.last.front.c }
         requires past { self.old.last.past ≡ self.old.last.front.past }
         requires within { AreWithin self.old.last.tick self.old.sums }
+        requires read { All IsReadInTime self.old.last.uses.items }
+        requires waits { AreWaitsWithin self.old.last.tick self.old.waiting.totals }
 
         ensures lines { (p : Standing) (end : Option ℕ) → self.old.k ≢ 0 →
             IsStanding p self.old.state self.old.last → kept_lines self.new.k self.new.last end
-            ≡ lines_of_entry timing.now.delays timing.now.levels end p }
+            ≡ lines_of_entry timing.now.delays timing.now.levels end self.old.last.uses.items p }
+        ensures uses { (p : Standing) → IsStanding p self.old.state self.old.last →
+            self.new.last.uses.items ≡ uses_at timing.now.delays timing.now.levels p }
+        ensures waiting { IsWaiting self.new.last self.new.waiting.totals }
+        ensures stalled { (p : Standing) (r : Stage) (s : Stall) → self.old.k ≢ 0 →
+            IsStanding p self.old.state self.old.last →
+            kept_stalled r s self.new.k self.new.last
+            ≡ row_stalled r s (uses_at timing.now.delays timing.now.levels p)
+            self.old.last.uses.items (charges_at timing.now.delays timing.now.levels p) }
+        ensures totals { self.new.waiting.totals ≡ self.old.waiting.totals }
         ensures state { self.new.state ≡ step_of self.old.state }
         ensures last { (p : Standing) → IsStanding p self.old.state self.old.last →
             IsLast timing.now.delays timing.now.levels

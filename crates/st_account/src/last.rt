@@ -1,5 +1,5 @@
 //! What is at hand when an entry has just been done.
-ghost use Rattle.std.specs.Prelude.{◌≡◌, ◌+◌, ◌≤◌, ◌^◌, if◌then◌else◌, replicate, All, false};
+ghost use Rattle.std.specs.Prelude.{◌≡◌, ◌+◌, ◌≤◌, ◌^◌, if◌then◌else◌, replicate, All, false, []};
 ghost use Rattle.st_banks.specs.declared.answers.TheConstants.{BANKS};
 ghost use Rattle.st_rows.specs.Ranges.{IsTight};
 ghost use Rattle.st_rows.specs.Rows.{opening_front};
@@ -7,6 +7,7 @@ ghost use Rattle.st_rows.specs.Rows.{opening_front};
 use st_banks::LastAnswers;
 use st_plain::{Known, Row, Uses};
 use st_prep::Prepared;
+use st_reasons::Because;
 use st_rows::{Front, LastEntries, Past};
 
 /// What is told of an entry that has been done, besides how it was prepared.
@@ -46,6 +47,10 @@ pub(crate) struct Last {
     pub done: DoneEntry,
     /// The words that it uses.
     pub uses: Uses,
+    /// Those that the entry before it in its segment uses.
+    pub before: Uses,
+    /// What kept it back.
+    pub because: Because,
 }
 
 // A list of eight entries as a front keeps it, the newest one first.
@@ -90,6 +95,11 @@ pub(crate) fn at_start(ic: u32, enabled: bool) -> Last
     ensures counter { result.ic ≡ ic }
     ensures enabled { result.enabled ≡ enabled }
     ensures tight { IsTight 255 result.front }
+    ensures uses { result.uses.items ≡ [] }
+    ensures before { result.before.items ≡ [] }
+    ensures done { result.done.before ≡ 0 }
+    ensures start { result.done.start ≡ 0 }
+    ensures ticks { result.done.row.ticks ≡ record { a = 0; p = 0; r = 0; c = 0 } }
 {
     let banks = LastAnswers::new();
     Last {
@@ -102,6 +112,8 @@ pub(crate) fn at_start(ic: u32, enabled: bool) -> Last
         plan: Prepared::default(),
         done: DoneEntry::default(),
         uses: Uses::new(),
+        before: Uses::new(),
+        because: Because::Start(0),
     }
 }
 
@@ -146,5 +158,14 @@ pub(crate) fn open_if(ends: bool, last: &mut Last, banks: LastAnswers, dropped: 
 {
     if ends {
         open_segment(last, banks, dropped);
+    }
+}
+
+/// No words are left where a segment ends.
+pub(crate) fn clear_if(ends: bool, uses: &mut Uses)
+    ensures { uses.new.items ≡ (if ends then [] else uses.old.items) }
+{
+    if ends {
+        uses.clear();
     }
 }

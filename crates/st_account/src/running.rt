@@ -1,5 +1,5 @@
 //! The run, line by line.
-ghost use Rattle.std.specs.Prelude.{◌≡◌, ◌≤◌, IsOk, All, length};
+ghost use Rattle.std.specs.Prelude.{◌≡◌, ◌≤◌, true, [], IsOk, All, length};
 ghost use Rattle.std.specs.List.{AllPass};
 ghost use Rattle.st_bits.specs.declared.limits.TheConstants.{MOST_INSTRUCTIONS};
 ghost use Rattle.st_bits.specs.Storage.{words_of_storage};
@@ -12,7 +12,9 @@ ghost use Rattle.st_ledger.specs.declared.charges.Stage.{Stage};
 ghost use Rattle.st_ledger.specs.Charges.{ticks_for};
 ghost use Rattle.st_ledger.specs.Totals.{sum_at};
 ghost use Rattle.st_account.specs.Settling.{at_hand};
-ghost use Rattle.st_account.specs.Text.{lines_from, ledger};
+ghost use Rattle.st_reasons.specs.Sums.{is_parted, waited_at};
+ghost use Rattle.st_reasons.specs.declared.waits.Stall.{Stall};
+ghost use Rattle.st_account.specs.Text.{lines_from, stalled_from, ledger};
 
 use crate::account::Account;
 use crate::timing::Timing;
@@ -20,7 +22,8 @@ use st_card::{Controls, Signal};
 use st_exch::Hopper;
 use st_io::{Failed, Sink};
 use st_ledger::{Totals, write_sums};
-use st_lines::write_machine;
+use st_lines::{write_machine, write_wait_sums};
+use st_reasons::WaitTotals;
 use st_state::State;
 
 /// A run that is ready to be written: nothing has happened in the machine.
@@ -56,12 +59,13 @@ fn budget(controls: &Controls) -> u64
 }
 
 // Writes the run, until it ends or so many instructions are done as are asked for. `sums` are then
-// the ticks of its charges.
+// the ticks of its charges, and `waits` those of its waits.
 fn write_run<K: Sink>(
     out: &mut K,
     ready: Ready,
     controls: &Controls,
     sums: &mut Totals,
+    waits: &mut WaitTotals,
 ) -> Result<(), Failed>
     requires fresh { ready.state.done ≡ 0 }
     requires cards { All IsCard ready.cards }
@@ -71,12 +75,15 @@ fn write_run<K: Sink>(
     requires size { length ready.words.items ≡ words_of_storage }
 
     ensures lines { WritesLines (K.output out.old) (K.output out.new)
-        (lines_from ready.timing.delays ready.timing.levels controls.now.budget 0 ready.state
+        (lines_from ready.timing.delays ready.timing.levels controls.now.budget 0 ready.state []
         (start_of (at_hand ready.state controls.now.signals ready.cards))) result }
     ensures sums { (s : Stage) → IsOk result → sum_at s sums.new
         ≡ ticks_for s (all_charges ready.timing.delays ready.timing.levels
         (entries_from ready.timing.delays ready.timing.levels controls.now.budget
         (start_of (at_hand ready.state controls.now.signals ready.cards)))) }
+    ensures waits { (r : Stage) (s : Stall) → is_parted r ≡ true → IsOk result →
+        waited_at r s waits.new ≡ stalled_from r s ready.timing.delays ready.timing.levels
+        controls.now.budget [] (start_of (at_hand ready.state controls.now.signals ready.cards)) }
 {
     let Ready {
         state,
@@ -92,8 +99,10 @@ fn write_run<K: Sink>(
     'entries: loop {
         rest = account.pass(&timing, left, rest, &mut cards);
         if account.is_over(left) {
+            let written = account.finish(out);
             *sums = account.sums;
-            return account.finish(out);
+            *waits = account.waiting.totals;
+            return written;
         }
         account.cross(out)?;
         account.step(&timing);
@@ -118,7 +127,9 @@ pub fn write_ledger<K: Sink>(out: &mut K, ready: Ready, controls: &Controls) -> 
         (at_hand ready.state controls.now.signals ready.cards)) result }
 {
     let mut sums = Totals::default();
+    let mut waits = WaitTotals::default();
     write_machine(out, ready.timing.levels, list(controls))?;
-    write_run(out, ready, controls, &mut sums)?;
-    write_sums(out, &sums)
+    write_run(out, ready, controls, &mut sums, &mut waits)?;
+    write_sums(out, &sums)?;
+    write_wait_sums(out, &waits)
 }

@@ -6,6 +6,7 @@ ghost use Rattle.st_prep.specs.Ranges.{IsPrepared};
 ghost use Rattle.st_exec.specs.Completion.{state_after_execution, guess as guess_of, is_missed as is_missed_of};
 ghost use Rattle.st_plain.specs.Looking.{known_at, level_wait, side_at};
 ghost use Rattle.st_plain.specs.Uses.{uses_of_entry};
+ghost use Rattle.st_reasons.specs.Reasons.{because as because_of};
 ghost use Rattle.st_rows.specs.Asked.{reads_of_entry as asked_of};
 ghost use Rattle.st_rows.specs.Notes.{log_after_reads};
 ghost use Rattle.st_rows.specs.Ranges.{IsTight};
@@ -15,16 +16,18 @@ ghost use Rattle.st_account.specs.Text.{why_by};
 ghost use Rattle.st_account.specs.Standing.{guessing, has_due, still_by};
 ghost use Rattle.st_lines.specs.declared.lines.Why.TheVariants.{Run as RunBegins};
 
-use crate::last::Last;
+use crate::last::{Last, front_of};
 use crate::timing::Timing;
 use st_card::Signal;
 use st_exec::{complete_in, interrupt, is_missed};
 use st_lines::{Changeable, Why, is_enabled};
 use st_plain::{next_row, plan_entry, put_past};
 use st_prep::Prepared;
+use st_reasons::find_reason;
 use st_rows::{Log, Past};
 use st_run::plain::{printer_is_free, reader_is_free};
 use st_state::State;
+use std::mem::swap;
 
 /// Why a segment begins: the run does, or an interrupt is taken, a guess was wrong, or else a card
 /// came.
@@ -116,6 +119,9 @@ pub(crate) fn count_on(
     ensures uses { last.new.uses.items ≡ uses_of_entry timing.now.delays timing.now.levels
         last.old.front (entry_of taken state.now) (side_at taken state.now)
         (plan_of state.now taken).reads }
+    ensures earlier { last.new.before.items ≡ last.old.uses.items }
+    ensures because { last.new.because ≡ because_of last.old.front (entry_of taken state.now)
+        last.new.done.row last.new.uses.items last.old.uses.items }
     ensures front { last.new.front ≡ after_of timing.now.delays timing.now.levels last.old.front
         (entry_of taken state.now) }
     ensures log { log.new ≡ log_after_reads timing.now.delays
@@ -131,6 +137,8 @@ pub(crate) fn count_on(
     state.shape();
     let planned = plan_entry(taken, state, &mut last.plan);
     log.clear();
+    let front = front_of(last);
+    swap(&mut last.uses, &mut last.before);
     let row = next_row(
         &mut last.front,
         &last.past,
@@ -151,6 +159,13 @@ pub(crate) fn count_on(
     last.tick = row.ticks.c;
     last.done.row = row;
     last.done.known = planned.known;
+    last.because = find_reason(
+        &front,
+        &planned.entry,
+        &row,
+        last.uses.as_slice(),
+        last.before.as_slice(),
+    );
 }
 
 // The counter by the guess of an entry that was prepared as `p` and is now done.

@@ -10,9 +10,10 @@ use Rattle.st_plain.specs.declared.known.Code.{Code}
 use Rattle.st_plain.specs.declared.known.Known.{Known}
 use Rattle.st_plain.specs.declared.uses.Use.{Use}
 use Rattle.st_ledger.specs.Charges.{parts_of_row, charges_behind}
-use Rattle.st_ledger.specs.Lines.{row_stage_line, charge_lines}
+use Rattle.st_ledger.specs.Lines.{row_stage_line}
 use Rattle.st_lines.specs.Lines.{missed_line, alone_line, suppressed_line, code_line, writes_line, index_line, level_line}
 use Rattle.st_lines.specs.UseLines.{use_lines}
+use Rattle.st_lines.specs.WaitLines.{charged_lines, because_lines}
 use Rattle.st_lines.specs.declared.facts.EntryDone.{EntryDone}
 use Rattle.st_lines.specs.declared.lines.Alone.{Alone}
 use Rattle.st_lines.specs.declared.lines.Alone.TheVariants.{Table, Execute, Register, Operation}
@@ -82,10 +83,16 @@ missed_lines false = []
 unfoldable pub level_lines : ℕ → List (List ℕ)
 level_lines d = if nat_eq d 0 then [] else level_line d ∷ []
 
--- those of an entry that is done
-unfoldable pub done_entry_lines : EntryDone → Prepared → Known → List Use → List (List ℕ)
-done_entry_lines d p k uses =
+-- its wait for a level, and what kept it back
+abbrev pub late_entry_lines : EntryDone → List (List ℕ)
+late_entry_lines d =
+    level_lines d.row.level_wait ++ because_lines d.n d.before d.row.ticks.r d.because
+
+-- those of an entry that is done, which uses some words, and the one before it others
+unfoldable pub done_entry_lines : EntryDone → Prepared → Known → List Use → List Use →
+    List (List ℕ)
+done_entry_lines d p k uses before =
     row_stage_line d.n d.address d.row.ticks
     ∷ ((missed_lines d.missed ++ facts_lines d.n d.end p k uses)
-    ++ (charge_lines (charges_behind d.before (parts_of_row d.start d.row.ticks))
-    ++ level_lines d.row.level_wait))
+    ++ (charged_lines uses before (charges_behind d.before (parts_of_row d.start d.row.ticks))
+    ++ late_entry_lines d))

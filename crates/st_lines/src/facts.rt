@@ -1,24 +1,30 @@
 //! What is known of an entry by itself.
-ghost use Rattle.std.specs.Prelude.{◌≡◌, ◌-◌, ◌≤◌, ◌==◌, ◌||◌, ◌++◌};
+ghost use Rattle.std.specs.Prelude.{◌≡◌, ◌+◌, ◌-◌, ◌≤◌, ◌==◌, ◌||◌, ◌++◌, true, IsOk};
 ghost use Rattle.st_bits.specs.Indicators.{indicator as indicator_of};
 ghost use Rattle.st_prep.specs.Entry.{is_register as is_register_of, has_register as has_register_of};
 ghost use Rattle.st_state.specs.Interrupts.{first_from};
 ghost use Rattle.st_io.specs.Lines.{WritesLines};
-ghost use Rattle.st_ledger.specs.Charges.{parts_of_row, charges_behind};
-ghost use Rattle.st_ledger.specs.Lines.{charge_lines};
-ghost use Rattle.st_lines.specs.EntryLines.{alone_for as alone_of, alone_by as alone_why, alone_lines, suppressed_by as suppressed_of, suppressed_lines, code_lines, run_lines, writes_lines, index_lines, facts_lines, missed_lines, level_lines, done_entry_lines};
+ghost use Rattle.st_ledger.specs.Charges.{parts_of_row, charges_behind, all_ticks};
+ghost use Rattle.st_ledger.specs.declared.charges.Stage.{Stage as StageOf};
+ghost use Rattle.st_reasons.specs.Sums.{AreWaitsWithin, is_parted, waited_at, row_stalled};
+ghost use Rattle.st_reasons.specs.Words.{AreWordsInTime};
+ghost use Rattle.st_reasons.specs.declared.waits.Stall.{Stall as StallOf};
+ghost use Rattle.st_lines.specs.EntryLines.{alone_for as alone_of, alone_by as alone_why, alone_lines, suppressed_by as suppressed_of, suppressed_lines, code_lines, run_lines, writes_lines, index_lines, facts_lines, missed_lines, level_lines, late_entry_lines, done_entry_lines};
 ghost use Rattle.st_lines.specs.UseLines.{use_lines};
+ghost use Rattle.st_lines.specs.WaitLines.{charged_lines};
 
 use crate::digits::{fill_code, fill_index};
 use crate::lines::{Alone, line_alone, line_level, line_missed, line_suppressed, line_writes};
 use crate::uses::write_uses;
+use crate::waits::{Waiting, write_because, write_charged};
 use crate::writing::put;
 use st_bits::indicator;
 use st_bits::register::FIRST_STORAGE_WORD;
 use st_io::{Failed, Sink, write_line};
-use st_ledger::{write_charges, write_row};
+use st_ledger::write_row;
 use st_plain::{Code, Known, Row, Use};
 use st_prep::{IndexChange, Prepared, Words};
+use st_reasons::Because;
 use st_report::LineFromEnd;
 
 // Whether one of the words is a register.
@@ -266,6 +272,8 @@ pub struct EntryDone {
     pub start: u64,
     /// The tick at which its segment ends, if that ends with it.
     pub end: Option<u64>,
+    /// What kept it back.
+    pub because: Because,
 }
 
 // Writes that a branch was guessed wrongly, where it was.
@@ -306,14 +314,46 @@ fn write_level<K: Sink>(out: &mut K, d: u64) -> Result<(), Failed>
     put(out, &line_level(d))
 }
 
-// Writes the charges of an entry, and its wait for a level.
-fn write_waits<K: Sink>(out: &mut K, row: &Row, before: u64, start: u64) -> Result<(), Failed>
-    ensures { WritesLines (K.output out.old) (K.output out.new)
-        (charge_lines (charges_behind before (parts_of_row start row.now.ticks))
-        ++ level_lines row.now.level_wait) result }
+// Writes the wait of an entry for a level, and what kept it back.
+fn write_late_entry<K: Sink>(out: &mut K, done: &EntryDone) -> Result<(), Failed>
+    ensures { WritesLines (K.output out.old) (K.output out.new) (late_entry_lines done.now) result }
 {
-    write_charges(out, &row.ticks, before, start)?;
-    write_level(out, row.level_wait)
+    write_level(out, done.row.level_wait)?;
+    write_because(out, done.n, done.before, done.row.ticks.r, &done.because)
+}
+
+// Writes the charges of an entry with their waits, its wait for a level, and what kept it back.
+fn write_waits<K: Sink>(
+    out: &mut K,
+    done: &EntryDone,
+    uses: &[Use],
+    before: &[Use],
+    waiting: &mut Waiting,
+) -> Result<(), Failed>
+    requires uses { AreWordsInTime uses.now }
+    requires before { AreWordsInTime before.now }
+    requires within { AreWaitsWithin done.now.before waiting.old.totals }
+    ensures lines { WritesLines (K.output out.old) (K.output out.new)
+        (charged_lines uses.now before.now (charges_behind done.now.before
+        (parts_of_row done.now.start done.now.row.ticks)) ++ late_entry_lines done.now) result }
+    ensures within { IsOk result → AreWaitsWithin
+        (done.now.before + all_ticks (charges_behind done.now.before
+        (parts_of_row done.now.start done.now.row.ticks))) waiting.new.totals }
+    ensures sums { IsOk result → (r : StageOf) (s : StallOf) → is_parted r ≡ true →
+        waited_at r s waiting.new.totals ≡ waited_at r s waiting.old.totals
+        + row_stalled r s uses.now before.now (charges_behind done.now.before
+        (parts_of_row done.now.start done.now.row.ticks)) }
+{
+    write_charged(
+        out,
+        &done.row.ticks,
+        done.before,
+        done.start,
+        uses,
+        before,
+        waiting,
+    )?;
+    write_late_entry(out, done)
 }
 
 // What is known of an entry that is done, and what was spent on it.
@@ -323,30 +363,54 @@ fn write_spent<K: Sink>(
     p: &Prepared,
     known: &Known,
     uses: &[Use],
+    before: &[Use],
+    waiting: &mut Waiting,
 ) -> Result<(), Failed>
-    ensures { WritesLines (K.output out.old) (K.output out.new)
+    requires uses { AreWordsInTime uses.now }
+    requires before { AreWordsInTime before.now }
+    requires within { AreWaitsWithin done.now.before waiting.old.totals }
+    ensures lines { WritesLines (K.output out.old) (K.output out.new)
         ((missed_lines done.now.missed
         ++ facts_lines done.now.n done.now.end p.now known.now uses.now)
-        ++ (charge_lines (charges_behind done.now.before
-        (parts_of_row done.now.start done.now.row.ticks))
-        ++ level_lines done.now.row.level_wait)) result }
+        ++ (charged_lines uses.now before.now (charges_behind done.now.before
+        (parts_of_row done.now.start done.now.row.ticks)) ++ late_entry_lines done.now)) result }
+    ensures within { IsOk result → AreWaitsWithin
+        (done.now.before + all_ticks (charges_behind done.now.before
+        (parts_of_row done.now.start done.now.row.ticks))) waiting.new.totals }
+    ensures sums { IsOk result → (r : StageOf) (s : StallOf) → is_parted r ≡ true →
+        waited_at r s waiting.new.totals ≡ waited_at r s waiting.old.totals
+        + row_stalled r s uses.now before.now (charges_behind done.now.before
+        (parts_of_row done.now.start done.now.row.ticks)) }
 {
     write_known(out, done, p, known, uses)?;
-    write_waits(out, &done.row, done.before, done.start)
+    write_waits(out, done, uses, before, waiting)
 }
 
 /// Writes the lines of an entry that is done: `p` is how it is prepared, `known` what else is known
-/// of it, and `uses` are the words that it uses.
+/// of it, `uses` are the words that it uses, and `before` those that the entry before it in its
+/// segment uses, none for the first one. Its waits are added to the sums.
 pub fn write_done<K: Sink>(
     out: &mut K,
     done: &EntryDone,
     p: &Prepared,
     known: &Known,
     uses: &[Use],
+    before: &[Use],
+    waiting: &mut Waiting,
 ) -> Result<(), Failed>
-    ensures { WritesLines (K.output out.old) (K.output out.new)
-        (done_entry_lines done.now p.now known.now uses.now) result }
+    requires uses { AreWordsInTime uses.now }
+    requires before { AreWordsInTime before.now }
+    requires within { AreWaitsWithin done.now.before waiting.old.totals }
+    ensures lines { WritesLines (K.output out.old) (K.output out.new)
+        (done_entry_lines done.now p.now known.now uses.now before.now) result }
+    ensures within { IsOk result → AreWaitsWithin
+        (done.now.before + all_ticks (charges_behind done.now.before
+        (parts_of_row done.now.start done.now.row.ticks))) waiting.new.totals }
+    ensures sums { IsOk result → (r : StageOf) (s : StallOf) → is_parted r ≡ true →
+        waited_at r s waiting.new.totals ≡ waited_at r s waiting.old.totals
+        + row_stalled r s uses.now before.now (charges_behind done.now.before
+        (parts_of_row done.now.start done.now.row.ticks)) }
 {
     write_row(out, done.n, done.address, &done.row.ticks)?;
-    write_spent(out, done, p, known, uses)
+    write_spent(out, done, p, known, uses, before, waiting)
 }

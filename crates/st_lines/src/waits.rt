@@ -125,6 +125,7 @@ fn write_charge_with<K: Sink>(out: &mut K, charge: Charge, waits: &[Wait]) -> Re
 }
 
 /// The waits of a charge, and the sums of those so far.
+#[derive(Drop)]
 pub struct Waiting {
     /// What is filled with the waits of one charge after another.
     pub waits: Waits,

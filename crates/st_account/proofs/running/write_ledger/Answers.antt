@@ -1,6 +1,6 @@
 use Rattle.std.proofs.Common.{refl, sym, ◌∙◌}
 use Rattle.st_account.specs.Settling.{at_hand}
-use Rattle.st_account.proofs.LedgerLemmas.{machine-fails, run-fails, all-written}
+use Rattle.st_account.proofs.LedgerLemmas.{machine-fails, run-fails, sums-fail, all-written}
 use Rattle.st_account.proofs.running.write_ledger.Goals as goal
 
 pub returns-in_err-write_machine : goal.returns-in_err-write_machine
@@ -15,9 +15,19 @@ returns-in_err-write_run g c =
     (at_hand c.args.ready.state c.args.controls.now.signals c.args.ready.cards) _ _ _ (c.list.ensures ∙ sym c.requires.delays)
     _ _ _ c.from_residual-in_err-write_run.result c.from_residual-in_err-write_run.ensures.0 c.in_ok-write_machine.ensures c.in_err-write_run.ensures.lines
 
+pub returns-in_err-write_sums : goal.returns-in_err-write_sums
+returns-in_err-write_sums g c =
+    sums-fail c.args.ready.timing.delays c.args.ready.timing.levels c.args.controls.now.budget
+    (at_hand c.args.ready.state c.args.controls.now.signals c.args.ready.cards) _ _ _ (c.list.ensures ∙ sym c.requires.delays)
+    _ _ _ _ c.in_ok-write_machine.ensures c.in_ok-write_run.ensures.lines c.write_run.new.sums
+    (λ stage. c.in_ok-write_run.ensures.sums stage refl)
+    _ c.from_residual-in_err-write_sums.result c.from_residual-in_err-write_sums.ensures.0 c.in_err-write_sums.ensures
+
 pub returns : goal.returns
 returns g c =
     all-written c.args.ready.timing.delays c.args.ready.timing.levels c.args.controls.now.budget
     (at_hand c.args.ready.state c.args.controls.now.signals c.args.ready.cards) _ _ _ (c.list.ensures ∙ sym c.requires.delays)
-    _ _ _ _ c.write_sums.result c.write_run.new.sums c.in_ok-write_machine.ensures c.in_ok-write_run.ensures.lines
-    (λ stage. c.in_ok-write_run.ensures.sums stage refl) c.write_sums.ensures
+    _ _ _ _ c.in_ok-write_machine.ensures c.in_ok-write_run.ensures.lines c.write_run.new.sums
+    (λ stage. c.in_ok-write_run.ensures.sums stage refl)
+    _ _ c.write_wait_sums.result c.write_run.new.waits c.in_ok-write_sums.ensures
+    (λ r s parted. c.in_ok-write_run.ensures.waits r s parted refl) c.write_wait_sums.ensures

@@ -9,6 +9,9 @@ use Rattle.st_plain.specs.Looking.{side_at}
 use Rattle.st_plain.specs.Uses.{uses_of_entry}
 use Rattle.st_plain.specs.declared.known.Known.{Known}
 use Rattle.st_segment.proofs.EntryRanges.{entry-ranges}
+use Rattle.st_plain.specs.declared.uses.Use.{Use}
+use Rattle.st_reasons.specs.Reasons.{because}
+use Rattle.st_rows.specs.declared.front.Front.{Front}
 use Rattle.st_account.proofs.LastLemmas.{past-kept}
 use Rattle.st_account.proofs.stepping.count_on.Goals as goal
 
@@ -38,3 +41,13 @@ returns-clause-uses c =
     ∙ ap (λ (e : Entry). uses_of_entry ds n f e c.plan_entry-planned.result.known.side c.plan_entry-planned.new.p.reads) c.plan_entry-planned.ensures.entry
     ∙ ap (λ (k : Known). uses_of_entry ds n f x k.side c.plan_entry-planned.new.p.reads) c.plan_entry-planned.ensures.known
     ∙ ap (λ (p : Prepared). uses_of_entry ds n f x (side_at c.args.taken c.args.state.now) p.reads) c.plan_entry-planned.ensures.plan
+
+pub returns-clause-because : goal.returns-clause-because
+returns-clause-because c =
+    let r = c.next_row-row.result in
+    c.find_reason-last.ensures
+    ∙ ap (λ (f : Front). because f c.plan_entry-planned.result.entry r c.as_slice.result.now c.as_slice-2.result.now) c.front_of-front.ensures
+    ∙ ap (λ (e : Entry). because c.args.last.now.front e r c.as_slice.result.now c.as_slice-2.result.now) c.plan_entry-planned.ensures.entry
+    ∙ ap (λ (us : List Use). because c.args.last.now.front (entry c.args.taken c.args.state.now) r us c.as_slice-2.result.now) c.as_slice.ensures.value
+    ∙ ap (λ (us : List Use). because c.args.last.now.front (entry c.args.taken c.args.state.now) r c.next_row-row.new.uses.items us)
+    (c.as_slice-2.ensures.value ∙ ap (λ v. v.items) c.swap.ensures.y_after)

@@ -1,18 +1,26 @@
-use Rattle.std.proofs.Common.{◌∙◌, ap, subst}
+use Rattle.std.specs.Prelude.{All}
+use Rattle.std.proofs.Common.{sym, ◌∙◌, ap, subst}
 use Rattle.st_exec.specs.Ahead.{IsNotAmong}
 use Rattle.st_exec.specs.Completion.{guess}
 use Rattle.st_rows.proofs.Within.{AreDelays-list}
 use Rattle.st_segment.proofs.EntryRanges.{entry-ranges}
 use Rattle.st_account.specs.declared.last.Last.{Last}
-use Rattle.st_account.proofs.EntryLemmas.{entry-lines, entry-last, entry-sums, entry-within, entry-step, kept-some}
+use Rattle.st_account.proofs.EntryLemmas.{uses-is, entry-lines, entry-last, entry-sums, entry-within, entry-step, kept-some}
+use Rattle.st_segment.specs.Entries.{entry}
+use Rattle.st_reasons.specs.Reasons.{because}
+use Rattle.st_reasons.specs.Sums.{AreWaitsWithin}
+use Rattle.st_reasons.specs.Words.{IsReadInTime}
+use Rattle.st_reasons.proofs.Laws.{reads_of_an_entry_are_in_time}
+use Rattle.st_account.specs.Text.{lines_of_entry}
 use Rattle.st_account.proofs.LeftLemmas.{entry-left}
+use Rattle.st_account.proofs.StallLemmas.{kept-stalled-some, row-reach, row-stalled}
 use Rattle.st_account.proofs.account.Account.step.Goals as goal
 
 pub returns-clause-lines : goal.returns-clause-lines
 returns-clause-lines c p end some is =
     let rest = c.execute.ensures.rest in
     kept-some _ _ end some
-    ∙ entry-lines c.args.timing.now.delays c.args.timing.now.levels p end c.args.self.now.state c.args.self.now.last c.interrupt-taken.result _ _ _ _ _ _ _ _ _ is
+    ∙ entry-lines c.args.timing.now.delays c.args.timing.now.levels p end c.args.self.now.state c.args.self.now.last c.interrupt-taken.result _ _ _ _ _ _ _ _ _ _ _ is
     c.interrupt-taken.ensures.value
     (ap (λ (l : Last). l.done.address) rest ∙ c.count_on.ensures.address ∙ c.next_address-self.ensures.value)
     (ap (λ (l : Last). l.done.row.ticks) rest ∙ c.count_on.ensures.row)
@@ -24,6 +32,44 @@ returns-clause-lines c p end some is =
     (ap (λ (l : Last). l.done.before) rest ∙ c.count_on.ensures.before)
     (ap (λ (l : Last). l.done.start) rest ∙ c.count_on.ensures.start)
     (ap (λ (l : Last). l.uses.items) rest ∙ c.count_on.ensures.uses)
+    (ap (λ (l : Last). l.because) rest
+    ∙ c.count_on.ensures.because
+    ∙ ap (because c.args.self.now.last.front (entry c.interrupt-taken.result c.args.self.now.state) c.count_on.new.last.done.row c.count_on.new.last.uses.items)
+    (sym c.count_on.ensures.earlier)
+    ∙ ap (λ (l : Last). because c.args.self.now.last.front (entry c.interrupt-taken.result c.args.self.now.state) l.done.row l.uses.items l.before.items) (sym rest))
+    ∙ ap (λ us. lines_of_entry c.args.timing.now.delays c.args.timing.now.levels end us p) (ap (λ (l : Last). l.before.items) rest ∙ c.count_on.ensures.earlier)
+
+pub returns-clause-uses : goal.returns-clause-uses
+returns-clause-uses c p is =
+    uses-is c.args.timing.now.delays c.args.timing.now.levels p c.args.self.now.state c.args.self.now.last c.interrupt-taken.result _ is
+    c.interrupt-taken.ensures.value (ap (λ (l : Last). l.uses.items) c.execute.ensures.rest ∙ c.count_on.ensures.uses)
+
+pub returns-clause-waiting : goal.returns-clause-waiting
+returns-clause-waiting c =
+    let rest = c.execute.ensures.rest in
+    record {
+      uses = subst (All IsReadInTime) (sym (ap (λ (l : Last). l.uses.items) rest ∙ c.count_on.ensures.uses)) (reads_of_an_entry_are_in_time _ _ _ _ _ _);
+      before = subst (All IsReadInTime) (sym (ap (λ (l : Last). l.before.items) rest ∙ c.count_on.ensures.earlier)) c.requires.read;
+      reach = row-reach c.args.timing.now.delays c.args.timing.now.levels c.args.self.now.state c.args.self.now.last _ _ _ c.interrupt-taken.result _
+          c.requires.order
+          (ap (λ (l : Last). l.done.before) rest ∙ c.count_on.ensures.before)
+          (ap (λ (l : Last). l.done.start) rest ∙ c.count_on.ensures.start)
+          (ap (λ (l : Last). l.done.row.ticks) rest ∙ c.count_on.ensures.row)
+          (ap (λ (l : Last). l.tick) rest ∙ c.count_on.ensures.tick ∙ ap (λ (l : Last). l.done.row.ticks.c) (sym rest));
+      within = subst (λ t. AreWaitsWithin t c.args.self.now.waiting.totals) (sym (ap (λ (l : Last). l.done.before) rest ∙ c.count_on.ensures.before)) c.requires.waits;
+    }
+
+pub returns-clause-stalled : goal.returns-clause-stalled
+returns-clause-stalled c p r s some is =
+    let rest = c.execute.ensures.rest in
+    kept-stalled-some r s _ _ some
+    ∙ row-stalled c.args.timing.now.delays c.args.timing.now.levels p c.args.self.now.state c.args.self.now.last c.interrupt-taken.result _ _ _ _ _ _ r s is
+    c.interrupt-taken.ensures.value
+    (ap (λ (l : Last). l.done.row.ticks) rest ∙ c.count_on.ensures.row)
+    (ap (λ (l : Last). l.done.before) rest ∙ c.count_on.ensures.before)
+    (ap (λ (l : Last). l.done.start) rest ∙ c.count_on.ensures.start)
+    (returns-clause-uses c p is)
+    (ap (λ (l : Last). l.before.items) rest ∙ c.count_on.ensures.earlier)
 
 pub returns-clause-state : goal.returns-clause-state
 returns-clause-state c = entry-step c.args.self.now.state _ c.interrupt-taken.result c.interrupt-taken.ensures.value c.execute.ensures.state

@@ -1,0 +1,125 @@
+-- The waits of the last entry, and their sums.
+use Rattle.std.specs.Prelude.{if◌then◌else◌, nat_eq, All}
+use Rattle.std.proofs.Common.{◌≡◌, ◌≢◌, ℕ, zero, suc, ◌+◌, ◌≤◌, false, Bool, List, [], Option, refl, sym, ◌∙◌, ap, subst, arith}
+use Rattle.std.proofs.lemmas.Bool.{cond_both}
+use Rattle.std.proofs.lemmas.Bool.Decides.{nat_tests}
+use Rattle.std.proofs.lemmas.List.Elements.{All-nil}
+use Rattle.st_state.specs.Machine.{Machine}
+use Rattle.st_exec.specs.Step.{interrupt}
+use Rattle.st_rows.specs.Rows.{row_of_entry}
+use Rattle.st_rows.specs.declared.front.EntryTicks.{EntryTicks}
+use Rattle.st_segment.specs.Entries.{entry}
+use Rattle.st_run.specs.Moments.{Standing, next_row}
+use Rattle.st_ledger.specs.Charges.{parts_of_row, charges_behind, all_ticks}
+use Rattle.st_ledger.specs.Ledger.{charges_at}
+use Rattle.st_ledger.specs.declared.charges.Stage.{Stage}
+use Rattle.st_ledger.specs.declared.charges.Stage.TheVariants.{Restart, Instruction, Address, Index, Preparing, Operand, Executing}
+use Rattle.st_ledger.proofs.Rows.{row-sum}
+use Rattle.st_plain.specs.declared.uses.Use.{Use}
+use Rattle.st_reasons.specs.Sums.{AreSharesWithin, AreWaitsWithin, share_at, waited_at, row_stalled}
+use Rattle.st_reasons.specs.Words.{IsReadInTime}
+use Rattle.st_reasons.specs.declared.sums.Shares.{Shares}
+use Rattle.st_reasons.specs.declared.sums.WaitTotals.{WaitTotals}
+use Rattle.st_reasons.specs.declared.waits.Stall.{Stall}
+use Rattle.st_reasons.specs.declared.waits.Stall.TheVariants.{Turn, Bank, Storage}
+use Rattle.st_reasons.proofs.Added.{shares-later}
+use Rattle.st_account.specs.declared.last.Last.{Last}
+use Rattle.st_account.specs.Standing.{kept_stalled, IsWaiting, IsStanding}
+use Rattle.st_account.specs.Text.{uses_at}
+use Rattle.st_account.proofs.EntryLemmas.{row-is}
+
+-- ---- sums
+
+pub waits-later : (t u : ℕ) (sums : WaitTotals) → t ≤ u → AreWaitsWithin t sums → AreWaitsWithin u sums
+waits-later t u sums late is = record {
+  instruction = shares-later t u sums.instruction late is.instruction;
+  index = shares-later t u sums.index late is.index;
+  operand = shares-later t u sums.operand late is.operand;
+}
+
+share-none : (a : Shares) (s : Stall) → AreSharesWithin 0 a → share_at s a ≡ 0
+share-none a Turn is = omega (arith, is.turn)
+share-none a Bank is = omega (arith, is.bank)
+share-none a Storage is = omega (arith, is.storage)
+
+pub waited-none : (sums : WaitTotals) (r : Stage) (s : Stall) → AreWaitsWithin 0 sums → waited_at r s sums ≡ 0
+waited-none sums Restart s is = refl
+waited-none sums Instruction s is = share-none sums.instruction s is.instruction
+waited-none sums Address s is = refl
+waited-none sums Index s is = share-none sums.index s is.index
+waited-none sums Preparing s is = refl
+waited-none sums Operand s is = share-none sums.operand s is.operand
+waited-none sums Executing s is = refl
+
+-- ---- the waits of the last entry
+
+pub kept-stalled-none : (r : Stage) (s : Stall) (k : ℕ) (l : Last) → k ≡ 0 → kept_stalled r s k l ≡ 0
+unfolding kept_stalled
+kept-stalled-none r s k l none = rw none refl
+
+pub kept-stalled-some : (r : Stage) (s : Stall) (k : ℕ) (l : Last) → k ≢ 0
+    → kept_stalled r s k l ≡ row_stalled r s l.uses.items l.before.items (charges_behind l.done.before (parts_of_row l.done.start l.done.row.ticks))
+unfolding kept_stalled
+kept-stalled-some r s zero l some = absurd (some refl)
+kept-stalled-some r s (suc k) l some = rw (not-zero k) refl
+  where
+    not-zero : (k : ℕ) → nat_eq (suc k) 0 ≡ false
+    not-zero k = grind (arith, nat_tests)
+
+-- before the first entry
+pub waiting-none : (l : Last) (sums : WaitTotals) → AreWaitsWithin 0 sums → l.tick ≡ 0 → l.uses.items ≡ [] → l.before.items ≡ [] → l.done.before ≡ 0
+    → l.done.start ≡ 0 → l.done.row.ticks ≡ record { a = 0; p = 0; r = 0; c = 0 } → IsWaiting l sums
+unfolding charges_behind all_ticks
+waiting-none l sums none tick unused before done start ticks = record {
+  uses = rw unused (All-nil IsReadInTime);
+  before = rw before (All-nil IsReadInTime);
+  reach = rw (done, start, ticks, tick) refl;
+  within = waits-later 0 l.done.before sums (omega arith) none;
+}
+
+-- the front of the next entry does not count
+pub waiting-same : (l k : Last) (t u : WaitTotals) → k ≡ record l { front = k.front; past = k.past } → u ≡ t → IsWaiting l t → IsWaiting k u
+waiting-same l k t u same is h =
+    subst (λ x. IsWaiting x u) (sym same) (record {
+      uses = h.uses;
+      before = h.before;
+      reach = h.reach;
+      within = subst (AreWaitsWithin l.done.before) (sym is) h.within;
+    })
+
+pub kept-stalled-same : (r : Stage) (s : Stall) (k : ℕ) (l j : Last) → j ≡ record l { front = j.front; past = j.past } → kept_stalled r s k j ≡ kept_stalled r s k l
+unfolding kept_stalled
+kept-stalled-same r s k l j same = ap (kept_stalled r s k) same
+
+pub reach-within : (l : Last) (sums new : WaitTotals) → IsWaiting l sums → AreWaitsWithin l.done.before new → AreWaitsWithin l.tick new
+reach-within l sums new is within = waits-later l.done.before l.tick new (omega (arith, is.reach)) within
+
+-- ---- the next entry
+
+pub row-reach : (ds : List ℕ) (n : ℕ) (s : Machine) (l : Last) (tick before start : ℕ) (taken : Option ℕ) (r : EntryTicks) → l.tick ≤ l.front.c → before ≡ l.tick
+    → start ≡ l.front.c → r ≡ row_of_entry ds n l.front (entry taken s) → tick ≡ r.c → before + all_ticks (charges_behind before (parts_of_row start r)) ≡ tick
+row-reach ds n s l tick before start taken r early since opened is at =
+    ap (λ t. t + all_ticks (charges_behind t (parts_of_row start r))) since
+    ∙ ap (λ t. l.tick + all_ticks (charges_behind l.tick (parts_of_row t r))) opened
+    ∙ ap (λ x. l.tick + all_ticks (charges_behind l.tick (parts_of_row l.front.c x))) is
+    ∙ row-sum ds n l.tick l.front (entry taken s) early
+    ∙ ap (λ (x : EntryTicks). x.c) (sym is)
+    ∙ sym at
+
+pub row-stalled : (ds : List ℕ) (n : ℕ) (p : Standing) (s : Machine) (l : Last) (taken : Option ℕ) (r : EntryTicks) (before start : ℕ) (us bs old : List Use) (stage : Stage)
+    (why : Stall) → IsStanding p s l → taken ≡ interrupt s → r ≡ row_of_entry ds n l.front (entry taken s) → before ≡ l.tick → start ≡ l.front.c
+    → us ≡ uses_at ds n p → bs ≡ old
+    → row_stalled stage why us bs (charges_behind before (parts_of_row start r)) ≡ row_stalled stage why (uses_at ds n p) old (charges_at ds n p)
+unfolding charges_at
+row-stalled ds n p s l taken r before start us bs old stage why is is_taken is_row since opened used earlier =
+    ap (λ xs. row_stalled stage why xs bs (charges_behind before (parts_of_row start r))) used
+    ∙ ap (λ xs. row_stalled stage why (uses_at ds n p) xs (charges_behind before (parts_of_row start r))) earlier
+    ∙ ap (λ x. row_stalled stage why (uses_at ds n p) old (charges_behind before (parts_of_row start x))) (row-is ds n p s l taken r is is_taken is_row)
+    ∙ ap (λ t. row_stalled stage why (uses_at ds n p) old (charges_behind t (parts_of_row start (next_row ds n p)))) (since ∙ sym is.tick)
+    ∙ ap (λ t. row_stalled stage why (uses_at ds n p) old (charges_behind p.tick (parts_of_row t (next_row ds n p)))) (opened ∙ ap (λ f. f.c) (sym is.front))
+
+-- the words of the last entry, of which none count where a segment ends, are in time
+pub words-read : (ends : Bool) (old us new : List Use) → us ≡ old → new ≡ (if ends then [] else us) → All IsReadInTime old → All IsReadInTime new
+words-read ends old us new same is h =
+    subst (All IsReadInTime) (sym (is ∙ ap (λ vs. if ends then [] else vs) same))
+    (cond_both ends [] old (All IsReadInTime) (λ ended. All-nil IsReadInTime) (λ going. h))
