@@ -166,8 +166,8 @@ impl Account {
         ensures state { self.new.state ≡ self.old.state }
         ensures found { looks ≡ true → self.new.behind.found.items
             ≡ map (seen_ahead timing.now.delays timing.now.levels) (prepared_before
-            self.old.last.tick (ahead timing.now.delays timing.now.levels timing.now.levels None
-            (guessing self.old.last.ic self.old.state) self.old.last.front)) }
+            self.old.last.tick (ahead timing.now.delays timing.now.levels timing.now.levels None (guessing self.old.last.ic self.old.state)
+            self.old.last.front)) }
         ensures late { looks ≡ true → self.new.behind.late ∷ []
             ≡ map (seen_ahead timing.now.delays timing.now.levels) (first_late
             self.old.last.tick (ahead timing.now.delays timing.now.levels
