@@ -1,5 +1,5 @@
 -- The bytes of each line of the ledger, its line end included.
-use Rattle.std.specs.Prelude.{ℕ, List, [], ◌∷◌, ◌++◌, codes, decimal}
+use Rattle.std.specs.Prelude.{ℕ, List, ◌++◌, codes, decimal}
 use Rattle.st_text.specs.Bytes.{lf}
 use Rattle.st_text.specs.Numerals.{half_address}
 use Rattle.st_rows.specs.declared.front.EntryTicks.{EntryTicks}
@@ -33,8 +33,3 @@ charge_line x =
 -- the ticks of a stage in the whole run
 abbrev pub sum_line : Stage → ℕ → List ℕ
 sum_line stage ticks = codes "SUM " ++ stage_name stage ++ codes " " ++ decimal ticks ++ lf
-
--- the lines of charges
-unfoldable pub charge_lines : List Charge → List (List ℕ)
-charge_lines [] = []
-charge_lines (x ∷ xs) = charge_line x ∷ charge_lines xs

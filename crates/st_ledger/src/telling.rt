@@ -1,11 +1,11 @@
-//! The lines of a row.
+//! The line of a row, and its stages.
 ghost use Rattle.std.specs.Prelude.{◌≡◌, ◌∷◌, ◌<◌, [], length, max, MatchOption, IfSome};
 ghost use Rattle.st_io.specs.Lines.{WritesLines};
-ghost use Rattle.st_ledger.specs.Charges.{parts_of_row as parts_of, charges_behind, part_charges};
-ghost use Rattle.st_ledger.specs.Lines.{row_stage_line, charge_line, charge_lines};
+ghost use Rattle.st_ledger.specs.Charges.{parts_of_row as parts_of};
+ghost use Rattle.st_ledger.specs.Lines.{row_stage_line};
 
-use crate::charges::{Charge, Part, Stage};
-use crate::lines::{fill_charge, fill_row};
+use crate::charges::{Part, Stage};
+use crate::lines::fill_row;
 use st_io::{Failed, Sink, write_line};
 use st_report::LineFromEnd;
 use st_rows::EntryTicks;
@@ -33,27 +33,6 @@ pub fn parts(start: u64, row: &EntryTicks) -> [Part; 7]
     ]
 }
 
-// Writes the charge of a stage behind the tick `from`, where it ends later.
-#[tactic(auto, using(st_io::proofs::Progress::wrote_nothing))]
-fn write_part<K: Sink>(out: &mut K, from: u64, part: Part) -> Result<(), Failed>
-    ensures { WritesLines (K.output out.old) (K.output out.new)
-        (charge_lines (part_charges from part)) result }
-{
-    if part.end <= from {
-        return Ok(());
-    }
-    let mut line = LineFromEnd::new();
-    fill_charge(
-        &mut line,
-        Charge {
-            from,
-            to: part.end,
-            stage: part.stage,
-        },
-    );
-    write_line(out, line.as_bytes())
-}
-
 /// The first of some stages, and those behind it.
 pub fn first_part(parts: &[Part]) -> Option<(Part, &[Part])>
     ensures parts { MatchOption result (parts.now ≡ []) (λ r. parts.now ≡ r.0 ∷ r.1.now) }
@@ -72,18 +51,6 @@ pub fn later(a: u64, b: u64) -> u64
     a.max(b)
 }
 
-// Writes the charges of stages behind the tick `from`.
-fn write_parts<K: Sink>(out: &mut K, from: u64, parts: &[Part]) -> Result<(), Failed>
-    ensures { WritesLines (K.output out.old) (K.output out.new)
-        (charge_lines (charges_behind from parts.now)) result }
-{
-    let Some((part, more)) = first_part(parts) else {
-        return Ok(());
-    };
-    write_part(out, from, part)?;
-    write_parts(out, later(from, part.end), more)
-}
-
 /// Writes the line of the n-th entry that is done, whose half-word address and row these are.
 pub fn write_row<K: Sink>(out: &mut K, n: u32, address: u32, row: &EntryTicks) -> Result<(), Failed>
     ensures { WritesLines (K.output out.old) (K.output out.new)
@@ -92,18 +59,4 @@ pub fn write_row<K: Sink>(out: &mut K, n: u32, address: u32, row: &EntryTicks) -
     let mut line = LineFromEnd::new();
     fill_row(&mut line, n, address, row);
     write_line(out, line.as_bytes())
-}
-
-/// Writes the charges of an entry that is done, whose row this is: the last one before it was done
-/// at the tick `before`, and its segment starts at `start`, if it is the first one of that.
-pub fn write_charges<K: Sink>(
-    out: &mut K,
-    row: &EntryTicks,
-    before: u64,
-    start: u64,
-) -> Result<(), Failed>
-    ensures { WritesLines (K.output out.old) (K.output out.new)
-        (charge_lines (charges_behind before (parts_of start row.now))) result }
-{
-    write_parts(out, before, &parts(start, row))
 }
