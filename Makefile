@@ -55,7 +55,7 @@ proved:
 # Everything lies in lib/stretch as in the repository, so a script finds its programs and pages there; bin/ has links to it. A
 # door's script starts the program that lies beside it and not .ci/start, which would look at the sources.
 install: proved
-	mkdir -p $(to)/bin $(home)/programs $(home)/tools/explaining $(home)/model $(home)/page $(doc) $(man) $(bash) $(zsh) $(fish)
+	mkdir -p $(to)/bin $(home)/programs $(home)/tools/explaining $(home)/page $(doc) $(man) $(bash) $(zsh) $(fish)
 	@set -e; for name in $(PROGRAMS); do \
 	    [ -d crates/$$name ] || continue; \
 	    cp $(OUT)/$$name/out/$$name $(home)/programs/$$name; \
@@ -77,7 +77,6 @@ install: proved
 	done
 	cp explain VERSION $(home)
 	cp tools/explaining/*.py $(home)/tools/explaining
-	cp model/*.py model/ledger $(home)/model
 	cp page/*.html page/*.css page/*.js $(home)/page
 	ln -sf ../lib/stretch/explain $(to)/bin/stretch-explain
 	cp -R docs/*.md docs/lessons docs/pictures README.md CHANGELOG.md examples $(doc)

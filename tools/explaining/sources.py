@@ -3,17 +3,12 @@ import os
 import subprocess
 import tempfile
 
-from .lines import Off, place
+from .lines import Off
 
-# What the program `ledger` of crates/ writes: None as long as there is none, the kinds of its lines, or ALL of them.
-# All other lines are those of model/ledger.
-ALL = "all"
-WRITES = set("LEVELS DELAYS PRT IC EN WORD SEGMENT ROW MISSED ALONE SUPPRESSED CODE USE WRITES INDEX CHARGE WAIT LEVEL BECAUSE DROP BEGUN INT END DONE TICKS SUM".split())
 HOME = os.path.join(os.path.dirname(os.path.realpath(__file__)), "..", "..")
 MOST_LEVELS = 8
 OWN = 4             # the levels of the machine of `run`
 NO_PROGRAM = 70
-MOST_CARDS = 20_000
 JOB_LIMIT = 2_000_000       # bytes that a job may have
 
 
@@ -26,33 +21,22 @@ class Stopped(Exception):
 
 
 class Programs:
-    """The programs that are asked. `stretch` answers as ./stretch does; LEDGER names one that writes all lines."""
+    """The programs that are asked. `stretch` answers as ./stretch does; LEDGER names one that answers as ./ledger does."""
 
     def __init__(self, stretch):
         self.stretch = stretch
         self.named = os.environ.get("LEDGER") or None
-        self.writes = ALL if self.named else WRITES
 
     def lines(self, levels, job):
         """The lines of the ledger of a job on a machine of so many levels."""
-        words = [str(levels)]
-        if self.writes == ALL:
-            return lines_of(self.start_ledger(words, job))
-        lines = lines_of(started([os.path.join(HOME, "model", "ledger")] + words, job))
-        if self.writes is None:
-            return lines
-        return compared(lines, told(self.start_ledger(words, job)), self.writes)
-
-    def ticks(self, levels, job):
-        """The ticks of a run, by its ledger."""
-        lines = self.lines(levels, job) if self.writes is None else lines_of(self.start_ledger([str(levels)], job))
-        return [int(line[6:]) for line in lines if line.startswith("TICKS ")][-1]
-
-    def start_ledger(self, words, job):
         command = [self.named or os.path.join(HOME, "programs", "ledger")]      # where it is installed
         if not os.access(command[0], os.X_OK):
             command = ["sh", os.path.join(HOME, ".ci", "start"), "ledger"]
-        return started(command + words, job)
+        return lines_of(started([*command, str(levels)], job))
+
+    def ticks(self, levels, job):
+        """The ticks of a run, by its ledger."""
+        return [int(line[6:]) for line in self.lines(levels, job) if line.startswith("TICKS ")][-1]
 
     def start(self, words, job):
         if self.stretch is None:
@@ -93,22 +77,6 @@ def told(process, first=b""):
         raise Stopped(status)
 
 
-def compared(lines, others, kinds):
-    """Lines; those of some kinds have to be the lines of another program, one after another."""
-    for line in lines:
-        if kind_of(line) in kinds:
-            other = next(others, "nothing")
-            if line != other:
-                raise Off("model/ledger says '%s' where the program says '%s'" % (line, other))
-        yield line
-    for other in others:
-        raise Off("model/ledger does not say '%s'" % other)
-
-
-def kind_of(line):
-    return line.split(" ")[0]
-
-
 def output(process):
     with process.stdout:
         written = process.stdout.read()
@@ -140,44 +108,9 @@ class Deck:
         """The job without control cards of these names."""
         return text_of(line for line in self.lines if not (line[:1] == "/" and line[1:72].split(" ")[0] in names))
 
-    def charted(self):
-        """The job with wishes for rows and the last tick alone, or None where there is no room for these two cards."""
-        program = [line for line in self.lines[:self.end] if line[:72].strip(" ") and line[:1] != "*"]
-        rest = [line for line in self.lines[self.end:] if not (line[:1] == "/" and line[1:72].split(" ")[0] in WISHES)]
-        lines = [*program, *rest, "/CHART", "/TIME"]
-        job = text_of(lines)
-        return job if len(lines) <= MOST_CARDS and len(job) <= JOB_LIMIT else None
-
 
 def text_of(lines):
     return "".join(line + "\n" for line in lines).encode("latin-1")
-
-
-WISHES = ("TRACE", "CHART", "TIME", "SNAP", "DUMP", "BACK", "LIST")
-
-
-class Report:
-    """The rows of the report of ./stretch, one after another, to be compared with those of a ledger."""
-
-    def __init__(self, programs, job):
-        self.process = programs.start(["run"], job)
-        self.lines = (line for line in told(self.process) if kind_of(line) in ("ROW", "DROP", "TICKS", "CARD"))
-
-    def compare(self, wanted):
-        found = next(self.lines, "nothing")
-        if found != wanted:
-            raise Off("model/ledger says '%s' where ./stretch says '%s'" % (wanted, found))
-
-    def compare_row(self, row):
-        self.compare("ROW %d %s P %d R %d C %d" % (row.row, place(row.address), row.p, row.r, row.c))
-        if row.ends:
-            for entry in reversed(row.segment.dropped):
-                self.compare("DROP %s P %d" % (place(entry.address), entry.p))
-
-    def close(self, ticks):
-        self.compare("TICKS %d" % ticks)
-        for _ in self.lines:
-            pass
 
 
 # ---- other machines
