@@ -11,3 +11,5 @@ mod devices;
 mod overlapped;
 #[cfg(test)]
 mod reads;
+#[cfg(test)]
+mod spelled;

@@ -174,6 +174,14 @@ fn holds_front(alloc: Global, room: usize) -> Result<bool, Fail> {
     Ok(answer.status == Status::WriteFault && answer.done == 2 && out.bytes() == front)
 }
 
+// Behind six instructions, 23 ticks on a machine of eight levels.
+#[test]
+fn a_sweep_answers_with_what_it_did(rt: HostRuntime) -> Result<(), Fail> {
+    let job = CALM.as_bytes().to_vec(rt.alloc())?;
+    let (answer, _) = answer_failing(rt.alloc(), "sweep", job, (0, 0, 4000))?;
+    check(answer.done == 6 && answer.ticks == 23, CALM)
+}
+
 #[test]
 fn a_sink_that_is_full_holds_a_front_of_the_report(rt: HostRuntime) -> Result<(), Fail> {
     for room in 0..LOADED.len() {
