@@ -154,3 +154,21 @@ LEVELS 7 TICKS 23
 LEVELS 8 TICKS 23
 CALM 1
 ";
+
+/// A division that slow storage keeps waiting, and eleven index changes that run ahead of it.
+pub const SLOW_DIVISION: &str = "         /(BU,64),100.0
+         V+I,$X1,1.0
+         V+I,$X1,1.0
+         V+I,$X1,1.0
+         V+I,$X1,1.0
+         V+I,$X1,1.0
+         V+I,$X1,1.0
+         V+I,$X1,1.0
+         V+I,$X1,1.0
+         V+I,$X1,1.0
+         V+I,$X1,1.0
+         V+I,$X1,1.0
+         BEW
+         END,32.0
+/DELAYS 9
+";
