@@ -10,6 +10,6 @@ mod devices;
 #[cfg(test)]
 mod overlapped;
 #[cfg(test)]
-mod reads;
+mod plain;
 #[cfg(test)]
-mod spelled;
+mod reads;
