@@ -4,17 +4,20 @@ ghost use Rattle.std.specs.String.{string_bytes};
 ghost use Rattle.st_bits.specs.Storage.{words_of_storage};
 ghost use Rattle.st_bits.specs.declared.register.TheConstants.{FIRST_STORAGE_WORD};
 ghost use Rattle.st_asm.specs.Assembly.{assembly_parts, assembly};
-ghost use Rattle.st_asm.specs.Sound.{IsAssemblySound};
+ghost use Rattle.st_asm.specs.Sound.{IsAssemblySound, IsRow};
 ghost use Rattle.st_card.specs.Cards.{cards_of};
 ghost use Rattle.st_card.specs.Faults.{name_of};
 ghost use Rattle.st_card.specs.Limits.{IsWithinLimits};
 ghost use Rattle.st_exch.specs.Reader.{reader_cards};
 ghost use Rattle.st_io.specs.Lines.{WritesLines};
+ghost use Rattle.st_lines.specs.Origins.{origin_at};
 ghost use Rattle.st_report.specs.Line.{fault_line};
 ghost use Rattle.st_run.specs.Reached.{IsCard};
 ghost use Rattle.st_state.specs.Machine.{opening_state};
+ghost use Rattle.st_account.specs.Origins.{origin_of};
 ghost use Rattle.st_account.specs.Answers.{levels_by, levels_asked, lines_by, status_by, ledger_lines_of, status_of, Writes, Did, IsAnswer};
 
+use crate::origins::first_cards;
 use crate::running::{Ready, write_ledger};
 use crate::status::Status;
 use crate::timing::Timing;
@@ -24,7 +27,7 @@ use st_bits::NoMemory;
 use st_card::{Card, Controls, Fault, split};
 use st_exch::Hopper;
 use st_io::{Failed, ReadError, Sink, Source, read_all};
-use st_lines::put;
+use st_lines::{Origins, put};
 use st_report::line_fault;
 use st_state::State;
 use std::alloc::Global;
@@ -112,6 +115,18 @@ fn words(alloc: Global, image: &[u64]) -> Result<Vec<u64>, NoMemory>
     }
 }
 
+// Where the half-words of a program come from.
+fn origins(alloc: Global, program: &Assembled) -> Result<Origins, NoMemory>
+    requires rows { All IsRow program.now.listing.items }
+    requires numbers { All (λ row. 1 ≤ row.card) program.now.listing.items }
+    ensures { IfOk result (λ o. origin_at o ≡ origin_of (assembly_parts program.now)) }
+{
+    Ok(Origins {
+        cards: first_cards(alloc, program.listing.as_slice())?,
+        image: words(alloc, program.image.as_slice())?,
+    })
+}
+
 // Takes all memory of a run on a machine with so many levels.
 fn prepare(
     alloc: Global,
@@ -126,6 +141,8 @@ fn prepare(
     ensures state { IfOk result (λ r. r.state ≡ opening_state program.now.image.items
         program.now.start) }
     ensures words { IfOk result (λ r. length r.words.items ≡ words_of_storage) }
+    ensures origins { IfOk result (λ r. origin_at r.origins
+        ≡ origin_of (assembly_parts program.now)) }
     ensures reader { IfOk result (λ r. r.cards ≡ reader_cards job.now) }
     ensures cards { IfOk result (λ r. All IsCard r.cards) }
     ensures delays { IfOk result (λ r. r.timing.delays ≡ program.now.controls.delays) }
@@ -135,6 +152,7 @@ fn prepare(
     Ok(Ready {
         state: State::new(alloc, image, program.start)?,
         words: words(alloc, image)?,
+        origins: origins(alloc, program)?,
         cards: reader(alloc, job, cards)?,
         timing: Timing {
             delays: delays(alloc, &program.controls)?,
