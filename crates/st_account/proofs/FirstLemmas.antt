@@ -13,7 +13,7 @@ use Rattle.st_asm.specs.declared.valuing.Listed.{Listed}
 use Rattle.st_state.specs.Machine.{Machine}
 use Rattle.st_lines.specs.Origins.{card_by, is_kept, origin_by, origin_at}
 use Rattle.st_lines.specs.declared.origins.Origins.{Origins}
-use Rattle.st_account.specs.Origins.{beginning, first_card, origin_of}
+use Rattle.st_account.specs.Origins.{half_words, beginning, first_card, origin_of}
 
 -- ---- one row
 
@@ -34,7 +34,7 @@ unfolding first_card
 first-other row rows b h is other = rw (is, other-half b h other) refl
 
 -- one that lays nothing
-pub first-none : (row : Listed) (rows : List Listed) (h : ℕ) → beginning row ≡ None → first_card (row ∷ rows) h ≡ first_card rows h
+first-none : (row : Listed) (rows : List Listed) (h : ℕ) → beginning row ≡ None → first_card (row ∷ rows) h ≡ first_card rows h
 unfolding first_card
 first-none row rows h is = rw is refl
 
@@ -74,6 +74,11 @@ row-taken xs ys row rows b h is taken made = elim (cases_eq b h) [
       ∙ ap (option_or (card_by (slice_index xs h))) (sym (first-other row rows b h is other))
 ]
 
+-- one that lays nothing is not
+pub first-skipped : (xs : List ℕ) (row : Listed) (rows : List Listed) (h : ℕ) → beginning row ≡ None
+    → option_or (card_by (slice_index xs h)) (first_card rows h) ≡ option_or (card_by (slice_index xs h)) (first_card (row ∷ rows) h)
+first-skipped xs row rows h is = ap (option_or (card_by (slice_index xs h))) (sym (first-none row rows h is))
+
 pub row-entered : (xs ys : List ℕ) (row : Listed) (rows : List Listed) (b h : ℕ) → beginning row ≡ Some b → b < length xs → 1 ≤ row.card
     → (slice_index xs b ≡ 0 → ys ≡ slice_set xs b row.card) → (slice_index xs b ≢ 0 → ys ≡ xs)
     → option_or (card_by (slice_index ys h)) (first_card rows h) ≡ option_or (card_by (slice_index xs h)) (first_card (row ∷ rows) h)
@@ -86,22 +91,22 @@ row-entered xs ys row rows b h is inside some free taken = elim (cases_eq (slice
 
 -- The table has the cards of the rows before the i-th, so with the others all are told.
 pub record IsFilling (rows : List Listed) (cards : List ℕ) (i : ℕ) : Type 0 where
-  pub size : length cards ≡ 524288
+  pub size : length cards ≡ half_words
   pub told : (h : ℕ) → option_or (card_by (slice_index cards h)) (first_card (drop i rows) h) ≡ first_card rows h
 
 zero-at : (n h : ℕ) → slice_index (replicate n 0) h ≡ 0
 zero-at n h = elim (leb_tells n h) [
-  | inl past ↦ get_or_past (replicate n 0) h 0 (omega (arith, length-replicate n 0, past.1))
+  | inl past ↦ get_or_past (replicate n 0) h 0 (omega (arith, length-replicate {A = ℕ} n 0, past.1))
   | inr inside ↦ get_or-replicate n h 0 0 (omega (arith, inside.1))
 ]
 
-pub filling-starts : (rows : List Listed) (cards : List ℕ) → cards ≡ replicate 524288 0 → IsFilling rows cards 0
+pub filling-starts : (rows : List Listed) (cards : List ℕ) → cards ≡ replicate half_words 0 → IsFilling rows cards 0
 filling-starts rows cards is = record {
-  size = ap length is ∙ length-replicate 524288 0;
-  told = λ h. ap (λ n. option_or (card_by n) (first_card rows h)) (ap (λ xs. slice_index xs h) is ∙ zero-at 524288 h);
+  size = ap length is ∙ length-replicate {A = ℕ} half_words 0;
+  told = λ h. ap (λ n. option_or (card_by n) (first_card rows h)) (ap (λ xs. slice_index xs h) is ∙ zero-at half_words h);
 }
 
-pub filling-turn : (rows : List Listed) (old new : List ℕ) (i : ℕ) (d : Listed) → IsFilling rows old i → i < length rows → length new ≡ 524288
+pub filling-turn : (rows : List Listed) (old new : List ℕ) (i : ℕ) (d : Listed) → IsFilling rows old i → i < length rows → length new ≡ half_words
     → ((h : ℕ) (more : List Listed) → option_or (card_by (slice_index new h)) (first_card more h)
     ≡ option_or (card_by (slice_index old h)) (first_card (get_or rows i d ∷ more) h))
     → IsFilling rows new (i + 1)
@@ -114,7 +119,7 @@ filling-turn rows old new i d is inside size entered = record {
 }
   where
     rest : (h : ℕ) → drop i rows ≡ get_or rows i d ∷ drop (i + 1) rows
-    rest h = drop-cons rows i d inside ∙ ap (λ j. get_or rows i d ∷ drop j rows) (sym add-one)
+    rest h = drop-cons rows i d inside ∙ ap (λ j. get_or rows i d ∷ drop j rows) (sym (add-one i))
 
 or-none : (o : Option ℕ) → option_or o None ≡ o
 or-none None = refl

@@ -4,20 +4,26 @@ ghost use Rattle.std.specs.Option.{option_or};
 ghost use Rattle.st_asm.specs.Sound.{IsRow};
 ghost use Rattle.st_asm.specs.declared.valuing.Listed.{Listed as ListedOf};
 ghost use Rattle.st_lines.specs.Origins.{card_by};
-ghost use Rattle.st_account.specs.Origins.{beginning as beginning_of, first_card};
+ghost use Rattle.st_account.specs.Origins.{half_words, beginning as beginning_of, first_card};
 
 use st_asm::Listed;
 use st_bits::NoMemory;
 use std::alloc::Global;
 
 // How many half-words have an address.
-const HALF_WORDS: usize = 524_288;
+#[tactic(auto, unfolding(crate::specs::Origins::half_words))]
+fn number_of_half_words() -> usize
+    ensures { result ≡ half_words }
+{
+    524_288
+}
 
 // The half-word in which the bits of a card begin, if it lays any.
+#[tactic(auto, using(crate::specs::Origins::half_words_is))]
 fn beginning(row: &Listed) -> Option<u32>
     requires { IsRow row.now }
     ensures value { result ≡ beginning_of row.now }
-    ensures inside { IfSome result (λ h. h < 524288) }
+    ensures inside { IfSome result (λ h. h < half_words) }
 {
     if row.length == 0 {
         return None;
@@ -43,10 +49,10 @@ fn enter(cards: &mut Vec<u32>, h: u32, card: u32)
 
 // Enters a card where its bits begin, if it lays any.
 fn enter_row(cards: &mut Vec<u32>, row: &Listed)
-    requires size { length cards.old.items ≡ 524288 }
+    requires size { length cards.old.items ≡ half_words }
     requires row { IsRow row.now }
     requires number { 1 ≤ row.now.card }
-    ensures size { length cards.new.items ≡ 524288 }
+    ensures size { length cards.new.items ≡ half_words }
     ensures cards { (h : ℕ) (rows : List ListedOf) →
         option_or (card_by (slice_index cards.new.items h)) (first_card rows h)
         ≡ option_or (card_by (slice_index cards.old.items h)) (first_card (row.now ∷ rows) h) }
@@ -64,7 +70,7 @@ pub(crate) fn first_cards(alloc: Global, rows: &[Listed]) -> Result<Vec<u32>, No
     ensures { IfOk result (λ cards. (h : ℕ) → card_by (slice_index cards.items h)
         ≡ first_card rows.now h) }
 {
-    let Ok(mut cards) = vec![in alloc; 0u32; HALF_WORDS] else {
+    let Ok(mut cards) = vec![in alloc; 0u32; number_of_half_words()] else {
         return Err(NoMemory);
     };
     for row in rows {

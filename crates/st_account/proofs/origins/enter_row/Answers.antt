@@ -1,4 +1,11 @@
-use Rattle.std.proofs.Common.{sym, ap, arith}
-use Rattle.std.specs.Prelude.{Some}
-use Rattle.st_account.proofs.FirstLemmas.{row-entered}
+use Rattle.std.proofs.Common.{sym, arith}
+use Rattle.st_account.proofs.FirstLemmas.{first-skipped, row-entered}
 use Rattle.st_account.proofs.origins.enter_row.Goals as goal
+
+pub returns-in-Some-clause-cards : goal.returns-in-Some-clause-cards
+returns-in-Some-clause-cards c h rows =
+    row-entered c.args.cards.now.items c.enter.new.cards.items c.args.row.now rows c.in-Some.h h (sym c.in-Some.ensures.value) (omega (arith, c.in-Some.ensures.inside, c.requires.size))
+    c.requires.number c.enter.ensures.free c.enter.ensures.taken
+
+pub returns-in_default-clause-cards : goal.returns-in_default-clause-cards
+returns-in_default-clause-cards c h rows = first-skipped c.args.cards.now.items c.args.row.now rows h (sym c.in_default.ensures.value)
