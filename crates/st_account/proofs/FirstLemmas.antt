@@ -13,7 +13,7 @@ use Rattle.st_asm.specs.declared.valuing.Listed.{Listed}
 use Rattle.st_state.specs.Machine.{Machine}
 use Rattle.st_lines.specs.Origins.{card_by, is_kept, origin_by, origin_at}
 use Rattle.st_lines.specs.declared.origins.Origins.{Origins}
-use Rattle.st_account.specs.Origins.{half_words, beginning, first_card, origin_of}
+use Rattle.st_account.specs.FirstCards.{half_words, beginning, first_card, origin_of}
 
 -- ---- one row
 

@@ -12,7 +12,7 @@ use Rattle.st_exch.specs.Reader.{reader_cards}
 use Rattle.st_run.specs.Run.{Scene}
 use Rattle.st_report.specs.Line.{fault_line}
 use Rattle.st_account.specs.Settling.{at_hand}
-use Rattle.st_account.specs.Origins.{origin_of}
+use Rattle.st_account.specs.FirstCards.{origin_of}
 use Rattle.st_account.specs.Text.{ledger}
 use Rattle.st_account.specs.declared.status.Status.{Status}
 use Rattle.st_account.specs.declared.status.Status.TheVariants.{Done, Refused, Usage, JobTooLong, ReadFault, WriteFault, NoMemory}

@@ -1,5 +1,5 @@
 pub mod Text
-pub mod Origins
+pub mod FirstCards
 pub mod Answers
 pub mod Standing
 pub mod Settling

@@ -4,14 +4,14 @@ ghost use Rattle.std.specs.Option.{option_or};
 ghost use Rattle.st_asm.specs.Sound.{IsRow};
 ghost use Rattle.st_asm.specs.declared.valuing.Listed.{Listed as ListedOf};
 ghost use Rattle.st_lines.specs.Origins.{card_by};
-ghost use Rattle.st_account.specs.Origins.{half_words, beginning as beginning_of, first_card};
+ghost use Rattle.st_account.specs.FirstCards.{half_words, beginning as beginning_of, first_card};
 
 use st_asm::Listed;
 use st_bits::NoMemory;
 use std::alloc::Global;
 
 // How many half-words have an address.
-#[tactic(auto, unfolding(crate::specs::Origins::half_words))]
+#[tactic(auto, unfolding(crate::specs::FirstCards::half_words))]
 fn number_of_half_words() -> usize
     ensures { result ≡ half_words }
 {
@@ -19,7 +19,7 @@ fn number_of_half_words() -> usize
 }
 
 // The half-word in which the bits of a card begin, if it lays any.
-#[tactic(auto, using(crate::specs::Origins::half_words_is))]
+#[tactic(auto, using(crate::specs::FirstCards::half_words_is))]
 fn beginning(row: &Listed) -> Option<u32>
     requires { IsRow row.now }
     ensures value { result ≡ beginning_of row.now }

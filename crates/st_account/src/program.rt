@@ -14,7 +14,7 @@ ghost use Rattle.st_lines.specs.Origins.{origin_at};
 ghost use Rattle.st_report.specs.Line.{fault_line};
 ghost use Rattle.st_run.specs.Reached.{IsCard};
 ghost use Rattle.st_state.specs.Machine.{opening_state};
-ghost use Rattle.st_account.specs.Origins.{origin_of};
+ghost use Rattle.st_account.specs.FirstCards.{origin_of};
 ghost use Rattle.st_account.specs.Answers.{levels_by, levels_asked, lines_by, status_by, ledger_lines_of, status_of, Writes, Did, IsAnswer};
 
 use crate::origins::first_cards;

@@ -1,6 +1,6 @@
 use Rattle.std.proofs.Common.{◌∙◌, ap}
 use Rattle.st_asm.specs.Assembly.{assembly_parts}
-use Rattle.st_account.specs.Origins.{first_card}
+use Rattle.st_account.specs.FirstCards.{first_card}
 use Rattle.st_account.proofs.FirstLemmas.{origins-are}
 use Rattle.st_account.proofs.program.origins.Goals as goal
 
