@@ -1,7 +1,7 @@
 -- The first cards whose bits begin in half-words, row by row.
-use Rattle.std.specs.Prelude.{Bool, if◌then◌else◌, nat_eq, Option, None, Some, All, slice_index, slice_set}
+use Rattle.std.specs.Prelude.{nat_eq, Option, None, Some, All, slice_index, slice_set}
 use Rattle.std.specs.Option.{option_or}
-use Rattle.std.proofs.Common.{◌≡◌, ◌≢◌, ℕ, zero, suc, ◌+◌, ◌<◌, ◌≤◌, inl, inr, true, false, List, [], ◌∷◌, length, replicate, drop, get_or, get_or-set_other, refl, sym, ◌∙◌, ap, add-one, drop-cons, arith}
+use Rattle.std.proofs.Common.{◌≡◌, ◌≢◌, ℕ, zero, suc, ◌+◌, ◌<◌, ◌≤◌, inl, inr, true, false, List, ◌∷◌, length, replicate, drop, get_or, get_or-set_other, refl, sym, ◌∙◌, ap, add-one, drop-cons, arith}
 use Rattle.std.proofs.lemmas.Bool.{cases_eq}
 use Rattle.std.proofs.lemmas.Bool.Decides.{leb_tells, nat_tests}
 use Rattle.std.proofs.lemmas.List.{get_or-set_same, get_or-replicate, get_or_past, length-replicate}

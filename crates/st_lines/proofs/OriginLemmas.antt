@@ -1,9 +1,8 @@
 -- Where half-words come from, and its line.
-use Rattle.std.specs.Prelude.{Bool, Option, None, Some, slice_index}
+use Rattle.std.specs.Prelude.{Bool, None, Some, slice_index}
 use Rattle.std.proofs.Common.{◌≡◌, ◌≢◌, ℕ, zero, suc, List, [], ◌++◌, refl, sym, ◌∙◌, ap, append_assoc}
 use Rattle.std.proofs.lemmas.List.{append-nil}
 use Rattle.st_lines.specs.Origins.{card_by, is_kept, origin_by, origin_at}
-use Rattle.st_lines.specs.declared.origins.Origin.{Origin}
 use Rattle.st_lines.specs.declared.origins.Origins.{Origins}
 use Rattle.st_state.specs.Machine.{Machine}
 
