@@ -1,10 +1,10 @@
 -- The first cards whose bits begin in half-words, row by row.
-use Rattle.std.specs.Prelude.{nat_eq, Option, None, Some, All, slice_index, slice_set}
+use Rattle.std.specs.Prelude.{nat_eq, Option, None, Some, IfSome, All, slice_index, slice_set}
 use Rattle.std.specs.Option.{option_or}
-use Rattle.std.proofs.Common.{◌≡◌, ◌≢◌, ℕ, zero, suc, ◌+◌, ◌<◌, ◌≤◌, inl, inr, true, false, List, ◌∷◌, length, replicate, drop, get_or, get_or-set_other, refl, sym, ◌∙◌, ap, add-one, drop-cons, arith}
+use Rattle.std.proofs.Common.{◌≡◌, ◌≢◌, ℕ, zero, suc, ◌<◌, ◌≤◌, inl, inr, true, false, List, ◌∷◌, length, drop, get_or, get_or-set_other, refl, sym, ◌∙◌, ap, subst, arith}
 use Rattle.std.proofs.lemmas.Bool.{cases_eq}
-use Rattle.std.proofs.lemmas.Bool.Decides.{leb_tells, nat_tests}
-use Rattle.std.proofs.lemmas.List.{get_or-set_same, get_or-replicate, get_or_past, length-replicate}
+use Rattle.std.proofs.lemmas.Bool.Decides.{nat_tests}
+use Rattle.std.proofs.lemmas.List.{get_or-set_same}
 use Rattle.std.proofs.Math.ListN.{drop_of_length-le}
 use Rattle.std.proofs.Math.Path.{fun_ext}
 use Rattle.st_asm.specs.Assembly.{Assembly}
@@ -13,7 +13,7 @@ use Rattle.st_asm.specs.declared.valuing.Listed.{Listed}
 use Rattle.st_state.specs.Machine.{Machine}
 use Rattle.st_lines.specs.Origins.{card_by, is_kept, origin_by, origin_at}
 use Rattle.st_lines.specs.declared.origins.Origins.{Origins}
-use Rattle.st_account.specs.FirstCards.{half_words, beginning, first_card, origin_of}
+use Rattle.st_account.specs.FirstCards.{beginning, first_card, origin_of}
 
 -- ---- one row
 
@@ -79,11 +79,11 @@ pub first-skipped : (xs : List ℕ) (row : Listed) (rows : List Listed) (h : ℕ
     → option_or (card_by (slice_index xs h)) (first_card rows h) ≡ option_or (card_by (slice_index xs h)) (first_card (row ∷ rows) h)
 first-skipped xs row rows h is = ap (option_or (card_by (slice_index xs h))) (sym (first-none row rows h is))
 
-pub row-entered : (xs ys : List ℕ) (row : Listed) (rows : List Listed) (b h : ℕ) → beginning row ≡ Some b → b < length xs → 1 ≤ row.card
+pub row-entered : (xs ys : List ℕ) (row : Listed) (rows : List Listed) (b h : ℕ) → beginning row ≡ Some b → IfSome (beginning row) (λ k. k < length xs) → 1 ≤ row.card
     → (slice_index xs b ≡ 0 → ys ≡ slice_set xs b row.card) → (slice_index xs b ≢ 0 → ys ≡ xs)
     → option_or (card_by (slice_index ys h)) (first_card rows h) ≡ option_or (card_by (slice_index xs h)) (first_card (row ∷ rows) h)
-row-entered xs ys row rows b h is inside some free taken = elim (cases_eq (slice_index xs b) 0) [
-  | inl none ↦ row-free xs ys row rows b h is inside some none (free none)
+row-entered xs ys row rows b h is within some free taken = elim (cases_eq (slice_index xs b) 0) [
+  | inl none ↦ row-free xs ys row rows b h is (subst (λ o. IfSome o (λ k. k < length xs)) is within) some none (free none)
   | inr card ↦ row-taken xs ys row rows b h is card (taken card)
 ]
 
@@ -91,35 +91,8 @@ row-entered xs ys row rows b h is inside some free taken = elim (cases_eq (slice
 
 -- The table has the cards of the rows before the i-th, so with the others all are told.
 pub record IsFilling (rows : List Listed) (cards : List ℕ) (i : ℕ) : Type 0 where
-  pub size : length cards ≡ half_words
+  pub within : All (λ row. IfSome (beginning row) (λ h. h < length cards)) rows
   pub told : (h : ℕ) → option_or (card_by (slice_index cards h)) (first_card (drop i rows) h) ≡ first_card rows h
-
-zero-at : (n h : ℕ) → slice_index (replicate n 0) h ≡ 0
-zero-at n h = elim (leb_tells n h) [
-  | inl past ↦ get_or_past (replicate n 0) h 0 (omega (arith, length-replicate {A = ℕ} n 0, past.1))
-  | inr inside ↦ get_or-replicate n h 0 0 (omega (arith, inside.1))
-]
-
-pub filling-starts : (rows : List Listed) (cards : List ℕ) → cards ≡ replicate half_words 0 → IsFilling rows cards 0
-filling-starts rows cards is = record {
-  size = ap length is ∙ length-replicate {A = ℕ} half_words 0;
-  told = λ h. ap (λ n. option_or (card_by n) (first_card rows h)) (ap (λ xs. slice_index xs h) is ∙ zero-at half_words h);
-}
-
-pub filling-turn : (rows : List Listed) (old new : List ℕ) (i : ℕ) (d : Listed) → IsFilling rows old i → i < length rows → length new ≡ half_words
-    → ((h : ℕ) (more : List Listed) → option_or (card_by (slice_index new h)) (first_card more h)
-    ≡ option_or (card_by (slice_index old h)) (first_card (get_or rows i d ∷ more) h))
-    → IsFilling rows new (i + 1)
-filling-turn rows old new i d is inside size entered = record {
-  size = size;
-  told = λ h.
-      entered h (drop (i + 1) rows)
-      ∙ ap (λ xs. option_or (card_by (slice_index old h)) (first_card xs h)) (sym (rest h))
-      ∙ is.told h;
-}
-  where
-    rest : (h : ℕ) → drop i rows ≡ get_or rows i d ∷ drop (i + 1) rows
-    rest h = drop-cons rows i d inside ∙ ap (λ j. get_or rows i d ∷ drop j rows) (sym (add-one i))
 
 or-none : (o : Option ℕ) → option_or o None ≡ o
 or-none None = refl
@@ -132,6 +105,12 @@ filling-ends rows cards i is past h =
     sym (or-none (card_by (slice_index cards h)))
     ∙ ap (λ xs. option_or (card_by (slice_index cards h)) (first_card xs h)) (sym (drop_of_length-le rows past))
     ∙ is.told h
+
+-- ---- how far they reach
+
+-- the rows before the i-th begin below n
+abbrev pub AreWithin : List Listed → ℕ → ℕ → Type 0
+AreWithin rows i n = (k : ℕ) (d : Listed) → k < i → IfSome (beginning (get_or rows k d)) (λ h. h < n)
 
 -- ---- the program
 

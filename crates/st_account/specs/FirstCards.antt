@@ -1,19 +1,10 @@
 -- Where the half-words of a job's program come from.
-use Rattle.std.specs.Prelude.{◌≡◌, refl, ℕ, ◌/◌, Bool, false, nat_eq, if◌then◌else◌, List, [], ◌∷◌, Option, None, Some, option_map}
+use Rattle.std.specs.Prelude.{ℕ, ◌/◌, Bool, false, nat_eq, if◌then◌else◌, List, [], ◌∷◌, Option, None, Some, option_map}
 use Rattle.st_asm.specs.Assembly.{Assembly}
 use Rattle.st_asm.specs.declared.valuing.Listed.{Listed}
 use Rattle.st_state.specs.Machine.{Machine}
 use Rattle.st_lines.specs.Origins.{is_kept, origin_by}
 use Rattle.st_lines.specs.declared.origins.Origin.{Origin}
-
--- how many half-words have an address
-unfoldable pub half_words : ℕ
-half_words = 524288
-
--- the number behind the name
-pub half_words_is : half_words ≡ 524288
-unfolding half_words
-half_words_is = refl
 
 -- the half-word in which the bits of a card begin, if it lays any
 abbrev pub beginning : Listed → Option ℕ

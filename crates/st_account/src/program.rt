@@ -4,7 +4,7 @@ ghost use Rattle.std.specs.String.{string_bytes};
 ghost use Rattle.st_bits.specs.Storage.{words_of_storage};
 ghost use Rattle.st_bits.specs.declared.register.TheConstants.{FIRST_STORAGE_WORD};
 ghost use Rattle.st_asm.specs.Assembly.{assembly_parts, assembly};
-ghost use Rattle.st_asm.specs.Sound.{IsAssemblySound, IsRow};
+ghost use Rattle.st_asm.specs.Sound.{IsAssemblySound};
 ghost use Rattle.st_card.specs.Cards.{cards_of};
 ghost use Rattle.st_card.specs.Faults.{name_of};
 ghost use Rattle.st_card.specs.Limits.{IsWithinLimits};
@@ -117,8 +117,7 @@ fn words(alloc: Global, image: &[u64]) -> Result<Vec<u64>, NoMemory>
 
 // Where the half-words of a program come from.
 fn origins(alloc: Global, program: &Assembled) -> Result<Origins, NoMemory>
-    requires rows { All IsRow program.now.listing.items }
-    requires numbers { All (λ row. 1 ≤ row.card) program.now.listing.items }
+    requires { All (λ row. 1 ≤ row.card) program.now.listing.items }
     ensures { IfOk result (λ o. origin_at o ≡ origin_of (assembly_parts program.now)) }
 {
     Ok(Origins {
