@@ -8,7 +8,6 @@ use Rattle.std.proofs.lemmas.List.{get_or-set_same}
 use Rattle.std.proofs.Math.ListN.{drop_of_length-le}
 use Rattle.std.proofs.Math.Path.{fun_ext}
 use Rattle.st_asm.specs.Assembly.{Assembly}
-use Rattle.st_asm.specs.Sound.{IsAssemblySound}
 use Rattle.st_asm.specs.declared.valuing.Listed.{Listed}
 use Rattle.st_state.specs.Machine.{Machine}
 use Rattle.st_lines.specs.Origins.{card_by, is_kept, origin_by, origin_at}
@@ -119,6 +118,3 @@ unfolding origin_at origin_of
 origins-are o a cards image = fun_ext (λ (s : Machine). fun_ext (λ h.
     ap (λ c. origin_by c (is_kept o.image.items s.words h)) (cards h)
     ∙ ap (λ xs. origin_by (first_card a.rows h) (is_kept xs s.words h)) image))
-
-pub numbers-are : (k : ℕ) (a : Assembly) → IsAssemblySound k a → All (λ (row : Listed). 1 ≤ row.card) a.rows
-numbers-are k a sound = λ i d inside. omega (arith, sound.numbers i d (omega (arith, inside, sound.row_count)))
