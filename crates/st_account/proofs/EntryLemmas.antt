@@ -30,6 +30,7 @@ use Rattle.st_plain.specs.declared.rows.Row.{Row}
 use Rattle.st_account.specs.declared.last.Last.{Last}
 use Rattle.st_account.specs.Standing.{guessing, kept_lines, IsLast, IsStanding}
 use Rattle.st_lines.specs.EntryLines.{done_entry_lines}
+use Rattle.st_lines.specs.declared.origins.Origin.{Origin}
 use Rattle.st_rows.specs.declared.entry.Entry.{Entry}
 use Rattle.st_reasons.specs.Reasons.{because}
 use Rattle.st_reasons.specs.declared.because.Because.{Because}
@@ -46,14 +47,14 @@ unfolding kept_lines
 kept-none k l end none = rw none refl
 
 -- those of an entry that is done, part by part
-abbrev pub told_lines : ℕ → ℕ → EntryTicks → ℕ → Bool → Prepared → Known → ℕ → ℕ → Option ℕ → Because → List Use → List Use → List (List ℕ)
-told_lines i a ticks wait missed q known before start end why uses earlier =
-    done_entry_lines (record { n = i; address = a; row = record { ticks = ticks; level_wait = wait }; missed = missed; before = before; start = start; end = end; because = why })
+abbrev pub told_lines : ℕ → ℕ → Option Origin → EntryTicks → ℕ → Bool → Prepared → Known → ℕ → ℕ → Option ℕ → Because → List Use → List Use → List (List ℕ)
+told_lines i a origin ticks wait missed q known before start end why uses earlier =
+    done_entry_lines (record { n = i; address = a; origin = origin; row = record { ticks = ticks; level_wait = wait }; missed = missed; before = before; start = start; end = end; because = why })
     q known uses earlier
 
 pub kept-some : (k : ℕ) (l : Last) (end : Option ℕ) → k ≢ 0
     → kept_lines k l end
-    ≡ told_lines l.done.n l.done.address l.done.row.ticks l.done.row.level_wait l.missed l.plan l.done.known l.done.before l.done.start end l.because l.uses.items l.before.items
+    ≡ told_lines l.done.n l.done.address l.done.origin l.done.row.ticks l.done.row.level_wait l.missed l.plan l.done.known l.done.before l.done.start end l.because l.uses.items l.before.items
 unfolding kept_lines done_entry_lines
 kept-some zero l end some = absurd (some refl)
 kept-some (suc k) l end some = rw (not-zero k) refl
@@ -66,6 +67,7 @@ pub kept-row : (k : ℕ) (l : Last) (end : Option ℕ) (us bs : List Use) → k 
     → done_entry_lines (record {
       n = l.done.n;
       address = l.done.address;
+      origin = l.done.origin;
       row = l.done.row;
       missed = l.missed;
       before = l.done.before;
@@ -133,35 +135,39 @@ because-is ds n p s l taken r us bs why is is_taken is_row is_wait is_uses is_wh
     ∙ ap (λ f. why_of f (entry (interrupt p.scene.machine) p.scene.machine) (next_row ds n p)
     (level_wait ds n p.front (entry (interrupt p.scene.machine) p.scene.machine)) (uses_at ds n p) bs) (sym is.front)
 
-pub entry-lines : (ds : List ℕ) (n : ℕ) (p : Standing) (end : Option ℕ) (s : Machine) (l : Last) (taken : Option ℕ) (a : ℕ) (r : Row) (i : ℕ)
+pub entry-lines : (o : Machine → ℕ → Option Origin) (ds : List ℕ) (n : ℕ) (p : Standing) (end : Option ℕ) (s : Machine) (l : Last) (taken : Option ℕ) (a : ℕ)
+    (origin : Option Origin) (r : Row) (i : ℕ)
     (missed : Bool) (q : Prepared) (known : Known) (t start : ℕ) (why : Because) (us bs : List Use) → IsStanding p s l → taken ≡ interrupt s → a ≡ address s
+    → origin ≡ o s (address s)
     → r.ticks ≡ row_of_entry ds n l.front (entry taken s) → r.level_wait ≡ level_wait ds n l.front (entry taken s) → i ≡ s.done + 1
     → missed ≡ is_missed (plan s taken) s → q ≡ plan s taken → known ≡ known_at taken s → t ≡ l.tick → start ≡ l.front.c
     → us ≡ uses_of_entry ds n l.front (entry taken s) (side_at taken s) (plan s taken).reads
     → why ≡ because l.front (entry taken s) r us bs
-    → told_lines i a r.ticks r.level_wait missed q known t start end why us bs ≡ lines_of_entry ds n end bs p
+    → told_lines i a origin r.ticks r.level_wait missed q known t start end why us bs ≡ lines_of_entry o ds n end bs p
 unfolding lines_of_entry
-entry-lines ds n p end s l taken a r i missed q known t start why us bs is is_taken is_address is_row is_wait number guessed planned is_known at since is_uses is_why =
+entry-lines o ds n p end s l taken a origin r i missed q known t start why us bs is is_taken is_address is_origin is_row is_wait number guessed planned is_known at since is_uses is_why =
     let m = p.scene.machine in
     let e = plan m (interrupt m) in
     let k = known_at (interrupt m) m in
     let d = level_wait ds n p.front (entry (interrupt m) m) in
     let w = why_of p.front (entry (interrupt m) m) (next_row ds n p) d (uses_at ds n p) bs in
-    ap (λ y. told_lines i a r.ticks r.level_wait missed q known t start end y us bs)
+    let g = o m (address m) in
+    ap (λ y. told_lines i a origin r.ticks r.level_wait missed q known t start end y us bs)
     (because-is ds n p s l taken r us bs why is is_taken is_row is_wait is_uses is_why)
-    ∙ ap (λ y. told_lines i a y r.level_wait missed q known t start end w us bs) (row-is ds n p s l taken r.ticks is is_taken is_row)
-    ∙ ap (λ y. told_lines i a (next_row ds n p) y missed q known t start end w us bs) (wait-is ds n p s l taken r.level_wait is is_taken is_wait)
-    ∙ ap (λ y. told_lines y a (next_row ds n p) d missed q known t start end w us bs) (number ∙ ap (λ (m : Machine). m.done + 1) (sym is.machine))
-    ∙ ap (λ y. told_lines (m.done + 1) y (next_row ds n p) d missed q known t start end w us bs) (is_address ∙ ap address (sym is.machine))
-    ∙ ap (λ b. told_lines (m.done + 1) (address m) (next_row ds n p) d b q known t start end w us bs)
+    ∙ ap (λ y. told_lines i a y r.ticks r.level_wait missed q known t start end w us bs) (is_origin ∙ ap (λ u. o u (address u)) (sym is.machine))
+    ∙ ap (λ y. told_lines i a g y r.level_wait missed q known t start end w us bs) (row-is ds n p s l taken r.ticks is is_taken is_row)
+    ∙ ap (λ y. told_lines i a g (next_row ds n p) y missed q known t start end w us bs) (wait-is ds n p s l taken r.level_wait is is_taken is_wait)
+    ∙ ap (λ y. told_lines y a g (next_row ds n p) d missed q known t start end w us bs) (number ∙ ap (λ (m : Machine). m.done + 1) (sym is.machine))
+    ∙ ap (λ y. told_lines (m.done + 1) y g (next_row ds n p) d missed q known t start end w us bs) (is_address ∙ ap address (sym is.machine))
+    ∙ ap (λ b. told_lines (m.done + 1) (address m) g (next_row ds n p) d b q known t start end w us bs)
     (guessed ∙ ap (λ t. is_missed (plan s t) s) is_taken ∙ ap (λ u. is_missed (plan u (interrupt u)) u) (sym is.machine))
-    ∙ ap (λ y. told_lines (m.done + 1) (address m) (next_row ds n p) d (is_missed e m) y known t start end w us bs)
+    ∙ ap (λ y. told_lines (m.done + 1) (address m) g (next_row ds n p) d (is_missed e m) y known t start end w us bs)
     (planned ∙ ap (plan s) is_taken ∙ ap (λ u. plan u (interrupt u)) (sym is.machine))
-    ∙ ap (λ y. told_lines (m.done + 1) (address m) (next_row ds n p) d (is_missed e m) e y t start end w us bs)
+    ∙ ap (λ y. told_lines (m.done + 1) (address m) g (next_row ds n p) d (is_missed e m) e y t start end w us bs)
     (is_known ∙ ap (λ t. known_at t s) is_taken ∙ ap (λ u. known_at (interrupt u) u) (sym is.machine))
-    ∙ ap (λ y. told_lines (m.done + 1) (address m) (next_row ds n p) d (is_missed e m) e k y start end w us bs) (at ∙ sym is.tick)
-    ∙ ap (λ y. told_lines (m.done + 1) (address m) (next_row ds n p) d (is_missed e m) e k p.tick y end w us bs) (since ∙ ap (λ (f : Front). f.c) (sym is.front))
-    ∙ ap (λ y. told_lines (m.done + 1) (address m) (next_row ds n p) d (is_missed e m) e k p.tick p.front.c end w y bs) (uses-is ds n p s l taken us is is_taken is_uses)
+    ∙ ap (λ y. told_lines (m.done + 1) (address m) g (next_row ds n p) d (is_missed e m) e k y start end w us bs) (at ∙ sym is.tick)
+    ∙ ap (λ y. told_lines (m.done + 1) (address m) g (next_row ds n p) d (is_missed e m) e k p.tick y end w us bs) (since ∙ ap (λ (f : Front). f.c) (sym is.front))
+    ∙ ap (λ y. told_lines (m.done + 1) (address m) g (next_row ds n p) d (is_missed e m) e k p.tick p.front.c end w y bs) (uses-is ds n p s l taken us is is_taken is_uses)
 
 pub entry-sums : (ds : List ℕ) (n : ℕ) (p : Standing) (s : Machine) (l : Last) (taken : Option ℕ) (r : EntryTicks) (stage : Stage) (old new : ℕ)
     → IsStanding p s l → taken ≡ interrupt s → r ≡ row_of_entry ds n l.front (entry taken s)

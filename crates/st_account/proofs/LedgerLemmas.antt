@@ -1,6 +1,7 @@
 -- A whole ledger, part by part.
-use Rattle.std.specs.Prelude.{Result, Ok, Err, IsErr}
+use Rattle.std.specs.Prelude.{Option, Result, Ok, Err, IsErr}
 use Rattle.std.proofs.Common.{◌≡◌, ℕ, true, List, [], ◌++◌, refl, subst}
+use Rattle.st_state.specs.Machine.{Machine}
 use Rattle.st_io.specs.Output.{OutputState}
 use Rattle.st_io.specs.declared.Failed.{Failed}
 use Rattle.st_io.specs.Lines.{WritesLines}
@@ -20,6 +21,7 @@ use Rattle.st_ledger.specs.Ledger.{entries_of, all_charges}
 use Rattle.st_ledger.specs.Totals.{sum_at, stages, sums_by, sum_lines}
 use Rattle.st_ledger.proofs.Added.{sums-same}
 use Rattle.st_lines.specs.BorderLines.{machine_lines}
+use Rattle.st_lines.specs.declared.origins.Origin.{Origin}
 use Rattle.st_account.specs.Text.{lines_from, totals_lines, stalled_from, wait_totals_lines, ledger}
 
 wait-sums-same : (f g : Stage → Stall → ℕ) → ((r : Stage) (s : Stall) → is_parted r ≡ true → f r s ≡ g r s) → wait_sums_by f ≡ wait_sums_by g
@@ -35,9 +37,9 @@ wait-sums-same f g same =
       same Operand Storage refl,
     ) refl
 
-module _ (ds : List ℕ) (n left : ℕ) (c : Scene) (s u : OutputState) (list : List ℕ) (same : list ≡ ds) where
+module _ (origin : Machine → ℕ → Option Origin) (ds : List ℕ) (n left : ℕ) (c : Scene) (s u : OutputState) (list : List ℕ) (same : list ≡ ds) where
   run_lines : List (List ℕ)
-  run_lines = lines_from ds n left 0 c.machine [] (moment_at_start c)
+  run_lines = lines_from origin ds n left 0 c.machine [] (moment_at_start c)
 
   sums : List (List ℕ)
   sums = totals_lines (all_charges ds n (entries_of ds n left c))
@@ -45,7 +47,7 @@ module _ (ds : List ℕ) (n left : ℕ) (c : Scene) (s u : OutputState) (list : 
   waits : List (List ℕ)
   waits = wait_totals_lines (λ r s. stalled_from r s ds n left [] (moment_at_start c))
 
-  whole : (r : Result (Unit {0}) Failed) → WritesLines s u (((machine_lines ds n ++ run_lines) ++ sums) ++ waits) r → WritesLines s u (ledger ds n left c) r
+  whole : (r : Result (Unit {0}) Failed) → WritesLines s u (((machine_lines ds n ++ run_lines) ++ sums) ++ waits) r → WritesLines s u (ledger origin ds n left c) r
   unfolding ledger run_lines sums waits
   whole r h = h
 
@@ -53,21 +55,21 @@ module _ (ds : List ℕ) (n left : ℕ) (c : Scene) (s u : OutputState) (list : 
   machine v r h = subst (λ xs. WritesLines s v (machine_lines xs n) r) same h
 
   -- the run is not whole
-  before-sums : (e : Failed) (r : Result (Unit {0}) Failed) → IsErr r → WritesLines s u (machine_lines ds n ++ run_lines) (Err e) → WritesLines s u (ledger ds n left c) r
+  before-sums : (e : Failed) (r : Result (Unit {0}) Failed) → IsErr r → WritesLines s u (machine_lines ds n ++ run_lines) (Err e) → WritesLines s u (ledger origin ds n left c) r
   before-sums e r f h =
       whole r (lines_cut s u ((machine_lines ds n ++ run_lines) ++ sums) waits e r f (lines_cut s u (machine_lines ds n ++ run_lines) sums e (Err e) refl h))
 
-  pub machine-fails : (e : Failed) (r : Result (Unit {0}) Failed) → IsErr r → WritesLines s u (machine_lines list n) (Err e) → WritesLines s u (ledger ds n left c) r
+  pub machine-fails : (e : Failed) (r : Result (Unit {0}) Failed) → IsErr r → WritesLines s u (machine_lines list n) (Err e) → WritesLines s u (ledger origin ds n left c) r
   machine-fails e r f h = before-sums e r f (lines_cut s u (machine_lines ds n) run_lines e (Err e) refl (machine u (Err e) h))
 
   pub run-fails : (v : OutputState) (x : Unit {0}) (e : Failed) (r : Result (Unit {0}) Failed) → IsErr r → WritesLines s v (machine_lines list n) (Ok x)
-      → WritesLines v u (lines_from ds n left 0 c.machine [] (moment_at_start c)) (Err e) → WritesLines s u (ledger ds n left c) r
+      → WritesLines v u (lines_from origin ds n left 0 c.machine [] (moment_at_start c)) (Err e) → WritesLines s u (ledger origin ds n left c) r
   unfolding run_lines
   run-fails v x e r f h later = before-sums e r f (lines_then s v u (machine_lines ds n) run_lines x (Err e) (machine v (Ok x) h) later)
 
   -- it is
   module _ (v w : OutputState) (x y : Unit {0}) (h : WritesLines s v (machine_lines list n) (Ok x))
-      (later : WritesLines v w (lines_from ds n left 0 c.machine [] (moment_at_start c)) (Ok y)) (totals : Totals)
+      (later : WritesLines v w (lines_from origin ds n left 0 c.machine [] (moment_at_start c)) (Ok y)) (totals : Totals)
       (each : (stage : Stage) → sum_at stage totals ≡ ticks_for stage (all_charges ds n (entries_of ds n left c))) where
     behind-run : (o : OutputState) (r : Result (Unit {0}) Failed) → WritesLines w o (sum_lines (sums_by (λ stage. sum_at stage totals) stages)) r
         → WritesLines s o ((machine_lines ds n ++ run_lines) ++ sums) r
@@ -78,13 +80,13 @@ module _ (ds : List ℕ) (n left : ℕ) (c : Scene) (s u : OutputState) (list : 
         (sums-same (λ stage. sum_at stage totals) (λ stage. ticks_for stage (all_charges ds n (entries_of ds n left c))) stages each) told)
 
     pub sums-fail : (e : Failed) (r : Result (Unit {0}) Failed) → IsErr r → WritesLines w u (sum_lines (sums_by (λ stage. sum_at stage totals) stages)) (Err e)
-        → WritesLines s u (ledger ds n left c) r
+        → WritesLines s u (ledger origin ds n left c) r
     sums-fail e r f told = whole r (lines_cut s u ((machine_lines ds n ++ run_lines) ++ sums) waits e r f (behind-run u (Err e) told))
 
     pub all-written : (o : OutputState) (z : Unit {0}) (r : Result (Unit {0}) Failed) (waited : WaitTotals)
         → WritesLines w o (sum_lines (sums_by (λ stage. sum_at stage totals) stages)) (Ok z)
         → ((r : Stage) (s : Stall) → is_parted r ≡ true → waited_at r s waited ≡ stalled_from r s ds n left [] (moment_at_start c))
-        → WritesLines o u (wait_sum_lines (wait_sums_by (λ r s. waited_at r s waited))) r → WritesLines s u (ledger ds n left c) r
+        → WritesLines o u (wait_sum_lines (wait_sums_by (λ r s. waited_at r s waited))) r → WritesLines s u (ledger origin ds n left c) r
     unfolding waits
     all-written o z r waited told all last =
         whole r (lines_then s o u ((machine_lines ds n ++ run_lines) ++ sums) waits z r (behind-run o (Ok z) told)

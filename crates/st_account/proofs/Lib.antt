@@ -12,3 +12,4 @@ pub mod LedgerLemmas
 pub mod Stages
 pub mod PrintLemmas
 pub mod LeftLemmas
+pub mod FirstLemmas

@@ -19,6 +19,7 @@ use Rattle.st_ledger.proofs.Runs.{ticks_for-append}
 use Rattle.st_plain.specs.declared.uses.Use.{Use}
 use Rattle.st_reasons.specs.Sums.{row_stalled}
 use Rattle.st_reasons.specs.declared.waits.Stall.{Stall}
+use Rattle.st_lines.specs.declared.origins.Origin.{Origin}
 use Rattle.st_account.specs.Settling.{at_hand}
 use Rattle.st_account.specs.Standing.{has_due, still_by}
 use Rattle.st_account.specs.Text.{segment_ends, segment_end_at, segment_lines, segment_after, uses_at, words_before, lines_of_entry, last_lines, lines_from, stalled_from}
@@ -48,24 +49,24 @@ rest-none s (x ∷ xs) cards awake = rw awake refl
 module _ (ds : List ℕ) (n : ℕ) where
   -- ---- the lines
 
-  pub lines-end : (left k : ℕ) (b : Machine) (us : List Use) (m : Moment) → (left ≡ 0) ⊎ (rests (next_state m) ≡ true)
-      → lines_from ds n left k b us m ≡ last_lines ds n k b m
+  pub lines-end : (o : Machine → ℕ → Option Origin) (left k : ℕ) (b : Machine) (us : List Use) (m : Moment) → (left ≡ 0) ⊎ (rests (next_state m) ≡ true)
+      → lines_from o ds n left k b us m ≡ last_lines o ds n k b m
   unfolding lines_from
-  lines-end zero k b us m end = refl
-  lines-end (suc left) k b us m (inl none) = let no : ⊥ = omega arith in absurd no
-  lines-end (suc left) k b us m (inr resting) = rw resting refl
+  lines-end o zero k b us m end = refl
+  lines-end o (suc left) k b us m (inl none) = let no : ⊥ = omega arith in absurd no
+  lines-end o (suc left) k b us m (inr resting) = rw resting refl
 
-  pub lines-on : (left k : ℕ) (b : Machine) (us : List Use) (m : Moment) → left ≢ 0 → rests (next_state m) ≡ false
-      → lines_from ds n left k b us m
-      ≡ (segment_lines ds n k b m ++ lines_of_entry ds n (segment_end_at (left - 1) (next_moment ds n (standing_at m))) (words_before m us) (standing_at m))
-      ++ lines_from ds n (left - 1) (segment_after k m) (next_state m) (uses_at ds n (standing_at m)) (next_moment ds n (standing_at m))
+  pub lines-on : (o : Machine → ℕ → Option Origin) (left k : ℕ) (b : Machine) (us : List Use) (m : Moment) → left ≢ 0 → rests (next_state m) ≡ false
+      → lines_from o ds n left k b us m
+      ≡ (segment_lines o ds n k b m ++ lines_of_entry o ds n (segment_end_at (left - 1) (next_moment ds n (standing_at m))) (words_before m us) (standing_at m))
+      ++ lines_from o ds n (left - 1) (segment_after k m) (next_state m) (uses_at ds n (standing_at m)) (next_moment ds n (standing_at m))
   unfolding lines_from
-  lines-on zero k b us m some going = absurd (some refl)
-  lines-on (suc left) k b us m some going =
+  lines-on o zero k b us m some going = absurd (some refl)
+  lines-on o (suc left) k b us m some going =
       let one : left ≡ suc left - 1 = omega arith in
       rw going
-      (ap (λ j. (segment_lines ds n k b m ++ lines_of_entry ds n (segment_end_at j (next_moment ds n (standing_at m))) (words_before m us) (standing_at m))
-      ++ lines_from ds n j (segment_after k m) (next_state m) (uses_at ds n (standing_at m)) (next_moment ds n (standing_at m))) one)
+      (ap (λ j. (segment_lines o ds n k b m ++ lines_of_entry o ds n (segment_end_at j (next_moment ds n (standing_at m))) (words_before m us) (standing_at m))
+      ++ lines_from o ds n j (segment_after k m) (next_state m) (uses_at ds n (standing_at m)) (next_moment ds n (standing_at m))) one)
 
   -- ---- the waits
 

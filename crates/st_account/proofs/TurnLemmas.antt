@@ -35,6 +35,8 @@ use Rattle.st_reasons.specs.declared.sums.WaitTotals.{WaitTotals}
 use Rattle.st_reasons.specs.declared.waits.Stall.{Stall}
 use Rattle.st_account.specs.Standing.{guessing, kept_lines, kept_stalled, IsWaiting, IsLast, IsStanding, IsAt, IsBehindMoment}
 use Rattle.st_account.specs.Text.{run_ends, segment_end_at, segment_lines, segment_after, uses_at, words_before, lines_of_entry, last_lines, lines_from, stalled_from}
+use Rattle.st_lines.specs.Origins.{origin_at}
+use Rattle.st_lines.specs.declared.origins.Origins.{Origins}
 use Rattle.st_account.proofs.LastLemmas.{start-last}
 use Rattle.st_account.proofs.EntryLemmas.{kept-none}
 use Rattle.st_account.proofs.RunLemmas.{next-stepped, next-at, early-tick}
@@ -50,7 +52,7 @@ pub record IsRunning (s t : OutputState) (all : List (List ℕ)) (ds : List ℕ)
   pub bounds : IsMoment 255 n m
   pub meets : m.front.c ≡ m.tick
   pub time : HasTime (64 * (255 + 4)) m.tick m.scene.machine
-  pub so_far : LinesSoFar s t all (kept_lines a.k a.last (segment_end_at left m) ++ lines_from ds n left a.k b a.last.uses.items m)
+  pub so_far : LinesSoFar s t all (kept_lines a.k a.last (segment_end_at left m) ++ lines_from (origin_at a.origins) ds n left a.k b a.last.uses.items m)
   pub number : a.k ≤ m.scene.machine.done
   pub few : m.scene.machine.done + left ≤ MOST_INSTRUCTIONS
   pub within : AreWithin a.last.tick a.sums
@@ -67,18 +69,18 @@ next-done ds n m = step-done (next_state m) ∙ ap (λ d. d + 1) (settled-done m
 
 -- ---- the start
 
-pub run-starts : (s : OutputState) (ds : List ℕ) (n budget : ℕ) (state : Machine) (signals : List Signal) (cards : List (List ℕ)) (a : Account)
+pub run-starts : (s : OutputState) (ds : List ℕ) (n budget : ℕ) (state : Machine) (signals : List Signal) (cards : List (List ℕ)) (table : Origins) (a : Account)
     → length a.words.items ≡ words_of_storage → AreDelaysUpTo 255 ds → n ≤ 8 → IsMachine state → All IsCard cards → state.done ≡ 0 → budget ≤ MOST_INSTRUCTIONS
-    → AreWithin 0 a.sums → AllPass is_signal signals → a.state ≡ state → a.k ≡ 0 → a.last.tick ≡ 0 → a.last.front ≡ opening_front answers_at_start 0
+    → AreWithin 0 a.sums → AllPass is_signal signals → a.state ≡ state → a.origins ≡ table → a.k ≡ 0 → a.last.tick ≡ 0 → a.last.front ≡ opening_front answers_at_start 0
     → a.last.past ≡ a.last.front.past → a.last.missed ≡ false → a.last.ic ≡ state.ic → a.last.enabled ≡ state.enabled → a.last.ic < 2 ^ 19 → a.log ≡ []
     → IsTight 255 a.last.front → a.last.uses.items ≡ [] → IsWaiting a.last a.waiting.totals → AreWaitsWithin 0 a.waiting.totals
-    → IsRunning s s (lines_from ds n budget 0 state [] (moment_at_start (at_hand state signals cards))) ds n
+    → IsRunning s s (lines_from (origin_at table) ds n budget 0 state [] (moment_at_start (at_hand state signals cards))) ds n
     (λ x. ticks_for x (all_charges ds n (entries_from ds n budget (moment_at_start (at_hand state signals cards)))))
     (λ r z. stalled_from r z ds n budget [] (moment_at_start (at_hand state signals cards))) a signals cards budget
-run-starts s ds n budget state signals cards a size are few machine each fresh limit none passes is number tick front past missed ic enabled counter empty tight unused waiting unwaited =
+run-starts s ds n budget state signals cards table a size are few machine each fresh limit none passes is same_table number tick front past missed ic enabled counter empty tight unused waiting unwaited =
     let c = at_hand state signals cards in
     let m = moment_at_start c in
-    let all = lines_from ds n budget 0 state [] m in
+    let all = lines_from (origin_at table) ds n budget 0 state [] m in
     record {
       m = m;
       b = state;
@@ -95,9 +97,10 @@ run-starts s ds n budget state signals cards a size are few machine each fresh l
       meets = refl;
       time = omega arith;
       so_far = subst (LinesSoFar s s all)
-          (sym (ap (λ ls. ls ++ lines_from ds n budget a.k state a.last.uses.items m) (kept-none a.k a.last (segment_end_at budget m) number)
-          ∙ ap (λ k. lines_from ds n budget k state a.last.uses.items m) number
-          ∙ ap (λ us. lines_from ds n budget 0 state us m) unused))
+          (sym (ap (λ ls. ls ++ lines_from (origin_at a.origins) ds n budget a.k state a.last.uses.items m) (kept-none a.k a.last (segment_end_at budget m) number)
+          ∙ ap (λ y. lines_from (origin_at y) ds n budget a.k state a.last.uses.items m) same_table
+          ∙ ap (λ k. lines_from (origin_at table) ds n budget k state a.last.uses.items m) number
+          ∙ ap (λ us. lines_from (origin_at table) ds n budget 0 state us m) unused))
           (lines_none s all);
       number = omega (arith, number);
       few = omega (arith, fresh, limit);
@@ -165,12 +168,11 @@ module _ (s t : OutputState) (all : List (List ℕ)) (ds : List ℕ) (n : ℕ) (
     kept end = ap (λ (x : Account). kept_lines x.k x.last end) same
 
     pub finishes : (u : OutputState) (r : Result (Unit {0}) Failed) → run_ends left h.m ≡ true
-        → WritesLines t u (kept_lines a'.k a'.last (segment_end_at left h.m) ++ last_lines ds n a'.k h.b h.m) r → WritesLines s u all r
+        → WritesLines t u (kept_lines a'.k a'.last (segment_end_at left h.m) ++ last_lines (origin_at a'.origins) ds n a'.k h.b h.m) r → WritesLines s u all r
     finishes u r end writes =
-        run-ends ds n left a.k h.b a.last.uses.items h.m s t all (kept_lines a.k a.last (segment_end_at left h.m)) h.so_far u r (ends-one left (rests (next_state h.m)) end)
+        run-ends (origin_at a.origins) ds n left a.k h.b a.last.uses.items h.m s t all (kept_lines a.k a.last (segment_end_at left h.m)) h.so_far u r (ends-one left (rests (next_state h.m)) end)
         (subst (λ ls. WritesLines t u ls r)
-        (ap (λ ls. ls ++ last_lines ds n a'.k h.b h.m) (kept (segment_end_at left h.m))
-        ∙ ap (λ k. kept_lines a.k a.last (segment_end_at left h.m) ++ last_lines ds n k h.b h.m) segment) writes)
+        (ap (λ (x : Account). kept_lines x.k x.last (segment_end_at left h.m) ++ last_lines (origin_at x.origins) ds n x.k h.b h.m) same) writes)
 
     pub sums-are : (x : Stage) → run_ends left h.m ≡ true → sum_at x a'.sums ≡ total x
     sums-are x end =
@@ -202,19 +204,18 @@ module _ (s t : OutputState) (all : List (List ℕ)) (ds : List ℕ) (n : ℕ) (
       abbrev row : List (List ℕ)
       row = kept_lines a.k a.last (segment_end_at left h.m)
 
-      crossed : (u : OutputState) (r : Result (Unit {0}) Failed) → WritesLines t u (kept_lines a'.k a'.last (segment_end_at left h.m) ++ segment_lines ds n a'.k h.b h.m) r
-          → WritesLines t u (row ++ segment_lines ds n a.k h.b h.m) r
+      crossed : (u : OutputState) (r : Result (Unit {0}) Failed) → WritesLines t u (kept_lines a'.k a'.last (segment_end_at left h.m) ++ segment_lines (origin_at a'.origins) ds n a'.k h.b h.m) r
+          → WritesLines t u (row ++ segment_lines (origin_at a.origins) ds n a.k h.b h.m) r
       crossed u r writes = subst (λ ls. WritesLines t u ls r)
-          (ap (λ ls. ls ++ segment_lines ds n a'.k h.b h.m) (kept (segment_end_at left h.m))
-          ∙ ap (λ k. kept_lines a.k a.last (segment_end_at left h.m) ++ segment_lines ds n k h.b h.m) segment) writes
+          (ap (λ (x : Account). kept_lines x.k x.last (segment_end_at left h.m) ++ segment_lines (origin_at x.origins) ds n x.k h.b h.m) same) writes
 
       pub crossing-fails : (u : OutputState) (e : Failed) (r : Result (Unit {0}) Failed) → IsErr r
-          → WritesLines t u (kept_lines a'.k a'.last (segment_end_at left h.m) ++ segment_lines ds n a'.k h.b h.m) (Err e) → WritesLines s u all r
+          → WritesLines t u (kept_lines a'.k a'.last (segment_end_at left h.m) ++ segment_lines (origin_at a'.origins) ds n a'.k h.b h.m) (Err e) → WritesLines s u all r
       crossing-fails u e r f w =
-          border-fails ds n left a.k h.b a.last.uses.items h.m s t all (kept_lines a.k a.last (segment_end_at left h.m)) h.so_far some on u e r f (crossed u (Err e) w)
+          border-fails (origin_at a.origins) ds n left a.k h.b a.last.uses.items h.m s t all (kept_lines a.k a.last (segment_end_at left h.m)) h.so_far some on u e r f (crossed u (Err e) w)
 
       module _ (c : Account) (number : c.k ≡ segment_after a'.k h.m) (front : c.last.front ≡ next_front h.m) (tick : c.last.tick ≡ a'.last.tick)
-          (state : c.state ≡ a'.state) where
+          (state : c.state ≡ a'.state) (table : c.origins ≡ a'.origins) where
         pub stands : IsStanding (standing_at h.m) c.state c.last
         stands = record { machine = next ∙ sym state; tick = behind.tick ∙ sym tick; front = sym front }
 
@@ -222,13 +223,13 @@ module _ (s t : OutputState) (all : List (List ℕ)) (ds : List ℕ) (n : ℕ) (
         after = number ∙ ap (λ k. segment_after k h.m) segment
 
         pub goes : (u : OutputState) (x : Unit {0}) (d : Account)
-            → WritesLines t u (kept_lines a'.k a'.last (segment_end_at left h.m) ++ segment_lines ds n a'.k h.b h.m) (Ok x)
+            → WritesLines t u (kept_lines a'.k a'.last (segment_end_at left h.m) ++ segment_lines (origin_at a'.origins) ds n a'.k h.b h.m) (Ok x)
             → c.words.items ≡ a'.state.words → c.sums ≡ a'.sums → length c.words.items ≡ words_of_storage → AreDelaysUpTo 255 ds → n ≤ 8 → AllPass is_signal ys
-            → ((p : Standing) (end : Option ℕ) → c.k ≢ 0 → IsStanding p c.state c.last → kept_lines d.k d.last end ≡ lines_of_entry ds n end c.last.uses.items p)
+            → ((p : Standing) (end : Option ℕ) → c.k ≢ 0 → IsStanding p c.state c.last → kept_lines d.k d.last end ≡ lines_of_entry (origin_at c.origins) ds n end c.last.uses.items p)
             → d.state ≡ step c.state → ((p : Standing) → IsStanding p c.state c.last → IsLast ds n (next_moment ds n p) d.last d.log)
             → ((p : Standing) (x : Stage) → IsStanding p c.state c.last → sum_at x d.sums ≡ sum_at x c.sums + ticks_for x (charges_at ds n p))
             → AreWithin d.last.tick d.sums → d.last.enabled ≡ c.state.enabled → guessing d.last.ic d.state ≡ guess (interrupt c.state) c.state
-            → ((w : ℕ) → 32 ≤ w → IsNotAmong w d.last.plan.writes → word d.state w ≡ word c.state w) → d.words.items ≡ c.words.items → d.k ≡ c.k
+            → ((w : ℕ) → 32 ≤ w → IsNotAmong w d.last.plan.writes → word d.state w ≡ word c.state w) → d.words.items ≡ c.words.items → d.origins ≡ c.origins → d.k ≡ c.k
             → c.last.uses.items ≡ words_before h.m a'.last.uses.items → ((p : Standing) → IsStanding p c.state c.last → d.last.uses.items ≡ uses_at ds n p)
             → IsWaiting d.last d.waiting.totals
             → ((r : Stage) (z : Stall) → is_parted r ≡ true → waited_at r z c.waiting.totals ≡ waited_at r z a'.waiting.totals + kept_stalled r z a'.k a'.last)
@@ -236,7 +237,7 @@ module _ (s t : OutputState) (all : List (List ℕ)) (ds : List ℕ) (n : ℕ) (
             → kept_stalled r z d.k d.last ≡ row_stalled r z (uses_at ds n p) c.last.uses.items (charges_at ds n p))
             → d.waiting.totals ≡ c.waiting.totals
             → IsRunning s u all ds n total waited d ys cards' (left - 1)
-        goes u x d writes words sums size are few passes entry made hand added within enabled guessed unwritten kept_words segment' earlier used waits_new told kept totals =
+        goes u x d writes words sums size are few passes entry made hand added within enabled guessed unwritten kept_words kept_table segment' earlier used waits_new told kept totals =
             let m' = next_moment ds n (standing_at h.m) in
             let bounds = next-is 255 n ds are few h.m h.bounds in
             let more = next-done ds n h.m in
@@ -246,6 +247,7 @@ module _ (s t : OutputState) (all : List (List ℕ)) (ds : List ℕ) (n : ℕ) (
             let end = segment_end_at (left - 1) m' in
             let old : c.last.uses.items ≡ words_before h.m a.last.uses.items = earlier ∙ ap (λ (l : Last). words_before h.m l.uses.items) last in
             let later = number-some a.k c.k h.m after in
+            let same_table : c.origins ≡ a.origins = table ∙ ap (λ (x : Account). x.origins) same in
             let stored : d.words.items ≡ (next_state h.m).words = kept_words ∙ words ∙ ap (λ (u : Machine). u.words) (sym next) in
             record {
               m = m';
@@ -263,11 +265,14 @@ module _ (s t : OutputState) (all : List (List ℕ)) (ds : List ℕ) (n : ℕ) (
               meets = next-at ds n (standing_at h.m);
               time = next-time 255 n ds are few h.m h.bounds h.time;
               so_far = subst (LinesSoFar s u all)
-                  (ap (λ ls. ls ++ lines_from ds n (left - 1) (segment_after a.k h.m) (next_state h.m) (uses_at ds n p) m')
-                  (ap (λ us. lines_of_entry ds n end us p) (sym old) ∙ sym (entry p end later stands))
-                  ∙ ap (λ us. kept_lines d.k d.last end ++ lines_from ds n (left - 1) (segment_after a.k h.m) (next_state h.m) us m') (sym (used p stands))
-                  ∙ ap (λ k. kept_lines d.k d.last end ++ lines_from ds n (left - 1) k (next_state h.m) d.last.uses.items m') (sym (segment' ∙ after)))
-                  (turn-made ds n left a.k h.b a.last.uses.items h.m s t all (kept_lines a.k a.last (segment_end_at left h.m)) h.so_far some on u x (crossed u (Ok x) writes));
+                  (ap (λ ls. ls ++ lines_from (origin_at a.origins) ds n (left - 1) (segment_after a.k h.m) (next_state h.m) (uses_at ds n p) m')
+                  (ap (λ us. lines_of_entry (origin_at a.origins) ds n end us p) (sym old)
+                  ∙ ap (λ y. lines_of_entry (origin_at y) ds n end c.last.uses.items p) (sym same_table)
+                  ∙ sym (entry p end later stands))
+                  ∙ ap (λ us. kept_lines d.k d.last end ++ lines_from (origin_at a.origins) ds n (left - 1) (segment_after a.k h.m) (next_state h.m) us m') (sym (used p stands))
+                  ∙ ap (λ k. kept_lines d.k d.last end ++ lines_from (origin_at a.origins) ds n (left - 1) k (next_state h.m) d.last.uses.items m') (sym (segment' ∙ after))
+                  ∙ ap (λ y. kept_lines d.k d.last end ++ lines_from (origin_at y) ds n (left - 1) d.k (next_state h.m) d.last.uses.items m') (sym (kept_table ∙ same_table)))
+                  (turn-made (origin_at a.origins) ds n left a.k h.b a.last.uses.items h.m s t all (kept_lines a.k a.last (segment_end_at left h.m)) h.so_far some on u x (crossed u (Ok x) writes));
               number = number-next a.k d.k h.m h.m.scene.machine.done _ (segment' ∙ after) h.number more;
               few = omega (arith, more, h.few, some);
               within = within;

@@ -12,6 +12,7 @@ use Rattle.st_exch.specs.Reader.{reader_cards}
 use Rattle.st_run.specs.Run.{Scene}
 use Rattle.st_report.specs.Line.{fault_line}
 use Rattle.st_account.specs.Settling.{at_hand}
+use Rattle.st_account.specs.FirstCards.{origin_of}
 use Rattle.st_account.specs.Text.{ledger}
 use Rattle.st_account.specs.declared.status.Status.{Status}
 use Rattle.st_account.specs.declared.status.Status.TheVariants.{Done, Refused, Usage, JobTooLong, ReadFault, WriteFault, NoMemory}
@@ -43,7 +44,7 @@ start_of job a = at_hand (opening_state a.image a.start) a.asked.signals (reader
 
 -- the lines of a job, by what it gives: its ledger, or the first card that is refused
 abbrev pub lines_by : ℕ → List ℕ → Result Assembly Refusal → List (List ℕ)
-lines_by n job (Ok a) = ledger a.asked.delays n a.asked.budget (start_of job a)
+lines_by n job (Ok a) = ledger (origin_of a) a.asked.delays n a.asked.budget (start_of job a)
 lines_by n job (Err r) = fault_line r.card (name_of r.fault) ∷ []
 
 unfoldable pub ledger_lines_of : ℕ → List ℕ → List (List ℕ)

@@ -1,4 +1,5 @@
 pub mod Text
+pub mod FirstCards
 pub mod Answers
 pub mod Standing
 pub mod Settling
@@ -40,4 +41,5 @@ pub use Rattle.st_text.specs.Bytes
 pub use Rattle.st_text.specs.Numerals
 pub use Rattle.st_lines.specs.BorderLines
 pub use Rattle.st_lines.specs.EntryLines
+pub use Rattle.st_lines.specs.Origins
 pub use Rattle.st_lines.specs.WaitLines

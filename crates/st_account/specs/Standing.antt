@@ -80,6 +80,7 @@ kept_lines k l end =
     else done_entry_lines (record {
       n = l.done.n;
       address = l.done.address;
+      origin = l.done.origin;
       row = l.done.row;
       missed = l.missed;
       before = l.done.before;

@@ -1,6 +1,7 @@
 -- The ledger of a run: its lines, from the moments of the run. The machine has the delays ds and n
 -- levels. Segments are numbered from 1 on; k is the number of the segment of the entry that has
--- just been done, 0 before the first one, and us are the words that it uses.
+-- just been done, 0 before the first one, and us are the words that it uses. Of the half-word at an
+-- address in a state `o` says where it comes from.
 use Rattle.std.specs.Prelude.{ℕ, zero, suc, ◌+◌, Bool, true, false, ◌||◌, nat_eq, if◌then◌else◌, List, [], ◌∷◌, ◌++◌, Option, None, Some, map}
 use Rattle.st_state.specs.Machine.{Machine}
 use Rattle.st_prep.specs.Plan.{plan}
@@ -27,6 +28,7 @@ use Rattle.st_lines.specs.Lines.{start_line}
 use Rattle.st_lines.specs.EntryLines.{done_entry_lines}
 use Rattle.st_lines.specs.WaitLines.{wait_sum_lines}
 use Rattle.st_lines.specs.BorderLines.{segment_end_lines, marks_lines, state_lines, machine_lines}
+use Rattle.st_lines.specs.declared.origins.Origin.{Origin}
 use Rattle.st_lines.specs.declared.lines.Why.{Why}
 use Rattle.st_lines.specs.declared.lines.Why.TheVariants.{Run, Interrupt, Missed, Card}
 use Rattle.st_account.specs.Settling.{words_printed}
@@ -41,14 +43,16 @@ late_at ds n b m =
     (first_late m.tick (ahead ds n (suc n) None (guess (interrupt b) b) m.front))
 
 -- at a moment
-abbrev pub end_lines_at : List ℕ → ℕ → ℕ → Machine → Moment → List (List ℕ)
-end_lines_at ds n k b m =
-    segment_end_lines k m.tick (m.scene.machine.done + 1) (map (seen_ahead ds n) m.dropped)
-    (late_at ds n b m)
+abbrev pub end_lines_at : (Machine → ℕ → Option Origin) → List ℕ → ℕ → ℕ → Machine → Moment →
+    List (List ℕ)
+end_lines_at o ds n k b m =
+    segment_end_lines (o (next_state m)) k m.tick (m.scene.machine.done + 1)
+    (map (seen_ahead ds n) m.dropped) (late_at ds n b m)
 
 -- where it ends
-abbrev pub lines_at_end : List ℕ → ℕ → ℕ → Machine → Moment → List (List ℕ)
-lines_at_end ds n k b m = if ends_segment m then end_lines_at ds n k b m else []
+abbrev pub lines_at_end : (Machine → ℕ → Option Origin) → List ℕ → ℕ → ℕ → Machine → Moment →
+    List (List ℕ)
+lines_at_end o ds n k b m = if ends_segment m then end_lines_at o ds n k b m else []
 
 -- ---- the state behind an entry
 
@@ -84,9 +88,10 @@ abbrev pub segment_after : ℕ → Moment → ℕ
 segment_after k m = if begins_segment k m then k + 1 else k
 
 -- the run goes on: the end of a segment, the state, and the start of the next segment
-unfoldable pub segment_lines : List ℕ → ℕ → ℕ → Machine → Moment → List (List ℕ)
-segment_lines ds n k b m =
-    (lines_at_end ds n k b m ++ state_lines_at (words_behind m) k b (next_state m))
+unfoldable pub segment_lines : (Machine → ℕ → Option Origin) → List ℕ → ℕ → ℕ → Machine → Moment →
+    List (List ℕ)
+segment_lines o ds n k b m =
+    (lines_at_end o ds n k b m ++ state_lines_at (words_behind m) k b (next_state m))
     ++ begun_lines k m
 
 -- ---- rows
@@ -104,14 +109,16 @@ words_before m us = if ends_segment m then [] else us
 
 -- the lines of the next entry, where the one before it uses some words; its segment ends at the
 -- tick `end`, or goes on where there is none
-unfoldable pub lines_of_entry : List ℕ → ℕ → Option ℕ → List Use → Standing → List (List ℕ)
-lines_of_entry ds n end before p =
+unfoldable pub lines_of_entry : (Machine → ℕ → Option Origin) → List ℕ → ℕ → Option ℕ → List Use →
+    Standing → List (List ℕ)
+lines_of_entry o ds n end before p =
     let s = p.scene.machine in
     let e = plan s (interrupt s) in
     let x = entry (interrupt s) s in
     done_entry_lines (record {
       n = s.done + 1;
       address = address s;
+      origin = o s (address s);
       row = record { ticks = next_row ds n p; level_wait = level_wait ds n p.front x };
       missed = is_missed e s;
       before = p.tick;
@@ -137,9 +144,10 @@ unfoldable pub segment_end_at : ℕ → Moment → Option ℕ
 segment_end_at left m = if segment_ends left m then Some m.tick else None
 
 -- the last segment ends, and the run
-unfoldable pub last_lines : List ℕ → ℕ → ℕ → Machine → Moment → List (List ℕ)
-last_lines ds n k b m =
-    (end_lines_at ds n k b m ++ marks_lines (words_behind m) k b.enabled b.words (next_state m))
+unfoldable pub last_lines : (Machine → ℕ → Option Origin) → List ℕ → ℕ → ℕ → Machine → Moment →
+    List (List ℕ)
+last_lines o ds n k b m =
+    (end_lines_at o ds n k b m ++ marks_lines (words_behind m) k b.enabled b.words (next_state m))
     ++ run_end_line (rests (next_state m)) ∷ done_line (next_state m).done ∷ ticks_line m.tick ∷ []
 
 -- the ticks of all charges, stage by stage
@@ -164,19 +172,20 @@ wait_totals_lines f = wait_sum_lines (wait_sums_by f)
 
 -- from a moment on, in which so many entries may still be done; a rest is tried before the budget.
 -- b is the state before the entry that has just been done
-unfoldable pub lines_from : List ℕ → ℕ → ℕ → ℕ → Machine → List Use → Moment → List (List ℕ)
-lines_from ds n zero k b us m = last_lines ds n k b m
-lines_from ds n (suc left) k b us m =
+unfoldable pub lines_from : (Machine → ℕ → Option Origin) → List ℕ → ℕ → ℕ → ℕ → Machine →
+    List Use → Moment → List (List ℕ)
+lines_from o ds n zero k b us m = last_lines o ds n k b m
+lines_from o ds n (suc left) k b us m =
     let p = standing_at m in
     let behind = next_moment ds n p in
-    if rests (next_state m) then last_lines ds n k b m
-    else (segment_lines ds n k b m
-    ++ lines_of_entry ds n (segment_end_at left behind) (words_before m us) p)
-    ++ lines_from ds n left (segment_after k m) (next_state m) (uses_at ds n p) behind
+    if rests (next_state m) then last_lines o ds n k b m
+    else (segment_lines o ds n k b m
+    ++ lines_of_entry o ds n (segment_end_at left behind) (words_before m us) p)
+    ++ lines_from o ds n left (segment_after k m) (next_state m) (uses_at ds n p) behind
 
 -- the ledger of the run of a scene
-unfoldable pub ledger : List ℕ → ℕ → ℕ → Scene → List (List ℕ)
-ledger ds n left c =
-    machine_lines ds n ++ lines_from ds n left 0 c.machine [] (moment_at_start c)
+unfoldable pub ledger : (Machine → ℕ → Option Origin) → List ℕ → ℕ → ℕ → Scene → List (List ℕ)
+ledger o ds n left c =
+    machine_lines ds n ++ lines_from o ds n left 0 c.machine [] (moment_at_start c)
     ++ totals_lines (all_charges ds n (entries_of ds n left c))
     ++ wait_totals_lines (λ r s. stalled_from r s ds n left [] (moment_at_start c))

@@ -15,6 +15,7 @@ ghost use Rattle.st_ledger.specs.Ledger.{charges_at};
 ghost use Rattle.st_ledger.specs.Totals.{sum_at, AreWithin};
 ghost use Rattle.st_ledger.specs.declared.charges.Stage.{Stage};
 ghost use Rattle.st_lines.specs.Changes.{IsLeft};
+ghost use Rattle.st_lines.specs.Origins.{origin_at};
 ghost use Rattle.st_lines.specs.declared.lines.Why.TheVariants.{Run as RunBegins};
 ghost use Rattle.st_plain.specs.Looking.{seen_ahead, first_late};
 ghost use Rattle.st_reasons.specs.Sums.{AreWaitsWithin, is_parted, waited_at, row_stalled};
@@ -45,8 +46,8 @@ use st_exec::{interrupt, is_at_rest, next_address};
 use st_io::{Failed, Sink};
 use st_ledger::Totals;
 use st_lines::{
-    Border, EntryDone, Waiting, counter_of, is_enabled, write_border, write_done, write_end,
-    write_marks, write_totals,
+    Border, EntryDone, Origins, Waiting, counter_of, is_enabled, write_border, write_done,
+    write_end, write_marks, write_totals,
 };
 use st_reasons::{WaitTotals, Waits};
 use st_rows::Log;
@@ -66,6 +67,8 @@ pub(crate) struct Account {
     pub log: Log,
     /// What came behind it.
     pub behind: Behind,
+    /// Where the half-words of the program come from.
+    pub origins: Origins,
     /// The ticks of each stage so far.
     pub sums: Totals,
     /// What the waits of the last entry are told with, and the sums of those before it.
@@ -97,6 +100,7 @@ fn write_row<K: Sink>(
     let done = EntryDone {
         n: last.done.n,
         address: last.done.address,
+        origin: last.done.origin,
         row: last.done.row,
         missed: last.missed,
         before: last.done.before,
@@ -118,9 +122,10 @@ fn write_row<K: Sink>(
 impl Account {
     /// Before the first entry of a machine in which nothing has happened; the words are as many as
     /// storage has, whatever they are.
-    pub fn new(state: State, words: Vec<u64>) -> Account
+    pub fn new(state: State, words: Vec<u64>, origins: Origins) -> Account
         ensures state { result.state ≡ state }
         ensures words { result.words.items ≡ words.items }
+        ensures origins { result.origins ≡ origins }
         ensures tick { result.last.tick ≡ 0 }
         ensures front { result.last.front
             ≡ opening_front (record { ticks = replicate BANKS 0 }) 0 }
@@ -144,6 +149,7 @@ impl Account {
             last,
             log: Log::new(),
             behind: nothing_came(),
+            origins,
             sums: Totals::default(),
             waiting: Waiting {
                 waits: Waits::new(),
@@ -347,7 +353,7 @@ impl Account {
             IsBehindMoment ds n left b m self.old xs cards → run_ends left m ≡ false →
             WritesLines (K.output out.old) (K.output out.new)
             (kept_lines self.old.k self.old.last (segment_end_at left m)
-            ++ segment_lines ds n self.old.k b m) result }
+            ++ segment_lines (origin_at self.old.origins) ds n self.old.k b m) result }
         ensures number { (ds : List ℕ) (n left : ℕ) (b : Machine) (m : Moment)
             (xs : List SignalOf) (cards : List (List ℕ)) →
             IsBehindMoment ds n left b m self.old xs cards →
@@ -364,6 +370,7 @@ impl Account {
         ensures words { IsOk result → self.new.words.items ≡ self.old.state.words }
         ensures size { IsOk result → length self.new.words.items ≡ words_of_storage }
         ensures state { self.new.state ≡ self.old.state }
+        ensures origins { self.new.origins ≡ self.old.origins }
         ensures sums { self.new.sums ≡ self.old.sums }
         ensures earlier { (ds : List ℕ) (n left : ℕ) (b : Machine) (m : Moment)
             (xs : List SignalOf) (cards : List (List ℕ)) →
@@ -390,6 +397,7 @@ impl Account {
             &self.behind.may,
             self.behind.found.as_slice(),
             &self.behind.late,
+            &self.origins,
         )
     }
 
@@ -407,7 +415,7 @@ impl Account {
             IsBehindMoment ds n left b m self.old xs cards → run_ends left m ≡ true →
             WritesLines (K.output out.old) (K.output out.new)
             (kept_lines self.old.k self.old.last (segment_end_at left m)
-            ++ last_lines ds n self.old.k b m) result }
+            ++ last_lines (origin_at self.old.origins) ds n self.old.k b m) result }
         ensures sums { self.new.sums ≡ self.old.sums }
         ensures stalled { IsOk result → (r : Stage) (s : Stall) → is_parted r ≡ true →
             waited_at r s self.new.waiting.totals ≡ waited_at r s self.old.waiting.totals
@@ -430,7 +438,7 @@ impl Account {
             (xs : List SignalOf) (cards : List (List ℕ)) →
             IsBehindMoment ds n left b m self.old xs cards → run_ends left m ≡ true →
             WritesLines (K.output out.old) (K.output out.new)
-            (last_lines ds n self.old.k b m) result }
+            (last_lines (origin_at self.old.origins) ds n self.old.k b m) result }
         ensures sums { self.new.sums ≡ self.old.sums }
         ensures waits { self.new.waiting ≡ self.old.waiting }
     {
@@ -441,6 +449,8 @@ impl Account {
             row_number(&self.state),
             self.behind.found.as_slice(),
             &self.behind.late,
+            &self.origins,
+            &self.state,
         )?;
         write_marks(
             out,
@@ -473,7 +483,8 @@ impl Account {
 
         ensures lines { (p : Standing) (end : Option ℕ) → self.old.k ≢ 0 →
             IsStanding p self.old.state self.old.last → kept_lines self.new.k self.new.last end
-            ≡ lines_of_entry timing.now.delays timing.now.levels end self.old.last.uses.items p }
+            ≡ lines_of_entry (origin_at self.old.origins) timing.now.delays timing.now.levels end
+            self.old.last.uses.items p }
         ensures uses { (p : Standing) → IsStanding p self.old.state self.old.last →
             self.new.last.uses.items ≡ uses_at timing.now.delays timing.now.levels p }
         ensures waiting { IsWaiting self.new.last self.new.waiting.totals }
@@ -497,6 +508,7 @@ impl Account {
         ensures left { (w : ℕ) → 32 ≤ w → IsNotAmong w self.new.last.plan.writes →
             word self.new.state w ≡ word self.old.state w }
         ensures words { self.new.words.items ≡ self.old.words.items }
+        ensures origins { self.new.origins ≡ self.old.origins }
         ensures number { self.new.k ≡ self.old.k }
     {
         timing.delays.shape();
@@ -504,8 +516,10 @@ impl Account {
         let taken = interrupt(&self.state);
         let before = self.last.tick;
         let start = self.last.front.c;
+        let address = next_address(&self.state);
         self.last.done.n = row_number(&self.state);
-        self.last.done.address = next_address(&self.state);
+        self.last.done.address = address;
+        self.last.done.origin = self.origins.at(&self.state, address);
         self.last.done.before = before;
         self.last.done.start = start;
         count_on(&self.state, taken, timing, &mut self.last, &mut self.log);

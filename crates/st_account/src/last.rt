@@ -5,6 +5,7 @@ ghost use Rattle.st_rows.specs.Ranges.{IsTight};
 ghost use Rattle.st_rows.specs.Rows.{opening_front};
 
 use st_banks::LastAnswers;
+use st_lines::Origin;
 use st_plain::{Known, Row, Uses};
 use st_prep::Prepared;
 use st_reasons::Because;
@@ -17,6 +18,8 @@ pub(crate) struct DoneEntry {
     pub n: u32,
     /// Its half-word address.
     pub address: u32,
+    /// Where its half-words come from.
+    pub origin: Option<Origin>,
     pub row: Row,
     /// What is known of it by itself.
     pub known: Known,

@@ -4,6 +4,7 @@
 mod account;
 mod behind;
 mod last;
+mod origins;
 mod program;
 mod running;
 mod settling;

@@ -10,11 +10,14 @@ ghost use Rattle.st_card.specs.Faults.{name_of};
 ghost use Rattle.st_card.specs.Limits.{IsWithinLimits};
 ghost use Rattle.st_exch.specs.Reader.{reader_cards};
 ghost use Rattle.st_io.specs.Lines.{WritesLines};
+ghost use Rattle.st_lines.specs.Origins.{origin_at};
 ghost use Rattle.st_report.specs.Line.{fault_line};
 ghost use Rattle.st_run.specs.Reached.{IsCard};
 ghost use Rattle.st_state.specs.Machine.{opening_state};
+ghost use Rattle.st_account.specs.FirstCards.{origin_of};
 ghost use Rattle.st_account.specs.Answers.{levels_by, levels_asked, lines_by, status_by, ledger_lines_of, status_of, Writes, Did, IsAnswer};
 
+use crate::origins::first_cards;
 use crate::running::{Ready, write_ledger};
 use crate::status::Status;
 use crate::timing::Timing;
@@ -24,7 +27,7 @@ use st_bits::NoMemory;
 use st_card::{Card, Controls, Fault, split};
 use st_exch::Hopper;
 use st_io::{Failed, ReadError, Sink, Source, read_all};
-use st_lines::put;
+use st_lines::{Origins, put};
 use st_report::line_fault;
 use st_state::State;
 use std::alloc::Global;
@@ -112,35 +115,51 @@ fn words(alloc: Global, image: &[u64]) -> Result<Vec<u64>, NoMemory>
     }
 }
 
-// Takes all memory of a run on a machine with so many levels.
+// Takes all memory of a run on a machine with so many levels, and gives back what is asked for.
 fn prepare(
     alloc: Global,
     levels: u8,
     job: &[u8],
     cards: &[Card],
-    program: &Assembled,
-) -> Result<Ready, NoMemory>
+    program: Assembled,
+) -> Result<(Ready, Controls), NoMemory>
     requires cards { cards.now ≡ cards_of job.now }
-    requires sound { IsAssemblySound (length (cards_of job.now)) (assembly_parts program.now) }
+    requires sound { IsAssemblySound (length (cards_of job.now)) (assembly_parts program) }
 
-    ensures state { IfOk result (λ r. r.state ≡ opening_state program.now.image.items
-        program.now.start) }
-    ensures words { IfOk result (λ r. length r.words.items ≡ words_of_storage) }
-    ensures reader { IfOk result (λ r. r.cards ≡ reader_cards job.now) }
-    ensures cards { IfOk result (λ r. All IsCard r.cards) }
-    ensures delays { IfOk result (λ r. r.timing.delays ≡ program.now.controls.delays) }
-    ensures levels { IfOk result (λ r. r.timing.levels ≡ levels) }
+    ensures state { IfOk result (λ r. r.0.state ≡ opening_state program.image.items
+        program.start) }
+    ensures words { IfOk result (λ r. length r.0.words.items ≡ words_of_storage) }
+    ensures origins { IfOk result (λ r. origin_at r.0.origins
+        ≡ origin_of (assembly_parts program)) }
+    ensures reader { IfOk result (λ r. r.0.cards ≡ reader_cards job.now) }
+    ensures cards { IfOk result (λ r. All IsCard r.0.cards) }
+    ensures delays { IfOk result (λ r. r.0.timing.delays ≡ program.controls.delays) }
+    ensures levels { IfOk result (λ r. r.0.timing.levels ≡ levels) }
+    ensures asked { IfOk result (λ r. r.1 ≡ program.controls) }
 {
-    let image = program.image.as_slice();
-    Ok(Ready {
-        state: State::new(alloc, image, program.start)?,
-        words: words(alloc, image)?,
-        cards: reader(alloc, job, cards)?,
-        timing: Timing {
-            delays: delays(alloc, &program.controls)?,
-            levels,
+    let Assembled {
+        image,
+        start,
+        listing,
+        controls,
+        symbols: _,
+    } = program;
+    let state = State::new(alloc, image.as_slice(), start)?;
+    let words = words(alloc, image.as_slice())?;
+    let table = first_cards(alloc, listing.as_slice())?;
+    let reader = reader(alloc, job, cards)?;
+    let delays = delays(alloc, &controls)?;
+    let ready = Ready {
+        state,
+        words,
+        origins: Origins {
+            cards: table,
+            image,
         },
-    })
+        cards: reader,
+        timing: Timing { delays, levels },
+    };
+    Ok((ready, controls))
 }
 
 // Writes the ledger of a job that is assembled, or says why it does not.
@@ -149,19 +168,19 @@ fn run_program<K: Sink>(
     n: u8,
     job: &[u8],
     cards: &[Card],
-    program: &Assembled,
+    program: Assembled,
     out: &mut K,
 ) -> Status
     requires levels { (1 ≤ n) × (n ≤ 8) }
     requires cards { cards.now ≡ cards_of job.now }
-    requires sound { IsAssemblySound (length (cards_of job.now)) (assembly_parts program.now) }
+    requires sound { IsAssemblySound (length (cards_of job.now)) (assembly_parts program) }
     ensures { Writes result (K.output out.old) (K.output out.new)
-        (lines_by n job.now (Ok (assembly_parts program.now))) Status.Done }
+        (lines_by n job.now (Ok (assembly_parts program))) Status.Done }
 {
-    let Ok(ready) = prepare(alloc, n, job, cards, program) else {
+    let Ok((ready, controls)) = prepare(alloc, n, job, cards, program) else {
         return Status::NoMemory;
     };
-    match write_ledger(out, ready, &program.controls) {
+    match write_ledger(out, ready, &controls) {
         Ok(()) => Status::Done,
         Err(_) => Status::WriteFault,
     }
@@ -180,7 +199,7 @@ fn run_job<K: Sink>(alloc: Global, n: u8, job: &[u8], out: &mut K) -> Status
     };
     let deck = cards.as_slice();
     match assemble_cards(alloc, job, deck) {
-        Ok(program) => run_program(alloc, n, job, deck, &program, out),
+        Ok(program) => run_program(alloc, n, job, deck, program, out),
         Err(AsmError::Refused { card, fault }) => refuse(out, card, fault),
         Err(AsmError::NoMemory) => Status::NoMemory,
     }

@@ -5,6 +5,7 @@ ghost use Rattle.st_bits.specs.declared.limits.TheConstants.{MOST_INSTRUCTIONS};
 ghost use Rattle.st_bits.specs.Storage.{words_of_storage};
 ghost use Rattle.st_card.specs.Limits.{is_signal};
 ghost use Rattle.st_io.specs.Lines.{WritesLines};
+ghost use Rattle.st_lines.specs.Origins.{origin_at};
 ghost use Rattle.st_run.specs.Reached.{IsCard};
 ghost use Rattle.st_run.specs.Moments.{moment_at_start as start_of};
 ghost use Rattle.st_ledger.specs.Ledger.{entries_from, all_charges};
@@ -22,7 +23,7 @@ use st_card::{Controls, Signal};
 use st_exch::Hopper;
 use st_io::{Failed, Sink};
 use st_ledger::{Totals, write_sums};
-use st_lines::{write_machine, write_wait_sums};
+use st_lines::{Origins, write_machine, write_wait_sums};
 use st_reasons::WaitTotals;
 use st_state::State;
 
@@ -32,6 +33,8 @@ pub struct Ready {
     pub state: State,
     /// As many words as storage has, whatever they are.
     pub words: Vec<u64>,
+    /// Where the half-words of the program come from.
+    pub origins: Origins,
     /// The cards of the reader.
     pub cards: Hopper,
     pub timing: Timing,
@@ -75,7 +78,8 @@ fn write_run<K: Sink>(
     requires size { length ready.words.items ≡ words_of_storage }
 
     ensures lines { WritesLines (K.output out.old) (K.output out.new)
-        (lines_from ready.timing.delays ready.timing.levels controls.now.budget 0 ready.state []
+        (lines_from (origin_at ready.origins) ready.timing.delays ready.timing.levels
+        controls.now.budget 0 ready.state []
         (start_of (at_hand ready.state controls.now.signals ready.cards))) result }
     ensures sums { (s : Stage) → IsOk result → sum_at s sums.new
         ≡ ticks_for s (all_charges ready.timing.delays ready.timing.levels
@@ -88,12 +92,13 @@ fn write_run<K: Sink>(
     let Ready {
         state,
         words,
+        origins,
         mut cards,
         timing,
     } = ready;
     state.shape();
     timing.delays.shape();
-    let mut account = Account::new(state, words);
+    let mut account = Account::new(state, words, origins);
     let mut rest = signals(controls);
     let mut left = budget(controls);
     'entries: loop {
@@ -123,8 +128,8 @@ pub fn write_ledger<K: Sink>(out: &mut K, ready: Ready, controls: &Controls) -> 
     requires size { length ready.words.items ≡ words_of_storage }
 
     ensures { WritesLines (K.output out.old) (K.output out.new)
-        (ledger ready.timing.delays ready.timing.levels controls.now.budget
-        (at_hand ready.state controls.now.signals ready.cards)) result }
+        (ledger (origin_at ready.origins) ready.timing.delays ready.timing.levels
+        controls.now.budget (at_hand ready.state controls.now.signals ready.cards)) result }
 {
     let mut sums = Totals::default();
     let mut waits = WaitTotals::default();

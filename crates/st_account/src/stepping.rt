@@ -131,6 +131,7 @@ pub(crate) fn count_on(
     ensures tick { last.new.tick ≡ last.new.done.row.ticks.c }
     ensures number { last.new.done.n ≡ last.old.done.n }
     ensures address { last.new.done.address ≡ last.old.done.address }
+    ensures origin { last.new.done.origin ≡ last.old.done.origin }
     ensures before { last.new.done.before ≡ last.old.done.before }
     ensures start { last.new.done.start ≡ last.old.done.start }
 {

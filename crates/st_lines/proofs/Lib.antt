@@ -4,3 +4,4 @@ pub mod FactLemmas
 pub mod DigitLemmas
 pub mod ChangeLemmas
 pub mod WaitLemmas
+pub mod OriginLemmas

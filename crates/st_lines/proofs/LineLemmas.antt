@@ -1,5 +1,5 @@
 -- Lines that are written one after another.
-use Rattle.std.specs.Prelude.{Some, Bool, if◌then◌else◌, nat_eq, Result, Ok, Err, IsErr, IsOk, codes, decimal}
+use Rattle.std.specs.Prelude.{Option, Some, Bool, if◌then◌else◌, nat_eq, Result, Ok, Err, IsErr, IsOk, codes, decimal}
 use Rattle.std.proofs.Common.{◌≡◌, ◌≢◌, ℕ, zero, suc, ◌+◌, ◌-◌, ◌≤◌, inl, inr, min, true, false, List, [], ◌∷◌, ◌++◌, length, take, drop, refl, sym, ◌∙◌, ap, subst, append_assoc, arith}
 use Rattle.std.proofs.lemmas.Bool.Decides.{leb_tells, nat_tests}
 use Rattle.std.proofs.lemmas.List.{take_min, append-nil, length-drop}
@@ -14,6 +14,7 @@ use Rattle.st_lines.specs.Lines.{numbers_text, delays_line, delays_by, dropped_l
 use Rattle.st_exch.specs.Printer.{line_of_words}
 use Rattle.st_report.specs.Line.{prt_line}
 use Rattle.st_lines.specs.EntryLines.{facts_lines}
+use Rattle.st_lines.specs.declared.origins.Origin.{Origin}
 use Rattle.st_lines.specs.BorderLines.{drop_lines, late_lines, segment_end_lines, prints_lines}
 
 pub no_lines : (s : OutputState) (o : Unit {0}) → WritesLines s s [] (Ok o)
@@ -21,47 +22,53 @@ no_lines s o = record { ok = wrote_nothing s; err = tt }
 
 -- ---- entries that are dropped
 
-drops-first : (n tick : ℕ) (found xs : List Ahead) (x : Ahead) → found ≡ x ∷ xs
-    → drop_lines n tick found ≡ (dropped_line n x.plan.place.address x.row ∷ facts_lines n (Some tick) x.plan x.known x.uses.items) ++ drop_lines (n + 1) tick xs
+drops-first : (by : ℕ → Option Origin) (n tick : ℕ) (found xs : List Ahead) (x : Ahead) → found ≡ x ∷ xs
+    → drop_lines by n tick found ≡ (dropped_line n x.plan.place.address x.row ∷ facts_lines n (Some tick) x.plan x.known (by x.plan.place.address) x.uses.items) ++ drop_lines by (n + 1) tick xs
 unfolding drop_lines
-drops-first n tick found xs x is = rw is refl
+drops-first by n tick found xs x is = rw is refl
 
-pub drops_cut : (s u : OutputState) (n tick : ℕ) (found xs : List Ahead) (x : Ahead) (e : Failed) (r : Result (Unit {0}) Failed) → IsErr r
-    → found ≡ x ∷ xs → WritesLines s u (dropped_line n x.plan.place.address x.row ∷ facts_lines n (Some tick) x.plan x.known x.uses.items) (Err e) → WritesLines s u (drop_lines n tick found) r
-drops_cut s u n tick found xs x e r f is h =
-    subst (λ ls. WritesLines s u ls r) (sym (drops-first n tick found xs x is))
-    (lines_cut s u (dropped_line n x.plan.place.address x.row ∷ facts_lines n (Some tick) x.plan x.known x.uses.items) (drop_lines (n + 1) tick xs) e r f h)
+-- one of them, and where its half-words come from
+abbrev drop_text : ℕ → ℕ → Ahead → Option Origin → List (List ℕ)
+drop_text n tick x origin = dropped_line n x.plan.place.address x.row ∷ facts_lines n (Some tick) x.plan x.known origin x.uses.items
 
-pub drops_then : (s v u : OutputState) (n tick : ℕ) (found xs : List Ahead) (x : Ahead) (o : Unit {0}) (r : Result (Unit {0}) Failed)
-    → found ≡ x ∷ xs → WritesLines s v (dropped_line n x.plan.place.address x.row ∷ facts_lines n (Some tick) x.plan x.known x.uses.items) (Ok o)
-    → WritesLines v u (drop_lines (n + 1) tick xs) r → WritesLines s u (drop_lines n tick found) r
-drops_then s v u n tick found xs x o r is h k =
-    subst (λ ls. WritesLines s u ls r) (sym (drops-first n tick found xs x is))
-    (lines_then s v u (dropped_line n x.plan.place.address x.row ∷ facts_lines n (Some tick) x.plan x.known x.uses.items) (drop_lines (n + 1) tick xs) o r h k)
+pub drops_cut : (by : ℕ → Option Origin) (s u : OutputState) (n tick : ℕ) (found xs : List Ahead) (x : Ahead) (origin : Option Origin) (e : Failed) (r : Result (Unit {0}) Failed)
+    → IsErr r → found ≡ x ∷ xs → origin ≡ by x.plan.place.address → WritesLines s u (drop_text n tick x origin) (Err e) → WritesLines s u (drop_lines by n tick found) r
+drops_cut by s u n tick found xs x origin e r f is same h =
+    subst (λ ls. WritesLines s u ls r) (sym (drops-first by n tick found xs x is))
+    (lines_cut s u (drop_text n tick x (by x.plan.place.address)) (drop_lines by (n + 1) tick xs) e r f
+    (subst (λ g. WritesLines s u (drop_text n tick x g) (Err e)) same h))
 
-pub drops_none : (s : OutputState) (n tick : ℕ) (found : List Ahead) (o : Unit {0}) → found ≡ [] → WritesLines s s (drop_lines n tick found) (Ok o)
+pub drops_then : (by : ℕ → Option Origin) (s v u : OutputState) (n tick : ℕ) (found xs : List Ahead) (x : Ahead) (origin : Option Origin) (o : Unit {0}) (r : Result (Unit {0}) Failed)
+    → found ≡ x ∷ xs → origin ≡ by x.plan.place.address → WritesLines s v (drop_text n tick x origin) (Ok o)
+    → WritesLines v u (drop_lines by (n + 1) tick xs) r → WritesLines s u (drop_lines by n tick found) r
+drops_then by s v u n tick found xs x origin o r is same h k =
+    subst (λ ls. WritesLines s u ls r) (sym (drops-first by n tick found xs x is))
+    (lines_then s v u (drop_text n tick x (by x.plan.place.address)) (drop_lines by (n + 1) tick xs) o r
+    (subst (λ g. WritesLines s v (drop_text n tick x g) (Ok o)) same h) k)
+
+pub drops_none : (by : ℕ → Option Origin) (s : OutputState) (n tick : ℕ) (found : List Ahead) (o : Unit {0}) → found ≡ [] → WritesLines s s (drop_lines by n tick found) (Ok o)
 unfolding drop_lines
-drops_none s n tick found o is = rw is (no_lines s o)
+drops_none by s n tick found o is = rw is (no_lines s o)
 
 -- ---- the end of a segment
 
-pub late-one : (n tick : ℕ) (x : Ahead) → late_lines n tick (x ∷ []) ≡ (begun_line n x.plan.place.address x.row ∷ []) ++ facts_lines n (Some tick) x.plan x.known x.uses.items
+pub late-one : (by : ℕ → Option Origin) (n tick : ℕ) (x : Ahead) → late_lines by n tick (x ∷ []) ≡ (begun_line n x.plan.place.address x.row ∷ []) ++ facts_lines n (Some tick) x.plan x.known (by x.plan.place.address) x.uses.items
 unfolding late_lines
-late-one n tick x = refl
+late-one by n tick x = refl
 
-pub end-none : (k tick n : ℕ) (found late : List Ahead) → k ≡ 0 → segment_end_lines k tick n found late ≡ []
+pub end-none : (by : ℕ → Option Origin) (k tick n : ℕ) (found late : List Ahead) → k ≡ 0 → segment_end_lines by k tick n found late ≡ []
 unfolding segment_end_lines
-end-none k tick n found late none = rw none refl
+end-none by k tick n found late none = rw none refl
 
-pub end-same : (k tick n : ℕ) (found xs ys : List Ahead) → (k ≢ 0 → xs ≡ ys) → segment_end_lines k tick n found xs ≡ segment_end_lines k tick n found ys
-end-same zero tick n found xs ys same = end-none zero tick n found xs refl ∙ sym (end-none zero tick n found ys refl)
-end-same (suc k) tick n found xs ys same = ap (segment_end_lines (suc k) tick n found) (same (λ none. omega (arith, none)))
+pub end-same : (by : ℕ → Option Origin) (k tick n : ℕ) (found xs ys : List Ahead) → (k ≢ 0 → xs ≡ ys) → segment_end_lines by k tick n found xs ≡ segment_end_lines by k tick n found ys
+end-same by zero tick n found xs ys same = end-none by zero tick n found xs refl ∙ sym (end-none by zero tick n found ys refl)
+end-same by (suc k) tick n found xs ys same = ap (segment_end_lines by (suc k) tick n found) (same (λ none. omega (arith, none)))
 
-pub end-some : (k tick n : ℕ) (found late : List Ahead) → k ≢ 0
-    → segment_end_lines k tick n found late ≡ (segment_end_line k tick ∷ []) ++ (drop_lines n tick found ++ late_lines (n + length found) tick late)
+pub end-some : (by : ℕ → Option Origin) (k tick n : ℕ) (found late : List Ahead) → k ≢ 0
+    → segment_end_lines by k tick n found late ≡ (segment_end_line k tick ∷ []) ++ (drop_lines by n tick found ++ late_lines by (n + length found) tick late)
 unfolding segment_end_lines
-end-some zero tick n found late some = absurd (some refl)
-end-some (suc k) tick n found late some = rw (not-zero k) refl
+end-some by zero tick n found late some = absurd (some refl)
+end-some by (suc k) tick n found late some = rw (not-zero k) refl
   where
     not-zero : (k : ℕ) → nat_eq (suc k) 0 ≡ false
     not-zero k = grind (arith, nat_tests)

@@ -9,26 +9,31 @@ use Rattle.st_report.specs.Line.{prt_line, ic_line, en_line, int_line}
 use Rattle.st_plain.specs.declared.looking.Ahead.{Ahead}
 use Rattle.st_lines.specs.Lines.{ledger_levels_line, delays_lines, segment_end_line, word_line, changed_line, dropped_line, begun_line}
 use Rattle.st_lines.specs.EntryLines.{facts_lines}
+use Rattle.st_lines.specs.declared.origins.Origin.{Origin}
 
 -- ---- where a segment ends
 
--- entries that are dropped at a tick, the oldest first; the first of them is the n-th entry
-unfoldable pub drop_lines : ℕ → ℕ → List Ahead → List (List ℕ)
-drop_lines n tick [] = []
-drop_lines n tick (a ∷ more) = dropped_line n a.plan.place.address a.row
-    ∷ (facts_lines n (Some tick) a.plan a.known a.uses.items ++ drop_lines (n + 1) tick more)
+-- entries that are dropped at a tick, the oldest first; the first of them is the n-th entry, and
+-- `origin` says where the half-words at an address come from
+unfoldable pub drop_lines : (ℕ → Option Origin) → ℕ → ℕ → List Ahead → List (List ℕ)
+drop_lines origin n tick [] = []
+drop_lines origin n tick (a ∷ more) = dropped_line n a.plan.place.address a.row
+    ∷ (facts_lines n (Some tick) a.plan a.known (origin a.plan.place.address) a.uses.items
+    ++ drop_lines origin (n + 1) tick more)
 
 -- the entry that was begun behind them, which is the n-th entry, if there is one
-unfoldable pub late_lines : ℕ → ℕ → List Ahead → List (List ℕ)
-late_lines n tick [] = []
-late_lines n tick (a ∷ more) = begun_line n a.plan.place.address a.row
-    ∷ facts_lines n (Some tick) a.plan a.known a.uses.items
+unfoldable pub late_lines : (ℕ → Option Origin) → ℕ → ℕ → List Ahead → List (List ℕ)
+late_lines origin n tick [] = []
+late_lines origin n tick (a ∷ more) = begun_line n a.plan.place.address a.row
+    ∷ facts_lines n (Some tick) a.plan a.known (origin a.plan.place.address) a.uses.items
 
 -- the segment k ends at a tick, what ran ahead is dropped, and so is what was begun; before the
 -- first segment there is none
-unfoldable pub segment_end_lines : ℕ → ℕ → ℕ → List Ahead → List Ahead → List (List ℕ)
-segment_end_lines k tick n dropped late = if nat_eq k 0 then [] else segment_end_line k tick
-    ∷ (drop_lines n tick dropped ++ late_lines (n + length dropped) tick late)
+unfoldable pub segment_end_lines : (ℕ → Option Origin) → ℕ → ℕ → ℕ → List Ahead → List Ahead →
+    List (List ℕ)
+segment_end_lines origin k tick n dropped late =
+    if nat_eq k 0 then [] else segment_end_line k tick
+    ∷ (drop_lines origin n tick dropped ++ late_lines origin (n + length dropped) tick late)
 
 -- ---- the state behind an entry
 

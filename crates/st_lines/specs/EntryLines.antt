@@ -11,12 +11,13 @@ use Rattle.st_plain.specs.declared.known.Known.{Known}
 use Rattle.st_plain.specs.declared.uses.Use.{Use}
 use Rattle.st_ledger.specs.Charges.{parts_of_row, charges_behind}
 use Rattle.st_ledger.specs.Lines.{row_stage_line}
-use Rattle.st_lines.specs.Lines.{missed_line, alone_line, suppressed_line, code_line, writes_line, index_line, level_line}
+use Rattle.st_lines.specs.Lines.{missed_line, alone_line, suppressed_line, laid_line, code_line, writes_line, index_line, level_line}
 use Rattle.st_lines.specs.UseLines.{use_lines}
 use Rattle.st_lines.specs.WaitLines.{charged_lines, because_lines}
 use Rattle.st_lines.specs.declared.facts.EntryDone.{EntryDone}
 use Rattle.st_lines.specs.declared.lines.Alone.{Alone}
 use Rattle.st_lines.specs.declared.lines.Alone.TheVariants.{Table, Execute, Register, Operation}
+use Rattle.st_lines.specs.declared.origins.Origin.{Origin}
 
 -- ---- by itself
 
@@ -59,18 +60,23 @@ unfoldable pub index_lines : Option IndexChange → List (List ℕ)
 index_lines None = []
 index_lines (Some x) = index_line x ∷ []
 
+-- where its half-words come from, where a card's bits begin there
+unfoldable pub laid_lines : Option Origin → List (List ℕ)
+laid_lines None = []
+laid_lines (Some o) = laid_line o ∷ []
+
 -- the half-words that it executes, where they may be fetched
 unfoldable pub code_lines : Option Code → List (List ℕ)
 code_lines None = []
 code_lines (Some code) = code_line code ∷ []
 
 -- what is known by itself of the n-th entry, whose segment ends at a tick, or goes on
-unfoldable pub facts_lines : ℕ → Option ℕ → Prepared → Known → List Use → List (List ℕ)
-facts_lines n end p k uses =
-    alone_lines (alone_by p k.side k.execute)
-    ++ (suppressed_lines (suppressed_by p)
-    ++ (code_lines k.code
-    ++ (use_lines n end uses ++ (writes_lines p.writes ++ index_lines p.index))))
+unfoldable pub facts_lines : ℕ → Option ℕ → Prepared → Known → Option Origin → List Use →
+    List (List ℕ)
+facts_lines n end p k origin uses =
+    ((alone_lines (alone_by p k.side k.execute) ++ suppressed_lines (suppressed_by p))
+    ++ (laid_lines origin ++ code_lines k.code))
+    ++ (use_lines n end uses ++ (writes_lines p.writes ++ index_lines p.index))
 
 -- ---- its row
 
@@ -93,6 +99,6 @@ unfoldable pub done_entry_lines : EntryDone → Prepared → Known → List Use 
     List (List ℕ)
 done_entry_lines d p k uses before =
     row_stage_line d.n d.address d.row.ticks
-    ∷ ((missed_lines d.missed ++ facts_lines d.n d.end p k uses)
+    ∷ ((missed_lines d.missed ++ facts_lines d.n d.end p k d.origin uses)
     ++ (charged_lines uses before (charges_behind d.before (parts_of_row d.start d.row.ticks))
     ++ late_entry_lines d))

@@ -1,4 +1,5 @@
 pub mod Lines
+pub mod Origins
 pub mod UseLines
 pub mod WaitLines
 pub mod EntryLines
@@ -9,9 +10,11 @@ pub use Rattle.st_bits.specs.Storage
 pub use Rattle.st_banks.specs.Bank
 pub use Rattle.st_exch.specs.Printer
 pub use Rattle.st_exec.specs.Ahead
+pub use Rattle.st_format.specs.Halves
 pub use Rattle.st_io.specs.Output
 pub use Rattle.st_ledger.specs.Charges
 pub use Rattle.st_prep.specs.Entry
+pub use Rattle.st_prep.specs.Reading
 pub use Rattle.st_reasons.specs.Reasons
 pub use Rattle.st_reasons.specs.Sums
 pub use Rattle.st_reasons.specs.Waits

@@ -10,6 +10,7 @@ use Rattle.st_lines.specs.declared.lines.Alone.{Alone}
 use Rattle.st_lines.specs.declared.lines.Alone.TheVariants.{Table, Execute, Register, Operation}
 use Rattle.st_lines.specs.declared.lines.Why.{Why}
 use Rattle.st_lines.specs.declared.lines.Why.TheVariants.{Run, Interrupt, Missed, Card}
+use Rattle.st_lines.specs.declared.origins.Origin.{Origin}
 
 -- the machine has n levels
 abbrev pub ledger_levels_line : ℕ → List ℕ
@@ -77,6 +78,10 @@ alone_line why = codes "ALONE " ++ alone_text why ++ lf
 -- an entry is suppressed, with indicator i
 abbrev pub suppressed_line : ℕ → List ℕ
 suppressed_line i = codes "SUPPRESSED " ++ decimal i ++ lf
+
+-- the card that an entry comes from, and whether it is still what the card laid
+abbrev pub laid_line : Origin → List ℕ
+laid_line o = codes "LAID " ++ decimal o.card ++ codes " KEPT " ++ flag o.kept ++ lf
 
 -- it writes n words from word w on
 abbrev pub writes_line : ℕ → ℕ → List ℕ

@@ -9,12 +9,13 @@ ghost use Rattle.st_ledger.specs.declared.charges.Stage.{Stage as StageOf};
 ghost use Rattle.st_reasons.specs.Sums.{AreWaitsWithin, is_parted, waited_at, row_stalled};
 ghost use Rattle.st_reasons.specs.Words.{AreWordsInTime};
 ghost use Rattle.st_reasons.specs.declared.waits.Stall.{Stall as StallOf};
-ghost use Rattle.st_lines.specs.EntryLines.{alone_for as alone_of, alone_by as alone_why, alone_lines, suppressed_by as suppressed_of, suppressed_lines, code_lines, run_lines, writes_lines, index_lines, facts_lines, missed_lines, level_lines, late_entry_lines, done_entry_lines};
+ghost use Rattle.st_lines.specs.EntryLines.{alone_for as alone_of, alone_by as alone_why, alone_lines, suppressed_by as suppressed_of, suppressed_lines, laid_lines, code_lines, run_lines, writes_lines, index_lines, facts_lines, missed_lines, level_lines, late_entry_lines, done_entry_lines};
 ghost use Rattle.st_lines.specs.UseLines.{use_lines};
 ghost use Rattle.st_lines.specs.WaitLines.{charged_lines};
 
 use crate::digits::{fill_code, fill_index};
 use crate::lines::{Alone, line_alone, line_level, line_missed, line_suppressed, line_writes};
+use crate::origins::{Origin, fill_laid};
 use crate::uses::write_uses;
 use crate::waits::{Waiting, write_because, write_charged};
 use crate::writing::put;
@@ -130,6 +131,16 @@ fn write_suppressed<K: Sink>(out: &mut K, by: Option<u8>) -> Result<(), Failed>
     }
 }
 
+// Writes why an entry is done alone, and that it is suppressed, where it is.
+fn write_kind<K: Sink>(out: &mut K, p: &Prepared, known: &Known) -> Result<(), Failed>
+    ensures { WritesLines (K.output out.old) (K.output out.new)
+        (alone_lines (alone_why p.now known.now.side known.now.execute)
+        ++ suppressed_lines (suppressed_of p.now)) result }
+{
+    write_alone(out, alone_by(p, known.side, known.execute))?;
+    write_suppressed(out, suppressed_by(p))
+}
+
 // Writes a run of words that an entry writes, where it has any.
 #[tactic(auto, unfolding(crate::specs::EntryLines::run_lines), using(st_io::proofs::Progress::wrote_nothing))]
 fn write_run<K: Sink>(out: &mut K, w: u32, n: u8) -> Result<(), Failed>
@@ -173,19 +184,54 @@ fn write_changes<K: Sink>(out: &mut K, p: &Prepared) -> Result<(), Failed>
     write_index(out, p.index)
 }
 
+// Writes where the half-words of an entry come from, where a card's bits begin there.
+#[tactic(auto, unfolding(crate::specs::EntryLines::laid_lines), using(st_io::proofs::Progress::wrote_nothing))]
+fn write_laid<K: Sink>(
+    out: &mut K,
+    line: &mut LineFromEnd,
+    origin: Option<Origin>,
+) -> Result<(), Failed>
+    ensures { WritesLines (K.output out.old) (K.output out.new) (laid_lines origin) result }
+{
+    match origin {
+        None => Ok(()),
+        Some(origin) => {
+            fill_laid(line, origin);
+            write_line(out, line.as_bytes())
+        }
+    }
+}
+
 // Writes the half-words that an entry executes, where they may be fetched.
 #[tactic(auto, unfolding(crate::specs::EntryLines::code_lines), using(st_io::proofs::Progress::wrote_nothing))]
-fn write_code<K: Sink>(out: &mut K, code: Option<Code>) -> Result<(), Failed>
+fn write_code<K: Sink>(
+    out: &mut K,
+    line: &mut LineFromEnd,
+    code: Option<Code>,
+) -> Result<(), Failed>
     ensures { WritesLines (K.output out.old) (K.output out.new) (code_lines code) result }
 {
     match code {
         None => Ok(()),
         Some(code) => {
-            let mut line = LineFromEnd::new();
-            fill_code(&mut line, code);
+            fill_code(line, code);
             write_line(out, line.as_bytes())
         }
     }
+}
+
+// Writes where the half-words of an entry come from, and those that it executes.
+fn write_halves<K: Sink>(
+    out: &mut K,
+    origin: Option<Origin>,
+    code: Option<Code>,
+) -> Result<(), Failed>
+    ensures { WritesLines (K.output out.old) (K.output out.new)
+        (laid_lines origin ++ code_lines code) result }
+{
+    let mut line = LineFromEnd::new();
+    write_laid(out, &mut line, origin)?;
+    write_code(out, &mut line, code)
 }
 
 // Writes what the n-th entry uses and what it writes, and the index word that it changes early.
@@ -204,40 +250,6 @@ fn write_words<K: Sink>(
     write_changes(out, p)
 }
 
-// Writes the half-words that the n-th entry executes, and its words.
-fn write_doing<K: Sink>(
-    out: &mut K,
-    n: u32,
-    end: Option<u64>,
-    p: &Prepared,
-    code: Option<Code>,
-    uses: &[Use],
-) -> Result<(), Failed>
-    ensures { WritesLines (K.output out.old) (K.output out.new)
-        (code_lines code ++ (use_lines n end uses.now
-        ++ (writes_lines p.now.writes ++ index_lines p.now.index))) result }
-{
-    write_code(out, code)?;
-    write_words(out, n, end, p, uses)
-}
-
-// Writes that the n-th entry is suppressed, and what it does.
-fn write_effects<K: Sink>(
-    out: &mut K,
-    n: u32,
-    end: Option<u64>,
-    p: &Prepared,
-    code: Option<Code>,
-    uses: &[Use],
-) -> Result<(), Failed>
-    ensures { WritesLines (K.output out.old) (K.output out.new)
-        (suppressed_lines (suppressed_of p.now) ++ (code_lines code ++ (use_lines n end uses.now
-        ++ (writes_lines p.now.writes ++ index_lines p.now.index)))) result }
-{
-    write_suppressed(out, suppressed_by(p))?;
-    write_doing(out, n, end, p, code, uses)
-}
-
 /// Writes what is known by itself of the n-th entry, whose segment ends at the tick `end`, or goes
 /// on.
 pub(crate) fn write_facts<K: Sink>(
@@ -246,13 +258,15 @@ pub(crate) fn write_facts<K: Sink>(
     end: Option<u64>,
     p: &Prepared,
     known: &Known,
+    origin: Option<Origin>,
     uses: &[Use],
 ) -> Result<(), Failed>
     ensures { WritesLines (K.output out.old) (K.output out.new)
-        (facts_lines n end p.now known.now uses.now) result }
+        (facts_lines n end p.now known.now origin uses.now) result }
 {
-    write_alone(out, alone_by(p, known.side, known.execute))?;
-    write_effects(out, n, end, p, known.code, uses)
+    write_kind(out, p, known)?;
+    write_halves(out, origin, known.code)?;
+    write_words(out, n, end, p, uses)
 }
 
 /// An entry that is done.
@@ -262,6 +276,8 @@ pub struct EntryDone {
     pub n: u32,
     /// Its half-word address.
     pub address: u32,
+    /// Where its half-words come from.
+    pub origin: Option<Origin>,
     /// Its row.
     pub row: Row,
     /// It is a branch that was guessed wrongly.
@@ -297,10 +313,10 @@ fn write_known<K: Sink>(
 ) -> Result<(), Failed>
     ensures { WritesLines (K.output out.old) (K.output out.new)
         (missed_lines done.now.missed
-        ++ facts_lines done.now.n done.now.end p.now known.now uses.now) result }
+        ++ facts_lines done.now.n done.now.end p.now known.now done.now.origin uses.now) result }
 {
     write_missed(out, done.missed)?;
-    write_facts(out, done.n, done.end, p, known, uses)
+    write_facts(out, done.n, done.end, p, known, done.origin, uses)
 }
 
 // Writes for how many ticks an entry waited for a level, where it did.
@@ -371,7 +387,7 @@ fn write_spent<K: Sink>(
     requires within { AreWaitsWithin done.now.before waiting.old.totals }
     ensures lines { WritesLines (K.output out.old) (K.output out.new)
         ((missed_lines done.now.missed
-        ++ facts_lines done.now.n done.now.end p.now known.now uses.now)
+        ++ facts_lines done.now.n done.now.end p.now known.now done.now.origin uses.now)
         ++ (charged_lines uses.now before.now (charges_behind done.now.before
         (parts_of_row done.now.start done.now.row.ticks)) ++ late_entry_lines done.now)) result }
     ensures within { IsOk result → AreWaitsWithin

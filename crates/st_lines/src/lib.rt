@@ -5,6 +5,7 @@ mod changes;
 mod digits;
 mod facts;
 mod lines;
+mod origins;
 mod uses;
 mod waits;
 mod writing;
@@ -12,6 +13,7 @@ mod writing;
 pub use changes::Changeable;
 pub use facts::{EntryDone, write_done};
 pub use lines::{Alone, Why};
+pub use origins::{Origin, Origins};
 pub use waits::{Waiting, write_because, write_charged, write_wait_sums};
 pub use writing::{
     Border, Printed, counter_of, is_enabled, put, write_border, write_end, write_machine,

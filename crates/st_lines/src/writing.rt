@@ -9,6 +9,7 @@ ghost use Rattle.st_report.specs.Line.{prt_line, ic_line, en_line, end_line as r
 ghost use Rattle.st_lines.specs.Lines.{ledger_levels_line, delays_line, delays_by, start_line, segment_end_line, dropped_line, begun_line};
 ghost use Rattle.st_lines.specs.EntryLines.{facts_lines};
 ghost use Rattle.st_lines.specs.Changes.{IsLeft};
+ghost use Rattle.st_lines.specs.Origins.{origin_at};
 ghost use Rattle.st_lines.specs.BorderLines.{drop_lines, late_lines, segment_end_lines, differs, en_lines, prints_lines, nonzero_word_lines, change_lines, words_lines, marks_lines, taken_by, state_lines, machine_lines};
 
 use crate::changes::{Changeable, keep_words, write_changed};
@@ -16,6 +17,7 @@ use crate::facts::write_facts;
 use crate::lines::{
     Why, line_delays, line_drop, line_end, line_late, line_levels, line_start, line_word,
 };
+use crate::origins::{Origin, Origins};
 use arrayvec::ArrayVec;
 use st_bits::WORDS;
 use st_exch::print_text;
@@ -73,10 +75,17 @@ fn write_drop_line<K: Sink>(out: &mut K, n: u32, ahead: &Ahead) -> Result<(), Fa
 }
 
 // The same, and what is known of it by itself, where it is dropped at a tick.
-fn write_drop<K: Sink>(out: &mut K, n: u32, tick: u64, ahead: &Ahead) -> Result<(), Failed>
+fn write_drop<K: Sink>(
+    out: &mut K,
+    n: u32,
+    tick: u64,
+    ahead: &Ahead,
+    origin: Option<Origin>,
+) -> Result<(), Failed>
     ensures { WritesLines (K.output out.old) (K.output out.new)
         (dropped_line n ahead.now.plan.place.address ahead.now.row
-        ∷ facts_lines n (Some tick) ahead.now.plan ahead.now.known ahead.now.uses.items) result }
+        ∷ facts_lines n (Some tick) ahead.now.plan ahead.now.known origin ahead.now.uses.items)
+        result }
 {
     write_drop_line(out, n, ahead)?;
     write_facts(
@@ -85,22 +94,37 @@ fn write_drop<K: Sink>(out: &mut K, n: u32, tick: u64, ahead: &Ahead) -> Result<
         Some(tick),
         &ahead.plan,
         &ahead.known,
+        origin,
         ahead.uses.as_slice(),
     )
 }
 
+// Where the half-words of an entry come from that ran ahead.
+fn origin_of(ahead: &Ahead, origins: &Origins, state: &State) -> Option<Origin>
+    ensures { result ≡ origin_at origins.now state.now ahead.now.plan.place.address }
+{
+    origins.at(state, ahead.plan.place.address)
+}
+
 // Writes the lines of entries that are dropped at a tick; the first of them is the n-th entry.
 #[tactic(auto, using(st_io::proofs::Progress::wrote_nothing))]
-fn write_drops<K: Sink>(out: &mut K, n: u32, tick: u64, found: &[Ahead]) -> Result<(), Failed>
+fn write_drops<K: Sink>(
+    out: &mut K,
+    n: u32,
+    tick: u64,
+    found: &[Ahead],
+    origins: &Origins,
+    state: &State,
+) -> Result<(), Failed>
     requires { n + length found.now < 2 ^ 32 }
     ensures { WritesLines (K.output out.old) (K.output out.new)
-        (drop_lines n tick found.now) result }
+        (drop_lines (origin_at origins.now state.now) n tick found.now) result }
 {
     let Some((first, more)) = first_ahead(found) else {
         return Ok(());
     };
-    write_drop(out, n, tick, first)?;
-    write_drops(out, n + 1, tick, more)
+    write_drop(out, n, tick, first, origin_of(first, origins, state))?;
+    write_drops(out, n + 1, tick, more, origins, state)
 }
 
 // Writes the line of the entry that was begun, which is the n-th entry.
@@ -112,9 +136,16 @@ fn write_late_line<K: Sink>(out: &mut K, n: u32, late: &Ahead) -> Result<(), Fai
 }
 
 // The same, and what is known of it by itself.
-fn write_late<K: Sink>(out: &mut K, n: u32, tick: u64, late: &Ahead) -> Result<(), Failed>
+fn write_late<K: Sink>(
+    out: &mut K,
+    n: u32,
+    tick: u64,
+    late: &Ahead,
+    origins: &Origins,
+    state: &State,
+) -> Result<(), Failed>
     ensures { WritesLines (K.output out.old) (K.output out.new)
-        (late_lines n tick (late.now ∷ [])) result }
+        (late_lines (origin_at origins.now state.now) n tick (late.now ∷ [])) result }
 {
     write_late_line(out, n, late)?;
     write_facts(
@@ -123,6 +154,7 @@ fn write_late<K: Sink>(out: &mut K, n: u32, tick: u64, late: &Ahead) -> Result<(
         Some(tick),
         &late.plan,
         &late.known,
+        origin_of(late, origins, state),
         late.uses.as_slice(),
     )
 }
@@ -143,15 +175,18 @@ fn write_ahead<K: Sink>(
     tick: u64,
     found: &[Ahead],
     late: &Ahead,
+    origins: &Origins,
+    state: &State,
 ) -> Result<(), Failed>
     requires { n + length found.now < 2 ^ 32 }
     ensures { WritesLines (K.output out.old) (K.output out.new)
-        (drop_lines n tick found.now
-        ++ late_lines (n + length found.now) tick (late.now ∷ [])) result }
+        (drop_lines (origin_at origins.now state.now) n tick found.now
+        ++ late_lines (origin_at origins.now state.now) (n + length found.now) tick
+        (late.now ∷ [])) result }
 {
     let behind = number_behind(n, found);
-    write_drops(out, n, tick, found)?;
-    write_late(out, behind, tick, late)
+    write_drops(out, n, tick, found, origins, state)?;
+    write_late(out, behind, tick, late, origins, state)
 }
 
 // Writes the line of the end of a segment.
@@ -163,7 +198,8 @@ fn write_end_line<K: Sink>(out: &mut K, k: u32, tick: u64) -> Result<(), Failed>
 }
 
 /// Writes the end of the segment k at a tick, with the entries that are dropped, the first of which
-/// is the n-th entry, and with the one that was begun. Before the first segment there is none.
+/// is the n-th entry, and with the one that was begun, in the state that all this leaves. Before
+/// the first segment there is none.
 pub fn write_end<K: Sink>(
     out: &mut K,
     k: u32,
@@ -171,36 +207,19 @@ pub fn write_end<K: Sink>(
     n: u32,
     found: &[Ahead],
     late: &Ahead,
+    origins: &Origins,
+    state: &State,
 ) -> Result<(), Failed>
     requires { n + length found.now < 2 ^ 32 }
     ensures { WritesLines (K.output out.old) (K.output out.new)
-        (segment_end_lines k tick n found.now (late.now ∷ [])) result }
+        (segment_end_lines (origin_at origins.now state.now) k tick n found.now (late.now ∷ []))
+        result }
 {
     if k == 0 {
         return Ok(());
     }
     write_end_line(out, k, tick)?;
-    write_ahead(out, n, tick, found, late)
-}
-
-// The same where the segment ends.
-fn write_ended<K: Sink>(
-    out: &mut K,
-    ends: bool,
-    k: u32,
-    tick: u64,
-    n: u32,
-    found: &[Ahead],
-    late: &Ahead,
-) -> Result<(), Failed>
-    requires { n + length found.now < 2 ^ 32 }
-    ensures { WritesLines (K.output out.old) (K.output out.new)
-        (if ends then segment_end_lines k tick n found.now (late.now ∷ []) else []) result }
-{
-    if !ends {
-        return Ok(());
-    }
-    write_end(out, k, tick, n, found, late)
+    write_ahead(out, n, tick, found, late, origins, state)
 }
 
 // Writes the counter.
@@ -463,6 +482,35 @@ pub struct Border {
     pub done: u64,
 }
 
+// Writes the end of a segment, where one ends.
+fn write_ended<K: Sink>(
+    out: &mut K,
+    border: &Border,
+    found: &[Ahead],
+    late: &Ahead,
+    origins: &Origins,
+    state: &State,
+) -> Result<(), Failed>
+    requires { border.now.n + length found.now < 2 ^ 32 }
+    ensures { WritesLines (K.output out.old) (K.output out.new)
+        (if border.now.ends then segment_end_lines (origin_at origins.now state.now) border.now.k
+        border.now.tick border.now.n found.now (late.now ∷ []) else []) result }
+{
+    if !border.ends {
+        return Ok(());
+    }
+    write_end(
+        out,
+        border.k,
+        border.tick,
+        border.n,
+        found,
+        late,
+        origins,
+        state,
+    )
+}
+
 /// Writes the end of a segment, the state, and the start of the next segment, as far as there are
 /// any. `old` and `may` are as in `write_marks`.
 pub fn write_border<K: Sink>(
@@ -474,6 +522,7 @@ pub fn write_border<K: Sink>(
     may: &Changeable,
     found: &[Ahead],
     late: &Ahead,
+    origins: &Origins,
 ) -> Result<(), Failed>
     requires few { border.n + length found.now < 2 ^ 32 }
     requires number { border.k + 1 < 2 ^ 32 }
@@ -482,23 +531,15 @@ pub fn write_border<K: Sink>(
         slice_index old.old.items v ≡ word state.now v }
 
     ensures lines { WritesLines (K.output out.old) (K.output out.new)
-        (((if border.ends then segment_end_lines border.k border.tick border.n found.now
-        (late.now ∷ []) else [])
+        (((if border.ends then segment_end_lines (origin_at origins.now state.now) border.k
+        border.tick border.n found.now (late.now ∷ []) else [])
         ++ state_lines printed.now.items border.k border.was old.old.items state.now border.taken
         border.done)
         ++ (if border.begins then start_line (border.k + 1) border.start border.waited border.why
         ∷ [] else [])) result }
     ensures words { IsOk result → old.new.items ≡ state.now.words }
 {
-    write_ended(
-        out,
-        border.ends,
-        border.k,
-        border.tick,
-        border.n,
-        found,
-        late,
-    )?;
+    write_ended(out, &border, found, late, origins, state)?;
     write_state(
         out,
         printed,

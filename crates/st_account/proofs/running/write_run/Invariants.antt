@@ -2,6 +2,7 @@ use Rattle.std.specs.Prelude.{[]}
 use Rattle.st_run.specs.Moments.{moment_at_start}
 use Rattle.st_ledger.specs.Charges.{ticks_for}
 use Rattle.st_ledger.specs.Ledger.{entries_from, all_charges}
+use Rattle.st_lines.specs.Origins.{origin_at}
 use Rattle.st_account.specs.Settling.{at_hand}
 use Rattle.st_account.specs.Text.{lines_from, stalled_from}
 use Rattle.st_account.proofs.TurnLemmas.{IsRunning}
@@ -10,7 +11,7 @@ use Rattle.st_account.proofs.running.write_run.Given as goal
 abbrev pub invariant-entries : goal.invariant-entries
 invariant-entries g l =
     let c = moment_at_start (at_hand l.fn.ready.state l.controls.signals l.fn.ready.cards) in
-    IsRunning (g.K.Sink.output l.fn.out) (g.K.Sink.output l.out) (lines_from l.timing.delays l.timing.levels l.controls.budget 0 l.fn.ready.state [] c)
+    IsRunning (g.K.Sink.output l.fn.out) (g.K.Sink.output l.out) (lines_from (origin_at l.fn.ready.origins) l.timing.delays l.timing.levels l.controls.budget 0 l.fn.ready.state [] c)
     l.timing.delays l.timing.levels
     (λ x. ticks_for x (all_charges l.timing.delays l.timing.levels (entries_from l.timing.delays l.timing.levels l.controls.budget c)))
     (λ r s. stalled_from r s l.timing.delays l.timing.levels l.controls.budget [] c)

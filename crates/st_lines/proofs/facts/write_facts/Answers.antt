@@ -1,13 +1,18 @@
-use Rattle.std.proofs.Common.{ap, refl}
-use Rattle.st_lines.specs.EntryLines.{alone_lines, facts_lines}
-use Rattle.st_lines.proofs.LineLemmas.{both_then, both_cut}
+use Rattle.st_io.proofs.Progress.{lines_then}
+use Rattle.st_lines.specs.EntryLines.{facts_lines}
+use Rattle.st_lines.proofs.LineLemmas.{first_cut, second_cut}
 use Rattle.st_lines.proofs.facts.write_facts.Goals as goal
 
-pub returns-in_err-write_alone : goal.returns-in_err-write_alone
+pub returns-in_err-write_kind : goal.returns-in_err-write_kind
 unfolding facts_lines
-returns-in_err-write_alone g c =
-    both_cut _ _ _ _ _ _ c.from_residual.result c.from_residual.ensures.0 (ap alone_lines c.alone_by.ensures) c.in_err-write_alone.ensures
+returns-in_err-write_kind g c = first_cut _ _ _ _ _ _ c.from_residual.result c.from_residual.ensures.0 c.in_err-write_kind.ensures
+
+pub returns-in_err-write_halves : goal.returns-in_err-write_halves
+unfolding facts_lines
+returns-in_err-write_halves g c =
+    second_cut _ _ _ _ _ _ _ _ c.from_residual-in_err-write_halves.result c.from_residual-in_err-write_halves.ensures.0 c.in_ok-write_kind.ensures
+    c.in_err-write_halves.ensures
 
 pub returns : goal.returns
 unfolding facts_lines
-returns g c = both_then _ _ _ _ _ _ _ _ _ (ap alone_lines c.alone_by.ensures) refl c.in_ok-write_alone.ensures c.write_effects.ensures
+returns g c = lines_then _ _ _ _ _ _ _ (lines_then _ _ _ _ _ _ _ c.in_ok-write_kind.ensures c.in_ok-write_halves.ensures) c.write_words.ensures

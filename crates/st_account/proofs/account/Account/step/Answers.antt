@@ -11,6 +11,7 @@ use Rattle.st_reasons.specs.Reasons.{because}
 use Rattle.st_reasons.specs.Sums.{AreWaitsWithin}
 use Rattle.st_reasons.specs.Words.{IsReadInTime}
 use Rattle.st_reasons.proofs.Laws.{reads_of_an_entry_are_in_time}
+use Rattle.st_lines.specs.Origins.{origin_at}
 use Rattle.st_account.specs.Text.{lines_of_entry}
 use Rattle.st_account.proofs.LeftLemmas.{entry-left}
 use Rattle.st_account.proofs.StallLemmas.{kept-stalled-some, row-reach, row-stalled}
@@ -20,9 +21,14 @@ pub returns-clause-lines : goal.returns-clause-lines
 returns-clause-lines c p end some is =
     let rest = c.execute.ensures.rest in
     kept-some _ _ end some
-    ∙ entry-lines c.args.timing.now.delays c.args.timing.now.levels p end c.args.self.now.state c.args.self.now.last c.interrupt-taken.result _ _ _ _ _ _ _ _ _ _ _ is
+    ∙ entry-lines (origin_at c.args.self.now.origins) c.args.timing.now.delays c.args.timing.now.levels p end c.args.self.now.state c.args.self.now.last
+    c.interrupt-taken.result _ _ _ _ _ _ _ _ _ _ _ _ is
     c.interrupt-taken.ensures.value
-    (ap (λ (l : Last). l.done.address) rest ∙ c.count_on.ensures.address ∙ c.next_address-self.ensures.value)
+    (ap (λ (l : Last). l.done.address) rest ∙ c.count_on.ensures.address ∙ c.next_address-address.ensures.value)
+    (ap (λ (l : Last). l.done.origin) rest
+    ∙ c.count_on.ensures.origin
+    ∙ c.at-self.ensures
+    ∙ ap (origin_at c.args.self.now.origins c.args.self.now.state) c.next_address-address.ensures.value)
     (ap (λ (l : Last). l.done.row.ticks) rest ∙ c.count_on.ensures.row)
     (ap (λ (l : Last). l.done.row.level_wait) rest ∙ c.count_on.ensures.wait)
     (ap (λ (l : Last). l.done.n) rest ∙ c.count_on.ensures.number ∙ c.row_number-self.ensures)
@@ -37,7 +43,7 @@ returns-clause-lines c p end some is =
     ∙ ap (because c.args.self.now.last.front (entry c.interrupt-taken.result c.args.self.now.state) c.count_on.new.last.done.row c.count_on.new.last.uses.items)
     (sym c.count_on.ensures.earlier)
     ∙ ap (λ (l : Last). because c.args.self.now.last.front (entry c.interrupt-taken.result c.args.self.now.state) l.done.row l.uses.items l.before.items) (sym rest))
-    ∙ ap (λ us. lines_of_entry c.args.timing.now.delays c.args.timing.now.levels end us p) (ap (λ (l : Last). l.before.items) rest ∙ c.count_on.ensures.earlier)
+    ∙ ap (λ us. lines_of_entry (origin_at c.args.self.now.origins) c.args.timing.now.delays c.args.timing.now.levels end us p) (ap (λ (l : Last). l.before.items) rest ∙ c.count_on.ensures.earlier)
 
 pub returns-clause-uses : goal.returns-clause-uses
 returns-clause-uses c p is =

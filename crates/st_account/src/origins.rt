@@ -1,0 +1,90 @@
+//! The cards that the half-words of a program come from.
+ghost use Rattle.std.specs.Prelude.{◌≡◌, ◌≢◌, ℕ, ◌<◌, ◌≤◌, ◌^◌, ◌∷◌, List, length, slice_index, slice_set, All, IfOk, IfSome};
+ghost use Rattle.std.specs.Option.{option_or};
+ghost use Rattle.st_asm.specs.declared.valuing.Listed.{Listed as ListedOf};
+ghost use Rattle.st_lines.specs.Origins.{card_by};
+ghost use Rattle.st_account.specs.FirstCards.{beginning as beginning_of, first_card};
+
+use st_asm::Listed;
+use st_bits::NoMemory;
+use std::alloc::Global;
+
+// The half-word in which the bits of a card begin, if it lays any.
+fn beginning(row: &Listed) -> Option<u32>
+    ensures value { result ≡ beginning_of row.now }
+    ensures inside { IfSome result (λ h. h < 2 ^ 27) }
+{
+    if row.length == 0 {
+        return None;
+    }
+    match row.location {
+        Some(a) => Some(a / 32),
+        None => None,
+    }
+}
+
+// The least number that is not less than another, and greater than the half-word in which the bits
+// of a card begin.
+fn reach(n: u32, row: &Listed) -> u32
+    ensures least { n ≤ result }
+    ensures within { IfSome (beginning_of row.now) (λ h. h < result) }
+{
+    match beginning(row) {
+        Some(h) => n.max(h + 1),
+        None => n,
+    }
+}
+
+// How many half-words there are up to the last one in which the bits of a card begin.
+fn extent(rows: &[Listed]) -> u32
+    ensures { All (λ row. IfSome (beginning_of row) (λ h. h < result)) rows.now }
+{
+    let mut n = 0;
+    for row in rows {
+        n = reach(n, row);
+    }
+    n
+}
+
+// Enters a card at a half-word, unless an earlier one stands there.
+fn enter(cards: &mut Vec<u32>, h: u32, card: u32)
+    requires { h < length cards.old.items }
+    ensures free { slice_index cards.old.items h ≡ 0 →
+        cards.new.items ≡ slice_set cards.old.items h card }
+    ensures taken { slice_index cards.old.items h ≢ 0 → cards.new.items ≡ cards.old.items }
+    ensures size { length cards.new.items ≡ length cards.old.items }
+{
+    if cards[h as usize] == 0 {
+        cards[h as usize] = card;
+    }
+}
+
+// Enters a card where its bits begin, if it lays any.
+fn enter_row(cards: &mut Vec<u32>, row: &Listed)
+    requires within { IfSome (beginning_of row.now) (λ h. h < length cards.old.items) }
+    requires number { 1 ≤ row.now.card }
+    ensures size { length cards.new.items ≡ length cards.old.items }
+    ensures cards { (h : ℕ) (rows : List ListedOf) →
+        option_or (card_by (slice_index cards.new.items h)) (first_card rows h)
+        ≡ option_or (card_by (slice_index cards.old.items h)) (first_card (row.now ∷ rows) h) }
+{
+    if let Some(h) = beginning(row) {
+        enter(cards, h, row.card);
+    }
+}
+
+/// By half-word addresses the number of the first card whose bits begin there, or 0, as far as
+/// there are any; these are the rows of a listing.
+pub(crate) fn first_cards(alloc: Global, rows: &[Listed]) -> Result<Vec<u32>, NoMemory>
+    requires { All (λ row. 1 ≤ row.card) rows.now }
+    ensures { IfOk result (λ cards. (h : ℕ) → card_by (slice_index cards.items h)
+        ≡ first_card rows.now h) }
+{
+    let Ok(mut cards) = vec![in alloc; 0u32; extent(rows) as usize] else {
+        return Err(NoMemory);
+    };
+    for row in rows {
+        enter_row(&mut cards, row);
+    }
+    Ok(cards)
+}

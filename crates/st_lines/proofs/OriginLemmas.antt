@@ -1,0 +1,28 @@
+-- Where half-words come from, and its line.
+use Rattle.std.specs.Prelude.{Bool, None, Some, slice_index}
+use Rattle.std.proofs.Common.{◌≡◌, ◌≢◌, ℕ, zero, suc, List, [], ◌++◌, refl, sym, ◌∙◌, ap, append_assoc}
+use Rattle.std.proofs.lemmas.List.{append-nil}
+use Rattle.st_lines.specs.Origins.{card_by, is_kept, origin_by, origin_at}
+use Rattle.st_lines.specs.declared.origins.Origins.{Origins}
+use Rattle.st_state.specs.Machine.{Machine}
+
+-- five pieces, of which two are put at once, the last one first
+pub laid_pieces : (a b c d e l0 l1 l2 l3 l4 : List ℕ) → l0 ≡ [] → l1 ≡ e ++ l0 → l2 ≡ (c ++ d) ++ l1 → l3 ≡ b ++ l2 → l4 ≡ a ++ l3
+    → l4 ≡ a ++ b ++ c ++ d ++ e
+laid_pieces a b c d e l0 l1 l2 l3 l4 e0 e1 e2 e3 e4 = rw (e4, e3, e2, e1, e0) (simp (append_assoc, append-nil) refl)
+
+card-some : (card : ℕ) (kept : Bool) → card ≢ 0 → origin_by (card_by card) kept ≡ Some (record { card = card; kept = kept })
+card-some zero kept some = absurd (some refl)
+card-some (suc n) kept some = refl
+
+pub origin_none : (o : Origins) (s : Machine) (h card : ℕ) → card ≡ slice_index o.cards.items h → card ≡ 0 → None ≡ origin_at o s h
+unfolding origin_at
+origin_none o s h card is none = ap (λ n. origin_by (card_by n) (is_kept o.image.items s.words h)) (sym none ∙ is)
+
+pub origin_some : (o : Origins) (s : Machine) (h card : ℕ) (kept : Bool) → card ≡ slice_index o.cards.items h → card ≢ 0
+    → kept ≡ is_kept o.image.items s.words h → Some (record { card = card; kept = kept }) ≡ origin_at o s h
+unfolding origin_at
+origin_some o s h card kept is some same =
+    sym (card-some card kept some)
+    ∙ ap (λ n. origin_by (card_by n) kept) is
+    ∙ ap (λ k. origin_by (card_by (slice_index o.cards.items h)) k) same

@@ -1,0 +1,140 @@
+//! Where the half-words come from that an entry begins with.
+ghost use Rattle.std.specs.Prelude.{◌≡◌, ◌+◌, ◌≤◌, ◌++◌, length, codes, slice_index};
+ghost use Rattle.st_prep.specs.Reading.{half_of as half_by};
+ghost use Rattle.st_state.specs.Machine.{word as word_of};
+ghost use Rattle.st_text.specs.Numerals.{flag};
+ghost use Rattle.st_lines.specs.Lines.{laid_line};
+ghost use Rattle.st_lines.specs.Origins.{half_in, is_same_half as is_same_half_of, is_kept as is_kept_of, origin_at};
+
+use st_bits::{WORDS, part};
+use st_format::length_in_halves;
+use st_report::LineFromEnd;
+use st_state::State;
+
+/// Where the half-words come from that an entry begins with.
+#[derive(Clone, Copy, Debug, PartialEq, Eq)]
+pub struct Origin {
+    /// The number of the first card whose bits begin in the half-word at its address.
+    pub card: u32,
+    /// Whether that half-word, and where it is the first of a full word the next one too, is still
+    /// that of the image.
+    pub kept: bool,
+}
+
+/// Where the half-words of a program come from.
+#[derive(Drop)]
+pub struct Origins {
+    /// By half-word addresses the number of the first card whose bits begin there, or 0.
+    pub cards: Vec<u32>,
+    /// The words of storage as the cards laid them.
+    pub image: Vec<u64>,
+}
+
+// Word `w` of the image, 0 behind the last one.
+#[inline(always)]
+fn laid_word(image: &Vec<u64>, w: usize) -> u64
+    ensures { result ≡ slice_index image.now.items w }
+{
+    if w < image.len() { image[w] } else { 0 }
+}
+
+// Word `w` of a state, 0 behind the last one.
+#[inline(always)]
+fn present_word(state: &State, w: usize) -> u64
+    ensures { result ≡ word_of state.now w }
+{
+    state.shape();
+    if w < WORDS as usize {
+        state.word(w as u32)
+    } else {
+        0
+    }
+}
+
+// The half-word at the address `h` of a word.
+#[inline(always)]
+fn half_of(word: u64, h: usize) -> u32
+    ensures { result ≡ half_by word h }
+{
+    part(word, 32 * (h % 2) as u32, 32) as u32
+}
+
+// Half-word `h` of a state.
+#[inline(always)]
+fn half_at(state: &State, h: usize) -> u32
+    ensures { result ≡ half_in state.now.words h }
+{
+    half_of(present_word(state, h / 2), h)
+}
+
+// Whether half-word `h` of a state is that of the image.
+#[inline(always)]
+#[tactic(auto, unfolding(crate::specs::Origins::is_same_half))]
+fn is_same_half(image: &Vec<u64>, state: &State, h: usize) -> bool
+    ensures { result ≡ is_same_half_of image.now.items state.now.words h }
+{
+    half_at(state, h) == half_of(laid_word(image, h / 2), h)
+}
+
+// The same of what begins there, a half-word or a full word.
+#[tactic(auto, unfolding(crate::specs::Origins::is_kept))]
+fn is_kept(image: &Vec<u64>, state: &State, h: u32) -> bool
+    ensures { result ≡ is_kept_of image.now.items state.now.words h }
+{
+    let h = h as usize;
+    if !is_same_half(image, state, h) {
+        return false;
+    }
+    length_in_halves(half_at(state, h)) == 1 || is_same_half(image, state, h + 1)
+}
+
+// The number of the card of half-word `h`, or 0.
+#[inline(always)]
+fn number_at(cards: &Vec<u32>, h: u32) -> u32
+    ensures { result ≡ slice_index cards.now.items h }
+{
+    let h = h as usize;
+    if h < cards.len() { cards[h] } else { 0 }
+}
+
+impl Origins {
+    /// Where half-word `h` of a state comes from, if a card's bits begin there.
+    pub fn at(&self, state: &State, h: u32) -> Option<Origin>
+        ensures { result ≡ origin_at self.now state.now h }
+    {
+        let card = number_at(&self.cards, h);
+        if card == 0 {
+            return None;
+        }
+        Some(Origin {
+            card,
+            kept: is_kept(&self.image, state, h),
+        })
+    }
+}
+
+// Puts whether half-words are kept before a line.
+#[inline(always)]
+fn put_kept(line: &mut LineFromEnd, kept: bool)
+    requires { length line.old + 7 ≤ 192 }
+    ensures bytes { line.new ≡ (codes " KEPT " ++ flag kept) ++ line.old }
+    ensures room { length line.new ≡ length line.old + 7 }
+{
+    if kept {
+        line.put(b" KEPT 1");
+    } else {
+        line.put(b" KEPT 0");
+    }
+}
+
+/// `LAID k KEPT f`, filled into a line: card k is the first whose bits begin in the half-word at
+/// the address of an entry. What the line had is gone.
+pub(crate) fn fill_laid(line: &mut LineFromEnd, origin: Origin)
+    ensures { line.new ≡ laid_line origin }
+{
+    line.clear();
+    line.put(b"\n");
+    put_kept(line, origin.kept);
+    line.put_decimal(u64::from(origin.card));
+    line.put(b"LAID ");
+}
