@@ -1,5 +1,5 @@
 //! The words that changed behind an entry.
-ghost use Rattle.std.specs.Prelude.{◌≡◌, ℕ, ◌+◌, ◌-◌, ◌<◌, ◌≤◌, ◌^◌, ◌⊎◌, length, slice_index, slice_set, IsOk};
+ghost use Rattle.std.specs.Prelude.{true, ◌≡◌, ℕ, ◌+◌, ◌-◌, ◌<◌, ◌≤◌, ◌^◌, ◌⊎◌, length, slice_index, slice_set, IsOk};
 ghost use Rattle.st_bits.specs.Storage.{words_of_storage};
 ghost use Rattle.st_bits.specs.declared.limits.TheConstants.{WORDS};
 ghost use Rattle.st_io.specs.Lines.{WritesLines, lines_for};
@@ -67,7 +67,37 @@ fn next_word(may: &Changeable, w: u32) -> u32
     one.min(two).min(card)
 }
 
-// The first register from `w` on that changed, or else the first word behind them.
+// Whether two registers from `w` on are as they were.
+#[inline(always)]
+#[tactic(auto, using(st_bits::specs::Storage::words_of_storage_is))]
+fn are_two(old: &Vec<u64>, state: &State, w: u32) -> bool
+    requires size { length old.now.items ≡ words_of_storage }
+    requires inside { w + 2 ≤ 32 }
+    ensures { result ≡ true → (v : ℕ) → w ≤ v → v < w + 2 →
+        slice_index old.now.items v ≡ word_of state.now v }
+{
+    if old[w as usize] != state.word(w) {
+        return false;
+    }
+    old[w as usize + 1] == state.word(w + 1)
+}
+
+// Whether four registers from `w` on are as they were.
+#[inline(always)]
+fn are_four(old: &Vec<u64>, state: &State, w: u32) -> bool
+    requires size { length old.now.items ≡ words_of_storage }
+    requires inside { w + 4 ≤ 32 }
+    ensures { result ≡ true → (v : ℕ) → w ≤ v → v < w + 4 →
+        slice_index old.now.items v ≡ word_of state.now v }
+{
+    if !are_two(old, state, w) {
+        return false;
+    }
+    are_two(old, state, w + 2)
+}
+
+// The first register from `w` on that changed, or else the first word behind them. Those that did
+// not are passed over four at a time.
 #[tactic(auto, using(st_bits::specs::Storage::words_of_storage_is))]
 fn next_register(old: &Vec<u64>, state: &State, w: u32) -> u32
     requires size { length old.now.items ≡ words_of_storage }
@@ -79,10 +109,13 @@ fn next_register(old: &Vec<u64>, state: &State, w: u32) -> u32
 {
     let mut r = w;
     'registers: while r < FIRST_STORAGE_WORD {
-        if old[r as usize] != state.word(r) {
+        if r <= 28 && are_four(old, state, r) {
+            r += 4;
+        } else if old[r as usize] == state.word(r) {
+            r += 1;
+        } else {
             return r;
         }
-        r += 1;
     }
     r
 }
