@@ -1,5 +1,6 @@
 -- The reads of an entry, part by part, in the log.
-use Rattle.std.proofs.Common.{◌≡◌, ℕ, zero, suc, ◌+◌, ◌-◌, ◌≤◌, max, List, refl, sym, ap, ◌∙◌, arith}
+use Rattle.std.specs.Prelude.{slice_set, slice_index_or}
+use Rattle.std.proofs.Common.{◌≡◌, ℕ, zero, suc, ◌+◌, ◌-◌, ◌≤◌, max, List, [], ◌∷◌, length, take, refl, sym, ap, ◌∙◌, arith}
 use Rattle.st_fetch.specs.Planned.{tick_of}
 use Rattle.st_rows.specs.Asked.{word_asked, words_asked, side_asked, runs_asked, following_asked, fetches_asked, formed_asked, prepared_asked, reads_of_entry, bus_after_reads}
 use Rattle.st_rows.specs.BusTimes.{bus_after_request}
@@ -95,3 +96,22 @@ module _ (ds : List ℕ) (f : Front) (e : Entry) where
       next
       ∙ rw is (noted-two ds (formed_asked ds f e) (prepared_asked ds n f e) f.bus (bus_a ds f e) log one (sym (served-formed ds f e)) made)
       ∙ ap (λ reads. log_after_reads ds reads f.bus log) (sym (two-parts ds n f e))
+
+-- ---- the last eight entries
+
+-- each entry is put one place on, the last one first
+abbrev moved : Past → ℕ → List Past → List Past
+moved d i xs = slice_set xs (i + 1) (slice_index_or xs i d)
+
+pub past-shifted : (xs : List Past) (n d : Past) → length xs ≡ 8
+    → slice_set (moved d 0 (moved d 1 (moved d 2 (moved d 3 (moved d 4 (moved d 5 (moved d 6 xs))))))) 0 n ≡ n ∷ take 7 xs
+past-shifted (a ∷ b ∷ c ∷ d ∷ e ∷ f ∷ g ∷ h ∷ []) n x eight = refl
+past-shifted [] n x eight = absurd (omega arith)
+past-shifted (a ∷ []) n x eight = absurd (omega arith)
+past-shifted (a ∷ b ∷ []) n x eight = absurd (omega arith)
+past-shifted (a ∷ b ∷ c ∷ []) n x eight = absurd (omega arith)
+past-shifted (a ∷ b ∷ c ∷ d ∷ []) n x eight = absurd (omega arith)
+past-shifted (a ∷ b ∷ c ∷ d ∷ e ∷ []) n x eight = absurd (omega arith)
+past-shifted (a ∷ b ∷ c ∷ d ∷ e ∷ f ∷ []) n x eight = absurd (omega arith)
+past-shifted (a ∷ b ∷ c ∷ d ∷ e ∷ f ∷ g ∷ []) n x eight = absurd (omega arith)
+past-shifted (a ∷ b ∷ c ∷ d ∷ e ∷ f ∷ g ∷ h ∷ i ∷ xs) n x eight = absurd (omega arith)

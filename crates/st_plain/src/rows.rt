@@ -22,10 +22,14 @@ use st_rows::{Bus, Entry, EntryTicks, Fetching, Formed, Front, LastEntries, Log,
 pub fn put_past(past: &mut [Past; 8], newest: Past)
     ensures { past.new ≡ newest ∷ take 7 past.old }
 {
-    let old = *past;
-    *past = [
-        newest, old[0], old[1], old[2], old[3], old[4], old[5], old[6],
-    ];
+    past[7] = past[6];
+    past[6] = past[5];
+    past[5] = past[4];
+    past[4] = past[3];
+    past[3] = past[2];
+    past[2] = past[1];
+    past[1] = past[0];
+    past[0] = newest;
 }
 
 // The instruction words of a run are fetched, and noted.
