@@ -52,6 +52,17 @@ fn next_of_card(card: Option<u32>, w: u32) -> u32
     }
 }
 
+// Whether no words may have changed but registers.
+#[inline(always)]
+fn are_left(may: &Changeable) -> bool
+    ensures { result ≡ true → (v : ℕ) → 32 ≤ v → IsLeft v may.now }
+{
+    if may.writes.len != 0 || may.writes.len2 != 0 {
+        return false;
+    }
+    may.card.is_none()
+}
+
 // The first word from `w` on, which is no register, that may have changed, at most `WORDS`.
 fn next_word(may: &Changeable, w: u32) -> u32
     requires above { 32 ≤ w }
@@ -60,6 +71,9 @@ fn next_word(may: &Changeable, w: u32) -> u32
     ensures most { result ≤ WORDS }
     ensures between { (v : ℕ) → w ≤ v → v < result → IsLeft v may.now }
 {
+    if are_left(may) {
+        return WORDS;
+    }
     let writes = may.writes;
     let one = next_in(writes.first, writes.len, w);
     let two = next_in(writes.first2, writes.len2, w);
