@@ -196,9 +196,14 @@ pub fn begin(
 {
     delays.shape();
     let mut words = fetch_all(front, delays, entry, log, uses);
-    let bus = words.bus;
-    let formed = front.form(delays, levels, entry, &mut words, log);
-    use_side(uses, &bus, delays, &front.past, past, side, formed.a);
+    let formed;
+    if side.is_none() {
+        formed = front.form(delays, levels, entry, &mut words, log);
+    } else {
+        let bus = words.bus;
+        formed = front.form(delays, levels, entry, &mut words, log);
+        use_side(uses, &bus, delays, &front.past, past, side, formed.a);
+    }
     let level_wait = level_wait(front, levels, entry, formed.a, &words.bus);
     Begun {
         words,
