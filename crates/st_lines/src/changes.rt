@@ -135,6 +135,7 @@ fn next_register(old: &Vec<u64>, state: &State, w: u32) -> u32
 }
 
 // The first word from `w` on that may have changed, at most `WORDS`.
+#[inline(always)]
 fn next_changed(old: &Vec<u64>, state: &State, may: &Changeable, w: u32) -> u32
     requires size { length old.now.items ≡ words_of_storage }
     requires most { w ≤ WORDS }
