@@ -73,6 +73,19 @@ fn put_made(line: &mut LineFromEnd, made: bool)
     }
 }
 
+// Puts a tick before a line, and keeps its digits for those that come next.
+#[inline(always)]
+fn put_tick(line: &mut LineFromEnd, kept: &mut KeptDigits, tick: u64)
+    requires { length line.old + 20 ≤ 192 }
+    ensures bytes { line.new ≡ decimal tick ++ line.old }
+    ensures room { length line.new ≤ length line.old + 20 }
+{
+    if kept.past(tick) >= 100 {
+        kept.keep(tick);
+    }
+    line.put_near(tick, kept);
+}
+
 // Puts the read of word w before a line; its ticks have digits in common with others.
 #[inline(always)]
 fn put_read(
@@ -87,15 +100,15 @@ fn put_read(
     ensures room { length line.new ≤ length line.old + 153 }
 {
     put_made(line, is_before(end, ticks.accept));
-    line.put_near(ticks.answer, kept);
+    put_tick(line, kept, ticks.answer);
     line.put_word(*b" ANSWER ");
-    line.put_near(ticks.accept, kept);
+    put_tick(line, kept, ticks.accept);
     line.put_word(*b" ACCEPT ");
-    line.put_near(ticks.free, kept);
+    put_tick(line, kept, ticks.free);
     line.put_word(*b" FREE ");
-    line.put_near(ticks.turn, kept);
+    put_tick(line, kept, ticks.turn);
     line.put_word(*b" TURN ");
-    line.put_near(ticks.want, kept);
+    put_tick(line, kept, ticks.want);
     line.put_word(*b" WANT ");
     put_bank(line, w);
 }
@@ -133,7 +146,7 @@ fn put_supply(line: &mut UseLine, n: u32, end: Option<u64>, used: &Use)
     match &used.supply {
         Supply::Read(ticks) => put_read(&mut line.bytes, &mut line.ticks, end, used.word, ticks),
         Supply::Held(answer) => {
-            line.bytes.put_near(*answer, &mut line.ticks);
+            put_tick(&mut line.bytes, &mut line.ticks, *answer);
             line.bytes.put_word(*b" HELD ANSWER ");
         }
         Supply::Forwarded(writer) => put_writer(&mut line.bytes, n, *writer),
