@@ -73,19 +73,22 @@ fn fetch_run(
 }
 
 // All instruction words of the next entry are fetched, and noted.
+#[inline(always)]
 #[tactic(auto, unfolding(st_rows::specs::Rows::words_tick, st_rows::specs::Asked::fetches_asked, crate::specs::Uses::fetch_uses))]
 fn fetch_all(
+    words: &mut Fetching,
     front: &Front,
     delays: &Delays,
     entry: &Entry,
     log: &mut Log,
     uses: &mut Uses,
-) -> Fetching
+)
+    requires start { words.old ≡ record { bus = front.now.bus; answered = 0; awaited = 0 } }
     requires entry { IsEntryInTime entry.now }
     requires tight { IsTight MOST_DELAY front.now }
     requires early { front.now.c ≤ 2 ^ 63 + 2 ^ 20 }
     requires space { length uses.old.items + 4 ≤ 48 }
-    ensures words { result ≡ words_tick delays.now front.now entry.now }
+    ensures words { words.new ≡ words_tick delays.now front.now entry.now }
     ensures log { log.new
         ≡ log_after_reads delays.now
         (fetches_asked delays.now front.now entry.now) front.now.bus log.old }
@@ -94,19 +97,11 @@ fn fetch_all(
     ensures noted { length uses.new.items ≤ length uses.old.items + 4 }
 {
     delays.shape();
-    let mut words = Fetching::new(front.bus);
+    let past = &front.past;
     let from = front.wanted_from();
-    fetch_run(&mut words, delays, &front.past, entry.own, from, log, uses);
-    fetch_run(
-        &mut words,
-        delays,
-        &front.past,
-        entry.target,
-        from.max(front.c),
-        log,
-        uses,
-    );
-    words
+    fetch_run(words, delays, past, entry.own, from, log, uses);
+    let late = from.max(front.c);
+    fetch_run(words, delays, past, entry.target, late, log, uses);
 }
 
 // The last answer of the bank that the word `w` is in, by those of all banks.
@@ -195,7 +190,12 @@ pub fn begin(
     ensures noted { length uses.new.items ≤ length uses.old.items + 5 }
 {
     delays.shape();
-    let mut words = fetch_all(front, delays, entry, log, uses);
+    let mut words = Fetching {
+        bus: front.bus,
+        answered: 0,
+        awaited: 0,
+    };
+    fetch_all(&mut words, front, delays, entry, log, uses);
     let formed;
     if side.is_none() {
         formed = front.form(delays, levels, entry, &mut words, log);

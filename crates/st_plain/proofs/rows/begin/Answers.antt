@@ -13,18 +13,18 @@ returns-clause-log c =
     let e = c.args.entry.now in
     elim c.if-is_none.branch [
       | then-is_none w ↦
-          w.log-is ∙ noted-formed ds f e c.fetch_all-words.result w.form-formed.result.a c.args.log.now c.fetch_all-words.new.log w.form-formed.new.log
-          c.fetch_all-words.ensures.words w.form-formed.ensures.address c.fetch_all-words.ensures.log w.form-formed.ensures.log
+          w.log-is ∙ noted-formed ds f e c.fetch_all.new.words w.form-formed.result.a c.args.log.now c.fetch_all.new.log w.form-formed.new.log
+          c.fetch_all.ensures.words w.form-formed.ensures.address c.fetch_all.ensures.log w.form-formed.ensures.log
       | else-is_none w ↦
-          w.log-is ∙ noted-formed ds f e c.fetch_all-words.result w.form-formed-else-is_none.result.a c.args.log.now c.fetch_all-words.new.log
-          w.form-formed-else-is_none.new.log c.fetch_all-words.ensures.words w.form-formed-else-is_none.ensures.address c.fetch_all-words.ensures.log
+          w.log-is ∙ noted-formed ds f e c.fetch_all.new.words w.form-formed-else-is_none.result.a c.args.log.now c.fetch_all.new.log
+          w.form-formed-else-is_none.new.log c.fetch_all.ensures.words w.form-formed-else-is_none.ensures.address c.fetch_all.ensures.log
           w.form-formed-else-is_none.ensures.log
     ]
 
 pub use_side-requires-clause-room : goal.use_side-requires-clause-room
 use_side-requires-clause-room c =
     let f = c.args.front.now in
-    rw c.fetch_all-words.ensures.words
+    rw c.fetch_all.ensures.words
     (bus-weaker (f.c + 7 * 255 + 6) (2 ^ 64 - 512) _ (omega arith)
     (fetched-within 255 c.args.delays.now (AreDelays-list c.args.delays.now c.shape.ensures) f c.args.entry.now c.requires.entry c.requires.tight).bus)
 
@@ -40,10 +40,10 @@ returns-clause-uses c =
     let e = c.args.entry.now in
     elim c.if-is_none.branch [
       | then-is_none w ↦
-          ap (λ us. us.items) w.uses-is ∙ formed-bare ds f e c.args.side c.is_none.result c.args.uses.now.items c.fetch_all-words.new.uses.items c.is_none.ensures w.if-is_none.true
-          c.fetch_all-words.ensures.uses
+          ap (λ us. us.items) w.uses-is ∙ formed-bare ds f e c.args.side c.is_none.result c.args.uses.now.items c.fetch_all.new.uses.items c.is_none.ensures w.if-is_none.true
+          c.fetch_all.ensures.uses
       | else-is_none w ↦
-          ap (λ us. us.items) w.uses-is ∙ formed-used ds f e c.args.side c.fetch_all-words.result w.form-formed-else-is_none.result.a c.args.uses.now.items
-          c.fetch_all-words.new.uses.items w.use_side.new.uses.items c.fetch_all-words.ensures.words w.form-formed-else-is_none.ensures.address
-          c.fetch_all-words.ensures.uses w.use_side.ensures.items
+          ap (λ us. us.items) w.uses-is ∙ formed-used ds f e c.args.side c.fetch_all.new.words w.form-formed-else-is_none.result.a c.args.uses.now.items
+          c.fetch_all.new.uses.items w.use_side.new.uses.items c.fetch_all.ensures.words w.form-formed-else-is_none.ensures.address
+          c.fetch_all.ensures.uses w.use_side.ensures.items
     ]
