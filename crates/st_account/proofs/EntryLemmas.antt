@@ -23,7 +23,7 @@ use Rattle.st_ledger.specs.Ledger.{charges_at}
 use Rattle.st_ledger.specs.Totals.{AreWithin}
 use Rattle.st_ledger.proofs.Rows.{row-sum}
 use Rattle.st_plain.specs.Looking.{known_at, level_wait, side_at}
-use Rattle.st_plain.specs.Uses.{uses_of_entry}
+use Rattle.st_plain.specs.Uses.{formed_uses, uses_of_entry}
 use Rattle.st_plain.specs.declared.uses.Use.{Use}
 use Rattle.st_plain.specs.declared.known.Known.{Known}
 use Rattle.st_plain.specs.declared.rows.Row.{Row}
@@ -34,7 +34,7 @@ use Rattle.st_lines.specs.declared.origins.Origin.{Origin}
 use Rattle.st_rows.specs.declared.entry.Entry.{Entry}
 use Rattle.st_reasons.specs.Reasons.{because}
 use Rattle.st_reasons.specs.declared.because.Because.{Because}
-use Rattle.st_account.specs.Text.{uses_at, lines_of_entry}
+use Rattle.st_account.specs.Text.{formed_at, uses_at, lines_of_entry}
 use Rattle.st_account.proofs.LastLemmas.{next-last}
 
 pub entry-step : (s u : Machine) (taken : Option ℕ) → taken ≡ interrupt s → u ≡ state_after_execution taken s → u ≡ step s
@@ -107,53 +107,58 @@ uses-is ds n p s l taken us is is_taken is_uses =
     ∙ ap (λ f. uses_of_entry ds n f (entry (interrupt p.scene.machine) p.scene.machine) (side_at (interrupt p.scene.machine) p.scene.machine)
     (plan p.scene.machine (interrupt p.scene.machine)).reads) (sym is.front)
 
+pub formed-is : (ds : List ℕ) (p : Standing) (s : Machine) (l : Last) (taken : Option ℕ) (us : List Use) → IsStanding p s l → taken ≡ interrupt s
+    → us ≡ formed_uses ds l.front (entry taken s) (side_at taken s) → us ≡ formed_at ds p
+unfolding formed_at
+formed-is ds p s l taken us is is_taken is_uses =
+    is_uses
+    ∙ ap (λ t. formed_uses ds l.front (entry t s) (side_at t s)) is_taken
+    ∙ ap (λ m. formed_uses ds l.front (entry (interrupt m) m) (side_at (interrupt m) m)) (sym is.machine)
+    ∙ ap (λ f. formed_uses ds f (entry (interrupt p.scene.machine) p.scene.machine) (side_at (interrupt p.scene.machine) p.scene.machine)) (sym is.front)
+
 -- what kept it back
 abbrev why_of : Front → Entry → EntryTicks → ℕ → List Use → List Use → Because
-why_of f e ticks wait uses earlier = because f e (record { ticks = ticks; level_wait = wait }) uses earlier
-
-because-parts : (f : Front) (e : Entry) (r : Row) (us bs : List Use) → because f e r us bs ≡ why_of f e r.ticks r.level_wait us bs
-unfolding because
-because-parts f e r us bs = refl
+why_of f e ticks wait words earlier = because f e ticks.a ticks.p wait words earlier
 
 because-is : (ds : List ℕ) (n : ℕ) (p : Standing) (s : Machine) (l : Last) (taken : Option ℕ) (r : Row) (us bs : List Use) (why : Because) → IsStanding p s l
     → taken ≡ interrupt s
     → r.ticks ≡ row_of_entry ds n l.front (entry taken s) → r.level_wait ≡ level_wait ds n l.front (entry taken s)
-    → us ≡ uses_of_entry ds n l.front (entry taken s) (side_at taken s) (plan s taken).reads
-    → why ≡ because l.front (entry taken s) r us bs
+    → us ≡ formed_uses ds l.front (entry taken s) (side_at taken s)
+    → why ≡ why_of l.front (entry taken s) r.ticks r.level_wait us bs
     → why ≡ why_of p.front (entry (interrupt p.scene.machine) p.scene.machine) (next_row ds n p)
-    (level_wait ds n p.front (entry (interrupt p.scene.machine) p.scene.machine)) (uses_at ds n p) bs
+    (level_wait ds n p.front (entry (interrupt p.scene.machine) p.scene.machine)) (formed_at ds p) bs
 because-is ds n p s l taken r us bs why is is_taken is_row is_wait is_uses is_why =
     is_why
-    ∙ because-parts l.front (entry taken s) r us bs
     ∙ ap (λ y. why_of l.front (entry taken s) y r.level_wait us bs) (row-is ds n p s l taken r.ticks is is_taken is_row)
     ∙ ap (λ y. why_of l.front (entry taken s) (next_row ds n p) y us bs) (wait-is ds n p s l taken r.level_wait is is_taken is_wait)
     ∙ ap (λ y. why_of l.front (entry taken s) (next_row ds n p) (level_wait ds n p.front (entry (interrupt p.scene.machine) p.scene.machine)) y bs)
-    (uses-is ds n p s l taken us is is_taken is_uses)
-    ∙ ap (λ t. why_of l.front (entry t s) (next_row ds n p) (level_wait ds n p.front (entry (interrupt p.scene.machine) p.scene.machine)) (uses_at ds n p) bs) is_taken
-    ∙ ap (λ m. why_of l.front (entry (interrupt m) m) (next_row ds n p) (level_wait ds n p.front (entry (interrupt p.scene.machine) p.scene.machine)) (uses_at ds n p) bs)
+    (formed-is ds p s l taken us is is_taken is_uses)
+    ∙ ap (λ t. why_of l.front (entry t s) (next_row ds n p) (level_wait ds n p.front (entry (interrupt p.scene.machine) p.scene.machine)) (formed_at ds p) bs) is_taken
+    ∙ ap (λ m. why_of l.front (entry (interrupt m) m) (next_row ds n p) (level_wait ds n p.front (entry (interrupt p.scene.machine) p.scene.machine)) (formed_at ds p) bs)
     (sym is.machine)
     ∙ ap (λ f. why_of f (entry (interrupt p.scene.machine) p.scene.machine) (next_row ds n p)
-    (level_wait ds n p.front (entry (interrupt p.scene.machine) p.scene.machine)) (uses_at ds n p) bs) (sym is.front)
+    (level_wait ds n p.front (entry (interrupt p.scene.machine) p.scene.machine)) (formed_at ds p) bs) (sym is.front)
 
 pub entry-lines : (o : Machine → ℕ → Option Origin) (ds : List ℕ) (n : ℕ) (p : Standing) (end : Option ℕ) (s : Machine) (l : Last) (taken : Option ℕ) (a : ℕ)
     (origin : Option Origin) (r : Row) (i : ℕ)
-    (missed : Bool) (q : Prepared) (known : Known) (t start : ℕ) (why : Because) (us bs : List Use) → IsStanding p s l → taken ≡ interrupt s → a ≡ address s
+    (missed : Bool) (q : Prepared) (known : Known) (t start : ℕ) (why : Because) (us ws bs : List Use) → IsStanding p s l → taken ≡ interrupt s → a ≡ address s
     → origin ≡ o s (address s)
     → r.ticks ≡ row_of_entry ds n l.front (entry taken s) → r.level_wait ≡ level_wait ds n l.front (entry taken s) → i ≡ s.done + 1
     → missed ≡ is_missed (plan s taken) s → q ≡ plan s taken → known ≡ known_at taken s → t ≡ l.tick → start ≡ l.front.c
     → us ≡ uses_of_entry ds n l.front (entry taken s) (side_at taken s) (plan s taken).reads
-    → why ≡ because l.front (entry taken s) r us bs
+    → ws ≡ formed_uses ds l.front (entry taken s) (side_at taken s)
+    → why ≡ because l.front (entry taken s) r.ticks.a r.ticks.p r.level_wait ws bs
     → told_lines i a origin r.ticks r.level_wait missed q known t start end why us bs ≡ lines_of_entry o ds n end bs p
 unfolding lines_of_entry
-entry-lines o ds n p end s l taken a origin r i missed q known t start why us bs is is_taken is_address is_origin is_row is_wait number guessed planned is_known at since is_uses is_why =
+entry-lines o ds n p end s l taken a origin r i missed q known t start why us ws bs is is_taken is_address is_origin is_row is_wait number guessed planned is_known at since is_uses is_words is_why =
     let m = p.scene.machine in
     let e = plan m (interrupt m) in
     let k = known_at (interrupt m) m in
     let d = level_wait ds n p.front (entry (interrupt m) m) in
-    let w = why_of p.front (entry (interrupt m) m) (next_row ds n p) d (uses_at ds n p) bs in
+    let w = why_of p.front (entry (interrupt m) m) (next_row ds n p) d (formed_at ds p) bs in
     let g = o m (address m) in
     ap (λ y. told_lines i a origin r.ticks r.level_wait missed q known t start end y us bs)
-    (because-is ds n p s l taken r us bs why is is_taken is_row is_wait is_uses is_why)
+    (because-is ds n p s l taken r ws bs why is is_taken is_row is_wait is_words is_why)
     ∙ ap (λ y. told_lines i a y r.ticks r.level_wait missed q known t start end w us bs) (is_origin ∙ ap (λ u. o u (address u)) (sym is.machine))
     ∙ ap (λ y. told_lines i a g y r.level_wait missed q known t start end w us bs) (row-is ds n p s l taken r.ticks is is_taken is_row)
     ∙ ap (λ y. told_lines i a g (next_row ds n p) y missed q known t start end w us bs) (wait-is ds n p s l taken r.level_wait is is_taken is_wait)

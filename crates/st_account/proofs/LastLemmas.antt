@@ -10,7 +10,7 @@ use Rattle.st_rows.specs.BusTimes.{accept_at}
 use Rattle.st_rows.specs.Asked.{Read, formed_asked, prepared_asked, reads_of_entry, bus_after_reads, made_before}
 use Rattle.st_rows.specs.Notes.{log_after_reads, IsLogged}
 use Rattle.st_rows.specs.Ranges.{AreDelaysUpTo, IsEntryInTime, IsTight}
-use Rattle.st_rows.specs.Rows.{opening_front, row_of_entry, front_after_entry}
+use Rattle.st_rows.specs.Rows.{opening_front, tick_a, tick_p, row_of_entry, front_after_entry}
 use Rattle.st_rows.specs.declared.log.Made.{Made}
 use Rattle.st_rows.proofs.LogLaws.{logged-noted}
 use Rattle.st_rows.proofs.NoteLemmas.{opened-log}
@@ -29,6 +29,10 @@ use Rattle.st_run.specs.Moments.{Standing, moment_at_start, answers_at_start, ne
 use Rattle.std.proofs.lemmas.List.{length-append, length-map}
 use Rattle.st_prep.proofs.Choices.{of_choice}
 use Rattle.st_plain.specs.Looking.{seen_ahead}
+use Rattle.st_plain.specs.Uses.{formed_uses}
+use Rattle.st_plain.specs.declared.uses.Use.{Use}
+use Rattle.st_reasons.specs.Reasons.{because}
+use Rattle.st_reasons.specs.declared.because.Because.{Because}
 use Rattle.st_plain.specs.declared.looking.Ahead.{Ahead as Seen}
 use Rattle.st_account.specs.declared.last.Last.{Last}
 use Rattle.st_account.specs.Standing.{guessing, HasReads, IsLast, IsStanding}
@@ -194,3 +198,17 @@ pub past-kept : (ds : List ℕ) (n : ℕ) (f : Front) (e : Entry) (r : EntryTick
     → new ≡ record { c = r.c; writes = e.writes } ∷ take 7 old → g ≡ front_after_entry ds n f e → new ≡ g.past
 unfolding row_of_entry front_after_entry
 past-kept ds n f e r old new g same is kept behind = rw (behind, kept, is, same) refl
+
+-- what kept it back, by its row
+pub because-made : (ds : List ℕ) (n : ℕ) (f : Front) (e x : Entry) (side s : Option ℕ) (row : EntryTicks) (a p wait : ℕ) (none begun us bs cs : List Use)
+    (why : Because) → none ≡ [] → begun ≡ none ++ formed_uses ds f e side → us ≡ begun → bs ≡ cs → e ≡ x → side ≡ s → row ≡ row_of_entry ds n f e
+    → a ≡ tick_a ds f e → p ≡ tick_p ds n f e → why ≡ because f e a p wait us bs → why ≡ because f x row.a row.p wait (formed_uses ds f x s) cs
+unfolding row_of_entry
+because-made ds n f e x side s row a p wait none begun us bs cs why is_none is_begun same_uses same_before same_entry same_side is_row is_a is_p is_why =
+    is_why
+    ∙ ap (λ y. because f e y p wait us bs) (is_a ∙ ap (λ (t : EntryTicks). t.a) (sym is_row))
+    ∙ ap (λ y. because f e row.a y wait us bs) (is_p ∙ ap (λ (t : EntryTicks). t.p) (sym is_row))
+    ∙ ap (λ ws. because f e row.a row.p wait ws bs) (same_uses ∙ is_begun ∙ ap (λ ws. ws ++ formed_uses ds f e side) is_none)
+    ∙ ap (λ ws. because f e row.a row.p wait (formed_uses ds f e side) ws) same_before
+    ∙ ap (λ y. because f y row.a row.p wait (formed_uses ds f y side) cs) same_entry
+    ∙ ap (λ o. because f x row.a row.p wait (formed_uses ds f x o) cs) same_side

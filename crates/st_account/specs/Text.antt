@@ -19,7 +19,7 @@ use Rattle.st_ledger.specs.Ledger.{entries_of, charges_at, all_charges}
 use Rattle.st_ledger.specs.Totals.{stages, sums_by, sum_lines}
 use Rattle.st_plain.specs.declared.looking.Ahead.{Ahead}
 use Rattle.st_plain.specs.Looking.{known_at, level_wait, side_at, seen_ahead, first_late}
-use Rattle.st_plain.specs.Uses.{uses_of_entry}
+use Rattle.st_plain.specs.Uses.{formed_uses, uses_of_entry}
 use Rattle.st_plain.specs.declared.uses.Use.{Use}
 use Rattle.st_reasons.specs.Reasons.{because}
 use Rattle.st_reasons.specs.Sums.{row_stalled, wait_sums_by}
@@ -96,7 +96,13 @@ segment_lines o ds n k b m =
 
 -- ---- rows
 
--- the words that the next entry uses
+-- the words that the next entry uses until its address is formed
+unfoldable pub formed_at : List ℕ → Standing → List Use
+formed_at ds p =
+    let s = p.scene.machine in
+    formed_uses ds p.front (entry (interrupt s) s) (side_at (interrupt s) s)
+
+-- and all that it uses
 unfoldable pub uses_at : List ℕ → ℕ → Standing → List Use
 uses_at ds n p =
     let s = p.scene.machine in
@@ -124,9 +130,8 @@ lines_of_entry o ds n end before p =
       before = p.tick;
       start = p.front.c;
       end = end;
-      because = because p.front x
-          (record { ticks = next_row ds n p; level_wait = level_wait ds n p.front x })
-          (uses_at ds n p) before;
+      because = because p.front x (next_row ds n p).a (next_row ds n p).p
+          (level_wait ds n p.front x) (formed_at ds p) before;
     }) e (known_at (interrupt s) s) (uses_at ds n p) before
 
 -- ---- the end

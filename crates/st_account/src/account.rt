@@ -44,7 +44,7 @@ use st_card::Signal;
 use st_exch::Hopper;
 use st_exec::{interrupt, is_at_rest, next_address};
 use st_io::{Failed, Sink};
-use st_ledger::Totals;
+use st_ledger::{RowLine, Totals};
 use st_lines::{
     Border, EntryDone, Origins, Waiting, counter_of, is_enabled, write_border, write_done,
     write_end, write_marks, write_totals,
@@ -154,6 +154,7 @@ impl Account {
             waiting: Waiting {
                 waits: Waits::new(),
                 totals: WaitTotals::default(),
+                line: RowLine::new(),
             },
             k: 0,
         }

@@ -101,6 +101,7 @@ fn serve_due(state: &mut State, cards: &mut Hopper, printed: &mut Printed) -> bo
 
 // The order that is due earliest takes effect, if the machine is at rest. The result says whether a
 // card came.
+#[inline(always)]
 fn serve_at_rest(state: &mut State, cards: &mut Hopper, printed: &mut Printed) -> bool
     requires room { length printed.old.items + 1 ≤ 3 }
 

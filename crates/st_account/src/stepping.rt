@@ -5,7 +5,7 @@ ghost use Rattle.st_prep.specs.Plan.{plan as plan_of};
 ghost use Rattle.st_prep.specs.Ranges.{IsPrepared};
 ghost use Rattle.st_exec.specs.Completion.{state_after_execution, guess as guess_of, is_missed as is_missed_of};
 ghost use Rattle.st_plain.specs.Looking.{known_at, level_wait, side_at};
-ghost use Rattle.st_plain.specs.Uses.{uses_of_entry};
+ghost use Rattle.st_plain.specs.Uses.{formed_uses, uses_of_entry};
 ghost use Rattle.st_reasons.specs.Reasons.{because as because_of};
 ghost use Rattle.st_rows.specs.Asked.{reads_of_entry as asked_of};
 ghost use Rattle.st_rows.specs.Notes.{log_after_reads};
@@ -16,18 +16,17 @@ ghost use Rattle.st_account.specs.Text.{why_by};
 ghost use Rattle.st_account.specs.Standing.{guessing, has_due, still_by};
 ghost use Rattle.st_lines.specs.declared.lines.Why.TheVariants.{Run as RunBegins};
 
-use crate::last::{Last, front_of};
+use crate::last::Last;
 use crate::timing::Timing;
 use st_card::Signal;
 use st_exec::{complete_in, interrupt, is_missed};
 use st_lines::{Changeable, Why, is_enabled};
-use st_plain::{next_row, plan_entry, put_past};
+use st_plain::{Row, begin, finish, plan_entry, put_past};
 use st_prep::Prepared;
 use st_reasons::find_reason;
 use st_rows::{Log, Past};
 use st_run::plain::{printer_is_free, reader_is_free};
 use st_state::State;
-use std::mem::swap;
 
 /// Why a segment begins: the run does, or an interrupt is taken, a guess was wrong, or else a card
 /// came.
@@ -96,6 +95,7 @@ pub(crate) fn is_end_near(left: u64, still: bool) -> bool
 }
 
 /// The numbers of the next entry, and what is at hand behind it.
+#[tactic(auto, unfolding(st_plain::specs::Uses::uses_of_entry), using(st_bits::specs::Storage::words_of_storage_is))]
 pub(crate) fn count_on(
     state: &State,
     taken: Option<u8>,
@@ -121,7 +121,9 @@ pub(crate) fn count_on(
         (plan_of state.now taken).reads }
     ensures earlier { last.new.before.items ≡ last.old.uses.items }
     ensures because { last.new.because ≡ because_of last.old.front (entry_of taken state.now)
-        last.new.done.row last.new.uses.items last.old.uses.items }
+        last.new.done.row.ticks.a last.new.done.row.ticks.p last.new.done.row.level_wait
+        (formed_uses timing.now.delays last.old.front (entry_of taken state.now)
+        (side_at taken state.now)) last.old.uses.items }
     ensures front { last.new.front ≡ after_of timing.now.delays timing.now.levels last.old.front
         (entry_of taken state.now) }
     ensures log { log.new ≡ log_after_reads timing.now.delays
@@ -137,36 +139,49 @@ pub(crate) fn count_on(
 {
     state.shape();
     let planned = plan_entry(taken, state, &mut last.plan);
+    let entry = &planned.entry;
     log.clear();
-    let front = front_of(last);
-    swap(&mut last.uses, &mut last.before);
-    let row = next_row(
+    last.before.copy(&last.uses);
+    last.uses.clear();
+    let mut begun = begin(
+        &last.front,
+        &last.past,
+        &timing.delays,
+        timing.levels as usize,
+        entry,
+        planned.known.side,
+        log,
+        &mut last.uses,
+    );
+    last.because = find_reason(
+        &last.front,
+        entry,
+        &begun,
+        last.uses.as_slice(),
+        last.before.as_slice(),
+    );
+    let level_wait = begun.level_wait;
+    let ticks = finish(
         &mut last.front,
         &last.past,
         &timing.delays,
         timing.levels as usize,
-        &planned,
+        entry,
         last.plan.reads,
+        &mut begun,
         log,
         &mut last.uses,
     );
     put_past(
         &mut last.past,
         Past {
-            c: row.ticks.c,
-            writes: planned.entry.writes,
+            c: ticks.c,
+            writes: entry.writes,
         },
     );
-    last.tick = row.ticks.c;
-    last.done.row = row;
+    last.tick = ticks.c;
+    last.done.row = Row { ticks, level_wait };
     last.done.known = planned.known;
-    last.because = find_reason(
-        &front,
-        &planned.entry,
-        &row,
-        last.uses.as_slice(),
-        last.before.as_slice(),
-    );
 }
 
 // The counter by the guess of an entry that was prepared as `p` and is now done.

@@ -1,12 +1,12 @@
 //! The lines of the ledger, by the rules of `docs/ledger.md`: one call a line, each with its line
 //! end.
-ghost use Rattle.std.specs.Prelude.{◌≡◌, ◌+◌, ◌<◌, ◌≤◌, ◌++◌, length};
+ghost use Rattle.std.specs.Prelude.{◌≡◌, ◌+◌, ◌<◌, ◌≤◌, ◌++◌, [], length};
 ghost use Rattle.arrayvec.specs.ArrayString.{array_string_len};
 ghost use Rattle.st_text.specs.Bytes.{lf};
 ghost use Rattle.st_ledger.specs.Lines.{stage_name, row_stage_line, charge_line, sum_line};
 
 use crate::charges::{Charge, Stage};
-use st_report::LineFromEnd;
+use st_report::{KeptDigits, LineFromEnd};
 use st_rows::EntryTicks;
 use st_text::{Line, begun, push_decimal};
 
@@ -43,50 +43,85 @@ fn put_stage(line: &mut LineFromEnd, stage: Stage)
     ensures room { length line.new ≤ length line.old + 11 }
 {
     match stage {
-        Stage::Restart => line.put(b"RESTART"),
-        Stage::Instruction => line.put(b"INSTRUCTION"),
-        Stage::Address => line.put(b"ADDRESS"),
-        Stage::Index => line.put(b"INDEX"),
-        Stage::Preparing => line.put(b"PREPARING"),
-        Stage::Operand => line.put(b"OPERAND"),
-        Stage::Executing => line.put(b"EXECUTING"),
+        Stage::Restart => line.put_word(*b"RESTART"),
+        Stage::Instruction => line.put_word(*b"INSTRUCTION"),
+        Stage::Address => line.put_word(*b"ADDRESS"),
+        Stage::Index => line.put_word(*b"INDEX"),
+        Stage::Preparing => line.put_word(*b"PREPARING"),
+        Stage::Operand => line.put_word(*b"OPERAND"),
+        Stage::Executing => line.put_word(*b"EXECUTING"),
+    }
+}
+
+/// A line that is filled for one fact of a row after another, with the digits that its numbers have
+/// in common with those of the line before.
+#[derive(Debug, Drop)]
+pub struct RowLine {
+    /// The bytes of the line.
+    pub bytes: LineFromEnd,
+    number: KeptDigits,
+    a: KeptDigits,
+    p: KeptDigits,
+    r: KeptDigits,
+    c: KeptDigits,
+    /// Digits of ticks behind which something begins.
+    pub from: KeptDigits,
+    /// Those of ticks with which it ends.
+    pub to: KeptDigits,
+}
+
+impl RowLine {
+    /// A line of no bytes.
+    pub fn new() -> RowLine
+        ensures { result.bytes ≡ [] }
+    {
+        RowLine {
+            bytes: LineFromEnd::new(),
+            number: KeptDigits::new(),
+            a: KeptDigits::new(),
+            p: KeptDigits::new(),
+            r: KeptDigits::new(),
+            c: KeptDigits::new(),
+            from: KeptDigits::new(),
+            to: KeptDigits::new(),
+        }
     }
 }
 
 /// `ROW n a A x P p R r C c`, filled into a line: the n-th entry that is done, its half-word
 /// address, and its ticks. What the line had is gone.
-pub fn fill_row(line: &mut LineFromEnd, n: u32, address: u32, row: &EntryTicks)
-    ensures { line.new ≡ row_stage_line n address row.now }
+pub fn fill_row(line: &mut RowLine, n: u32, address: u32, row: &EntryTicks)
+    ensures { line.new.bytes ≡ row_stage_line n address row.now }
 {
-    line.clear();
-    line.put(b"\n");
-    line.put_decimal(row.c);
-    line.put(b" C ");
-    line.put_decimal(row.r);
-    line.put(b" R ");
-    line.put_decimal(row.p);
-    line.put(b" P ");
-    line.put_decimal(row.a);
-    line.put(b" A ");
-    line.put_half_address(address);
-    line.put(b" ");
-    line.put_decimal(u64::from(n));
-    line.put(b"ROW ");
+    line.bytes.clear();
+    line.bytes.put_word(*b"\n");
+    line.bytes.put_near(row.c, &mut line.c);
+    line.bytes.put_word(*b" C ");
+    line.bytes.put_near(row.r, &mut line.r);
+    line.bytes.put_word(*b" R ");
+    line.bytes.put_near(row.p, &mut line.p);
+    line.bytes.put_word(*b" P ");
+    line.bytes.put_near(row.a, &mut line.a);
+    line.bytes.put_word(*b" A ");
+    line.bytes.put_half_address(address);
+    line.bytes.put_word(*b" ");
+    line.bytes.put_near(u64::from(n), &mut line.number);
+    line.bytes.put_word(*b"ROW ");
 }
 
 /// `CHARGE f t stage`, filled into a line: ticks that are charged to a stage. What the line had is
 /// gone.
-pub fn fill_charge(line: &mut LineFromEnd, charge: Charge)
-    ensures { line.new ≡ charge_line charge }
+pub fn fill_charge(line: &mut RowLine, charge: Charge)
+    ensures { line.new.bytes ≡ charge_line charge }
 {
-    line.clear();
-    line.put(b"\n");
-    put_stage(line, charge.stage);
-    line.put(b" ");
-    line.put_decimal(charge.to);
-    line.put(b" ");
-    line.put_decimal(charge.from);
-    line.put(b"CHARGE ");
+    line.bytes.clear();
+    line.bytes.put_word(*b"\n");
+    put_stage(&mut line.bytes, charge.stage);
+    line.bytes.put_word(*b" ");
+    line.bytes.put_near(charge.to, &mut line.to);
+    line.bytes.put_word(*b" ");
+    line.bytes.put_near(charge.from, &mut line.from);
+    line.bytes.put_word(*b"CHARGE ");
 }
 
 /// `SUM stage n`: the ticks of a stage in the whole run.

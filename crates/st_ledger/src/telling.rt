@@ -5,9 +5,8 @@ ghost use Rattle.st_ledger.specs.Charges.{parts_of_row as parts_of};
 ghost use Rattle.st_ledger.specs.Lines.{row_stage_line};
 
 use crate::charges::{Part, Stage};
-use crate::lines::fill_row;
+use crate::lines::{RowLine, fill_row};
 use st_io::{Failed, Sink, write_line};
-use st_report::LineFromEnd;
 use st_rows::EntryTicks;
 
 // A stage, with the tick at which it ends.
@@ -52,11 +51,16 @@ pub fn later(a: u64, b: u64) -> u64
 }
 
 /// Writes the line of the n-th entry that is done, whose half-word address and row these are.
-pub fn write_row<K: Sink>(out: &mut K, n: u32, address: u32, row: &EntryTicks) -> Result<(), Failed>
+pub fn write_row<K: Sink>(
+    out: &mut K,
+    line: &mut RowLine,
+    n: u32,
+    address: u32,
+    row: &EntryTicks,
+) -> Result<(), Failed>
     ensures { WritesLines (K.output out.old) (K.output out.new)
         (row_stage_line n address row.now ∷ []) result }
 {
-    let mut line = LineFromEnd::new();
-    fill_row(&mut line, n, address, row);
-    write_line(out, line.as_bytes())
+    fill_row(line, n, address, row);
+    write_line(out, line.bytes.as_bytes())
 }

@@ -20,7 +20,11 @@ word_pieces x y old mid new half one two =
     ∙ ap (λ (h : ℕ). (hex_text 8 h ++ hex_text 8 x) ++ old) half
     ∙ ap (λ xs. xs ++ old) (hex-halves x)
 
--- four pieces, the last one first
+-- three pieces, the last one first
+pub three_pieces : (a b c l0 l1 l2 l3 : List ℕ) → l0 ≡ [] → l1 ≡ c ++ l0 → l2 ≡ b ++ l1 → l3 ≡ a ++ l2 → l3 ≡ a ++ b ++ c
+three_pieces a b c l0 l1 l2 l3 e0 e1 e2 e3 = rw (e3, e2, e1, e0) (simp (append_assoc, append-nil) refl)
+
+-- four pieces
 pub four_pieces : (a b c d l0 l1 l2 l3 l4 : List ℕ) → l0 ≡ [] → l1 ≡ d ++ l0 → l2 ≡ c ++ l1 → l3 ≡ b ++ l2 → l4 ≡ a ++ l3
     → l4 ≡ a ++ b ++ c ++ d
 four_pieces a b c d l0 l1 l2 l3 l4 e0 e1 e2 e3 e4 = rw (e4, e3, e2, e1, e0) (simp (append_assoc, append-nil) refl)

@@ -1,5 +1,5 @@
 //! The words that changed behind an entry.
-ghost use Rattle.std.specs.Prelude.{◌≡◌, ℕ, ◌+◌, ◌-◌, ◌<◌, ◌≤◌, ◌^◌, ◌⊎◌, length, slice_index, slice_set, IsOk};
+ghost use Rattle.std.specs.Prelude.{true, ◌≡◌, ℕ, ◌+◌, ◌-◌, ◌<◌, ◌≤◌, ◌^◌, ◌⊎◌, length, slice_index, slice_set, IsOk};
 ghost use Rattle.st_bits.specs.Storage.{words_of_storage};
 ghost use Rattle.st_bits.specs.declared.limits.TheConstants.{WORDS};
 ghost use Rattle.st_io.specs.Lines.{WritesLines, lines_for};
@@ -52,6 +52,17 @@ fn next_of_card(card: Option<u32>, w: u32) -> u32
     }
 }
 
+// Whether no words may have changed but registers.
+#[inline(always)]
+fn are_left(may: &Changeable) -> bool
+    ensures { result ≡ true → (v : ℕ) → 32 ≤ v → IsLeft v may.now }
+{
+    if may.writes.len != 0 || may.writes.len2 != 0 {
+        return false;
+    }
+    may.card.is_none()
+}
+
 // The first word from `w` on, which is no register, that may have changed, at most `WORDS`.
 fn next_word(may: &Changeable, w: u32) -> u32
     requires above { 32 ≤ w }
@@ -60,6 +71,9 @@ fn next_word(may: &Changeable, w: u32) -> u32
     ensures most { result ≤ WORDS }
     ensures between { (v : ℕ) → w ≤ v → v < result → IsLeft v may.now }
 {
+    if are_left(may) {
+        return WORDS;
+    }
     let writes = may.writes;
     let one = next_in(writes.first, writes.len, w);
     let two = next_in(writes.first2, writes.len2, w);
@@ -67,7 +81,37 @@ fn next_word(may: &Changeable, w: u32) -> u32
     one.min(two).min(card)
 }
 
-// The first register from `w` on that changed, or else the first word behind them.
+// Whether two registers from `w` on are as they were.
+#[inline(always)]
+#[tactic(auto, using(st_bits::specs::Storage::words_of_storage_is))]
+fn are_two(old: &Vec<u64>, state: &State, w: u32) -> bool
+    requires size { length old.now.items ≡ words_of_storage }
+    requires inside { w + 2 ≤ 32 }
+    ensures { result ≡ true → (v : ℕ) → w ≤ v → v < w + 2 →
+        slice_index old.now.items v ≡ word_of state.now v }
+{
+    if old[w as usize] != state.word(w) {
+        return false;
+    }
+    old[w as usize + 1] == state.word(w + 1)
+}
+
+// Whether four registers from `w` on are as they were.
+#[inline(always)]
+fn are_four(old: &Vec<u64>, state: &State, w: u32) -> bool
+    requires size { length old.now.items ≡ words_of_storage }
+    requires inside { w + 4 ≤ 32 }
+    ensures { result ≡ true → (v : ℕ) → w ≤ v → v < w + 4 →
+        slice_index old.now.items v ≡ word_of state.now v }
+{
+    if !are_two(old, state, w) {
+        return false;
+    }
+    are_two(old, state, w + 2)
+}
+
+// The first register from `w` on that changed, or else the first word behind them. Those that did
+// not are passed over four at a time.
 #[tactic(auto, using(st_bits::specs::Storage::words_of_storage_is))]
 fn next_register(old: &Vec<u64>, state: &State, w: u32) -> u32
     requires size { length old.now.items ≡ words_of_storage }
@@ -79,15 +123,19 @@ fn next_register(old: &Vec<u64>, state: &State, w: u32) -> u32
 {
     let mut r = w;
     'registers: while r < FIRST_STORAGE_WORD {
-        if old[r as usize] != state.word(r) {
+        if r <= 28 && are_four(old, state, r) {
+            r += 4;
+        } else if old[r as usize] == state.word(r) {
+            r += 1;
+        } else {
             return r;
         }
-        r += 1;
     }
     r
 }
 
 // The first word from `w` on that may have changed, at most `WORDS`.
+#[inline(always)]
 fn next_changed(old: &Vec<u64>, state: &State, may: &Changeable, w: u32) -> u32
     requires size { length old.now.items ≡ words_of_storage }
     requires most { w ≤ WORDS }

@@ -1,7 +1,8 @@
 //! Lines with hexadecimal digits, put together from their end.
 ghost use Rattle.std.specs.Prelude.{◌≡◌, ◌+◌, ◌%◌, ◌<◌, ◌≤◌, ◌++◌, length};
 ghost use Rattle.st_text.specs.Numerals.{hex_text, hex_word};
-ghost use Rattle.st_lines.specs.Lines.{changed_line, index_line, second_text, code_line};
+ghost use Rattle.st_report.specs.Line.{ic_line};
+ghost use Rattle.st_lines.specs.Lines.{changed_line, index_line, second_text, code_line, writes_line};
 
 use st_plain::Code;
 use st_prep::IndexChange;
@@ -33,15 +34,15 @@ fn put_digits(line: &mut LineFromEnd, n: u64)
     ensures bytes { line.new ≡ hex_text 8 n ++ line.old }
     ensures room { length line.new ≡ length line.old + 8 }
 {
-    line.put(&pair_of(n));
-    line.put(&pair_of(n / 256));
-    line.put(&pair_of(n / 65_536));
-    line.put(&pair_of(n / 16_777_216));
+    line.put_word(pair_of(n));
+    line.put_word(pair_of(n / 256));
+    line.put_word(pair_of(n / 65_536));
+    line.put_word(pair_of(n / 16_777_216));
 }
 
 // Puts a word before a line.
 #[inline(always)]
-fn put_word(line: &mut LineFromEnd, word: u64)
+fn put_hex(line: &mut LineFromEnd, word: u64)
     requires { length line.old + 16 ≤ 128 }
     ensures bytes { line.new ≡ hex_word word ++ line.old }
     ensures room { length line.new ≡ length line.old + 16 }
@@ -55,13 +56,13 @@ pub fn fill_changed(line: &mut LineFromEnd, w: u32, was: u64, is: u64)
     ensures { line.new ≡ changed_line w was is }
 {
     line.clear();
-    line.put(b"\n");
-    put_word(line, is);
-    line.put(b" IS ");
-    put_word(line, was);
-    line.put(b" WAS ");
+    line.put_word(*b"\n");
+    put_hex(line, is);
+    line.put_word(*b" IS ");
+    put_hex(line, was);
+    line.put_word(*b" WAS ");
     line.put_decimal(u64::from(w));
-    line.put(b"WORD ");
+    line.put_word(*b"WORD ");
 }
 
 /// `INDEX k WAS h IS g`, filled into a line: an entry changes index word k early, from h to g. What
@@ -70,13 +71,13 @@ pub fn fill_index(line: &mut LineFromEnd, change: &IndexChange)
     ensures { line.new ≡ index_line change.now }
 {
     line.clear();
-    line.put(b"\n");
-    put_word(line, change.word);
-    line.put(b" IS ");
-    put_word(line, change.kept);
-    line.put(b" WAS ");
+    line.put_word(*b"\n");
+    put_hex(line, change.word);
+    line.put_word(*b" IS ");
+    put_hex(line, change.kept);
+    line.put_word(*b" WAS ");
     line.put_decimal(u64::from(change.number));
-    line.put(b"INDEX ");
+    line.put_word(*b"INDEX ");
 }
 
 // Puts the second half-word of a full word before a line.
@@ -89,7 +90,7 @@ fn put_second(line: &mut LineFromEnd, half: Option<u32>)
     match half {
         Some(half) => {
             put_digits(line, u64::from(half));
-            line.put(b" ");
+            line.put_word(*b" ");
         }
         None => {}
     }
@@ -101,8 +102,31 @@ pub fn fill_code(line: &mut LineFromEnd, code: Code)
     ensures { line.new ≡ code_line code }
 {
     line.clear();
-    line.put(b"\n");
+    line.put_word(*b"\n");
     put_second(line, code.second);
     put_digits(line, u64::from(code.first));
-    line.put(b"CODE ");
+    line.put_word(*b"CODE ");
+}
+
+/// `IC a`, filled into a line: the counter. What the line had is gone.
+pub fn fill_counter(line: &mut LineFromEnd, ic: u32)
+    ensures { line.new ≡ ic_line ic }
+{
+    line.clear();
+    line.put_word(*b"\n");
+    line.put_half_address(ic);
+    line.put_word(*b"IC ");
+}
+
+/// `WRITES w n`, filled into a line: an entry writes n words from word w on. What the line had is
+/// gone.
+pub fn fill_writes(line: &mut LineFromEnd, w: u32, n: u8)
+    ensures { line.new ≡ writes_line w n }
+{
+    line.clear();
+    line.put_word(*b"\n");
+    line.put_decimal(u64::from(n));
+    line.put_word(*b" ");
+    line.put_decimal(u64::from(w));
+    line.put_word(*b"WRITES ");
 }

@@ -13,8 +13,8 @@ ghost use Rattle.st_lines.specs.EntryLines.{alone_for as alone_of, alone_by as a
 ghost use Rattle.st_lines.specs.UseLines.{use_lines};
 ghost use Rattle.st_lines.specs.WaitLines.{charged_lines};
 
-use crate::digits::{fill_code, fill_index};
-use crate::lines::{Alone, line_alone, line_level, line_missed, line_suppressed, line_writes};
+use crate::digits::{fill_code, fill_index, fill_writes};
+use crate::lines::{Alone, line_alone, line_level, line_missed, line_suppressed};
 use crate::origins::{Origin, fill_laid};
 use crate::uses::write_uses;
 use crate::waits::{Waiting, write_because, write_charged};
@@ -149,7 +149,9 @@ fn write_run<K: Sink>(out: &mut K, w: u32, n: u8) -> Result<(), Failed>
     if n == 0 {
         return Ok(());
     }
-    put(out, &line_writes(w, n))
+    let mut line = LineFromEnd::new();
+    fill_writes(&mut line, w, n);
+    write_line(out, line.as_bytes())
 }
 
 // Writes the words that an entry writes, run by run.
@@ -427,6 +429,12 @@ pub fn write_done<K: Sink>(
         + row_stalled r s uses.now before.now (charges_behind done.now.before
         (parts_of_row done.now.start done.now.row.ticks)) }
 {
-    write_row(out, done.n, done.address, &done.row.ticks)?;
+    write_row(
+        out,
+        &mut waiting.line,
+        done.n,
+        done.address,
+        &done.row.ticks,
+    )?;
     write_spent(out, done, p, known, uses, before, waiting)
 }

@@ -3,7 +3,7 @@
 ghost use Rattle.std.specs.Prelude.{◌≡◌, ◌+◌, ◌*◌, ◌<◌, ◌≤◌, ◌++◌, ◌∷◌, [], length, codes, decimal, MatchOption, IfSome};
 ghost use Rattle.arrayvec.specs.ArrayString.{array_string_len};
 ghost use Rattle.st_text.specs.Bytes.{lf};
-ghost use Rattle.st_lines.specs.Lines.{ledger_levels_line, numbers_text, delays_line, why_text, start_line, segment_end_line, word_line, missed_line, alone_text, alone_line, suppressed_line, writes_line, dropped_line, begun_line, level_line};
+ghost use Rattle.st_lines.specs.Lines.{ledger_levels_line, numbers_text, delays_line, why_text, start_line, segment_end_line, word_line, missed_line, alone_text, alone_line, suppressed_line, dropped_line, begun_line, level_line};
 
 use st_rows::EntryTicks;
 use st_text::{
@@ -192,17 +192,6 @@ pub fn line_suppressed(i: u8) -> Line
 {
     let mut line = begun("SUPPRESSED ");
     push_short_decimal(&mut line, u32::from(i));
-    ended(line)
-}
-
-/// `WRITES w n`: an entry writes n words from word w on.
-pub fn line_writes(w: u32, n: u8) -> Line
-    ensures { result.bytes ≡ writes_line w n }
-{
-    let mut line = begun("WRITES ");
-    push_short_decimal(&mut line, w);
-    line.push_str(" ");
-    push_short_decimal(&mut line, u32::from(n));
     ended(line)
 }
 

@@ -7,7 +7,7 @@ ghost use Rattle.st_lines.specs.UseLines.{role_text, is_before as is_before_of, 
 
 use st_io::{Failed, Sink, write_line};
 use st_plain::{ReadTicks, Role, Supply, Use, Writer};
-use st_report::LineFromEnd;
+use st_report::{KeptDigits, LineFromEnd};
 
 // Whether a tick lies before the end of a segment, or that goes on.
 #[inline(always)]
@@ -27,10 +27,10 @@ fn put_role(line: &mut LineFromEnd, role: Role)
     ensures { line.new ≡ (codes "USE " ++ role_text role ++ codes " ") ++ line.old }
 {
     match role {
-        Role::Instruction => line.put(b"USE INSTRUCTION "),
-        Role::Index => line.put(b"USE INDEX "),
-        Role::Operand => line.put(b"USE OPERAND "),
-        Role::Following => line.put(b"USE FOLLOWING "),
+        Role::Instruction => line.put_word(*b"USE INSTRUCTION "),
+        Role::Index => line.put_word(*b"USE INDEX "),
+        Role::Operand => line.put_word(*b"USE OPERAND "),
+        Role::Following => line.put_word(*b"USE FOLLOWING "),
     }
 }
 
@@ -55,8 +55,8 @@ fn put_bank(line: &mut LineFromEnd, w: u32)
     ensures bytes { line.new ≡ (codes " READ BANK " ++ decimal (bank_of w)) ++ line.old }
     ensures room { length line.new ≡ length line.old + 12 }
 {
-    line.put(&[b'0' + bank_number(w)]);
-    line.put(b" READ BANK ");
+    line.put_word([b'0' + bank_number(w)]);
+    line.put_word(*b" READ BANK ");
 }
 
 // Puts whether a read is made before a line.
@@ -67,30 +67,49 @@ fn put_made(line: &mut LineFromEnd, made: bool)
     ensures room { length line.new ≡ length line.old + 7 }
 {
     if made {
-        line.put(b" MADE 1");
+        line.put_word(*b" MADE 1");
     } else {
-        line.put(b" MADE 0");
+        line.put_word(*b" MADE 0");
     }
 }
 
-// Puts the read of word w before a line.
+// Puts a tick before a line, and keeps its digits for those that come next.
 #[inline(always)]
-fn put_read(line: &mut LineFromEnd, end: Option<u64>, w: u32, ticks: &ReadTicks)
+fn put_tick(line: &mut LineFromEnd, kept: &mut KeptDigits, tick: u64)
+    requires { length line.old + 20 ≤ 192 }
+    ensures bytes { line.new ≡ decimal tick ++ line.old }
+    ensures room { length line.new ≤ length line.old + 20 }
+{
+    if kept.past(tick) >= 100 {
+        kept.keep(tick);
+    }
+    line.put_near(tick, kept);
+}
+
+// Puts the read of word w before a line; its ticks have digits in common with others.
+#[inline(always)]
+fn put_read(
+    line: &mut LineFromEnd,
+    kept: &mut KeptDigits,
+    end: Option<u64>,
+    w: u32,
+    ticks: &ReadTicks,
+)
     requires { length line.old + 153 ≤ 192 }
     ensures bytes { line.new ≡ ticks_text end w ticks.now ++ line.old }
     ensures room { length line.new ≤ length line.old + 153 }
 {
     put_made(line, is_before(end, ticks.accept));
-    line.put_decimal(ticks.answer);
-    line.put(b" ANSWER ");
-    line.put_decimal(ticks.accept);
-    line.put(b" ACCEPT ");
-    line.put_decimal(ticks.free);
-    line.put(b" FREE ");
-    line.put_decimal(ticks.turn);
-    line.put(b" TURN ");
-    line.put_decimal(ticks.want);
-    line.put(b" WANT ");
+    put_tick(line, kept, ticks.answer);
+    line.put_word(*b" ANSWER ");
+    put_tick(line, kept, ticks.accept);
+    line.put_word(*b" ACCEPT ");
+    put_tick(line, kept, ticks.free);
+    line.put_word(*b" FREE ");
+    put_tick(line, kept, ticks.turn);
+    line.put_word(*b" TURN ");
+    put_tick(line, kept, ticks.want);
+    line.put_word(*b" WANT ");
     put_bank(line, w);
 }
 
@@ -103,38 +122,47 @@ fn put_writer(line: &mut LineFromEnd, n: u32, writer: Writer)
     ensures room { length line.new ≤ length line.old + 61 }
 {
     line.put_decimal(writer.done);
-    line.put(b" DONE ");
+    line.put_word(*b" DONE ");
     line.put_decimal(u64::from(n.saturating_sub(u32::from(writer.back))));
-    line.put(b" FORWARDED ROW ");
+    line.put_word(*b" FORWARDED ROW ");
 }
 
-// Puts where word w comes from before a line.
+// A line that is filled for one word after another, with the digits that their ticks have in
+// common.
+#[derive(Debug, Drop)]
+struct UseLine {
+    bytes: LineFromEnd,
+    ticks: KeptDigits,
+}
+
+// Puts where a word comes from before a line, which the n-th entry uses.
 #[inline(always)]
-fn put_supply(line: &mut LineFromEnd, n: u32, end: Option<u64>, w: u32, supply: &Supply)
-    requires { length line.old + 153 ≤ 192 }
-    ensures bytes { line.new ≡ supply_text n end w supply.now ++ line.old }
-    ensures room { length line.new ≤ length line.old + 153 }
+fn put_supply(line: &mut UseLine, n: u32, end: Option<u64>, used: &Use)
+    requires { length line.old.bytes + 153 ≤ 192 }
+    ensures bytes { line.new.bytes
+        ≡ supply_text n end used.now.word used.now.supply ++ line.old.bytes }
+    ensures room { length line.new.bytes ≤ length line.old.bytes + 153 }
 {
-    match supply {
-        Supply::Read(ticks) => put_read(line, end, w, ticks),
+    match &used.supply {
+        Supply::Read(ticks) => put_read(&mut line.bytes, &mut line.ticks, end, used.word, ticks),
         Supply::Held(answer) => {
-            line.put_decimal(*answer);
-            line.put(b" HELD ANSWER ");
+            put_tick(&mut line.bytes, &mut line.ticks, *answer);
+            line.bytes.put_word(*b" HELD ANSWER ");
         }
-        Supply::Forwarded(writer) => put_writer(line, n, *writer),
-        Supply::Register => line.put(b" REGISTER"),
+        Supply::Forwarded(writer) => put_writer(&mut line.bytes, n, *writer),
+        Supply::Register => line.bytes.put_word(*b" REGISTER"),
     }
 }
 
 // A word that the n-th entry uses, filled into a line. What the line had is gone.
-fn fill_use(line: &mut LineFromEnd, n: u32, end: Option<u64>, used: &Use)
-    ensures { line.new ≡ use_line n end used.now }
+fn fill_use(line: &mut UseLine, n: u32, end: Option<u64>, used: &Use)
+    ensures { line.new.bytes ≡ use_line n end used.now }
 {
-    line.clear();
-    line.put(b"\n");
-    put_supply(line, n, end, used.word, &used.supply);
-    line.put_decimal(u64::from(used.word));
-    put_role(line, used.role);
+    line.bytes.clear();
+    line.bytes.put_word(*b"\n");
+    put_supply(line, n, end, used);
+    line.bytes.put_decimal(u64::from(used.word));
+    put_role(&mut line.bytes, used.role);
 }
 
 // Whether a word is told, by where it comes from.
@@ -152,7 +180,7 @@ fn is_told(end: Option<u64>, supply: &Supply) -> bool
 #[tactic(auto, using(st_io::proofs::Progress::wrote_nothing))]
 fn write_use<K: Sink>(
     out: &mut K,
-    line: &mut LineFromEnd,
+    line: &mut UseLine,
     n: u32,
     end: Option<u64>,
     used: &Use,
@@ -164,7 +192,7 @@ fn write_use<K: Sink>(
         return Ok(());
     }
     fill_use(line, n, end, used);
-    write_line(out, line.as_bytes())
+    write_line(out, line.bytes.as_bytes())
 }
 
 /// Writes the words that the n-th entry uses, whose segment ends at the tick `end`, or goes on.
@@ -176,7 +204,10 @@ pub(crate) fn write_uses<K: Sink>(
 ) -> Result<(), Failed>
     ensures { WritesLines (K.output out.old) (K.output out.new) (use_lines n end uses.now) result }
 {
-    let mut line = LineFromEnd::new();
+    let mut line = UseLine {
+        bytes: LineFromEnd::new(),
+        ticks: KeptDigits::new(),
+    };
     for used in uses {
         write_use(out, &mut line, n, end, used)?;
     }

@@ -16,7 +16,7 @@ ghost use Rattle.st_lines.specs.WaitLines.{stall_name, wait_line, wait_lines, ch
 use crate::uses::bank_number;
 use crate::writing::put;
 use st_io::{Failed, Sink, write_line};
-use st_ledger::{Charge, Part, fill_charge, first_part, later, name_of, parts};
+use st_ledger::{Charge, Part, RowLine, fill_charge, first_part, later, name_of, parts};
 use st_plain::Use;
 use st_reasons::{
     Because, Cause, Prefetched, Reason, Stall, Wait, WaitSum, WaitTotals, Waits, fill_waits,
@@ -33,8 +33,8 @@ fn put_bank_of(line: &mut LineFromEnd, w: u32)
     ensures bytes { line.new ≡ (codes " BANK " ++ decimal (bank_of w)) ++ line.old }
     ensures room { length line.new ≡ length line.old + 7 }
 {
-    line.put(&[b'0' + bank_number(w)]);
-    line.put(b" BANK ");
+    line.put_word([b'0' + bank_number(w)]);
+    line.put_word(*b" BANK ");
 }
 
 // Puts what is waited for before a line.
@@ -45,29 +45,29 @@ fn put_stall(line: &mut LineFromEnd, why: Stall)
     ensures room { length line.new ≤ length line.old + 7 }
 {
     match why {
-        Stall::Turn => line.put(b"TURN"),
-        Stall::Bank => line.put(b"BANK"),
-        Stall::Storage => line.put(b"STORAGE"),
+        Stall::Turn => line.put_word(*b"TURN"),
+        Stall::Bank => line.put_word(*b"BANK"),
+        Stall::Storage => line.put_word(*b"STORAGE"),
     }
 }
 
 // `WAIT f t why WORD w READ v BANK b`, filled into a line. What the line had is gone.
-fn fill_wait(line: &mut LineFromEnd, wait: &Wait)
-    ensures { line.new ≡ wait_line wait.now }
+fn fill_wait(line: &mut RowLine, wait: &Wait)
+    ensures { line.new.bytes ≡ wait_line wait.now }
 {
-    line.clear();
-    line.put(b"\n");
-    put_bank_of(line, wait.read);
-    line.put_decimal(u64::from(wait.read));
-    line.put(b" READ ");
-    line.put_decimal(u64::from(wait.word));
-    line.put(b" WORD ");
-    put_stall(line, wait.why);
-    line.put(b" ");
-    line.put_decimal(wait.to);
-    line.put(b" ");
-    line.put_decimal(wait.from);
-    line.put(b"WAIT ");
+    line.bytes.clear();
+    line.bytes.put_word(*b"\n");
+    put_bank_of(&mut line.bytes, wait.read);
+    line.bytes.put_decimal(u64::from(wait.read));
+    line.bytes.put_word(*b" READ ");
+    line.bytes.put_decimal(u64::from(wait.word));
+    line.bytes.put_word(*b" WORD ");
+    put_stall(&mut line.bytes, wait.why);
+    line.bytes.put_word(*b" ");
+    line.bytes.put_near(wait.to, &mut line.to);
+    line.bytes.put_word(*b" ");
+    line.bytes.put_near(wait.from, &mut line.from);
+    line.bytes.put_word(*b"WAIT ");
 }
 
 // The first of some waits, and those behind it.
@@ -83,20 +83,16 @@ fn first_wait(waits: &[Wait]) -> Option<(&Wait, &[Wait])>
 }
 
 // Writes a wait.
-fn write_wait<K: Sink>(out: &mut K, line: &mut LineFromEnd, wait: &Wait) -> Result<(), Failed>
+fn write_wait<K: Sink>(out: &mut K, line: &mut RowLine, wait: &Wait) -> Result<(), Failed>
     ensures { WritesLines (K.output out.old) (K.output out.new) (wait_line wait.now ∷ []) result }
 {
     fill_wait(line, wait);
-    write_line(out, line.as_bytes())
+    write_line(out, line.bytes.as_bytes())
 }
 
 // Writes waits.
 #[tactic(auto, using(st_io::proofs::Progress::wrote_nothing))]
-fn write_each_wait<K: Sink>(
-    out: &mut K,
-    line: &mut LineFromEnd,
-    waits: &[Wait],
-) -> Result<(), Failed>
+fn write_each_wait<K: Sink>(out: &mut K, line: &mut RowLine, waits: &[Wait]) -> Result<(), Failed>
     ensures { WritesLines (K.output out.old) (K.output out.new) (wait_lines waits.now) result }
 {
     let Some((wait, more)) = first_wait(waits) else {
@@ -107,30 +103,36 @@ fn write_each_wait<K: Sink>(
 }
 
 // Writes a charge.
-fn write_charge<K: Sink>(out: &mut K, line: &mut LineFromEnd, charge: Charge) -> Result<(), Failed>
+fn write_charge<K: Sink>(out: &mut K, line: &mut RowLine, charge: Charge) -> Result<(), Failed>
     ensures { WritesLines (K.output out.old) (K.output out.new) (charge_line charge ∷ []) result }
 {
     fill_charge(line, charge);
-    write_line(out, line.as_bytes())
+    write_line(out, line.bytes.as_bytes())
 }
 
 // Writes a charge with its waits.
-fn write_charge_with<K: Sink>(out: &mut K, charge: Charge, waits: &[Wait]) -> Result<(), Failed>
+fn write_charge_with<K: Sink>(
+    out: &mut K,
+    line: &mut RowLine,
+    charge: Charge,
+    waits: &[Wait],
+) -> Result<(), Failed>
     ensures { WritesLines (K.output out.old) (K.output out.new)
         (charge_line charge ∷ wait_lines waits.now) result }
 {
-    let mut line = LineFromEnd::new();
-    write_charge(out, &mut line, charge)?;
-    write_each_wait(out, &mut line, waits)
+    write_charge(out, line, charge)?;
+    write_each_wait(out, line, waits)
 }
 
-/// The waits of a charge, and the sums of those so far.
+/// What the charges of rows are told with, and the sums of their waits so far.
 #[derive(Drop)]
 pub struct Waiting {
     /// What is filled with the waits of one charge after another.
     pub waits: Waits,
     /// The sums of all of them.
     pub totals: WaitTotals,
+    /// The line that is filled for one fact after another.
+    pub line: RowLine,
 }
 
 // Writes the charge of a stage behind the tick `from`, where it ends later, and its waits, and adds
@@ -163,7 +165,7 @@ fn write_part<K: Sink>(
     };
     fill_waits(&mut waiting.waits, charge, uses, before);
     waiting.totals.add(charge, waiting.waits.as_slice());
-    write_charge_with(out, charge, waiting.waits.as_slice())
+    write_charge_with(out, &mut waiting.line, charge, waiting.waits.as_slice())
 }
 
 // Writes the charges of stages behind the tick `from`, each with its waits, and adds these to the
@@ -303,12 +305,12 @@ fn put_reason(line: &mut LineFromEnd, reason: Reason)
     ensures room { length line.new ≤ length line.old + 10 }
 {
     match reason {
-        Reason::Serial => line.put(b"SERIAL"),
-        Reason::Store => line.put(b"STORE"),
-        Reason::Level => line.put(b"LEVEL"),
-        Reason::Forwarding => line.put(b"FORWARDING"),
-        Reason::Bus => line.put(b"BUS"),
-        Reason::Order => line.put(b"ORDER"),
+        Reason::Serial => line.put_word(*b"SERIAL"),
+        Reason::Store => line.put_word(*b"STORE"),
+        Reason::Level => line.put_word(*b"LEVEL"),
+        Reason::Forwarding => line.put_word(*b"FORWARDING"),
+        Reason::Bus => line.put_word(*b"BUS"),
+        Reason::Order => line.put_word(*b"ORDER"),
     }
 }
 
@@ -317,10 +319,10 @@ fn fill_start(line: &mut LineFromEnd, n: u32, tick: u64)
     ensures { line.new ≡ because_line n (StartOf tick) }
 {
     line.clear();
-    line.put(b"\n");
-    line.put(b" LATE -");
+    line.put_word(*b"\n");
+    line.put_word(*b" LATE -");
     line.put_decimal(tick);
-    line.put(b"BECAUSE START ROW - TICK ");
+    line.put_word(*b"BECAUSE START ROW - TICK ");
 }
 
 // `BECAUSE PREFETCH WORD w LATE l`, filled into a line. What the line had is gone.
@@ -328,11 +330,11 @@ fn fill_prefetch(line: &mut LineFromEnd, n: u32, asked: &Prefetched)
     ensures { line.new ≡ because_line n (PrefetchOf asked.now) }
 {
     line.clear();
-    line.put(b"\n");
+    line.put_word(*b"\n");
     line.put_decimal(asked.late);
-    line.put(b" LATE ");
+    line.put_word(*b" LATE ");
     line.put_decimal(u64::from(asked.word));
-    line.put(b"BECAUSE PREFETCH WORD ");
+    line.put_word(*b"BECAUSE PREFETCH WORD ");
 }
 
 // `BECAUSE why ROW j TICK t LATE l`, filled into a line. What the line had is gone.
@@ -340,15 +342,15 @@ fn fill_earlier(line: &mut LineFromEnd, n: u32, cause: &Cause)
     ensures { line.new ≡ because_line n (EarlierOf cause.now) }
 {
     line.clear();
-    line.put(b"\n");
+    line.put_word(*b"\n");
     line.put_decimal(cause.late);
-    line.put(b" LATE ");
+    line.put_word(*b" LATE ");
     line.put_decimal(cause.tick);
-    line.put(b" TICK ");
+    line.put_word(*b" TICK ");
     line.put_decimal(u64::from(n.saturating_sub(u32::from(cause.back))));
-    line.put(b" ROW ");
+    line.put_word(*b" ROW ");
     put_reason(line, cause.reason);
-    line.put(b"BECAUSE ");
+    line.put_word(*b"BECAUSE ");
 }
 
 // What kept the n-th entry back, filled into a line. What the line had is gone.

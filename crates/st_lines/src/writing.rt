@@ -13,6 +13,7 @@ ghost use Rattle.st_lines.specs.Origins.{origin_at};
 ghost use Rattle.st_lines.specs.BorderLines.{drop_lines, late_lines, segment_end_lines, differs, en_lines, prints_lines, nonzero_word_lines, change_lines, words_lines, marks_lines, taken_by, state_lines, machine_lines};
 
 use crate::changes::{Changeable, keep_words, write_changed};
+use crate::digits::fill_counter;
 use crate::facts::write_facts;
 use crate::lines::{
     Why, line_delays, line_drop, line_end, line_late, line_levels, line_start, line_word,
@@ -24,7 +25,7 @@ use st_exch::print_text;
 use st_io::{Failed, Sink, write_line};
 use st_plain::Ahead;
 use st_report::{
-    line_done, line_en, line_end as line_run_end, line_ic, line_int, line_prt, line_ticks,
+    LineFromEnd, line_done, line_en, line_end as line_run_end, line_int, line_prt, line_ticks,
 };
 use st_state::State;
 use st_text::{Line, behind, front};
@@ -226,7 +227,9 @@ pub fn write_end<K: Sink>(
 fn write_ic<K: Sink>(out: &mut K, ic: u32) -> Result<(), Failed>
     ensures { WritesLines (K.output out.old) (K.output out.new) (ic_line ic ∷ []) result }
 {
-    put(out, &line_ic(ic))
+    let mut line = LineFromEnd::new();
+    fill_counter(&mut line, ic);
+    write_line(out, line.as_bytes())
 }
 
 // Whether two marks are not the same.

@@ -1,10 +1,11 @@
 -- The reads of an entry, part by part, in the log.
-use Rattle.std.proofs.Common.{◌≡◌, ℕ, zero, suc, ◌+◌, ◌-◌, ◌≤◌, max, List, refl, sym, ap, ◌∙◌, arith}
+use Rattle.std.specs.Prelude.{slice_set, slice_index_or}
+use Rattle.std.proofs.Common.{◌≡◌, ℕ, zero, suc, ◌+◌, ◌-◌, ◌≤◌, max, List, [], ◌∷◌, length, take, refl, sym, ap, ◌∙◌, arith}
 use Rattle.st_fetch.specs.Planned.{tick_of}
-use Rattle.st_rows.specs.Asked.{word_asked, words_asked, side_asked, fetches_asked, formed_asked, prepared_asked, reads_of_entry, bus_after_reads}
+use Rattle.st_rows.specs.Asked.{word_asked, words_asked, side_asked, runs_asked, following_asked, fetches_asked, formed_asked, prepared_asked, reads_of_entry, bus_after_reads}
 use Rattle.st_rows.specs.BusTimes.{bus_after_request}
 use Rattle.st_rows.specs.Notes.{log_after_reads}
-use Rattle.st_rows.specs.Rows.{fetch_word, fetch_words, wanted_from, words_tick, tick_a, bus_a}
+use Rattle.st_rows.specs.Rows.{fetch_word, fetch_words, wanted_from, words_tick, tick_a, bus_a, tick_p, operands}
 use Rattle.st_rows.specs.declared.bus.Bus.{Bus}
 use Rattle.st_rows.specs.declared.entry.Entry.{Entry}
 use Rattle.st_rows.specs.declared.fetching.Fetching.{Fetching}
@@ -13,7 +14,7 @@ use Rattle.st_rows.specs.declared.log.Made.{Made}
 use Rattle.st_rows.specs.declared.past.Past.{Past}
 use Rattle.st_rows.proofs.Noted.{noted-two}
 use Rattle.st_rows.proofs.Parts.{two-parts, served-formed}
-use Rattle.st_rows.proofs.Served.{served-word, served-words, served-fetches}
+use Rattle.st_rows.proofs.Served.{served-word, served-words, served-runs, served-fetches}
 
 module _ (ds : List ℕ) (past : List Past) (from w : ℕ) where
   pub fetch-turn : (s t : Fetching) (n : ℕ) → t ≡ fetch_word ds past s w from → 1 ≤ n
@@ -77,6 +78,17 @@ module _ (ds : List ℕ) (f : Front) (e : Entry) where
       ∙ rw (is, at) (noted-two ds (fetches_asked ds f e) (side_asked f.past e.side (tick_a ds f e)) f.bus (words_tick ds f e).bus log one
       (sym (served-fetches ds f e)) made)
 
+  -- the following words behind the operands
+  pub noted-prepared : (n : ℕ) (b d : Bus) (p : ℕ) (log one two : List Made) → b ≡ bus_a ds f e → d ≡ (operands ds n f e).bus → p ≡ tick_p ds n f e
+      → one ≡ log_after_reads ds (runs_asked f.past e.reads p) b log → two ≡ log_after_reads ds (following_asked ds d e p) d one
+      → two ≡ log_after_reads ds (prepared_asked ds n f e) b log
+  noted-prepared n b d p log one two bus then_bus tick one_is two_is =
+      let noted_one : one ≡ log_after_reads ds (runs_asked f.past e.reads (tick_p ds n f e)) (bus_a ds f e) log = one_is ∙ rw (bus, tick) refl in
+      rw bus
+      (two_is
+      ∙ rw (then_bus, tick) (noted-two ds (runs_asked f.past e.reads (tick_p ds n f e)) (following_asked ds (operands ds n f e).bus e (tick_p ds n f e)) (bus_a ds f e)
+      (operands ds n f e).bus log one (sym (served-runs ds n f e)) noted_one))
+
   -- and what is wanted at preparation behind these
   pub noted-asked : (n : ℕ) (b : Bus) (log one two : List Made) → b ≡ bus_a ds f e → one ≡ log_after_reads ds (formed_asked ds f e) f.bus log
       → two ≡ log_after_reads ds (prepared_asked ds n f e) b one → two ≡ log_after_reads ds (reads_of_entry ds n f e) f.bus log
@@ -84,3 +96,22 @@ module _ (ds : List ℕ) (f : Front) (e : Entry) where
       next
       ∙ rw is (noted-two ds (formed_asked ds f e) (prepared_asked ds n f e) f.bus (bus_a ds f e) log one (sym (served-formed ds f e)) made)
       ∙ ap (λ reads. log_after_reads ds reads f.bus log) (sym (two-parts ds n f e))
+
+-- ---- the last eight entries
+
+-- each entry is put one place on, the last one first
+abbrev moved : Past → ℕ → List Past → List Past
+moved d i xs = slice_set xs (i + 1) (slice_index_or xs i d)
+
+pub past-shifted : (xs : List Past) (n d : Past) → length xs ≡ 8
+    → slice_set (moved d 0 (moved d 1 (moved d 2 (moved d 3 (moved d 4 (moved d 5 (moved d 6 xs))))))) 0 n ≡ n ∷ take 7 xs
+past-shifted (a ∷ b ∷ c ∷ d ∷ e ∷ f ∷ g ∷ h ∷ []) n x eight = refl
+past-shifted [] n x eight = absurd (omega arith)
+past-shifted (a ∷ []) n x eight = absurd (omega arith)
+past-shifted (a ∷ b ∷ []) n x eight = absurd (omega arith)
+past-shifted (a ∷ b ∷ c ∷ []) n x eight = absurd (omega arith)
+past-shifted (a ∷ b ∷ c ∷ d ∷ []) n x eight = absurd (omega arith)
+past-shifted (a ∷ b ∷ c ∷ d ∷ e ∷ []) n x eight = absurd (omega arith)
+past-shifted (a ∷ b ∷ c ∷ d ∷ e ∷ f ∷ []) n x eight = absurd (omega arith)
+past-shifted (a ∷ b ∷ c ∷ d ∷ e ∷ f ∷ g ∷ []) n x eight = absurd (omega arith)
+past-shifted (a ∷ b ∷ c ∷ d ∷ e ∷ f ∷ g ∷ h ∷ i ∷ xs) n x eight = absurd (omega arith)

@@ -1,5 +1,6 @@
 -- Words that are noted one after another.
-use Rattle.std.proofs.Common.{◌≡◌, ℕ, zero, suc, ◌+◌, ◌-◌, ◌≤◌, max, List, [], ◌∷◌, ◌++◌, Option, refl, sym, ◌∙◌, ap, append_assoc, arith}
+use Rattle.std.specs.Prelude.{Bool, not, is_some, None, Some}
+use Rattle.std.proofs.Common.{◌≡◌, ℕ, zero, suc, true, ◌+◌, ◌-◌, ◌≤◌, max, List, [], ◌∷◌, ◌++◌, Option, refl, sym, ◌∙◌, ap, append_assoc, arith}
 use Rattle.std.proofs.lemmas.Bool.{le-ltb}
 use Rattle.std.proofs.lemmas.List.{append-nil}
 use Rattle.st_bits.specs.Storage.{words_of_storage}
@@ -98,6 +99,12 @@ module _ (ds : List ℕ) (f : Front) (e : Entry) where
   formed-used side s a us vs ws is at one two =
       let two_is : ws ≡ vs ++ side_uses ds f.past (words_tick ds f e).bus side (tick_a ds f e) = two ∙ rw (is, at) refl in
       two-noted us vs ws _ _ one two_is
+
+  -- without an index-side word
+  pub formed-bare : (side : Option ℕ) (b : Bool) (us vs : List Use) → is_some side ≡ not b → b ≡ true → vs ≡ us ++ fetch_uses ds f e → vs ≡ us ++ formed_uses ds f e side
+  unfolding side_uses
+  formed-bare None b us vs is none one = one ∙ ap (λ xs. us ++ xs) (sym (append-nil (fetch_uses ds f e)))
+  formed-bare (Some w) b us vs is none one = absurd (cc)
 
   module _ (n : ℕ) where
     -- what is read behind the index-side word from preparation on are the operands

@@ -399,9 +399,10 @@ fn plan_own(
     show(words, WordRun::default(), needs, p, follows, execute, code)
 }
 
-// The same of half-words whose format is known.
+// The same of half-words whose format is known. Each format that is told apart has a copy of its
+// own, with one caller, in which the format stays known; `KIND` is the copy's number.
 #[inline(always)]
-fn plan_as(
+fn plan_as<const KIND: u8>(
     format: Format,
     halves: (u32, u32),
     words: WordRun,
@@ -437,7 +438,7 @@ fn plan_cold(
         p.new result }
     ensures ranges { IsPrepared p.new }
 {
-    plan_as(format, halves, words, x, state, p)
+    plan_as::<3>(format, halves, words, x, state, p)
 }
 
 // The same of any format. What follows knows the format of a frequent instruction, so that it is
@@ -459,11 +460,11 @@ fn plan_known(
     ensures ranges { IsPrepared p.new }
 {
     match format {
-        Format::Index(op) => plan_as(Format::Index(op), halves, words, x, state, p),
-        Format::Branch(op) => plan_as(Format::Branch(op), halves, words, x, state, p),
+        Format::Index(op) => plan_as::<0>(Format::Index(op), halves, words, x, state, p),
+        Format::Branch(op) => plan_as::<1>(Format::Branch(op), halves, words, x, state, p),
         Format::Whole(FullOp::Variable(op)) => {
             let format = Format::Whole(FullOp::Variable(op));
-            plan_as(format, halves, words, x, state, p)
+            plan_as::<2>(format, halves, words, x, state, p)
         }
         _ => plan_cold(format, halves, words, x, state, p),
     }

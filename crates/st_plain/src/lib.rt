@@ -11,5 +11,5 @@ mod uses;
 pub use entries::{Planned, plan_entry};
 pub use known::{Code, Known};
 pub use looking::{Ahead, Aheads, look};
-pub use rows::{Row, next_row, put_past};
+pub use rows::{Begun, Row, begin, finish, put_past};
 pub use uses::{ReadTicks, Role, Supply, Use, Uses, Writer};

@@ -100,9 +100,10 @@ pub fn look(
     let entry = &planned.entry;
     let mut uses = Uses::new();
     let side = planned.known.side;
-    let begun = begin(front, past, delays, levels, entry, side, log, &mut uses);
+    let mut begun = begin(front, past, delays, levels, entry, side, log, &mut uses);
     if begun.formed.p >= tick {
         let mut scratch = Log::new();
+        let bus = begun.words.bus;
         let ticks = finish(
             front,
             past,
@@ -110,7 +111,7 @@ pub fn look(
             levels,
             entry,
             p.reads,
-            begun,
+            &mut begun,
             &mut scratch,
             &mut uses,
         );
@@ -120,11 +121,11 @@ pub fn look(
             known: planned.known,
             uses,
         };
-        front.bus = begun.words.bus;
+        front.bus = bus;
         return;
     }
     let row = finish(
-        front, past, delays, levels, entry, p.reads, begun, log, &mut uses,
+        front, past, delays, levels, entry, p.reads, &mut begun, log, &mut uses,
     );
     found.push(Ahead {
         plan: p,

@@ -11,25 +11,29 @@ ghost use Rattle.st_rows.specs.Rows.{fetch_words, words_tick, bus_sided, side_th
 ghost use Rattle.st_rows.specs.Ranges.{IsEntryInTime, IsTight, IsFetchingWithin, ArePastWithin, IsReadable, most_ticks_of_entry};
 ghost use Rattle.st_rows.specs.declared.log.Made.{Made};
 ghost use Rattle.st_prep.specs.Ranges.{IsRuns};
-ghost use Rattle.st_plain.specs.Uses.{instruction_uses, fetch_uses, formed_uses, prepared_uses, uses_of_entry};
+ghost use Rattle.st_plain.specs.Uses.{instruction_uses, fetch_uses, formed_uses, prepared_uses};
 
-use crate::entries::Planned;
 use crate::uses::{Role, Uses, fetch_supply, note, use_data, use_following, use_side};
 use st_banks::{BANKS, Delays, LastAnswers};
 use st_prep::Words;
-use st_rows::{Entry, EntryTicks, Fetching, Formed, Front, LastEntries, Log, Past, WordRun};
+use st_rows::{Bus, Entry, EntryTicks, Fetching, Formed, Front, LastEntries, Log, Past, WordRun};
 
 /// One more entry is kept, and the oldest one given up.
 pub fn put_past(past: &mut [Past; 8], newest: Past)
     ensures { past.new ≡ newest ∷ take 7 past.old }
 {
-    let old = *past;
-    *past = [
-        newest, old[0], old[1], old[2], old[3], old[4], old[5], old[6],
-    ];
+    past[7] = past[6];
+    past[6] = past[5];
+    past[5] = past[4];
+    past[4] = past[3];
+    past[3] = past[2];
+    past[2] = past[1];
+    past[1] = past[0];
+    past[0] = newest;
 }
 
 // The instruction words of a run are fetched, and noted.
+#[inline(always)]
 fn fetch_run(
     words: &mut Fetching,
     delays: &Delays,
@@ -69,19 +73,22 @@ fn fetch_run(
 }
 
 // All instruction words of the next entry are fetched, and noted.
+#[inline(always)]
 #[tactic(auto, unfolding(st_rows::specs::Rows::words_tick, st_rows::specs::Asked::fetches_asked, crate::specs::Uses::fetch_uses))]
 fn fetch_all(
+    words: &mut Fetching,
     front: &Front,
     delays: &Delays,
     entry: &Entry,
     log: &mut Log,
     uses: &mut Uses,
-) -> Fetching
+)
+    requires start { words.old ≡ record { bus = front.now.bus; answered = 0; awaited = 0 } }
     requires entry { IsEntryInTime entry.now }
     requires tight { IsTight MOST_DELAY front.now }
     requires early { front.now.c ≤ 2 ^ 63 + 2 ^ 20 }
     requires space { length uses.old.items + 4 ≤ 48 }
-    ensures words { result ≡ words_tick delays.now front.now entry.now }
+    ensures words { words.new ≡ words_tick delays.now front.now entry.now }
     ensures log { log.new
         ≡ log_after_reads delays.now
         (fetches_asked delays.now front.now entry.now) front.now.bus log.old }
@@ -90,32 +97,70 @@ fn fetch_all(
     ensures noted { length uses.new.items ≤ length uses.old.items + 4 }
 {
     delays.shape();
-    let mut words = Fetching::new(front.bus);
+    let past = &front.past;
     let from = front.wanted_from();
-    fetch_run(&mut words, delays, &front.past, entry.own, from, log, uses);
-    fetch_run(
-        &mut words,
-        delays,
-        &front.past,
-        entry.target,
-        from.max(front.c),
-        log,
-        uses,
-    );
-    words
+    fetch_run(words, delays, past, entry.own, from, log, uses);
+    let late = from.max(front.c);
+    fetch_run(words, delays, past, entry.target, late, log, uses);
 }
 
-/// The next entry as far as its address is formed, and the tick at which it is prepared.
+// The last answer of the bank that the word `w` is in, by those of all banks.
+fn last_answer(ticks: &[u64; BANKS], w: u32) -> u64
+    ensures value { result ≡ last_of ticks.now w }
+    ensures all { length ticks.now ≡ banks_there }
+{
+    LastAnswers { ticks: *ticks }.of(w)
+}
+
+// When the index-side word is there of an entry whose address is formed at `a`, 0 where it has
+// none. The bus is that behind its read.
+#[tactic(auto, unfolding(st_rows::specs::Rows::side_there, st_rows::specs::Rows::bus_sided, st_rows::specs::BusTimes::bus_after_read))]
+fn side_there(past: &LastEntries, side: Option<u32>, a: u64, bus: &Bus) -> u64
+    requires storage { IfSome side (λ w. 32 ≤ w) }
+    ensures { (ds : List ℕ) (before : BusOf) → bus.now ≡ bus_sided ds past.now before side a →
+        result ≡ side_there_of ds past.now before side a }
+{
+    let Some(w) = side else {
+        return 0;
+    };
+    let done = past.latest_done(w);
+    if done > a {
+        return done;
+    }
+    last_answer(&bus.banks.ticks, w)
+}
+
+// For how many ticks an entry waits for a level, whose address is formed at `a`. The bus is that
+// behind its index-side word.
+#[tactic(auto, unfolding(crate::specs::Looking::level_wait, st_rows::specs::Rows::tick_y, st_rows::specs::Rows::bus_a))]
+fn level_wait(front: &Front, levels: usize, entry: &Entry, a: u64, bus: &Bus) -> u64
+    requires entry { IsEntryInTime entry.now }
+    requires levels { (1 ≤ levels) × (levels ≤ 8) }
+    ensures { (ds : List ℕ) → a ≡ tick_a ds front.now entry.now →
+        bus.now ≡ bus_a ds front.now entry.now →
+        result ≡ level_wait_of ds levels front.now entry.now }
+{
+    let done = front.past.done_before(levels);
+    if done <= a {
+        return 0;
+    }
+    let there = side_there(&front.past, entry.side, a, bus);
+    done.saturating_sub(a.max(there))
+}
+
+/// The next entry as far as its address is formed, and what is known of its preparation by then.
 #[derive(Clone, Copy, Debug, Default, PartialEq, Eq)]
 pub struct Begun {
     /// The bus behind its instruction words and its index-side word.
     pub words: Fetching,
     /// When its address is formed, and when it is prepared.
     pub formed: Formed,
+    /// For how many ticks it waits for a level before it is prepared.
+    pub level_wait: u64,
 }
 
-/// Forms the address of the next entry behind a front, whose last entries are `past` and whose
-/// index-side word is `side`, and notes the words that it uses until then.
+/// Forms the address of the next entry behind a front, whose last entries are `past`, and notes the
+/// words that it uses until then; its index-side word is `side`.
 pub fn begin(
     front: &Front,
     past: &[Past; 8],
@@ -136,6 +181,7 @@ pub fn begin(
     ensures address { result.formed.a ≡ tick_a delays.now front.now entry.now }
     ensures tick { result.formed.p ≡ tick_p delays.now levels front.now entry.now }
     ensures bus { result.words.bus ≡ bus_a delays.now front.now entry.now }
+    ensures wait { result.level_wait ≡ level_wait_of delays.now levels front.now entry.now }
     ensures log { log.new
         ≡ log_after_reads delays.now
         (formed_asked delays.now front.now entry.now) front.now.bus log.old }
@@ -144,49 +190,30 @@ pub fn begin(
     ensures noted { length uses.new.items ≤ length uses.old.items + 5 }
 {
     delays.shape();
-    let mut words = fetch_all(front, delays, entry, log, uses);
-    let bus = words.bus;
-    let formed = front.form(delays, levels, entry, &mut words, log);
-    use_side(uses, &bus, delays, &front.past, past, side, formed.a);
-    Begun { words, formed }
-}
-
-// Notes the words that the next entry uses from its preparation on, whose address is formed as
-// `begin` says, and whose operand words are `reads`.
-#[inline(always)]
-#[tactic(auto, unfolding(st_rows::specs::Rows::operands))]
-fn use_prepared(
-    front: &Front,
-    past: &[Past; 8],
-    delays: &Delays,
-    levels: usize,
-    entry: &Entry,
-    reads: Words,
-    begun: &Begun,
-    uses: &mut Uses,
-)
-    requires entry { IsEntryInTime entry.now }
-    requires tight { IsTight MOST_DELAY front.now }
-    requires early { front.now.c ≤ 2 ^ 63 + 2 ^ 20 }
-    requires past { past.now ≡ front.now.past }
-    requires runs { IsRuns reads }
-    requires space { length uses.old.items + 34 ≤ 48 }
-    requires tick { begun.now.formed.p ≡ tick_p delays.now levels front.now entry.now }
-    requires bus { begun.now.words.bus ≡ bus_a delays.now front.now entry.now }
-
-    ensures { uses.new.items ≡ uses.old.items
-        ++ prepared_uses delays.now levels front.now entry.now reads }
-{
-    delays.shape();
-    let p = begun.formed.p;
-    let mut words = begun.words;
-    words.answered = p;
-    use_data(uses, &mut words, delays, &front.past, past, entry, reads, p);
-    use_following(uses, &mut words.bus, delays, entry, p);
+    let mut words = Fetching {
+        bus: front.bus,
+        answered: 0,
+        awaited: 0,
+    };
+    fetch_all(&mut words, front, delays, entry, log, uses);
+    let formed;
+    if side.is_none() {
+        formed = front.form(delays, levels, entry, &mut words, log);
+    } else {
+        let bus = words.bus;
+        formed = front.form(delays, levels, entry, &mut words, log);
+        use_side(uses, &bus, delays, &front.past, past, side, formed.a);
+    }
+    let level_wait = level_wait(front, levels, entry, formed.a, &words.bus);
+    Begun {
+        words,
+        formed,
+        level_wait,
+    }
 }
 
 /// Goes on behind the next entry, whose address is formed as `begin` says, gives its row, and notes
-/// the words that it uses from its preparation on.
+/// the words that it uses from its preparation on. What is begun is used up.
 pub fn finish(
     front: &mut Front,
     past: &[Past; 8],
@@ -194,7 +221,7 @@ pub fn finish(
     levels: usize,
     entry: &Entry,
     reads: Words,
-    begun: Begun,
+    begun: &mut Begun,
     log: &mut Log,
     uses: &mut Uses,
 ) -> EntryTicks
@@ -202,9 +229,9 @@ pub fn finish(
     requires tight { IsTight MOST_DELAY front.old }
     requires early { front.old.c ≤ 2 ^ 63 + 2 ^ 20 }
     requires levels { (1 ≤ levels) × (levels ≤ 8) }
-    requires address { begun.formed.a ≡ tick_a delays.now front.old entry.now }
-    requires tick { begun.formed.p ≡ tick_p delays.now levels front.old entry.now }
-    requires bus { begun.words.bus ≡ bus_a delays.now front.old entry.now }
+    requires address { begun.old.formed.a ≡ tick_a delays.now front.old entry.now }
+    requires tick { begun.old.formed.p ≡ tick_p delays.now levels front.old entry.now }
+    requires bus { begun.old.words.bus ≡ bus_a delays.now front.old entry.now }
     requires past { past.now ≡ front.old.past }
     requires runs { IsRuns reads }
     requires space { length uses.old.items + 34 ≤ 48 }
@@ -221,55 +248,17 @@ pub fn finish(
     ensures bound { front.new.c ≤ front.old.c + most_ticks_of_entry }
 {
     delays.shape();
-    use_prepared(front, past, delays, levels, entry, reads, &begun, uses);
-    let mut words = begun.words;
-    let filled = front.fill(delays, levels, entry, begun.formed, &mut words, log);
-    front.pass(entry, &filled.row, &words.bus);
-    filled.row
-}
-
-// The last answer of the bank that the word `w` is in, by those of all banks.
-fn last_answer(ticks: &[u64; BANKS], w: u32) -> u64
-    ensures value { result ≡ last_of ticks.now w }
-    ensures all { length ticks.now ≡ banks_there }
-{
-    LastAnswers { ticks: *ticks }.of(w)
-}
-
-// When the index-side word is there of an entry whose address is formed as `begin` says, 0 where it
-// has none.
-#[tactic(auto, unfolding(st_rows::specs::Rows::side_there, st_rows::specs::Rows::bus_sided, st_rows::specs::BusTimes::bus_after_read))]
-fn side_there(past: &LastEntries, side: Option<u32>, begun: &Begun) -> u64
-    requires storage { IfSome side (λ w. 32 ≤ w) }
-    ensures { (ds : List ℕ) (bus : BusOf) →
-        begun.now.words.bus ≡ bus_sided ds past.now bus side begun.now.formed.a →
-        result ≡ side_there_of ds past.now bus side begun.now.formed.a }
-{
-    let Some(w) = side else {
-        return 0;
-    };
-    let done = past.latest_done(w);
-    if done > begun.formed.a {
-        return done;
-    }
-    last_answer(&begun.words.bus.banks.ticks, w)
-}
-
-// For how many ticks an entry waits for a level, whose address is formed as `begin` says.
-#[tactic(auto, unfolding(crate::specs::Looking::level_wait, st_rows::specs::Rows::tick_y, st_rows::specs::Rows::bus_a))]
-fn level_wait(front: &Front, levels: usize, entry: &Entry, begun: &Begun) -> u64
-    requires entry { IsEntryInTime entry.now }
-    requires levels { (1 ≤ levels) × (levels ≤ 8) }
-    ensures { (ds : List ℕ) → begun.now.formed.a ≡ tick_a ds front.now entry.now →
-        begun.now.words.bus ≡ bus_a ds front.now entry.now →
-        result ≡ level_wait_of ds levels front.now entry.now }
-{
-    let done = front.past.done_before(levels);
-    if done <= begun.formed.a {
-        return 0;
-    }
-    let there = side_there(&front.past, entry.side, begun);
-    done.saturating_sub(begun.formed.a.max(there))
+    let Formed { a, p } = begun.formed;
+    let last = &front.past;
+    let words = &mut begun.words;
+    words.answered = p;
+    use_data(uses, words, log, delays, last, past, entry, reads, p);
+    let r = words.answered;
+    let c = front.c.max(r) + u64::from(entry.cost);
+    use_following(uses, &mut words.bus, log, delays, entry, p);
+    let row = EntryTicks { a, p, r, c };
+    front.pass(entry, &row, &words.bus);
+    row
 }
 
 /// The row of an entry.
@@ -279,46 +268,4 @@ pub struct Row {
     pub ticks: EntryTicks,
     /// For how many ticks it waited for a level before it was prepared.
     pub level_wait: u64,
-}
-
-/// Goes on behind the next entry, and gives its row. The log has its reads, which are made on the
-/// front's bus, and `uses` the words that it uses: the last entries of the front are `past`, and
-/// `reads` are its operand words, registers among them.
-#[tactic(auto, unfolding(crate::specs::Uses::uses_of_entry))]
-pub fn next_row(
-    front: &mut Front,
-    past: &[Past; 8],
-    delays: &Delays,
-    levels: usize,
-    planned: &Planned,
-    reads: Words,
-    log: &mut Log,
-    uses: &mut Uses,
-) -> Row
-    requires entry { IsEntryInTime planned.now.entry }
-    requires tight { IsTight MOST_DELAY front.old }
-    requires early { front.old.c ≤ 2 ^ 63 + 2 ^ 20 }
-    requires levels { (1 ≤ levels) × (levels ≤ 8) }
-    requires past { past.now ≡ front.old.past }
-    requires runs { IsRuns reads }
-
-    ensures value { result.ticks ≡ row_of delays.now levels front.old planned.now.entry }
-    ensures wait { result.level_wait
-        ≡ level_wait_of delays.now levels front.old planned.now.entry }
-    ensures after { front.new ≡ after_of delays.now levels front.old planned.now.entry }
-    ensures log { log.new
-        ≡ log_after_reads delays.now
-        (asked_of delays.now levels front.old planned.now.entry) front.old.bus log.old }
-    ensures uses { uses.new.items ≡ uses_of_entry delays.now levels front.old planned.now.entry
-        planned.now.known.side reads }
-    ensures tight { IsTight MOST_DELAY front.new }
-    ensures bound { front.new.c ≤ front.old.c + most_ticks_of_entry }
-{
-    uses.clear();
-    let entry = &planned.entry;
-    let side = planned.known.side;
-    let begun = begin(front, past, delays, levels, entry, side, log, uses);
-    let level_wait = level_wait(front, levels, entry, &begun);
-    let ticks = finish(front, past, delays, levels, entry, reads, begun, log, uses);
-    Row { ticks, level_wait }
 }

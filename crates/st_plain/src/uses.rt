@@ -5,16 +5,18 @@ ghost use Rattle.st_fetch.specs.Planned.{tick_of};
 ghost use Rattle.st_prep.specs.Ranges.{IsRuns};
 ghost use Rattle.st_rows.specs.Entries.{is_among};
 ghost use Rattle.st_rows.specs.Ranges.{IsBusWithin, IsReadingWithin, IsReadable, IsEntryInTime};
-ghost use Rattle.st_rows.specs.Rows.{reading_of_fetch, read_word, read_words, operands_read, request_inside as request_inside_of};
+ghost use Rattle.st_rows.specs.Asked.{data_asked, operands_asked, runs_asked, inside_asked, following_asked};
+ghost use Rattle.st_rows.specs.Notes.{log_after_reads};
+ghost use Rattle.st_rows.specs.Rows.{reading_of_fetch, read_word, read_words, operands_read, request_inside as request_inside_of, bus_followed};
 ghost use Rattle.st_plain.specs.declared.uses.Role.TheVariants.{Operand};
 ghost use Rattle.st_plain.specs.Uses.{read_ticks as read_ticks_of, fetch_supply as fetch_supply_of, writer_back as back_of, storage_supply as storage_supply_of, side_supply as side_supply_of, side_uses, register_uses, operand_uses, run_uses, data_uses, inside_uses, following_uses};
 
-use arrayvec::ArrayVec;
 use st_banks::Delays;
 use st_bits::WORDS;
 use st_bits::register::FIRST_STORAGE_WORD;
 use st_prep::Words;
-use st_rows::{Bus, Entry, Fetching, LastEntries, Past, WordRun};
+use st_rows::{Bus, Entry, Fetching, LastEntries, Log, Past, WordRun};
+use std::marker::Model;
 
 /// What a word is used as.
 #[derive(Clone, Copy, Debug, PartialEq, Eq)]
@@ -100,9 +102,89 @@ pub struct Use {
     pub supply: Supply,
 }
 
+// Room for words.
+const ROOM: usize = 48;
+
 /// The words that an entry uses, in the order of their reads. There are 39 at most: four
 /// instruction words, the index-side word, 32 operand words and two following ones.
-pub type Uses = ArrayVec<Use, 48>;
+#[derive(Debug, Drop)]
+pub struct Uses {
+    // The first of these places have the words.
+    words: [Use; ROOM],
+    len: usize,
+}
+
+impl Model for Uses {
+    ghost use Rattle.std.specs.Prelude.{◌≤◌, take};
+    ghost use Rattle.arrayvec.specs.ArrayVec.{ArrayVec as Items};
+    ghost use Rattle.st_plain.specs.declared.uses.Use.{Use as Used};
+
+    ghost Value = { Items Used };
+
+    ghost view = { λ uses. record { items = take uses.len uses.words } };
+
+    ghost invariant = { λ uses. uses.len ≤ 48 };
+}
+
+impl Default for Uses {
+    ghost use Rattle.std.specs.Prelude.{◌≡◌, []};
+
+    ghost is_default = { λ uses. uses.items ≡ [] };
+
+    fn default() -> Uses {
+        Uses::new()
+    }
+}
+
+impl Uses {
+    /// No words.
+    pub fn new() -> Uses
+        ensures { result.items ≡ [] }
+    {
+        Uses {
+            words: [Use::default(); ROOM],
+            len: 0,
+        }
+    }
+
+    /// The words.
+    #[inline(always)]
+    pub fn as_slice(&self) -> &[Use]
+        ensures value { result.now ≡ self.now.items }
+        ensures fits { length result.now ≤ 48 }
+    {
+        &self.words[..self.len]
+    }
+
+    /// Takes all words away. What stands in their places is written over by others.
+    #[inline(always)]
+    pub fn clear(&mut self)
+        ensures { self.new.items ≡ [] }
+    {
+        self.len = 0;
+    }
+
+    // Puts a word behind the others.
+    #[inline(always)]
+    fn push(&mut self, word: Use)
+        requires { length self.old.items < 48 }
+        ensures items { self.new.items ≡ self.old.items ++ word ∷ [] }
+        ensures room { length self.new.items ≡ length self.old.items + 1 }
+    {
+        self.words[self.len] = word;
+        self.len += 1;
+    }
+
+    /// Has these words in place of its own.
+    #[inline(always)]
+    pub fn copy(&mut self, other: &Uses)
+        ensures { self.new.items ≡ other.now.items }
+    {
+        let words = other.as_slice();
+        self.words[..words.len()].copy_from_slice(words);
+        self.len = words.len();
+    }
+}
 
 /// Notes a word that is used.
 #[inline(always)]
@@ -256,10 +338,11 @@ fn use_registers(uses: &mut Uses, first: u32, count: u8)
 
 // Notes an operand word that is no register, and reads it, unless it is forwarded.
 #[inline(always)]
-#[tactic(auto, unfolding(st_rows::specs::Rows::read_word, st_rows::specs::BusTimes::bus_after_read))]
+#[tactic(auto, unfolding(st_rows::specs::Rows::read_word, st_rows::specs::Notes::log_after_reads))]
 fn use_operand(
     uses: &mut Uses,
     words: &mut Fetching,
+    log: &mut Log,
     delays: &Delays,
     last: &LastEntries,
     past: &[Past; 8],
@@ -274,6 +357,8 @@ fn use_operand(
 
     ensures after { reading_of_fetch words.new
         ≡ read_word delays.now last.now (reading_of_fetch words.old) w p }
+    ensures log { log.new ≡ log_after_reads delays.now (data_asked last.now w p) words.old.bus
+        log.old }
     ensures items { uses.new.items ≡ uses.old.items ++ record {
       role = Operand;
       word = w;
@@ -293,8 +378,7 @@ fn use_operand(
         return;
     }
     let ticks = read_ticks(&words.bus, delays, w, p);
-    words.bus.banks.answer(w, ticks.answer);
-    words.bus.free = ticks.accept + 1;
+    words.bus.read(log, delays, w, p);
     words.answered = words.answered.max(ticks.answer);
     note(uses, Role::Operand, w, Supply::Read(ticks));
 }
@@ -305,6 +389,7 @@ fn use_operand(
 fn use_operands(
     uses: &mut Uses,
     words: &mut Fetching,
+    log: &mut Log,
     delays: &Delays,
     last: &LastEntries,
     past: &[Past; 8],
@@ -320,6 +405,8 @@ fn use_operands(
 
     ensures after { reading_of_fetch words.new ≡ read_words delays.now last.now
         (reading_of_fetch words.old) p run.first run.len }
+    ensures log { log.new ≡ log_after_reads delays.now
+        (operands_asked last.now p run.first run.len) words.old.bus log.old }
     ensures items { uses.new.items ≡ uses.old.items ++ operand_uses delays.now last.now
         (reading_of_fetch words.old) p run.first run.len }
     ensures room { length uses.new.items ≤ length uses.old.items + run.len }
@@ -328,7 +415,7 @@ fn use_operands(
     let mut w = run.first;
     let mut left = run.len;
     'words: while left > 0 {
-        use_operand(uses, words, delays, last, past, w, p);
+        use_operand(uses, words, log, delays, last, past, w, p);
         w += 1;
         left -= 1;
     }
@@ -340,6 +427,7 @@ fn use_operands(
 fn use_run(
     uses: &mut Uses,
     words: &mut Fetching,
+    log: &mut Log,
     delays: &Delays,
     last: &LastEntries,
     past: &[Past; 8],
@@ -358,12 +446,14 @@ fn use_run(
 
     ensures after { reading_of_fetch words.new ≡ read_words delays.now last.now
         (reading_of_fetch words.old) p run.first run.len }
+    ensures log { log.new ≡ log_after_reads delays.now
+        (operands_asked last.now p run.first run.len) words.old.bus log.old }
     ensures items { uses.new.items ≡ uses.old.items ++ run_uses delays.now last.now
         (reading_of_fetch words.old) p all.first all.len run }
     ensures room { length uses.new.items ≤ length uses.old.items + 16 }
 {
     use_registers(uses, all.first, all.len.saturating_sub(run.len));
-    use_operands(uses, words, delays, last, past, run, p);
+    use_operands(uses, words, log, delays, last, past, run, p);
 }
 
 /// Notes the operand words of an entry that is prepared at `p`, and reads those that are no
@@ -373,6 +463,7 @@ fn use_run(
 pub(crate) fn use_data(
     uses: &mut Uses,
     words: &mut Fetching,
+    log: &mut Log,
     delays: &Delays,
     last: &LastEntries,
     past: &[Past; 8],
@@ -390,6 +481,8 @@ pub(crate) fn use_data(
 
     ensures after { reading_of_fetch words.new
         ≡ operands_read delays.now last.now words.old.bus entry.now.reads p }
+    ensures log { log.new ≡ log_after_reads delays.now (runs_asked last.now entry.now.reads p)
+        words.old.bus log.old }
     ensures items { uses.new.items ≡ uses.old.items ++ data_uses delays.now last.now
         words.old.bus p reads entry.now.reads }
     ensures room { length uses.new.items ≤ length uses.old.items + 32 }
@@ -403,19 +496,21 @@ pub(crate) fn use_data(
         first: reads.first2,
         len: reads.len2,
     };
-    use_run(uses, words, delays, last, past, one, entry.reads.one, p);
-    use_run(uses, words, delays, last, past, two, entry.reads.two, p);
+    let reads = entry.reads;
+    use_run(uses, words, log, delays, last, past, one, reads.one, p);
+    use_run(uses, words, log, delays, last, past, two, reads.two, p);
 }
 
 // Notes a following word, and asks for it, if it is a word of storage.
 #[inline(always)]
-#[tactic(auto, unfolding(crate::specs::Uses::inside_uses, st_rows::specs::BusTimes::bus_after_read, st_rows::specs::BusTimes::bus_after_request), using(st_bits::specs::Storage::words_of_storage_is))]
-fn use_inside(uses: &mut Uses, bus: &mut Bus, delays: &Delays, w: u32, p: u64)
+#[tactic(auto, unfolding(crate::specs::Uses::inside_uses, st_rows::specs::BusTimes::bus_after_read, st_rows::specs::BusTimes::bus_after_request, st_rows::specs::Notes::log_after_reads), using(st_bits::specs::Storage::words_of_storage_is))]
+fn use_inside(uses: &mut Uses, bus: &mut Bus, log: &mut Log, delays: &Delays, w: u32, p: u64)
     requires space { length uses.old.items < 48 }
     requires room { IsBusWithin (2 ^ 64 - 512) bus.old }
     requires early { p ≤ 2 ^ 64 - 512 }
 
     ensures after { bus.new ≡ request_inside_of delays.now bus.old w p }
+    ensures log { log.new ≡ log_after_reads delays.now (inside_asked bus.old w p) bus.old log.old }
     ensures items { uses.new.items ≡ uses.old.items ++ inside_uses delays.now bus.old w p }
     ensures room { length uses.new.items ≤ length uses.old.items + 1 }
 {
@@ -426,8 +521,7 @@ fn use_inside(uses: &mut Uses, bus: &mut Bus, delays: &Delays, w: u32, p: u64)
         Some(tick) => note(uses, Role::Following, w, Supply::Held(tick)),
         None => {
             let ticks = read_ticks(bus, delays, w, p);
-            bus.banks.answer(w, ticks.answer);
-            bus.free = ticks.accept + 1;
+            bus.read(log, delays, w, p);
             bus.held.request(w, ticks.answer);
             note(uses, Role::Following, w, Supply::Read(ticks));
         }
@@ -436,13 +530,23 @@ fn use_inside(uses: &mut Uses, bus: &mut Bus, delays: &Delays, w: u32, p: u64)
 
 /// Notes the words that follow an entry that is prepared at `p`, where it asks for them.
 #[inline(always)]
-#[tactic(auto, unfolding(crate::specs::Uses::following_uses))]
-pub(crate) fn use_following(uses: &mut Uses, bus: &mut Bus, delays: &Delays, entry: &Entry, p: u64)
+#[tactic(auto, unfolding(crate::specs::Uses::following_uses, st_rows::specs::Rows::bus_followed, st_rows::specs::Asked::following_asked, st_rows::specs::Notes::log_after_reads))]
+pub(crate) fn use_following(
+    uses: &mut Uses,
+    bus: &mut Bus,
+    log: &mut Log,
+    delays: &Delays,
+    entry: &Entry,
+    p: u64,
+)
     requires space { length uses.old.items + 2 ≤ 48 }
     requires entry { IsEntryInTime entry.now }
     requires room { IsBusWithin (2 ^ 64 - 1024) bus.old }
     requires early { p ≤ 2 ^ 64 - 1024 }
 
+    ensures after { bus.new ≡ bus_followed delays.now bus.old entry.now p }
+    ensures log { log.new ≡ log_after_reads delays.now
+        (following_asked delays.now bus.old entry.now p) bus.old log.old }
     ensures items { uses.new.items
         ≡ uses.old.items ++ following_uses delays.now bus.old entry.now p }
 {
@@ -451,6 +555,6 @@ pub(crate) fn use_following(uses: &mut Uses, bus: &mut Bus, delays: &Delays, ent
         return;
     }
     let w = entry.own.first + u32::from(entry.own.len);
-    use_inside(uses, bus, delays, w, p);
-    use_inside(uses, bus, delays, w + 1, p);
+    use_inside(uses, bus, log, delays, w, p);
+    use_inside(uses, bus, log, delays, w + 1, p);
 }

@@ -1,5 +1,6 @@
 -- What waits add to the sums.
-use Rattle.std.proofs.Common.{◌≡◌, ℕ, ◌+◌, ◌-◌, ◌≤◌, List, [], ◌∷◌, arith}
+use Rattle.std.specs.Prelude.{Bool, if◌then◌else◌}
+use Rattle.std.proofs.Common.{◌≡◌, ℕ, ◌+◌, ◌-◌, ◌≤◌, ◌<◌, true, false, List, [], ◌∷◌, ap, arith}
 use Rattle.std.proofs.lemmas.Bool.{cond_both}
 use Rattle.st_reasons.specs.declared.sums.Shares.{Shares}
 use Rattle.st_reasons.specs.declared.waits.Stall.{Stall}
@@ -29,3 +30,13 @@ shares-more t u a b xs few is sums = record {
   bank = omega (arith, few, is.bank, sums Bank, stalled-most Bank xs);
   storage = omega (arith, few, is.storage, sums Storage, stalled-most Storage xs);
 }
+
+-- one wait is added, and there is room for the others
+at-most : (b : Bool) (d : ℕ) → (if b then d else 0) ≤ d
+at-most true d = omega arith
+at-most false d = omega arith
+
+pub one-more : (s : Stall) (n m : ℕ) (x : Wait) (xs waits : List Wait) (k : ℕ) → waits ≡ x ∷ xs
+    → m ≡ n + (if is_stall s x.why then x.to - x.from else 0) → n + all_stalled waits < k → m + all_stalled xs < k
+unfolding all_stalled
+one-more s n m x xs waits k is more few = omega (arith, ap all_stalled is, more, few, at-most (is_stall s x.why) (x.to - x.from))

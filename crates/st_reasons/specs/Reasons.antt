@@ -1,6 +1,6 @@
 -- What kept a row from being prepared earlier: where the path ends that goes back from its
 -- completion. Words stand youngest first: those of the row, and those of the row before it.
-use Rattle.std.specs.Prelude.{ℕ, zero, suc, ◌+◌, ◌-◌, Bool, ◌&&◌, ◌||◌, nat_eq, nat_le, nat_lt, if◌then◌else◌, List, [], ◌∷◌, length, take, reverse, Option, None, Some}
+use Rattle.std.specs.Prelude.{ℕ, zero, suc, ◌+◌, ◌-◌, Bool, ◌&&◌, ◌||◌, nat_eq, nat_le, nat_lt, if◌then◌else◌, List, [], ◌∷◌, length, reverse, Option, None, Some}
 use Rattle.std.specs.List.{list_any}
 use Rattle.st_bits.specs.declared.register.TheConstants.{FIRST_STORAGE_WORD}
 use Rattle.st_rows.specs.Entries.{latest_done}
@@ -8,7 +8,6 @@ use Rattle.st_rows.specs.Rows.{done_before}
 use Rattle.st_rows.specs.declared.entry.Entry.{Entry}
 use Rattle.st_rows.specs.declared.front.Front.{Front}
 use Rattle.st_rows.specs.declared.past.Past.{Past}
-use Rattle.st_plain.specs.declared.rows.Row.{Row}
 use Rattle.st_plain.specs.declared.uses.Role.TheVariants.{Instruction}
 use Rattle.st_plain.specs.declared.uses.Supply.{Supply}
 use Rattle.st_plain.specs.declared.uses.Supply.TheVariants.{Read, Held, Forwarded, Register}
@@ -120,13 +119,12 @@ abbrev pub reason_of_side : Option Writer → ℕ → Because → Because
 reason_of_side (Some w) a other = row_reason Forwarding w.back w.done (w.done - a)
 reason_of_side None a other = other
 
--- what kept the entry e behind the front f back, with its row: for want of a level, for its
--- index-side word, or else what its address awaited. It uses some words, and the row before it
--- others, none where it is the first one of its segment; the words stand in the order of their
--- reads, and the first four have all instruction words among them
-unfoldable pub because : Front → Entry → Row → List Use → List Use → Because
-because f e row uses before =
-    if nat_lt 0 row.level_wait
-    then row_reason Level (back_to (row.ticks.p - 1) f.past) (row.ticks.p - 1) row.level_wait
-    else reason_of_side (side_writer uses) row.ticks.a
-    (reason_of_address f e (row.ticks.a - 1) (reverse before) (reverse (take 4 uses)))
+-- what kept the entry e behind the front f back, whose address is formed at the tick a and which is
+-- prepared at p, so many ticks later for want of a level: that level, its index-side word, or else
+-- what its address awaited. It uses some words until its address is formed, and the row before it
+-- others, none where it is the first one of its segment; they stand in the order of their reads
+unfoldable pub because : Front → Entry → ℕ → ℕ → ℕ → List Use → List Use → Because
+because f e a p wait words before =
+    if nat_lt 0 wait then row_reason Level (back_to (p - 1) f.past) (p - 1) wait
+    else reason_of_side (side_writer words) a
+    (reason_of_address f e (a - 1) (reverse before) (reverse words))

@@ -6,9 +6,8 @@ ghost use Rattle.st_rows.specs.Rows.{done_before};
 ghost use Rattle.st_reasons.specs.Reasons.{row_reason, back_from, back_to as back_by, is_first as is_first_of, is_written as is_written_of, is_stored as is_stored_of, reason_done, reason_in_order, reason_of_bus, reason_of_words, reason_of_address, writer_of as writer_by, side_writer as side_writer_of, reason_of_side, because as because_of};
 
 use crate::uses::{decides, is_index, is_instruction, is_read, last_use, read_of};
-use crate::waits::first_four;
 use st_bits::register::FIRST_STORAGE_WORD;
-use st_plain::{Role, Row, Supply, Use, Writer};
+use st_plain::{Begun, Role, Supply, Use, Writer};
 use st_rows::{Entry, Front, LastEntries};
 
 /// What kept a row back, of what ties it to a row before it.
@@ -136,6 +135,7 @@ fn is_any_stored(past: &LastEntries, t: u64, uses: &[Use]) -> bool
 
 // What was done at the tick: the entry before, where that or this one is done alone, or one that
 // wrote one of these words.
+#[inline(always)]
 #[tactic(auto, unfolding(crate::specs::Reasons::reason_done))]
 fn done_at(front: &Front, alone: bool, t: u64, words: &[Use]) -> Option<Because>
     ensures { result ≡ reason_done front.now alone t (reverse words.now) }
@@ -266,30 +266,37 @@ fn side_writer(uses: &[Use]) -> Option<Writer>
     side_writer(more)
 }
 
-/// What kept the entry behind a front from being prepared earlier, whose row this is. It uses some
-/// words, and the row before it in its segment the words `before`; the first row of a segment has
-/// none before it.
+/// What kept the entry behind a front from being prepared earlier, which is begun so. It uses some
+/// words until its address is formed, and the row before it in its segment the words `before`; the
+/// first row of a segment has none before it.
 #[tactic(auto, unfolding(crate::specs::Reasons::because))]
-pub fn find_reason(front: &Front, entry: &Entry, row: &Row, uses: &[Use], before: &[Use]) -> Because
-    ensures { result ≡ because_of front.now entry.now row.now uses.now before.now }
+pub fn find_reason(
+    front: &Front,
+    entry: &Entry,
+    begun: &Begun,
+    words: &[Use],
+    before: &[Use],
+) -> Because
+    ensures { result ≡ because_of front.now entry.now begun.now.formed.a begun.now.formed.p
+        begun.now.level_wait words.now before.now }
 {
-    if row.level_wait > 0 {
-        let done = row.ticks.p.saturating_sub(1);
+    if begun.level_wait > 0 {
+        let done = begun.formed.p.saturating_sub(1);
         return earlier_reason(
             Reason::Level,
             back_to(done, &front.past),
             done,
-            row.level_wait,
+            begun.level_wait,
         );
     }
-    let a = row.ticks.a;
-    match side_writer(uses) {
+    let a = begun.formed.a;
+    match side_writer(words) {
         Some(writer) => earlier_reason(
             Reason::Forwarding,
             writer.back,
             writer.done,
             writer.done.saturating_sub(a),
         ),
-        None => of_address(front, entry, a.saturating_sub(1), first_four(uses), before),
+        None => of_address(front, entry, a.saturating_sub(1), words, before),
     }
 }

@@ -3,7 +3,7 @@ ghost use Rattle.std.specs.Prelude.{◌≡◌, ◌+◌, ◌-◌, ◌≤◌, ◌<
 ghost use Rattle.st_ledger.specs.declared.charges.Stage.{Stage as StageOf};
 ghost use Rattle.st_ledger.specs.Charges.{is_stage};
 ghost use Rattle.st_reasons.specs.declared.waits.Stall.{Stall as StallOf};
-ghost use Rattle.st_reasons.specs.Sums.{stall_number as stall_number_of, stalled_for, all_stalled, share_at, AreWaitsWithin, is_parted, waited_at, wait_sums_by};
+ghost use Rattle.st_reasons.specs.Sums.{is_stall, stalled_for, all_stalled, share_at, AreWaitsWithin, is_parted, waited_at, wait_sums_by};
 
 use crate::waits::{Stall, Wait};
 use st_ledger::{Charge, Stage};
@@ -36,38 +36,26 @@ fn first_wait(waits: &[Wait]) -> Option<(&Wait, &[Wait])>
     }
 }
 
-// The number of a thing that is waited for.
-#[inline(always)]
-fn stall_number(why: Stall) -> u8
-    ensures { result ≡ stall_number_of why }
-{
-    match why {
-        Stall::Turn => 0,
-        Stall::Bank => 1,
-        Stall::Storage => 2,
-    }
-}
-
-// The ticks of waits for one thing.
-#[tactic(auto, unfolding(crate::specs::Sums::stalled_for, crate::specs::Sums::all_stalled))]
-fn stalled(why: Stall, waits: &[Wait]) -> u64
-    requires { all_stalled waits.now < 2 ^ 64 }
-    ensures value { result ≡ stalled_for why waits.now }
-    ensures most { result ≤ all_stalled waits.now }
-{
-    let Some((wait, more)) = first_wait(waits) else {
-        return 0;
-    };
-    let ticks = wait.to.saturating_sub(wait.from);
-    let behind = stalled(why, more);
-    if stall_number(why) == stall_number(wait.why) {
-        return ticks + behind;
-    }
-    behind
-}
-
 impl Shares {
+    // Adds the ticks of a wait.
+    #[inline(always)]
+    fn add_one(&mut self, wait: &Wait)
+        requires turn { self.old.turn + (wait.now.to - wait.now.from) < 2 ^ 64 }
+        requires bank { self.old.bank + (wait.now.to - wait.now.from) < 2 ^ 64 }
+        requires storage { self.old.storage + (wait.now.to - wait.now.from) < 2 ^ 64 }
+        ensures sums { (s : StallOf) → share_at s self.new ≡ share_at s self.old
+            + (if is_stall s wait.now.why then wait.now.to - wait.now.from else 0) }
+    {
+        let ticks = wait.to.saturating_sub(wait.from);
+        match wait.why {
+            Stall::Turn => self.turn += ticks,
+            Stall::Bank => self.bank += ticks,
+            Stall::Storage => self.storage += ticks,
+        }
+    }
+
     // Adds waits.
+    #[tactic(auto, unfolding(crate::specs::Sums::stalled_for, crate::specs::Sums::all_stalled))]
     fn add(&mut self, waits: &[Wait])
         requires turn { self.old.turn + all_stalled waits.now < 2 ^ 64 }
         requires bank { self.old.bank + all_stalled waits.now < 2 ^ 64 }
@@ -75,9 +63,11 @@ impl Shares {
         ensures sums { (s : StallOf) → share_at s self.new
             ≡ share_at s self.old + stalled_for s waits.now }
     {
-        self.turn += stalled(Stall::Turn, waits);
-        self.bank += stalled(Stall::Bank, waits);
-        self.storage += stalled(Stall::Storage, waits);
+        let Some((wait, more)) = first_wait(waits) else {
+            return;
+        };
+        self.add_one(wait);
+        self.add(more);
     }
 }
 

@@ -257,9 +257,9 @@ fn add_fetches(waits: &mut Waits, from: u64, t: u64, words: &[Use], before: &[Us
     add_fetches(waits, from, read_of(&last.supply).want, earlier, before);
 }
 
-/// The first four of some words.
+// The first four of some words.
 #[inline(always)]
-pub(crate) fn first_four(uses: &[Use]) -> &[Use]
+fn first_four(uses: &[Use]) -> &[Use]
     ensures value { result.now ≡ take 4 uses.now }
     ensures few { length result.now ≤ 4 }
 {

@@ -8,5 +8,5 @@ pub returns : goal.returns
 returns c =
     let x = c.args.charge in
     seven_pieces (codes "CHARGE ") (decimal x.from) (codes " ") (decimal x.to) (codes " ") (stage_name x.stage) lf _ _ _ _ _ _ _ _
-    c.clear.ensures c.put.ensures c.put_stage.ensures.bytes c.put-2.ensures c.put_decimal.ensures.bytes c.put-3.ensures c.put_decimal-2.ensures.bytes
-    c.put-4.ensures
+    c.clear.ensures c.put_word.ensures c.put_stage.ensures.bytes c.put_word-2.ensures c.put_near.ensures.bytes c.put_word-3.ensures c.put_near-2.ensures.bytes
+    c.put_word-4.ensures

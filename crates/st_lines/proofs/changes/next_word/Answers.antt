@@ -10,3 +10,6 @@ returns-clause-between c v low below = record {
   };
   beside = c.next_of_card-card.ensures.between v low (omega (arith, below, c.min-2.ensures));
 }
+
+pub returns-then-are_left-clause-between : goal.returns-then-are_left-clause-between
+returns-then-are_left-clause-between c v low below = c.are_left.ensures c.if-are_left.true v (omega (arith, low, c.requires.above))

@@ -8,5 +8,5 @@ use Rattle.st_lines.proofs.digits.fill_code.Goals as goal
 pub returns : goal.returns
 returns c =
     four_pieces (codes "CODE ") (hex_text 8 c.args.code.first) (second_text c.args.code.second) lf _ _ _ _ _
-    c.clear.ensures c.put.ensures c.put_second.ensures.bytes
-    (c.put_digits.ensures.bytes ∙ ap (λ n. hex_text 8 n ++ c.put_second.new.line) c.from.ensures) c.put-2.ensures
+    c.clear.ensures c.put_word.ensures c.put_second.ensures.bytes
+    (c.put_digits.ensures.bytes ∙ ap (λ n. hex_text 8 n ++ c.put_second.new.line) c.from.ensures) c.put_word-2.ensures

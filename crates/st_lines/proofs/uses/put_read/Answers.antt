@@ -13,5 +13,5 @@ returns-clause-bytes c =
     (codes " FREE ") (decimal t.free) (codes " ACCEPT ") (decimal t.accept) (codes " ANSWER ") (decimal t.answer)
     (codes " MADE ") (flag (is_before c.args.end t.accept)) _ _ _ _ _ _ _ _ _ _ _ _ _
     (c.put_made.ensures.bytes ∙ ap (λ (b : Bool). (codes " MADE " ++ flag b) ++ c.args.line.now) c.is_before.ensures)
-    c.put_decimal.ensures.bytes c.put.ensures c.put_decimal-2.ensures.bytes c.put-2.ensures c.put_decimal-3.ensures.bytes c.put-3.ensures
-    c.put_decimal-4.ensures.bytes c.put-4.ensures c.put_decimal-5.ensures.bytes c.put-5.ensures c.put_bank.ensures.bytes
+    c.put_tick.ensures.bytes c.put_word.ensures c.put_tick-2.ensures.bytes c.put_word-2.ensures c.put_tick-3.ensures.bytes c.put_word-3.ensures
+    c.put_tick-4.ensures.bytes c.put_word-4.ensures c.put_tick-5.ensures.bytes c.put_word-5.ensures c.put_bank.ensures.bytes

@@ -11,7 +11,7 @@ pub fetch_run-requires-2-clause-room : goal.fetch_run-requires-2-clause-room
 fetch_run-requires-2-clause-room c =
     let f = c.args.front.now in
     let m = f.c + 3 * 255 + 2 in
-    let start : IsFetchingWithin m c.new-words.result = rw c.new-words.ensures (record {
+    let start : IsFetchingWithin m c.args.words.now = rw c.requires.start (record {
       bus = tight-bus 255 f c.requires.tight;
       answered = omega arith;
       awaited = omega arith;
@@ -20,17 +20,17 @@ fetch_run-requires-2-clause-room c =
     rw c.fetch_run.ensures.words
     (fetching-weaker (m + 2 * 256) (2 ^ 64 - 2 ^ 16) _ (omega arith)
     (fetch_two-within 255 c.args.delays.now (AreDelays-list c.args.delays.now c.shape.ensures) f.past c.wanted_from-from.result
-    c.args.entry.now.own.first c.args.entry.now.own.len m c.new-words.result c.requires.entry.own_few
+    c.args.entry.now.own.first c.args.entry.now.own.len m c.args.words.now c.requires.entry.own_few
     (past-weaker f.c m f.past (omega arith) c.requires.tight.done) start (rw c.wanted_from-from.ensures (omega arith))))
 
 pub returns-clause-log : goal.returns-clause-log
 returns-clause-log c =
-    noted-fetches c.args.delays.now c.args.front.now c.args.entry.now c.new-words.result c.fetch_run.new.words c.wanted_from-from.result _ c.args.log.now
-    c.fetch_run.new.log c.fetch_run-2.new.log c.new-words.ensures c.wanted_from-from.ensures c.max.ensures c.fetch_run.ensures.words c.fetch_run.ensures.log
+    noted-fetches c.args.delays.now c.args.front.now c.args.entry.now c.args.words.now c.fetch_run.new.words c.wanted_from-from.result _ c.args.log.now
+    c.fetch_run.new.log c.fetch_run-2.new.log c.requires.start c.wanted_from-from.ensures c.max-late.ensures c.fetch_run.ensures.words c.fetch_run.ensures.log
     c.fetch_run-2.ensures.log
 
 pub returns-clause-uses : goal.returns-clause-uses
 returns-clause-uses c =
-    fetches-used c.args.delays.now c.args.front.now c.args.entry.now c.new-words.result c.fetch_run.new.words c.wanted_from-from.result _ c.args.uses.now.items
-    c.fetch_run.new.uses.items c.fetch_run-2.new.uses.items c.new-words.ensures c.wanted_from-from.ensures c.max.ensures c.fetch_run.ensures.words c.fetch_run.ensures.uses
+    fetches-used c.args.delays.now c.args.front.now c.args.entry.now c.args.words.now c.fetch_run.new.words c.wanted_from-from.result _ c.args.uses.now.items
+    c.fetch_run.new.uses.items c.fetch_run-2.new.uses.items c.requires.start c.wanted_from-from.ensures c.max-late.ensures c.fetch_run.ensures.words c.fetch_run.ensures.uses
     c.fetch_run-2.ensures.uses

@@ -2,6 +2,7 @@ use Rattle.std.proofs.Common.{◌+◌, ◌-◌, ◌*◌, ◌^◌, sym, subst, ar
 use Rattle.st_rows.specs.BusTimes.{Reading}
 use Rattle.st_rows.specs.Ranges.{IsReadingWithin}
 use Rattle.st_rows.specs.Rows.{reading_of_fetch}
+use Rattle.st_rows.proofs.Noted.{runs-noted}
 use Rattle.st_rows.proofs.Within.{AreDelays-list, reading-weaker}
 use Rattle.st_rows.proofs.Stages.{read_sixteen-within}
 use Rattle.st_plain.proofs.uses.use_data.Goals as goal
@@ -15,3 +16,8 @@ use_run-requires-2-clause-room c =
     (reading-weaker (m + 16 * 256) (2 ^ 64 - 2 ^ 16) _ (omega arith)
     (read_sixteen-within 255 c.args.delays.now (AreDelays-list c.args.delays.now c.shape.ensures) c.args.last.now c.args.p
     c.args.entry.now.reads.one.first c.args.entry.now.reads.one.len m _ c.requires.entry.one_few start c.requires.early))
+
+pub returns-clause-log : goal.returns-clause-log
+returns-clause-log c =
+    runs-noted c.args.delays.now c.args.last.now c.args.p c.args.entry.now.reads (reading_of_fetch c.args.words.now) (reading_of_fetch c.use_run.new.words) c.args.log.now
+    c.use_run.new.log c.use_run-2.new.log c.use_run.ensures.after c.use_run.ensures.log c.use_run-2.ensures.log

@@ -1,8 +1,11 @@
-use Rattle.std.proofs.Common.{◌+◌, ◌-◌, ◌*◌, ◌^◌, ◌∙◌, sym, subst, arith}
+use Rattle.std.proofs.Common.{◌≡◌, ◌+◌, ◌-◌, ◌*◌, ◌^◌, ◌∙◌, sym, subst, arith}
 use Rattle.st_bits.specs.Storage.{words_of_storage_is}
 use Rattle.st_rows.specs.BusTimes.{Reading}
 use Rattle.st_rows.specs.Ranges.{IsReadingWithin}
 use Rattle.st_rows.specs.Rows.{reading_of_fetch}
+use Rattle.st_rows.specs.Asked.{operands_asked}
+use Rattle.st_rows.specs.Notes.{log_after_reads}
+use Rattle.st_rows.proofs.Noted.{operand-turn as operand-noted}
 use Rattle.st_rows.proofs.Turns.{read-turn}
 use Rattle.st_rows.proofs.Within.{AreDelays-list, reading-weaker, read_word-within}
 use Rattle.st_plain.proofs.UseLemmas.{operand-turn, operand-end}
@@ -26,6 +29,9 @@ words-preserved c =
       uses = operand-turn c.args.delays.now c.args.last.now c.args.p c.words.w s t c.words.left c.words.uses.items c.use_operand.new.uses.items
           c.use_operand.ensures.after c.use_operand.ensures.items (omega arith)
           ∙ c.words.invariant.uses;
+      log = operand-noted c.args.delays.now c.args.last.now c.args.p c.words.w s t c.words.left c.words.log c.use_operand.new.log
+          c.use_operand.ensures.after c.use_operand.ensures.log (omega arith)
+          ∙ c.words.invariant.log;
       space = omega (arith, c.use_operand.ensures.room, c.words.invariant.space);
       room = reading-weaker (m + 256) _ t (omega arith)
           (subst (λ (r : Reading). IsReadingWithin (m + 256) r) (sym c.use_operand.ensures.after)
@@ -39,3 +45,7 @@ pub returns-clause-items : goal.returns-clause-items
 returns-clause-items c =
     operand-end c.args.delays.now c.args.last.now c.args.p c.words.w (reading_of_fetch c.words.words) c.words.left c.words.uses.items _
     (omega (arith, c.words-test.false)) c.words.invariant.uses
+
+pub returns-clause-log : goal.returns-clause-log
+unfolding operands_asked log_after_reads
+returns-clause-log c = let none : c.words.left ≡ 0 = omega (arith, c.words-test.false) in rw none at c.words.invariant.log

@@ -1,15 +1,19 @@
 use Rattle.std.proofs.Common.{◌≡◌, ◌+◌, ◌-◌, ◌*◌, ◌^◌, ◌≤◌, ◌++◌, length}
 use Rattle.st_bits.specs.Storage.{words_of_storage}
+use Rattle.st_rows.specs.Asked.{operands_asked}
+use Rattle.st_rows.specs.Notes.{log_after_reads}
 use Rattle.st_rows.specs.Ranges.{IsReadingWithin}
 use Rattle.st_rows.specs.Rows.{reading_of_fetch, read_words}
 use Rattle.st_plain.specs.Uses.{operand_uses}
 use Rattle.st_plain.proofs.uses.use_operands.Given as goal
 
--- the words that are left make of it and of the uses what all words make of what they were; there is time and room left for each
+-- the words that are left make of it, of the log and of the uses what all words make of what they were; there is time and room left for each
 abbrev pub invariant-words : goal.invariant-words
 invariant-words l = record {
   value : read_words l.delays l.last (reading_of_fetch l.words) l.p l.w l.left
       ≡ read_words l.delays l.last (reading_of_fetch l.fn.words) l.p l.fn.run.first l.fn.run.len;
+  log : log_after_reads l.delays (operands_asked l.last l.p l.w l.left) l.words.bus l.log
+      ≡ log_after_reads l.delays (operands_asked l.last l.p l.fn.run.first l.fn.run.len) l.fn.words.bus l.fn.log;
   uses : l.uses.items ++ operand_uses l.delays l.last (reading_of_fetch l.words) l.p l.w l.left
       ≡ l.fn.uses.items ++ operand_uses l.delays l.last (reading_of_fetch l.fn.words) l.p l.fn.run.first l.fn.run.len;
   space : length l.uses.items + l.left ≤ length l.fn.uses.items + l.fn.run.len;

@@ -1,9 +1,11 @@
 use Rattle.std.specs.Prelude.{All}
-use Rattle.std.proofs.Common.{sym, ◌∙◌, ap, subst}
+use Rattle.std.proofs.Common.{refl, sym, ◌∙◌, ap, subst}
 use Rattle.st_exec.specs.Ahead.{IsNotAmong}
 use Rattle.st_exec.specs.Completion.{guess}
 use Rattle.st_rows.proofs.Within.{AreDelays-list}
 use Rattle.st_segment.proofs.EntryRanges.{entry-ranges}
+use Rattle.st_plain.specs.Looking.{side_at}
+use Rattle.st_plain.specs.Uses.{formed_uses}
 use Rattle.st_account.specs.declared.last.Last.{Last}
 use Rattle.st_account.proofs.EntryLemmas.{uses-is, entry-lines, entry-last, entry-sums, entry-within, entry-step, kept-some}
 use Rattle.st_segment.specs.Entries.{entry}
@@ -22,7 +24,7 @@ returns-clause-lines c p end some is =
     let rest = c.execute.ensures.rest in
     kept-some _ _ end some
     ∙ entry-lines (origin_at c.args.self.now.origins) c.args.timing.now.delays c.args.timing.now.levels p end c.args.self.now.state c.args.self.now.last
-    c.interrupt-taken.result _ _ _ _ _ _ _ _ _ _ _ _ is
+    c.interrupt-taken.result _ _ _ _ _ _ _ _ _ _ _ _ _ is
     c.interrupt-taken.ensures.value
     (ap (λ (l : Last). l.done.address) rest ∙ c.count_on.ensures.address ∙ c.next_address-address.ensures.value)
     (ap (λ (l : Last). l.done.origin) rest
@@ -38,11 +40,18 @@ returns-clause-lines c p end some is =
     (ap (λ (l : Last). l.done.before) rest ∙ c.count_on.ensures.before)
     (ap (λ (l : Last). l.done.start) rest ∙ c.count_on.ensures.start)
     (ap (λ (l : Last). l.uses.items) rest ∙ c.count_on.ensures.uses)
+    refl
     (ap (λ (l : Last). l.because) rest
     ∙ c.count_on.ensures.because
-    ∙ ap (because c.args.self.now.last.front (entry c.interrupt-taken.result c.args.self.now.state) c.count_on.new.last.done.row c.count_on.new.last.uses.items)
+    ∙ ap (λ us. because c.args.self.now.last.front (entry c.interrupt-taken.result c.args.self.now.state) c.count_on.new.last.done.row.ticks.a
+    c.count_on.new.last.done.row.ticks.p c.count_on.new.last.done.row.level_wait
+    (formed_uses c.args.timing.now.delays c.args.self.now.last.front (entry c.interrupt-taken.result c.args.self.now.state)
+    (side_at c.interrupt-taken.result c.args.self.now.state)) us)
     (sym c.count_on.ensures.earlier)
-    ∙ ap (λ (l : Last). because c.args.self.now.last.front (entry c.interrupt-taken.result c.args.self.now.state) l.done.row l.uses.items l.before.items) (sym rest))
+    ∙ ap (λ (l : Last). because c.args.self.now.last.front (entry c.interrupt-taken.result c.args.self.now.state) l.done.row.ticks.a l.done.row.ticks.p
+    l.done.row.level_wait
+    (formed_uses c.args.timing.now.delays c.args.self.now.last.front (entry c.interrupt-taken.result c.args.self.now.state)
+    (side_at c.interrupt-taken.result c.args.self.now.state)) l.before.items) (sym rest))
     ∙ ap (λ us. lines_of_entry (origin_at c.args.self.now.origins) c.args.timing.now.delays c.args.timing.now.levels end us p) (ap (λ (l : Last). l.before.items) rest ∙ c.count_on.ensures.earlier)
 
 pub returns-clause-uses : goal.returns-clause-uses

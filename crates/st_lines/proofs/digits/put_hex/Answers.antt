@@ -1,6 +1,6 @@
 use Rattle.std.proofs.Common.{arith}
 use Rattle.st_lines.proofs.DigitLemmas.{word_pieces}
-use Rattle.st_lines.proofs.digits.put_word.Goals as goal
+use Rattle.st_lines.proofs.digits.put_hex.Goals as goal
 
 pub returns-clause-bytes : goal.returns-clause-bytes
 returns-clause-bytes c =
