@@ -21,7 +21,7 @@ use crate::timing::Timing;
 use st_card::Signal;
 use st_exec::{complete_in, interrupt, is_missed};
 use st_lines::{Changeable, Why, is_enabled};
-use st_plain::{Row, begin, finish, plan_entry, put_past};
+use st_plain::{Begun, Row, begin, finish, plan_entry, put_past};
 use st_prep::Prepared;
 use st_reasons::find_reason;
 use st_rows::{Log, Past};
@@ -143,13 +143,14 @@ pub(crate) fn count_on(
     log.clear();
     last.before.copy(&last.uses);
     last.uses.clear();
-    let mut begun = begin(
+    let mut begun = Begun::default();
+    begin(
+        &mut begun,
         &last.front,
         &last.past,
         &timing.delays,
         timing.levels as usize,
-        entry,
-        planned.known.side,
+        &planned,
         log,
         &mut last.uses,
     );

@@ -12,7 +12,7 @@ ghost use Rattle.st_plain.specs.Looking.{seen_ahead, first_late, reads_up_to};
 
 use crate::entries::plan_entry;
 use crate::known::Known;
-use crate::rows::{begin, finish, put_past};
+use crate::rows::{Begun, begin, finish, put_past};
 use crate::uses::Uses;
 use arrayvec::ArrayVec;
 use st_back::{keep, undo};
@@ -99,8 +99,10 @@ pub fn look(
     let planned = plan_entry(None, state, &mut p);
     let entry = &planned.entry;
     let mut uses = Uses::new();
-    let side = planned.known.side;
-    let mut begun = begin(front, past, delays, levels, entry, side, log, &mut uses);
+    let mut begun = Begun::default();
+    begin(
+        &mut begun, front, past, delays, levels, &planned, log, &mut uses,
+    );
     if begun.formed.p >= tick {
         let mut scratch = Log::new();
         let bus = begun.words.bus;

@@ -13,6 +13,7 @@ ghost use Rattle.st_rows.specs.declared.log.Made.{Made};
 ghost use Rattle.st_prep.specs.Ranges.{IsRuns};
 ghost use Rattle.st_plain.specs.Uses.{instruction_uses, fetch_uses, formed_uses, prepared_uses};
 
+use crate::entries::Planned;
 use crate::uses::{Role, Uses, fetch_supply, note, use_data, use_following, use_side};
 use st_banks::{BANKS, Delays, LastAnswers};
 use st_prep::Words;
@@ -160,56 +161,56 @@ pub struct Begun {
 }
 
 /// Forms the address of the next entry behind a front, whose last entries are `past`, and notes the
-/// words that it uses until then; its index-side word is `side`.
+/// words that it uses until then. What is begun is that entry, whatever it was.
 pub fn begin(
+    begun: &mut Begun,
     front: &Front,
     past: &[Past; 8],
     delays: &Delays,
     levels: usize,
-    entry: &Entry,
-    side: Option<u32>,
+    planned: &Planned,
     log: &mut Log,
     uses: &mut Uses,
-) -> Begun
-    requires entry { IsEntryInTime entry.now }
+)
+    requires entry { IsEntryInTime planned.now.entry }
     requires tight { IsTight MOST_DELAY front.now }
     requires early { front.now.c ≤ 2 ^ 63 + 2 ^ 20 }
     requires levels { (1 ≤ levels) × (levels ≤ 8) }
     requires past { past.now ≡ front.now.past }
     requires space { length uses.old.items + 5 ≤ 48 }
 
-    ensures address { result.formed.a ≡ tick_a delays.now front.now entry.now }
-    ensures tick { result.formed.p ≡ tick_p delays.now levels front.now entry.now }
-    ensures bus { result.words.bus ≡ bus_a delays.now front.now entry.now }
-    ensures wait { result.level_wait ≡ level_wait_of delays.now levels front.now entry.now }
+    ensures address { begun.new.formed.a ≡ tick_a delays.now front.now planned.now.entry }
+    ensures tick { begun.new.formed.p ≡ tick_p delays.now levels front.now planned.now.entry }
+    ensures bus { begun.new.words.bus ≡ bus_a delays.now front.now planned.now.entry }
+    ensures wait { begun.new.level_wait
+        ≡ level_wait_of delays.now levels front.now planned.now.entry }
     ensures log { log.new
         ≡ log_after_reads delays.now
-        (formed_asked delays.now front.now entry.now) front.now.bus log.old }
-    ensures uses { uses.new.items
-        ≡ uses.old.items ++ formed_uses delays.now front.now entry.now side }
+        (formed_asked delays.now front.now planned.now.entry) front.now.bus log.old }
+    ensures uses { uses.new.items ≡ uses.old.items
+        ++ formed_uses delays.now front.now planned.now.entry planned.now.known.side }
     ensures noted { length uses.new.items ≤ length uses.old.items + 5 }
 {
     delays.shape();
-    let mut words = Fetching {
+    let entry = &planned.entry;
+    let side = planned.known.side;
+    begun.words = Fetching {
         bus: front.bus,
         answered: 0,
         awaited: 0,
     };
-    fetch_all(&mut words, front, delays, entry, log, uses);
+    let words = &mut begun.words;
+    fetch_all(words, front, delays, entry, log, uses);
     let formed;
     if side.is_none() {
-        formed = front.form(delays, levels, entry, &mut words, log);
+        formed = front.form(delays, levels, entry, words, log);
     } else {
         let bus = words.bus;
-        formed = front.form(delays, levels, entry, &mut words, log);
+        formed = front.form(delays, levels, entry, words, log);
         use_side(uses, &bus, delays, &front.past, past, side, formed.a);
     }
-    let level_wait = level_wait(front, levels, entry, formed.a, &words.bus);
-    Begun {
-        words,
-        formed,
-        level_wait,
-    }
+    begun.level_wait = level_wait(front, levels, entry, formed.a, &words.bus);
+    begun.formed = formed;
 }
 
 /// Goes on behind the next entry, whose address is formed as `begin` says, gives its row, and notes

@@ -28,8 +28,8 @@ use Rattle.st_plain.proofs.looking.+look.Goals as goal
 abbrev Uses : Type 0
 Uses = ArrayVec Use
 
-pub begin-begun-requires-clause-entry : goal.begin-begun-requires-clause-entry
-begin-begun-requires-clause-entry t c = rw c.plan_entry-planned.ensures.entry (entry-ranges None c.args.state.now c.shape-2.ensures tt)
+pub begin-requires-clause-entry : goal.begin-requires-clause-entry
+begin-requires-clause-entry t c = rw c.plan_entry-planned.ensures.entry (entry-ranges None c.args.state.now c.shape-2.ensures tt)
 
 pub finish-row-requires-clause-entry : goal.finish-row-requires-clause-entry
 finish-row-requires-clause-entry t c = rw c.plan_entry-planned.ensures.entry (entry-ranges None c.args.state.now c.shape-2.ensures tt)
@@ -52,8 +52,8 @@ returns-then-begun-tick-clause-late t c =
     let known_is = c.plan_entry-planned.ensures.known in
     let uses_are : c.finish-ticks.new.uses.items ≡ uses_of_entry ds n f (entry None s) (side_at None s) (plan s None).reads =
     all-used ds n f _ _ _ _ _ _ _ _ _ c.plan_entry-planned.ensures.entry (ap (λ (k : Known). k.side) known_is) (ap (λ (q : Prepared). q.reads) plan_is)
-    c.new-uses.ensures c.begin-begun.ensures.uses c.finish-ticks.ensures.uses in
-    begun-here ds n c.args.tick s f c.args.more _ (omega (arith, row-p ds n f (entry None s), p, c.begin-begun.ensures.tick, c.if-begun-tick.true))
+    c.new-uses.ensures c.begin.ensures.uses c.finish-ticks.ensures.uses in
+    begun-here ds n c.args.tick s f c.args.more _ (omega (arith, row-p ds n f (entry None s), p, c.begin.ensures.tick, c.if-begun-tick.true))
     (ap (λ q. at q c.finish-ticks.result c.plan_entry-planned.result.known c.finish-ticks.new.uses) plan_is
     ∙ ap (λ r. at (plan s None) r c.plan_entry-planned.result.known c.finish-ticks.new.uses) is
     ∙ ap (λ known. at (plan s None) (row_of_entry ds n f (entry None s)) known c.finish-ticks.new.uses) known_is
@@ -67,7 +67,7 @@ returns-then-begun-tick-clause-found t c =
     let s = c.args.state.now in
     let p = ap (tick_p ds n f) c.plan_entry-planned.ensures.entry in
     found-same ds n c.args.found.now.items _
-    (found-late ds n c.args.tick s f c.args.more (omega (arith, row-p ds n f (entry None s), p, c.begin-begun.ensures.tick, c.if-begun-tick.true)))
+    (found-late ds n c.args.tick s f c.args.more (omega (arith, row-p ds n f (entry None s), p, c.begin.ensures.tick, c.if-begun-tick.true)))
 
 pub returns-then-begun-tick-clause-log : goal.returns-then-begun-tick-clause-log
 returns-then-begun-tick-clause-log t c =
@@ -76,9 +76,9 @@ returns-then-begun-tick-clause-log t c =
     let f = c.args.front.now in
     let s = c.args.state.now in
     let p = ap (tick_p ds n f) c.plan_entry-planned.ensures.entry in
-    log-late ds n c.args.tick s f c.args.more c.args.log.now c.begin-begun.new.log
-    (omega (arith, row-p ds n f (entry None s), p, c.begin-begun.ensures.tick, c.if-begun-tick.true))
-    (c.begin-begun.ensures.log ∙ ap (λ (e : Entry). log_after_reads ds (formed_asked ds f e) f.bus c.args.log.now) c.plan_entry-planned.ensures.entry)
+    log-late ds n c.args.tick s f c.args.more c.args.log.now c.begin.new.log
+    (omega (arith, row-p ds n f (entry None s), p, c.begin.ensures.tick, c.if-begun-tick.true))
+    (c.begin.ensures.log ∙ ap (λ (e : Entry). log_after_reads ds (formed_asked ds f e) f.bus c.args.log.now) c.plan_entry-planned.ensures.entry)
 
 pub returns-then-begun-tick-clause-bus : goal.returns-then-begun-tick-clause-bus
 returns-then-begun-tick-clause-bus t c =
@@ -87,23 +87,23 @@ returns-then-begun-tick-clause-bus t c =
     let f = c.args.front.now in
     let s = c.args.state.now in
     let p = ap (tick_p ds n f) c.plan_entry-planned.ensures.entry in
-    bus-late ds n c.args.tick s f c.args.more c.begin-begun.result.words.bus
-    (omega (arith, row-p ds n f (entry None s), p, c.begin-begun.ensures.tick, c.if-begun-tick.true))
-    (c.begin-begun.ensures.bus ∙ ap (bus_a ds f) c.plan_entry-planned.ensures.entry)
+    bus-late ds n c.args.tick s f c.args.more c.begin.new.begun.words.bus
+    (omega (arith, row-p ds n f (entry None s), p, c.begin.ensures.tick, c.if-begun-tick.true))
+    (c.begin.ensures.bus ∙ ap (bus_a ds f) c.plan_entry-planned.ensures.entry)
 
 -- it is
 
 pub push-requires : goal.push-requires
 push-requires t c =
     let some = some-more c.args.delays.now c.args.levels c.args.more c.args.tick c.args.front.now c.plan_entry-planned.result.entry c.requires.levels.0 c.requires.first
-    (omega (arith, c.begin-begun.ensures.tick, c.if-begun-tick.false)) in
+    (omega (arith, c.begin.ensures.tick, c.if-begun-tick.false)) in
     let room : length c.args.found.now.items < 8 = omega (arith, c.requires.space, some) in
     (omega arith, room)
 
 pub overflow_sub-more : goal.overflow_sub-more
 overflow_sub-more t c =
     some-more c.args.delays.now c.args.levels c.args.more c.args.tick c.args.front.now c.plan_entry-planned.result.entry c.requires.levels.0 c.requires.first
-    (omega (arith, c.begin-begun.ensures.tick, c.if-begun-tick.false))
+    (omega (arith, c.begin.ensures.tick, c.if-begun-tick.false))
 
 pub look-requires : goal.look-requires
 look-requires t c =
@@ -112,7 +112,7 @@ look-requires t c =
     let f = c.args.front.now in
     let e = c.plan_entry-planned.result.entry in
     let some = some-more ds n c.args.more c.args.tick f e c.requires.levels.0 c.requires.first
-    (omega (arith, c.begin-begun.ensures.tick, c.if-begun-tick.false)) in
+    (omega (arith, c.begin.ensures.tick, c.if-begun-tick.false)) in
     let done = ap (λ (s : Machine). s.done) c.guess.ensures ∙ guess-done c.plan_entry-planned.new.p c.args.state.now in
     let more = ap length c.push.ensures.items ∙ length_push c.args.found.now.items _ in
     let range : IsEntryInTime e = rw c.plan_entry-planned.ensures.entry (entry-ranges None c.args.state.now c.shape-2.ensures tt) in
@@ -164,7 +164,7 @@ returns-clause-found t c =
     let f = c.args.front.now in
     let s = c.args.state.now in
     let some = some-more ds n c.args.more c.args.tick f c.plan_entry-planned.result.entry c.requires.levels.0 c.requires.first
-    (omega (arith, c.begin-begun.ensures.tick, c.if-begun-tick.false)) in
+    (omega (arith, c.begin.ensures.tick, c.if-begun-tick.false)) in
     let p = ap (tick_p ds n f) c.plan_entry-planned.ensures.entry in
     let is = c.finish-row.ensures.value ∙ ap (row_of_entry ds n f) c.plan_entry-planned.ensures.entry in
     let at : Prepared → EntryTicks → Known → Uses → Seen = λ q r known uses. record { plan = q; row = r; known = known; uses = uses } in
@@ -172,9 +172,9 @@ returns-clause-found t c =
     let known_is = c.plan_entry-planned.ensures.known in
     let uses_are : c.finish-row.new.uses.items ≡ uses_of_entry ds n f (entry None s) (side_at None s) (plan s None).reads =
     all-used ds n f _ _ _ _ _ _ _ _ _ c.plan_entry-planned.ensures.entry (ap (λ (k : Known). k.side) known_is) (ap (λ (q : Prepared). q.reads) plan_is)
-    c.new-uses.ensures c.begin-begun.ensures.uses c.finish-row.ensures.uses in
+    c.new-uses.ensures c.begin.ensures.uses c.finish-row.ensures.uses in
     found-look ds n c.args.tick s f _ _ c.args.more _ _ _ _ some
-    (omega (arith, row-p ds n f (entry None s), p, c.begin-begun.ensures.tick, c.if-begun-tick.false))
+    (omega (arith, row-p ds n f (entry None s), p, c.begin.ensures.tick, c.if-begun-tick.false))
     (ap (λ q. at q c.finish-row.result c.plan_entry-planned.result.known c.finish-row.new.uses) plan_is
     ∙ ap (λ r. at (plan s None) r c.plan_entry-planned.result.known c.finish-row.new.uses) is
     ∙ ap (λ known. at (plan s None) (row_of_entry ds n f (entry None s)) known c.finish-row.new.uses) known_is
@@ -190,10 +190,10 @@ returns-clause-late t c =
     let f = c.args.front.now in
     let s = c.args.state.now in
     let some = some-more ds n c.args.more c.args.tick f c.plan_entry-planned.result.entry c.requires.levels.0 c.requires.first
-    (omega (arith, c.begin-begun.ensures.tick, c.if-begun-tick.false)) in
+    (omega (arith, c.begin.ensures.tick, c.if-begun-tick.false)) in
     let p = ap (tick_p ds n f) c.plan_entry-planned.ensures.entry in
     begun-behind ds n c.args.tick s f _ _ c.args.more _ some
-    (omega (arith, row-p ds n f (entry None s), p, c.begin-begun.ensures.tick, c.if-begun-tick.false))
+    (omega (arith, row-p ds n f (entry None s), p, c.begin.ensures.tick, c.if-begun-tick.false))
     (c.guess.ensures ∙ ap (λ q. guessed_state q s) c.plan_entry-planned.ensures.plan)
     (c.finish-row.ensures.after ∙ ap (front_after_entry ds n f) c.plan_entry-planned.ensures.entry)
     c.look.ensures.late
@@ -205,13 +205,13 @@ returns-clause-log t c =
     let f = c.args.front.now in
     let s = c.args.state.now in
     let some = some-more ds n c.args.more c.args.tick f c.plan_entry-planned.result.entry c.requires.levels.0 c.requires.first
-    (omega (arith, c.begin-begun.ensures.tick, c.if-begun-tick.false)) in
+    (omega (arith, c.begin.ensures.tick, c.if-begun-tick.false)) in
     let p = ap (tick_p ds n f) c.plan_entry-planned.ensures.entry in
     log-look ds n c.args.tick s f c.guess.new.state c.finish-row.new.front c.args.more some
-    (omega (arith, row-p ds n f (entry None s), p, c.begin-begun.ensures.tick, c.if-begun-tick.false))
+    (omega (arith, row-p ds n f (entry None s), p, c.begin.ensures.tick, c.if-begun-tick.false))
     (c.guess.ensures ∙ ap (λ q. guessed_state q s) c.plan_entry-planned.ensures.plan)
     (c.finish-row.ensures.after ∙ ap (front_after_entry ds n f) c.plan_entry-planned.ensures.entry) c.args.log.now c.finish-row.new.log c.look.new.log
-    (c.finish-row.ensures.log c.args.log.now c.begin-begun.ensures.log ∙ ap (λ (e : Entry). log_after_reads ds (reads_of_entry ds n f e) f.bus c.args.log.now) c.plan_entry-planned.ensures.entry)
+    (c.finish-row.ensures.log c.args.log.now c.begin.ensures.log ∙ ap (λ (e : Entry). log_after_reads ds (reads_of_entry ds n f e) f.bus c.args.log.now) c.plan_entry-planned.ensures.entry)
     c.look.ensures.log
 
 pub returns-clause-bus : goal.returns-clause-bus
@@ -221,9 +221,9 @@ returns-clause-bus t c =
     let f = c.args.front.now in
     let s = c.args.state.now in
     let some = some-more ds n c.args.more c.args.tick f c.plan_entry-planned.result.entry c.requires.levels.0 c.requires.first
-    (omega (arith, c.begin-begun.ensures.tick, c.if-begun-tick.false)) in
+    (omega (arith, c.begin.ensures.tick, c.if-begun-tick.false)) in
     let p = ap (tick_p ds n f) c.plan_entry-planned.ensures.entry in
     bus-look ds n c.args.tick s f c.guess.new.state c.finish-row.new.front c.args.more some
-    (omega (arith, row-p ds n f (entry None s), p, c.begin-begun.ensures.tick, c.if-begun-tick.false))
+    (omega (arith, row-p ds n f (entry None s), p, c.begin.ensures.tick, c.if-begun-tick.false))
     (c.guess.ensures ∙ ap (λ q. guessed_state q s) c.plan_entry-planned.ensures.plan)
     (c.finish-row.ensures.after ∙ ap (front_after_entry ds n f) c.plan_entry-planned.ensures.entry) c.look.new.front.bus c.look.ensures.bus

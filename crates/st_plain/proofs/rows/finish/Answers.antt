@@ -1,4 +1,4 @@
-use Rattle.std.proofs.Common.{◌≡◌, ◌+◌, ◌-◌, ◌*◌, ◌^◌, refl, sym, subst, ap, arith}
+use Rattle.std.proofs.Common.{◌+◌, ◌-◌, ◌*◌, ◌^◌, refl, sym, subst, ap, arith}
 use Rattle.st_rows.specs.BusTimes.{Reading}
 use Rattle.st_rows.specs.Ranges.{IsReadingWithin}
 use Rattle.st_rows.specs.Rows.{reading_of_fetch, operands, tick_c, row_of_entry, front_after_entry}
