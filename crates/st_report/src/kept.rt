@@ -101,3 +101,13 @@ pub fn two_digits(n: u64) -> [u8; 2]
     let from = n as usize * 2;
     [PAIRS[from], PAIRS[from + 1]]
 }
+
+/// How many of the two digits of a number below 100 are zeros before its own.
+#[inline(always)]
+pub fn zeros_before(n: u64) -> usize
+    requires { n < 100 }
+    ensures few { result ≤ 1 }
+    ensures rest { drop result (two_digits_of n) ≡ decimal n }
+{
+    if n < 10 { 1 } else { 0 }
+}
