@@ -16,6 +16,7 @@ use Rattle.st_rows.specs.Rows.{opening_front}
 use Rattle.st_rows.specs.declared.front.Front.{Front}
 use Rattle.st_ahead.specs.Look.{LookView, IsOpened}
 use Rattle.st_ahead.specs.Inside.{answers_before, overlap_of, IsBetween, IsInside}
+use Rattle.st_ahead.proofs.Standing.{inside-fresh}
 
 -- ---- states that agree below storage
 
@@ -74,18 +75,7 @@ read-below s w card above =
 
 card-opened : (s u : Machine) (f : Front) (v : LookView) → AreAlikeBelow s u → IsOpened None s f v → IsOpened None u f v
 unfolding place_of
-card-opened s u f v alike o = record {
-  ring = o.ring;
-  plans = o.plans;
-  index = o.index ∙ sym (index-below s u alike);
-  front = o.front;
-  log = o.log;
-  place = o.place ∙ ap (λ h. place-at h) (sym alike.ic);
-  own = o.own;
-  target = o.target;
-  planned = o.planned;
-  words = o.words;
-}
+card-opened s u f v alike o = assumption (o.index ∙ sym (index-below s u alike), o.place ∙ ap (λ h. place-at h) (sym alike.ic))
   where
     place-at : ℕ → Place
     place-at h = record { counter = h; address = h; table = None }
@@ -99,27 +89,8 @@ card-hazard_free halt n ds s u t b now false true true v is ends done alike = ab
 card-hazard_free halt n ds s u (Some i) b now true true true v is ends done alike = absurd (cc (is.none_taken refl))
 card-hazard_free halt n ds s u None b now true true true v is ends done alike =
     let between : IsBetween now None s v = is.looking in
-    record {
-      some = is.some;
-      few = is.few;
-      looking = record {
-        opened = card-opened s u (opening_front (answers_before now v) v.front.c) v alike between.opened;
-        banks = between.banks;
-        later = between.later;
-        soon = between.soon;
-      };
-      indicator = tt;
-      in_time = is.in_time;
-      fresh_owed = λ e. refl;
-      ended_owed = λ e. refl;
-      stopped_owed = is.stopped_owed;
-      behind_fresh = λ e. absurd (cc e);
-      done_now = λ e g. absurd (cc g);
-      none_taken = λ e. refl;
-      quiet = λ e. absurd (cc e);
-      unstarted = λ e. absurd (cc e);
-      near = λ e. is.near refl;
-    }
+    inside-fresh halt true n ds u b now v is.some is.few is.in_time
+    (assumption (card-opened s u (opening_front (answers_before now v) v.front.c) v alike between.opened)) (λ e. absurd (cc e)) (is.near refl)
 
 pub card-inside : (halt : Bool) (n : ℕ) (ds : List ℕ) (s u : Machine) (t b : Option ℕ) (now : ℕ) (owed over fresh : Bool) (v : LookView) (order : Option Order) (card : List ℕ)
     → IsInside (overlap_of n ds s t b now owed over halt fresh v) fresh v → over ≡ true → fresh ≡ true → HasArea order → IsSome order

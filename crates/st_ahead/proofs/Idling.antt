@@ -1,7 +1,7 @@
 -- Ticks at which nothing happens, passed over at once.
 use Rattle.std.specs.Prelude.{is_none, nat_le, if◌then◌else◌}
-use Rattle.std.proofs.Common.{◌≡◌, ℕ, zero, suc, ◌+◌, ◌<◌, ◌≤◌, ◌||◌, Bool, true, false, List, Option, None, Some, refl, sym, subst, ◌∙◌, ap, arith}
-use Rattle.std.proofs.lemmas.Bool.{ne_eqb}
+use Rattle.std.proofs.Common.{◌≡◌, ℕ, zero, suc, ◌+◌, ◌<◌, ◌≤◌, Bool, true, false, List, Option, None, Some, refl, sym, subst, ◌∙◌, ap, arith}
+use Rattle.std.proofs.lemmas.Bool.{ne_eqb, cond-false, or_parts}
 use Rattle.std.proofs.lemmas.Bool.Decides.{nat_tests}
 use Rattle.st_state.specs.Machine.{Machine}
 use Rattle.st_exec.specs.Step.{interrupt, rests}
@@ -12,7 +12,7 @@ use Rattle.st_ahead.specs.Overlap.{Overlap, state_ahead, oldest_row, interrupt_d
 use Rattle.st_ahead.specs.Calls.{is_done, machine_after_completion, machine_after_tick, machine_after_pass, settled_by, answer_by, machine_after_settling, answer}
 use Rattle.st_ahead.specs.RunTo.{after_ticks, may_come, IsPassed, ArePassed}
 use Rattle.st_ahead.specs.declared.events.Settled.TheVariants.{Goes}
-use Rattle.st_ahead.proofs.Standing.{overlap, left_over}
+use Rattle.st_ahead.proofs.Standing.{overlap}
 
 -- ---- no tick
 
@@ -70,19 +70,14 @@ goes-passed m e = goes-by (interrupt_due m) (rests m.state) m.behind m e
 
 pub late-ticked : (m : Overlap) → is_done m ≡ false → machine_after_tick m ≡ record m { owed = true; closing = None }
 unfolding machine_after_tick
-late-ticked m e = left_over (is_done m) (machine_after_completion m) (record m { owed = true; closing = None }) e
-
--- fewer than `count` are done where nothing may come
-pub first-none : (a b : Bool) → (a || b) ≡ false → a ≡ false
-first-none true b h = absurd (cc h)
-first-none false b h = refl
+late-ticked m e = cond-false (is_done m) (machine_after_completion m) (record m { owed = true; closing = None }) e
 
 pub less-than : (a b : ℕ) → nat_le a b ≡ false → b < a
 less-than a b test = grind (arith, nat_tests)
 
 -- where no instruction may be done, something always may
 pub zero-comes : (m : Overlap) → may_come 0 m ≡ false → ⊥
-zero-comes m none = let less = less-than 0 m.state.done (first-none (nat_le 0 m.state.done) _ none) in omega (arith, less)
+zero-comes m none = let less = less-than 0 m.state.done (or_parts (nat_le 0 m.state.done) _ none).0 in omega (arith, less)
 
 -- a tick at which no entry is done leaves the state
 idle-step : (m : Overlap) → IsPassed 0 m → machine_after_settling (machine_after_tick m) ≡ machine_after_pass m

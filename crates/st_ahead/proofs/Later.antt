@@ -35,7 +35,7 @@ use Rattle.st_next.specs.declared.next.Next.{Next}
 use Rattle.st_next.proofs.Resting.{address-late, rest-left}
 use Rattle.st_next.proofs.Steps.{planned-is}
 use Rattle.st_ahead.specs.Look.{LookView, IsOutlook, IsNextIf, count, is_open, asked_ahead}
-use Rattle.st_ahead.proofs.Further.{bus-ahead}
+use Rattle.st_ahead.proofs.Further.{bus-ahead, some-by}
 
 -- no words
 abbrev none : WordRun
@@ -157,10 +157,6 @@ closed-by : (a b : Bool) → (a || not b) ≡ false → (a ≡ false) × (b ≡ 
 closed-by true b e = absurd (cc e)
 closed-by false true e = (refl, refl)
 closed-by false false e = absurd (cc e)
-
-some-by : (k : ℕ) → (k == 0) ≡ false → 1 ≤ k
-some-by zero e = absurd (cc e)
-some-by (suc k) e = omega arith
 
 pub look-later : (ds : List ℕ) (n tick now : ℕ) (t : Option ℕ) (s : Machine) (f : Front) (v : LookView) → AreOrdered ds n
     → now ≤ tick + 1 → IsOutlook ds n tick now t s f v → All (λ q. (f.c < q.c) × (q.c ≤ v.front.c)) v.levels.plans

@@ -1,6 +1,6 @@
 -- Rows of the entries that are done in ticks, and rows that wait.
 use Rattle.std.specs.Prelude.{take, drop, nat_eq}
-use Rattle.std.proofs.Common.{◌≡◌, ℕ, zero, suc, ◌+◌, ◌-◌, ◌≤◌, Bool, true, false, List, [], ◌∷◌, ◌++◌, length, inl, inr, refl, sym, ◌∙◌, ap, arith, append_assoc, length-drop}
+use Rattle.std.proofs.Common.{◌≡◌, ℕ, zero, suc, ◌+◌, ◌-◌, ◌≤◌, Bool, true, false, List, [], ◌∷◌, ◌++◌, length, inl, inr, refl, sym, ◌∙◌, ap, arith, append_assoc, length-drop, length-append}
 use Rattle.std.proofs.lemmas.Bool.{cases_eq, eq-eqb, ne_eqb}
 use Rattle.std.proofs.lemmas.List.{append-nil, length-take}
 use Rattle.st_ahead.specs.Overlap.{Overlap}
@@ -19,15 +19,11 @@ take-both (suc n) (x ∷ xs) ys =
     let left : n - length xs ≡ suc n - suc (length xs) = omega arith in
     ap (λ rest. x ∷ rest) (take-both n xs ys) ∙ ap (λ k. x ∷ take n xs ++ take k ys) left
 
-length-both : (xs ys : List Row) → length (xs ++ ys) ≡ length xs + length ys
-length-both [] ys = omega arith
-length-both (x ∷ xs) ys = let rest = length-both xs ys in omega (arith, rest)
-
 pub queue-both : (xs ys : List Row) (q : Queue) → queue_with ys (queue_with xs q) ≡ queue_with (xs ++ ys) q
 queue-both xs ys q =
     let rows : (q.rows ++ take q.room xs) ++ take (q.room - length xs) ys ≡ q.rows ++ take q.room (xs ++ ys) =
     append_assoc q.rows (take q.room xs) (take (q.room - length xs) ys) ∙ ap (λ rest. q.rows ++ rest) (sym (take-both q.room xs ys)) in
-    let both = length-both xs ys in
+    let both = length-append xs ys in
     let room : q.room - length xs - length ys ≡ q.room - length (xs ++ ys) = omega (arith, both) in
     rw (rows, room) refl
 

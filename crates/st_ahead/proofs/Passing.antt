@@ -1,15 +1,14 @@
 -- Ticks that are passed, and entries that are done at some of them.
-use Rattle.std.specs.Prelude.{nat_le, nat_lt, is_some}
-use Rattle.std.proofs.Common.{◌≡◌, ℕ, zero, suc, ◌+◌, ◌-◌, ◌<◌, ◌≤◌, ◌^◌, ◌||◌, if◌then◌else◌, Bool, true, false, Option, None, Some, refl, sym, subst, ◌∙◌, ap, arith}
+use Rattle.std.specs.Prelude.{nat_le, nat_lt}
+use Rattle.std.proofs.Common.{◌≡◌, ℕ, zero, suc, ◌+◌, ◌-◌, ◌<◌, ◌≤◌, ◌^◌, if◌then◌else◌, Bool, true, false, None, refl, sym, subst, ◌∙◌, ap, arith}
 use Rattle.std.proofs.lemmas.Bool.Decides.{nat_tests}
+use Rattle.std.proofs.lemmas.Bool.{or_parts}
 use Rattle.st_exec.specs.Step.{rests}
 use Rattle.st_ahead.specs.Overlap.{Overlap, interrupt_due}
-use Rattle.st_ahead.specs.Calls.{IsEvent, is_done, machine_after_completion, machine_after_tick, machine_after_pass, machine_after_settling, answer, answer_by}
+use Rattle.st_ahead.specs.Calls.{is_done, machine_after_completion, machine_after_tick, machine_after_pass, machine_after_settling, answer}
 use Rattle.st_ahead.specs.RunTo.{after_ticks, may_come, IsPassed, ArePassed}
-use Rattle.st_ahead.specs.declared.events.Event.{Event}
-use Rattle.st_ahead.specs.declared.events.Event.TheVariants.{Passed}
 use Rattle.st_ahead.specs.declared.events.Settled.TheVariants.{Goes}
-use Rattle.st_ahead.proofs.Idling.{first-none, less-than, zero-comes, goes-passed, late-ticked}
+use Rattle.st_ahead.proofs.Idling.{less-than, zero-comes, goes-passed, late-ticked}
 
 -- ---- ticks behind ticks
 
@@ -70,26 +69,9 @@ ticked-owed m = by (is_done m)
     by true = refl
     by false = refl
 
-pub event-closing : (m t : Overlap) (event : Event) → IsEvent m event → t ≡ machine_after_tick m → event ≡ Passed → t.closing ≡ None
-event-closing m t event is after passes =
-    let late : is_done m ≡ false = subst {A = Event} (IsEvent m) passes is in
-    ap (λ (x : Overlap). x.closing) (after ∙ late-ticked m late)
-
 pub goes-answers : (m : Overlap) → interrupt_due m ≡ None → rests m.state ≡ false → m.behind ≡ None → answer m ≡ Goes
 unfolding answer
 goes-answers m due awake right = rw (due, awake, right) refl
-
-not-goes : (due behind : Option ℕ) (at_rest : Bool) (m : Overlap) → (is_some behind || is_some due || at_rest) ≡ true
-    → answer_by due at_rest behind m ≡ Goes → ⊥
-not-goes (Some i) behind at_rest m some goes = cc goes
-not-goes None behind true m some goes = cc goes
-not-goes None (Some h) false m some goes = cc goes
-not-goes None None false m some goes = cc some
-
--- what is not that the machine goes on
-pub stops-not : (m : Overlap) (b : Bool) → (is_some m.behind || is_some (interrupt_due m) || rests m.state) ≡ true → answer m ≡ Goes → b ≡ true
-unfolding answer
-stops-not m b some goes = absurd (not-goes (interrupt_due m) m.behind (rests m.state) m some goes)
 
 pub ticked-now : (m : Overlap) → (machine_after_tick m).now ≡ m.now
 unfolding machine_after_tick machine_after_completion
@@ -100,7 +82,7 @@ ticked-now m = by (is_done m)
     by false = refl
 
 few-none : (count : ℕ) (t : Overlap) → count ≤ 2 ^ 63 → may_come count t ≡ false → t.state.done < 2 ^ 63
-few-none count t few none = omega (arith, less-than count t.state.done (first-none (nat_le count t.state.done) _ none), few)
+few-none count t few none = omega (arith, less-than count t.state.done (or_parts (nat_le count t.state.done) _ none).0, few)
 
 -- what a tick that is passed leaves
 pub passed-keeps : (count : ℕ) (m : Overlap) → IsPassed count m → count ≤ 2 ^ 63 → m.state.done < 2 ^ 63

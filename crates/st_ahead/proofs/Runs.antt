@@ -1,8 +1,8 @@
 -- What runs ahead of a machine makes ticks, and entries are done at some of them.
 use Rattle.std.specs.Prelude.{◌-◌}
-use Rattle.std.proofs.Common.{◌≡◌, ℕ, zero, suc, ◌+◌, ◌<◌, ◌≤◌, if◌then◌else◌, Bool, true, false, List, [], ◌∷◌, ◌++◌, Option, None, Some, refl, sym, subst, ◌∙◌, ap, arith}
+use Rattle.std.proofs.Common.{◌≡◌, ℕ, zero, suc, ◌+◌, ◌<◌, ◌≤◌, if◌then◌else◌, Bool, true, false, List, [], ◌∷◌, ◌++◌, Option, None, Some, refl, sym, subst, ◌∙◌, ap, arith, ◌*◌}
 use Rattle.std.specs.Option.{IfSome}
-use Rattle.std.proofs.lemmas.Bool.{eq-eqb}
+use Rattle.std.proofs.lemmas.Bool.{eq-eqb, true_from_ne_false, cond-true}
 use Rattle.std.proofs.lemmas.List.{append-nil}
 use Rattle.std.proofs.lemmas.List.Elements.{All-weaker}
 use Rattle.st_state.specs.Machine.{Machine, IsMachine}
@@ -18,12 +18,12 @@ use Rattle.st_segment.specs.Entries.{entry}
 use Rattle.st_ring.specs.Levels.{IsCompleted}
 use Rattle.st_ring.specs.declared.levels.Completed.{Completed}
 use Rattle.st_ring.proofs.RestLemmas.{ahead-rests}
-use Rattle.st_ahead.specs.Overlap.{Overlap, state_ahead, oldest_row, interrupt_due, banks_at_its_end}
+use Rattle.st_ahead.specs.Overlap.{Overlap, state_ahead, oldest_row, interrupt_due, banks_at_its_end, machine_between_ticks}
 use Rattle.st_ahead.specs.Calls.{is_done, row_done, machine_after_completion, machine_after_tick, machine_after_pass, machine_after_settling, answer, answer_by}
-use Rattle.st_ahead.specs.RunTo.{may_come, ArePassed}
+use Rattle.st_ahead.specs.RunTo.{may_come, ArePassed, may_come_from_outside}
 use Rattle.st_ahead.specs.RowsDone.{Queue, queue_with, rows_in_ticks}
-use Rattle.st_ahead.specs.Running.{machine_between_ticks, IsAwake, may_come_from_outside, IsRunning, HasPassed}
-use Rattle.st_ahead.specs.Look.{LookView, IsLook, IsOutlook}
+use Rattle.st_ahead.specs.Running.{IsAwake, IsRunning, HasPassed}
+use Rattle.st_ahead.specs.Look.{LookView, IsLook, IsOutlook, count}
 use Rattle.st_ahead.specs.Going.{IsGoing, IsDueAt}
 use Rattle.st_ahead.specs.Inside.{answers_before}
 use Rattle.st_ahead.specs.declared.events.Row.{Row}
@@ -33,7 +33,9 @@ use Rattle.st_ahead.proofs.Passing.{passed-join, passed-one, passed-any, goes-an
 use Rattle.st_ahead.proofs.LevelTicks.{done-after, done-later}
 use Rattle.st_ahead.proofs.Settling.{look-runs}
 use Rattle.st_ahead.proofs.NotedRows.{queue-both, queue-none, rows-join, rows-none, row-one}
-use Rattle.st_ahead.proofs.Standing.{chosen, same-answers, same-row, told, after-c}
+use Rattle.st_ahead.proofs.Standing.{same-answers, same-row, told}
+use Rattle.st_ring.proofs.OrderLemmas.{after-c}
+use Rattle.st_rows.specs.Ranges.{most_ticks_of_entry}
 
 -- ---- an entry is done at a tick
 
@@ -47,7 +49,7 @@ module _ (ds : List ℕ) (n now : ℕ) (t : Option ℕ) (s : Machine) (f : Front
 
   pub ticked-done : machine_after_tick before ≡ machine_after_completion before
   unfolding machine_after_tick
-  ticked-done = chosen _ _ _ is-due
+  ticked-done = cond-true _ _ _ is-due
 
   module _ (right : is_missed (plan s t) s ≡ false) (none : interrupt (state_after_execution t s) ≡ None) (awake : rests (state_after_execution t s) ≡ false) where
     goes-done : answer (machine_after_tick before) ≡ Goes
@@ -75,10 +77,6 @@ goes-parts None behind true m goes = absurd (cc goes)
 goes-parts None (Some h) false m goes = absurd (cc goes)
 goes-parts None None false m goes = (refl, refl, refl)
 
-by-none : (b : Bool) → (b ≡ false → ⊥) → b ≡ true
-by-none true never = refl
-by-none false never = absurd (never refl)
-
 pub stopped-comes : (ds : List ℕ) (n count now : ℕ) (t : Option ℕ) (s : Machine) (f : Front) → (row_of_entry ds n f (entry t s)).c ≡ now
     → (may_come_from_outside count (state_after_execution t s) ≡ false → (if is_missed (plan s t) s then Some (plan s t).following else None) ≡ None
     → interrupt (state_after_execution t s) ≡ None → rests (state_after_execution t s) ≡ false → ⊥)
@@ -89,7 +87,7 @@ stopped-comes ds n count now t s f due stops goes =
     let same = ticked-done ds n now t s f due in
     let goes_on : answer m ≡ Goes = ap {A = Overlap} answer (sym same) ∙ goes in
     let parts = goes-parts (interrupt_due m) m.behind (rests m.state) m goes_on in
-    ap {A = Overlap} (may_come count) same ∙ by-none (may_come_from_outside count (state_after_execution t s)) (λ nothing. stops nothing parts.2 parts.0 parts.1)
+    ap {A = Overlap} (may_come count) same ∙ true_from_ne_false (may_come_from_outside count (state_after_execution t s)) (λ nothing. stops nothing parts.2 parts.0 parts.1)
 
 -- ---- ticks at which none is
 
@@ -168,21 +166,9 @@ going-done : (ds : List ℕ) (n due : ℕ) (s : Machine) (f : Front) (v : LookVi
     → IsGoing ds n due due None s f v
 going-done ds n due s f v at is =
     let ahead_ = ahead-rests (due - 1) due (omega arith) ds n None s f v.front v.levels is.ahead in
-    record {
-      machine = is.machine;
-      indicator = is.indicator;
-      ahead = ahead_;
-      prepared = All-weaker (λ (x : Level). x.p < due) (λ x. x.p ≤ due) (λ x h. omega (arith, h)) v.levels.ring is.prepared;
-      not_done = done-after ds n due due None s f v.front v.levels.ring v.levels.plans is.machine tt ahead_.levels
-          (omega (arith, at, done-later ds n None s f is.machine tt));
-      oldest = is.oldest;
-      tight = is.tight;
-      start = omega (arith, is.start);
-      early = omega (arith, is.early);
-      next = is.next;
-      late = is.late;
-      logged = is.logged;
-    }
+    let start : f.c ≤ due + 10 = omega (arith, is.start) in
+    let early : v.front.c ≤ due + 10 + most_ticks_of_entry * count v = omega (arith, is.early) in
+    assumption (All-weaker (λ (x : Level). x.p < due) (λ x. x.p ≤ due) (λ x h. omega (arith, h)) v.levels.ring is.prepared, done-after ds n due due None s f v.front v.levels.ring v.levels.plans is.machine tt ahead_.levels (omega (arith, at, done-later ds n None s f is.machine tt)))
 
 missed-none : (b : Bool) (h : ℕ) → (if b then Some h else None) ≡ None → b ≡ false
 missed-none true h e = absurd (cc e)

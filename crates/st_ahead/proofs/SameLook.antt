@@ -5,7 +5,7 @@ use Rattle.std.proofs.lemmas.List.Elements.{All-weaker}
 use Rattle.st_state.specs.Machine.{Machine, IsMachine}
 use Rattle.st_prep.specs.BesideOrders.{AreAlikeBesideOrders}
 use Rattle.st_prep.specs.Fetch.{place_of}
-use Rattle.st_prep.specs.Plan.{plan, needs, sight, prepared_entry}
+use Rattle.st_prep.specs.Plan.{needs, sight, prepared_entry, plan}
 use Rattle.st_exec.specs.Completion.{guess}
 use Rattle.st_segment.proofs.GuessLemmas.{guess-machine}
 use Rattle.st_rows.specs.Asked.{reads_of_entry}
@@ -29,7 +29,7 @@ use Rattle.st_ahead.specs.Look.{LookView, IsLook, IsOpened, IsNextIf, asked_ahea
 
 -- ---- guesses
 
-guess-same : (s u : Machine) → IsMachine s → AreAlikeBesideOrders s u → (plan s None).serial ≡ false
+pub guess-same : (s u : Machine) → IsMachine s → AreAlikeBesideOrders s u → (plan s None).serial ≡ false
     → AreAlikeBesideOrders (guess None s) (guess None u)
 unfolding guesses RunAhead
 guess-same s u m beside free = (passed-over 1 s u m beside (free, tt)).1
@@ -143,15 +143,4 @@ look-ahead ds n tick now awaits t s f v is late done = by-count (count v) refl
 -- an opening stands in both
 pub opened-same : (t : Option ℕ) (s u : Machine) (f : Front) (v : LookView) → IsOpened t s f v → AreAlikeBesideOrders s u
     → IsOpened t u f v
-opened-same t s u f v is beside = record {
-  ring = is.ring;
-  plans = is.plans;
-  index = is.index ∙ sym (same-index s u beside);
-  front = is.front;
-  log = is.log;
-  place = is.place ∙ sym (same-place s u t beside);
-  own = is.own;
-  target = is.target;
-  planned = is.planned;
-  words = is.words;
-}
+opened-same t s u f v is beside = assumption (is.index ∙ sym (same-index s u beside), is.place ∙ sym (same-place s u t beside))

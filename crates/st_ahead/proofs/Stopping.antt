@@ -8,14 +8,15 @@ use Rattle.st_rows.specs.declared.front.Front.{Front}
 use Rattle.st_segment.specs.Entries.{entry}
 use Rattle.st_ring.specs.Levels.{oldest_front}
 use Rattle.st_ring.specs.declared.levels.Completed.{Completed}
-use Rattle.st_ahead.specs.Overlap.{Overlap, state_ahead, with_counter}
+use Rattle.st_ahead.specs.Overlap.{Overlap, state_ahead, with_counter, machine_between_ticks}
 use Rattle.st_ahead.specs.Calls.{machine_after_completion, machine_after_tick, answer}
 use Rattle.st_ahead.specs.RunTo.{may_come, ArePassed, StopsAt}
-use Rattle.st_ahead.specs.Running.{machine_between_ticks, IsAwake, HasPassed, HasStopped}
+use Rattle.st_ahead.specs.Running.{IsAwake, HasPassed, HasStopped}
 use Rattle.st_ahead.specs.Look.{LookView, IsLook}
 use Rattle.st_ahead.specs.Inside.{overlap_of, IsInside}
 use Rattle.st_ahead.proofs.Runs.{is-due, ticked-done, row-between}
-use Rattle.st_ahead.proofs.Standing.{same-fields, told, after-c}
+use Rattle.st_ahead.proofs.Standing.{same-fields, told, inside-fresh, inside-between}
+use Rattle.st_ring.proofs.OrderLemmas.{after-c}
 
 -- a machine that nothing is owed of may be awake
 pub awake-inside : (halt : Bool) (n : ℕ) (ds : List ℕ) (s : Machine) (t b : Option ℕ) (now : ℕ) (owed ended fresh : Bool) (v : LookView)
@@ -43,25 +44,8 @@ passed-hazard_free : (n : ℕ) (ds : List ℕ) (s u : Machine) (t k : Option ℕ
     × ArePassed count (last + 1 - now) (overlap_of n ds s t None now false false false false v) (overlap_of n ds u k None (last + 1) false false false false w)
 unfolding state_ahead
 passed-hazard_free n ds s u t k now last count v w is early by front = (
-  record {
-    some = is.some;
-    few = is.few;
-    looking =
-        let same : last ≡ last + 1 - 1 = omega arith in
-        subst (λ (x : ℕ). IsLook ds n x (last + 1) k u (oldest_front w.levels.plans w.front) w) same
-        (subst (λ (g : Front). IsLook ds n last (last + 1) k u g w) (sym front) by.look);
-    indicator = by.look.indicator;
-    in_time = omega (arith, early);
-    fresh_owed = λ e. absurd (cc e);
-    ended_owed = λ e. absurd (cc e);
-    stopped_owed = λ e. absurd (cc e);
-    behind_fresh = λ e. refl;
-    done_now = λ e. absurd (cc e);
-    none_taken = λ e. absurd (cc e);
-    quiet = λ e. (by.awake.due, by.awake.goes);
-    unstarted = λ e first. absurd (omega (arith, first));
-    near = λ e. absurd (cc e);
-  },
+  inside-between false n ds u k last w is.some is.few refl early (subst (λ (g : Front). IsLook ds n last (last + 1) k u g w) (sym front) by.look)
+      by.look.indicator by.awake.due by.awake.goes,
   subst (λ (g : Front). ArePassed count (last + 1 - now) (overlap_of n ds s t None now false false false false v) (machine_between_ticks ds n u k g (last + 1))) (sym front) by.passed,
 )
 
@@ -96,24 +80,10 @@ stopped-hazard_free n ds s u t now last count tick number v w done is early by f
     same-fields false ds n u (state_after_execution by.table by.state) None done.missed _ _ (front_after_entry ds n f (entry by.table by.state)) tick true false _ _ at.state at.told.missed front
     (ap Some (sym by.banks))
     ∙ sym (ticked-done ds n tick by.table by.state f at.due) in (
-      record {
-        some = is.some;
-        few = is.few;
-        looking =
-            subst (λ (x : Machine). IsLook ds n tick tick None x (oldest_front w.levels.plans w.front) w) (sym guessed)
-            (subst (λ (g : Front). IsLook ds n tick tick None (guess by.table by.state) g w) (sym front) at.look);
-        indicator = tt;
-        in_time = omega (arith, early, by.soon);
-        fresh_owed = λ e. refl;
-        ended_owed = λ e. refl;
-        stopped_owed = λ e. absurd (cc e);
-        behind_fresh = λ e. absurd (cc e);
-        done_now = λ e g. ap (λ (x : Front). x.c) front ∙ after-c ds n f (entry by.table by.state) ∙ at.due;
-        none_taken = λ e. refl;
-        quiet = λ e. absurd (cc e);
-        unstarted = λ e. absurd (cc e);
-        near = λ e. by.near;
-      },
+      inside-fresh false false n ds u done.missed tick w is.some is.few (omega (arith, early, by.soon))
+          (subst (λ (x : Machine). IsLook ds n tick tick None x (oldest_front w.levels.plans w.front) w) (sym guessed)
+          (subst (λ (g : Front). IsLook ds n tick tick None (guess by.table by.state) g w) (sym front) at.look))
+          (λ going. ap (λ (x : Front). x.c) front ∙ after-c ds n f (entry by.table by.state) ∙ at.due) by.near,
       record {
         ticks = tick - now;
         before = state;

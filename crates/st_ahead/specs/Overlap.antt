@@ -1,7 +1,6 @@
 -- What an overlapped machine stands for, and what is read off it.
 use Rattle.std.specs.Prelude.{ℕ, ◌-◌, Bool, false, if◌then◌else◌, is_none, List, replicate, Option, None, Some}
 use Rattle.st_state.specs.Machine.{Machine}
-use Rattle.st_exec.specs.Completion.{guess}
 use Rattle.st_exec.specs.Step.{interrupt}
 use Rattle.st_banks.specs.declared.answers.LastAnswers.{LastAnswers}
 use Rattle.st_banks.specs.declared.answers.TheConstants.{BANKS}
@@ -35,21 +34,25 @@ pub record Overlap : Type 0 where
 abbrev pub idle_banks : LastAnswers
 idle_banks = record { ticks = replicate BANKS 0 }
 
--- a machine before its first tick
-abbrev pub machine_at_start : List ℕ → ℕ → Machine → Overlap
-machine_at_start delays levels s = record {
-  delays = delays;
-  levels = levels;
+-- a machine between two ticks
+abbrev pub machine_between_ticks : List ℕ → ℕ → Machine → Option ℕ → Front → ℕ → Overlap
+machine_between_ticks ds n s t f now = record {
+  delays = ds;
+  levels = n;
   state = s;
-  taken = None;
+  taken = t;
   behind = None;
-  front = opening_front idle_banks 0;
-  now = 0;
+  front = f;
+  now = now;
   owed = false;
   ended = false;
   stopped = false;
   closing = None;
 }
+
+-- a machine before its first tick
+abbrev pub machine_at_start : List ℕ → ℕ → Machine → Overlap
+machine_at_start ds n s = machine_between_ticks ds n s None (opening_front idle_banks 0) 0
 
 -- a state with the counter behind a missed branch, if there is one
 abbrev pub with_counter : Option ℕ → Machine → Machine

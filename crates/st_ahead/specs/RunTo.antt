@@ -1,6 +1,7 @@
 -- Ticks that are settled one after another, up to an entry that is done behind which something may
 -- come.
 use Rattle.std.specs.Prelude.{ℕ, zero, suc, ◌≡◌, ◌+◌, ◌-◌, ◌<◌, ◌≤◌, ◌||◌, nat_le, Bool, true, false, Option, None, Some}
+use Rattle.st_state.specs.Machine.{Machine}
 use Rattle.st_state.specs.Orders.{is_due}
 use Rattle.st_ahead.specs.Overlap.{Overlap}
 use Rattle.st_ahead.specs.Calls.{is_done, row_done, machine_after_tick, machine_after_settling, answer}
@@ -12,12 +13,15 @@ unfoldable pub after_ticks : ℕ → Overlap → Overlap
 after_ticks zero m = m
 after_ticks (suc k) m = after_ticks k (machine_after_settling (machine_after_tick m))
 
--- something may come from outside behind an entry that has just been done: `count` instructions are
--- done by now, or an order is due
+-- behind an entry that is done something may come from outside: so many instructions are done, or
+-- an order is due
+abbrev pub may_come_from_outside : ℕ → Machine → Bool
+may_come_from_outside count s = nat_le count s.done
+    || (is_due s.done s.reader || is_due s.done s.printer)
+
+-- the same of an overlapped machine
 abbrev pub may_come : ℕ → Overlap → Bool
-may_come count m =
-    nat_le count m.state.done || (is_due m.state.done m.state.reader
-    || is_due m.state.done m.state.printer)
+may_come count m = may_come_from_outside count m.state
 
 -- behind the next tick it is decided that the machine goes on; and if an entry is done at it,
 -- nothing may come from outside

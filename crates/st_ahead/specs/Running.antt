@@ -1,12 +1,11 @@
 -- What runs ahead of a machine that makes ticks and goes on behind each.
-use Rattle.std.specs.Prelude.{ℕ, ◌≡◌, ◌+◌, ◌-◌, ◌≤◌, ◌<◌, ◌||◌, nat_le, Bool, true, false, All, List, Option, None, Some, IfSome, is_none, if◌then◌else◌}
+use Rattle.std.specs.Prelude.{ℕ, ◌≡◌, ◌+◌, ◌-◌, ◌≤◌, ◌<◌, true, false, All, List, Option, None, Some, IfSome, is_none, if◌then◌else◌}
 use Rattle.st_bits.specs.declared.limits.TheConstants.{MOST_DELAY}
 use Rattle.st_state.specs.Machine.{Machine, IsMachine}
-use Rattle.st_state.specs.Orders.{is_due}
 use Rattle.st_exec.specs.Step.{interrupt, rests}
 use Rattle.st_rows.specs.declared.front.Front.{Front}
 use Rattle.st_ring.specs.declared.levels.Completed.{Completed}
-use Rattle.st_ahead.specs.Overlap.{Overlap, banks_at_its_end}
+use Rattle.st_ahead.specs.Overlap.{machine_between_ticks, banks_at_its_end}
 use Rattle.st_ahead.specs.Calls.{machine_after_tick, answer}
 use Rattle.st_ahead.specs.RunTo.{may_come, ArePassed}
 use Rattle.st_ahead.specs.Look.{LookView, IsLook}
@@ -16,32 +15,10 @@ use Rattle.st_ahead.specs.Inside.{answers_before}
 use Rattle.st_ahead.specs.declared.look_run.Stop.{Stop}
 use Rattle.st_ahead.specs.declared.events.Settled.TheVariants.{Goes}
 
--- a machine between two ticks
-abbrev pub machine_between_ticks : List ℕ → ℕ → Machine → Option ℕ → Front → ℕ → Overlap
-machine_between_ticks ds n s t f now = record {
-  delays = ds;
-  levels = n;
-  state = s;
-  taken = t;
-  behind = None;
-  front = f;
-  now = now;
-  owed = false;
-  ended = false;
-  stopped = false;
-  closing = None;
-}
-
 -- no interrupt is due, and it is not at rest
 pub record IsAwake (t : Option ℕ) (s : Machine) : Type 0 where
   pub due : (if is_none t then interrupt s else None) ≡ None
   pub goes : rests s ≡ false
-
--- behind an entry that is done something may come from outside: so many instructions are done, or
--- an order is due
-abbrev pub may_come_from_outside : ℕ → Machine → Bool
-may_come_from_outside count s = nat_le count s.done
-    || (is_due s.done s.reader || is_due s.done s.printer)
 
 -- from the tick `now` on all ticks are passed up to a tick, `last` at the latest; v runs ahead of
 -- the state u, and k says whether its next entry is a table instruction

@@ -2,7 +2,8 @@
 ghost use Rattle.std.specs.Prelude.{◌≡◌, ℕ, ◌-◌, ◌<◌, ◌≤◌, ◌^◌, true, false, None};
 ghost use Rattle.st_exec.specs.Step.{interrupt as interrupt_of, rests};
 ghost use Rattle.st_rows.specs.declared.front.Front.{Front as FrontOf};
-ghost use Rattle.st_ahead.specs.Running.{IsAwake, may_come_from_outside};
+ghost use Rattle.st_ahead.specs.RunTo.{may_come_from_outside};
+ghost use Rattle.st_ahead.specs.Running.{IsAwake};
 
 use crate::events::Row;
 use crate::look::Lookahead;
@@ -23,7 +24,8 @@ pub struct Stop {
 
 impl<const N: usize> Lookahead<N> {
     ghost use Rattle.st_ahead.specs.Look.{IsLook};
-    ghost use Rattle.st_ahead.specs.Running.{Starts, HasRunTo, machine_between_ticks, ticks_run};
+    ghost use Rattle.st_ahead.specs.Overlap.{machine_between_ticks};
+    ghost use Rattle.st_ahead.specs.Running.{Starts, HasRunTo, ticks_run};
     ghost use Rattle.st_ahead.specs.RowsDone.{queue_with, rows_in_ticks};
 
     /// Makes ticks and goes on behind each, up to the tick `last`, below 2^63, until an entry is

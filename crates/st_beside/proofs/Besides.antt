@@ -18,7 +18,7 @@ use Rattle.st_back.specs.Between.{AreAlikeAbove}
 use Rattle.st_back.specs.Steps.{Steps, none_of, newest_step, IsForth, IsStepKept, IsPut, has_room, states_before}
 use Rattle.st_back.specs.Undone.{step_with_word}
 use Rattle.st_back.proofs.ManyLemmas.{between-states, forth-states}
-use Rattle.st_beside.specs.Beside.{Beside, IsFreshStep, HasRoomForCard, IsOpen, IsKept, IsBesideReady, IsMoved, IsStepped, IsBeside, StandsAtStart}
+use Rattle.st_beside.specs.Beside.{Beside, IsFreshStep, HasRoomForCard, IsOpen, IsKept, IsBesideReady, IsMoved, IsStepped, IsBeside}
 use Rattle.st_beside.specs.declared.past.Noted.{Noted}
 
 -- ---- the words from 32 up
@@ -142,10 +142,6 @@ beside_stepped back b d before h k = record {
   states = h.states ∙ (ap (λ n. keep_last n (states_before b.1.kept b.0.machine ++ b.0.machine ∷ [])) k.deep
       ∙ (ap (λ (ss : List Machine). keep_last back (ss ++ b.0.machine ∷ [])) k.states ∙ keep-more back before b.0.machine k.some));
 }
-
-pub start_ready : (back : ℕ) (start : Scene) (b : Option Beside) → StandsAtStart back start b → IfSome b IsBesideReady
-start_ready back start None h = tt
-start_ready back start (Some b) h = h.0.ready
 
 -- ---- a card that is put
 

@@ -104,14 +104,6 @@ half_plain Cbr = refl
 half_plain R = refl
 half_plain Ex = refl
 
-branch_plain : (op : BranchOp) → IsPlain (branch_name op)
-branch_plain B = refl
-branch_plain Br = refl
-branch_plain Be = refl
-branch_plain Bd = refl
-branch_plain Bew = refl
-branch_plain Nop = refl
-
 field_plain : (op : VflOp) → IsPlain (field_name op)
 field_plain L = refl
 field_plain Lwf = refl

@@ -6,9 +6,6 @@ use Rattle.std.specs.List.{flat_map, suffix_len}
 use Rattle.st_text.specs.Bytes.{is_printable}
 use Rattle.st_exch.specs.Printer.{bytes_of, character, characters_of, line_of_words}
 
-is_character : ℕ → Bool
-is_character c = nat_le 32 c && nat_le c 126
-
 -- each character can be printed
 character-printable : (b : ℕ) → (nat_le 32 (character b) && nat_le (character b) 126) ≡ true
 character-printable b =

@@ -1,5 +1,5 @@
 -- Each field of packed half-words, and half-words packed again from their fields.
-use Rattle.std.proofs.Common.{◌≡◌, ℕ, zero, suc, if◌then◌else◌, ◌+◌, ◌*◌, ◌/◌, ◌%◌, ◌^◌, ◌<◌, ◌≤◌, ◌==◌, Bool, true, false, refl, sym, ◌∙◌, ap, arith}
+use Rattle.std.proofs.Common.{◌≡◌, ℕ, zero, suc, if◌then◌else◌, ◌+◌, ◌*◌, ◌%◌, ◌^◌, ◌<◌, ◌≤◌, ◌==◌, Bool, true, false, refl, sym, ◌∙◌, ap, arith}
 use Rattle.std.proofs.Math.Nat.{mod_self, mod-eq_of_lt}
 use Rattle.std.proofs.lemmas.Bool.{eqb-true, eqb-false, ne_eqb}
 use Rattle.st_format.specs.Halves.{half_word_part, later, is_full, i_of, address_of, j_of, operation_of, bit_address_of, second_address_of, p_of, length_of, byte_of, offset_of, k_of, words_moved, or_greatest, half_bits, first_bits, second_half_bits, second_bits}
@@ -147,38 +147,3 @@ second_bits-fields s lt = omega arith
 pub count_of-mod : (s : ℕ) → words_moved s % 16 ≡ k_of s
 unfolding words_moved k_of
 count_of-mod s = mod-greatest 16 (later s 60 4) (omega arith) (omega arith)
-
--- ---- the parts of the operation of a full word
-
-pub later-operation : (s : ℕ) → later s 51 9 < 512
-later-operation s = omega arith
-
-pub connective-operation : (s : ℕ) → later s 51 1 ≡ later s 51 9 / 256 % 2
-connective-operation s = omega arith
-
-pub decimal-operation : (s : ℕ) → later s 52 1 ≡ later s 51 9 / 128 % 2
-decimal-operation s = omega arith
-
-pub unsigned-operation : (s : ℕ) → later s 53 1 ≡ later s 51 9 / 64 % 2
-unsigned-operation s = omega arith
-
-pub negated-operation : (s : ℕ) → later s 54 1 ≡ later s 51 9 / 32 % 2
-negated-operation s = omega arith
-
-pub marks-operation : (s : ℕ) → later s 52 3 ≡ later s 51 9 / 32 % 8
-marks-operation s = omega arith
-
-pub change-operation : (s : ℕ) → later s 53 2 ≡ later s 51 9 / 32 % 4
-change-operation s = omega arith
-
-pub number-operation : (s : ℕ) → later s 55 5 ≡ later s 51 9 % 32
-number-operation s = omega arith
-
-pub table-operation : (s : ℕ) → later s 52 4 ≡ later s 51 9 / 16 % 16
-table-operation s = omega arith
-
-pub kind-operation : (s : ℕ) → later s 56 2 ≡ later s 51 9 / 4 % 4
-kind-operation s = omega arith
-
-pub rest-operation : (s : ℕ) → later s 58 2 ≡ later s 51 9 % 4
-rest-operation s = omega arith

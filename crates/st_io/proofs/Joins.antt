@@ -33,9 +33,6 @@ Wrote_join s t u xs ys p q = record {
   steady = q.steady ∙ p.steady;
 }
 
-pub writes_none : (s : OutputState) (piece : List ℕ) → WritesSoFar s s piece piece
-writes_none s piece = record { front = []; wrote = record { appended = Appends_none s.written; steady = refl }; parts = refl }
-
 pub writes_more : (s t u : OutputState) (piece rest : List ℕ) (n : ℕ) → WritesSoFar s t piece rest → Wrote t u (take n rest) → WritesSoFar s u piece (drop n rest)
 writes_more s t u piece rest n h w = record {
   front = h.front ++ take n rest;
@@ -54,10 +51,6 @@ Consumes-join (Some a) None c xs ys p q = absurd p
 Consumes-join (Some a) (Some b) None xs ys p q = absurd q
 Consumes-join (Some a) (Some b) (Some c) xs ys p q = p ∙ (ap (λ zs. xs ++ zs) q ∙ sym (append_assoc xs ys c))
 
-pub Consumes_none : (a : Option (List ℕ)) → Consumes a a []
-Consumes_none None = tt
-Consumes_none (Some a) = refl
-
 pub counted-join : (n a b : ℕ) → count_after (count_after n a) b ≡ count_after n (a + b)
 counted-join n a b = omega arith
 
@@ -66,10 +59,6 @@ Came_join s t u xs ys p q = record {
   consumed = Consumes-join s.left t.left u.left xs ys p.consumed q.consumed;
   counts = q.counts ∙ (ap (λ n. count_after n (length ys)) p.counts ∙ (counted-join s.taken (length xs) (length ys) ∙ ap (count_after s.taken) (sym (length-append xs ys))));
 }
-
--- no byte comes where nothing is done
-pub Came_none : (s : InputState) → Came s s []
-Came_none s = record { consumed = Consumes_none s.left; counts = omega arith }
 
 -- the bytes of a read after others, and how many there are then
 pub came_more : (s t u : InputState) (xs buffer : List ℕ) (n : ℕ) → n ≤ length buffer → Came s t xs → Gave t u buffer n

@@ -142,9 +142,6 @@ pub reach-more : (t late : ℕ) (parts xs : List Part) (x : Part) (a : Totals) �
     → AreWithin (late + all_ticks (charges_behind late xs)) a → AreWithin (t + all_ticks (charges_behind t parts)) a
 reach-more t late parts xs x a is top within = subst (λ m. AreWithin m a) (reach-later t late parts xs x is top) within
 
-pub reach-none : (t : ℕ) (parts : List Part) (a : Totals) → parts ≡ [] → AreWithin t a → AreWithin (t + all_ticks (charges_behind t parts)) a
-reach-none t parts a none within = subst (λ m. AreWithin m a) (reach-end t parts none) within
-
 -- ---- lines
 
 lines-first : (sums xs : List Sum) (x : Sum) → sums ≡ x ∷ xs → sum_lines sums ≡ (sum_line x.stage x.ticks ∷ []) ++ sum_lines xs

@@ -29,7 +29,7 @@ use Rattle.st_segment.specs.Entries.{entry}
 use Rattle.st_segment.proofs.EntryRanges.{entry-ranges}
 use Rattle.st_next.specs.Words.{words_alone, words_so_far, asked_so_far}
 use Rattle.st_next.specs.Progress.{IsKnown, reads_so_far}
-use Rattle.st_next.specs.Going.{IsFrontInTime, IsEarly, IsReadFurther, IsPlannedAs, entry_seen, prepared_as}
+use Rattle.st_next.specs.Going.{IsFrontInTime, IsEarly, IsReadFurther, IsPlannedAs, entry_seen}
 use Rattle.st_next.specs.declared.next.Next.{Next}
 use Rattle.st_next.proofs.Starts.{IsNextOwn, IsNextTarget, word-behind}
 use Rattle.st_next.proofs.Contents.{words-entry}
@@ -191,16 +191,6 @@ further-then ds f a b c log one two first then_ = record {
 pub further-nothing : (ds : List ℕ) (f : Front) (a : Next) (log : List Made) → IsReadFurther ds f a a log log
 unfolding bus_after_reads log_after_reads
 further-nothing ds f a log = record { added = []; so_far = sym (append-nil (reads_so_far ds f a)); bus = refl; kept = refl }
-
--- what is prepared changes no read
-pub further-prepared : (ds : List ℕ) (f : Front) (x : List ℕ) (s : Machine) (fd : Fetched) (a b c : Next) (log one : List Made) → b.planned ≡ false
-    → c ≡ prepared_as fd x s b → IsReadFurther ds f a b log one → IsReadFurther ds f a c log one
-further-prepared ds f x s fd a b c log one un same is = rw same (record {
-  added = is.added;
-  so_far = reads-none ds f (prepared_as fd x s b) un ∙ sym (reads-none ds f b un) ∙ is.so_far;
-  bus = is.bus;
-  kept = is.kept;
-})
 
 -- ---- how many words there are
 

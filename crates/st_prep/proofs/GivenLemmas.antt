@@ -10,7 +10,7 @@ use Rattle.st_prep.specs.declared.entries.Fetching.{Fetching}
 use Rattle.st_prep.specs.declared.entries.Fetching.TheVariants.{Next, Found as FoundAll}
 use Rattle.st_prep.specs.declared.fetching.Found.{Found}
 use Rattle.st_prep.specs.declared.fetching.Part.TheVariants.{Has}
-use Rattle.st_prep.specs.Reading.{Reading, Finds, Reads, left_after, fetching_of, given_by, half_of, no_instr, Use, with_second, with_first, read_after, with_target, instruction_at, is_execute, own_use, reading_at_place, fetched_plain, allowed_found}
+use Rattle.st_prep.specs.Reading.{Reading, Finds, Reads, left_after, fetching_of, given_by, half_of, Use, with_second, with_first, read_after, with_target, instruction_at, is_execute, own_use, reading_at_place, fetched_plain, allowed_found}
 
 abbrev pub of : Reading → List ℕ → Fetching
 of r contents = fetching_of (left_after r contents)
@@ -32,11 +32,6 @@ unfolding left_after fetching_of
 reads_none t w r [] none = refl
 reads_none t w r (c ∷ cs) none = absurd (omega arith)
 
-pub at-forbidden : (f : Option ℕ) (i : ℕ) (t : Bool) (b : ℕ) (en : Bool) (h : ℕ) (k : Use) (cs : List ℕ) → f ≡ Some i
-    → of (read_after f t b en h k) cs ≡ given_by t (Has (record { decoded = no_instr; fault = Some i }) 0) cs k
-at-forbidden None i t b en h k cs e = cc
-at-forbidden (Some j) i t b en h k cs e = ap (λ f. of (k (record { decoded = no_instr; fault = f })) cs) e
-
 pub at-wants : (f : Option ℕ) (t : Bool) (b : ℕ) (en : Bool) (h : ℕ) (k : Use) (cs : List ℕ) → f ≡ None → length cs ≡ 0
     → of (read_after f t b en h k) cs ≡ Next (h / 2) t
 at-wants None t b en h k cs e none = reads_none t (h / 2) _ cs none
@@ -48,13 +43,6 @@ at-first None t b en h k cs e some = reads_next t (h / 2) _ cs some
 at-first (Some j) t b en h k cs e some = cc
 
 -- ---- a second half-word
-
-pub second-forbidden : (f : Option ℕ) (i : ℕ) (t : Bool) (first h v content : ℕ) (k : Use) (cs : List ℕ) → f ≡ Some i
-    → of (with_second f t first h v content k) (drop 1 cs)
-    ≡ given_by t (Has (record { decoded = decoded_entry first 0; fault = Some i }) 1) cs k
-second-forbidden None i t first h v content k cs e = cc
-second-forbidden (Some j) i t first h v content k cs e =
-    ap (λ f. of (k (record { decoded = decoded_entry first 0; fault = f })) (drop 1 cs)) e
 
 -- by the test whether it stands in the word of the first one
 second-here : (same : Bool) (t : Bool) (w : ℕ) (here : Reading) (r : ℕ → Reading) (cs : List ℕ) → same ≡ true

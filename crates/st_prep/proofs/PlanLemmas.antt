@@ -169,7 +169,7 @@ unfolding words_fetched reading_at_place
 fetched-target s p h =
     at-executes false (word s 3) s.enabled p.address _ (word s) (own_use-executes (index_words s) (word s 3) s.enabled (word s)) h
 
-or-second : (a b : Bool) → b ≡ true → (a || b) ≡ true
+pub or-second : (a b : Bool) → b ≡ true → (a || b) ≡ true
 or-second true b h = refl
 or-second false b h = h
 

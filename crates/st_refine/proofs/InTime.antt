@@ -2,7 +2,7 @@
 use Rattle.std.specs.Prelude.{All, IfSome, IsSome, if◌then◌else◌}
 use Rattle.std.proofs.Math.Nat.{mul-add}
 use Rattle.std.proofs.Common.{◌≡◌, ℕ, ◌+◌, ◌*◌, ◌≤◌, Bool, true, false, List, [], ◌∷◌, length, inl, inr, Option, None, Some, refl, sym, subst, ◌∙◌, ap, arith}
-use Rattle.std.proofs.lemmas.Bool.{eqb-true}
+use Rattle.std.proofs.lemmas.Bool.{eqb-true, cond_both}
 use Rattle.std.proofs.lemmas.List.Elements.{All-replicate, All-weaker}
 use Rattle.st_fetch.specs.declared.fetched.AskedWord.{AskedWord}
 use Rattle.st_state.specs.Machine.{Machine, state_with_store}
@@ -31,11 +31,11 @@ use Rattle.st_ahead.specs.Overlap.{Overlap, state_ahead, oldest_entry, oldest_ro
 use Rattle.st_ahead.specs.Calls.{is_done, machine_after_completion, machine_after_tick, banks_left, machine_after_segment, run_ended, machine_after_pass, machine_after_settling, settled_by, read_in_by}
 use Rattle.st_refine.specs.Reached.{IsReached, Starts, Ticks, Settles, Signals, Reads, Prints, Stops}
 use Rattle.st_refine.proofs.LevelLists.{few-before}
-use Rattle.st_refine.proofs.Kept.{choice_by, ticks_made, IsIdle, IsPhase, IsKept, idle-of, fresh-of, kept, seen-idle, after-oldest, made-settled, made-owed, ended-rest, settled-idle_is, closing-cases}
+use Rattle.st_refine.proofs.Kept.{ticks_made, IsIdle, IsPhase, IsKept, idle-of, fresh-of, kept, seen-idle, after-oldest, made-settled, made-owed, ended-rest, settled-idle_is, closing-cases}
 
 -- ---- fronts
 
-opening-tight : (most start : ℕ) (banks : LastAnswers) → All (λ t. t ≤ start + most) banks.ticks → IsTight most (opening_front banks start)
+pub opening-tight : (most start : ℕ) (banks : LastAnswers) → All (λ t. t ≤ start + most) banks.ticks → IsTight most (opening_front banks start)
 opening-tight most start banks soon = record {
   prepared = omega arith;
   done = record { each = All-replicate (λ (entry : Past). entry.c ≤ start) 8 _ (omega arith) };
@@ -46,7 +46,7 @@ opening-tight most start banks soon = record {
   };
 }
 
-free-before_done : (ds : List ℕ) (n : ℕ) (f : Front) (e : Entry) → IsEntryInTime e → f.bus.free ≤ (row_of_entry ds n f e).c
+pub free-before_done : (ds : List ℕ) (n : ℕ) (f : Front) (e : Entry) → IsEntryInTime e → f.bus.free ≤ (row_of_entry ds n f e).c
 unfolding row_of_entry tick_a tick_p tick_c address_tick preparation_tick
 free-before_done ds n f e is = omega (arith, is.costs.0, ready-after ds n f e)
 
@@ -93,7 +93,7 @@ within-ended most made since m is some w =
     let start = m.now + 1 + length (levels_of m) in
     let none : since ≡ 0 = w.fresh some in
     let owed : ticks_made m ≡ m.now + 1 = made-owed m.owed m.now fresh.owed in
-    choice_by (λ (x : Overlap). IsWithin most x made since) m.ended m _
+    cond_both m.ended m _ (λ (x : Overlap). IsWithin most x made since)
     (λ over. w)
     (λ going. record {
       tight =
@@ -107,13 +107,9 @@ within-ended most made since m is some w =
     })
 
 within-passed : (most made since : ℕ) (m : Overlap) → m.owed ≡ true → IsWithin most m made since → IsWithin most (machine_after_pass m) made since
-within-passed most made since m owed w = record {
-  tight = w.tight;
-  banks = tt;
-  ticks = w.ticks ∙ made-owed m.owed m.now owed;
-  near = w.near;
-  fresh = λ some. absurd (cc some);
-}
+within-passed most made since m owed w =
+    let fresh : IsSome (machine_after_pass m).closing → since ≡ 0 = λ some. absurd (cc some) in
+    assumption (w.ticks ∙ made-owed m.owed m.now owed)
 
 within-table : (most made since : ℕ) (m : Overlap) (t : Option ℕ) → IsWithin most m made since → IsWithin most (record m { taken = t }) made since
 within-table most made since m t w = record { tight = w.tight; banks = w.banks; ticks = w.ticks; near = w.near; fresh = w.fresh }
@@ -181,7 +177,7 @@ within-ticked most made since m are is over w =
 ticked-delays : (m : Overlap) → (machine_after_tick m).delays ≡ m.delays
 unfolding machine_after_tick machine_after_completion
 ticked-delays m =
-    choice_by (λ (x : Overlap). x.delays ≡ m.delays) (is_done m) (machine_after_completion m) (record m { owed = true; closing = None }) (λ done. refl) (λ not_done. refl)
+    cond_both (is_done m) (machine_after_completion m) (record m { owed = true; closing = None }) (λ (x : Overlap). x.delays ≡ m.delays) (λ done. refl) (λ not_done. refl)
 
 settled_by-delays : (due behind : Option ℕ) (resting : Bool) (m : Overlap) → (settled_by due resting behind m).delays ≡ m.delays
 settled_by-delays (Some i) behind resting m = (ended-rest m).delays
@@ -270,7 +266,7 @@ changed-counted b made since m s same counted = subst (λ d. made ≤ b * d + si
 same-counted : (b made since : ℕ) (m x : Overlap) → x.state ≡ m.state → IsCounted b made since m → IsCounted b made since x
 same-counted b made since m x same counted = subst (λ (s : Machine). made ≤ b * s.done + since) (sym same) counted
 
-all_stored-done : (m : Machine) (w : ℕ) (xs : List ℕ) → (all_stored m w xs).done ≡ m.done
+pub all_stored-done : (m : Machine) (w : ℕ) (xs : List ℕ) → (all_stored m w xs).done ≡ m.done
 unfolding all_stored
 all_stored-done m w [] = refl
 all_stored-done m w (x ∷ xs) = all_stored-done (state_with_store m w x) (w + 1) xs

@@ -1,7 +1,7 @@
 -- What each call within the protocol keeps of a machine.
 use Rattle.std.specs.Prelude.{IfSome, IsSome, is_none, ◌&&◌, if◌then◌else◌}
 use Rattle.std.proofs.Common.{◌≡◌, ℕ, zero, suc, ◌⊎◌, ◌+◌, ◌<◌, ◌≤◌, ◌^◌, Bool, true, false, List, length, inl, inr, Option, None, Some, refl, sym, subst, ◌∙◌, ap, arith}
-use Rattle.std.proofs.lemmas.Bool.{eqb-true, eqb-false}
+use Rattle.std.proofs.lemmas.Bool.{eqb-true, eqb-false, cond_both}
 use Rattle.st_state.specs.Machine.{Machine, IsMachine, word}
 use Rattle.st_state.specs.Interrupts.{state_with_signal, pending, is_pending, first_from}
 use Rattle.st_state.specs.declared.devices.Order.{Order}
@@ -20,13 +20,9 @@ use Rattle.st_ahead.specs.Calls.{is_done, machine_after_completion, machine_afte
 use Rattle.st_ahead.proofs.Settling.{due-taken}
 use Rattle.st_refine.specs.Reached.{CanStart, IsCard, IsReached, Starts, Ticks, Settles, Signals, Reads, Prints, Stops}
 use Rattle.st_refine.proofs.StateLemmas.{signalled-machine, order-machine, printed-machine}
-use Rattle.st_refine.proofs.LevelLists.{after-c, done-behind}
-
--- ---- choices
-
-pub choice_by : {A : Type 0} (P : A → Type 0) (b : Bool) (x y : A) → (b ≡ true → P x) → (b ≡ false → P y) → P (if b then x else y)
-choice_by P true x y here there = here refl
-choice_by P false x y here there = there refl
+use Rattle.st_refine.proofs.LevelLists.{done-behind}
+use Rattle.st_ring.proofs.OrderLemmas.{after-c}
+use Rattle.st_ahead.proofs.Passing.{ticked-owed}
 
 -- ---- what is kept
 
@@ -88,7 +84,7 @@ fresh-phase (Some banks) m some is = is
 
 -- ---- states
 
-first_from-below : (p : ℕ → Bool) (i n : ℕ) → IfSome (first_from p i n) (λ k. k < i + n)
+pub first_from-below : (p : ℕ → Bool) (i n : ℕ) → IfSome (first_from p i n) (λ k. k < i + n)
 unfolding first_from
 first_from-below p i zero = tt
 first_from-below p i (suc n) =
@@ -186,7 +182,7 @@ kept-ticked m is settled =
     let c = row-idle m idle in
     let now : ticks_made m ≡ m.now = made-settled m.owed m.now settled in
     let p = plan-prepared m.state m.taken is.machine is.indicator in
-    choice_by IsKept (is_done m) (machine_after_completion m) (record m { owed = true; closing = None })
+    cond_both (is_done m) (machine_after_completion m) (record m { owed = true; closing = None }) IsKept
     (λ done.
     let due : (oldest_row m).c ≡ m.now = eqb-true (oldest_row m).c m.now done in
     record {
@@ -228,7 +224,7 @@ pub kept-ended : (m : Overlap) → IsKept m → IsSome m.closing → IsKept (mac
 unfolding machine_after_segment
 kept-ended m is some =
     let fresh = fresh-of m is some in
-    choice_by IsKept m.ended m (record m { front = opening_front (banks_left m.closing) (m.now + 1 + length (levels_of m)); ended = true })
+    cond_both m.ended m (record m { front = opening_front (banks_left m.closing) (m.now + 1 + length (levels_of m)); ended = true }) IsKept
     (λ over. is)
     (λ going. record {
       some = is.some;
@@ -261,54 +257,17 @@ pub record IsEnded (m e : Overlap) : Type 0 where
 pub ended-rest : (m : Overlap) → IsEnded m (machine_after_segment m)
 unfolding machine_after_segment
 ended-rest m =
-    choice_by (IsEnded m) m.ended m (record m { front = opening_front (banks_left m.closing) (m.now + 1 + length (levels_of m)); ended = true })
-    (λ over. record {
-      delays = refl;
-      levels = refl;
-      state = refl;
-      taken = refl;
-      behind = refl;
-      now = refl;
-      owed = refl;
-      ended = over;
-      stopped = refl;
-      closing = refl;
-    })
-    (λ going. record {
-      delays = refl;
-      levels = refl;
-      state = refl;
-      taken = refl;
-      behind = refl;
-      now = refl;
-      owed = refl;
-      ended = refl;
-      stopped = refl;
-      closing = refl;
-    })
+    cond_both m.ended m (record m { front = opening_front (banks_left m.closing) (m.now + 1 + length (levels_of m)); ended = true }) (IsEnded m)
+    (λ over. assumption)
+    (λ going. assumption)
 
 -- the end of a run
 stopped-phase : (c : Option LastAnswers) (m : Overlap) → IsPhase c m → IsPhase c (record m { stopped = true })
-stopped-phase None m is = record {
-  table = is.table;
-  awake = is.awake;
-  going = is.going;
-  right = is.right;
-  early = is.early;
-  unstarted = is.unstarted;
-}
+stopped-phase None m is = assumption
 stopped-phase (Some banks) m is = record { owed = is.owed; none = is.none; last = is.last; start = is.start }
 
 kept-stopped : (m : Overlap) → IsKept m → IsKept (record m { stopped = true })
-kept-stopped m is = record {
-  some = is.some;
-  few = is.few;
-  delays = is.delays;
-  machine = is.machine;
-  indicator = is.indicator;
-  counter = is.counter;
-  phase = stopped-phase m.closing m is.phase;
-}
+kept-stopped m is = assumption (stopped-phase m.closing m is.phase)
 
 -- ---- a settle
 
@@ -335,7 +294,7 @@ kept-passed m some few delays machine table awake late =
     }
 
 -- where an entry was done, its C or a later opening is the front's
-late-fresh : (m : Overlap) → IsFresh m → (b : Bool) → m.ended ≡ b → m.now ≤ m.front.c
+pub late-fresh : (m : Overlap) → IsFresh m → (b : Bool) → m.ended ≡ b → m.now ≤ m.front.c
 late-fresh m fresh true over = omega (arith, (fresh.start over).1)
 late-fresh m fresh false going = omega (arith, fresh.last going)
 
@@ -505,11 +464,7 @@ settled-stopped m = settled_by-stopped (interrupt_due m) m.behind (rests m.state
 
 pub ticked-stopped : (m : Overlap) → (machine_after_tick m).stopped ≡ m.stopped
 unfolding machine_after_tick machine_after_completion
-ticked-stopped m = choice_by (λ (x : Overlap). x.stopped ≡ m.stopped) (is_done m) (machine_after_completion m) (record m { owed = true; closing = None }) (λ done. refl) (λ later. refl)
-
-ticked-owes : (m : Overlap) → (machine_after_tick m).owed ≡ true
-unfolding machine_after_tick machine_after_completion
-ticked-owes m = choice_by (λ (x : Overlap). x.owed ≡ true) (is_done m) (machine_after_completion m) (record m { owed = true; closing = None }) (λ done. refl) (λ later. refl)
+ticked-stopped m = cond_both (is_done m) (machine_after_completion m) (record m { owed = true; closing = None }) (λ (x : Overlap). x.stopped ≡ m.stopped) (λ done. refl) (λ later. refl)
 
 read-stopped : (w : ℕ) (card : Option (List ℕ)) (m : Overlap) → (read_in_by w card m).stopped ≡ m.stopped
 read-stopped w None m = refl
@@ -517,7 +472,7 @@ read-stopped w (Some card) m = (ended-rest m).stopped
 
 pub stands-settled : {m : Overlap} {made since : ℕ} → IsReached m made since → m.owed ≡ false → m.stopped ≡ false
 stands-settled (Starts ds n s can) over = refl
-stands-settled (Ticks m made since from may) over = absurd (cc (sym (ticked-owes m) ∙ over))
+stands-settled (Ticks m made since from may) over = absurd (cc (sym (ticked-owed m) ∙ over))
 stands-settled (Settles m made since from owed stands) over = settled-stopped m ∙ stands
 stands-settled (Signals m made since i from known may) over = may.1
 stands-settled (Reads m made since order card from given fits may) over = read-stopped order.word card m ∙ may.2

@@ -30,7 +30,7 @@ use Rattle.st_ahead.specs.Shown.{IsLevelOf, AreLevelsOf, lent_index_words, view_
 use Rattle.st_refine.specs.Reached.{IsReached}
 use Rattle.st_refine.specs.Refined.{state_before, table_before, front_before, fills_at}
 use Rattle.st_refine.proofs.LevelLists.{done-behind, most-ahead}
-use Rattle.st_refine.proofs.Kept.{IsIdle, IsFresh, IsPhase, IsKept, fresh-of, kept, row-idle, closing-cases}
+use Rattle.st_refine.proofs.Kept.{IsIdle, IsPhase, IsKept, fresh-of, kept, row-idle, closing-cases, late-fresh}
 use Rattle.st_refine.proofs.SplitLemmas.{seen-machine, seen-index, shown-last, levels-are}
 
 -- ---- the ring, level by level
@@ -165,11 +165,6 @@ levels-from ds n tick t s f (x ∷ xs) are = (
   },
   levels-from ds n tick None (guess t s) (front_after_entry ds n f (entry t s)) xs are.1,
 )
-
--- the oldest entry is not done before the tick
-pub late-fresh : (m : Overlap) → IsFresh m → (b : Bool) → m.ended ≡ b → m.now ≤ m.front.c
-late-fresh m fresh true over = omega (arith, (fresh.start over).1)
-late-fresh m fresh false going = omega (arith, fresh.last going)
 
 pub oldest-late : (m : Overlap) → IsKept m → m.now ≤ (oldest_row m).c
 unfolding oldest_row

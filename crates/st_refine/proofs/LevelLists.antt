@@ -1,7 +1,7 @@
 -- The entries ahead that are prepared before a tick.
 use Rattle.std.specs.Prelude.{IfSome, get_or, ◌-◌, if◌then◌else◌, nat_lt}
 use Rattle.std.proofs.Common.{◌≡◌, ℕ, zero, suc, ◌+◌, ◌<◌, ◌≤◌, ◌||◌, Bool, true, false, List, [], ◌∷◌, ◌++◌, length, inl, inr, Option, None, refl, sym, subst, ◌∙◌, ap, arith}
-use Rattle.std.proofs.lemmas.Bool.{lt-ltb, le-ltb, ltb-true}
+use Rattle.std.proofs.lemmas.Bool.{lt-ltb, le-ltb, ltb-true, false_from_ne_true, or_right}
 use Rattle.std.proofs.lemmas.List.{get_or-take}
 use Rattle.st_state.specs.Machine.{Machine, IsMachine}
 use Rattle.st_prep.specs.Plan.{plan}
@@ -20,6 +20,7 @@ use Rattle.st_segment.proofs.EntryRanges.{entry-ranges}
 use Rattle.st_segment.proofs.GuessLemmas.{guess-machine, ahead-next, behind-none}
 use Rattle.st_rows.proofs.MadeLemmas.{before-cases}
 use Rattle.st_refine.specs.Refined.{AddsOneAtMost}
+use Rattle.st_ring.proofs.OrderLemmas.{after-c}
 
 -- ---- ticks of a row
 
@@ -31,23 +32,15 @@ after-p : (ds : List ℕ) (n : ℕ) (f : Front) (e : Entry) → (front_after_ent
 unfolding front_after_entry row_of_entry
 after-p ds n f e = refl
 
-pub after-c : (ds : List ℕ) (n : ℕ) (f : Front) (e : Entry) → (front_after_entry ds n f e).c ≡ (row_of_entry ds n f e).c
-unfolding front_after_entry row_of_entry
-after-c ds n f e = refl
-
 after-serial : (ds : List ℕ) (n : ℕ) (f : Front) (e : Entry) → (front_after_entry ds n f e).serial ≡ e.serial
 unfolding front_after_entry
 after-serial ds n f e = refl
-
-or-last : (a b : Bool) → b ≡ true → (a || b) ≡ true
-or-last true b is = refl
-or-last false b is = is
 
 -- behind an entry that is done alone
 alone-behind : (ds : List ℕ) (n : ℕ) (f : Front) (e : Entry) → f.serial ≡ true → f.c < (row_of_entry ds n f e).p
 unfolding row_of_entry tick_p preparation_tick tick_a address_tick
 alone-behind ds n f e alone =
-    let some : (e.serial || f.serial) ≡ true = or-last e.serial f.serial alone in
+    let some : (e.serial || f.serial) ≡ true = or_right e.serial f.serial alone in
     rw some (omega arith)
 
 -- and one that is done alone
@@ -71,10 +64,6 @@ unfolding row_of_entry tick_c
 prepared-first ds n t s f m some = omega (arith, ready-after ds n f (entry t s), (entry-ranges t s m some).costs.0)
 
 -- ---- by a test
-
-none-if : (a : Ahead) (xs : List Ahead) (b : Bool) → b ≡ false → (if b then a ∷ xs else []) ≡ []
-none-if a xs true is = absurd (cc is)
-none-if a xs false is = refl
 
 one-if : (a : Ahead) (xs ys : List Ahead) (b c : Bool) → (b ≡ true → (c ≡ true) × AddsOneAtMost xs ys) → (b ≡ false → c ≡ true → ys ≡ [])
     → AddsOneAtMost (if b then a ∷ xs else []) (if c then a ∷ ys else [])
@@ -116,10 +105,6 @@ first-some a xs false test none = cc test
 pub entry-free : (t : Option ℕ) (s : Machine) → (entry t s).serial ≡ false → (plan s t).serial ≡ false
 unfolding entry
 entry-free t s is = is
-
-pub not-alone : (b : Bool) → (b ≡ true → ⊥) → b ≡ false
-not-alone true never = absurd (never refl)
-not-alone false never = refl
 
 module _ (ds : List ℕ) (n : ℕ) where
   -- none is prepared before the tick behind the front's P
@@ -200,7 +185,7 @@ module _ (ds : List ℕ) (n : ℕ) where
       rest-if (next_ahead ds n t s f) (prepared_before now (ahead ds n k None (guess t s) g)) (suc j) (nat_lt (row_of_entry ds n f e).p now) many in
       let early : (row_of_entry ds n g next).p < now = first-early now k None (guess t s) g (omega (arith, fewer)) in
       let same : g.c ≡ (row_of_entry ds n f e).c = after-c ds n f e in
-      let free : e.serial ≡ false = not-alone e.serial (λ alone.
+      let free : e.serial ≡ false = false_from_ne_true e.serial (λ alone.
       let behind : g.c < (row_of_entry ds n g next).p = alone-behind ds n g next (after-serial ds n f e ∙ alone) in
       omega (arith, behind, early, same, late)) in
       let later : now ≤ (row_of_entry ds n g next).c = omega (arith, late, same, done-behind ds n None (guess t s) g machine tt) in

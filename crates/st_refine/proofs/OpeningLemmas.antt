@@ -25,10 +25,10 @@ use Rattle.st_ahead.specs.Calls.{is_done, machine_after_completion, machine_afte
 use Rattle.st_ahead.specs.declared.events.Settled.TheVariants.{Goes, Interrupt, Missed, Waits}
 use Rattle.st_refine.specs.Reached.{IsReached, MayTick}
 use Rattle.st_refine.specs.Openings.{Change, Signalled, ReadIn, PrintedOut, state_after_change, Outside, with_changes, Opening, first_opening, state_after, front_at, reads_after, banks_behind, opening_behind, StandsAt}
-use Rattle.st_refine.proofs.LevelLists.{after-c}
 use Rattle.st_refine.proofs.Kept.{IsIdle, idle-of, fresh-of, kept, seen-idle, ended-rest}
 use Rattle.st_refine.proofs.InTime.{read-done}
 use Rattle.st_refine.proofs.RefinedLemmas.{goes-by, taken-by, missed-by, waits-by, settled-goes, settled-taken, settled-missed}
+use Rattle.st_ring.proofs.OrderLemmas.{after-c}
 
 -- ---- changes
 
@@ -214,9 +214,6 @@ stands-passed_by m j o xs settled_is is = record {
     last-before true now = omega arith
     last-before false now = omega arith
 
-behind-first : (j : ℕ) (t : Option ℕ) → None ≡ table_behind (suc j) t
-behind-first j t = refl
-
 executed-step : (t : Option ℕ) (s : Machine) → t ≡ interrupt s → state_after_execution t s ≡ step s
 unfolding step
 executed-step t s table = ap (λ i. state_after_execution i s) table
@@ -333,14 +330,7 @@ stands-ended m made since j o xs from may going is =
 
 -- the end of a run
 pub stands-stopped : (m : Overlap) (j : ℕ) (o : Opening) (xs : List Outside) → StandsAt o xs j m → StandsAt o xs j (record m { stopped = true })
-stands-stopped m j o xs is = record {
-  state = is.state;
-  front = is.front;
-  table = is.table;
-  done = is.done;
-  before = is.before;
-  banks = is.banks;
-}
+stands-stopped m j o xs is = assumption
 
 with-table : (o : Opening) (t : Option ℕ) (xs : List Outside) (m : Overlap) → StandsAt o xs 0 m
     → StandsAt (record o { table = t }) xs 0 (machine_after_pass (record m { taken = t }))

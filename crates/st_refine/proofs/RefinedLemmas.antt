@@ -1,7 +1,7 @@
 -- What each call makes of the state and of the levels.
 use Rattle.std.specs.Prelude.{IsSome, if◌then◌else◌}
 use Rattle.std.proofs.Common.{◌≡◌, ℕ, ◌+◌, ◌≤◌, Bool, true, false, List, [], ◌∷◌, length, inl, inr, Option, None, Some, refl, sym, subst, ◌∙◌, ap, arith}
-use Rattle.std.proofs.lemmas.Bool.{eqb-true}
+use Rattle.std.proofs.lemmas.Bool.{eqb-true, cond_both}
 use Rattle.st_state.specs.Machine.{Machine}
 use Rattle.st_prep.specs.Fetch.{address_by}
 use Rattle.st_prep.specs.Plan.{plan}
@@ -23,18 +23,15 @@ use Rattle.st_ahead.proofs.Standing.{guess-seen}
 use Rattle.st_refine.specs.Reached.{IsReached, MayTick}
 use Rattle.st_refine.specs.Refined.{row_of, IsUnwound, AddsOneAtMost}
 use Rattle.st_refine.proofs.LevelLists.{none-before, one-more, done-levels}
-use Rattle.st_refine.proofs.Kept.{choice_by, IsIdle, IsPhase, IsKept, idle-of, fresh-of, kept, kept-ended, seen-idle, ended-rest, quiet, closing-cases}
+use Rattle.st_refine.proofs.Kept.{IsIdle, IsPhase, IsKept, idle-of, fresh-of, kept, kept-ended, seen-idle, ended-rest, quiet, closing-cases}
 use Rattle.st_refine.proofs.SplitLemmas.{plan-address, shown-none}
+use Rattle.st_ahead.proofs.Idling.{late-ticked}
 
 -- ---- a tick
 
 ticked-done : (m : Overlap) → is_done m ≡ true → machine_after_tick m ≡ machine_after_completion m
 unfolding machine_after_tick
 ticked-done m done = ap (λ b. if b then machine_after_completion m else record m { owed = true; closing = None }) done
-
-ticked-passed : (m : Overlap) → is_done m ≡ false → machine_after_tick m ≡ record m { owed = true; closing = None }
-unfolding machine_after_tick
-ticked-passed m passed_by = ap (λ b. if b then machine_after_completion m else record m { owed = true; closing = None }) passed_by
 
 completed-state : (m : Overlap) → (machine_after_completion m).state ≡ state_after_execution m.taken m.state
 unfolding machine_after_completion
@@ -113,8 +110,8 @@ passed-levels m = refl
 
 pub tick-passed : (m : Overlap) → is_done m ≡ false → ((machine_after_tick m).state ≡ m.state) × (levels_of (machine_after_tick m) ≡ levels_of m)
 tick-passed m later = (
-  ap (λ (x : Overlap). x.state) (ticked-passed m later),
-  ap levels_of (ticked-passed m later) ∙ passed-levels m,
+  ap (λ (x : Overlap). x.state) (late-ticked m later),
+  ap levels_of (late-ticked m later) ∙ passed-levels m,
 )
 
 -- ---- what an answer says
@@ -289,13 +286,13 @@ waits-unwinds m made since from owed is =
 dropped-going : (m : Overlap) → m.ended ≡ false → drop_count m ≡ length (levels_of m)
 unfolding drop_count
 dropped-going m going =
-    choice_by (λ k. k ≡ length (levels_of m)) m.ended 0 (length (levels_of m)) (λ over. absurd (cc (sym over ∙ going))) (λ on. refl)
+    cond_both m.ended 0 (length (levels_of m)) (λ k. k ≡ length (levels_of m)) (λ over. absurd (cc (sym over ∙ going))) (λ on. refl)
 
 unwound-going : (m : Overlap) → m.ended ≡ false → IsUnwound (run_ended m)
 unfolding machine_after_segment
 unwound-going m going =
     let m' = record m { front = opening_front (banks_left m.closing) (m.now + 1 + length (levels_of m)); ended = true } in
-    choice_by (λ (x : Overlap). IsUnwound (record x { stopped = true })) m.ended m m' (λ over. absurd (cc (sym over ∙ going))) (λ on. unwound-by (record m' { stopped = true }) (omega arith))
+    cond_both m.ended m m' (λ (x : Overlap). IsUnwound (record x { stopped = true })) (λ over. absurd (cc (sym over ∙ going))) (λ on. unwound-by (record m' { stopped = true }) (omega arith))
 
 pub stop-unwinds : (m : Overlap) (made since : ℕ) → IsReached m made since → m.owed ≡ true
     → ((run_ended m).state ≡ m.state) × (drop_count m ≡ length (levels_of m)) × IsUnwound (run_ended m)

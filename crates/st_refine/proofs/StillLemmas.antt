@@ -1,7 +1,7 @@
 -- Signals, and orders that bring no card, leave what is shown of the levels.
-use Rattle.std.specs.Prelude.{IsSome, map, replicate, nat_lt, nat_le, option_map, ◌-◌, if◌then◌else◌}
+use Rattle.std.specs.Prelude.{IsSome, replicate, nat_lt, nat_le, option_map, ◌-◌, if◌then◌else◌}
 use Rattle.std.proofs.Common.{◌≡◌, ℕ, zero, suc, ◌<◌, ◌≤◌, Bool, true, false, List, [], ◌∷◌, ◌++◌, length, inl, inr, Option, None, Some, refl, sym, subst, ◌∙◌, ap, ap₂, arith}
-use Rattle.std.proofs.lemmas.Bool.{ltb-true}
+use Rattle.std.proofs.lemmas.Bool.{ltb-true, false_from_ne_true}
 use Rattle.std.proofs.lemmas.List.{length-map}
 use Rattle.st_state.specs.Machine.{Machine, IsMachine}
 use Rattle.st_state.specs.Interrupts.{state_with_signal}
@@ -18,7 +18,7 @@ use Rattle.st_rows.specs.declared.front.Front.{Front}
 use Rattle.st_rows.specs.declared.front.EntryTicks.{EntryTicks}
 use Rattle.st_segment.specs.Entries.{entry}
 use Rattle.st_segment.specs.Alone.{RunAhead}
-use Rattle.st_segment.specs.Guesses.{guesses, split_words}
+use Rattle.st_segment.specs.Guesses.{split_words}
 use Rattle.st_segment.specs.Ahead.{Ahead, next_ahead, ahead, prepared_before}
 use Rattle.st_segment.proofs.GuessLemmas.{guess-machine}
 use Rattle.st_segment.proofs.SameReading.{same-index}
@@ -29,22 +29,16 @@ use Rattle.st_ahead.specs.Shown.{word_before_change, level_shown, view_at_tick}
 use Rattle.st_ahead.specs.declared.events.LevelView.{LevelView}
 use Rattle.st_refine.specs.Reached.{IsReached}
 use Rattle.st_refine.specs.Refined.{IsStill}
-use Rattle.st_refine.proofs.LevelLists.{not-alone, alone-before, entry-free}
+use Rattle.st_refine.proofs.LevelLists.{alone-before, entry-free}
 use Rattle.st_refine.proofs.Kept.{IsKept, fresh-of, kept}
-use Rattle.st_refine.proofs.SplitLemmas.{seen-machine, shown-index, shown-none}
+use Rattle.st_refine.proofs.SplitLemmas.{seen-machine, shown-index, shown-none, shows}
 use Rattle.st_refine.proofs.RefinedLemmas.{empty-levels}
-
-abbrev shows : ℕ → List Ahead → List (Option LevelView)
-shows tick xs = map (λ a. Some (level_shown tick a)) xs
+use Rattle.st_ahead.proofs.Signals.{counted-alike}
+use Rattle.st_ahead.proofs.SameLook.{guess-same}
 
 -- ---- entries that are prepared before the last one is done are not done alone
 
-guess-alike : (s u : Machine) → IsMachine s → AreAlikeBesideOrders s u → (plan s None).serial ≡ false
-    → AreAlikeBesideOrders (guess None s) (guess None u)
-unfolding guesses RunAhead
-guess-alike s u m alike free = (passed-over 1 s u m alike (free, tt)).1
-
-behind-later : (ds : List ℕ) (n now : ℕ) (f : Front) (e : Entry) → now ≤ f.c → now ≤ (front_after_entry ds n f e).c
+pub behind-later : (ds : List ℕ) (n now : ℕ) (f : Front) (e : Entry) → now ≤ f.c → now ≤ (front_after_entry ds n f e).c
 unfolding front_after_entry tick_c
 behind-later ds n now f e late = omega arith
 
@@ -76,7 +70,7 @@ module _ (ds : List ℕ) (n now : ℕ) where
   free-early s f late early =
       let e = entry None s in
       let p : (row_of_entry ds n f e).p < now = ltb-true (row_of_entry ds n f e).p now early in
-      entry-free None s (not-alone e.serial (λ alone.
+      entry-free None s (false_from_ne_true e.serial (λ alone.
       let behind : f.c < (row_of_entry ds n f e).p = alone-before ds n f e alone in
       omega (arith, behind, p, late)))
 
@@ -102,7 +96,7 @@ module _ (ds : List ℕ) (n now : ℕ) where
       (λ early.
       let free = free-early s f late early in (
         ap (λ p. level-by tick p (row_of_entry ds n f e)) (sym (plan-beside_ahead s u None alike free)),
-        shows-same tick k (guess None s) (guess None u) g (guess-machine None s m tt) (guess-alike s u m alike free) (behind-later ds n now f e late),
+        shows-same tick k (guess None s) (guess None u) g (guess-machine None s m tt) (guess-same s u m alike free) (behind-later ds n now f e late),
       ))
       ∙ ap (λ (x : Entry). shows tick (if nat_lt (row_of_entry ds n f x).p now
       then record { state = u; table = None; front = f; entry = x; row = row_of_entry ds n f x } ∷ before (ahead ds n k None (guess None u) (front_after_entry ds n f x))
@@ -132,17 +126,6 @@ still-empty m x tick old new same =
     (shown-none x (ap length new) ∙ same ∙ sym (shown-none m (ap length old)))
 
 -- ---- behind a tick at which an entry was done
-
-counted-alike : (c : Option ℕ) (s u : Machine) → AreAlikeBesideOrders s u → AreAlikeBesideOrders (with_counter c s) (with_counter c u)
-counted-alike None s u is = is
-counted-alike (Some h) s u is = record {
-  size = is.size;
-  words = is.words;
-  ic = refl;
-  enabled = is.enabled;
-  waiting = is.waiting;
-  done = is.done;
-}
 
 seen-alike : (m : Overlap) (u : Machine) → AreAlikeBesideOrders m.state u → AreAlikeBesideOrders (state_ahead m) (state_ahead (record m { state = u }))
 unfolding state_ahead

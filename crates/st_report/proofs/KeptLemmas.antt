@@ -1,5 +1,5 @@
 -- A number by its digits but the last two, and these.
-use Rattle.std.proofs.Common.{◌+◌, ◌*◌, ◌/◌, ◌%◌, ◌^◌, ◌<◌, ◌≤◌, ◌≡◌, ℕ, List, [], ◌∷◌, ◌++◌, get_or, refl, sym, ap, ◌∙◌, append_assoc, decimal, arith}
+use Rattle.std.proofs.Common.{◌+◌, ◌*◌, ◌/◌, ◌%◌, ◌^◌, ◌<◌, ◌≤◌, ◌≡◌, ℕ, List, [], ◌∷◌, ◌++◌, get_or, drop, length, refl, sym, ap, ◌∙◌, append_assoc, decimal, arith}
 use Rattle.std.proofs.lemmas.Fmt.{decimal_digit, decimal_step}
 use Rattle.st_report.specs.Line.{two_digits}
 use Rattle.st_report.specs.declared.kept.TheConstants.{PAIRS}
@@ -10,6 +10,18 @@ two_digits-are p few = rw (decimal_digit (p / 10) (omega arith), decimal_digit (
 
 pub pair-text : (p : ℕ) → p < 100 → get_or PAIRS (p * 2) 0 ∷ get_or PAIRS (p * 2 + 1) 0 ∷ [] ≡ two_digits p
 pair-text p few = let digits = pair-at (λ d. 48 + d) 10 PAIRS 100 p refl few in rw (two_digits-are p few, digits.0, digits.1) refl
+
+-- without the first one, where that is no digit of the number
+pub one-digit : (n : ℕ) → n < 10 → drop 1 (two_digits n) ≡ decimal n
+one-digit n few =
+    let same : n % 10 ≡ n = omega arith in
+    ap (λ (xs : List ℕ). drop 1 xs) (two_digits-are n (omega arith)) ∙ ap (λ (d : ℕ). (48 + d) ∷ []) same ∙ sym (decimal_digit n few)
+
+pub two-digit : (n : ℕ) → 10 ≤ n → n < 100 → two_digits n ≡ decimal n
+two-digit n some few = ap (λ (xs : List ℕ). decimal (n / 10) ++ xs) (decimal_digit (n % 10) (omega arith)) ∙ sym (decimal_step n some (omega arith))
+
+pub two-long : (n : ℕ) → n < 100 → length (two_digits n) ≡ 2
+two-long n few = ap (λ (xs : List ℕ). length xs) (two_digits-are n few)
 
 decimal-pair : (n m p : ℕ) → 1 ≤ m → p < 100 → n ≡ 100 * m + p → n < 2 ^ 64 → decimal n ≡ decimal m ++ two_digits p
 decimal-pair n m p some few is small =

@@ -3,7 +3,7 @@
 ghost use Rattle.std.specs.Prelude.{◌≡◌, ◌+◌, ◌*◌, ◌<◌, ◌≤◌, ◌++◌, [], length, drop, codes, decimal};
 ghost use Rattle.st_text.specs.Numerals.{half_address};
 
-use crate::kept::{KeptDigits, two_digits};
+use crate::kept::{KeptDigits, two_digits, zeros_before};
 use itoa::write_digits;
 use std::marker::Model;
 
@@ -128,6 +128,33 @@ impl LineFromEnd {
         self.put_end(*digits, start);
     }
 
+    // Puts a number below 100 before the line: its two digits, without the first one where that is a
+    // zero before its own.
+    #[inline(always)]
+    fn put_few(&mut self, n: u64)
+        requires few { n < 100 }
+        requires room { length self.old + 2 ≤ 192 }
+        ensures { self.new ≡ decimal n ++ self.old }
+    {
+        self.put(&two_digits(n));
+        let before = zeros_before(n);
+        self.start += before;
+    }
+
+    // Puts the number of a word before the line, as `put_decimal` does. Most are below 100.
+    #[inline(always)]
+    fn put_word_number(&mut self, n: u64)
+        requires { length self.old + 20 ≤ 192 }
+        ensures bytes { self.new ≡ decimal n ++ self.old }
+        ensures room { length self.new ≤ length self.old + 20 }
+    {
+        if n < 100 {
+            self.put_few(n);
+        } else {
+            self.put_decimal(n);
+        }
+    }
+
     // Puts the bit at which a half of a word begins before the line.
     #[inline(always)]
     fn put_half(&mut self, half: u32)
@@ -151,6 +178,6 @@ impl LineFromEnd {
         ensures room { length self.new ≤ length self.old + 23 }
     {
         self.put_half(address % 2);
-        self.put_decimal(u64::from(address / 2));
+        self.put_word_number(u64::from(address / 2));
     }
 }

@@ -1,6 +1,6 @@
 //! Digits that a number has in common with others that are close to it.
 
-ghost use Rattle.std.specs.Prelude.{◌≡◌, ◌+◌, ◌*◌, ◌/◌, ◌^◌, ◌<◌, ◌≤◌, drop, decimal};
+ghost use Rattle.std.specs.Prelude.{◌≡◌, ◌↔◌, ◌+◌, ◌*◌, ◌/◌, ◌^◌, ◌<◌, ◌≤◌, drop, decimal};
 ghost use Rattle.st_report.specs.Line.{two_digits as two_digits_of};
 
 use itoa::write_digits;
@@ -53,11 +53,13 @@ impl KeptDigits {
         }
     }
 
-    /// By how much a number is past the first one that has these digits; 100 or more where it has
-    /// others.
+    /// By how much a number is past the first one that has these digits: below 100 exactly where
+    /// it has them.
     #[inline(always)]
     pub fn past(&self, n: u64) -> u64
-        ensures { result < 100 → (1 ≤ self.now) × (n ≡ 100 * self.now + result) }
+        ensures some { 1 ≤ self.now }
+        ensures has { (result < 100) ↔ (n / 100 ≡ self.now) }
+        ensures past { result < 100 → n ≡ 100 * self.now + result }
     {
         n.wrapping_sub(self.hundred)
     }
@@ -71,10 +73,13 @@ impl KeptDigits {
         (&self.digits, self.start)
     }
 
-    /// Keeps the digits of another number, where it has three at least and 18 at most.
+    /// Keeps the digits of another number, where it has three at least and 18 at most; else those
+    /// that it has stay.
     #[inline(never)]
     pub fn keep(&mut self, n: u64)
-        ensures { 100 ≤ n → n < 10 ^ 18 → self.new ≡ n / 100 }
+        ensures few { n < 100 → self.new ≡ self.old }
+        ensures kept { 100 ≤ n → n < 10 ^ 18 → self.new ≡ n / 100 }
+        ensures many { 10 ^ 18 ≤ n → self.new ≡ self.old }
     {
         if n < 100 {
             return;
@@ -95,4 +100,14 @@ pub fn two_digits(n: u64) -> [u8; 2]
 {
     let from = n as usize * 2;
     [PAIRS[from], PAIRS[from + 1]]
+}
+
+/// How many of the two digits of a number below 100 are zeros before its own.
+#[inline(always)]
+pub fn zeros_before(n: u64) -> usize
+    requires { n < 100 }
+    ensures few { result ≤ 1 }
+    ensures rest { drop result (two_digits_of n) ≡ decimal n }
+{
+    if n < 10 { 1 } else { 0 }
 }

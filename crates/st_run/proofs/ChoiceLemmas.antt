@@ -23,9 +23,10 @@ use Rattle.st_run.specs.Leaving.{IsDecided, IsWay}
 use Rattle.st_run.specs.declared.turn.Turn.{Turn}
 use Rattle.st_run.specs.declared.turn.Turn.TheVariants.{Before, AtEnd, Over}
 use Rattle.st_run.specs.declared.leaving.Decided.{Decided}
-use Rattle.st_run.proofs.SceneLemmas.{interrupt-below, settled-scene}
+use Rattle.st_run.proofs.SceneLemmas.{settled-scene}
 use Rattle.st_run.proofs.InterludeLemmas.{HasCome}
 use Rattle.st_run.proofs.EndedLemmas.{opened, stopped-none, by_now, ended-since, since-is}
+use Rattle.st_refine.proofs.Kept.{interrupt-below}
 
 -- ---- what the answer says
 
@@ -78,17 +79,19 @@ going-before b n s t f is same scene table awake late =
       few = subst (λ (m : Overlap). m.levels ≤ 8) (sym same) is.few;
       delays = subst (λ (m : Overlap). AreDelaysUpTo 255 m.delays) (sym same) is.delays;
       scene = scene;
-      settled = ap (λ (m : Overlap). m.owed) same;
-      going = ap (λ (m : Overlap). m.ended) same;
-      stands = ap (λ (m : Overlap). m.stopped) same ∙ is.stands;
-      guessed = ap (λ (m : Overlap). m.behind) same;
-      closed = ap (λ (m : Overlap). m.closing) same;
-      table = ap (λ (m : Overlap). m.taken) same ∙ table ∙ ap interrupt (sym state);
-      awake = ap rests state ∙ awake;
-      early =
-          subst (λ (m : Overlap). m.now ≤ (oldest_row m).c) (sym same)
-          (row-later o.delays o.levels o.now f (entry t s)
-          (entry-ranges t s (subst IsMachine state scene.machine) (subst (λ x. IfSome x (λ i. i < 64)) (sym table) (interrupt-below s))) late);
+      ready = record {
+        settled = ap (λ (m : Overlap). m.owed) same;
+        going = ap (λ (m : Overlap). m.ended) same;
+        stands = ap (λ (m : Overlap). m.stopped) same ∙ is.stands;
+        guessed = ap (λ (m : Overlap). m.behind) same;
+        closed = ap (λ (m : Overlap). m.closing) same;
+        table = ap (λ (m : Overlap). m.taken) same ∙ table ∙ ap interrupt (sym state);
+        awake = ap rests state ∙ awake;
+        early =
+            subst (λ (m : Overlap). m.now ≤ (oldest_row m).c) (sym same)
+            (row-later o.delays o.levels o.now f (entry t s)
+            (entry-ranges t s (subst IsMachine state scene.machine) (subst (λ x. IfSome x (λ i. i < 64)) (sym table) (interrupt-below s))) late);
+      };
     }
 
 now-taken : (over : Bool) (o : Overlap) (s : Machine) → (by_now over o s).taken ≡ o.taken

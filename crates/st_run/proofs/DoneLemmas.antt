@@ -1,15 +1,16 @@
 -- What comes between two steps leaves the number done, and a step counts as one.
-use Rattle.std.proofs.Common.{◌≡◌, ℕ, ◌+◌, List, [], ◌∷◌, Bool, true, false, nat_le, Option, None, Some, refl, ◌∙◌, if◌then◌else◌}
-use Rattle.st_state.specs.Machine.{Machine, state_with_store}
+use Rattle.std.proofs.Common.{◌≡◌, ℕ, List, [], ◌∷◌, Bool, true, false, nat_le, Option, None, Some, refl, ◌∙◌, if◌then◌else◌}
+use Rattle.st_state.specs.Machine.{Machine}
 use Rattle.st_state.specs.Interrupts.{state_with_signal}
 use Rattle.st_state.specs.Orders.{next_device}
 use Rattle.st_state.specs.declared.devices.Order.{Order}
 use Rattle.st_state.specs.declared.devices.Device.{Device}
 use Rattle.st_state.specs.declared.devices.Device.TheVariants.{Reader, Printer}
 use Rattle.st_exec.specs.Step.{rests}
-use Rattle.st_exec.specs.Transfer.{all_stored, read_in}
+use Rattle.st_exec.specs.Transfer.{read_in}
 use Rattle.st_card.specs.declared.control_cards.Signal.{Signal}
 use Rattle.st_run.specs.Run.{Scene, first_card, with_due_signals, with_signals_at_rest, with_reader, with_printer, if_due, with_due_orders, with_device, with_order_at_rest, with_wait, interlude, uneventful}
+use Rattle.st_refine.proofs.InTime.{all_stored-done}
 
 either : {A : Type 0} (f : A → ℕ) (n : ℕ) (b : Bool) (x y : A) → f x ≡ n → f y ≡ n → f (if b then x else y) ≡ n
 either f n true x y p q = p
@@ -22,11 +23,6 @@ due-done m (x ∷ xs) cards = either (λ c. c.machine.done) m.done (nat_le x.cou
 rest-done : (m : Machine) (xs : List Signal) (cards : List (List ℕ)) → (with_signals_at_rest m xs cards).machine.done ≡ m.done
 rest-done m [] cards = refl
 rest-done m (x ∷ xs) cards = either (λ c. c.machine.done) m.done (rests m) (with_signals_at_rest (state_with_signal m x.indicator) xs cards) _ (rest-done (state_with_signal m x.indicator) xs cards) refl
-
-all_stored-done : (m : Machine) (w : ℕ) (xs : List ℕ) → (all_stored m w xs).done ≡ m.done
-unfolding all_stored
-all_stored-done m w [] = refl
-all_stored-done m w (x ∷ xs) = all_stored-done (state_with_store m w x) (w + 1) xs
 
 read_in-done : (m : Machine) (w : ℕ) (card : Option (List ℕ)) → (read_in m w card).done ≡ m.done
 read_in-done m w None = refl

@@ -1,14 +1,12 @@
 -- The end of a segment is the same before and after signals and orders without a card.
-use Rattle.std.specs.Prelude.{IfSome, if◌then◌else◌, nat_lt}
-use Rattle.std.proofs.Common.{◌≡◌, ℕ, zero, suc, ◌+◌, ◌<◌, ◌≤◌, ◌^◌, Bool, true, false, List, [], ◌∷◌, length, Option, None, Some, refl, sym, ◌∙◌, ap, arith}
-use Rattle.std.proofs.lemmas.Bool.{ltb-true, le-ltb}
+use Rattle.std.specs.Prelude.{if◌then◌else◌, nat_lt}
+use Rattle.std.proofs.Common.{◌≡◌, ℕ, zero, suc, ◌+◌, ◌<◌, ◌≤◌, Bool, true, false, List, [], ◌∷◌, length, Option, None, refl, sym, ◌∙◌, ap, arith}
+use Rattle.std.proofs.lemmas.Bool.{ltb-true, le-ltb, false_from_ne_true}
 use Rattle.st_state.specs.Machine.{Machine, IsMachine}
 use Rattle.st_prep.specs.BesideOrders.{AreAlikeBesideOrders}
-use Rattle.st_prep.specs.Plan.{plan}
-use Rattle.st_prep.proofs.PlanLemmas.{plan-prepared}
 use Rattle.st_exec.specs.Completion.{guess}
 use Rattle.st_banks.specs.declared.answers.LastAnswers.{LastAnswers}
-use Rattle.st_rows.specs.Rows.{opening_front, row_of_entry, front_after_entry, address_tick, preparation_tick, tick_a, tick_p, tick_c}
+use Rattle.st_rows.specs.Rows.{opening_front, row_of_entry, front_after_entry, address_tick, preparation_tick, tick_a, tick_p}
 use Rattle.st_rows.specs.declared.entry.Entry.{Entry}
 use Rattle.st_rows.specs.declared.front.Front.{Front}
 use Rattle.st_segment.specs.Entries.{entry}
@@ -18,14 +16,14 @@ use Rattle.st_segment.specs.Ahead.{Ahead, ahead, prepared_before}
 use Rattle.st_segment.proofs.GuessLemmas.{guess-machine}
 use Rattle.st_segment.proofs.PassedOver.{entry-same, passed-over}
 use Rattle.st_ahead.specs.Overlap.{Overlap, state_ahead, with_counter, levels_of}
-use Rattle.st_ahead.specs.Calls.{machine_after_segment, banks_left, missed_counter, MayServe}
+use Rattle.st_ahead.specs.Calls.{machine_after_segment, banks_left, MayServe}
 use Rattle.st_run.specs.Together.{Together, IsBehindEntry, IsSince}
+use Rattle.st_ahead.proofs.Signals.{counted-alike}
+use Rattle.st_refine.proofs.SplitLemmas.{counted-machine}
+use Rattle.st_refine.proofs.StillLemmas.{behind-later}
+use Rattle.st_refine.proofs.OpeningLemmas.{ended-again}
 
 -- ---- entries that are prepared before the last one is done
-
-none-true : (b : Bool) → (b ≡ true → ⊥) → b ≡ false
-none-true true f = absurd (f refl)
-none-true false f = refl
 
 same-count : (b : Bool) (x y : Ahead) (xs ys : List Ahead) → (b ≡ true → length xs ≡ length ys)
     → length (if b then x ∷ xs else []) ≡ length (if b then y ∷ ys else [])
@@ -35,7 +33,7 @@ same-count false x y xs ys same = refl
 -- they are not done alone
 not-alone : (ds : List ℕ) (n now : ℕ) (f : Front) (e : Entry) → now ≤ f.c → (row_of_entry ds n f e).p < now → e.serial ≡ false
 unfolding row_of_entry tick_a tick_p address_tick preparation_tick
-not-alone ds n now f e late early = none-true e.serial (λ alone. absurd (behind e.serial alone early))
+not-alone ds n now f e late early = false_from_ne_true e.serial (λ alone. absurd (behind e.serial alone early))
   where
     behind : (b : Bool) → b ≡ true → (row_of_entry ds n f (record e { serial = b })).p < now → ⊥
     behind true is before = omega arith
@@ -45,10 +43,6 @@ guess-alike : (s u : Machine) → IsMachine s → AreAlikeBesideOrders s u → (
     → AreAlikeBesideOrders (guess None s) (guess None u)
 unfolding entry guesses RunAhead
 guess-alike s u m alike free = (passed-over 1 s u m alike (free, tt)).1
-
-behind-later : (ds : List ℕ) (n now : ℕ) (f : Front) (e : Entry) → now ≤ f.c → now ≤ (front_after_entry ds n f e).c
-unfolding front_after_entry tick_c
-behind-later ds n now f e late = omega arith
 
 count-alike : (ds : List ℕ) (n now k : ℕ) (s u : Machine) (f : Front) → IsMachine s → AreAlikeBesideOrders s u → now ≤ f.c
     → length (prepared_before now (ahead ds n k None s f)) ≡ length (prepared_before now (ahead ds n k None u f))
@@ -65,38 +59,6 @@ count-alike ds n now (suc k) s u f m alike late =
     ∙ ap (λ (x : Entry). length (if nat_lt (row_of_entry ds n f x).p now
     then record { state = u; table = None; front = f; entry = x; row = row_of_entry ds n f x } ∷ before (ahead ds n k None (guess None u) (front_after_entry ds n f x))
     else [])) (sym (entry-same None s u alike))
-
--- ---- the counter of a guess
-
-counted-alike : (c : Option ℕ) (s u : Machine) → AreAlikeBesideOrders s u → AreAlikeBesideOrders (with_counter c s) (with_counter c u)
-counted-alike None s u is = is
-counted-alike (Some h) s u is = record {
-  size = is.size;
-  words = is.words;
-  ic = refl;
-  enabled = is.enabled;
-  waiting = is.waiting;
-  done = is.done;
-}
-
-counted-machine : (c : Option ℕ) (s : Machine) → IsMachine s → IfSome c (λ h. h < 2 ^ 19) → IsMachine (with_counter c s)
-counted-machine None s is below = is
-counted-machine (Some h) s is below = record {
-  size = is.size;
-  counter = below;
-  below = is.below;
-  registers = is.registers;
-  reader_area = is.reader_area;
-  printer_area = is.printer_area;
-}
-
--- the counter behind a branch that was missed
-pub missed-below : (m : Overlap) → IsMachine m.state → IfSome m.taken (λ i. i < 64) → IfSome (missed_counter m) (λ h. h < 2 ^ 19)
-missed-below m is some = missed-by _ (plan m.state m.taken).following (plan-prepared m.state m.taken is some).following
-  where
-    missed-by : (b : Bool) (h : ℕ) → h < 2 ^ 19 → IfSome (if b then Some h else None) (λ i. i < 2 ^ 19)
-    missed-by true h below = below
-    missed-by false h below = tt
 
 -- ---- the end of a segment
 
@@ -129,10 +91,6 @@ ended-first t u is alike =
 pub ended-behind : (t : Together) → IsBehindEntry t → machine_after_segment t.machine ≡ opened t.machine t.machine.state
 unfolding machine_after_segment
 ended-behind t is = ap (λ b. if b then t.machine else opened t.machine t.machine.state) is.going
-
-ended-again : (m : Overlap) → m.ended ≡ true → machine_after_segment m ≡ m
-unfolding machine_after_segment
-ended-again m over = ap (λ b. if b then m else opened m m.state) over
 
 -- what it is, as long as nothing but signals and orders came
 pub ended-since : (b : Together) (m : Overlap) (over : Bool) → IsBehindEntry b → IsSince b.machine over m

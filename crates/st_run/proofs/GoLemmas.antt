@@ -19,7 +19,8 @@ use Rattle.st_run.proofs.Turns.{behind-done, behind-none}
 use Rattle.st_run.proofs.ToldLemmas.{once}
 use Rattle.st_run.proofs.TickLemmas.{row-same}
 use Rattle.st_run.proofs.MomentLemmas.{moment-next, behind-next, row-before}
-use Rattle.st_run.proofs.LeftLemmas.{plan-address, next-done, next-tick, oldest-in_time}
+use Rattle.st_run.proofs.LeftLemmas.{next-done, next-tick, oldest-in_time}
+use Rattle.st_refine.proofs.SplitLemmas.{plan-address}
 
 -- ---- snapshots
 
@@ -41,20 +42,9 @@ behind-completes ds n left p [] late = behind-none ds n left p
 behind-completes ds n left p (x ∷ xs) late = behind-done ds n left p x xs late
 
 pub tick-before : (t : Together) (now : ℕ) → IsBeforeEntry t → now ≤ (oldest_row t.machine).c → IsBeforeEntry (at_tick now t)
-tick-before t now h early = record {
-  some = h.some;
-  few = h.few;
-  delays = h.delays;
-  scene = h.scene;
-  settled = h.settled;
-  going = h.going;
-  stands = h.stands;
-  guessed = h.guessed;
-  closed = h.closed;
-  table = h.table;
-  awake = h.awake;
-  early = omega (arith, early, ap {A = FrontRow} (λ r. r.c) (row-same t.machine now));
-}
+tick-before t now h early =
+    let soon : now ≤ (oldest_row (at_tick now t).machine).c = omega (arith, early, ap {A = FrontRow} (λ r. r.c) (row-same t.machine now)) in
+    assumption
 
 module _ (left tick : ℕ) (snaps : List ℕ) (t new : Together) (before : IsBeforeEntry t) (rising : AreRising (t.machine.now - 1) snaps)
     (in_time : AreInTime (told_of_events (timed_behind t.machine.delays t.machine.levels left (standing_of tick t) snaps))) where
@@ -140,7 +130,7 @@ module _ (left tick : ℕ) (snaps : List ℕ) (t new : Together) (before : IsBef
         let s = o.state in
         let rows : oldest_row o ≡ next_row o.delays o.levels p = row-before t tick before in
         let place : (plan s o.taken).place.address ≡ address s =
-        ap {A = Option ℕ} (λ k. (plan s k).place.address) before.table ∙ plan-address s (interrupt s) in
+        ap {A = Option ℕ} (λ k. (plan s k).place.address) before.ready.table ∙ plan-address s (interrupt s) in
         ap {A = FrontRow} (λ r. once (s.done + 1) (oldest_row o).c (Done (plan s o.taken).place.address r.p r.r (oldest_row o).c)) (row-same o (oldest_row o).c)
         ∙ ap {A = FrontRow} (λ r. once (s.done + 1) r.c (Done (plan s o.taken).place.address r.p r.r r.c)) rows
         ∙ ap {A = ℕ} (λ k. once (s.done + 1) (next_row o.delays o.levels p).c (Done k (next_row o.delays o.levels p).p

@@ -6,7 +6,7 @@ use Rattle.st_segment.specs.Ahead.{ahead}
 use Rattle.st_segment.proofs.StepLemmas.{guess-right, guess-missed}
 use Rattle.st_run.specs.Moments.{Standing, interrupt_of_moment, front_after, entries_behind, next_moment}
 use Rattle.st_run.specs.Scenes.{IsScene}
-use Rattle.st_run.proofs.SceneLemmas.{interrupt-below}
+use Rattle.st_refine.proofs.Kept.{interrupt-below}
 
 module _ (ds : List ℕ) (n k : ℕ) (p : Standing) (is : IsScene p.scene) where
   pub behind-right : (next_moment ds n p).missed ≡ false

@@ -9,8 +9,9 @@ use Rattle.st_run.proofs.ShownLemmas.{timed-shown}
 use Rattle.st_run.proofs.Turns.{nothing-ahead, snapshot-none}
 use Rattle.st_run.proofs.PrintLemmas.{settled-one}
 use Rattle.st_run.proofs.GuessLemmas.{behind-right, behind-missed}
-use Rattle.st_run.proofs.SceneLemmas.{interrupt-below, settled-scene, stepped-scene}
+use Rattle.st_run.proofs.SceneLemmas.{settled-scene, stepped-scene}
 use Rattle.st_run.specs.Laws.{TheTimedRunIsTheRun, DelaysChangeNothingButTicks, RunsAreInTime, EventsComeInOrder, SnapshotsAreShownUpToTheEnd, NothingIsAheadBehindAnEnd, PrintsComeOneAtATime, DroppedEntriesFollowTheGuess, ScenesAreKept}
+use Rattle.st_refine.proofs.Kept.{interrupt-below}
 
 pub the_timed_run_is_the_run : TheTimedRunIsTheRun
 the_timed_run_is_the_run = record {

@@ -2,8 +2,7 @@
 use Rattle.std.specs.Prelude.{map, is_some, if◌then◌else◌, ◌||◌, IsSome, option_map, ◌≢◌}
 use Rattle.std.proofs.Common.{◌≡◌, ℕ, ◌+◌, ◌-◌, ◌<◌, ◌^◌, Bool, true, false, List, [], ◌∷◌, ◌++◌, Option, None, Some, refl, sym, ◌∙◌, ap, subst, arith}
 use Rattle.st_state.specs.Machine.{Machine}
-use Rattle.st_prep.specs.Fetch.{address_by, place_of}
-use Rattle.st_prep.specs.Plan.{plan, prepared_entry, prepared_by, suppressed_entry, entry_at as entry_of, sight}
+use Rattle.st_prep.specs.Plan.{prepared_by, suppressed_entry, entry_at as entry_of}
 use Rattle.st_prep.specs.declared.entries.Place.{Place}
 use Rattle.st_prep.specs.declared.entries.Aim.{Aim}
 use Rattle.st_exec.specs.Step.{interrupt, rests, address}
@@ -24,7 +23,7 @@ use Rattle.st_run.specs.declared.turn.Turn.{Turn}
 use Rattle.st_run.specs.declared.turn.Turn.TheVariants as turns
 use Rattle.st_run.proofs.Turns.{timed-rests, timed-budget, timed-goes_on, nothing-ahead}
 use Rattle.st_run.proofs.ToldLemmas.{once, told-append, dropped_at, told-between, told-last, told-completion}
-use Rattle.st_run.proofs.MomentLemmas.{still, ready-before, ready-still, row-before}
+use Rattle.st_run.proofs.MomentLemmas.{still, ready-still, row-before}
 
 -- ---- the run ends, or goes on
 
@@ -128,7 +127,7 @@ module _ (ds : List ℕ) (n left tick : ℕ) (m : Moment) (snaps : List ℕ) (d 
       ap {A = Scene} (λ c. record { scene = c; tick = m.tick; front = o.front }) g.scene
       ∙ ap {A = Front} (λ f. record (standing_at m) { front = f }) g.front in
       let taken : is_some (interrupt (next_state m)) ≡ true = ap is_some (sym g.taken) ∙ some in
-      ap levels_of (ready-still o (ready-before t g.before))
+      ap levels_of (ready-still o g.before.ready)
       ∙ levels-still o.delays o.levels (scene_of t) o.front m.tick o.now
       ∙ ap {A = ℕ} (λ k. prepared_before k (entries_at_moment o.delays o.levels (standing_of m.tick t))) g.now
       ∙ ap {A = Standing} (λ p. prepared_before (m.tick + 1) (entries_at_moment o.delays o.levels p)) stand
@@ -181,10 +180,6 @@ by-place : (o : Option ℕ) (place : Place) (a : Aim) (x : List ℕ) (read : Opt
 unfolding suppressed_entry entry_of
 by-place None place a x read = refl
 by-place (Some i) place a x read = refl
-
-pub plan-address : (s : Machine) (t : Option ℕ) → (plan s t).place.address ≡ address_by t s
-unfolding plan prepared_entry sight place_of
-plan-address s t = ap {A = Place} (λ q. q.address) (by-place _ (place_of s t) _ _ _)
 
 module _ (left tick : ℕ) (snaps : List ℕ) (t : Together) (before : IsBeforeEntry t)
     (in_time : AreInTime (told_of_events (timed_behind t.machine.delays t.machine.levels left (standing_of tick t) snaps))) where

@@ -12,6 +12,7 @@ pub mod GuessLemmas
 pub mod EndLemmas
 pub mod SceneLemmas
 pub mod DoneLemmas
+pub mod EachEvent
 pub mod Bounds
 pub mod TickLemmas
 pub mod WaitingLemmas

@@ -13,35 +13,24 @@ use Rattle.st_rows.specs.Rows.{row_of_entry, front_after_entry}
 use Rattle.st_rows.specs.declared.front.Front.{Front}
 use Rattle.st_segment.specs.Ahead.{Ahead, ahead, prepared_before}
 use Rattle.st_segment.specs.Entries.{entry}
-use Rattle.st_ahead.specs.Overlap.{Overlap, state_ahead, oldest_row, with_counter, levels_of, banks_at_its_end}
+use Rattle.st_ahead.specs.Overlap.{Overlap, state_ahead, oldest_row, with_counter, levels_of, banks_at_its_end, machine_between_ticks}
 use Rattle.st_ahead.specs.Calls.{machine_after_completion}
 use Rattle.st_run.specs.Scenes.{IsScene}
 use Rattle.st_run.specs.Moments.{Moment, Standing, next_row, front_after, entries_behind, next_moment}
-use Rattle.st_run.specs.Together.{Together, scene_of, IsBeforeEntry, IsBehindEntry, standing_of, moment_of}
-use Rattle.st_run.specs.Ticking.{IsMachineReady, at_completion}
-use Rattle.st_run.proofs.SceneLemmas.{interrupt-below, stepped-scene}
+use Rattle.st_run.specs.Together.{Together, scene_of, IsBeforeEntry, IsBehindEntry, standing_of, moment_of, IsMachineReady}
+use Rattle.st_run.specs.Ticking.{at_completion}
+use Rattle.st_run.proofs.SceneLemmas.{stepped-scene}
 use Rattle.st_run.proofs.GuessLemmas.{behind-right, behind-missed}
-use Rattle.st_run.proofs.TickLemmas.{hazard_free, ready-hazard_free}
+use Rattle.st_run.proofs.TickLemmas.{ready-between}
+use Rattle.st_refine.proofs.Kept.{interrupt-below}
 
 -- a machine between two ticks, by what it keeps there
 abbrev pub still : List ℕ → ℕ → Machine → Front → ℕ → Overlap
-still ds n s f now = hazard_free ds n s (interrupt s) f now
-
-pub ready-before : (t : Together) → IsBeforeEntry t → IsMachineReady t.machine
-ready-before t h = record {
-  settled = h.settled;
-  going = h.going;
-  stands = h.stands;
-  guessed = h.guessed;
-  closed = h.closed;
-  table = h.table;
-  awake = h.awake;
-  early = h.early;
-}
+still ds n s f now = machine_between_ticks ds n s (interrupt s) f now
 
 pub ready-still : (o : Overlap) → IsMachineReady o → o ≡ still o.delays o.levels o.state o.front o.now
 ready-still o h =
-    ready-hazard_free o h ∙ ap {A = Option ℕ} (λ t. hazard_free o.delays o.levels o.state t o.front o.now) h.table
+    ready-between o h ∙ ap {A = Option ℕ} (λ t. machine_between_ticks o.delays o.levels o.state t o.front o.now) h.table
 
 module _ (ds : List ℕ) (n : ℕ) (c : Scene) (f : Front) (tick now : ℕ) where
   abbrev pub here : Standing
@@ -93,7 +82,7 @@ pub moment-next : (t : Together) (tick : ℕ) → IsBeforeEntry t
     ≡ next_moment t.machine.delays t.machine.levels (standing_of tick t)
 moment-next t tick h =
     let o = t.machine in
-    ap {A = Overlap} (λ q. moment_of (record t { machine = machine_after_completion (at_completion q) })) (ready-still o (ready-before t h))
+    ap {A = Overlap} (λ q. moment_of (record t { machine = machine_after_completion (at_completion q) })) (ready-still o h.ready)
     ∙ moment-done o.delays o.levels (scene_of t) o.front tick o.now h.scene
 
 -- nothing has come from outside since
@@ -121,7 +110,7 @@ behind-done t f now some few delays is = record {
 
 pub behind-next : (t : Together) → IsBeforeEntry t → IsBehindEntry (record t { machine = machine_after_completion (at_completion t.machine) })
 behind-next t h =
-    subst {A = Overlap} (λ q. IsBehindEntry (record t { machine = machine_after_completion (at_completion q) })) (sym (ready-still t.machine (ready-before t h)))
+    subst {A = Overlap} (λ q. IsBehindEntry (record t { machine = machine_after_completion (at_completion q) })) (sym (ready-still t.machine h.ready))
     (behind-done t t.machine.front t.machine.now h.some h.few h.delays h.scene)
 
 -- its row
@@ -129,4 +118,4 @@ pub row-before : (t : Together) (tick : ℕ) → IsBeforeEntry t
     → oldest_row t.machine ≡ next_row t.machine.delays t.machine.levels (standing_of tick t)
 row-before t tick h =
     let o = t.machine in
-    ap oldest_row (ready-still o (ready-before t h)) ∙ row-still o.delays o.levels (scene_of t) o.front tick o.now
+    ap oldest_row (ready-still o h.ready) ∙ row-still o.delays o.levels (scene_of t) o.front tick o.now

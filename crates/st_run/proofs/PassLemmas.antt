@@ -1,6 +1,6 @@
 -- Entries that are done one after another, between which nothing comes.
 use Rattle.std.specs.Prelude.{All, is_some, nat_le, length, map}
-use Rattle.std.proofs.Common.{◌≡◌, ◌≢◌, ℕ, zero, suc, ◌+◌, ◌-◌, ◌<◌, ◌≤◌, ◌||◌, Bool, true, false, List, [], ◌∷◌, ◌++◌, Option, None, Some, refl, sym, ◌∙◌, ap, subst, arith}
+use Rattle.std.proofs.Common.{◌≡◌, ◌≢◌, ℕ, zero, suc, ◌+◌, ◌-◌, ◌<◌, ◌≤◌, ◌||◌, Bool, true, false, List, [], ◌∷◌, ◌++◌, Option, None, Some, refl, sym, ◌∙◌, ap, subst, arith, length-append}
 use Rattle.std.proofs.lemmas.Bool.Decides.{nat_tests}
 use Rattle.std.proofs.lemmas.List.Elements.{All-nil, All-cons}
 use Rattle.st_state.specs.Machine.{Machine}
@@ -24,7 +24,7 @@ use Rattle.st_run.specs.Telling.{Waiting, whats, row_told, rows_then, IsDone, Ar
 use Rattle.st_run.specs.Ticking.{AreMade, AreMadeUpTo, at_completion, last_for}
 use Rattle.st_run.specs.declared.turn.Turn.TheVariants as turns
 use Rattle.st_run.proofs.TickLemmas.{tick-passes, tick-early, tick-done, done-completed}
-use Rattle.st_run.proofs.MomentLemmas.{ready-before, moment-next}
+use Rattle.st_run.proofs.MomentLemmas.{moment-next}
 use Rattle.st_run.proofs.PartLemmas.{HasParts}
 use Rattle.st_run.proofs.LeftLemmas.{waits, left-told, left-keeps, oldest-in_time, next-done}
 use Rattle.st_run.proofs.ProgressLemmas.{rest-quiet}
@@ -74,10 +74,6 @@ rows-both (x ∷ xs) ys rest = ap (λ (more : List Told). row_told x ∷ more) (
 rows-are : (xs : List Row) → All (λ x. IsDone x.what) (map row_told xs)
 rows-are [] = All-nil (λ (x : Told). IsDone x.what)
 rows-are (x ∷ xs) = All-cons (λ (y : Told). IsDone y.what) (row_told x) (map row_told xs) tt (rows-are xs)
-
-length-both : (xs ys : List Row) → length (xs ++ ys) ≡ length xs + length ys
-length-both [] ys = omega arith
-length-both (x ∷ xs) ys = let rest = length-both xs ys in omega (arith, rest)
 
 -- entries were done, between which nothing came and fewer than `count` by then, in k ticks which
 -- leave the machine `new`
@@ -195,11 +191,11 @@ tick-passed count left tick t before in_time few signals passes = by (is_done t.
     by true due = one-passed left tick t before in_time due count passes few signals
     by false late =
         let o = t.machine in
-        let next = tick-passes o o o.now (ready-before t before) refl late in
+        let next = tick-passes o o o.now before.ready refl late in
         subst {A = Overlap} (λ m. PassedTo count left tick 1 t m) (sym next) (record {
           left_now = left;
           tick_now = tick;
-          before = tick-before t (o.now + 1) before (tick-early o o o.now before.early refl late);
+          before = tick-before t (o.now + 1) before (tick-early o o o.now before.ready.early refl late);
           in_time = in_time;
           tells = ap {A = List Row} (λ xs. rows_then xs (rest_told left tick t)) (sym (row-late o late));
           number = refl;
@@ -233,7 +229,7 @@ all-passed (suc k) count left tick t new before in_time few signals are =
     let these = rows_in_ticks 1 t.machine in
     let those = rows_in_ticks k next.machine in
     let all : rows_in_ticks (suc k) t.machine ≡ these ++ those = rows-first k t.machine in
-    let many = ap {A = List Row} (λ xs. length xs) all ∙ length-both these those in
+    let many = ap {A = List Row} (λ xs. length xs) all ∙ length-append these those in
     record {
       left_now = rest.left_now;
       tick_now = rest.tick_now;
@@ -297,7 +293,7 @@ module _ (count left tick : ℕ) (t new : Together) (before : IsBeforeEntry t) (
       let all = all-passed (last_for None + 1 - o.now) count left tick t new.machine before in_time few signals made.ticked in
       let far = oldest-in_time left tick [] t before in_time in
       let late = oldest-in_time all.left_now all.tick_now [] (record t { machine = new.machine }) all.before all.in_time in
-      omega (arith, far, late, before.early, all.before.early, all.now)
+      omega (arith, far, late, before.ready.early, all.before.ready.early, all.now)
 
 -- ---- of a run where nothing waits and no snapshot is to come
 

@@ -23,7 +23,7 @@ use Rattle.st_run.specs.declared.turn.Turn.{Turn}
 use Rattle.st_run.specs.declared.turn.Turn.TheVariants as turns
 use Rattle.st_run.proofs.Turns.{behind-snapshot, same-words}
 use Rattle.st_run.proofs.ToldLemmas.{once}
-use Rattle.st_run.proofs.MomentLemmas.{still, ready-before, ready-still, row-before}
+use Rattle.st_run.proofs.MomentLemmas.{still, ready-still, row-before}
 
 -- ---- nothing waits
 
@@ -98,9 +98,9 @@ show-told left tick x xs t h now =
     let n = o.levels in
     let p = standing_of tick t in
     let row : oldest_row o ≡ next_row ds n p = row-before t tick h in
-    let early : x < (next_moment ds n p).tick = omega (arith, h.early, now, ap (λ r. r.c) row) in
+    let early : x < (next_moment ds n p).tick = omega (arith, h.ready.early, now, ap (λ r. r.c) row) in
     let machine : o ≡ still ds n o.state o.front (x + 1) =
-    ready-still o (ready-before t h) ∙ ap {A = ℕ} (λ k. still ds n o.state o.front k) now in
+    ready-still o h.ready ∙ ap {A = ℕ} (λ k. still ds n o.state o.front k) now in
     ap told_of_events (behind-snapshot ds n left p x xs early)
     ∙ ap (λ (y : Told). y ∷ told_of_events (timed_behind ds n left p xs))
     (shown-still ds n (scene_of t) o.front tick x

@@ -1,7 +1,6 @@
 -- The laws of runs.
 use Rattle.std.specs.Prelude.{All, map, reverse}
-use Rattle.std.proofs.Common.{◌≡◌, ℕ, zero, suc, ◌+◌, ◌≤◌, List, [], ◌∷◌, ◌++◌, append_assoc, ◌*◌, refl, sym, subst, ◌∙◌, ap, arith}
-use Rattle.std.proofs.lemmas.List.Elements.{All-nil, All-cons, All-append}
+use Rattle.std.proofs.Common.{◌≡◌, ℕ, zero, suc, ◌+◌, ◌≤◌, List, [], ◌∷◌, ◌++◌, append_assoc, ◌*◌, refl, sym, subst, arith}
 use Rattle.st_prep.proofs.Choices.{of_choice}
 use Rattle.st_exec.specs.Step.{interrupt, rests}
 use Rattle.st_exec.proofs.StepLemmas.{step-done}
@@ -13,73 +12,15 @@ use Rattle.st_rows.specs.Ranges.{AreDelaysUpTo}
 use Rattle.st_run.specs.RunLaws.{RunsKeepTheirBudget, AreNear, CompletionsAreNear}
 use Rattle.st_run.proofs.Bounds.{IsMoment, next-is, next-tick, start-is}
 use Rattle.st_run.proofs.DoneLemmas.{settled-done}
+use Rattle.st_run.proofs.EachEvent.{timed-each, next-more}
 
 -- ---- the budget
 
--- by then no more instructions are done than so many
-abbrev HasDone : ℕ → Timed → Type 0
-HasDone k x = x.done ≤ k
-
-each-done : {A : Type 0} (k : ℕ) (f : A → Timed) (xs : List A) → ((x : A) → HasDone k (f x)) → All (HasDone k) (map f xs)
-each-done k f [] holds = All-nil (HasDone k)
-each-done k f (x ∷ xs) holds = All-cons (HasDone k) (f x) (map f xs) (holds x) (each-done k f xs holds)
-
-module _ (k : ℕ) (m : Moment) (few : m.scene.machine.done ≤ k) where
-  drops-done : All (HasDone k) (drops m)
-  unfolding drops
-  drops-done = each-done k (λ a. record { done = m.scene.machine.done; tick = m.tick; event = drop_of a }) (reverse m.dropped) (λ a. few)
-
-  between-done : All (HasDone k) (events_between m)
-  unfolding events_between
-  between-done =
-      let hs = (interlude m.scene).happened ++ interrupts_by (interrupt (next_state m)) (next_state m) in
-      All-append (HasDone k) (drops_if_ends m) (map (happening_at m) hs)
-      (of_choice (λ xs. All (HasDone k) xs) (ends_segment m) (drops m) [] drops-done (All-nil (HasDone k)))
-      (each-done k (happening_at m) hs (λ h. few))
-
-  last_events-done : (snaps : List ℕ) → All (HasDone k) (last_events m snaps)
-  unfolding last_events
-  last_events-done snaps =
-      let came = map (happening_at m) (interlude m.scene).happened in
-      let shows = map (last_snapshot_at m) (ticks_before (m.tick + 1) snaps) in
-      let last = happening_at m (Ends (next_state m) (rests (next_state m))) in
-      All-append (HasDone k) (drops m ++ came ++ shows) (last ∷ [])
-      (All-append (HasDone k) (drops m ++ came) shows
-      (All-append (HasDone k) (drops m) came drops-done (each-done k (happening_at m) (interlude m.scene).happened (λ h. few)))
-      (each-done k (last_snapshot_at m) (ticks_before (m.tick + 1) snaps) (λ x. few)))
-      (All-cons (HasDone k) last [] few (All-nil (HasDone k)))
-
-until_done-done : (k : ℕ) (ds : List ℕ) (n : ℕ) (p : Standing) (snaps : List ℕ) → p.scene.machine.done ≤ k
-    → (next_moment ds n p).scene.machine.done ≤ k → All (HasDone k) (until_done ds n p snaps)
-unfolding until_done
-until_done-done k ds n p snaps few next_few =
-    let due = ticks_before (next_moment ds n p).tick snaps in
-    let last = completion ds n p in
-    All-append (HasDone k) (map (snapshot_at ds n p) due) (last ∷ [])
-    (each-done k (snapshot_at ds n p) due (λ x. few))
-    (All-cons (HasDone k) last [] next_few (All-nil (HasDone k)))
-
-one-more : (ds : List ℕ) (n : ℕ) (m : Moment) → (next_moment ds n (standing_at m)).scene.machine.done ≡ m.scene.machine.done + 1
-unfolding next_moment
-one-more ds n m = step-done (next_state m) ∙ ap (λ d. d + 1) (settled-done m.scene)
-
-timed-done : (ds : List ℕ) (n left k : ℕ) (m : Moment) (snaps : List ℕ) → m.scene.machine.done + left ≤ k
-    → All (HasDone k) (timed_from ds n left m snaps)
-unfolding timed_from
-timed-done ds n zero k m snaps few = last_events-done k m (omega arith) snaps
-timed-done ds n (suc left) k m snaps few =
-    let p = standing_at m in
-    let next = next_moment ds n p in
-    let more = one-more ds n m in
-    let same : p.scene.machine.done ≡ m.scene.machine.done = settled-done m.scene in
-    let rest = timed_from ds n left next (snapshots_from next.tick snaps) in
-    let turn = events_between m ++ until_done ds n p snaps in
-    of_choice (λ xs. All (HasDone k) xs) (rests (next_state m)) (last_events m snaps) (turn ++ rest)
-    (last_events-done k m (omega arith) snaps)
-    (All-append (HasDone k) turn rest
-    (All-append (HasDone k) (events_between m) (until_done ds n p snaps) (between-done k m (omega arith))
-    (until_done-done k ds n p snaps (omega (arith, same, few)) (omega (arith, more, few))))
-    (timed-done ds n left k next (snapshots_from next.tick snaps) (omega (arith, more, few))))
+pub timed-done : (ds : List ℕ) (n left k : ℕ) (m : Moment) (snaps : List ℕ) → m.scene.machine.done + left ≤ k
+    → All (λ (x : Timed). x.done ≤ k) (timed_from ds n left m snaps)
+timed-done ds n left k m snaps few =
+    timed-each (λ done tick. done ≤ k) ds n (λ left m. m.scene.machine.done + left ≤ k) (λ left m few. omega (arith, few))
+    (λ left m few. let more = next-more ds n m in omega (arith, few, more)) left m snaps few
 
 -- the plain run
 ran-done : (left : ℕ) (c : Scene) → (run left c).last.done ≤ c.machine.done + left

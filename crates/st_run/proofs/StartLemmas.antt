@@ -1,9 +1,9 @@
 -- The start of a run, where no interrupt is enabled, nothing waits and no order is given.
-use Rattle.std.specs.Prelude.{map, reverse, slice_index, is_some, nat_lt, nat_le, if◌then◌else◌, All}
+use Rattle.std.specs.Prelude.{map, slice_index, is_some, nat_lt, nat_le, if◌then◌else◌, All}
 use Rattle.std.specs.List.Sorted.{IsStrictlyIncreasing}
-use Rattle.std.proofs.Common.{◌≡◌, ◌≢◌, ℕ, zero, suc, ◌+◌, ◌-◌, ◌<◌, ◌≤◌, ◌^◌, Bool, false, ◌||◌, List, [], ◌∷◌, ◌++◌, length, Option, None, refl, sym, ◌∙◌, ap, subst, arith}
+use Rattle.std.proofs.Common.{◌≡◌, ◌≢◌, ℕ, suc, ◌+◌, ◌-◌, ◌<◌, ◌≤◌, ◌^◌, Bool, false, ◌||◌, List, [], ◌∷◌, ◌++◌, length, Option, None, refl, sym, ◌∙◌, ap, subst, arith}
 use Rattle.std.proofs.lemmas.Bool.{le-ltb}
-use Rattle.std.proofs.lemmas.List.Elements.{All-nil, All-cons, All-append, All-head, All-tail}
+use Rattle.std.proofs.lemmas.List.Elements.{All-nil, All-cons, All-head, All-tail}
 use Rattle.st_state.specs.Machine.{Machine}
 use Rattle.st_state.specs.Interrupts.{state_with_signal}
 use Rattle.st_state.specs.Orders.{next_device}
@@ -11,16 +11,14 @@ use Rattle.st_state.specs.declared.devices.Order.{Order}
 use Rattle.st_prep.proofs.Choices.{of_choice}
 use Rattle.st_exec.specs.Step.{interrupt, rests}
 use Rattle.st_card.specs.declared.control_cards.Signal.{Signal}
-use Rattle.st_run.specs.Run.{Scene, PlainEvent, Ends, with_due_signals, with_due_orders, with_order_at_rest, with_signals_at_rest, with_wait, interlude, interrupts_by, if_due, Transition, uneventful, and_then, with_reader, with_printer, with_device}
+use Rattle.st_run.specs.Run.{Scene, with_due_signals, with_due_orders, with_order_at_rest, with_wait, interlude, interrupts_by, if_due, Transition, uneventful, and_then, with_reader, with_printer, with_device}
 use Rattle.st_rows.specs.Ranges.{AreDelaysUpTo}
 use Rattle.st_rows.specs.Rows.{opening_front}
 use Rattle.st_ahead.specs.Overlap.{Overlap, machine_at_start}
-use Rattle.st_segment.specs.Ahead.{Ahead}
-use Rattle.st_exec.proofs.StepLemmas.{step-done}
-use Rattle.st_run.specs.Events.{Timed, drop_of}
+use Rattle.st_run.specs.Events.{Timed}
 use Rattle.st_run.specs.Scenes.{IsScene}
-use Rattle.st_run.specs.Moments.{Moment, Standing, moment_at_start, answers_at_start, next_state, has_card, has_waited, ends_segment, next_segment, next_front, standing_at, next_moment}
-use Rattle.st_run.specs.TimedRun.{event_at, ticks_before, snapshots_from, snapshot_at, last_snapshot_at, drops, drops_if_ends, happening_at, events_between, completion, until_done, last_events, timed_from, timed_behind, timed_run}
+use Rattle.st_run.specs.Moments.{Standing, moment_at_start, answers_at_start, next_state, has_card, has_waited, ends_segment, next_segment, next_front, standing_at}
+use Rattle.st_run.specs.TimedRun.{drops, happening_at, events_between, timed_behind, timed_run}
 use Rattle.st_run.specs.Order.{AreRising}
 use Rattle.st_run.specs.Told.{Told, told_of, told_of_events}
 use Rattle.st_run.specs.Together.{Together, with_scene, IsBeforeEntry}
@@ -29,10 +27,11 @@ use Rattle.st_run.specs.declared.turn.Turn.TheVariants as turns
 use Rattle.st_run.proofs.ProgressLemmas.{Quiet, rest-quiet}
 use Rattle.st_run.proofs.Turns.{timed-goes_on}
 use Rattle.st_run.proofs.Bounds.{run-time}
-use Rattle.st_run.proofs.DoneLemmas.{settled-done}
+use Rattle.st_run.proofs.RunLaws.{timed-done}
 use Rattle.st_run.proofs.SceneLemmas.{due-scene}
 use Rattle.st_run.specs.Outside.{Coming}
 use Rattle.st_run.proofs.InterludeLemmas.{with_coming}
+use Rattle.st_run.proofs.SignalLemmas.{wait-none}
 
 -- ---- the machine once the signals that are due came
 
@@ -80,22 +79,9 @@ orders-idle c is =
     (λ e. with_printer (if_due e.machine.done e.machine.printer) e)) is.reader
     ∙ ap {A = Option Order} (λ o. and_then (uneventful c) (λ e. with_printer (if_due c.machine.done o) c)) is.printer
 
-rest-idle : (s : Machine) (xs : List Signal) (cards : List (List ℕ)) → rests s ≡ false
-    → with_signals_at_rest s xs cards ≡ record { machine = s; signals = xs; cards = cards }
-rest-idle s [] cards awake = refl
-rest-idle s (x ∷ xs) cards awake = rw awake refl
-
 order-idle : (c : Scene) → rests c.machine ≡ false → with_order_at_rest c ≡ uneventful c
 unfolding with_order_at_rest
 order-idle c awake = ap {A = Bool} (λ b. if b then with_device (next_device c.machine) c else uneventful c) awake
-
-wait-idle : (c : Scene) → rests c.machine ≡ false → with_wait c ≡ uneventful c
-unfolding with_wait
-wait-idle c awake =
-    let ending : Scene → Transition = λ d. uneventful (with_signals_at_rest d.machine d.signals d.cards) in
-    ap {A = Transition} (λ r. and_then (and_then r with_order_at_rest) ending) (order-idle c awake)
-    ∙ ap {A = Transition} (λ r. and_then (and_then (uneventful c) (λ d. r)) ending) (order-idle c awake)
-    ∙ ap {A = Scene} (λ d. uneventful d) (rest-idle c.machine c.signals c.cards awake)
 
 module _ (c : Scene) (is : IsIdle c.machine) where
   abbrev pub due : Scene
@@ -108,7 +94,7 @@ module _ (c : Scene) (is : IsIdle c.machine) where
   unfolding interlude
   settled-idle =
       ap {A = Transition} (λ r. and_then r with_wait) (orders-idle due due-idle)
-      ∙ ap {A = Transition} (λ r. and_then (uneventful due) (λ d. r)) (wait-idle due (idle-rests due.machine due-idle))
+      ∙ ap {A = Transition} (λ r. and_then (uneventful due) (λ d. r)) (wait-none due (idle-rests due.machine due-idle))
 
   same-not_less : (n : ℕ) → nat_lt n n ≡ false
   same-not_less n = let le : n ≤ n = omega arith in le-ltb n n le
@@ -162,76 +148,6 @@ module _ (c : Scene) (is : IsIdle c.machine) where
       ∙ ap {A = List Timed} (λ xs. xs ++ timed_behind ds n (budget - 1) (standing_at (moment_at_start c)) snaps) between-idle
       ∙ ap {A = Standing} (λ p. timed_behind ds n (budget - 1) p snaps) standing-idle
 
--- ---- how many are done
-
-abbrev IsFew : ℕ → Timed → Type 0
-IsFew b x = x.done ≤ b
-
-each-few : {A : Type 0} (b : ℕ) (f : A → Timed) (xs : List A) → ((x : A) → IsFew b (f x)) → All (IsFew b) (map f xs)
-each-few b f [] holds = All-nil (IsFew b)
-each-few b f (x ∷ xs) holds = All-cons (IsFew b) (f x) (map f xs) (holds x) (each-few b f xs holds)
-
-module _ (b : ℕ) (m : Moment) (few : m.scene.machine.done ≤ b) where
-  drops-few : All (IsFew b) (drops m)
-  unfolding drops
-  drops-few = each-few b (λ (a : Ahead). event_at m.tick m.scene.machine (drop_of a)) (reverse m.dropped) (λ a. few)
-
-  happenings-few : (hs : List PlainEvent) → All (IsFew b) (map (happening_at m) hs)
-  happenings-few hs = each-few b (happening_at m) hs (λ h. few)
-
-  between-few : All (IsFew b) (events_between m)
-  unfolding events_between
-  between-few =
-      let hs = (interlude m.scene).happened ++ interrupts_by (interrupt (next_state m)) (next_state m) in
-      All-append (IsFew b) (drops_if_ends m) (map (happening_at m) hs)
-      (of_choice (λ (xs : List Timed). All (IsFew b) xs) (ends_segment m) (drops m) [] drops-few (All-nil (IsFew b)))
-      (happenings-few hs)
-
-  last-few : (snaps : List ℕ) → All (IsFew b) (last_events m snaps)
-  unfolding last_events
-  last-few snaps =
-      let came = map (happening_at m) (interlude m.scene).happened in
-      let shows = map (last_snapshot_at m) (ticks_before (m.tick + 1) snaps) in
-      let last = happening_at m (Ends (next_state m) (rests (next_state m))) in
-      All-append (IsFew b) (drops m ++ came ++ shows) (last ∷ [])
-      (All-append (IsFew b) (drops m ++ came) shows
-      (All-append (IsFew b) (drops m) came drops-few (happenings-few (interlude m.scene).happened))
-      (each-few b (last_snapshot_at m) (ticks_before (m.tick + 1) snaps) (λ x. few)))
-      (All-cons (IsFew b) last [] few (All-nil (IsFew b)))
-
-until-few : (b : ℕ) (ds : List ℕ) (n : ℕ) (p : Standing) (snaps : List ℕ) → p.scene.machine.done ≤ b
-    → (next_moment ds n p).scene.machine.done ≤ b → All (IsFew b) (until_done ds n p snaps)
-unfolding until_done
-until-few b ds n p snaps few next_few =
-    let shown = ticks_before (next_moment ds n p).tick snaps in
-    let last = completion ds n p in
-    All-append (IsFew b) (map (snapshot_at ds n p) shown) (last ∷ [])
-    (each-few b (snapshot_at ds n p) shown (λ x. few))
-    (All-cons (IsFew b) last [] next_few (All-nil (IsFew b)))
-
-next-more : (ds : List ℕ) (n : ℕ) (m : Moment) → (next_moment ds n (standing_at m)).scene.machine.done ≡ m.scene.machine.done + 1
-unfolding next_moment
-next-more ds n m = step-done (next_state m) ∙ ap {A = ℕ} (λ d. d + 1) (settled-done m.scene)
-
-run-few : (b : ℕ) (ds : List ℕ) (n left : ℕ) (m : Moment) (snaps : List ℕ) → m.scene.machine.done + left ≤ b
-    → All (IsFew b) (timed_from ds n left m snaps)
-unfolding timed_from
-run-few b ds n zero m snaps few = last-few b m (omega arith) snaps
-run-few b ds n (suc left) m snaps few =
-    let p = standing_at m in
-    let next = next_moment ds n p in
-    let here : m.scene.machine.done ≤ b = omega arith in
-    let more : next.scene.machine.done ≡ m.scene.machine.done + 1 = next-more ds n m in
-    let same : (next_state m).done ≡ m.scene.machine.done = settled-done m.scene in
-    let rest = timed_from ds n left next (snapshots_from next.tick snaps) in
-    let turn = events_between m ++ until_done ds n p snaps in
-    of_choice (λ (xs : List Timed). All (IsFew b) xs) (rests (next_state m)) (last_events m snaps) (turn ++ rest)
-    (last-few b m here snaps)
-    (All-append (IsFew b) turn rest
-    (All-append (IsFew b) (events_between m) (until_done ds n p snaps) (between-few b m here)
-    (until-few b ds n p snaps (omega (arith, same)) (omega (arith, more))))
-    (run-few b ds n left next (snapshots_from next.tick snaps) (omega (arith, more))))
-
 -- ---- all comes in time
 
 told-all : (P : Told → Type 0) (xs : List Timed) → All (λ (x : Timed). P (told_of x)) xs → All P (told_of_events xs)
@@ -245,7 +161,7 @@ pub run-in_time : (ds : List ℕ) (n budget : ℕ) (c : Scene) (snaps : List ℕ
     → c.machine.done ≡ 0 → budget ≤ 10000000 → AreInTime (told_of_events (timed_run ds n budget c snaps))
 run-in_time ds n budget c snaps are levels is none few =
     let timely = run-time 255 n ds are levels budget c snaps is in
-    let less = run-few 10000000 ds n budget (moment_at_start c) snaps (omega arith) in
+    let less = timed-done ds n budget 10000000 (moment_at_start c) snaps (omega arith) in
     told-all (λ (y : Told). (y.tick < 2 ^ 63) × (y.done < 2 ^ 63)) (timed_run ds n budget c snaps)
     (λ k d inside.
     let early = timely k d inside in
@@ -284,14 +200,16 @@ module _ (ds : List ℕ) (n : ℕ) (c : Scene) (idle : IsIdle c.machine) (is : I
     few = few;
     delays = are;
     scene = due-scene c.machine c.signals c.cards is.machine is.cards;
-    settled = refl;
-    going = refl;
-    stands = refl;
-    guessed = refl;
-    closed = refl;
-    table = sym (idle-interrupt (due c idle).machine (due-idle c idle));
-    awake = idle-rests (due c idle).machine (due-idle c idle);
-    early = omega arith;
+    ready = record {
+      settled = refl;
+      going = refl;
+      stands = refl;
+      guessed = refl;
+      closed = refl;
+      table = sym (idle-interrupt (due c idle).machine (due-idle c idle));
+      awake = idle-rests (due c idle).machine (due-idle c idle);
+      early = omega arith;
+    };
   }
 
   pub none-quiet : Quiet none

@@ -1,37 +1,22 @@
 -- Ticks before the next entry is done, and that at which it is done.
 use Rattle.std.specs.Prelude.{is_none, IfSome}
-use Rattle.std.proofs.Common.{◌≡◌, ℕ, zero, suc, ◌+◌, ◌-◌, ◌<◌, ◌≤◌, ◌==◌, ◌^◌, Bool, true, false, if◌then◌else◌, List, Option, None, Some, refl, sym, ◌∙◌, ap, subst, arith}
+use Rattle.std.proofs.Common.{◌≡◌, ℕ, zero, suc, ◌+◌, ◌-◌, ◌<◌, ◌≤◌, ◌==◌, ◌^◌, true, false, if◌then◌else◌, List, Option, None, Some, refl, sym, ◌∙◌, ap, subst, arith}
 use Rattle.std.proofs.lemmas.Bool.Decides.{nat_tests}
+use Rattle.std.proofs.lemmas.Bool.{false_from_ne_true}
 use Rattle.st_state.specs.Machine.{Machine}
 use Rattle.st_exec.specs.Step.{interrupt, rests}
 use Rattle.st_rows.specs.declared.front.Front.{Front}
-use Rattle.st_ahead.specs.Overlap.{Overlap, state_ahead, oldest_row, interrupt_due}
+use Rattle.st_ahead.specs.Overlap.{Overlap, state_ahead, oldest_row, interrupt_due, machine_between_ticks}
 use Rattle.st_ahead.specs.Calls.{is_done, machine_after_completion, row_done, machine_after_tick, machine_after_settling, machine_after_pass}
 use Rattle.st_ahead.specs.RunTo.{after_ticks, IsPassed, ArePassed, RunsTo}
 use Rattle.st_ahead.specs.declared.events.Row.{Row}
 use Rattle.st_ahead.proofs.Idling.{zero-comes}
 use Rattle.st_card.specs.declared.control_cards.Signal.{Signal}
-use Rattle.st_run.specs.Together.{Together, IsBeforeEntry}
-use Rattle.st_run.specs.Ticking.{IsMachineReady, at_completion, AreTicked, AreMade, last_for}
+use Rattle.st_run.specs.Together.{Together, IsBeforeEntry, IsMachineReady}
+use Rattle.st_run.specs.Ticking.{at_completion, AreTicked, AreMade, last_for}
 
--- a machine between two ticks, in which nothing is owed
-abbrev pub hazard_free : List ℕ → ℕ → Machine → Option ℕ → Front → ℕ → Overlap
-hazard_free ds n s table front now = record {
-  delays = ds;
-  levels = n;
-  state = s;
-  taken = table;
-  behind = None;
-  front = front;
-  now = now;
-  owed = false;
-  ended = false;
-  stopped = false;
-  closing = None;
-}
-
-pub ready-hazard_free : (o : Overlap) → IsMachineReady o → o ≡ hazard_free o.delays o.levels o.state o.taken o.front o.now
-ready-hazard_free o h =
+pub ready-between : (o : Overlap) → IsMachineReady o → o ≡ machine_between_ticks o.delays o.levels o.state o.taken o.front o.now
+ready-between o h =
     ap (λ x. record o { owed = x }) h.settled
     ∙ ap (λ x. record o { owed = false; ended = x }) h.going
     ∙ ap (λ x. record o { owed = false; ended = false; behind = x }) h.guessed
@@ -54,21 +39,21 @@ unfolding machine_after_settling
 still-settled m due awake right = rw (due, awake, right) refl
 
 -- a tick at which no entry is done passes
-hazard_free-passes : (ds : List ℕ) (n : ℕ) (s : Machine) (t : Option ℕ) (f : Front) (at : ℕ) → t ≡ interrupt s → rests s ≡ false
-    → is_done (hazard_free ds n s t f at) ≡ false
-    → machine_after_settling (machine_after_tick (hazard_free ds n s t f at)) ≡ hazard_free ds n s t f (at + 1)
+between-passes : (ds : List ℕ) (n : ℕ) (s : Machine) (t : Option ℕ) (f : Front) (at : ℕ) → t ≡ interrupt s → rests s ≡ false
+    → is_done (machine_between_ticks ds n s t f at) ≡ false
+    → machine_after_settling (machine_after_tick (machine_between_ticks ds n s t f at)) ≡ machine_between_ticks ds n s t f (at + 1)
 unfolding machine_after_tick machine_after_settling
-hazard_free-passes ds n s t f at same awake late = rw (late, none-due s t same, awake) refl
+between-passes ds n s t f at same awake late = rw (late, none-due s t same, awake) refl
 
 pub tick-passes : (o m : Overlap) (at : ℕ) → IsMachineReady o → m ≡ record o { now = at } → is_done m ≡ false
     → machine_after_settling (machine_after_tick m) ≡ record o { now = at + 1 }
 tick-passes o m at h same late =
-    let hazard_free_at : (k : ℕ) → record o { now = k } ≡ hazard_free o.delays o.levels o.state o.taken o.front k =
-    λ k. ap {A = Overlap} (λ q. record q { now = k }) (ready-hazard_free o h) in
-    let is : m ≡ hazard_free o.delays o.levels o.state o.taken o.front at = same ∙ hazard_free_at at in
+    let between_at : (k : ℕ) → record o { now = k } ≡ machine_between_ticks o.delays o.levels o.state o.taken o.front k =
+    λ k. ap {A = Overlap} (λ q. record q { now = k }) (ready-between o h) in
+    let is : m ≡ machine_between_ticks o.delays o.levels o.state o.taken o.front at = same ∙ between_at at in
     ap {A = Overlap} (λ q. machine_after_settling (machine_after_tick q)) is
-    ∙ hazard_free-passes o.delays o.levels o.state o.taken o.front at h.table h.awake (ap is_done (sym is) ∙ late)
-    ∙ sym (hazard_free_at (at + 1))
+    ∙ between-passes o.delays o.levels o.state o.taken o.front at h.table h.awake (ap is_done (sym is) ∙ late)
+    ∙ sym (between_at (at + 1))
 
 -- the next entry is done later
 apart : (c at : ℕ) → at ≤ c → (c == at) ≡ false → at + 1 ≤ c
@@ -83,10 +68,6 @@ tick-early o m at early same late =
     apart (oldest_row o).c at early
     (ap (λ r. r.c == at) (sym (row-same o at)) ∙ ap is_done (sym same) ∙ late)
 
-not-done : (b : Bool) → (b ≡ true → ⊥) → b ≡ false
-not-done true never = absurd (never refl)
-not-done false never = refl
-
 -- so do ticks that are passed over, one after another
 pub idle-passes : (o : Overlap) (k at : ℕ) (new : Overlap) → IsMachineReady o → at ≤ (oldest_row o).c → ArePassed 0 k (record o { now = at }) new
     → (new ≡ record o { now = at + k }) × (at + k ≤ (oldest_row o).c)
@@ -95,7 +76,7 @@ idle-passes o zero at new h early idle =
     let same : at ≡ at + 0 = omega arith in (idle.after ∙ ap {A = ℕ} (λ x. record o { now = x }) same, omega arith)
 idle-passes o (suc k) at new h early idle =
     let first : IsPassed 0 (record o { now = at }) = idle.each 0 (omega arith) in
-    let late : is_done (record o { now = at }) ≡ false = not-done (is_done (record o { now = at })) (λ done. zero-comes (machine_after_tick (record o { now = at })) (first.nothing done)) in
+    let late : is_done (record o { now = at }) ≡ false = false_from_ne_true (is_done (record o { now = at })) (λ done. zero-comes (machine_after_tick (record o { now = at })) (first.nothing done)) in
     let next : machine_after_settling (machine_after_tick (record o { now = at })) ≡ record o { now = at + 1 } = tick-passes o (record o { now = at }) at h refl late in
     let later : ArePassed 0 k (record o { now = at + 1 }) new = record {
       each = λ i before. subst (λ (m : Overlap). IsPassed 0 (after_ticks i m)) next (idle.each (suc i) (omega (arith, before)));
@@ -152,16 +133,7 @@ pub made-until : (old : Together) (m new : Overlap) (xs : List Signal) (cards : 
     → (row : Option Row) → RunsTo 0 last row m new → AreMade row snap old (record { machine = new; signals = xs; cards = cards })
 made-until old m new xs cards view before in_time snap from last is row ran =
     let machine : m ≡ old.machine = ap (λ (t : Together). t.machine) view in
-    let ready : IsMachineReady old.machine = record {
-      settled = before.settled;
-      going = before.going;
-      stands = before.stands;
-      guessed = before.guessed;
-      closed = before.closed;
-      table = before.table;
-      awake = before.awake;
-      early = before.early;
-    } in
+    let ready : IsMachineReady old.machine = assumption in
     record {
       ticked = ticked-until old.machine new row last snap ready in_time from is (subst {A = Overlap} (λ o. RunsTo 0 last row o new) machine ran);
       kept = ap {A = Together} (λ (t : Together). record t { machine = new }) view;

@@ -4,6 +4,7 @@ use Rattle.std.proofs.Common.{◌≡◌, ℕ, ◌+◌, Bool, true, false, List, 
 use Rattle.std.specs.Prelude.{All}
 use Rattle.std.proofs.lemmas.List.{reverse-append, map-append}
 use Rattle.std.proofs.lemmas.List.Elements.{All-head, All-tail}
+use Rattle.std.proofs.lemmas.Simd.{map-map}
 use Rattle.st_state.specs.Machine.{Machine}
 use Rattle.st_exec.specs.Step.{interrupt, rests}
 use Rattle.st_run.specs.Run.{PlainEvent, Ends, interlude, interrupts_by}
@@ -32,10 +33,6 @@ unfolding told_of_events
 told-each event tell [] each = refl
 told-each event tell (x ∷ xs) each = rw (each x) (ap (λ (rest : List Told). tell x ∷ rest) (told-each event tell xs each))
 
-map-both : {A B C : Type 0} (f : A → B) (g : B → C) (xs : List A) → map (λ (x : A). g (f x)) xs ≡ map g (map f xs)
-map-both f g [] = refl
-map-both {A} {B} {C} f g (x ∷ xs) = ap (λ (rest : List C). g (f x) ∷ rest) (map-both f g xs)
-
 reverse-map : {A B : Type 0} (f : A → B) (xs : List A) → reverse (map f xs) ≡ map f (reverse xs)
 reverse-map f [] = refl
 reverse-map {A} {B} f (x ∷ xs) =
@@ -59,14 +56,14 @@ module _ (m : Moment) where
   unfolding drops
   tell-drops =
       told-each (λ (a : Ahead). event_at m.tick m.scene.machine (drop_of a)) (λ (a : Ahead). tell (dropped_told (dropped_at a))) (reverse m.dropped) (λ a. refl)
-      ∙ map-both (λ (a : Ahead). dropped_told (dropped_at a)) tell (reverse m.dropped)
-      ∙ ap (map tell) (map-both dropped_at dropped_told (reverse m.dropped)
+      ∙ sym (map-map tell (λ (a : Ahead). dropped_told (dropped_at a)) (reverse m.dropped))
+      ∙ ap (map tell) (sym (map-map dropped_told dropped_at (reverse m.dropped))
       ∙ ap (map dropped_told) (sym (reverse-map dropped_at m.dropped)))
 
   tell-happenings : (hs : List PlainEvent) → told_of_events (map (happening_at m) hs) ≡ map tell (map what_happens hs)
   tell-happenings hs =
       told-each (happening_at m) (λ (h : PlainEvent). tell (what_happens h)) hs (λ h. refl)
-      ∙ map-both what_happens tell hs
+      ∙ sym (map-map tell what_happens hs)
 
   -- the entries that are dropped where the segment ends
   abbrev pub drops_by : Bool → List (ℕ × ℕ)

@@ -2,7 +2,8 @@
 use Rattle.std.specs.Prelude.{map, slice_index, IfSome, option_map, nat_lt, replicate}
 use Rattle.std.specs.List.{AllZip}
 use Rattle.std.proofs.Common.{◌≡◌, ℕ, zero, suc, ◌+◌, ◌-◌, ◌<◌, false, List, [], ◌∷◌, ◌++◌, length, drop, Option, None, Some, refl, sym, ◌∙◌, ap, subst}
-use Rattle.std.proofs.lemmas.List.{get_or-take, get_or-drop}
+use Rattle.std.proofs.lemmas.List.{get_or-take, get_or-drop, length-map}
+use Rattle.std.proofs.lemmas.Simd.{map-map}
 use Rattle.st_bits.specs.declared.operations.HalfOp.{HalfOp}
 use Rattle.st_bits.specs.declared.operations.HalfOp.TheVariants.{Lx, Lv, Lc, Lr, Sx, Sv, Sc, Sr, Sva, VPlus, VPlusC, Kv, Lvs, Lvi, Lci, Lri, VPlusI, VMinusI, VPlusIC, VPlusICR, Kvi, Kc, Kci, Cb, Cbr, R, Ex}
 use Rattle.st_format.specs.declared.instruction.Instr.{Instr}
@@ -31,7 +32,7 @@ use Rattle.st_run.specs.Telling.{Waiting, IsLevelShown, AreLevelsShown, IsRun, a
 use Rattle.st_run.specs.declared.turn.Turn.{Turn}
 use Rattle.st_run.specs.declared.turn.Turn.TheVariants as turns
 use Rattle.st_run.specs.Together.{Together, IsBeforeEntry}
-use Rattle.st_run.proofs.SceneLemmas.{interrupt-below}
+use Rattle.st_refine.proofs.Kept.{interrupt-below}
 
 -- ---- the word that an early change replaces
 
@@ -130,20 +131,12 @@ levels-are tick now ds n (suc k) t s f m some =
     (level-is tick a m some, levels-are tick now ds n k None (guess t s) (front_after_entry ds n f (entry t s)) next tt)
     tt
 
-map-map : {A B C : Type 0} (f : A → B) (g : B → C) (xs : List A) → map (λ (x : A). g (f x)) xs ≡ map g (map f xs)
-map-map f g [] = refl
-map-map {A} {B} {C} f g (x ∷ xs) = ap (λ (rest : List C). g (f x) ∷ rest) (map-map f g xs)
-
-map-length : {A B : Type 0} (f : A → B) (xs : List A) → length (map f xs) ≡ length xs
-map-length f [] = refl
-map-length f (x ∷ xs) = ap {A = ℕ} suc (map-length f xs)
-
 room-is : (tick : ℕ) (xs : List Ahead)
     → map (λ (a : Ahead). Some (level_shown tick a)) xs ++ replicate (8 - length xs) None
     ≡ map (λ (v : LevelView). Some v) (map (level_shown tick) xs) ++ replicate (8 - length (map (level_shown tick) xs)) None
 room-is tick xs =
-    ap {A = List (Option LevelView)} (λ ys. ys ++ replicate (8 - length xs) None) (map-map (level_shown tick) (λ (v : LevelView). Some v) xs)
-    ∙ ap {A = ℕ} (λ k. map (λ (v : LevelView). Some v) (map (level_shown tick) xs) ++ replicate (8 - k) None) (sym (map-length (level_shown tick) xs))
+    ap {A = List (Option LevelView)} (λ ys. ys ++ replicate (8 - length xs) None) (sym (map-map (λ (v : LevelView). Some v) (level_shown tick) xs))
+    ∙ ap {A = ℕ} (λ k. map (λ (v : LevelView). Some v) (map (level_shown tick) xs) ++ replicate (8 - k) None) (sym (length-map xs (level_shown tick)))
 
 seen-plain : (o : Overlap) → o.ended ≡ false → o.behind ≡ None → o.state ≡ state_ahead o
 unfolding state_ahead
@@ -160,11 +153,11 @@ pub view-before : (t : Together) → IsBeforeEntry t → AreLevelsShown (view_at
 unfolding view_at_tick
 view-before t h =
     let o = t.machine in
-    let some : IfSome o.taken (λ i. i < 64) = subst {A = Option ℕ} (λ k. IfSome k (λ i. i < 64)) (sym h.table) (interrupt-below o.state) in
+    let some : IfSome o.taken (λ i. i < 64) = subst {A = Option ℕ} (λ k. IfSome k (λ i. i < 64)) (sym h.ready.table) (interrupt-below o.state) in
     record {
       views = map (level_shown (last_tick_made o)) (levels_of o);
       room = room-is (last_tick_made o) (levels_of o);
-      same = same-levels o h.scene.machine h.going h.guessed some;
+      same = same-levels o h.scene.machine h.ready.going h.ready.guessed some;
     }
 
 pub view-none : (o : Overlap) → levels_of o ≡ [] → AreLevelsShown (view_at_tick o).levels (ahead_of o)

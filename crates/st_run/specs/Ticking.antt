@@ -1,22 +1,10 @@
 -- What ticks make of a machine, up to an entry that is done or up to a snapshot.
-use Rattle.std.specs.Prelude.{ℕ, ◌≡◌, ◌+◌, ◌-◌, ◌<◌, ◌≤◌, ◌^◌, min, false, Option, None, Some, IfSome}
-use Rattle.st_exec.specs.Step.{interrupt, rests}
+use Rattle.std.specs.Prelude.{ℕ, ◌≡◌, ◌+◌, ◌-◌, ◌<◌, ◌≤◌, ◌^◌, min, Option, None, Some, IfSome}
 use Rattle.st_ahead.specs.Overlap.{Overlap, oldest_row}
 use Rattle.st_ahead.specs.Calls.{machine_after_completion, row_done}
 use Rattle.st_ahead.specs.RunTo.{RunsTo}
 use Rattle.st_ahead.specs.declared.events.Row.{Row}
 use Rattle.st_run.specs.Together.{Together}
-
--- a machine between two ticks, in which nothing is owed, nothing comes between and no entry is late
-pub record IsMachineReady (o : Overlap) : Type 0 where
-  pub settled : o.owed ≡ false
-  pub going : o.ended ≡ false
-  pub stands : o.stopped ≡ false
-  pub guessed : o.behind ≡ None
-  pub closed : o.closing ≡ None
-  pub table : o.taken ≡ interrupt o.state
-  pub awake : rests o.state ≡ false
-  pub early : o.now ≤ (oldest_row o).c
 
 -- the machine at the tick at which the oldest entry is done
 abbrev pub at_completion : Overlap → Overlap

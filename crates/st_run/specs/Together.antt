@@ -32,6 +32,17 @@ with_scene t c = record {
 
 -- ---- between two ticks, before an entry is done
 
+-- nothing is owed, nothing comes between and no entry is late
+pub record IsMachineReady (o : Overlap) : Type 0 where
+  pub settled : o.owed ≡ false
+  pub going : o.ended ≡ false
+  pub stands : o.stopped ≡ false
+  pub guessed : o.behind ≡ None
+  pub closed : o.closing ≡ None
+  pub table : o.taken ≡ interrupt o.state
+  pub awake : rests o.state ≡ false
+  pub early : o.now ≤ (oldest_row o).c
+
 -- the tick is settled and the run goes on: no interrupt is due that is not taken, and no entry was
 -- to be done at an earlier tick
 pub record IsBeforeEntry (t : Together) : Type 0 where
@@ -39,14 +50,7 @@ pub record IsBeforeEntry (t : Together) : Type 0 where
   pub few : t.machine.levels ≤ 8
   pub delays : AreDelaysUpTo MOST_DELAY t.machine.delays
   pub scene : IsScene (scene_of t)
-  pub settled : t.machine.owed ≡ false
-  pub going : t.machine.ended ≡ false
-  pub stands : t.machine.stopped ≡ false
-  pub guessed : t.machine.behind ≡ None
-  pub closed : t.machine.closing ≡ None
-  pub table : t.machine.taken ≡ interrupt t.machine.state
-  pub awake : rests t.machine.state ≡ false
-  pub early : t.machine.now ≤ (oldest_row t.machine).c
+  pub ready : IsMachineReady t.machine
 
 -- where the run stands then, the last entry done at the tick
 abbrev pub standing_of : ℕ → Together → Standing

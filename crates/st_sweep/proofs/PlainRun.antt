@@ -1,6 +1,6 @@
 -- A plain run as far as it has come.
 use Rattle.std.specs.Prelude.{◌&&◌, not, is_none}
-use Rattle.std.proofs.Common.{◌≡◌, ◌≢◌, ℕ, Option, zero, suc, ◌+◌, ◌-◌, ◌≤◌, ◌⊎◌, inl, inr, Bool, true, false, List, [], ◌∷◌, refl, sym, ◌∙◌, ap, subst, arith}
+use Rattle.std.proofs.Common.{◌≡◌, ◌≢◌, ℕ, Option, zero, suc, ◌+◌, ◌-◌, ◌≤◌, ◌⊎◌, inl, inr, Bool, true, false, List, ◌∷◌, refl, sym, ◌∙◌, ap, subst, arith}
 use Rattle.st_bits.specs.declared.limits.TheConstants.{MOST_INSTRUCTIONS}
 use Rattle.st_state.specs.Machine.{Machine}
 use Rattle.st_prep.specs.declared.entries.Prepared.{Prepared}
@@ -14,7 +14,7 @@ use Rattle.st_exec.proofs.StepLemmas.{step-done}
 use Rattle.st_run.proofs.Runs.{run-rests, run-budget, run-goes_on}
 use Rattle.st_rows.specs.declared.entry.WordRuns.{WordRuns}
 use Rattle.st_run.proofs.DoneLemmas.{settled-done}
-use Rattle.st_sweep.specs.HazardFree.{side_is_written, one_is_written, next_writes, next_side, is_hazard_free_entry, is_quiet, is_hazard_free_behind}
+use Rattle.st_sweep.specs.HazardFree.{side_is_written, one_is_written, next_writes, is_hazard_free_entry, is_quiet, is_hazard_free_behind}
 use Rattle.st_sweep.specs.Marks.{AreMarks}
 use Rattle.st_sweep.specs.Sweep.{without_cards}
 
@@ -45,10 +45,6 @@ pub record IsSoFar (whole : Bool) (last : ℕ) (so : Bool) (left : ℕ) (s : Mac
   pub hazard_free : (so && is_hazard_free_behind earlier left (without_cards s xs)) ≡ whole
   pub done : (run left (without_cards s xs)).last.done ≡ last
   pub few : s.done + left ≤ MOST_INSTRUCTIONS
-
-pub at-start : (s : Machine) (xs : List Signal) (left : ℕ) (marks : List Bool) → AreMarks [] marks → s.done + left ≤ MOST_INSTRUCTIONS
-    → IsSoFar (is_hazard_free_behind [] left (without_cards s xs)) (run left (without_cards s xs)).last.done true left s xs marks
-at-start s xs left marks are few = record { earlier = []; marks = are; hazard_free = refl; done = refl; few = few }
 
 -- at its end
 hazard_free-ends : (earlier : List WordRuns) (left : ℕ) (c : Scene) → (left ≡ 0) ⊎ (rests (interlude c).scene.machine ≡ true)

@@ -82,11 +82,6 @@ none_skips asked m old new same = record {
   fewer = subst (λ xs. length xs ≤ length old) (sym same) (omega arith);
 }
 
--- and then what is told next
-pub skips_then : (asked : Asked) (m n : Moment) (old rest more : List Told) → rest ≡ more → WritesNothing asked m old n rest
-    → WritesNothing asked m old n more
-skips_then asked m n old rest more same skips = subst (λ xs. WritesNothing asked m old n xs) same skips
-
 -- the next part is written
 pub told_more : (s t u : OutputState) (asked : Asked) (m now n : Moment) (all rest more : List Told) (x : Told) (y : Unit {0})
     → rest ≡ x ∷ more → n ≡ moment_told x → ToldSoFar s t asked m now all rest → WritesLines t u (lines_at asked n.done n.tick x.what) (Ok y)

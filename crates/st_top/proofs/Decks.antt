@@ -1,13 +1,9 @@
 -- The deck of a program, or the card that is too many.
-use Rattle.std.proofs.Common.{◌≡◌, ◌≤◌, ◌<◌, Bool, true, false, nat_le, if◌then◌else◌, sym, ap, arith}
+use Rattle.std.proofs.Common.{◌≡◌, ◌≤◌, Bool, true, nat_le, if◌then◌else◌, sym, ap, arith}
 use Rattle.std.proofs.lemmas.Bool.Decides.{nat_tests}
 use Rattle.st_card.specs.declared.faults.Fault.TheVariants.{TooManyCards}
 use Rattle.st_object.specs.Object.{Program}
-use Rattle.st_dis.specs.Answers.{Explains}
 use Rattle.st_dis.specs.Deck.{card_count}
-use Rattle.st_dis.specs.declared.disassembling.DisError.{DisError}
-use Rattle.st_dis.specs.declared.disassembling.DisError.TheVariants.{TooManyCards as DeckTooLong, NoMemory}
-use Rattle.st_top.specs.Layers.{Halts, of_disassembly}
 use Rattle.st_top.specs.ObjectText.{deck_lines}
 use Rattle.st_top.specs.Output.{Output, lines_alone, refusal_output, deck_by}
 use Rattle.st_top.specs.declared.answer.Status.TheVariants.{Done}
@@ -17,11 +13,3 @@ by_count p few = if few then lines_alone Done (deck_lines p) else refusal_output
 
 pub deck_few : (p : Program) → card_count p ≤ 20000 → lines_alone Done (deck_lines p) ≡ deck_by p
 deck_few p few = let fits : nat_le (card_count p) 20000 ≡ true = grind (arith, nat_tests) in sym (ap (by_count p) fits)
-
-pub deck_many : (p : Program) (e : DisError) → Explains p e → Halts (deck_by p) (of_disassembly e)
-deck_many p (DeckTooLong cards) h =
-    let many = h.1 in
-    let same = h.0 in
-    let over : 20000 < card_count p = omega (arith, many, same) in
-    let past : nat_le (card_count p) 20000 ≡ false = grind (arith, nat_tests) in ap (by_count p) past
-deck_many p NoMemory h = tt

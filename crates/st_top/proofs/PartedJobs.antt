@@ -11,7 +11,7 @@ use Rattle.st_card.specs.declared.cards.Card.{Card}
 use Rattle.st_card.specs.declared.cards.CardKind.{CardKind}
 use Rattle.st_card.specs.declared.cards.CardKind.TheVariants.{Comment, Control, Statement}
 use Rattle.st_card.specs.declared.faults.Fault.{Fault}
-use Rattle.st_card.specs.declared.faults.Fault.TheVariants.{BadControlCard, CardAfterEnd, NoEnd}
+use Rattle.st_card.specs.declared.faults.Fault.TheVariants.{BadControlCard, CardAfterEnd}
 use Rattle.st_card.proofs.StandingLemmas.{cards_stand}
 use Rattle.st_strap.specs.Order.{next_reading, reading_map}
 use Rattle.st_strap.specs.Saying.{statement_of}
@@ -516,9 +516,6 @@ cards-differ job other a b is also h =
 some-of : {A : Type 0} (o : Option A) → is_some o ≡ true → (x : A) × (o ≡ Some x)
 some-of (Some x) h = (x, refl)
 some-of None h = let no : ⊥ = cc in absurd no
-
-with-true : (n : ℕ) (all : Found) → all.ended ≡ true → with_end n all ≡ Ok all
-with-true n all e = ap (λ (b : Bool). if b then Ok all else Err (record { card = n + 1; fault = NoEnd })) e
 
 -- the form pass, where the cards up to END lead to a state and those behind it are good
 form-again : (job : List ℕ) (found : Found) (z : Asked) → form_texts found_at_start 1 (texts_up_to_end job) ≡ Ok found → found.ended ≡ true

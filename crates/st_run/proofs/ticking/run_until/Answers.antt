@@ -13,7 +13,7 @@ returns-clause-made g c =
 pub invariant_of-driven : goal.invariant_of-driven
 invariant_of-driven g c =
     run-led 0 c.last_of.result c.run_to.result c.driven.inside.machine c.run_to.new.self
-    (subst (λ (t : Together). t.machine.owed ≡ false) (sym c.driven.view_is) c.requires.before.settled)
+    (subst (λ (t : Together). t.machine.owed ≡ false) (sym c.driven.view_is) c.requires.before.ready.settled)
     (subst (λ (t : Together). t.machine.state.done < 2 ^ 63) (sym c.driven.view_is) c.requires.few) (omega arith)
     (last-soon c.args.snap c.last_of.result c.last_of.ensures) c.run_to.ensures.runs c.driven.invariant
 

@@ -1,12 +1,12 @@
 use Rattle.std.proofs.Common.{◌≡◌, length, true, false, None, refl, sym, subst, ◌∙◌}
 use Rattle.std.specs.Prelude.{◌==◌}
-use Rattle.std.proofs.lemmas.Bool.{eq-eqb, ne_eqb}
+use Rattle.std.proofs.lemmas.Bool.{eq-eqb, ne_eqb, and_left}
 use Rattle.st_exec.specs.Completion.{guess}
 use Rattle.st_prep.specs.declared.entries.Place.{Place}
 use Rattle.st_rows.specs.Rows.{front_after_entry}
 use Rattle.st_segment.specs.Entries.{entry}
 use Rattle.st_ahead.specs.Look.{LookView, IsOutlook}
-use Rattle.st_ahead.proofs.DoneLooks.{all-done, is_alone, ahead-through, alone-if, alone-not}
+use Rattle.st_ahead.proofs.DoneLooks.{all-done, is_alone, ahead-through, alone-if}
 use Rattle.st_ahead.proofs.look.Lookahead.complete.Goals.{else-len-eq0-via-then-len-eq0+else-self, else-len-eq0-via-else-len-eq0}
 use Rattle.st_ahead.proofs.look.Lookahead.complete.Goals as goal
 
@@ -44,6 +44,6 @@ returns-else-len-eq0 g c = λ ds tick now t f are h due.
           (all.0, all.1, rest.0, rest.1, rest.2)
       | else-len-eq0-via-else-len-eq0 w ↦
           let some = ne_eqb (length left.ring) 0 (λ none_left. w.if-len-eq0.false (c.len.ensures.value ∙ none_left)) in
-          let rest = subst P (sym w.self-is) (behind (alone-not (length left.ring == 0) inside.front.serial some)) in
+          let rest = subst P (sym w.self-is) (behind (and_left (length left.ring == 0) inside.front.serial some)) in
           (all.0, all.1, rest.0, rest.1, rest.2)
     ]

@@ -1,5 +1,6 @@
 use Rattle.std.proofs.Common.{◌≡◌, ◌+◌, ◌-◌, ◌<◌, ◌≤◌, All, List, None, refl, sym, subst, ◌∙◌, ap, arith}
 use Rattle.std.specs.Prelude.{nat_le}
+use Rattle.std.proofs.lemmas.Bool.{or_parts}
 use Rattle.st_state.specs.Machine.{Machine, word}
 use Rattle.st_banks.specs.declared.answers.LastAnswers.{LastAnswers}
 use Rattle.st_prep.specs.Plan.{plan}
@@ -10,20 +11,21 @@ use Rattle.st_rows.proofs.Within.{AreDelays-list}
 use Rattle.st_segment.specs.Entries.{entry}
 use Rattle.st_segment.proofs.GuessLemmas.{guess-machine}
 use Rattle.st_next.specs.declared.next.Next.{Next}
-use Rattle.st_ahead.specs.Running.{may_come_from_outside}
+use Rattle.st_ahead.specs.RunTo.{may_come_from_outside}
 use Rattle.st_ahead.specs.Inside.{answers_before}
 use Rattle.st_ahead.proofs.Gone.{oldest-late}
-use Rattle.st_ahead.proofs.Idling.{first-none, less-than}
+use Rattle.st_ahead.proofs.Idling.{less-than}
 use Rattle.st_ahead.proofs.LevelTicks.{done-after, done-later}
 use Rattle.st_ahead.specs.RowsDone.{queue_with}
 use Rattle.st_ahead.specs.declared.events.Row.{Row}
 use Rattle.st_ahead.proofs.Runs.{noting-starts, noting-on, running-idle, rows-idle, running-ends, banks-between, stopped-comes}
-use Rattle.st_ahead.proofs.Standing.{answers-same, after-c}
+use Rattle.st_ahead.proofs.Standing.{answers-same}
 use Rattle.st_ahead.proofs.TickCases.{guess-words}
 use Rattle.st_ahead.proofs.look.Lookahead.run_to.Goals as goal
 use Rattle.st_ahead.proofs.Laws.{looks_are_levels, the_banks_are_left}
 use Rattle.st_segment.proofs.Laws.{steps_are_guesses}
 use Rattle.st_exec.proofs.Laws.{entries_count_as_one}
+use Rattle.st_ring.proofs.OrderLemmas.{after-c}
 
 pub entries-init : goal.entries-init
 entries-init g c = record {
@@ -106,7 +108,7 @@ entries-preserved g c =
           omega (
             arith,
             c.requires.count,
-            less-than c.args.count c.complete-done.new.state.done (first-none (nat_le c.args.count c.complete-done.new.state.done) _ goes.0),
+            less-than c.args.count c.complete-done.new.state.done (or_parts (nat_le c.args.count c.complete-done.new.state.done) _ goes.0).0,
           );
     }
 
@@ -127,7 +129,7 @@ entries-smaller g c =
     omega (
       arith,
       counted,
-      less-than c.args.count c.complete-done.new.state.done (first-none (nat_le c.args.count c.complete-done.new.state.done) _ goes.0),
+      less-than c.args.count c.complete-done.new.state.done (or_parts (nat_le c.args.count c.complete-done.new.state.done) _ goes.0).0,
     )
 
 pub returns-then-is_stopped : goal.returns-then-is_stopped

@@ -5,10 +5,10 @@ use Rattle.st_exec.specs.Completion.{guess, is_missed}
 use Rattle.st_rows.specs.Rows.{front_after_entry}
 use Rattle.st_segment.specs.Entries.{entry}
 use Rattle.st_ring.specs.Levels.{oldest_front}
-use Rattle.st_ahead.specs.Overlap.{Overlap}
+use Rattle.st_ahead.specs.Overlap.{Overlap, machine_between_ticks}
 use Rattle.st_ahead.specs.RunTo.{ArePassed, StopsAt}
 use Rattle.st_ahead.specs.RowsDone.{queue_with, rows_in_ticks}
-use Rattle.st_ahead.specs.Running.{HasRunTo, machine_between_ticks, ticks_run}
+use Rattle.st_ahead.specs.Running.{HasRunTo, ticks_run}
 use Rattle.st_ahead.specs.Inside.{overlap_of}
 use Rattle.st_ahead.specs.declared.look_run.Stop.{Stop}
 use Rattle.st_ahead.proofs.Idling.{passed-none}
