@@ -89,6 +89,7 @@ behind-done halt n ds s u None b now true true v is done m alike on =
       some = is.some;
       few = is.few;
       looking = record {
+        machine = m;
         opened = opened-same None s u (opening_front (answers_before now v) v.front.c) v between.opened alike;
         banks = between.banks;
         later = between.later;
