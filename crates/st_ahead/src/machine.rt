@@ -1,5 +1,5 @@
 //! The overlapped machine, and the calls that drive it.
-ghost use Rattle.std.specs.Prelude.{◌≡◌, ◌<◌, ◌≤◌, ◌^◌, true, false, is_some, IsSome, IfSome, None, Some, get_or, length, ◌||◌, All};
+ghost use Rattle.std.specs.Prelude.{◌≡◌, ◌<◌, ◌≤◌, ◌^◌, true, false, is_some, IsSome, IfSome, None, Some, get_or, length, ◌||◌};
 
 use crate::events::{Event, LevelView, Row, Settled, View};
 use crate::look::Lookahead;
@@ -402,8 +402,6 @@ impl<const N: usize> Machine<N> {
         ensures dropped { result ≡ dropped_by card self.old }
         ensures after { IfSome self.old.state.reader (λ order. self.new
             ≡ read_in_by order.word card self.old) }
-        ensures words { IfSome card (λ words. (length words ≡ 8)
-            × All (λ x. x < 2 ^ 64) words) }
     {
         let Some(words) = card else {
             self.read_nothing();
@@ -430,12 +428,11 @@ impl<const N: usize> Machine<N> {
         requires order { IsSome self.old.state.reader }
         requires turn { MayServe self.old }
         requires ended { self.old.ended ≡ true }
-        ensures after { IfSome self.old.state.reader (λ order.
+        ensures { IfSome self.old.state.reader (λ order.
             self.new ≡ record self.old {
               state = read_in_of self.old.state order.word
                   (Some card);
             }) }
-        ensures words { (length card ≡ 8) × All (λ x. x < 2 ^ 64) card }
     {
         st_exec::read_in(&mut self.state, Some(card));
     }

@@ -1,6 +1,6 @@
 -- What comes to an overlapped machine changes of it.
-use Rattle.std.specs.Prelude.{All, IfSome, IsSome, is_none, is_some, if◌then◌else◌}
-use Rattle.std.proofs.Common.{◌≡◌, ℕ, ◌≤◌, ◌<◌, ◌^◌, Bool, true, false, ◌||◌, ◌&&◌, List, length, Option, None, Some, refl, sym, subst, ◌∙◌, ap, inr}
+use Rattle.std.specs.Prelude.{IfSome, IsSome, is_none, is_some, if◌then◌else◌}
+use Rattle.std.proofs.Common.{◌≡◌, ℕ, ◌≤◌, Bool, true, false, ◌||◌, ◌&&◌, List, Option, None, Some, refl, sym, subst, ◌∙◌, ap, inr}
 use Rattle.st_state.specs.Machine.{Machine}
 use Rattle.st_state.specs.Interrupts.{pending, state_with_signal}
 use Rattle.st_state.specs.declared.devices.Order.{Order}
@@ -74,17 +74,11 @@ card-changed : (m : Overlap) (order : Order) (card : Option (List ℕ)) → m.st
 card-changed m order None given is may = changed-state m (read_in m.state order.word None) (beside-no_card m.state order.word) (read-led m order None given is may)
 card-changed m order (Some card) given is may = changed-ended m (read_in m.state order.word (Some card)) (read-led m order (Some card) given is may)
 
--- a card that has eight words is one
-eight_words : (card : Option (List ℕ)) → IfSome card (λ words. (length words ≡ 8) × All (λ x. x < 2 ^ 64) words) → IfSome card IsCard
-eight_words None is = tt
-eight_words (Some words) is = record { size = is.0; below = is.1 }
-
-pub read-changed : (o : Option Order) (m k : Overlap) (card : Option (List ℕ)) → m.state.reader ≡ o → IsSome o
-    → IfSome card (λ words. (length words ≡ 8) × All (λ x. x < 2 ^ 64) words) → MayServe m
+pub read-changed : (o : Option Order) (m k : Overlap) (card : Option (List ℕ)) → m.state.reader ≡ o → IsSome o → IfSome card IsCard → MayServe m
     → IfSome o (λ order. k ≡ read_in_by order.word card m) → IsChanged (is_some card) m k
 read-changed None m k card given some is may same = absurd (cc some)
 read-changed (Some order) m k card given some is may same =
-    subst {A = Overlap} (IsChanged (is_some card) m) (sym same) (card-changed m order card given (eight_words card is) may)
+    subst {A = Overlap} (IsChanged (is_some card) m) (sym same) (card-changed m order card given is may)
 
 card-state : (w : ℕ) (card : Option (List ℕ)) (m : Overlap) → (read_in_by w card m).state ≡ read_in m.state w card
 card-state w None m = refl

@@ -5,7 +5,7 @@ ghost use Rattle.st_card.specs.Limits.{is_signal};
 ghost use Rattle.st_run.specs.Run.{with_due_signals};
 ghost use Rattle.st_ahead.specs.Calls.{MaySignal};
 ghost use Rattle.st_ahead.specs.Shown.{view_at_tick};
-ghost use Rattle.st_refine.specs.Reached.{IsLed};
+ghost use Rattle.st_refine.specs.Reached.{IsCard, IsLed};
 
 use crate::coming::Coming;
 use crate::outside::Outside;
@@ -36,6 +36,15 @@ impl<'a, const N: usize> Model for Driven<'a, N> {
     ghost invariant = { λ d. IsLed d.machine };
 }
 
+// A card has eight words.
+fn shape_of(card: Option<[u64; 8]>)
+    ensures { IfSome card IsCard }
+{
+    if let Some(words) = card {
+        let [_a, _b, _c, _d, _e, _f, _g, _h] = words;
+    }
+}
+
 impl<const N: usize> Outside for Machine<N> {
     ghost use Rattle.st_ahead.specs.Calls.{MayServe};
     ghost use Rattle.st_run.specs.Overlapped.{IsChanged};
@@ -62,6 +71,7 @@ impl<const N: usize> Outside for Machine<N> {
     }
 
     fn read_in(&mut self, card: Option<[u64; 8]>) {
+        shape_of(card);
         self.read_in(card);
     }
 

@@ -18,4 +18,4 @@ pub returns-clause-after : goal.returns-clause-after
 returns-clause-after g c =
     let m = c.args.self.now in
     let rest = ended-rest m c.end-dropped.new.self m.ended refl c.end-dropped.ensures.after in
-    read-ended m c.end-dropped.new.self c.store_card.new.self c.in-Some.words c.args.card c.in-Some.is c.end-dropped.ensures.after rest.state c.store_card.ensures.after
+    read-ended m c.end-dropped.new.self c.store_card.new.self c.in-Some.words c.args.card c.in-Some.is c.end-dropped.ensures.after rest.state c.store_card.ensures

@@ -1,6 +1,5 @@
 use Rattle.std.specs.Prelude.{IsSome, IfSome}
-use Rattle.std.proofs.lemmas.List.Elements.{All-from_get_or}
-use Rattle.std.proofs.Common.{◌<◌, ◌^◌, ◌≡◌, true, Some, refl, sym, subst}
+use Rattle.std.proofs.Common.{◌≡◌, true, Some, refl, sym, subst}
 use Rattle.st_state.specs.Machine.{Machine}
 use Rattle.st_exec.specs.Transfer.{read_in}
 use Rattle.st_ahead.specs.Overlap.{Overlap}
@@ -20,15 +19,11 @@ invariant_of-self g c =
     card-inside i.stopped n i.delays i.state c.read_in.new.state i.taken i.behind i.now i.owed i.ended i.fresh i.look i.state.reader c.args.card c.self.invariant over fresh
     refl some c.read_in.ensures.state c.read_in.ensures.after
 
-pub returns-clause-after : goal.returns-clause-after
-returns-clause-after g c =
+pub returns : goal.returns
+returns g c =
     let n = g.row.N in
     let i = c.self.inside in
     subst (λ (m : Overlap). IfSome m.state.reader (λ order. overlap_of n i.delays c.read_in.new.state i.taken i.behind i.now i.owed i.ended i.stopped i.fresh i.look
     ≡ record m { state = read_in m.state order.word (Some c.args.card) }))
     c.self.view_is
     (with-read i.state.reader (Some c.args.card) i.state c.read_in.new.state (λ (u : Machine). overlap_of n i.delays u i.taken i.behind i.now i.owed i.ended i.stopped i.fresh i.look) c.read_in.ensures.state)
-
-pub returns-clause-words : goal.returns-clause-words
-returns-clause-words g c =
-    (omega arith, All-from_get_or (λ x. x < 2 ^ 64) c.args.card 0 (λ i few. (c.type_inv.card i).fits))

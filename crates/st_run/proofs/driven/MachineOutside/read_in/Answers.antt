@@ -7,5 +7,5 @@ returns-clause-state g c = read-state c.args.self.now.state.reader c.args.self.n
 
 pub returns-clause-rest : goal.returns-clause-rest
 returns-clause-rest g c =
-    read-changed c.args.self.now.state.reader c.args.self.now c.read_in.new.self c.args.card refl c.requires.order c.read_in.ensures.words
+    read-changed c.args.self.now.state.reader c.args.self.now c.read_in.new.self c.args.card refl c.requires.order c.shape_of.ensures
     c.requires.turn c.read_in.ensures.after
