@@ -36,8 +36,8 @@ pub fn first_operands(words: &Words, state: &State) -> [u64; 2]
     ]
 }
 
-// The word at the address `w` of storage, which is in place `k` of the operands. A register is read anew,
-// since the entry itself may have changed it before its operands are read.
+// The word at the address `w` of storage, which is in place `k` of the operands. A register is read
+// anew, since the entry itself may have changed it before its operands are read.
 fn operand_word(operands: &[u64; 2], k: usize, w: u32, words: &[u64]) -> u64
     requires place { k < 2 }
     requires inside { w < length words.now }
