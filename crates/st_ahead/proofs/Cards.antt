@@ -2,7 +2,7 @@
 use Rattle.std.specs.Prelude.{IfSome, IsSome, take, drop}
 use Rattle.std.proofs.Common.{◌≡◌, ℕ, ◌+◌, ◌<◌, ◌≤◌, Bool, true, false, List, [], ◌∷◌, length, Option, None, Some, refl, sym, subst, ◌∙◌, ap, arith}
 use Rattle.std.proofs.lemmas.List.{length-take, length-drop, length-set, ext_get_or, get_or-take, get_or-drop, get_or-set_other}
-use Rattle.st_state.specs.Machine.{Machine, HasArea, word, state_with_store}
+use Rattle.st_state.specs.Machine.{Machine, IsMachine, HasArea, word, state_with_store}
 use Rattle.st_state.specs.Interrupts.{state_with_signal}
 use Rattle.st_state.specs.declared.devices.Order.{Order}
 use Rattle.st_prep.specs.BesideOrders.{AreAlikeBesideOrders}
@@ -81,24 +81,25 @@ card-opened s u f v alike o = assumption (o.index ∙ sym (index-below s u alike
     place-at h = record { counter = h; address = h; table = None }
 
 card-hazard_free : (halt : Bool) (n : ℕ) (ds : List ℕ) (s u : Machine) (t b : Option ℕ) (now : ℕ) (owed over fresh : Bool) (v : LookView)
-    → IsInside (overlap_of n ds s t b now owed over halt fresh v) fresh v → over ≡ true → fresh ≡ true → AreAlikeBelow s u
+    → IsInside (overlap_of n ds s t b now owed over halt fresh v) fresh v → over ≡ true → fresh ≡ true → IsMachine u → (IsMachine s → AreAlikeBelow s u)
     → IsInside (overlap_of n ds u t b now owed over halt fresh v) fresh v
-card-hazard_free halt n ds s u t b now owed false fresh v is ends done alike = absurd (cc ends)
-card-hazard_free halt n ds s u t b now owed true false v is ends done alike = absurd (cc done)
-card-hazard_free halt n ds s u t b now false true true v is ends done alike = absurd (cc (is.fresh_owed refl))
-card-hazard_free halt n ds s u (Some i) b now true true true v is ends done alike = absurd (cc (is.none_taken refl))
-card-hazard_free halt n ds s u None b now true true true v is ends done alike =
+card-hazard_free halt n ds s u t b now owed false fresh v is ends done m alike = absurd (cc ends)
+card-hazard_free halt n ds s u t b now owed true false v is ends done m alike = absurd (cc done)
+card-hazard_free halt n ds s u t b now false true true v is ends done m alike = absurd (cc (is.fresh_owed refl))
+card-hazard_free halt n ds s u (Some i) b now true true true v is ends done m alike = absurd (cc (is.none_taken refl))
+card-hazard_free halt n ds s u None b now true true true v is ends done m alike =
     let between : IsBetween now None s v = is.looking in
     inside-fresh halt true n ds u b now v is.some is.few is.in_time
-    (assumption (card-opened s u (opening_front (answers_before now v) v.front.c) v alike between.opened)) (λ e. absurd (cc e)) (is.near refl)
+    (assumption (card-opened s u (opening_front (answers_before now v) v.front.c) v (alike between.machine) between.opened)) (λ e. absurd (cc e)) (is.near refl)
 
 pub card-inside : (halt : Bool) (n : ℕ) (ds : List ℕ) (s u : Machine) (t b : Option ℕ) (now : ℕ) (owed over fresh : Bool) (v : LookView) (order : Option Order) (card : List ℕ)
-    → IsInside (overlap_of n ds s t b now owed over halt fresh v) fresh v → over ≡ true → fresh ≡ true → HasArea order → IsSome order
-    → IfSome order (λ o. u ≡ read_in s o.word (Some card))
+    → IsInside (overlap_of n ds s t b now owed over halt fresh v) fresh v → over ≡ true → fresh ≡ true → order ≡ s.reader → IsSome order
+    → IfSome order (λ o. u ≡ read_in s o.word (Some card)) → IsMachine u
     → IsInside (overlap_of n ds u t b now owed over halt fresh v) fresh v
-card-inside halt n ds s u t b now owed over fresh v None card is ends done area some h = absurd (cc some)
-card-inside halt n ds s u t b now owed over fresh v (Some o) card is ends done area some h =
-    card-hazard_free halt n ds s u t b now owed over fresh v is ends done (subst (λ x. AreAlikeBelow s x) (sym h) (read-below s o.word card area.0))
+card-inside halt n ds s u t b now owed over fresh v None card is ends done same some h m = absurd (cc some)
+card-inside halt n ds s u t b now owed over fresh v (Some o) card is ends done same some h m =
+    card-hazard_free halt n ds s u t b now owed over fresh v is ends done m
+    (λ before. subst (λ x. AreAlikeBelow s x) (sym h) (read-below s o.word card (subst HasArea (sym same) before.reader_area).0))
 
 -- an order without a card
 pub no_card-alike : (s u : Machine) (order : Option Order) → ((w : ℕ) → AreAlikeBesideOrders s (read_in s w None)) → IsSome order

@@ -35,10 +35,6 @@ pub quiet-inside : (halt : Bool) (n : ℕ) (ds : List ℕ) (s : Machine) (t b : 
 quiet-inside halt n ds s t b now owed over false v is e = let quiet = is.quiet refl in (quiet.0, quiet.1, is.behind_fresh refl)
 quiet-inside halt n ds s t b now owed over true v is e = absurd (cc e)
 
-pub some-closing : (c : Option LastAnswers) → (c ≡ None → ⊥) → IsSome c
-some-closing (Some x) f = refl
-some-closing None f = absurd (f refl)
-
 pub counted-index : (c : Option ℕ) (s : Machine) → index_words (with_counter c s) ≡ index_words s
 unfolding index_words
 counted-index None s = refl
@@ -142,7 +138,7 @@ levels-counted halt n ds s t b now fresh v levels =
     ap length levels ∙ length-ahead ds n (count v) t (with_counter b s) (oldest_front v.levels.plans v.front)
 
 pub end-hazard_free : (halt : Bool) (n : ℕ) (ds : List ℕ) (s : Machine) (b : Option ℕ) (now : ℕ) (v w : LookView)
-    → IsInside (overlap_of n ds s None b now true false halt true v) true v → count v ≤ n
+    → IsInside (overlap_of n ds s None b now true false halt true v) true v → IsMachine s → count v ≤ n
     → length (levels_of (overlap_of n ds s None b now true false halt true v)) ≡ count v
     → IsOpened None s (opening_front (answers_before now v) (now + 1 + count v)) w
     → All (λ x. x ≤ now + 1 + count v + 255) (answers_before now v).ticks
@@ -150,12 +146,13 @@ pub end-hazard_free : (halt : Bool) (n : ℕ) (ds : List ℕ) (s : Machine) (b :
     × (count v ≡ drop_count (overlap_of n ds s None b now true false halt true v))
     × (overlap_of n ds s None b now true true halt true w ≡ machine_after_segment (overlap_of n ds s None b now true false halt true v))
 unfolding drop_count machine_after_segment
-end-hazard_free halt n ds s b now v w is most levels opened early =
+end-hazard_free halt n ds s b now v w is m most levels opened early =
     let banks : answers_before now w ≡ answers_before now v = opened-answers now None s (answers_before now v) (now + 1 + count v) w opened in
     let start : w.front.c ≡ now + 1 + count v = ap (λ (f : Front). f.c) opened.front in
     let few : n ≤ 8 = is.few in
     let front = opened-front None s (opening_front (answers_before now v) (now + 1 + count v)) w opened in
     let between : IsBetween now None s w = record {
+      machine = m;
       opened =
           subst (λ (x : LastAnswers). IsOpened None s (opening_front x w.front.c) w) (sym banks)
           (subst (λ (x : ℕ). IsOpened None s (opening_front (answers_before now v) x) w) (sym start) opened);
@@ -179,7 +176,7 @@ end-again halt n ds s t b now owed true fresh v e = (refl, refl)
 end-again halt n ds s t b now owed false fresh v e = absurd (cc e)
 
 pub end-first : (halt : Bool) (n : ℕ) (ds : List ℕ) (s : Machine) (t b : Option ℕ) (now : ℕ) (owed over fresh : Bool) (v w : LookView)
-    → IsInside (overlap_of n ds s t b now owed over halt fresh v) fresh v → owed ≡ true → over ≡ false → fresh ≡ true → count v ≤ n
+    → IsInside (overlap_of n ds s t b now owed over halt fresh v) fresh v → IsMachine s → owed ≡ true → over ≡ false → fresh ≡ true → count v ≤ n
     → (IsLook ds n now now t (with_counter b s) (oldest_front v.levels.plans v.front) v
     → prepared_before now (ahead ds n n t (with_counter b s) (oldest_front v.levels.plans v.front)) ≡ ahead ds n (count v) t (with_counter b s) (oldest_front v.levels.plans v.front))
     → (IsLook ds n now now t (with_counter b s) (oldest_front v.levels.plans v.front) v → IsOpened None s (opening_front (answers_before now v) (now + 1 + count v)) w)
@@ -188,28 +185,29 @@ pub end-first : (halt : Bool) (n : ℕ) (ds : List ℕ) (s : Machine) (t b : Opt
     × (count v ≡ drop_count (overlap_of n ds s t b now owed over halt fresh v))
     × (overlap_of n ds s t b now owed true halt fresh w ≡ machine_after_segment (overlap_of n ds s t b now owed over halt fresh v))
 unfolding state_ahead
-end-first halt n ds s t b now false over fresh v w is owes ends done most levels opened early = absurd (cc owes)
-end-first halt n ds s t b now true true fresh v w is owes ends done most levels opened early = absurd (cc ends)
-end-first halt n ds s t b now true false false v w is owes ends done most levels opened early = absurd (cc done)
-end-first halt n ds s (Some i) b now true false true v w is owes ends done most levels opened early = absurd (cc (is.none_taken refl))
-end-first halt n ds s None b now true false true v w is owes ends done most levels opened early =
-    end-hazard_free halt n ds s b now v w is most (levels-counted halt n ds s None b now true v (levels is.looking)) (opened is.looking) early
+end-first halt n ds s t b now false over fresh v w is m owes ends done most levels opened early = absurd (cc owes)
+end-first halt n ds s t b now true true fresh v w is m owes ends done most levels opened early = absurd (cc ends)
+end-first halt n ds s t b now true false false v w is m owes ends done most levels opened early = absurd (cc done)
+end-first halt n ds s (Some i) b now true false true v w is m owes ends done most levels opened early = absurd (cc (is.none_taken refl))
+end-first halt n ds s None b now true false true v w is m owes ends done most levels opened early =
+    end-hazard_free halt n ds s b now v w is m most (levels-counted halt n ds s None b now true v (levels is.looking)) (opened is.looking) early
 
 -- where no entry was done at the tick
 given-hazard_free : (halt : Bool) (n : ℕ) (ds : List ℕ) (s : Machine) (t b : Option ℕ) (now : ℕ) (v w : LookView)
-    → IsInside (overlap_of n ds s t b now true false halt false v) false v → count v ≤ n
+    → IsInside (overlap_of n ds s t b now true false halt false v) false v → IsMachine s → count v ≤ n
     → length (levels_of (overlap_of n ds s t b now true false halt false v)) ≡ count v
     → IsOpened t s (opening_front idle_banks (now + 1 + count v)) w
     → IsInside (overlap_of n ds s t b now true true halt false w) false w
     × (count v ≡ drop_count (overlap_of n ds s t b now true false halt false v))
     × (overlap_of n ds s t b now true true halt false w ≡ machine_after_segment (overlap_of n ds s t b now true false halt false v))
 unfolding drop_count machine_after_segment
-given-hazard_free halt n ds s t b now v w is most levels opened =
+given-hazard_free halt n ds s t b now v w is m most levels opened =
     let banks : answers_before now w ≡ idle_banks = opened-answers now t s idle_banks (now + 1 + count v) w opened in
     let start : w.front.c ≡ now + 1 + count v = ap (λ (f : Front). f.c) opened.front in
     let few : n ≤ 8 = is.few in
     let front = opened-front t s (opening_front idle_banks (now + 1 + count v)) w opened in
     let between : IsBetween now t s w = record {
+      machine = m;
       opened =
           subst (λ (x : LastAnswers). IsOpened t s (opening_front x w.front.c) w) (sym banks)
           (subst (λ (x : ℕ). IsOpened t s (opening_front idle_banks x) w) (sym start) opened);
@@ -239,7 +237,7 @@ given-hazard_free halt n ds s t b now v w is most levels opened =
     )
 
 pub given-up : (halt : Bool) (n : ℕ) (ds : List ℕ) (s : Machine) (t b : Option ℕ) (now : ℕ) (owed over fresh : Bool) (v w : LookView)
-    → IsInside (overlap_of n ds s t b now owed over halt fresh v) fresh v → owed ≡ true → over ≡ false
+    → IsInside (overlap_of n ds s t b now owed over halt fresh v) fresh v → IsMachine s → owed ≡ true → over ≡ false
     → (overlap_of n ds s t b now owed over halt fresh v).closing ≡ None → count v ≤ n
     → (IsLook ds n now now t (with_counter b s) (oldest_front v.levels.plans v.front) v
     → prepared_before now (ahead ds n n t (with_counter b s) (oldest_front v.levels.plans v.front)) ≡ ahead ds n (count v) t (with_counter b s) (oldest_front v.levels.plans v.front))
@@ -248,11 +246,11 @@ pub given-up : (halt : Bool) (n : ℕ) (ds : List ℕ) (s : Machine) (t b : Opti
     × (count v ≡ drop_count (overlap_of n ds s t b now owed over halt fresh v))
     × (overlap_of n ds s t b now owed true halt fresh w ≡ machine_after_segment (overlap_of n ds s t b now owed over halt fresh v))
 unfolding state_ahead
-given-up halt n ds s t b now false over fresh v w is owes ends none most levels opened = absurd (cc owes)
-given-up halt n ds s t b now true true fresh v w is owes ends none most levels opened = absurd (cc ends)
-given-up halt n ds s t b now true false true v w is owes ends none most levels opened = absurd (cc none)
-given-up halt n ds s t b now true false false v w is owes ends none most levels opened =
-    given-hazard_free halt n ds s t b now v w is most (levels-counted halt n ds s t b now false v (levels is.looking)) (opened is.looking)
+given-up halt n ds s t b now false over fresh v w is m owes ends none most levels opened = absurd (cc owes)
+given-up halt n ds s t b now true true fresh v w is m owes ends none most levels opened = absurd (cc ends)
+given-up halt n ds s t b now true false true v w is m owes ends none most levels opened = absurd (cc none)
+given-up halt n ds s t b now true false false v w is m owes ends none most levels opened =
+    given-hazard_free halt n ds s t b now v w is m most (levels-counted halt n ds s t b now false v (levels is.looking)) (opened is.looking)
 
 -- what it asks for: the number of the tick, and the indicator that was taken, are within their ranges
 pub giving-up : (halt : Bool) (n : ℕ) (ds : List ℕ) (s : Machine) (t b : Option ℕ) (now : ℕ) (owed over fresh : Bool) (v : LookView)
@@ -315,18 +313,18 @@ owed-early false now e early = absurd (cc e)
 
 -- the next segment is open
 pub pass-inside : (halt : Bool) (n : ℕ) (ds : List ℕ) (s : Machine) (t b : Option ℕ) (now : ℕ) (owed over fresh : Bool) (v : LookView)
-    → IsInside (overlap_of n ds s t b now owed over halt fresh v) fresh v → halt ≡ false → IsMachine s → owed ≡ true → over ≡ true
+    → IsInside (overlap_of n ds s t b now owed over halt fresh v) fresh v → halt ≡ false → owed ≡ true → over ≡ true
     → interrupt_due (overlap_of n ds s t b now owed over halt fresh v) ≡ None → rests s ≡ false
     → IsInside (overlap_of n ds s t None (now + 1) false false halt false v) false v
     × (overlap_of n ds s t None (now + 1) false false halt false v ≡ machine_after_pass (overlap_of n ds s t b now owed over halt fresh v))
 unfolding state_ahead
-pass-inside halt n ds s t b now false over fresh v is off m owes ends due goes = absurd (cc owes)
-pass-inside halt n ds s t b now true false fresh v is off m owes ends due goes = absurd (cc ends)
-pass-inside halt n ds s t b now true true fresh v is off m owes ends due goes =
+pass-inside halt n ds s t b now false over fresh v is off owes ends due goes = absurd (cc owes)
+pass-inside halt n ds s t b now true false fresh v is off owes ends due goes = absurd (cc ends)
+pass-inside halt n ds s t b now true true fresh v is off owes ends due goes =
     let between : IsBetween now t s v = is.looking in
     let later : now + 1 ≤ v.front.c = between.later in
     let soon : v.front.c ≤ now + 1 + 9 = omega (arith, between.soon) in
-    let look = opening-looks ds n now (now + 1) v.front.c t s (answers_before now v) v between.opened m is.indicator between.banks later soon in (
+    let look = opening-looks ds n now (now + 1) v.front.c t s (answers_before now v) v between.opened between.machine is.indicator between.banks later soon in (
       inside-between halt n ds s t now v is.some is.few off is.in_time
           (subst (λ (f : Front). IsLook ds n now (now + 1) t s f v) (sym (opened-front t s (opening_front (answers_before now v) v.front.c) v between.opened)) look) is.indicator due goes,
       refl,
@@ -343,22 +341,22 @@ pending-of false p i e = absurd (cc e)
 
 -- an interrupt is taken
 pub interrupt-inside : (halt : Bool) (n : ℕ) (ds : List ℕ) (s : Machine) (b : Option ℕ) (now : ℕ) (owed over fresh : Bool) (v : LookView) (i : ℕ)
-    → IsInside (overlap_of n ds s None b now owed over halt fresh v) fresh v → halt ≡ false → IsMachine s → owed ≡ true → over ≡ true
+    → IsInside (overlap_of n ds s None b now owed over halt fresh v) fresh v → halt ≡ false → owed ≡ true → over ≡ true
     → i < 64 → interrupt s ≡ Some i
     → let w = record v { next = record v.next { place = place_of s (Some i) } } in
     IsInside (overlap_of n ds s (Some i) None (now + 1) false false halt false w) false w
     × (overlap_of n ds s (Some i) None (now + 1) false false halt false w ≡ machine_after_pass (record (overlap_of n ds s None b now owed over halt fresh v) { taken = Some i }))
 unfolding state_ahead
-interrupt-inside halt n ds s b now false over fresh v i is off m owes ends few due = absurd (cc owes)
-interrupt-inside halt n ds s b now true false fresh v i is off m owes ends few due = absurd (cc ends)
-interrupt-inside halt n ds s b now true true fresh v i is off m owes ends few due =
+interrupt-inside halt n ds s b now false over fresh v i is off owes ends few due = absurd (cc owes)
+interrupt-inside halt n ds s b now true false fresh v i is off owes ends few due = absurd (cc ends)
+interrupt-inside halt n ds s b now true true fresh v i is off owes ends few due =
     let w = record v { next = record v.next { place = place_of s (Some i) } } in
     let between : IsBetween now None s v = is.looking in
     let o = between.opened in
     let opened : IsOpened (Some i) s (opening_front (answers_before now v) v.front.c) w = assumption in
     let later : now + 1 ≤ v.front.c = between.later in
     let soon : v.front.c ≤ now + 1 + 9 = omega (arith, between.soon) in
-    let look = opening-looks ds n now (now + 1) v.front.c (Some i) s (answers_before now v) w opened m few between.banks later soon in (
+    let look = opening-looks ds n now (now + 1) v.front.c (Some i) s (answers_before now v) w opened between.machine few between.banks later soon in (
       inside-between halt n ds s (Some i) now w is.some is.few off is.in_time
           (subst (λ (f : Front). IsLook ds n now (now + 1) (Some i) s f w) (sym (opened-front (Some i) s (opening_front (answers_before now v) v.front.c) w opened)) look)
           few refl (rest-not s.waiting (pending s) i (pending-of s.enabled (pending s) i due)),
@@ -366,17 +364,17 @@ interrupt-inside halt n ds s b now true true fresh v i is off m owes ends few du
     )
 
 pub interrupt-taken : (halt : Bool) (n : ℕ) (ds : List ℕ) (s : Machine) (t b : Option ℕ) (now : ℕ) (owed over fresh : Bool) (v w : LookView) (i : ℕ) → t ≡ None
-    → IsInside (overlap_of n ds s t b now owed over halt fresh v) fresh v → halt ≡ false → IsMachine s → owed ≡ true → over ≡ true
+    → IsInside (overlap_of n ds s t b now owed over halt fresh v) fresh v → halt ≡ false → owed ≡ true → over ≡ true
     → i < 64 → interrupt s ≡ Some i
     → {place : Place} → place ≡ place_of s (Some i) → w ≡ record v { next = record v.next { place = place } }
     → IsInside (overlap_of n ds s (Some i) None (now + 1) false false halt false w) false w
     × (overlap_of n ds s (Some i) None (now + 1) false false halt false w ≡ machine_after_pass (record (overlap_of n ds s t b now owed over halt fresh v) { taken = Some i }))
-interrupt-taken halt n ds s (Some j) b now owed over fresh v w i none is off m owes ends few due at there = absurd (cc none)
-interrupt-taken halt n ds s None b now owed over fresh v w i none is off m owes ends few due at there =
+interrupt-taken halt n ds s (Some j) b now owed over fresh v w i none is off owes ends few due at there = absurd (cc none)
+interrupt-taken halt n ds s None b now owed over fresh v w i none is off owes ends few due at there =
     let P : LookView → Type 0 = λ x. IsInside (overlap_of n ds s (Some i) None (now + 1) false false halt false x) false x
     × (overlap_of n ds s (Some i) None (now + 1) false false halt false x ≡ machine_after_pass (record (overlap_of n ds s None b now owed over halt fresh v) { taken = Some i })) in
     subst P (sym (there ∙ ap (λ p. record v { next = record v.next { place = p } }) at))
-    (interrupt-inside halt n ds s b now owed over fresh v i is off m owes ends few due)
+    (interrupt-inside halt n ds s b now owed over fresh v i is off owes ends few due)
 
 -- ---- what runs ahead goes on
 
@@ -425,6 +423,11 @@ go-inside halt n ds s t None now true false fresh v w is off owes ends right due
 pub not-fresh : (fresh : Bool) (banks : LastAnswers) → fresh ≡ false → (if fresh then Some banks else None) ≡ None
 not-fresh true banks stale = absurd (cc stale)
 not-fresh false banks stale = refl
+
+-- and where one was, there is what the banks are left with
+pub fresh-some : (fresh : Bool) (banks : LastAnswers) → fresh ≡ true → IsSome (if fresh then Some banks else None)
+fresh-some true banks done = refl
+fresh-some false banks done = absurd (cc done)
 
 -- whether it goes on, by three tests
 both-none : (b d : Option ℕ) → (is_some b || is_some d) ≡ false → (d ≡ None) × (b ≡ None)

@@ -2,7 +2,7 @@
 use Rattle.std.specs.Prelude.{if◌then◌else◌, ◌-◌}
 use Rattle.std.specs.List.{AllZip}
 use Rattle.std.proofs.Common.{◌≡◌, ℕ, ◌+◌, ◌≤◌, Bool, true, false, List, [], ◌∷◌, length, Option, None, sym, subst, ◌∙◌, ap, arith}
-use Rattle.st_state.specs.Machine.{Machine, IsMachine}
+use Rattle.st_state.specs.Machine.{Machine}
 use Rattle.st_exec.specs.Completion.{guess}
 use Rattle.st_rows.specs.Rows.{opening_front, front_after_entry}
 use Rattle.st_rows.specs.declared.front.Front.{Front}
@@ -24,15 +24,15 @@ use Rattle.st_ahead.proofs.Standing.{opened-front}
 
 -- it is there also where a segment has ended
 pub look-inside : (halt : Bool) (n : ℕ) (ds : List ℕ) (s : Machine) (t b : Option ℕ) (now : ℕ) (owed over fresh : Bool) (v : LookView)
-    → IsInside (overlap_of n ds s t b now owed over halt fresh v) fresh v → IsMachine s
+    → IsInside (overlap_of n ds s t b now owed over halt fresh v) fresh v
     → IsLook ds n (last_tick_made (overlap_of n ds s t b now owed over halt fresh v)) now t (state_ahead (overlap_of n ds s t b now owed over halt fresh v)) (oldest_front v.levels.plans v.front) v
 unfolding state_ahead
-look-inside halt n ds s t b now owed false fresh v is m = is.looking
-look-inside halt n ds s t b now owed true fresh v is m =
+look-inside halt n ds s t b now owed false fresh v is = is.looking
+look-inside halt n ds s t b now owed true fresh v is =
     let between : IsBetween now t s v = is.looking in
     let later : now + 1 ≤ v.front.c = between.later in
     let tick = last_tick_made (overlap_of n ds s t b now owed true halt fresh v) in
-    let look = opening-looks ds n tick now v.front.c t s (answers_before now v) v between.opened m is.indicator between.banks (omega (arith, later)) between.soon in
+    let look = opening-looks ds n tick now v.front.c t s (answers_before now v) v between.opened between.machine is.indicator between.banks (omega (arith, later)) between.soon in
     subst (λ (f : Front). IsLook ds n tick now t s f v) (sym (opened-front t s (opening_front (answers_before now v) v.front.c) v between.opened)) look
 
 pub soon-last : (owed : Bool) (now : ℕ) → now ≤ (if owed then now else now - 1) + 1

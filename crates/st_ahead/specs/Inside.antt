@@ -1,7 +1,7 @@
 -- What a machine keeps, so that it stands for what it does.
 use Rattle.std.specs.Prelude.{ℕ, ◌≡◌, ◌+◌, ◌<◌, ◌≤◌, ◌^◌, Bool, true, false, if◌then◌else◌, zero, suc, nat_le, All, List, [], ◌∷◌, Option, None, Some, IfSome, option_map}
 use Rattle.st_bits.specs.declared.limits.TheConstants.{MOST_DELAY}
-use Rattle.st_state.specs.Machine.{Machine}
+use Rattle.st_state.specs.Machine.{Machine, IsMachine}
 use Rattle.st_banks.specs.declared.answers.LastAnswers.{LastAnswers}
 use Rattle.st_exec.specs.Step.{rests}
 use Rattle.st_rows.specs.Notes.{answers_left}
@@ -37,6 +37,7 @@ overlap_of n delays state taken behind now owed ended stopped fresh v = record {
 
 -- the segment has ended at the tick `now`, and v is what the next one opens with
 pub record IsBetween (now : ℕ) (t : Option ℕ) (s : Machine) (v : LookView) : Type 0 where
+  pub machine : IsMachine s
   pub opened : IsOpened t s (opening_front (answers_before now v) v.front.c) v
   pub banks : All (λ b. b ≤ v.front.c + MOST_DELAY) (answers_before now v).ticks
   pub later : now + 1 ≤ v.front.c

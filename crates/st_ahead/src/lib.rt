@@ -6,7 +6,7 @@ mod events;
 mod look;
 mod look_going;
 mod look_run;
-mod look_shape;
+mod look_shown;
 mod look_steps;
 mod look_tick;
 mod machine;

@@ -2,7 +2,7 @@
 //! prepared next.
 ghost use Rattle.std.specs.Prelude.{◌≡◌, ℕ, ◌+◌, ◌<◌, ◌≤◌, ◌-◌, ◌^◌, Option, IfSome, All, List};
 ghost use Rattle.st_bits.specs.declared.limits.TheConstants.{MOST_DELAY};
-ghost use Rattle.st_state.specs.Machine.{Machine};
+ghost use Rattle.st_state.specs.Machine.{Machine, IsMachine};
 ghost use Rattle.st_prep.specs.Fetch.{index_words as index_words_of};
 ghost use Rattle.st_rows.specs.Rows.{opening_front};
 ghost use Rattle.st_rows.specs.declared.front.Front.{Front as FrontOf};
@@ -56,7 +56,8 @@ impl<const N: usize> Lookahead<N> {
         requires early { start ≤ 2 ^ 64 - 1024 }
         requires banks { All (λ t. t ≤ start + MOST_DELAY) banks.ticks }
 
-        ensures { IsOpened table state.now (opening_front banks start) result }
+        ensures opened { IsOpened table state.now (opening_front banks start) result }
+        ensures machine { IsMachine state.now }
     {
         let front = Front::new(banks, start);
         let next = Next::new(place_of(state, table), front.bus);
@@ -84,6 +85,8 @@ impl<const N: usize> Lookahead<N> {
             IsLook ds N tick now t s f self.old → index_words_of s ≡ index_words_of state.now →
             IsOpened table state.now (opening_front (answers_before now self.old) (now + 1 + count
             self.old)) self.new }
+        ensures few { count self.old ≤ N }
+        ensures machine { IsMachine state.now }
     {
         let mut banks = self.next.words.bus.banks;
         self.log.undo(&mut banks, now);
@@ -105,6 +108,8 @@ impl<const N: usize> Lookahead<N> {
             IsLook ds N tick now t s f self.old → index_words_of s ≡ index_words_of state.now →
             IsOpened table state.now (opening_front idle_banks
             (now + 1 + count self.old)) self.new }
+        ensures few { count self.old ≤ N }
+        ensures machine { IsMachine state.now }
     {
         let count = self.levels.undo();
         let start = now + 1 + u64::from(count);

@@ -21,11 +21,12 @@ impl<const N: usize> Lookahead<N> {
         requires few { N ≤ 8 }
         requires early { last < 2 ^ 63 }
         requires going { Reaches delays.now N last state.now self.old }
-        ensures { (t : Option ℕ) (f : FrontOf) (since : ℕ) →
+        ensures goes { (t : Option ℕ) (f : FrontOf) (since : ℕ) →
             GoesUpTo delays.now N since last t state.now f self.old →
             HasGone delays.now N since last t state.now f self.new result }
+        ensures before { count self.old ≤ N }
+        ensures few { count self.new ≤ N }
     {
-        delays.shape();
         'entries: loop {
             let due = self.due();
             self.plan_before(due, last, state, delays);
@@ -34,14 +35,14 @@ impl<const N: usize> Lookahead<N> {
             }
             let p = self.next_prepared();
             self.push(p, state, delays);
-            self.shape();
         }
     }
 
     // The tick at which the oldest level is done, 2^64 - 1 where there is none.
     #[inline(always)]
     fn due(&self) -> u64
-        ensures { result ≡ due_of self.now.levels.plans }
+        ensures tick { result ≡ due_of self.now.levels.plans }
+        ensures few { count self.now ≤ N }
     {
         self.levels.due()
     }
@@ -86,7 +87,6 @@ impl<const N: usize> Lookahead<N> {
         if self.next.planned {
             return;
         }
-        let _few = self.levels.len();
         let _last = last;
         self.next.plan_before(
             due,
@@ -113,9 +113,9 @@ impl<const N: usize> Lookahead<N> {
             IsGoing delays.now N now (now + 1) t state.now f self.old →
             IsGoing delays.now N now now t state.now f self.new }
         ensures count { count self.new ≡ count self.old + 1 }
+        ensures few { count self.new ≤ N }
     {
         delays.shape();
-        let _few = self.levels.len();
         self.next.prepare(self.levels.index(), state);
         let filled = self.front.fill(
             delays,

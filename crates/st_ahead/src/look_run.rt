@@ -63,10 +63,8 @@ impl<const N: usize> Lookahead<N> {
         'entries: loop {
             let Some(tick) = self.go_to(last, state, delays) else {
                 self.fill(state, last);
-                self.shape();
                 return None;
             };
-            self.shape();
             let done = self.complete(state);
             *taken = None;
             if is_stopped(&done, state, count) {

@@ -46,7 +46,6 @@ impl<const N: usize> Lookahead<N> {
             IsLook delays.now N now now t state.now f self.old →
             IsLook delays.now N now (now + 1) t state.now f self.new }
     {
-        self.shape();
         delays.shape();
         self.go_to(now, state, delays);
         self.fill(state, now);

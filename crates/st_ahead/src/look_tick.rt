@@ -22,10 +22,11 @@ impl<const N: usize> Lookahead<N> {
     /// up to date, with nothing owed.
     pub fn tick(&mut self, state: &mut State, now: u64) -> Option<Completed>
         requires few { state.old.done < 2 ^ 63 }
-        ensures { (ds : List ℕ) (tick : ℕ) (t : Option ℕ) (f : FrontOf) → 1 ≤ N → N ≤ 8 →
+        ensures ticked { (ds : List ℕ) (tick : ℕ) (t : Option ℕ) (f : FrontOf) → 1 ≤ N → N ≤ 8 →
             AreDelaysUpTo MOST_DELAY ds →
             IsLook ds N tick now t state.old f self.old → (1 ≤ count self.old → now ≡ tick + 1) →
             IsTicked ds N now t state.old f self.old state.new self.new result }
+        ensures few { count self.old ≤ N }
     {
         if self.levels.is_due(now) {
             let done = self.complete(state);
@@ -64,13 +65,14 @@ impl<const N: usize> Lookahead<N> {
     // then and not done. They are the same in the state that the levels run ahead of, which may
     // have another counter.
     pub(crate) fn fill(&mut self, state: &State, now: u64)
-        ensures { (ds : List ℕ) (tick next : ℕ) (t : Option ℕ) (s : Machine) (f : FrontOf) →
+        ensures filled { (ds : List ℕ) (tick next : ℕ) (t : Option ℕ) (s : Machine) (f : FrontOf) →
             AreDelaysUpTo MOST_DELAY ds →
             IsOutlook ds N tick next t s f self.old → tick ≤ now → next ≤ now + 1 →
             AreNotDone now self.old.levels →
             ((w : ℕ) → word state.now w ≡ word s w) →
             IsLook ds N now next t s f self.new × (self.new.log ≡ self.old.log)
             × (self.new.next ≡ self.old.next) }
+        ensures few { count self.new ≤ N }
     {
         self.levels.fill(state, now);
     }

@@ -43,6 +43,7 @@ impl<const N: usize> Model for Machine<N> {
 }
 
 impl<const N: usize> Machine<N> {
+    ghost use Rattle.st_state.specs.Machine.{IsMachine};
     ghost use Rattle.st_exec.specs.Step.{rests};
     ghost use Rattle.st_ahead.specs.Overlap.{machine_at_start, interrupt_due as interrupt_due_of};
     ghost use Rattle.st_ahead.specs.Calls.{IsEvent, machine_after_tick, drop_count, machine_after_segment, run_ended, answer, machine_after_settling, machine_after_pass, signalled_by, MaySignal, MayServe, read_in_by, dropped_by, printed_by};
@@ -58,9 +59,9 @@ impl<const N: usize> Machine<N> {
         requires few { N ≤ 8 }
         requires enabled { state.enabled ≡ false }
         requires waiting { state.waiting ≡ false }
-        ensures { result ≡ machine_at_start delays N state }
+        ensures value { result ≡ machine_at_start delays N state }
+        ensures machine { IsMachine state }
     {
-        state.shape();
         let look = Lookahead::new(&state, None, LastAnswers::new(), 0);
         Machine {
             delays,
@@ -87,7 +88,6 @@ impl<const N: usize> Machine<N> {
         ensures after { self.new ≡ machine_after_tick self.old }
     {
         self.delays.shape();
-        self.look.shape();
         let now = self.now;
         let done = self.look.tick(&mut self.state, now);
         let number = done_in(&self.state);
@@ -167,7 +167,6 @@ impl<const N: usize> Machine<N> {
             self.go_on();
             return Settled::Goes;
         }
-        self.quiet();
         if let Some(indicator) = self.interrupt_due() {
             return self.interrupt(indicator);
         }
@@ -210,8 +209,8 @@ impl<const N: usize> Machine<N> {
         ensures no { result ≡ false → (is_some self.entry.now.behind
             || is_some (interrupt_due_of self.entry.now)
             || rests self.entry.now.state) ≡ true }
+        ensures done { result ≡ false → IsSome self.entry.now.closing }
     {
-        self.quiet();
         if !self.is_fresh() {
             return true;
         }
@@ -221,18 +220,12 @@ impl<const N: usize> Machine<N> {
         !self.is_resting()
     }
 
-    // Where no entry was done, no interrupt is due, the machine is not at rest, and no branch was
-    // missed.
-    fn quiet(&self)
-        ensures { self.entry.now.closing ≡ None → (interrupt_due_of self.entry.now ≡ None)
-            × (rests self.entry.now.state ≡ false) × (self.entry.now.behind ≡ None) }
-    {
-        let _ = &self.now;
-    }
-
-    // Whether an entry was done at this tick.
+    // Whether an entry was done at this tick. Where none was, no interrupt is due, the machine is
+    // not at rest, and no branch was missed.
     fn is_fresh(&self) -> bool
-        ensures { result ≡ false → self.entry.now.closing ≡ None }
+        ensures yes { result ≡ true → IsSome self.entry.now.closing }
+        ensures no { result ≡ false → (interrupt_due_of self.entry.now ≡ None)
+            × (rests self.entry.now.state ≡ false) × (self.entry.now.behind ≡ None) }
     {
         self.fresh
     }
@@ -280,7 +273,6 @@ impl<const N: usize> Machine<N> {
         ensures after { self.new ≡ machine_after_segment self.old }
     {
         self.delays.shape();
-        self.look.shape();
         if self.ended {
             return 0;
         }
@@ -296,13 +288,12 @@ impl<const N: usize> Machine<N> {
         requires stands { self.old.stopped ≡ false }
         requires due { interrupt_due_of self.old ≡ Some indicator }
         requires known { indicator < 64 }
+        requires done { IsSome self.old.closing }
 
         ensures answer { result ≡ answer self.old }
         ensures after { self.new ≡ machine_after_settling self.old }
     {
-        self.quiet();
         let dropped = self.end();
-        self.state.shape();
         let place = place_of(&self.state, Some(indicator));
         let done = done_in(&self.state);
         let ic = counter_of(&self.state);
@@ -332,7 +323,6 @@ impl<const N: usize> Machine<N> {
 
         ensures { self.new ≡ machine_after_pass self.old }
     {
-        self.state.shape();
         self.behind = None;
         self.owed = false;
         self.ended = false;
@@ -349,7 +339,6 @@ impl<const N: usize> Machine<N> {
     {
         self.delays.shape();
         self.state.signal(i);
-        self.state.shape();
     }
 
     /// Ends the segment at the end of a run, at the tick whose settle is owed. The result is the
@@ -384,7 +373,6 @@ impl<const N: usize> Machine<N> {
         requires { self.old.owed ≡ true }
         ensures { self.new ≡ record self.old { stopped = true } }
     {
-        self.state.shape();
         self.stopped = true;
     }
 
@@ -397,7 +385,6 @@ impl<const N: usize> Machine<N> {
         ensures after { self.new ≡ machine_after_segment self.old }
     {
         self.delays.shape();
-        self.look.shape();
         if self.ended {
             return 0;
         }
@@ -434,7 +421,6 @@ impl<const N: usize> Machine<N> {
     {
         self.delays.shape();
         st_exec::read_in(&mut self.state, None);
-        self.state.shape();
     }
 
     // The order of the reader takes effect with a card, where the segment has ended.
@@ -448,7 +434,6 @@ impl<const N: usize> Machine<N> {
                   (Some card);
             }) }
     {
-        self.state.shape();
         st_exec::read_in(&mut self.state, Some(card));
     }
 
@@ -461,9 +446,7 @@ impl<const N: usize> Machine<N> {
         ensures after { self.new ≡ printed_by self.old }
     {
         self.delays.shape();
-        let words = st_exec::print_out(&mut self.state);
-        self.state.shape();
-        words
+        st_exec::print_out(&mut self.state)
     }
 
     /// The levels, oldest first.
@@ -472,8 +455,6 @@ impl<const N: usize> Machine<N> {
         ensures few { length result.now ≤ 8 }
     {
         self.delays.shape();
-        self.look.shape();
-        self.state.shape();
         self.look.ring()
     }
 
@@ -482,8 +463,6 @@ impl<const N: usize> Machine<N> {
         ensures { result.now ≡ lent_index_words self.entry.now }
     {
         self.delays.shape();
-        self.look.shape();
-        self.state.shape();
         self.look.index()
     }
 
@@ -533,8 +512,6 @@ impl<const N: usize> Machine<N> {
     {
         let tick = self.last_tick();
         self.delays.shape();
-        self.look.shape();
-        self.state.shape();
         self.look.level(k, tick)
     }
 

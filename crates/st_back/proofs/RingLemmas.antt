@@ -112,24 +112,24 @@ room-of r k e h = leb-true k.puts 7 (ap has_room (sym e) ∙ h)
 
 -- ---- what the calls do
 
-step-kept : (b : Steps) (s t : Machine) (trail : Trail) → IsMachine s → IsTrail s trail → CanBePutBack trail → t ≡ step s
+step-kept : (b : Steps) (s t : Machine) (trail : Trail) → IsTrail s trail → CanBePutBack trail → t ≡ step s
     → IsStepKept b (steps_with trail b) s t
-step-kept b s t trail m is fits made = record {
+step-kept b s t trail is fits made = record {
   last = step_at trail;
   kept = refl;
   depth = refl;
   trail = is;
   puts = refl;
-  before = ap (state_undone (step_at trail)) made ∙ step-undone s (step_at trail) m is fits refl;
+  before = ap (state_undone (step_at trail)) made ∙ step-undone s (step_at trail) is fits refl;
 }
 
-pub forth-kept : (b c : Steps) (s t : Machine) (old trail : Trail) (r : Step) → IsMachine s → IsStep s t r
+pub forth-kept : (b c : Steps) (s t : Machine) (old trail : Trail) (r : Step) → IsStep s t r
     → IsKeptStep s old trail r → r ≢ Waits → c ≡ steps_with trail b → IsForth b c s t r
-forth-kept b c s t old trail Waits m made is some e = absurd (some refl)
-forth-kept b c s t old trail Plain m made is some e =
-    subst (λ d. IsStepKept b d s t) (sym e) (step-kept b s t trail m is.0 is.1 made.2)
-forth-kept b c s t old trail (Interrupt i) m made is some e =
-    subst (λ d. IsStepKept b d s t) (sym e) (step-kept b s t trail m is.0 is.1 made.2)
+forth-kept b c s t old trail Waits made is some e = absurd (some refl)
+forth-kept b c s t old trail Plain made is some e =
+    subst (λ d. IsStepKept b d s t) (sym e) (step-kept b s t trail is.0 is.1 made.2)
+forth-kept b c s t old trail (Interrupt i) made is some e =
+    subst (λ d. IsStepKept b d s t) (sym e) (step-kept b s t trail is.0 is.1 made.2)
 
 pub put-made : (a p b : Buffer Kept) (k q : Kept) (s t : Machine) (w x : ℕ) → AreStepsSound (steps a) → IsMachine s
     → last_item a.items ≡ Some k → k.puts ≤ 7 → q ≡ step_with_word k w (word s w) → t ≡ state_with_store s w x

@@ -64,11 +64,12 @@ past_registers i (inl before) = absurd (omega arith)
 past_registers i (inr after) = omega arith
 
 -- a state that has of another one each word that the trail does not have
-pub trail-undone : (s u : Machine) (k : Kept) → IsMachine s → TrailKeeps s k.trail → CanBePutBack k.trail → k.puts ≡ 0
+pub trail-undone : (s u : Machine) (k : Kept) → TrailKeeps s k.trail → CanBePutBack k.trail → k.puts ≡ 0
     → length u.words ≡ length s.words
     → ((w : ℕ) → 32 ≤ w → IsNotAmong w k.trail.writes → word u w ≡ word s w) → state_undone k u ≡ s
 unfolding state_undone
-trail-undone s u k m t fits none size same =
+trail-undone s u k t fits none size same =
+    let m = t.machine in
     let q = k.trail.writes in
     let xs = k.trail.before in
     let a = unput k.puts k.places k.contents u in
@@ -101,6 +102,7 @@ trail-undone s u k m t fits none size same =
 -- what a trail of a step keeps
 pub trail-keeps : (s : Machine) (t : Trail) → IsTrail s t → TrailKeeps s t
 trail-keeps s t is = record {
+  machine = is.machine;
   before = is.before;
   registers = is.registers;
   done = is.done;
@@ -112,11 +114,12 @@ trail-keeps s t is = record {
 }
 
 -- an entry is undone that is completed, whatever the counter is set to then
-pub entry-undone : (p : Prepared) (s : Machine) (ic : ℕ) (k : Kept) → IsPrepared p → IsMachine s → TrailKeeps s k.trail → CanBePutBack k.trail
+pub entry-undone : (p : Prepared) (s : Machine) (ic : ℕ) (k : Kept) → IsPrepared p → TrailKeeps s k.trail → CanBePutBack k.trail
     → k.puts ≡ 0 → k.trail.writes ≡ p.writes → state_undone k (record (state_after_completion p s) { ic = ic }) ≡ s
-entry-undone p s ic k h m t fits none writes =
+entry-undone p s ic k h t fits none writes =
+    let m = t.machine in
     let n = kept-completed p s h m in
-    trail-undone s (record (state_after_completion p s) { ic = ic }) k m t fits none (n.size ∙ sym m.size)
+    trail-undone s (record (state_after_completion p s) { ic = ic }) k t fits none (n.size ∙ sym m.size)
     (λ w above apart. completed-unwritten p s w h m above (subst (IsNotAmong w) writes apart))
 
 -- the interrupt that is taken is by one of 64 indicators
@@ -131,14 +134,15 @@ interrupt-by false s = tt
 interrupt-below : (s : Machine) → IfSome (interrupt s) (λ i. i < 64)
 interrupt-below s = interrupt-by s.enabled s
 
-pub step-undone : (s : Machine) (k : Kept) → IsMachine s → IsTrail s k.trail → CanBePutBack k.trail → k.puts ≡ 0
+pub step-undone : (s : Machine) (k : Kept) → IsTrail s k.trail → CanBePutBack k.trail → k.puts ≡ 0
     → state_undone k (step s) ≡ s
 unfolding step
-step-undone s k m t fits none =
+step-undone s k t fits none =
+    let m = t.machine in
     let p = plan s (interrupt s) in
     let h : IsPrepared p = plan-prepared s (interrupt s) m (interrupt-below s) in
     let n = kept-completed p s h m in
-    trail-undone s (state_after_completion p s) k m (trail-keeps s k.trail t) fits none (n.size ∙ sym m.size)
+    trail-undone s (state_after_completion p s) k (trail-keeps s k.trail t) fits none (n.size ∙ sym m.size)
     (λ w above apart. completed-unwritten p s w h m above (subst (IsNotAmong w) t.writes apart))
 
 -- ---- words that are put since

@@ -52,7 +52,6 @@ impl Back {
         ensures step { IsStep state.old state.new result }
         ensures kept { IsForth self.old self.new state.old state.new result }
     {
-        state.shape();
         let mut trail = Trail::default();
         let step = one_kept(state, &mut trail);
         match step {
@@ -95,7 +94,6 @@ impl Back {
         requires room { has_room (newest_step self.old.kept) ≡ true }
         ensures { IsPut self.old self.new state.old state.new w word }
     {
-        state.shape();
         let Some(kept) = self.ring.pop_back() else {
             return;
         };

@@ -77,7 +77,6 @@ fn trail_of(p: &Prepared, state: &State) -> Trail
     ensures fits { CanBePutBack result }
     ensures writes { result.writes ≡ p.now.writes }
 {
-    state.shape();
     Trail {
         index_read: None,
         reads: p.reads,
@@ -102,7 +101,6 @@ pub fn keep(p: &Prepared, state: &State) -> Kept
         (state_after_completion p.now state.now) { ic = ic } →
         state_undone result s ≡ state.now }
 {
-    state.shape();
     Kept {
         trail: trail_of(p, state),
         places: [0; 8],

@@ -14,7 +14,7 @@ words_lie_in_banks = search rules
 pub reads_keep_their_bank_busy : ReadsKeepTheirBankBusy
 reads_keep_their_bank_busy = record {
   own = λ m v w answer is same.
-      let inside : bank_of w < length m.answers = omega (arith, bank_of-below w, is.banks) in
+      let inside : bank_of w < length m.answers = omega (arith, bank_of-below w, is) in
       rw same (get_or-set_same m.answers (bank_of w) answer 0 inside);
   others = search rules;
 }

@@ -1,6 +1,6 @@
 -- The banks of storage: which words are in each, and until when it is busy.
-use Rattle.std.specs.Prelude.{ℕ, ◌≡◌, ◌+◌, ◌%◌, max, nat_lt, nat_le, if◌then◌else◌, List, length, replicate, slice_index, slice_set, Option, None, Some}
-use Rattle.st_banks.specs.Delay.{IsDelayList, answer_tick}
+use Rattle.std.specs.Prelude.{ℕ, ◌+◌, ◌%◌, max, nat_lt, nat_le, if◌then◌else◌, List, replicate, slice_index, slice_set, Option, None, Some}
+use Rattle.st_banks.specs.Delay.{answer_tick}
 use Rattle.st_banks.specs.declared.answers.TheConstants.{BANKS}
 
 -- the bank of a word: the first 65,536 words lie in four banks in turn, the others in two
@@ -25,11 +25,6 @@ answered_at answers w tick = slice_set answers (bank_of w) tick
 pub record BankTimes : Type 0 where
   pub delays : List ℕ
   pub answers : List ℕ
-
--- what holds of them: the list can be gone round, and each bank has its answer
-pub record IsBankTimes (m : BankTimes) : Type 0 where
-  pub delays : IsDelayList m.delays
-  pub banks : length m.answers ≡ BANKS
 
 -- the banks before the first read
 abbrev pub banks_at_start : List ℕ → BankTimes

@@ -1,6 +1,6 @@
 -- What holds of delays and banks, whatever is read.
 use Rattle.std.specs.Prelude.{◌≡◌, ◌≢◌, ◌<◌, ◌≤◌, ℕ, List, length, All, Some, None}
-use Rattle.st_banks.specs.Bank.{BankTimes, IsBankTimes, bank_of, last_answer, accept_tick, answer_if_accepted, after_read}
+use Rattle.st_banks.specs.Bank.{BankTimes, bank_of, last_answer, accept_tick, answer_if_accepted, after_read}
 use Rattle.st_banks.specs.Delay.{delay, answer_tick}
 use Rattle.st_banks.specs.declared.answers.TheConstants.{BANKS}
 
@@ -15,7 +15,7 @@ WordsLieInBanks = (w : ℕ) → bank_of w < BANKS
 
 -- A read keeps its own bank busy until its answer, and leaves every other bank.
 pub record ReadsKeepTheirBankBusy : Type 0 where
-  pub own : (m : BankTimes) (v w answer : ℕ) → IsBankTimes m → bank_of v ≡ bank_of w →
+  pub own : (m : BankTimes) (v w answer : ℕ) → length m.answers ≡ BANKS → bank_of v ≡ bank_of w →
       last_answer (after_read m w (Some answer)) v ≡ answer
   pub others : (m : BankTimes) (v w answer : ℕ) → bank_of v ≢ bank_of w →
       last_answer (after_read m w (Some answer)) v ≡ last_answer m v

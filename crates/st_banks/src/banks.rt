@@ -1,5 +1,5 @@
 //! The banks of storage with their delays.
-ghost use Rattle.std.specs.Prelude.{◌≡◌, ◌+◌, ◌≤◌, ◌<◌, ◌^◌, IfSome};
+ghost use Rattle.std.specs.Prelude.{◌≡◌, ◌+◌, ◌≤◌, ◌<◌, ◌^◌, length, IfSome};
 ghost use Rattle.st_bits.specs.declared.limits.TheConstants.{MOST_DELAY};
 ghost use Rattle.st_bits.specs.Storage.{words_of_storage};
 
@@ -28,7 +28,8 @@ impl Model for Banks {
 }
 
 impl Banks {
-    ghost use Rattle.st_banks.specs.Bank.{IsBankTimes, banks_at_start, last_answer as last_answer_of, answer_if_accepted, after_read};
+    ghost use Rattle.st_banks.specs.declared.answers.TheConstants.{BANKS};
+    ghost use Rattle.st_banks.specs.Bank.{banks_at_start, last_answer as last_answer_of, answer_if_accepted, after_read};
 
     /// The banks before the first read.
     pub fn new(delays: Delays) -> Banks
@@ -40,17 +41,10 @@ impl Banks {
         }
     }
 
-    /// Makes known what holds of all banks: there are BANKS of them, and the delays are from 1 to
-    /// 255.
-    pub fn shape(&self)
-        ensures { IsBankTimes self.now }
-    {
-        self.delays.shape();
-    }
-
     /// The tick of the last answer of the bank that the word `w` is in, 0 before its first read.
     pub fn last_answer(&self, w: u32) -> u64
-        ensures { result ≡ last_answer_of self.now w }
+        ensures value { result ≡ last_answer_of self.now w }
+        ensures banks { length self.now.answers ≡ BANKS }
     {
         self.answers.of(w)
     }

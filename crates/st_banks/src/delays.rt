@@ -1,6 +1,6 @@
 //! Delay lists, which are gone round.
 ghost use Rattle.std.specs.Prelude.{◌≡◌, ◌+◌, ◌<◌, ◌≤◌, ◌^◌, length, All, IfSome, IfNone};
-ghost use Rattle.st_bits.specs.declared.limits.TheConstants.{MOST_DELAY};
+ghost use Rattle.st_bits.specs.declared.limits.TheConstants.{LONGEST_LIST, MOST_DELAY};
 ghost use Rattle.st_banks.specs.Delay.{delay, first_zero as first_zero_of};
 
 use std::alloc::Global;
@@ -39,7 +39,7 @@ impl Delays {
     /// memory is asked for.
     pub fn new(alloc: Global, list: &[u8]) -> Result<Delays, DelayError>
         requires some { 1 ≤ length list.now }
-        requires few { length list.now ≤ 4096 }
+        requires few { length list.now ≤ LONGEST_LIST }
         ensures { IsDelayAnswer list.now result }
     {
         if let Some(place) = first_zero(list) {

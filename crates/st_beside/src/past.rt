@@ -119,7 +119,6 @@ fn read_noted(steps: &mut Back, machine: &mut State, card: Option<[u64; 8]>)
     ensures states { states_before steps.new.kept machine.new
         ≡ states_before steps.old.kept machine.old }
 {
-    machine.shape();
     let Some(order) = machine.reader else { return };
     machine.reader = None;
     let Some(card) = card else {
@@ -127,7 +126,6 @@ fn read_noted(steps: &mut Back, machine: &mut State, card: Option<[u64; 8]>)
         return;
     };
     put_card(steps, machine, order.word, &card);
-    machine.shape();
     machine.signal(END_OF_OPERATION);
 }
 
@@ -153,7 +151,6 @@ impl Outside for Noted {
     }
 
     fn signal(&mut self, indicator: u8) {
-        self.state.shape();
         self.state.signal(indicator);
     }
 
@@ -162,7 +159,6 @@ impl Outside for Noted {
     }
 
     fn print_out(&mut self) -> [u64; 8] {
-        self.state.shape();
         st_exec::print_out(&mut self.state)
     }
 

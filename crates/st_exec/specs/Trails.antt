@@ -1,6 +1,6 @@
 -- What is kept of a state before a step, so that the step can be undone.
 use Rattle.std.specs.Prelude.{ℕ, ◌≡◌, ◌<◌, ◌^◌, slice_index}
-use Rattle.st_state.specs.Machine.{Machine, HasArea, word}
+use Rattle.st_state.specs.Machine.{Machine, IsMachine, HasArea, word}
 use Rattle.st_prep.specs.Fetch.{place_of}
 use Rattle.st_prep.specs.Plan.{needs, sight, plan}
 use Rattle.st_prep.specs.Ranges.{IsRuns, AreInside}
@@ -14,6 +14,7 @@ use Rattle.st_exec.specs.declared.step.Step.TheVariants.{Plain, Interrupt, Waits
 -- writes hold before it, and the registers, the number done, the counter, the marks and the orders
 -- before it
 pub record IsTrail (s : Machine) (t : Trail) : Type 0 where
+  pub machine : IsMachine s
   pub index_read : t.index_read ≡ (needs (sight s (place_of s (interrupt s)))).index_read
   pub reads : t.reads ≡ (plan s (interrupt s)).reads
   pub writes : t.writes ≡ (plan s (interrupt s)).writes

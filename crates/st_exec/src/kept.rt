@@ -61,7 +61,6 @@ fn trail_of(side: Option<u32>, p: &Prepared, state: &State) -> Trail
     ensures trail { IsTrail state.now result }
     ensures fits { CanBePutBack result }
 {
-    state.shape();
     Trail {
         index_read: side,
         reads: p.reads,

@@ -24,7 +24,6 @@ pub fn is_missed(p: &Prepared, state: &State) -> bool
     requires { IsPrepared p.now }
     ensures { result ≡ is_missed_of p.now state.now }
 {
-    state.shape();
     if p.serial || p.suppressed {
         return false;
     }

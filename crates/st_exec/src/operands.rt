@@ -1,5 +1,5 @@
 //! Operands: fields of the words that were read, and the accumulator.
-ghost use Rattle.std.specs.Prelude.{◌≡◌, ◌+◌, ◌*◌, ◌/◌, ◌%◌, ◌<◌, ◌≤◌, ◌^◌, slice_index};
+ghost use Rattle.std.specs.Prelude.{◌≡◌, ◌+◌, ◌*◌, ◌/◌, ◌%◌, ◌<◌, ◌≤◌, ◌^◌, length, slice_index};
 ghost use Rattle.st_bits.specs.Storage.{words_of_storage};
 ghost use Rattle.st_state.specs.Machine.{word as word_of};
 ghost use Rattle.st_prep.specs.Entry.{field_words};
@@ -36,16 +36,16 @@ pub fn first_operands(words: &Words, state: &State) -> [u64; 2]
     ]
 }
 
-// The word at the address `w`, which is in place `k` of the operands. A register is read anew,
-// since the entry itself may have changed it before its operands are read.
-fn operand_word(operands: &[u64; 2], k: usize, w: u32, state: &State) -> u64
+// The word at the address `w` of storage, which is in place `k` of the operands. A register is read
+// anew, since the entry itself may have changed it before its operands are read.
+fn operand_word(operands: &[u64; 2], k: usize, w: u32, words: &[u64]) -> u64
     requires place { k < 2 }
-    requires inside { w < words_of_storage }
-    requires read { 32 ≤ w → slice_index operands.now k ≡ word_of state.now w }
-    ensures { result ≡ word_of state.now w }
+    requires inside { w < length words.now }
+    requires read { 32 ≤ w → slice_index operands.now k ≡ slice_index words.now w }
+    ensures { result ≡ slice_index words.now w }
 {
     if w < FIRST_STORAGE_WORD {
-        state.word(w)
+        words[w as usize]
     } else {
         operands[k]
     }
@@ -61,16 +61,16 @@ pub fn operand_field(operands: &[u64; 2], a: u32, n: u8, state: &State) -> u64
     ensures value { result ≡ field_at state.now a n }
     ensures bound { result < 2 ^ n }
 {
-    state.shape();
+    let stored = state.words();
     let w = a / 64;
     let first = a % 64;
     if first + u32::from(n) <= 64 {
-        let words = [operand_word(operands, 0, w, state)];
+        let words = [operand_word(operands, 0, w, stored)];
         get_field(&words, first, n)
     } else {
         let words = [
-            operand_word(operands, 0, w, state),
-            operand_word(operands, 1, w + 1, state),
+            operand_word(operands, 0, w, stored),
+            operand_word(operands, 1, w + 1, stored),
         ];
         get_field(&words, first, n)
     }

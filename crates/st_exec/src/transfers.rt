@@ -1,6 +1,7 @@
 //! What the reader and the printer do between two instructions.
 ghost use Rattle.std.specs.Prelude.{◌≡◌, ◌+◌, ◌≤◌, IsSome, IfSome};
 ghost use Rattle.st_bits.specs.Storage.{words_of_storage};
+ghost use Rattle.st_state.specs.Machine.{IsMachine};
 ghost use Rattle.st_exec.specs.Transfer.{all_stored, words_from, read_in as read_in_of, printed_out};
 
 use st_bits::indicators::{END_EXCEPTION, END_OF_OPERATION};
@@ -33,9 +34,10 @@ fn words_at(w: u32, state: &State) -> [u64; 8]
 /// the reader and of the printer", has the rule.
 pub fn read_in(state: &mut State, card: Option<[u64; 8]>)
     requires { IsSome state.old.reader }
-    ensures { IfSome state.old.reader (λ order. state.new ≡ read_in_of state.old order.word card) }
+    ensures state { IfSome state.old.reader
+        (λ order. state.new ≡ read_in_of state.old order.word card) }
+    ensures after { IsMachine state.new }
 {
-    state.shape();
     let Some(order) = state.reader else { return };
     state.reader = None;
     let Some(card) = card else {
@@ -53,8 +55,9 @@ pub fn print_out(state: &mut State) -> [u64; 8]
     requires { IsSome state.old.printer }
     ensures words { IfSome state.old.printer (λ order. result ≡ words_from state.old order.word 8) }
     ensures state { state.new ≡ printed_out state.old }
+    ensures before { IsMachine state.old }
+    ensures after { IsMachine state.new }
 {
-    state.shape();
     let Some(order) = state.printer else {
         return [0; 8]
     };

@@ -51,16 +51,10 @@ impl Hold {
         }
     }
 
-    /// Makes known that at most four words are held.
-    pub fn shape(&self)
-        ensures { length self.now ≤ 4 }
-    {
-        let _ = &self.words;
-    }
-
     /// Whether the word `w` is held.
     pub fn held(&self, w: u32) -> bool
-        ensures { result ≡ is_held self.now w }
+        ensures value { result ≡ is_held self.now w }
+        ensures few { length self.now ≤ 4 }
     {
         self.find(w).is_some()
     }
@@ -95,7 +89,8 @@ impl Hold {
 
     // The word `w` with its answer, if it is held.
     fn find(&self, w: u32) -> Option<Held>
-        ensures { result ≡ found self.now w }
+        ensures value { result ≡ found self.now w }
+        ensures few { length self.now ≤ 4 }
     {
         let mut here = None;
         for place in 0..self.len {

@@ -262,7 +262,6 @@ impl Next {
             (if front.now.serial then front.now.c else 0) →
             (self.new ≡ self.old) × (log.new ≡ log.old) }
     {
-        delays.shape();
         if self.waits_for(front) >= due {
             return false;
         }

@@ -1,6 +1,6 @@
 //! How an entry is fetched, one instruction word after another.
 ghost use Rattle.std.specs.Prelude.{◌≡◌, ℕ, ◌+◌, ◌/◌, ◌<◌, ◌≤◌, ◌^◌, Bool, true, false, None, IfSome, length, drop, slice_index};
-ghost use Rattle.st_state.specs.Machine.{word};
+ghost use Rattle.st_state.specs.Machine.{IsMachine, word};
 ghost use Rattle.st_state.specs.Boundary.{forbidden_by};
 ghost use Rattle.st_state.specs.declared.protection.Access.{Access};
 ghost use Rattle.st_prep.specs.Fetch.{index_words as index_words_of, place_of as place_by, address_by};
@@ -38,10 +38,10 @@ pub enum Part {
 pub fn index_words(state: &State) -> [u64; 16]
     ensures { result ≡ index_words_of state.now }
 {
-    state.shape();
+    let words = state.words();
     let mut x = [0; 16];
     for j in 0..16 {
-        x[j] = state.word(FIRST_INDEX_WORD + j as u32);
+        x[j] = words[FIRST_INDEX_WORD as usize + j];
     }
     x
 }
@@ -53,8 +53,8 @@ pub fn place_of(state: &State, table: Option<u8>) -> Place
     requires { IfSome table (λ i. i < 64) }
     ensures value { result ≡ place_by state.now table }
     ensures shape { IsPlace result }
+    ensures machine { IsMachine state.now }
 {
-    state.shape();
     Place {
         counter: state.ic,
         address: address(state, table),
@@ -68,7 +68,6 @@ fn address(state: &State, table: Option<u8>) -> u32
     ensures value { result ≡ address_by table state.now }
     ensures bound { result < 2 ^ 19 }
 {
-    state.shape();
     match table {
         None => state.ic,
         Some(i) => (part(state.word(INTERRUPT_ADDRESS), 0, 18) as u32 + u32::from(i)) % (1 << 18)

@@ -2,7 +2,7 @@
 ghost use Rattle.std.specs.Prelude.{◌≡◌, ℕ, ◌<◌, ◌^◌, false, IfSome, is_some, option_map};
 ghost use Rattle.st_bits.specs.Indicators.{indicator as indicator_of};
 ghost use Rattle.st_bits.specs.Storage.{words_of_storage};
-ghost use Rattle.st_state.specs.Machine.{Machine, word};
+ghost use Rattle.st_state.specs.Machine.{Machine, IsMachine, word};
 ghost use Rattle.st_state.specs.Interrupts.{indicator_word};
 ghost use Rattle.st_prep.specs.EarlyChange.{words_after};
 ghost use Rattle.st_prep.specs.Plan.{sight_of, is_alone as is_alone_of, aim_at as aimed_of, aim as aim_of, is_serial as is_serial_of, needs_by, needs as needs_of, asks, suppressed_entry as suppressed_of, entry_at as entry_of, prepared_by, prepared_entry as prepared_of, plan as plan_of, state_at_entry, side_word as side_word_of, side_of, IsSeen, entry_by, sight};
@@ -292,7 +292,6 @@ fn found_word(state: &State, table: Option<u8>, w: u32) -> u64
     requires indicator { IfSome table (λ i. i < 64) }
     ensures value { result ≡ word (state_at_entry table state.now) w }
 {
-    state.shape();
     let word = state.word(w);
     match table {
         Some(i) if w == INDICATORS => without(word, i),
@@ -358,8 +357,8 @@ pub fn plan_in(table: Option<u8>, state: &State, p: &mut Prepared) -> Option<u32
     ensures value { p.new ≡ plan_of state.now table }
     ensures ranges { IsPrepared p.new }
     ensures side { result ≡ (needs_of (sight state.now (place_by state.now table))).index_read }
+    ensures machine { IsMachine state.now }
 {
-    state.shape();
     p.place = place_of(state, table);
     let x = index_words(state);
     let fetched = fetch_all(&p.place, &x, state);

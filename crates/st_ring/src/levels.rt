@@ -80,24 +80,18 @@ impl<const N: usize> Levels<N> {
         self.ring.len()
     }
 
-    /// Makes known what is always kept: a planned row beside each level, at most N of them, and
-    /// each entry in its ranges.
-    pub fn shape(&self)
-        ensures { AreLevelsSound N self.now.ring self.now.plans }
-    {
-        let _ = &self.x;
-    }
-
     /// The levels, oldest first.
     pub fn ring(&self) -> &SpecRing<N>
-        ensures { result.now ≡ self.now.ring }
+        ensures levels { result.now ≡ self.now.ring }
+        ensures few { length self.now.ring ≤ N }
     {
         &self.ring
     }
 
     /// The index words that run ahead.
     pub fn index(&self) -> &[u64; 16]
-        ensures { result.now ≡ self.now.x }
+        ensures words { result.now ≡ self.now.x }
+        ensures few { length self.now.ring ≤ N }
     {
         &self.x
     }
@@ -123,6 +117,7 @@ impl<const N: usize> Levels<N> {
         }) ∷ [] }
         ensures plans { self.new.plans ≡ self.old.plans ++ row_of_plan front.now filled.now ∷ [] }
         ensures index { self.new.x ≡ words_after self.old.x prepared.now.index }
+        ensures few { length self.new.ring ≤ N }
         ensures not_done { (now : ℕ) → AreNotDone now self.old → now < filled.now.row.c →
             AreNotDone now self.new }
 
@@ -147,7 +142,8 @@ impl<const N: usize> Levels<N> {
     /// The tick at which the oldest level is done, 2^64 - 1 where there is none.
     #[inline(always)]
     pub fn due(&self) -> u64
-        ensures { result ≡ due_of self.now.plans }
+        ensures tick { result ≡ due_of self.now.plans }
+        ensures few { length self.now.ring ≤ N }
     {
         if self.plans.len() == 0 {
             return u64::MAX;
@@ -159,6 +155,7 @@ impl<const N: usize> Levels<N> {
     pub fn is_due(&self, now: u64) -> bool
         ensures value { result ≡ is_due_of self.now.plans now }
         ensures some { result ≡ true → 0 < length self.now.ring }
+        ensures few { length self.now.ring ≤ N }
     {
         self.len() > 0 && self.plans.get(0).c == now
     }
@@ -200,6 +197,7 @@ impl<const N: usize> Levels<N> {
         ensures plans { self.new.plans ≡ self.old.plans }
         ensures index { self.new.x ≡ self.old.x }
         ensures len { length self.new.ring ≡ length self.old.ring }
+        ensures few { length self.new.ring ≤ N }
 
         // All are prepared by then, and none is done yet. A word that is there is written by no
         // older level, so it stands in the state as before the step of the entry.
@@ -219,6 +217,7 @@ impl<const N: usize> Levels<N> {
     pub fn undo(&mut self) -> u8
         ensures empty { (self.new.ring ≡ []) × (self.new.plans ≡ []) }
         ensures count { result ≡ length self.old.ring }
+        ensures few { length self.old.ring ≤ N }
         ensures words { (ds : List ℕ) (n tick : ℕ) (t : Option ℕ) (s : Machine) (f last : FrontOf) →
             IsMachine s → IfSome t (λ i. i < 64) → AreAhead ds n tick t s f last self.old →
             self.new.x ≡ index_words_of s }

@@ -92,7 +92,6 @@ impl<'a, const N: usize> Run<'a, N> {
         ensures { result.rest ≡ told_events (timed_run delays N budget
             (record { machine = state; signals = signals.now; cards = cards }) snaps.now) }
     {
-        state.shape();
         delays.shape();
         let mut machine = Machine::new(state, delays);
         let rest = due_signals(&mut machine, signals);

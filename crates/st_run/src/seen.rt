@@ -77,14 +77,14 @@ fn word_with(state: &State, index: &[u64; 16], w: u32) -> u64
     requires { w < WORDS }
     ensures { result ≡ word_of (with_index_words index.now state.now) w }
 {
-    state.shape();
+    let words = state.words();
     if w < 16 {
-        return state.word(w);
+        return words[w as usize];
     }
     if w < 32 {
         return index[w as usize - 16];
     }
-    state.word(w)
+    words[w as usize]
 }
 
 // The counter of a state.

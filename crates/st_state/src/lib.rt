@@ -95,7 +95,8 @@ impl State {
         requires whole { length image.now ≡ words_of_storage }
         requires registers { (w : ℕ) → w < FIRST_STORAGE_WORD → slice_index image.now w ≡ 0 }
         requires counter { start < 2 ^ 19 }
-        ensures { IfOk result (λ s. s ≡ opening_state image.now start) }
+        ensures value { IfOk result (λ s. s ≡ opening_state image.now start) }
+        ensures machine { IfOk result IsMachine }
     {
         let Ok(mut words) = Vec::from_slice(alloc, image) else {
             return Err(NoMemory);
@@ -121,10 +122,19 @@ impl State {
         let _ = &self.ic;
     }
 
+    /// All words of storage, by their addresses.
+    pub fn words(&self) -> &[u64]
+        ensures words { result.now ≡ self.now.words }
+        ensures machine { IsMachine self.now }
+    {
+        self.words.as_slice()
+    }
+
     /// The word at the word address `w`, below WORDS.
     pub fn word(&self, w: u32) -> u64
         requires { w < words_of_storage }
-        ensures { result ≡ word_of self.now w }
+        ensures value { result ≡ word_of self.now w }
+        ensures machine { IsMachine self.now }
     {
         self.words[w as usize]
     }
@@ -147,7 +157,6 @@ impl State {
         requires fits { bits < 2 ^ n }
         ensures { self.new ≡ state_with_bits self.old a (bits_of n bits) }
     {
-        self.shape();
         let w = a / 64;
         let first = a % 64;
         if first + n as u32 <= 64 {
@@ -209,7 +218,9 @@ impl State {
     /// Turns on the indicator `i`, none behind the channel signal, as a signal from outside does.
     pub fn signal(&mut self, i: u8)
         requires { i ≤ CHANNEL_SIGNAL }
-        ensures { self.new ≡ state_with_signal self.old i }
+        ensures value { self.new ≡ state_with_signal self.old i }
+        ensures before { IsMachine self.old }
+        ensures after { IsMachine self.new }
     {
         self.apply(Ind {
             on: indicator(i),
@@ -219,7 +230,9 @@ impl State {
 
     /// Turns indicators on and off; one that is named for both is on.
     pub fn apply(&mut self, ind: Ind)
-        ensures { self.new ≡ state_with_indicators ind self.old }
+        ensures value { self.new ≡ state_with_indicators ind self.old }
+        ensures before { IsMachine self.old }
+        ensures after { IsMachine self.new }
     {
         self.words[INDICATORS as usize] = turned(self.words[INDICATORS as usize], ind.on, ind.off);
     }

@@ -2,7 +2,7 @@
 ghost use Rattle.std.specs.Prelude.{◌≡◌, ◌≤◌, ◌<◌, ◌^◌, ℕ, [], ◌∷◌, length, slice_index, IfOk, IfSome, MatchOption};
 ghost use Rattle.std.specs.List.{AllPass};
 ghost use Rattle.st_bits.specs.Storage.{words_of_storage};
-ghost use Rattle.st_bits.specs.declared.limits.TheConstants.{MOST_INSTRUCTIONS};
+ghost use Rattle.st_bits.specs.declared.limits.TheConstants.{LONGEST_LIST, MOST_INSTRUCTIONS};
 ghost use Rattle.st_bits.specs.declared.register.TheConstants.{FIRST_STORAGE_WORD};
 ghost use Rattle.st_card.specs.Limits.{is_signal};
 ghost use Rattle.st_sweep.specs.Starts.{ticks_from, start_of_image, last_told};
@@ -42,7 +42,7 @@ impl Start {
         requires registers { (w : ℕ) → w < FIRST_STORAGE_WORD → slice_index image.now w ≡ 0 }
         requires counter { start < 2 ^ 19 }
         requires some { 1 ≤ length delays.now }
-        requires few { length delays.now ≤ 4096 }
+        requires few { length delays.now ≤ LONGEST_LIST }
 
         ensures { IfOk result (λ s. s ≡ start_of_image image.now start delays.now) }
     {
@@ -104,7 +104,7 @@ impl Four {
         requires registers { (w : ℕ) → w < FIRST_STORAGE_WORD → slice_index image.now w ≡ 0 }
         requires counter { start < 2 ^ 19 }
         requires some { 1 ≤ length delays.now }
-        requires few { length delays.now ≤ 4096 }
+        requires few { length delays.now ≤ LONGEST_LIST }
 
         ensures { IfOk result (λ f. f ≡ four_of (start_of_image image.now start delays.now)) }
     {

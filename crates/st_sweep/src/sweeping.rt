@@ -2,7 +2,7 @@
 ghost use Rattle.std.specs.Prelude.{◌≡◌, ◌<◌, ◌≤◌, ◌^◌, ℕ, true, length, slice_index, All, IfOk};
 ghost use Rattle.std.specs.List.{AllPass};
 ghost use Rattle.st_bits.specs.Storage.{words_of_storage};
-ghost use Rattle.st_bits.specs.declared.limits.TheConstants.{MOST_INSTRUCTIONS};
+ghost use Rattle.st_bits.specs.declared.limits.TheConstants.{LONGEST_LIST, MOST_INSTRUCTIONS};
 ghost use Rattle.st_bits.specs.declared.register.TheConstants.{FIRST_STORAGE_WORD};
 ghost use Rattle.st_card.specs.Limits.{is_signal};
 ghost use Rattle.st_state.specs.Machine.{opening_state};
@@ -44,7 +44,7 @@ fn run_all(
     requires registers { (w : ℕ) → w < FIRST_STORAGE_WORD → slice_index image.now w ≡ 0 }
     requires counter { start < 2 ^ 19 }
     requires some_delays { 1 ≤ length delays.now }
-    requires few_delays { length delays.now ≤ 4096 }
+    requires few_delays { length delays.now ≤ LONGEST_LIST }
     requires signals { AllPass is_signal signals.now }
     requires some_done { 1 ≤ budget }
     requires few_done { budget ≤ MOST_INSTRUCTIONS }
@@ -83,7 +83,7 @@ pub fn sweep(
     requires registers { (w : ℕ) → w < FIRST_STORAGE_WORD → slice_index image.now w ≡ 0 }
     requires counter { start < 2 ^ 19 }
     requires some_delays { 1 ≤ length delays.now }
-    requires few_delays { length delays.now ≤ 4096 }
+    requires few_delays { length delays.now ≤ LONGEST_LIST }
     requires delays { All (λ d. 1 ≤ d) delays.now }
     requires signals { AllPass is_signal signals.now }
     requires some_done { 1 ≤ budget }

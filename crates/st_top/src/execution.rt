@@ -28,7 +28,7 @@ ghost use Rattle.st_card.specs.Limits.{IsWithinLimits, is_part};
 ghost use Rattle.st_exch.specs.Reader.{reader_cards};
 ghost use Rattle.st_run.specs.Reached.{IsCard};
 ghost use Rattle.st_run.specs.Scenes.{IsScene};
-ghost use Rattle.st_state.specs.Machine.{IsMachine, opening_state};
+ghost use Rattle.st_state.specs.Machine.{opening_state};
 ghost use Rattle.st_run.specs.Run.{Scene as SceneOf};
 ghost use Rattle.st_io.specs.Event.{at_moment};
 ghost use Rattle.st_object.specs.Object.{IsProgram};
@@ -132,19 +132,6 @@ fn delays(alloc: Global, controls: &Controls) -> Result<Delays, NoMemory>
     }
 }
 
-// The state at the start of a run.
-fn opened(alloc: Global, image: &[u64], start: u32) -> Result<State, NoMemory>
-    requires whole { length image.now ≡ words_of_storage }
-    requires registers { (w : ℕ) → w < FIRST_STORAGE_WORD → slice_index image.now w ≡ 0 }
-    requires counter { start < 2 ^ 19 }
-    ensures value { IfOk result (λ state. state ≡ opening_state image.now start) }
-    ensures shape { IfOk result IsMachine }
-{
-    let state = State::new(alloc, image, start)?;
-    state.shape();
-    Ok(state)
-}
-
 // The reader of a job with these cards; its cards have eight words.
 fn reader(alloc: Global, job: &[u8], cards: &[Card]) -> Result<Hopper, NoMemory>
     requires { cards.now ≡ cards_of job.now }
@@ -215,7 +202,7 @@ fn prepare<'a>(
     ensures scene { IfOk result
         (λ run. IsScene (scene_at_start image.now start controls.now job.now)) }
 {
-    let state = opened(alloc, image, start)?;
+    let state = State::new(alloc, image, start)?;
     let hopper = reader(alloc, job, cards)?;
     let delays = delays(alloc, controls)?;
     let past = beside(alloc, job, cards, image, start, controls)?;

@@ -10,5 +10,5 @@ returns-clause-sound c = fresh-sound c.trail_of.result c.trail_of.ensures.fits
 pub returns-clause-undone : goal.returns-clause-undone
 returns-clause-undone c s ic is =
     ap (state_undone _) is
-    ∙ entry-undone c.args.p.now c.args.state.now ic _ c.requires.prepared c.shape.ensures c.trail_of.ensures.keeps c.trail_of.ensures.fits refl
+    ∙ entry-undone c.args.p.now c.args.state.now ic _ c.requires.prepared c.trail_of.ensures.keeps c.trail_of.ensures.fits refl
     c.trail_of.ensures.writes

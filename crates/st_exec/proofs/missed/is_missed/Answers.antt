@@ -8,7 +8,7 @@ returns-in-IndBranch c =
     let p = c.args.p.now in
     let b = c.in-IndBranch in
     let bits : c.from.result ≡ bit_of b.sense = search rules in
-    let k = missed-branch p c.args.state.now b.sense b.off b.address b.i b.second c.requires c.shape.ensures c.if-p.false c.if-p-2.false b.is in
+    let k = missed-branch p c.args.state.now b.sense b.off b.address b.i b.second c.requires c.word.ensures.machine c.if-p.false c.if-p-2.false b.is in
     cc
 
 pub returns-in_default : goal.returns-in_default

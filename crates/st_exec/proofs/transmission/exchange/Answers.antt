@@ -4,7 +4,7 @@ use Rattle.st_exec.proofs.transmission.exchange.Goals as goal
 
 pub loop-k-preserved : goal.loop-k-preserved
 loop-k-preserved c =
-    rw (c.store-in-loop-k.ensures, c.store.ensures, c.word-second.ensures, c.word-first.ensures)
+    rw (c.store-in-loop-k.ensures, c.store.ensures, c.word-second.ensures.value, c.word-first.ensures.value)
     (rest-exchanged c.args.from c.args.to c.args.count c.loop-k.k c.loop-k.state (omega arith)
     ∙ c.loop-k.invariant)
 

@@ -50,12 +50,12 @@ reads-preserved c =
       room = length-set _ _ _ ∙ i.room;
       few = omega (arith, next.0);
       own_few = omega (arith, i.own_few, c.own_after-own.ensures, one_own-few c.in-Next.target);
-      left = more-left _ _ _ _ _ _ _ _ (content ∙ ap (λ x. take n c.reads.contents ++ x ∷ []) c.word.ensures) (omega arith) next.1;
+      left = more-left _ _ _ _ _ _ _ _ (content ∙ ap (λ x. take n c.reads.contents ++ x ∷ []) c.word.ensures.value) (omega arith) next.1;
       so_far =
-          words-step r (word s) (take n c.reads.contents) _ c.in-Next.word c.word.result c.in-Next.target content c.word.ensures
+          words-step r (word s) (take n c.reads.contents) _ c.in-Next.word c.word.result c.in-Next.target content c.word.ensures.value
           (sym c.in-Next.ensures.value) (take n c.reads.read) _ address i.so_far;
       own_so_far =
-          own-step r (word s) (take n c.reads.contents) _ c.in-Next.word c.word.result c.in-Next.target content c.word.ensures
+          own-step r (word s) (take n c.reads.contents) _ c.in-Next.word c.word.result c.in-Next.target content c.word.ensures.value
           (sym c.in-Next.ensures.value) c.reads.own _ c.own_after-own.ensures i.own_so_far;
     }
 

@@ -32,7 +32,7 @@ loop-word-preserved c =
       left =
           more-left _ _ _ _ _ _ _ _
           (take-set_at c.loop-word.contents c.loop-word.n (c.loop-word.n + 1) c.word.result refl (omega (arith, i.size, next.0))
-          ∙ ap (λ x. take c.loop-word.n c.loop-word.contents ++ x ∷ []) c.word.ensures)
+          ∙ ap (λ x. take c.loop-word.n c.loop-word.contents ++ x ∷ []) c.word.ensures.value)
           (omega arith) next.1;
     }
 

@@ -11,7 +11,7 @@ returns-clause-value c =
 pub returns-clause-ranges : goal.returns-clause-ranges
 returns-clause-ranges c =
     subst IsPrepared (sym (filled-plan _ _ _ _ _ _ c.place_of-p.ensures.value c.index_words-x.ensures c.fetch_all-fetched.ensures.value
-    c.fill_fetched.ensures.value)) (plan-prepared _ _ c.shape.ensures c.requires)
+    c.fill_fetched.ensures.value)) (plan-prepared _ _ c.place_of-p.ensures.machine c.requires)
 
 pub returns-clause-side : goal.returns-clause-side
 returns-clause-side c =

@@ -1,6 +1,7 @@
-use Rattle.std.proofs.Common.{refl, arith}
+use Rattle.std.proofs.Common.{refl, subst, arith}
 use Rattle.st_bits.specs.Registers.{register_word}
 use Rattle.st_bits.specs.Storage.{words_of_storage}
+use Rattle.st_state.specs.Machine.{IsMachine}
 use Rattle.st_state.specs.View.{machine}
 use Rattle.st_state.proofs.Kept.{is_machine-with_word}
 use Rattle.st_state.proofs.State.apply.Goals as goal
@@ -11,3 +12,9 @@ invariant_of-self c =
     is_machine-with_word
     (machine c.self.inside) 11 c.turned.result c.self.invariant (omega arith)
     c.turned.type_inv refl
+
+pub returns-clause-before : goal.returns-clause-before
+returns-clause-before c = subst IsMachine c.self.view_is c.self.invariant
+
+pub returns-clause-after : goal.returns-clause-after
+returns-clause-after c = invariant_of-self c

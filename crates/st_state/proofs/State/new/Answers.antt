@@ -11,3 +11,6 @@ invariant_of-result c =
     (is_machine-opening
     c.args.image.now c.args.start c.requires.whole c.requires.registers
     (λ w. (c.type_inv.image w).fits) c.requires.counter))
+
+pub returns-clause-machine : goal.returns-clause-machine
+returns-clause-machine c = invariant_of-result c

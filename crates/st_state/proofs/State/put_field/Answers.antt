@@ -9,8 +9,8 @@ returns-then-first-n-le64 c =
     c.store.ensures
     ∙ sym
     (placed-one c.args.self.now c.args.a c.word.result (bits c.args.n c.args.bits) c.put_field.new.words
-    c.shape.ensures (omega arith) (omega (arith, length-bits c.args.n c.args.bits))
-    c.word.ensures c.put_field.auto.words (omega arith) c.put_field.ensures.put)
+    c.word.ensures.machine (omega arith) (omega (arith, length-bits c.args.n c.args.bits))
+    c.word.ensures.value c.put_field.auto.words (omega arith) c.put_field.ensures.put)
 
 pub returns-else-first-n-le64 : goal.returns-else-first-n-le64
 returns-else-first-n-le64 c =
@@ -19,7 +19,7 @@ returns-else-first-n-le64 c =
     (placed-two c.args.self.now c.args.a
     c.word-else-first-n-le64.result c.word-else-first-n-le64-2.result
     (bits c.args.n c.args.bits) c.put_field-else-first-n-le64.new.words
-    c.shape.ensures (omega arith) (omega (arith, length-bits c.args.n c.args.bits))
-    c.word-else-first-n-le64.ensures c.word-else-first-n-le64-2.ensures
+    c.word-else-first-n-le64.ensures.machine (omega arith) (omega (arith, length-bits c.args.n c.args.bits))
+    c.word-else-first-n-le64.ensures.value c.word-else-first-n-le64-2.ensures.value
     c.put_field-else-first-n-le64.auto.words (omega arith) (omega arith)
     c.put_field-else-first-n-le64.ensures.put))

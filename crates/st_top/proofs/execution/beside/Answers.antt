@@ -12,7 +12,7 @@ returns-clause-start c =
     let deep : c.controls.inside.back ≡ back = ap (λ (a : Asked). a.back) c.controls.view_is in
     let other : back ≢ 0 = λ none. c.if-depth-eq0.false (deep ∙ none) in
     let some : 1 ≤ back = omega (arith, other) in
-    let scene = scene_is c.new-3.result.0 _ _ _ _ _ _ c.new-3.ensures.scene c.in_ok-machine.ensures c.signals.ensures c.in_ok-hopper.ensures in (
+    let scene = scene_is c.new-3.result.0 _ _ _ _ _ _ c.new-3.ensures.scene c.in_ok-machine.ensures.value c.signals.ensures c.in_ok-hopper.ensures in (
       begins_beside back c.new-3.result.1 c.new-3.result.0 some c.requires.limits.back (c.new-3.ensures.steps ∙ (c.in_ok-steps.ensures ∙ ap none_of deep))
           (ap (λ (e : Scene). e.machine.reader) scene),
       scene,
@@ -21,7 +21,7 @@ returns-clause-start c =
 pub returns-clause-fresh : goal.returns-clause-fresh
 returns-clause-fresh c =
     ap (λ (e : Scene). e.machine.done)
-    (scene_is c.new-3.result.0 _ _ _ _ _ _ c.new-3.ensures.scene c.in_ok-machine.ensures c.signals.ensures c.in_ok-hopper.ensures)
+    (scene_is c.new-3.result.0 _ _ _ _ _ _ c.new-3.ensures.scene c.in_ok-machine.ensures.value c.signals.ensures c.in_ok-hopper.ensures)
 
 pub returns-clause-ready : goal.returns-clause-ready
 returns-clause-ready c =
@@ -29,6 +29,6 @@ returns-clause-ready c =
     let deep : c.controls.inside.back ≡ back = ap (λ (a : Asked). a.back) c.controls.view_is in
     let other : back ≢ 0 = λ none. c.if-depth-eq0.false (deep ∙ none) in
     let some : 1 ≤ back = omega (arith, other) in
-    let scene = scene_is c.new-3.result.0 _ _ _ _ _ _ c.new-3.ensures.scene c.in_ok-machine.ensures c.signals.ensures c.in_ok-hopper.ensures in
+    let scene = scene_is c.new-3.result.0 _ _ _ _ _ _ c.new-3.ensures.scene c.in_ok-machine.ensures.value c.signals.ensures c.in_ok-hopper.ensures in
     (begins_beside back c.new-3.result.1 c.new-3.result.0 some c.requires.limits.back (c.new-3.ensures.steps ∙ (c.in_ok-steps.ensures ∙ ap none_of deep))
     (ap (λ (e : Scene). e.machine.reader) scene)).ready

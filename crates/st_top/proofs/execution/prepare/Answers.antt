@@ -11,5 +11,5 @@ returns-clause-rest c =
 
 pub returns-clause-scene : goal.returns-clause-scene
 returns-clause-scene c =
-    is_scene c.args.image.now c.args.start c.args.controls.now c.args.job.now _ _ c.in_ok-state.ensures.value c.in_ok-state.ensures.shape
+    is_scene c.args.image.now c.args.start c.args.controls.now c.args.job.now _ _ c.in_ok-state.ensures.value c.in_ok-state.ensures.machine
     c.in_ok-hopper.ensures.value c.in_ok-hopper.ensures.shape

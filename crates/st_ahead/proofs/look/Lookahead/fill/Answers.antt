@@ -6,8 +6,8 @@ use Rattle.st_ahead.specs.Look.{LookView}
 use Rattle.st_ahead.proofs.DoneLooks.{all-filled, ahead-through}
 use Rattle.st_ahead.proofs.look.Lookahead.fill.Goals as goal
 
-pub returns : goal.returns
-returns g c = λ ds tick next t s f are h behind soon late words.
+pub returns-clause-filled : goal.returns-clause-filled
+returns-clause-filled g c = λ ds tick next t s f are h behind soon late words.
     let n = g.row.N in
     let now = c.args.now in
     let old = c.args.self.now in

@@ -11,10 +11,10 @@ returns g c = λ t f h.
     let n = g.row.N in
     let s = c.args.state.now in
     let now = c.args.now in
-    let are = AreDelays-list ds c.shape-2.ensures in
+    let are = AreDelays-list ds c.shape.ensures in
     let v = c.args.self.now in
     let late = oldest-late ds n now now t s f v c.requires.some are (omega arith) h
-    (looks_are_levels ds n now now t s f v c.requires.some c.requires.few are (omega arith) c.shape.ensures h) in
-    let gone = c.go_to.ensures t f now (record { tick = now; going = look-goes ds n now t s f v h; behind = omega arith; soon = omega arith }) in
+    (looks_are_levels ds n now now t s f v c.requires.some c.requires.few are (omega arith) c.go_to.ensures.before h) in
+    let gone = c.go_to.ensures.goes t f now (record { tick = now; going = look-goes ds n now t s f v h; behind = omega arith; soon = omega arith }) in
     let out = gone-on c.go_to.result ds n now now t s f c.go_to.new.self late gone in
-    (c.fill.ensures ds now (now + 1) t s f are out (omega arith) (omega arith) out.not_done (λ w. refl)).0
+    (c.fill.ensures.filled ds now (now + 1) t s f are out (omega arith) (omega arith) out.not_done (λ w. refl)).0

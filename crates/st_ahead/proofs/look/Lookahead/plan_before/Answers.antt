@@ -39,8 +39,8 @@ plan_before-requires-clause-known g c = λ waits.
     let run = open_levels_run_ahead ds n tick t s f view is.ahead is.prepared is.not_done opened in
     let late = before-due ds n tick (due - 1) t s f view.front view.levels.ring view.levels.plans is.machine is.indicator is.ahead.levels (omega (arith, waits, at)) in
     let before = next_entries_are_known ds n tick (due - 1) t s f view is.machine is.indicator is.ahead late
-    (omega (arith, c.len-few.ensures.value, c.len-few.ensures.within, c.requires.few)) run in
-    subst (λ (x : List ℕ). IsKnown ds n (due - 1) view.front x s view.next) (sym c.index.ensures) (known ds n tick tick (due - 1) t s f view is opened before)
+    (omega (arith, c.index.ensures.few, c.requires.few)) run in
+    subst (λ (x : List ℕ). IsKnown ds n (due - 1) view.front x s view.next) (sym c.index.ensures.words) (known ds n tick tick (due - 1) t s f view is opened before)
 
 pub plan_before-requires-clause-front : goal.plan_before-requires-clause-front
 plan_before-requires-clause-front g c =
@@ -52,7 +52,7 @@ plan_before-requires-clause-front g c =
     let tick = c.requires.going.goes.tick in
     let view : LookView = record { levels = c.self.inside.levels; front = c.self.inside.front; log = c.self.inside.log; next = c.self.inside.next } in
     let is = subst (λ (w : LookView). IsGoing ds n tick tick t s f w) (sym c.self.view_is) c.requires.going.goes.going in
-    going-front ds n tick tick t s f view is c.requires.some c.requires.few (omega (arith, c.len-few.ensures.value, c.len-few.ensures.within))
+    going-front ds n tick tick t s f view is c.requires.some c.requires.few c.index.ensures.few
     (omega (arith, c.requires.going.goes.soon, c.requires.early))
 
 pub returns-clause-going : goal.returns-clause-going
@@ -72,8 +72,8 @@ returns-clause-going g c = λ t f tick given.
           let first = due-first ds n tick due t s f view is at in
           let late = before-due ds n tick (due - 1) t s f view.front view.levels.ring view.levels.plans is.machine is.indicator is.ahead.levels (omega (arith, at, first)) in
           let before = next_entries_are_known ds n tick (due - 1) t s f view is.machine is.indicator is.ahead late
-          (omega (arith, c.len-few.ensures.value, c.len-few.ensures.within, c.requires.few)) run in
-          let goes = subst (λ (x : List ℕ). GoesOnTo ds n (due - 1) view.front x s view.next c.plan_before.new.self due) c.index.ensures c.plan_before.ensures.next in
+          (omega (arith, c.index.ensures.few, c.requires.few)) run in
+          let goes = subst (λ (x : List ℕ). GoesOnTo ds n (due - 1) view.front x s view.next c.plan_before.new.self due) c.index.ensures.words c.plan_before.ensures.next in
           known-further ds n tick due t s f view c.plan_before.new.self c.plan_before.new.log opened c.if-self.false before goes c.plan_before.ensures.further is
       | inr closed ↦
           let still = c.plan_before.ensures.still (closed-waits (count view == 0) view.front.serial view.next.words.awaited view.front.c due closed last) in

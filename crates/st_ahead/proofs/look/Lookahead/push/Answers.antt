@@ -43,7 +43,7 @@ prepare-requires-clause-ready g c =
     let planned : view.next.planned ≡ true = ap (λ (w : LookView). w.next.planned) c.self.view_is ∙ c.requires.planned in
     let due : view.next.formed.p ≡ now = ap (λ (w : LookView). w.next.formed.p) c.self.view_is ∙ c.requires.due in
     let becomes = planned_entries_become_levels ds n now t s f view c.requires.some c.requires.few
-    (AreDelays-list ds c.shape.ensures) (omega (arith, c.len-few.ensures.value, c.len-few.ensures.within)) c.requires.early is planned due in
+    (AreDelays-list ds c.shape.ensures) c.index.ensures.few c.requires.early is planned due in
     let u = guesses (count view) t s in
     record {
       delays = ds;
@@ -53,7 +53,7 @@ prepare-requires-clause-ready g c =
       table = table_behind (count view) t;
       state = u;
       indicator = becomes.indicator;
-      before = subst (λ (words : List ℕ). IsStateBefore now view.front.past words s u) (sym c.index.ensures) becomes.before;
+      before = subst (λ (words : List ℕ). IsStateBefore now view.front.past words s u) (sym c.index.ensures.words) becomes.before;
       is_next = becomes.is_next;
     }
 
@@ -71,7 +71,7 @@ fill-filled-requires g c =
     let planned : view.next.planned ≡ true = ap (λ (w : LookView). w.next.planned) c.self.view_is ∙ c.requires.planned in
     let due : view.next.formed.p ≡ now = ap (λ (w : LookView). w.next.formed.p) c.self.view_is ∙ c.requires.due in
     let becomes = planned_entries_become_levels ds n now t s f view c.requires.some c.requires.few
-    (AreDelays-list ds c.shape.ensures) (omega (arith, c.len-few.ensures.value, c.len-few.ensures.within)) c.requires.early is planned due in
+    (AreDelays-list ds c.shape.ensures) c.index.ensures.few c.requires.early is planned due in
     let entry_is : c.prepare.new.self.entry ≡ view.next.entry = ap (λ (next : Next). next.entry) c.prepare.ensures.rest in
     let formed_is : c.prepare.new.self.formed ≡ view.next.formed = ap (λ (next : Next). next.formed) c.prepare.ensures.rest in
     let words_are : c.prepare.new.self.words ≡ view.next.words = ap (λ (next : Next). next.words) c.prepare.ensures.rest in
@@ -98,7 +98,7 @@ push-requires g c =
     let planned : view.next.planned ≡ true = ap (λ (w : LookView). w.next.planned) c.self.view_is ∙ c.requires.planned in
     let due : view.next.formed.p ≡ now = ap (λ (w : LookView). w.next.formed.p) c.self.view_is ∙ c.requires.due in
     let becomes = planned_entries_become_levels ds n now t s f view c.requires.some c.requires.few
-    (AreDelays-list ds c.shape.ensures) (omega (arith, c.len-few.ensures.value, c.len-few.ensures.within)) c.requires.early is planned due in (omega arith, (becomes.room, c.prepare.ensures.ranges))
+    (AreDelays-list ds c.shape.ensures) c.index.ensures.few c.requires.early is planned due in (omega arith, (becomes.room, c.prepare.ensures.ranges))
 
 pub returns-clause-going : goal.returns-clause-going
 returns-clause-going g c = λ t f given.
@@ -112,7 +112,7 @@ returns-clause-going g c = λ t f given.
     let due : view.next.formed.p ≡ now = ap (λ (w : LookView). w.next.formed.p) c.self.view_is ∙ c.requires.due in
     let are = AreDelays-list ds c.shape.ensures in
     let becomes = planned_entries_become_levels ds n now t s f view c.requires.some c.requires.few
-    are (omega (arith, c.len-few.ensures.value, c.len-few.ensures.within)) c.requires.early is planned due in
+    are c.index.ensures.few c.requires.early is planned due in
     let k = table_behind (count view) t in
     let u = guesses (count view) t s in
     let x = view.next.entry in
@@ -120,7 +120,7 @@ returns-clause-going g c = λ t f given.
     let filled = c.fill-filled.result in
     let same : x ≡ entry k u = becomes.same in
     let serial : (entry k u).serial ≡ true → u ≡ s = λ alone. becomes.alone (ap (λ (e : Entry). e.serial) same ∙ alone) in
-    let before = subst (λ (words : List ℕ). IsStateBefore now view.front.past words s u) (sym c.index.ensures) becomes.before in
+    let before = subst (λ (words : List ℕ). IsStateBefore now view.front.past words s u) (sym c.index.ensures.words) becomes.before in
     let plan_is : c.prepare.new.self.prepared ≡ plan u k =
     c.prepare.ensures.value ds n now view.front k u becomes.indicator before becomes.is_next (sym due) serial in
     let entry_is : c.prepare.new.self.entry ≡ x = ap (λ (next : Next). next.entry) c.prepare.ensures.rest in

@@ -60,7 +60,7 @@ pub complete-done-requires : goal.complete-done-requires
 complete-done-requires g c =
     let starts = c.requires.starts in
     let run = (c.entries.invariant.each starts.front starts.now starts.look starts.soon starts.awake).run in
-    let at = c.in-Some.ensures c.entries.taken run.front run.tick (record { tick = run.tick; going = run.going; behind = omega arith; soon = run.soon }) in
+    let at = c.in-Some.ensures.goes c.entries.taken run.front run.tick (record { tick = run.tick; going = run.going; behind = omega arith; soon = run.soon }) in
     (omega arith, (at.some, c.entries.invariant.done))
 
 pub returns-in_default : goal.returns-in_default
@@ -73,11 +73,11 @@ returns-in_default g c = λ f now h soon awake.
     let last = c.args.last in
     let noting = c.entries.invariant.each f now h soon awake in
     let run = noting.run in
-    let out = c.in_default.ensures k run.front run.tick (record { tick = run.tick; going = run.going; behind = omega arith; soon = run.soon }) in
-    let filled = (c.fill.ensures ds last (last + 1) k u run.front are out (omega arith) (omega arith) out.not_done (λ w. refl)).0 in
+    let out = c.in_default.ensures.goes k run.front run.tick (record { tick = run.tick; going = run.going; behind = omega arith; soon = run.soon }) in
+    let filled = (c.fill.ensures.filled ds last (last + 1) k u run.front are out (omega arith) (omega arith) out.not_done (λ w. refl)).0 in
     let w = c.fill.new.self in
     let late = oldest-late ds n last (last + 1) k u run.front w c.requires.some are (omega arith) filled
-    (looks_are_levels ds n last (last + 1) k u run.front w c.requires.some c.requires.few are (omega arith) c.shape-in_default.ensures filled) in (
+    (looks_are_levels ds n last (last + 1) k u run.front w c.requires.some c.requires.few are (omega arith) c.fill.ensures.few filled) in (
       running-ends ds n c.args.count last now c.args.taken.now k c.args.state.now u f c.entries.self w run late filled,
       noting.noted ∙ ap {A = List Row} (λ xs. queue_with xs c.args.rows.now)
           (rows-idle ds n c.args.count last now (last + 1) c.args.taken.now k c.args.state.now u f c.entries.self run (omega (arith, run.soon)) (omega (arith, late))),
@@ -97,7 +97,7 @@ entries-preserved g c =
       each = λ f now h soon awake.
           let noting = c.entries.invariant.each f now h soon awake in
           let run = noting.run in
-          let at = c.in-Some.ensures k run.front run.tick (record { tick = run.tick; going = run.going; behind = omega arith; soon = run.soon }) in
+          let at = c.in-Some.ensures.goes k run.front run.tick (record { tick = run.tick; going = run.going; behind = omega arith; soon = run.soon }) in
           let due = c.in-Some.tick in
           let all = c.complete-done.ensures ds (due - 1) due k run.front are at.look at.row_is in
           let counted = ap (λ (m : Machine). m.done) all.0 ∙ entries_count_as_one (plan u k) u in
@@ -121,7 +121,7 @@ entries-smaller g c =
     let are = AreDelays-list ds c.shape.ensures in
     let starts = c.requires.starts in
     let run = (c.entries.invariant.each starts.front starts.now starts.look starts.soon starts.awake).run in
-    let at = c.in-Some.ensures k run.front run.tick (record { tick = run.tick; going = run.going; behind = omega arith; soon = run.soon }) in
+    let at = c.in-Some.ensures.goes k run.front run.tick (record { tick = run.tick; going = run.going; behind = omega arith; soon = run.soon }) in
     let due = c.in-Some.tick in
     let all = c.complete-done.ensures ds (due - 1) due k run.front are at.look at.row_is in
     let goes = c.is_stopped.ensures.goes c.if-is_stopped.false in
@@ -141,7 +141,7 @@ returns-then-is_stopped g c = λ f now h soon awake.
     let are = AreDelays-list ds c.shape.ensures in
     let noting = c.entries.invariant.each f now h soon awake in
     let run = noting.run in
-    let at = c.in-Some.ensures k run.front run.tick (record { tick = run.tick; going = run.going; behind = omega arith; soon = run.soon }) in
+    let at = c.in-Some.ensures.goes k run.front run.tick (record { tick = run.tick; going = run.going; behind = omega arith; soon = run.soon }) in
     let due = c.in-Some.tick in
     let w = c.go_to.new.self in
     let all = c.complete-done.ensures ds (due - 1) due k run.front are at.look at.row_is in
@@ -151,13 +151,13 @@ returns-then-is_stopped g c = λ f now h soon awake.
     let machine = guess-machine k u at.look.machine at.look.indicator in
     let late : due < (row_of_entry ds n front (entry None (guess k u))).c = omega (arith, after-c ds n run.front e, at.row_is, done-later ds n None (guess k u) front machine tt) in
     let waits = done-after ds n (due - 1) due None (guess k u) front comp.front comp.levels.ring comp.levels.plans machine tt all.2.ahead.levels late in
-    let filled = c.fill-then-is_stopped.ensures ds (due - 1) due None (guess k u) front are all.2 (omega arith) (omega arith) waits
+    let filled = c.fill-then-is_stopped.ensures.filled ds (due - 1) due None (guess k u) front are all.2 (omega arith) (omega arith) waits
     (λ x. ap (λ (m : Machine). word m x) all.0 ∙ guess-words k u x) in
     let final = c.fill-then-is_stopped.new.self in
     let same : answers_before due final ≡ answers_before due w =
     answers-same due w final (filled.1 ∙ all.3) (ap (λ (x : Next). x.words) filled.2 ∙ all.4) in
     let left = the_banks_are_left ds n (due - 1) due k u run.front w c.requires.some c.requires.few are
-    (omega (arith, at.later)) c.shape-in-entries.ensures at.some at.look at.row_is in (
+    (omega (arith, at.later)) c.in-Some.ensures.few at.some at.look at.row_is in (
       record {
         table = k;
         state = u;

@@ -15,8 +15,8 @@ use Rattle.st_ahead.proofs.TickCases.{due-later, unprepared, guess-words}
 use Rattle.st_ahead.proofs.look.Lookahead.tick.Goals as goal
 use Rattle.st_ahead.proofs.Laws.{looks_are_levels}
 
-pub returns-then-is_due : goal.returns-then-is_due
-returns-then-is_due g c = λ ds tick t f one most are h next.
+pub returns-then-is_due-clause-ticked : goal.returns-then-is_due-clause-ticked
+returns-then-is_due-clause-ticked g c = λ ds tick t f one most are h next.
     let n = g.row.N in
     let now = c.args.now in
     let s = c.args.state.now in
@@ -34,12 +34,12 @@ returns-then-is_due g c = λ ds tick t f one most are h next.
     omega (arith, oldest.2, done-later ds n None s' (front_after_entry ds n f (entry t s)) machine tt) in
     let w = c.complete-done.new.self in
     let waits = done-after ds n tick now None s' (front_after_entry ds n f (entry t s)) w.front w.levels.ring w.levels.plans machine tt all.2.ahead.levels late in
-    let filled = c.fill.ensures ds tick now None s' (front_after_entry ds n f (entry t s)) are all.2 (omega (arith, next some)) (omega arith) waits
+    let filled = c.fill.ensures.filled ds tick now None s' (front_after_entry ds n f (entry t s)) are all.2 (omega (arith, next some)) (omega arith) waits
     (λ w. ap (λ (u : Machine). word u w) all.0 ∙ guess-words t s w) in
     record { due = due; told = all.1; state = all.0; look = filled.0; log = filled.1 ∙ all.3; bus = ap (λ (x : Next). x.words) filled.2 ∙ all.4 }
 
-pub returns-then-len-gt0 : goal.returns-then-len-gt0
-returns-then-len-gt0 g c = λ ds tick t f one most are h next.
+pub returns-then-len-gt0-clause-ticked : goal.returns-then-len-gt0-clause-ticked
+returns-then-len-gt0-clause-ticked g c = λ ds tick t f one most are h next.
     let n = g.row.N in
     let now = c.args.now in
     let s = c.args.state.now in
@@ -52,11 +52,11 @@ returns-then-len-gt0 g c = λ ds tick t f one most are h next.
     (sym c.is_due.ensures.value ∙ c.if-is_due.false) soon some in
     let v = c.args.self.now in
     let waits = done-after ds n tick now t s f v.front v.levels.ring v.levels.plans h.machine h.indicator h.ahead.levels late in
-    let filled = c.fill-then-len-gt0.ensures ds tick now t s f are (outlook-of ds n tick now t s f v h) (omega (arith, soon)) (omega arith) waits (λ w. refl) in
+    let filled = c.fill-then-len-gt0.ensures.filled ds tick now t s f are (outlook-of ds n tick now t s f v h) (omega (arith, soon)) (omega arith) waits (λ w. refl) in
     record { state = refl; later = λ same. absurd (omega (arith, late, same)); look = filled.0 }
 
-pub returns-else-len-gt0 : goal.returns-else-len-gt0
-returns-else-len-gt0 g c = λ ds tick t f one most are h next.
+pub returns-else-len-gt0-clause-ticked : goal.returns-else-len-gt0-clause-ticked
+returns-else-len-gt0-clause-ticked g c = λ ds tick t f one most are h next.
     let n = g.row.N in
     let now = c.args.now in
     let s = c.args.state.now in

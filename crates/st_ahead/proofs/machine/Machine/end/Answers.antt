@@ -47,8 +47,8 @@ invariant_of-self g c =
     let owes = subst (λ (m : Overlap). m.owed ≡ true) (sym c.self.view_is) c.requires.owed in
     let done = subst (λ (m : Overlap). IsSome m.closing) (sym c.self.view_is) c.requires.done in
     let fresh = fresh-closing i.stopped n i.delays i.state i.taken i.behind i.now i.owed i.ended i.fresh i.look done in
-    let most : count i.look ≤ n = c.shape-2.ensures in
-    (end-first i.stopped n i.delays i.state i.taken i.behind i.now i.owed i.ended i.fresh i.look c.end-dropped.new.self c.self.invariant owes c.if-self.false fresh most
+    let most : count i.look ≤ n = c.end-dropped.ensures.few in
+    (end-first i.stopped n i.delays i.state i.taken i.behind i.now i.owed i.ended i.fresh i.look c.end-dropped.new.self c.self.invariant c.end-dropped.ensures.machine owes c.if-self.false fresh most
     (λ look. looks_are_levels i.delays n i.now i.now i.taken (with_counter i.behind i.state) (oldest_front i.look.levels.plans i.look.front) i.look
     c.self.invariant.some c.self.invariant.few (AreDelays-list i.delays c.shape.ensures) (omega arith) most look)
     (λ look. c.end-dropped.ensures.opened i.delays i.now i.taken (with_counter i.behind i.state) (oldest_front i.look.levels.plans i.look.front) look
@@ -62,10 +62,10 @@ returns-clause-dropped g c =
     let owes = subst (λ (m : Overlap). m.owed ≡ true) (sym c.self.view_is) c.requires.owed in
     let done = subst (λ (m : Overlap). IsSome m.closing) (sym c.self.view_is) c.requires.done in
     let fresh = fresh-closing i.stopped n i.delays i.state i.taken i.behind i.now i.owed i.ended i.fresh i.look done in
-    let most : count i.look ≤ n = c.shape-2.ensures in
+    let most : count i.look ≤ n = c.end-dropped.ensures.few in
     subst (λ (m : Overlap). c.end-dropped.result ≡ drop_count m) c.self.view_is
     (c.end-dropped.ensures.dropped ∙
-    (end-first i.stopped n i.delays i.state i.taken i.behind i.now i.owed i.ended i.fresh i.look c.end-dropped.new.self c.self.invariant owes c.if-self.false fresh most
+    (end-first i.stopped n i.delays i.state i.taken i.behind i.now i.owed i.ended i.fresh i.look c.end-dropped.new.self c.self.invariant c.end-dropped.ensures.machine owes c.if-self.false fresh most
     (λ look. looks_are_levels i.delays n i.now i.now i.taken (with_counter i.behind i.state) (oldest_front i.look.levels.plans i.look.front) i.look
     c.self.invariant.some c.self.invariant.few (AreDelays-list i.delays c.shape.ensures) (omega arith) most look)
     (λ look. c.end-dropped.ensures.opened i.delays i.now i.taken (with_counter i.behind i.state) (oldest_front i.look.levels.plans i.look.front) look
@@ -79,10 +79,10 @@ returns-clause-after g c =
     let owes = subst (λ (m : Overlap). m.owed ≡ true) (sym c.self.view_is) c.requires.owed in
     let done = subst (λ (m : Overlap). IsSome m.closing) (sym c.self.view_is) c.requires.done in
     let fresh = fresh-closing i.stopped n i.delays i.state i.taken i.behind i.now i.owed i.ended i.fresh i.look done in
-    let most : count i.look ≤ n = c.shape-2.ensures in
+    let most : count i.look ≤ n = c.end-dropped.ensures.few in
     let w = c.end-dropped.new.self in
     subst (λ (m : Overlap). overlap_of n i.delays i.state i.taken i.behind i.now i.owed true i.stopped i.fresh w ≡ machine_after_segment m) c.self.view_is
-    (end-first i.stopped n i.delays i.state i.taken i.behind i.now i.owed i.ended i.fresh i.look w c.self.invariant owes c.if-self.false fresh most
+    (end-first i.stopped n i.delays i.state i.taken i.behind i.now i.owed i.ended i.fresh i.look w c.self.invariant c.end-dropped.ensures.machine owes c.if-self.false fresh most
     (λ look. looks_are_levels i.delays n i.now i.now i.taken (with_counter i.behind i.state) (oldest_front i.look.levels.plans i.look.front) i.look
     c.self.invariant.some c.self.invariant.few (AreDelays-list i.delays c.shape.ensures) (omega arith) most look)
     (λ look. c.end-dropped.ensures.opened i.delays i.now i.taken (with_counter i.behind i.state) (oldest_front i.look.levels.plans i.look.front) look

@@ -35,8 +35,8 @@ invariant_of-self g c =
     let i = c.self.inside in
     let owes = subst (λ (m : Overlap). m.owed ≡ true) (sym c.self.view_is) c.requires.owed in
     let none = subst (λ (m : Overlap). m.closing ≡ None) (sym c.self.view_is) c.requires.none in
-    let most : count i.look ≤ n = c.shape-2.ensures in
-    (given-up i.stopped n i.delays i.state i.taken i.behind i.now i.owed i.ended i.fresh i.look c.give_up-dropped.new.self c.self.invariant owes c.if-self.false none most
+    let most : count i.look ≤ n = c.give_up-dropped.ensures.few in
+    (given-up i.stopped n i.delays i.state i.taken i.behind i.now i.owed i.ended i.fresh i.look c.give_up-dropped.new.self c.self.invariant c.give_up-dropped.ensures.machine owes c.if-self.false none most
     (λ look. looks_are_levels i.delays n i.now i.now i.taken (with_counter i.behind i.state) (oldest_front i.look.levels.plans i.look.front) i.look
     c.self.invariant.some c.self.invariant.few (AreDelays-list i.delays c.shape.ensures) (omega arith) most look)
     (λ look. c.give_up-dropped.ensures.opened i.delays i.now i.taken (with_counter i.behind i.state) (oldest_front i.look.levels.plans i.look.front) look
@@ -48,10 +48,10 @@ returns-clause-dropped g c =
     let i = c.self.inside in
     let owes = subst (λ (m : Overlap). m.owed ≡ true) (sym c.self.view_is) c.requires.owed in
     let none = subst (λ (m : Overlap). m.closing ≡ None) (sym c.self.view_is) c.requires.none in
-    let most : count i.look ≤ n = c.shape-2.ensures in
+    let most : count i.look ≤ n = c.give_up-dropped.ensures.few in
     subst (λ (m : Overlap). c.give_up-dropped.result ≡ drop_count m) c.self.view_is
     (c.give_up-dropped.ensures.dropped ∙
-    (given-up i.stopped n i.delays i.state i.taken i.behind i.now i.owed i.ended i.fresh i.look c.give_up-dropped.new.self c.self.invariant owes c.if-self.false none most
+    (given-up i.stopped n i.delays i.state i.taken i.behind i.now i.owed i.ended i.fresh i.look c.give_up-dropped.new.self c.self.invariant c.give_up-dropped.ensures.machine owes c.if-self.false none most
     (λ look. looks_are_levels i.delays n i.now i.now i.taken (with_counter i.behind i.state) (oldest_front i.look.levels.plans i.look.front) i.look
     c.self.invariant.some c.self.invariant.few (AreDelays-list i.delays c.shape.ensures) (omega arith) most look)
     (λ look. c.give_up-dropped.ensures.opened i.delays i.now i.taken (with_counter i.behind i.state) (oldest_front i.look.levels.plans i.look.front) look
@@ -63,10 +63,10 @@ returns-clause-after g c =
     let i = c.self.inside in
     let owes = subst (λ (m : Overlap). m.owed ≡ true) (sym c.self.view_is) c.requires.owed in
     let none = subst (λ (m : Overlap). m.closing ≡ None) (sym c.self.view_is) c.requires.none in
-    let most : count i.look ≤ n = c.shape-2.ensures in
+    let most : count i.look ≤ n = c.give_up-dropped.ensures.few in
     let w = c.give_up-dropped.new.self in
     subst (λ (m : Overlap). overlap_of n i.delays i.state i.taken i.behind i.now i.owed true i.stopped i.fresh w ≡ machine_after_segment m) c.self.view_is
-    (given-up i.stopped n i.delays i.state i.taken i.behind i.now i.owed i.ended i.fresh i.look w c.self.invariant owes c.if-self.false none most
+    (given-up i.stopped n i.delays i.state i.taken i.behind i.now i.owed i.ended i.fresh i.look w c.self.invariant c.give_up-dropped.ensures.machine owes c.if-self.false none most
     (λ look. looks_are_levels i.delays n i.now i.now i.taken (with_counter i.behind i.state) (oldest_front i.look.levels.plans i.look.front) i.look
     c.self.invariant.some c.self.invariant.few (AreDelays-list i.delays c.shape.ensures) (omega arith) most look)
     (λ look. c.give_up-dropped.ensures.opened i.delays i.now i.taken (with_counter i.behind i.state) (oldest_front i.look.levels.plans i.look.front) look

@@ -2,7 +2,7 @@ use Rattle.st_ahead.proofs.Settling.{goes-yes, goes-not, goes-no}
 use Rattle.st_ahead.proofs.machine.Machine.goes_on.Goals as goal
 
 pub returns-then-not-is_fresh-clause-yes : goal.returns-then-not-is_fresh-clause-yes
-returns-then-not-is_fresh-clause-yes g c = λ yes. c.quiet.ensures (c.is_fresh.ensures c.if-not-is_fresh.true)
+returns-then-not-is_fresh-clause-yes g c = λ yes. c.is_fresh.ensures.no c.if-not-is_fresh.true
 
 pub returns-then-ends-clause-no : goal.returns-then-ends-clause-no
 returns-then-ends-clause-no g c = λ no. goes-not c.args.self.now c.ends.result c.ends.ensures c.if-ends.true

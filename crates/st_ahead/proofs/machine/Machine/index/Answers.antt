@@ -12,7 +12,7 @@ returns g c =
     let n = g.row.N in
     let i = c.self.inside in
     let m = overlap_of n i.delays i.state i.taken i.behind i.now i.owed i.ended i.stopped i.fresh i.look in
-    let look = look-inside i.stopped n i.delays i.state i.taken i.behind i.now i.owed i.ended i.fresh i.look c.self.invariant c.shape-3.ensures in
+    let look = look-inside i.stopped n i.delays i.state i.taken i.behind i.now i.owed i.ended i.fresh i.look c.self.invariant in
     let is = showing m i.look look (looks_are_levels i.delays n (last_tick_made m) i.now i.taken (state_ahead m) m.front i.look
-    c.self.invariant.some c.self.invariant.few (AreDelays-list i.delays c.shape.ensures) (soon-last i.owed i.now) c.shape-2.ensures look) in
-    subst (λ (x : Overlap). c.index.result.now ≡ lent_index_words x) c.self.view_is (c.index.ensures ∙ showing-index m i.look is)
+    c.self.invariant.some c.self.invariant.few (AreDelays-list i.delays c.shape.ensures) (soon-last i.owed i.now) c.index.ensures.few look) in
+    subst (λ (x : Overlap). c.index.result.now ≡ lent_index_words x) c.self.view_is (c.index.ensures.words ∙ showing-index m i.look is)

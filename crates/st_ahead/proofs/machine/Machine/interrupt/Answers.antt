@@ -2,12 +2,12 @@ use Rattle.std.proofs.Common.{◌≡◌, ◌<◌, ◌^◌, true, false, None, So
 use Rattle.st_exec.specs.Step.{interrupt}
 use Rattle.st_ahead.specs.Overlap.{Overlap}
 use Rattle.st_ahead.specs.Inside.{overlap_of}
-use Rattle.st_ahead.proofs.Settling.{some-closing, ended-rest, due-taken, interrupt-taken, owed-early, answer-interrupt, settled-interrupt}
+use Rattle.st_ahead.proofs.Settling.{ended-rest, due-taken, interrupt-taken, owed-early, answer-interrupt, settled-interrupt}
 use Rattle.st_ahead.proofs.machine.Machine.interrupt.Goals as goal
 
 pub end-dropped-requires : goal.end-dropped-requires
 end-dropped-requires g c =
-    (omega arith, (c.requires.owed, some-closing c.args.self.now.closing (λ none. absurd (cc (sym (c.quiet.ensures none).0 ∙ c.requires.due)))))
+    (omega arith, (c.requires.owed, c.requires.done))
 
 pub overflow_add-self : goal.overflow_add-self
 overflow_add-self g c =
@@ -28,7 +28,7 @@ invariant_of-self g c =
     let none = subst (λ (m : Overlap). m.taken ≡ None) (sym c.self.view_is) (rest.taken ∙ due.0) in
     let now = subst (λ (m : Overlap). interrupt m.state ≡ Some c.args.indicator) (sym c.self.view_is) (ap interrupt rest.state ∙ due.1) in
     (interrupt-taken i.stopped g.row.N i.delays i.state i.taken i.behind i.now i.owed i.ended i.fresh i.look c.stand.new.self c.args.indicator none
-    c.self.invariant off c.shape.ensures owes over c.requires.known now c.place_of-place.ensures.value c.stand.ensures).0
+    c.self.invariant off owes over c.requires.known now c.place_of-place.ensures.value c.stand.ensures).0
 
 pub returns-clause-answer : goal.returns-clause-answer
 returns-clause-answer g c =
@@ -52,4 +52,4 @@ returns-clause-after g c =
     settled-interrupt c.args.self.now (overlap_of g.row.N i.delays i.state i.taken i.behind i.now i.owed i.ended i.stopped i.fresh i.look) _ c.args.indicator
     (c.self.view_is ∙ c.end-dropped.ensures.after) c.requires.due
     (interrupt-taken i.stopped g.row.N i.delays i.state i.taken i.behind i.now i.owed i.ended i.fresh i.look c.stand.new.self c.args.indicator none
-    c.self.invariant off c.shape.ensures owes over c.requires.known now c.place_of-place.ensures.value c.stand.ensures).1
+    c.self.invariant off owes over c.requires.known now c.place_of-place.ensures.value c.stand.ensures).1

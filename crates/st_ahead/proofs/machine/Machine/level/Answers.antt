@@ -15,21 +15,21 @@ returns-clause-value g c =
     let n = g.row.N in
     let i = c.self.inside in
     let m = overlap_of n i.delays i.state i.taken i.behind i.now i.owed i.ended i.stopped i.fresh i.look in
-    let look = look-inside i.stopped n i.delays i.state i.taken i.behind i.now i.owed i.ended i.fresh i.look c.self.invariant c.shape-3.ensures in
+    let look = look-inside i.stopped n i.delays i.state i.taken i.behind i.now i.owed i.ended i.fresh i.look c.self.invariant in
     let is = showing m i.look look (looks_are_levels i.delays n (last_tick_made m) i.now i.taken (state_ahead m) m.front i.look
-    c.self.invariant.some c.self.invariant.few (AreDelays-list i.delays c.shape.ensures) (soon-last i.owed i.now) c.shape-2.ensures look) in
+    c.self.invariant.some c.self.invariant.few (AreDelays-list i.delays c.shape.ensures) (soon-last i.owed i.now) c.level.ensures.few look) in
     let tick = c.last_tick-tick.ensures ∙ ap (λ (x : Overlap). last_tick_made x) (sym c.self.view_is) in
     subst (λ (x : Overlap). c.level.result ≡ get_or (view_at_tick x).levels c.args.k None) c.self.view_is
-    (c.level.ensures ∙ ap (λ t. kept_at t i.look.levels.ring i.look.levels.plans c.args.k) tick ∙ showing-level m i.look c.args.k is)
+    (c.level.ensures.value ∙ ap (λ t. kept_at t i.look.levels.ring i.look.levels.plans c.args.k) tick ∙ showing-level m i.look c.args.k is)
 
 pub returns-clause-eight : goal.returns-clause-eight
 returns-clause-eight g c =
     let n = g.row.N in
     let i = c.self.inside in
     let m = overlap_of n i.delays i.state i.taken i.behind i.now i.owed i.ended i.stopped i.fresh i.look in
-    let look = look-inside i.stopped n i.delays i.state i.taken i.behind i.now i.owed i.ended i.fresh i.look c.self.invariant c.shape-3.ensures in
+    let look = look-inside i.stopped n i.delays i.state i.taken i.behind i.now i.owed i.ended i.fresh i.look c.self.invariant in
     let is = showing m i.look look (looks_are_levels i.delays n (last_tick_made m) i.now i.taken (state_ahead m) m.front i.look
-    c.self.invariant.some c.self.invariant.few (AreDelays-list i.delays c.shape.ensures) (soon-last i.owed i.now) c.shape-2.ensures look) in
-    let most : count i.look ≤ n = c.shape-2.ensures in
+    c.self.invariant.some c.self.invariant.few (AreDelays-list i.delays c.shape.ensures) (soon-last i.owed i.now) c.level.ensures.few look) in
+    let most : count i.look ≤ n = c.level.ensures.few in
     let few : n ≤ 8 = c.self.invariant.few in
     subst (λ (x : Overlap). length (view_at_tick x).levels ≡ 8) c.self.view_is (showing-eight m i.look is (omega (arith, most, few)))

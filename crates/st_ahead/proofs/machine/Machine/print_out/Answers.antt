@@ -17,19 +17,19 @@ invariant_of-self g c =
     let n = g.row.N in
     let i = c.self.inside in
     let may = subst MayServe (sym c.self.view_is) c.requires.turn in
-    signal-inside i.stopped n i.delays i.state c.print_out-words.new.state i.taken i.behind i.now i.owed i.ended i.fresh i.look c.self.invariant
-    (inr (may.0, may.1)) c.shape-2.ensures
-    (subst (λ (u : Machine). AreAlikeBesideOrders i.state u) (sym c.print_out-words.ensures.state) (orders_are_passed_over.printed i.state))
+    signal-inside i.stopped n i.delays i.state c.print_out.new.state i.taken i.behind i.now i.owed i.ended i.fresh i.look c.self.invariant
+    (inr (may.0, may.1)) c.print_out.ensures.after
+    (subst (λ (u : Machine). AreAlikeBesideOrders i.state u) (sym c.print_out.ensures.state) (orders_are_passed_over.printed i.state))
     (λ x y f look late done m alike. signals_leave_looks.look i.delays n i.now i.now x y f i.look
     c.self.invariant.some c.self.invariant.few (AreDelays-list i.delays c.shape.ensures) look late done m alike)
 
 pub returns-clause-words : goal.returns-clause-words
 returns-clause-words g c =
-    subst (λ (m : Overlap). IfSome m.state.printer (λ order. c.print_out-words.result ≡ words_from m.state order.word 8)) c.self.view_is c.print_out-words.ensures.words
+    subst (λ (m : Overlap). IfSome m.state.printer (λ order. c.print_out.result ≡ words_from m.state order.word 8)) c.self.view_is c.print_out.ensures.words
 
 pub returns-clause-after : goal.returns-clause-after
 returns-clause-after g c =
     let n = g.row.N in
     let i = c.self.inside in
-    subst (λ (m : Overlap). overlap_of n i.delays c.print_out-words.new.state i.taken i.behind i.now i.owed i.ended i.stopped i.fresh i.look ≡ printed_by m) c.self.view_is
-    (ap (λ (u : Machine). overlap_of n i.delays u i.taken i.behind i.now i.owed i.ended i.stopped i.fresh i.look) c.print_out-words.ensures.state)
+    subst (λ (m : Overlap). overlap_of n i.delays c.print_out.new.state i.taken i.behind i.now i.owed i.ended i.stopped i.fresh i.look ≡ printed_by m) c.self.view_is
+    (ap (λ (u : Machine). overlap_of n i.delays u i.taken i.behind i.now i.owed i.ended i.stopped i.fresh i.look) c.print_out.ensures.state)

@@ -14,11 +14,11 @@ returns-clause-levels g c =
     let n = g.row.N in
     let i = c.self.inside in
     let m = overlap_of n i.delays i.state i.taken i.behind i.now i.owed i.ended i.stopped i.fresh i.look in
-    let look = look-inside i.stopped n i.delays i.state i.taken i.behind i.now i.owed i.ended i.fresh i.look c.self.invariant c.shape-3.ensures in
+    let look = look-inside i.stopped n i.delays i.state i.taken i.behind i.now i.owed i.ended i.fresh i.look c.self.invariant in
     let is = showing m i.look look (looks_are_levels i.delays n (last_tick_made m) i.now i.taken (state_ahead m) m.front i.look
-    c.self.invariant.some c.self.invariant.few (AreDelays-list i.delays c.shape.ensures) (soon-last i.owed i.now) c.shape-2.ensures look) in
+    c.self.invariant.some c.self.invariant.few (AreDelays-list i.delays c.shape.ensures) (soon-last i.owed i.now) c.ring.ensures.few look) in
     subst (λ (x : Overlap). AreLevelsOf x c.ring.result.now) c.self.view_is
-    (subst (λ (levels : List Level). AreLevelsOf m levels) (sym c.ring.ensures) (showing-ring m i.look is))
+    (subst (λ (levels : List Level). AreLevelsOf m levels) (sym c.ring.ensures.levels) (showing-ring m i.look is))
 
 pub returns-clause-few : goal.returns-clause-few
-returns-clause-few g c = omega (arith, c.shape-2.ensures, c.self.invariant.few, ap length c.ring.ensures)
+returns-clause-few g c = omega (arith, c.ring.ensures.few, c.self.invariant.few, ap length c.ring.ensures.levels)

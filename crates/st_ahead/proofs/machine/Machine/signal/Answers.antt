@@ -15,8 +15,8 @@ invariant_of-self g c =
     let i = c.self.inside in
     let u = c.signal.new.self in
     signal-inside i.stopped n i.delays i.state u i.taken i.behind i.now i.owed i.ended i.fresh i.look c.self.invariant
-    (subst MaySignal (sym c.self.view_is) c.requires.turn).0 c.shape-2.ensures
-    (subst (λ x. AreAlikeBesideOrders i.state x) (sym c.signal.ensures) (orders_are_passed_over.signalled i.state c.args.i))
+    (subst MaySignal (sym c.self.view_is) c.requires.turn).0 c.signal.ensures.after
+    (subst (λ x. AreAlikeBesideOrders i.state x) (sym c.signal.ensures.value) (orders_are_passed_over.signalled i.state c.args.i))
     (λ x y f look late done m alike. signals_leave_looks.look i.delays n i.now i.now x y f i.look
     c.self.invariant.some c.self.invariant.few (AreDelays-list i.delays c.shape.ensures) look late done m alike)
 
@@ -25,4 +25,4 @@ returns g c =
     let i = c.self.inside in
     let u = c.signal.new.self in
     subst (λ (m : Overlap). overlap_of g.row.N i.delays u i.taken i.behind i.now i.owed i.ended i.stopped i.fresh i.look ≡ signalled_by c.args.i m) c.self.view_is
-    (ap (λ x. overlap_of g.row.N i.delays x i.taken i.behind i.now i.owed i.ended i.stopped i.fresh i.look) c.signal.ensures)
+    (ap (λ x. overlap_of g.row.N i.delays x i.taken i.behind i.now i.owed i.ended i.stopped i.fresh i.look) c.signal.ensures.value)

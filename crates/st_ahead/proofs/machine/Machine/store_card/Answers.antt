@@ -1,5 +1,5 @@
 use Rattle.std.specs.Prelude.{IsSome, IfSome}
-use Rattle.std.proofs.Common.{◌≡◌, true, Some, sym, subst}
+use Rattle.std.proofs.Common.{◌≡◌, true, Some, refl, sym, subst}
 use Rattle.st_state.specs.Machine.{Machine}
 use Rattle.st_exec.specs.Transfer.{read_in}
 use Rattle.st_ahead.specs.Overlap.{Overlap}
@@ -17,7 +17,7 @@ invariant_of-self g c =
     let done = subst (λ (m : Overlap). IsSome m.closing) (sym c.self.view_is) c.requires.turn.1 in
     let fresh = fresh-closing i.stopped n i.delays i.state i.taken i.behind i.now i.owed i.ended i.fresh i.look done in
     card-inside i.stopped n i.delays i.state c.read_in.new.state i.taken i.behind i.now i.owed i.ended i.fresh i.look i.state.reader c.args.card c.self.invariant over fresh
-    c.shape.ensures.reader_area some c.read_in.ensures
+    refl some c.read_in.ensures.state c.read_in.ensures.after
 
 pub returns : goal.returns
 returns g c =
@@ -26,4 +26,4 @@ returns g c =
     subst (λ (m : Overlap). IfSome m.state.reader (λ order. overlap_of n i.delays c.read_in.new.state i.taken i.behind i.now i.owed i.ended i.stopped i.fresh i.look
     ≡ record m { state = read_in m.state order.word (Some c.args.card) }))
     c.self.view_is
-    (with-read i.state.reader (Some c.args.card) i.state c.read_in.new.state (λ (u : Machine). overlap_of n i.delays u i.taken i.behind i.now i.owed i.ended i.stopped i.fresh i.look) c.read_in.ensures)
+    (with-read i.state.reader (Some c.args.card) i.state c.read_in.new.state (λ (u : Machine). overlap_of n i.delays u i.taken i.behind i.now i.owed i.ended i.stopped i.fresh i.look) c.read_in.ensures.state)

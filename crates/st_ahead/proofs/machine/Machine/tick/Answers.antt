@@ -37,7 +37,7 @@ invariant_of-self g c =
     let u = c.tick-done.new.state in
     let are = AreDelays-list i.delays c.shape.ensures in
     let by = subst (λ (x : Option Completed). IsTicked i.delays n i.now i.taken i.state f v u w x) c.in_default.is
-    (c.tick-done.ensures i.delays (i.now - 1) i.taken f c.self.invariant.some c.self.invariant.few are at.look (not-first i.now v.levels.ring at.look.prepared)) in
+    (c.tick-done.ensures.ticked i.delays (i.now - 1) i.taken f c.self.invariant.some c.self.invariant.few are at.look (not-first i.now v.levels.ring at.look.prepared)) in
     let all = passed-tick i.stopped n i.delays i.state u i.taken i.behind i.now i.owed i.ended i.fresh v w c.self.invariant owes early by
     (levels_are_the_entries_ahead.oldest i.delays n i.now i.taken i.state f w.front w.levels by.look.ahead) in
     all.0
@@ -55,7 +55,7 @@ returns-in_default-clause-event g c =
     let u = c.tick-done.new.state in
     let are = AreDelays-list i.delays c.shape.ensures in
     let by = subst (λ (x : Option Completed). IsTicked i.delays n i.now i.taken i.state f v u w x) c.in_default.is
-    (c.tick-done.ensures i.delays (i.now - 1) i.taken f c.self.invariant.some c.self.invariant.few are at.look (not-first i.now v.levels.ring at.look.prepared)) in
+    (c.tick-done.ensures.ticked i.delays (i.now - 1) i.taken f c.self.invariant.some c.self.invariant.few are at.look (not-first i.now v.levels.ring at.look.prepared)) in
     let all = passed-tick i.stopped n i.delays i.state u i.taken i.behind i.now i.owed i.ended i.fresh v w c.self.invariant owes early by
     (levels_are_the_entries_ahead.oldest i.delays n i.now i.taken i.state f w.front w.levels by.look.ahead) in
     subst (λ (m : Overlap). is_done m ≡ false) c.self.view_is all.1
@@ -73,7 +73,7 @@ returns-in_default-clause-after g c =
     let u = c.tick-done.new.state in
     let are = AreDelays-list i.delays c.shape.ensures in
     let by = subst (λ (x : Option Completed). IsTicked i.delays n i.now i.taken i.state f v u w x) c.in_default.is
-    (c.tick-done.ensures i.delays (i.now - 1) i.taken f c.self.invariant.some c.self.invariant.few are at.look (not-first i.now v.levels.ring at.look.prepared)) in
+    (c.tick-done.ensures.ticked i.delays (i.now - 1) i.taken f c.self.invariant.some c.self.invariant.few are at.look (not-first i.now v.levels.ring at.look.prepared)) in
     let all = passed-tick i.stopped n i.delays i.state u i.taken i.behind i.now i.owed i.ended i.fresh v w c.self.invariant owes early by
     (levels_are_the_entries_ahead.oldest i.delays n i.now i.taken i.state f w.front w.levels by.look.ahead) in
     subst (λ (m : Overlap). overlap_of n i.delays u i.taken i.behind i.now true i.ended i.stopped i.fresh w ≡ machine_after_tick m) c.self.view_is all.2
@@ -91,11 +91,11 @@ invariant_of-self-2 g c =
     let u = c.tick-done.new.state in
     let are = AreDelays-list i.delays c.shape.ensures in
     let by = subst (λ (x : Option Completed). IsTicked i.delays n i.now i.taken i.state f v u w x) c.in-Some.is
-    (c.tick-done.ensures i.delays (i.now - 1) i.taken f c.self.invariant.some c.self.invariant.few are at.look (not-first i.now v.levels.ring at.look.prepared)) in
+    (c.tick-done.ensures.ticked i.delays (i.now - 1) i.taken f c.self.invariant.some c.self.invariant.few are at.look (not-first i.now v.levels.ring at.look.prepared)) in
     let done = c.in-Some.done in
     let m = at.look.machine in
     let t = at.look.indicator in
-    let most : count v ≤ n = c.shape-2.ensures in
+    let most : count v ≤ n = c.tick-done.ensures.few in
     let few : i.now ≤ i.now - 1 + 1 = omega arith in
     let levels = looks_are_levels i.delays n (i.now - 1) i.now i.taken i.state f v c.self.invariant.some c.self.invariant.few are few most at.look in
     let some = some-due (count v) (λ empty. unprepared i.delays n (count v) i.now i.taken i.state f c.self.invariant.some empty are
@@ -123,11 +123,11 @@ returns-clause-event g c =
     let u = c.tick-done.new.state in
     let are = AreDelays-list i.delays c.shape.ensures in
     let by = subst (λ (x : Option Completed). IsTicked i.delays n i.now i.taken i.state f v u w x) c.in-Some.is
-    (c.tick-done.ensures i.delays (i.now - 1) i.taken f c.self.invariant.some c.self.invariant.few are at.look (not-first i.now v.levels.ring at.look.prepared)) in
+    (c.tick-done.ensures.ticked i.delays (i.now - 1) i.taken f c.self.invariant.some c.self.invariant.few are at.look (not-first i.now v.levels.ring at.look.prepared)) in
     let done = c.in-Some.done in
     let m = at.look.machine in
     let t = at.look.indicator in
-    let most : count v ≤ n = c.shape-2.ensures in
+    let most : count v ≤ n = c.tick-done.ensures.few in
     let few : i.now ≤ i.now - 1 + 1 = omega arith in
     let levels = looks_are_levels i.delays n (i.now - 1) i.now i.taken i.state f v c.self.invariant.some c.self.invariant.few are few most at.look in
     let some = some-due (count v) (λ empty. unprepared i.delays n (count v) i.now i.taken i.state f c.self.invariant.some empty are
@@ -157,11 +157,11 @@ returns-clause-after g c =
     let u = c.tick-done.new.state in
     let are = AreDelays-list i.delays c.shape.ensures in
     let by = subst (λ (x : Option Completed). IsTicked i.delays n i.now i.taken i.state f v u w x) c.in-Some.is
-    (c.tick-done.ensures i.delays (i.now - 1) i.taken f c.self.invariant.some c.self.invariant.few are at.look (not-first i.now v.levels.ring at.look.prepared)) in
+    (c.tick-done.ensures.ticked i.delays (i.now - 1) i.taken f c.self.invariant.some c.self.invariant.few are at.look (not-first i.now v.levels.ring at.look.prepared)) in
     let done = c.in-Some.done in
     let m = at.look.machine in
     let t = at.look.indicator in
-    let most : count v ≤ n = c.shape-2.ensures in
+    let most : count v ≤ n = c.tick-done.ensures.few in
     let few : i.now ≤ i.now - 1 + 1 = omega arith in
     let levels = looks_are_levels i.delays n (i.now - 1) i.now i.taken i.state f v c.self.invariant.some c.self.invariant.few are few most at.look in
     let some = some-due (count v) (λ empty. unprepared i.delays n (count v) i.now i.taken i.state f c.self.invariant.some empty are

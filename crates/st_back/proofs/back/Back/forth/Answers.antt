@@ -7,7 +7,7 @@ returns-in-Plain c =
     let e = c.in-Plain.is in
     record {
       step = q.step;
-      kept = forth-kept _ _ _ _ _ _ _ c.shape.ensures q.step q.kept (λ same. cc) c.keep.ensures;
+      kept = forth-kept _ _ _ _ _ _ _ q.step q.kept (λ same. cc) c.keep.ensures;
     }
 
 pub returns-in-Interrupt : goal.returns-in-Interrupt
@@ -16,5 +16,5 @@ returns-in-Interrupt c =
     let e = c.in-Interrupt.is in
     record {
       step = q.step;
-      kept = forth-kept _ _ _ _ _ _ _ c.shape.ensures q.step q.kept (λ same. cc) c.keep-in-Interrupt.ensures;
+      kept = forth-kept _ _ _ _ _ _ _ q.step q.kept (λ same. cc) c.keep-in-Interrupt.ensures;
     }

@@ -23,6 +23,6 @@ returns c =
     subst (λ (old : Steps). IsPut old (steps c.push_back.new.self) c.args.state.now c.store.new.self c.args.w c.args.word)
     c.self.view_is
     (put-made c.self.inside.ring c.pop_back.new.self c.push_back.new.self k c.noted.result c.args.state.now
-    c.store.new.self c.args.w c.args.word c.self.invariant c.shape.ensures e few
-    (c.noted.ensures ∙ ap (step_with_word k c.args.w) c.word.ensures) c.store.ensures c.in-Some.ensures.items
+    c.store.new.self c.args.w c.args.word c.self.invariant c.word.ensures.machine e few
+    (c.noted.ensures ∙ ap (step_with_word k c.args.w) c.word.ensures.value) c.store.ensures c.in-Some.ensures.items
     c.push_back.ensures.items)

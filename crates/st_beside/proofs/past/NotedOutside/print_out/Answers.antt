@@ -12,6 +12,6 @@ returns-clause-rest c =
     let room : Machine → Type 0 = λ s. HasRoomForCard s.reader m.steps.kept in (
       refl,
       ap (states_before m.steps.kept) c.print_out.ensures.state
-          ∙ states_beside m.steps.kept m.state m.state.reader None _ c.shape.ensures,
+          ∙ states_beside m.steps.kept m.state m.state.reader None _ c.print_out.ensures.before,
       λ now. record { some = now.some; few = now.few; room = subst room (sym c.print_out.ensures.state) now.room },
     )

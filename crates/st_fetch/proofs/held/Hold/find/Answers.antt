@@ -1,6 +1,6 @@
-use Rattle.std.proofs.Common.{refl}
+use Rattle.std.proofs.Common.{length, refl, ap, arith}
 use Rattle.st_fetch.specs.Planned.{oldest_first}
-use Rattle.st_fetch.proofs.OldestFirst.{found-next}
+use Rattle.st_fetch.proofs.OldestFirst.{length-oldest_first, found-next}
 use Rattle.st_fetch.proofs.held.Hold.find.Goals as goal
 
 pub loop-place-init : goal.loop-place-init
@@ -11,3 +11,10 @@ pub loop-place-preserved : goal.loop-place-preserved
 loop-place-preserved c =
     let q = c.self.inside in
     found-next c.args.w c.loop-place.place q.words.words q.contents.of c.loop-place.here _ c.found_next-here.ensures c.loop-place.invariant
+
+-- their number is kept beside them
+pub returns-clause-few : goal.returns-clause-few
+returns-clause-few c =
+    let q = c.self.inside in
+    let same = ap length c.self.view_is in
+    omega (arith, length-oldest_first q.len q.words.words q.contents.of)

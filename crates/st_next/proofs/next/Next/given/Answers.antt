@@ -21,4 +21,4 @@ returns-then-so_far-eq1-clause-value c =
     c.fetch_on-then-so_far-eq1.ensures.value
     ∙ ap {A = List ℕ} (λ xs. given_of (left_after (reading_at_place c.args.x.now (word s 3) s.enabled c.args.self.now.place) xs))
     (one-read (word s) _ (own.len + target.len) _ (length-first own target) (omega (arith, c.if-so_far-eq1.true))
-    (c.word.ensures ∙ ap (word s) (c.word_at.ensures.value (omega (arith, c.if-so_far-eq1.true)))))
+    (c.word.ensures.value ∙ ap (word s) (c.word_at.ensures.value (omega (arith, c.if-so_far-eq1.true)))))

@@ -12,7 +12,7 @@ returns-then-self-eq1 c =
     let first : own.first ≡ own.first + 0 = omega arith in
     halves-found _ s c.args.self.now.place _ _
     (one-read (word s) _ (own.len + target.len) _ (length-first own target) (omega arith)
-    (c.word.ensures ∙ ap (word s) (first ∙ sym (own-at own target 0 (omega arith)))))
+    (c.word.ensures.value ∙ ap (word s) (first ∙ sym (own-at own target 0 (omega arith)))))
     c.halves_known.ensures
 
 pub returns-then-self-eq2 : goal.returns-then-self-eq2
@@ -23,6 +23,6 @@ returns-then-self-eq2 c =
     let first : own.first ≡ own.first + 0 = omega arith in
     halves-found _ s c.args.self.now.place _ _
     (two-read (word s) _ (own.len + target.len) _ _ (length-first own target) (omega arith)
-    (c.word-then-self-eq2.ensures ∙ ap (word s) (first ∙ sym (own-at own target 0 (omega arith))))
-    (c.word-then-self-eq2-2.ensures ∙ ap (word s) (sym (own-at own target 1 (omega arith)))))
+    (c.word-then-self-eq2.ensures.value ∙ ap (word s) (first ∙ sym (own-at own target 0 (omega arith))))
+    (c.word-then-self-eq2-2.ensures.value ∙ ap (word s) (sym (own-at own target 1 (omega arith)))))
     c.halves_known-then-self-eq2.ensures

@@ -46,3 +46,7 @@ returns-clause-not_done g c = λ now each late.
     let P : Plan → Type 0 = λ q. now < q.c in
     let old = subst (λ (rows : List Plan). All P rows) (sym (ap (λ (w : LevelsView). w.plans) c.self.view_is)) each in
     subst (λ (rows : List Plan). All P rows) (sym c.push.ensures.rows) (All-push P c.self.inside.plans _ old late)
+
+pub returns-clause-few : goal.returns-clause-few
+returns-clause-few g c =
+    omega (arith, c.push_prepared.ensures.len, c.requires.room, ap (λ (v : LevelsView). length v.ring) c.self.view_is)

@@ -1,4 +1,4 @@
-//! What is known of what runs ahead at any time, and where its next entry stands.
+//! What is shown of what runs ahead, and where its next entry stands.
 ghost use Rattle.std.specs.Prelude.{◌≡◌, ◌≤◌, option_map};
 ghost use Rattle.st_ahead.specs.Shown.{word_before_change};
 
@@ -11,13 +11,6 @@ impl<const N: usize> Lookahead<N> {
     ghost use Rattle.st_ahead.specs.Look.{count};
     ghost use Rattle.st_ahead.specs.Inside.{kept_at};
 
-    // Makes known that there are at most N levels.
-    pub(crate) fn shape(&self)
-        ensures { count self.now ≤ N }
-    {
-        let _few = self.levels.len();
-    }
-
     // The next entry stands at this place.
     pub(crate) fn stand(&mut self, place: Place)
         ensures { self.new ≡ record self.old { next = record self.old.next { place = place } } }
@@ -27,21 +20,24 @@ impl<const N: usize> Lookahead<N> {
 
     // The levels, oldest first.
     pub(crate) fn ring(&self) -> &SpecRing<N>
-        ensures { result.now ≡ self.now.levels.ring }
+        ensures levels { result.now ≡ self.now.levels.ring }
+        ensures few { count self.now ≤ N }
     {
         self.levels.ring()
     }
 
     // The index words that run ahead.
     pub(crate) fn index(&self) -> &[u64; 16]
-        ensures { result.now ≡ self.now.levels.x }
+        ensures words { result.now ≡ self.now.levels.x }
+        ensures few { count self.now ≤ N }
     {
         self.levels.index()
     }
 
     // Level k, counted from the oldest, as it is shown at a tick; none behind the last one.
     pub(crate) fn level(&self, k: usize, tick: u64) -> Option<LevelView>
-        ensures { result ≡ kept_at tick self.now.levels.ring self.now.levels.plans k }
+        ensures value { result ≡ kept_at tick self.now.levels.ring self.now.levels.plans k }
+        ensures few { count self.now ≤ N }
     {
         if k >= self.levels.len() {
             return None;
