@@ -142,6 +142,7 @@ fn write_kind<K: Sink>(out: &mut K, p: &Prepared, known: &Known) -> Result<(), F
 }
 
 // Writes a run of words that an entry writes, where it has any.
+#[inline(always)]
 #[tactic(auto, unfolding(crate::specs::EntryLines::run_lines), using(st_io::proofs::Progress::wrote_nothing))]
 fn write_run<K: Sink>(out: &mut K, w: u32, n: u8) -> Result<(), Failed>
     ensures { WritesLines (K.output out.old) (K.output out.new) (run_lines w n) result }

@@ -121,9 +121,9 @@ fn put_kept(line: &mut LineFromEnd, kept: bool)
     ensures room { length line.new ≡ length line.old + 7 }
 {
     if kept {
-        line.put(b" KEPT 1");
+        line.put_word(*b" KEPT 1");
     } else {
-        line.put(b" KEPT 0");
+        line.put_word(*b" KEPT 0");
     }
 }
 
@@ -133,8 +133,8 @@ pub(crate) fn fill_laid(line: &mut LineFromEnd, origin: Origin)
     ensures { line.new ≡ laid_line origin }
 {
     line.clear();
-    line.put(b"\n");
+    line.put_word(*b"\n");
     put_kept(line, origin.kept);
     line.put_decimal(u64::from(origin.card));
-    line.put(b"LAID ");
+    line.put_word(*b"LAID ");
 }

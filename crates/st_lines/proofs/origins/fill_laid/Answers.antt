@@ -7,5 +7,5 @@ use Rattle.st_lines.proofs.origins.fill_laid.Goals as goal
 pub returns : goal.returns
 returns c =
     laid_pieces (codes "LAID ") (decimal c.args.origin.card) (codes " KEPT ") (flag c.args.origin.kept) lf _ _ _ _ _
-    c.clear.ensures c.put.ensures c.put_kept.ensures.bytes
-    (c.put_decimal.ensures.bytes ∙ ap (λ n. decimal n ++ c.put_kept.new.line) c.from.ensures) c.put-2.ensures
+    c.clear.ensures c.put_word.ensures c.put_kept.ensures.bytes
+    (c.put_decimal.ensures.bytes ∙ ap (λ n. decimal n ++ c.put_kept.new.line) c.from.ensures) c.put_word-2.ensures
