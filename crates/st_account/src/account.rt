@@ -46,7 +46,7 @@ use st_exec::{interrupt, is_at_rest, next_address};
 use st_io::{Failed, Sink};
 use st_ledger::{RowLine, Totals};
 use st_lines::{
-    Border, EntryDone, Origins, Waiting, counter_of, is_enabled, write_border, write_done,
+    Border, EntryDone, FactLine, Origins, Waiting, counter_of, is_enabled, write_border, write_done,
     write_end, write_marks, write_totals,
 };
 use st_reasons::{WaitTotals, Waits};
@@ -155,6 +155,7 @@ impl Account {
                 waits: Waits::new(),
                 totals: WaitTotals::default(),
                 line: RowLine::new(),
+                facts: FactLine::new(),
             },
             k: 0,
         }

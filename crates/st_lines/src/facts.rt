@@ -16,7 +16,7 @@ ghost use Rattle.st_lines.specs.WaitLines.{charged_lines};
 use crate::digits::{fill_code, fill_index, fill_writes};
 use crate::lines::{Alone, line_alone, line_level, line_missed, line_suppressed};
 use crate::origins::{Origin, fill_laid};
-use crate::uses::write_uses;
+use crate::uses::{FactLine, write_uses};
 use crate::waits::{Waiting, write_because, write_charged};
 use crate::writing::put;
 use st_bits::indicator;
@@ -144,47 +144,62 @@ fn write_kind<K: Sink>(out: &mut K, p: &Prepared, known: &Known) -> Result<(), F
 // Writes a run of words that an entry writes, where it has any.
 #[inline(always)]
 #[tactic(auto, unfolding(crate::specs::EntryLines::run_lines), using(st_io::proofs::Progress::wrote_nothing))]
-fn write_run<K: Sink>(out: &mut K, w: u32, n: u8) -> Result<(), Failed>
+fn write_run<K: Sink>(
+    out: &mut K,
+    line: &mut LineFromEnd,
+    w: u32,
+    n: u8,
+) -> Result<(), Failed>
     ensures { WritesLines (K.output out.old) (K.output out.new) (run_lines w n) result }
 {
     if n == 0 {
         return Ok(());
     }
-    let mut line = LineFromEnd::new();
-    fill_writes(&mut line, w, n);
+    fill_writes(line, w, n);
     write_line(out, line.as_bytes())
 }
 
 // Writes the words that an entry writes, run by run.
-fn write_writes<K: Sink>(out: &mut K, words: Words) -> Result<(), Failed>
+fn write_writes<K: Sink>(
+    out: &mut K,
+    line: &mut LineFromEnd,
+    words: Words,
+) -> Result<(), Failed>
     ensures { WritesLines (K.output out.old) (K.output out.new) (writes_lines words) result }
 {
-    write_run(out, words.first, words.len)?;
-    write_run(out, words.first2, words.len2)
+    write_run(out, line, words.first, words.len)?;
+    write_run(out, line, words.first2, words.len2)
 }
 
 // Writes the index word that an entry changes early, where it does.
 #[tactic(auto, unfolding(crate::specs::EntryLines::index_lines), using(st_io::proofs::Progress::wrote_nothing))]
-fn write_index<K: Sink>(out: &mut K, index: Option<IndexChange>) -> Result<(), Failed>
+fn write_index<K: Sink>(
+    out: &mut K,
+    line: &mut LineFromEnd,
+    index: Option<IndexChange>,
+) -> Result<(), Failed>
     ensures { WritesLines (K.output out.old) (K.output out.new) (index_lines index) result }
 {
     match index {
         None => Ok(()),
         Some(change) => {
-            let mut line = LineFromEnd::new();
-            fill_index(&mut line, &change);
+            fill_index(line, &change);
             write_line(out, line.as_bytes())
         }
     }
 }
 
 // Writes what an entry writes, and the index word that it changes early.
-fn write_changes<K: Sink>(out: &mut K, p: &Prepared) -> Result<(), Failed>
+fn write_changes<K: Sink>(
+    out: &mut K,
+    line: &mut LineFromEnd,
+    p: &Prepared,
+) -> Result<(), Failed>
     ensures { WritesLines (K.output out.old) (K.output out.new)
         (writes_lines p.now.writes ++ index_lines p.now.index) result }
 {
-    write_writes(out, p.writes)?;
-    write_index(out, p.index)
+    write_writes(out, line, p.writes)?;
+    write_index(out, line, p.index)
 }
 
 // Writes where the half-words of an entry come from, where a card's bits begin there.
@@ -226,20 +241,21 @@ fn write_code<K: Sink>(
 // Writes where the half-words of an entry come from, and those that it executes.
 fn write_halves<K: Sink>(
     out: &mut K,
+    line: &mut LineFromEnd,
     origin: Option<Origin>,
     code: Option<Code>,
 ) -> Result<(), Failed>
     ensures { WritesLines (K.output out.old) (K.output out.new)
         (laid_lines origin ++ code_lines code) result }
 {
-    let mut line = LineFromEnd::new();
-    write_laid(out, &mut line, origin)?;
-    write_code(out, &mut line, code)
+    write_laid(out, line, origin)?;
+    write_code(out, line, code)
 }
 
 // Writes what the n-th entry uses and what it writes, and the index word that it changes early.
 fn write_words<K: Sink>(
     out: &mut K,
+    line: &mut FactLine,
     n: u32,
     end: Option<u64>,
     p: &Prepared,
@@ -249,14 +265,15 @@ fn write_words<K: Sink>(
         (use_lines n end uses.now ++ (writes_lines p.now.writes ++ index_lines p.now.index))
         result }
 {
-    write_uses(out, n, end, uses)?;
-    write_changes(out, p)
+    write_uses(out, line, n, end, uses)?;
+    write_changes(out, &mut line.bytes, p)
 }
 
 /// Writes what is known by itself of the n-th entry, whose segment ends at the tick `end`, or goes
 /// on.
 pub(crate) fn write_facts<K: Sink>(
     out: &mut K,
+    line: &mut FactLine,
     n: u32,
     end: Option<u64>,
     p: &Prepared,
@@ -268,8 +285,8 @@ pub(crate) fn write_facts<K: Sink>(
         (facts_lines n end p.now known.now origin uses.now) result }
 {
     write_kind(out, p, known)?;
-    write_halves(out, origin, known.code)?;
-    write_words(out, n, end, p, uses)
+    write_halves(out, &mut line.bytes, origin, known.code)?;
+    write_words(out, line, n, end, p, uses)
 }
 
 /// An entry that is done.
@@ -309,6 +326,7 @@ fn write_missed<K: Sink>(out: &mut K, missed: bool) -> Result<(), Failed>
 // Writes what is known of an entry that is done, by itself.
 fn write_known<K: Sink>(
     out: &mut K,
+    line: &mut FactLine,
     done: &EntryDone,
     p: &Prepared,
     known: &Known,
@@ -319,7 +337,7 @@ fn write_known<K: Sink>(
         ++ facts_lines done.now.n done.now.end p.now known.now done.now.origin uses.now) result }
 {
     write_missed(out, done.missed)?;
-    write_facts(out, done.n, done.end, p, known, done.origin, uses)
+    write_facts(out, line, done.n, done.end, p, known, done.origin, uses)
 }
 
 // Writes for how many ticks an entry waited for a level, where it did.
@@ -401,7 +419,7 @@ fn write_spent<K: Sink>(
         + row_stalled r s uses.now before.now (charges_behind done.now.before
         (parts_of_row done.now.start done.now.row.ticks)) }
 {
-    write_known(out, done, p, known, uses)?;
+    write_known(out, &mut waiting.facts, done, p, known, uses)?;
     write_waits(out, done, uses, before, waiting)
 }
 

@@ -127,17 +127,29 @@ fn put_writer(line: &mut LineFromEnd, n: u32, writer: Writer)
     line.put_word(*b" FORWARDED ROW ");
 }
 
-// A line that is filled for one word after another, with the digits that their ticks have in
-// common.
+/// A line that is filled for one fact of an entry after another, with the digits that the ticks of
+/// the words that it uses have in common with those of others.
 #[derive(Debug, Drop)]
-struct UseLine {
-    bytes: LineFromEnd,
-    ticks: KeptDigits,
+pub struct FactLine {
+    pub(crate) bytes: LineFromEnd,
+    pub(crate) ticks: KeptDigits,
+}
+
+impl FactLine {
+    /// A line of no bytes.
+    pub fn new() -> FactLine
+        ensures { result.bytes ≡ [] }
+    {
+        FactLine {
+            bytes: LineFromEnd::new(),
+            ticks: KeptDigits::new(),
+        }
+    }
 }
 
 // Puts where a word comes from before a line, which the n-th entry uses.
 #[inline(always)]
-fn put_supply(line: &mut UseLine, n: u32, end: Option<u64>, used: &Use)
+fn put_supply(line: &mut FactLine, n: u32, end: Option<u64>, used: &Use)
     requires { length line.old.bytes + 153 ≤ 192 }
     ensures bytes { line.new.bytes
         ≡ supply_text n end used.now.word used.now.supply ++ line.old.bytes }
@@ -155,7 +167,7 @@ fn put_supply(line: &mut UseLine, n: u32, end: Option<u64>, used: &Use)
 }
 
 // A word that the n-th entry uses, filled into a line. What the line had is gone.
-fn fill_use(line: &mut UseLine, n: u32, end: Option<u64>, used: &Use)
+fn fill_use(line: &mut FactLine, n: u32, end: Option<u64>, used: &Use)
     ensures { line.new.bytes ≡ use_line n end used.now }
 {
     line.bytes.clear();
@@ -180,7 +192,7 @@ fn is_told(end: Option<u64>, supply: &Supply) -> bool
 #[tactic(auto, using(st_io::proofs::Progress::wrote_nothing))]
 fn write_use<K: Sink>(
     out: &mut K,
-    line: &mut UseLine,
+    line: &mut FactLine,
     n: u32,
     end: Option<u64>,
     used: &Use,
@@ -198,18 +210,15 @@ fn write_use<K: Sink>(
 /// Writes the words that the n-th entry uses, whose segment ends at the tick `end`, or goes on.
 pub(crate) fn write_uses<K: Sink>(
     out: &mut K,
+    line: &mut FactLine,
     n: u32,
     end: Option<u64>,
     uses: &[Use],
 ) -> Result<(), Failed>
     ensures { WritesLines (K.output out.old) (K.output out.new) (use_lines n end uses.now) result }
 {
-    let mut line = UseLine {
-        bytes: LineFromEnd::new(),
-        ticks: KeptDigits::new(),
-    };
     for used in uses {
-        write_use(out, &mut line, n, end, used)?;
+        write_use(out, line, n, end, used)?;
     }
     Ok(())
 }

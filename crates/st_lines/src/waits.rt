@@ -13,7 +13,7 @@ ghost use Rattle.st_reasons.specs.Words.{AreWordsInTime};
 ghost use Rattle.st_reasons.specs.Sums.{AreWaitsWithin, is_parted, waited_at, row_stalled, wait_sums_by};
 ghost use Rattle.st_lines.specs.WaitLines.{stall_name, wait_line, wait_lines, charged_lines, wait_sum_line, wait_sum_lines, reason_name, because_line, because_lines};
 
-use crate::uses::bank_number;
+use crate::uses::{FactLine, bank_number};
 use crate::writing::put;
 use st_io::{Failed, Sink, write_line};
 use st_ledger::{Charge, Part, RowLine, fill_charge, first_part, later, name_of, parts};
@@ -131,8 +131,10 @@ pub struct Waiting {
     pub waits: Waits,
     /// The sums of all of them.
     pub totals: WaitTotals,
-    /// The line that is filled for one fact after another.
+    /// The line that is filled for rows, charges and waits.
     pub line: RowLine,
+    /// The line that is filled for what is known of an entry by itself.
+    pub facts: FactLine,
 }
 
 // Writes the charge of a stage behind the tick `from`, where it ends later, and its waits, and adds

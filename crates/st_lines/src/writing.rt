@@ -19,6 +19,7 @@ use crate::lines::{
     Why, line_delays, line_drop, line_end, line_late, line_levels, line_start, line_word,
 };
 use crate::origins::{Origin, Origins};
+use crate::uses::FactLine;
 use arrayvec::ArrayVec;
 use st_bits::WORDS;
 use st_exch::print_text;
@@ -91,6 +92,7 @@ fn write_drop<K: Sink>(
     write_drop_line(out, n, ahead)?;
     write_facts(
         out,
+        &mut FactLine::new(),
         n,
         Some(tick),
         &ahead.plan,
@@ -151,6 +153,7 @@ fn write_late<K: Sink>(
     write_late_line(out, n, late)?;
     write_facts(
         out,
+        &mut FactLine::new(),
         n,
         Some(tick),
         &late.plan,
