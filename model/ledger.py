@@ -10,7 +10,7 @@ from report import place
 from run import Run
 from timetable import Front, Row
 from uses import noting, uses_of
-from words import INDEX
+from words import INDEX, INDICATORS
 
 PARTED = ('INSTRUCTION', 'INDEX', 'OPERAND')            # the stages whose charges lines WAIT cut further
 STAGES = ('RESTART', 'INSTRUCTION', 'ADDRESS', 'INDEX', 'PREPARING', 'OPERAND', 'EXECUTING')
@@ -46,6 +46,7 @@ class Noting(Run):
 
     def decide(self):
         self.waited, self.ended = False, []
+        self.found = self.state.word(INDICATORS)
         return super().decide()
 
     def wake(self, moment):
@@ -54,9 +55,15 @@ class Noting(Run):
         return woken
 
     def end_segment(self, moment):
-        """Where a segment ends twice at a tick, nothing is left ahead at the second time."""
+        """Where a segment ends twice at a tick, nothing is left ahead at the second time.
+
+        What ran ahead has seen no indicator that came from outside behind the row.
+        """
         rows, self.looked = self.front.bus.row, []
+        words, now = self.state.words, self.state.word(INDICATORS)
+        words[INDICATORS] = self.found
         super().end_segment(moment)
+        words[INDICATORS] = now
         self.ended = self.ended or self.looked
         self.front.bus = noting(self.front.bus, rows)
 

@@ -144,12 +144,7 @@ fn write_kind<K: Sink>(out: &mut K, p: &Prepared, known: &Known) -> Result<(), F
 // Writes a run of words that an entry writes, where it has any.
 #[inline(always)]
 #[tactic(auto, unfolding(crate::specs::EntryLines::run_lines), using(st_io::proofs::Progress::wrote_nothing))]
-fn write_run<K: Sink>(
-    out: &mut K,
-    line: &mut LineFromEnd,
-    w: u32,
-    n: u8,
-) -> Result<(), Failed>
+fn write_run<K: Sink>(out: &mut K, line: &mut LineFromEnd, w: u32, n: u8) -> Result<(), Failed>
     ensures { WritesLines (K.output out.old) (K.output out.new) (run_lines w n) result }
 {
     if n == 0 {
@@ -160,11 +155,7 @@ fn write_run<K: Sink>(
 }
 
 // Writes the words that an entry writes, run by run.
-fn write_writes<K: Sink>(
-    out: &mut K,
-    line: &mut LineFromEnd,
-    words: Words,
-) -> Result<(), Failed>
+fn write_writes<K: Sink>(out: &mut K, line: &mut LineFromEnd, words: Words) -> Result<(), Failed>
     ensures { WritesLines (K.output out.old) (K.output out.new) (writes_lines words) result }
 {
     write_run(out, line, words.first, words.len)?;
@@ -190,11 +181,7 @@ fn write_index<K: Sink>(
 }
 
 // Writes what an entry writes, and the index word that it changes early.
-fn write_changes<K: Sink>(
-    out: &mut K,
-    line: &mut LineFromEnd,
-    p: &Prepared,
-) -> Result<(), Failed>
+fn write_changes<K: Sink>(out: &mut K, line: &mut LineFromEnd, p: &Prepared) -> Result<(), Failed>
     ensures { WritesLines (K.output out.old) (K.output out.new)
         (writes_lines p.now.writes ++ index_lines p.now.index) result }
 {
