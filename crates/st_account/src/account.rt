@@ -46,8 +46,8 @@ use st_exec::{interrupt, is_at_rest, next_address};
 use st_io::{Failed, Sink};
 use st_ledger::{RowLine, Totals};
 use st_lines::{
-    Border, EntryDone, FactLine, Origins, Waiting, counter_of, is_enabled, write_border, write_done,
-    write_end, write_marks, write_totals,
+    Border, EntryDone, FactLine, Origins, Waiting, counter_of, is_enabled, write_border,
+    write_done, write_end, write_marks, write_totals,
 };
 use st_reasons::{WaitTotals, Waits};
 use st_rows::Log;
