@@ -238,7 +238,10 @@ class Ledger:
             use.read = Read(self.entry.row, use.kind, use.word, *ticks, words[17] == "1")
             self.note(use.read)
         elif use.how == "held":
-            use.row, use.tick = self.fetched[use.word].row, int(words[5])
+            use.tick = int(words[5])
+            read = self.fetched.get(use.word)
+            # A read that is told of no one was made by the entry itself, which was begun and wanted it behind the end.
+            use.row = read.row if read and read.answer == use.tick else self.entry.row
         elif use.how == "forwarded":
             use.row, use.tick = int(words[5]), int(words[7])
         self.entry.uses.append(use)
