@@ -1,5 +1,6 @@
 -- What the program writes of a job, and what each of its answers says.
 use Rattle.std.specs.Prelude.{◌≡◌, ℕ, ◌-◌, ◌&&◌, nat_le, if◌then◌else◌, List, [], ◌∷◌, Option, None, Some, Result, Ok, Err}
+use Rattle.st_bits.specs.declared.limits.TheConstants.{LONGEST_JOB}
 use Rattle.st_io.specs.Count.{HasRisen}
 use Rattle.st_io.specs.Input.{InputState, CameWhole, CameWithin, CamePast}
 use Rattle.st_io.specs.Output.{OutputState, Wrote}
@@ -32,10 +33,6 @@ levels_asked ((c ∷ b ∷ bs) ∷ []) = None
 levels_asked (word ∷ more ∷ words) = None
 
 -- ---- jobs
-
--- the longest job, in bytes
-abbrev pub job_limit : ℕ
-job_limit = 2000000
 
 -- the start of the run of a job that is assembled: the machine, the signals that are asked for, and
 -- the cards of the job's reader
@@ -75,7 +72,7 @@ Writes ReadFault before after lines status = ⊥
 pub record WroteLines (n : ℕ) (status : Status) (input input' : InputState)
     (before after : OutputState) : Type 0 where
   pub job : List ℕ
-  pub read : CameWhole input input' job_limit job
+  pub read : CameWhole input input' LONGEST_JOB job
   pub written : Writes status before after (ledger_lines_of n job) (status_of job)
 
 -- what a call did to its source and its sink on a machine of n levels, by the status
@@ -84,11 +81,11 @@ Did n Done input input' before after = WroteLines n Done input input' before aft
 Did n Refused input input' before after = WroteLines n Refused input input' before after
 Did n WriteFault input input' before after = WroteLines n WriteFault input input' before after
 Did n JobTooLong input input' before after =
-    CamePast input input' job_limit × (input'.faults ≡ input.faults) × (after ≡ before)
+    CamePast input input' LONGEST_JOB × (input'.faults ≡ input.faults) × (after ≡ before)
 Did n ReadFault input input' before after =
-    CameWithin input input' job_limit × HasRisen input.faults input'.faults × (after ≡ before)
+    CameWithin input input' LONGEST_JOB × HasRisen input.faults input'.faults × (after ≡ before)
 Did n NoMemory input input' before after =
-    CameWithin input input' job_limit × (input'.faults ≡ input.faults) × (after ≡ before)
+    CameWithin input input' LONGEST_JOB × (input'.faults ≡ input.faults) × (after ≡ before)
 Did n Usage input input' before after = ⊥
 
 -- what a call did, by the meaning of its words: words that mean nothing touch neither source nor

@@ -1,7 +1,7 @@
 -- What is at hand of a moment of a run, besides its scene. The machine has the delays ds and n
 -- levels.
 use Rattle.std.specs.Prelude.{ℕ, suc, ◌+◌, ◌≡◌, ◌≢◌, ◌<◌, ◌≤◌, ◌^◌, length, true, false, not, ◌&&◌, nat_le, nat_eq, if◌then◌else◌, is_none, Bool, List, [], ◌∷◌, ◌++◌, map, slice_index, All, Option, None}
-use Rattle.st_bits.specs.declared.limits.TheConstants.{WORDS}
+use Rattle.st_bits.specs.declared.limits.TheConstants.{MOST_DELAY, WORDS}
 use Rattle.st_state.specs.Machine.{Machine, word}
 use Rattle.st_exec.specs.Ahead.{IsNotAmong}
 use Rattle.st_exec.specs.Completion.{guess}
@@ -45,7 +45,7 @@ pub record HasReads (ds : List ℕ) (t : ℕ) (reads : List Read) (start bus : B
   pub parts : reads ≡ first ++ rest
   pub few : length rest ≤ 34
   pub early : (bus_after_reads ds first start).free ≤ t
-  pub near : IsNear 255 start
+  pub near : IsNear MOST_DELAY start
   pub free : start.free ≤ t
 
 -- it stands for the moment: its tick and its front, whether the guess was wrong, and what the

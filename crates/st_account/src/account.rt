@@ -1,7 +1,7 @@
 //! The ledger of a run as far as it is written, and how it goes on from one entry to the next.
 ghost use Rattle.std.specs.Prelude.{◌≡◌, ◌≢◌, List, true, false, ℕ, ◌+◌, ◌<◌, ◌≤◌, ◌^◌, ◌∷◌, ◌++◌, ◌||◌, nat_eq, suc, [], if◌then◌else◌, length, map, replicate, All, IsOk, is_some, None, Option, slice_index};
 ghost use Rattle.std.specs.List.{AllPass};
-ghost use Rattle.st_bits.specs.declared.limits.TheConstants.{MOST_INSTRUCTIONS, WORDS};
+ghost use Rattle.st_bits.specs.declared.limits.TheConstants.{MOST_DELAY, MOST_INSTRUCTIONS, WORDS};
 ghost use Rattle.st_bits.specs.Storage.{words_of_storage};
 ghost use Rattle.st_banks.specs.declared.answers.TheConstants.{BANKS};
 ghost use Rattle.st_card.specs.Limits.{is_signal};
@@ -126,6 +126,8 @@ impl Account {
         ensures state { result.state ≡ state }
         ensures words { result.words.items ≡ words.items }
         ensures origins { result.origins ≡ origins }
+
+        // Nothing has been done.
         ensures tick { result.last.tick ≡ 0 }
         ensures front { result.last.front
             ≡ opening_front (record { ticks = replicate BANKS 0 }) 0 }
@@ -134,8 +136,10 @@ impl Account {
         ensures counter { result.last.ic ≡ state.ic }
         ensures below { result.last.ic < 2 ^ 19 }
         ensures enabled { result.last.enabled ≡ state.enabled }
-        ensures tight { IsTight 255 result.last.front }
+        ensures tight { IsTight MOST_DELAY result.last.front }
         ensures log { result.log ≡ [] }
+
+        // No row is written.
         ensures none { AreWithin 0 result.sums }
         ensures unused { result.last.uses.items ≡ [] }
         ensures waiting { IsWaiting result.last result.waiting.totals }
@@ -164,7 +168,7 @@ impl Account {
     // Looks at what ran ahead of the last entry, where it is asked for.
     fn look_if(&mut self, timing: &Timing, looks: bool)
         requires few { self.old.state.done + 8 < 2 ^ 63 }
-        requires tight { IsTight 255 self.old.last.front }
+        requires tight { IsTight MOST_DELAY self.old.last.front }
         requires early { self.old.last.front.c ≤ 2 ^ 63 }
         requires late { self.old.last.tick ≤ self.old.last.front.c }
         requires levels { (1 ≤ timing.now.levels) × (timing.now.levels ≤ 8) }
@@ -189,7 +193,7 @@ impl Account {
             (guessing self.old.last.ic self.old.state) self.old.last.front)) bus).banks }
         ensures soon { (reads : List Read) (bus : BusOf) → HasReads timing.now.delays
             self.old.last.tick reads bus self.old.last.front.bus self.old.log →
-            All (λ t. t ≤ self.old.last.tick + 255) self.new.behind.banks.ticks }
+            All (λ t. t ≤ self.old.last.tick + MOST_DELAY) self.new.behind.banks.ticks }
         ensures few { length self.new.behind.found.items ≤ 8 }
         ensures rest { self.new ≡ record self.old {
           state = self.new.state;
@@ -222,7 +226,7 @@ impl Account {
         cards: &mut Hopper,
     ) -> &'a [Signal]
         requires few { self.old.state.done + 8 < 2 ^ 63 }
-        requires tight { IsTight 255 self.old.last.front }
+        requires tight { IsTight MOST_DELAY self.old.last.front }
         requires early { self.old.last.front.c ≤ 2 ^ 63 }
         requires late { self.old.last.tick ≤ self.old.last.front.c }
         requires levels { (1 ≤ timing.now.levels) × (timing.now.levels ≤ 8) }
@@ -236,7 +240,7 @@ impl Account {
             cards.new }
         ensures soon { (b : Machine) (m : Moment) →
             IsAt timing.now.delays timing.now.levels b m self.old signals.now cards.old →
-            All (λ t. t ≤ self.old.last.tick + 255) self.new.behind.banks.ticks }
+            All (λ t. t ≤ self.old.last.tick + MOST_DELAY) self.new.behind.banks.ticks }
         ensures few { length self.new.behind.found.items ≤ 8 }
         ensures passes { AllPass is_signal result.now }
         ensures rest { self.new ≡ record self.old {
@@ -268,9 +272,9 @@ impl Account {
         requires number { self.old.k ≤ MOST_INSTRUCTIONS }
         requires early { self.old.last.tick ≤ 2 ^ 62 }
         requires dropped { length self.old.behind.found.items ≤ 8 }
-        requires soon { All (λ t. t ≤ self.old.last.tick + 255) self.old.behind.banks.ticks }
+        requires soon { All (λ t. t ≤ self.old.last.tick + MOST_DELAY) self.old.behind.banks.ticks }
         requires past { self.old.last.past ≡ self.old.last.front.past }
-        requires tight { IsTight 255 self.old.last.front }
+        requires tight { IsTight MOST_DELAY self.old.last.front }
         requires done { self.old.last.front.c ≡ self.old.last.tick }
 
         ensures border { result ≡ record {
@@ -295,7 +299,7 @@ impl Account {
             self.old.behind.banks (self.old.last.tick + 1 + length self.old.behind.found.items)
             else self.old.last.front) }
         ensures past { self.new.last.past ≡ self.new.last.front.past }
-        ensures tight { IsTight 255 self.new.last.front }
+        ensures tight { IsTight MOST_DELAY self.new.last.front }
         ensures order { self.new.last.tick ≤ self.new.last.front.c }
         ensures bound { self.new.last.front.c ≤ self.new.last.tick + 9 }
         ensures segment { self.new.k ≡ (if result.begins then self.old.k + 1 else self.old.k) }
@@ -341,9 +345,9 @@ impl Account {
         requires number { self.old.k ≤ MOST_INSTRUCTIONS }
         requires early { self.old.last.tick ≤ 2 ^ 62 }
         requires dropped { length self.old.behind.found.items ≤ 8 }
-        requires soon { All (λ t. t ≤ self.old.last.tick + 255) self.old.behind.banks.ticks }
+        requires soon { All (λ t. t ≤ self.old.last.tick + MOST_DELAY) self.old.behind.banks.ticks }
         requires past { self.old.last.past ≡ self.old.last.front.past }
-        requires tight { IsTight 255 self.old.last.front }
+        requires tight { IsTight MOST_DELAY self.old.last.front }
         requires done { self.old.last.front.c ≡ self.old.last.tick }
         requires size { length self.old.words.items ≡ words_of_storage }
         requires left { self.old.k ≢ 0 → (v : ℕ) → v < WORDS → IsLeft v self.old.behind.may →
@@ -366,7 +370,7 @@ impl Account {
             self.new.last.front ≡ next_front m }
         ensures past { self.new.last.past ≡ self.new.last.front.past }
         ensures tick { self.new.last.tick ≡ self.old.last.tick }
-        ensures tight { IsTight 255 self.new.last.front }
+        ensures tight { IsTight MOST_DELAY self.new.last.front }
         ensures order { self.new.last.tick ≤ self.new.last.front.c }
         ensures bound { self.new.last.front.c ≤ self.new.last.tick + 9 }
         ensures words { IsOk result → self.new.words.items ≡ self.old.state.words }
@@ -475,7 +479,7 @@ impl Account {
     pub fn step(&mut self, timing: &Timing)
         requires few { self.old.state.done < MOST_INSTRUCTIONS }
         requires levels { (1 ≤ timing.now.levels) × (timing.now.levels ≤ 8) }
-        requires tight { IsTight 255 self.old.last.front }
+        requires tight { IsTight MOST_DELAY self.old.last.front }
         requires early { self.old.last.front.c ≤ 2 ^ 63 }
         requires order { self.old.last.tick ≤ self.old.last.front.c }
         requires past { self.old.last.past ≡ self.old.last.front.past }

@@ -1,5 +1,6 @@
 //! What comes behind an entry that has been done, and what ran ahead of it.
 ghost use Rattle.std.specs.Prelude.{◌≡◌, List, suc, ◌+◌, ◌≤◌, ◌<◌, ◌^◌, ◌++◌, ◌∷◌, [], map, length, None, All};
+ghost use Rattle.st_bits.specs.declared.limits.TheConstants.{MOST_DELAY};
 ghost use Rattle.st_rows.specs.Asked.{Read, made_before};
 ghost use Rattle.st_rows.specs.Ranges.{IsTight};
 ghost use Rattle.st_segment.specs.Ahead.{ahead, prepared_before, reads_before};
@@ -60,7 +61,7 @@ pub(crate) fn look_behind(
     behind: &mut Behind,
 )
     requires few { state.old.done + 8 < 2 ^ 63 }
-    requires tight { IsTight 255 last.now.front }
+    requires tight { IsTight MOST_DELAY last.now.front }
     requires early { last.now.front.c ≤ 2 ^ 63 }
     requires late { last.now.tick ≤ last.now.front.c }
     requires levels { (1 ≤ timing.now.levels) × (timing.now.levels ≤ 8) }
@@ -85,7 +86,7 @@ pub(crate) fn look_behind(
         (guessing last.now.ic state.old) last.now.front)) bus).banks }
     ensures soon { (reads : List Read) (bus : BusOf) →
         HasReads timing.now.delays last.now.tick reads bus last.now.front.bus log.old →
-        All (λ t. t ≤ last.now.tick + 255) behind.new.banks.ticks }
+        All (λ t. t ≤ last.now.tick + MOST_DELAY) behind.new.banks.ticks }
     ensures few { length behind.new.found.items ≤ 8 }
 {
     timing.delays.shape();

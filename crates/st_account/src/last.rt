@@ -1,5 +1,6 @@
 //! What is at hand when an entry has just been done.
 ghost use Rattle.std.specs.Prelude.{◌≡◌, ◌+◌, ◌≤◌, ◌^◌, if◌then◌else◌, replicate, All, false, []};
+ghost use Rattle.st_bits.specs.declared.limits.TheConstants.{MOST_DELAY};
 ghost use Rattle.st_banks.specs.declared.answers.TheConstants.{BANKS};
 ghost use Rattle.st_rows.specs.Ranges.{IsTight};
 ghost use Rattle.st_rows.specs.Rows.{opening_front};
@@ -97,7 +98,7 @@ pub(crate) fn at_start(ic: u32, enabled: bool) -> Last
     ensures missed { result.missed ≡ false }
     ensures counter { result.ic ≡ ic }
     ensures enabled { result.enabled ≡ enabled }
-    ensures tight { IsTight 255 result.front }
+    ensures tight { IsTight MOST_DELAY result.front }
     ensures uses { result.uses.items ≡ [] }
     ensures before { result.before.items ≡ [] }
     ensures done { result.done.before ≡ 0 }
@@ -124,11 +125,11 @@ pub(crate) fn at_start(ic: u32, enabled: bool) -> Last
 pub(crate) fn open_segment(last: &mut Last, banks: LastAnswers, dropped: u64)
     requires dropped { dropped ≤ 8 }
     requires early { last.old.tick ≤ 2 ^ 62 }
-    requires soon { All (λ t. t ≤ last.old.tick + 255) banks.ticks }
+    requires soon { All (λ t. t ≤ last.old.tick + MOST_DELAY) banks.ticks }
 
     ensures front { last.new.front ≡ opening_front banks (last.old.tick + 1 + dropped) }
     ensures past { last.new.past ≡ last.new.front.past }
-    ensures tight { IsTight 255 last.new.front }
+    ensures tight { IsTight MOST_DELAY last.new.front }
     ensures rest { last.new ≡ record last.old {
       front = last.new.front;
       past = last.new.past;
@@ -143,15 +144,15 @@ pub(crate) fn open_segment(last: &mut Last, banks: LastAnswers, dropped: u64)
 pub(crate) fn open_if(ends: bool, last: &mut Last, banks: LastAnswers, dropped: u64)
     requires dropped { dropped ≤ 8 }
     requires early { last.old.tick ≤ 2 ^ 62 }
-    requires soon { All (λ t. t ≤ last.old.tick + 255) banks.ticks }
+    requires soon { All (λ t. t ≤ last.old.tick + MOST_DELAY) banks.ticks }
     requires past { last.old.past ≡ last.old.front.past }
-    requires tight { IsTight 255 last.old.front }
+    requires tight { IsTight MOST_DELAY last.old.front }
     requires done { last.old.front.c ≡ last.old.tick }
 
     ensures front { last.new.front
         ≡ (if ends then opening_front banks (last.old.tick + 1 + dropped) else last.old.front) }
     ensures past { last.new.past ≡ last.new.front.past }
-    ensures tight { IsTight 255 last.new.front }
+    ensures tight { IsTight MOST_DELAY last.new.front }
     ensures rest { last.new ≡ record last.old {
       front = last.new.front;
       past = last.new.past;

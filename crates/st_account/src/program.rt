@@ -24,6 +24,7 @@ use crate::timing::Timing;
 use st_asm::{AsmError, Assembled, assemble_cards};
 use st_banks::Delays;
 use st_bits::NoMemory;
+use st_bits::limits::LONGEST_JOB;
 use st_card::{Card, Controls, Fault, split};
 use st_exch::Hopper;
 use st_io::{Failed, ReadError, Sink, Source, read_all};
@@ -31,9 +32,6 @@ use st_lines::{Origins, put};
 use st_report::line_fault;
 use st_state::State;
 use std::alloc::Global;
-
-// The longest job, in bytes.
-const JOB_LIMIT: u32 = 2_000_000;
 
 // The number of levels where no word says it.
 const LEVELS: u8 = 4;
@@ -211,7 +209,7 @@ fn run_levels<S: Source, K: Sink>(alloc: Global, n: u8, job: &mut S, out: &mut K
     ensures { Did n result
         (S.input job.old) (S.input job.new) (K.output out.old) (K.output out.new) }
 {
-    match read_all(alloc, job, JOB_LIMIT) {
+    match read_all(alloc, job, LONGEST_JOB) {
         Ok(text) => run_job(alloc, n, text.as_slice(), out),
         Err(ReadError::TooLong) => Status::JobTooLong,
         Err(ReadError::Failed) => Status::ReadFault,

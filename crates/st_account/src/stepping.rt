@@ -1,6 +1,6 @@
 //! What is asked of a state and of an entry on the way from one entry to the next.
 ghost use Rattle.std.specs.Prelude.{◌≡◌, ◌+◌, ◌<◌, ◌≤◌, ◌^◌, ◌||◌, [], not, nat_eq, if◌then◌else◌, is_some, option_map, Some, None, IfSome};
-ghost use Rattle.st_bits.specs.declared.limits.TheConstants.{MOST_INSTRUCTIONS};
+ghost use Rattle.st_bits.specs.declared.limits.TheConstants.{MOST_DELAY, MOST_INSTRUCTIONS};
 ghost use Rattle.st_prep.specs.Plan.{plan as plan_of};
 ghost use Rattle.st_prep.specs.Ranges.{IsPrepared};
 ghost use Rattle.st_exec.specs.Completion.{state_after_execution, guess as guess_of, is_missed as is_missed_of};
@@ -105,7 +105,7 @@ pub(crate) fn count_on(
 )
     requires indicator { IfSome taken (λ i. i < 64) }
     requires levels { (1 ≤ timing.now.levels) × (timing.now.levels ≤ 8) }
-    requires tight { IsTight 255 last.old.front }
+    requires tight { IsTight MOST_DELAY last.old.front }
     requires early { last.old.front.c ≤ 2 ^ 63 }
     requires past { last.old.past ≡ last.old.front.past }
 

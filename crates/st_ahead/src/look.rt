@@ -103,11 +103,14 @@ impl<const N: usize> Lookahead<N> {
     pub fn give_up(&mut self, state: &State, table: Option<u8>, now: u64) -> u8
         requires indicator { IfSome table (λ i. i < 64) }
         requires early { now ≤ 2 ^ 64 - 2048 }
+
+        // The levels are dropped, and the front starts anew.
         ensures dropped { result ≡ count self.old }
         ensures opened { (ds : List ℕ) (tick : ℕ) (t : Option ℕ) (s : Machine) (f : FrontOf) →
             IsLook ds N tick now t s f self.old → index_words_of s ≡ index_words_of state.now →
             IsOpened table state.now (opening_front idle_banks
             (now + 1 + count self.old)) self.new }
+
         ensures few { count self.old ≤ N }
         ensures machine { IsMachine state.now }
     {

@@ -21,6 +21,8 @@ impl<const N: usize> Lookahead<N> {
         requires few { N ≤ 8 }
         requires early { last < 2 ^ 63 }
         requires going { Reaches delays.now N last state.now self.old }
+
+        // What becomes levels.
         ensures goes { (t : Option ℕ) (f : FrontOf) (since : ℕ) →
             GoesUpTo delays.now N since last t state.now f self.old →
             HasGone delays.now N since last t state.now f self.new result }

@@ -59,6 +59,8 @@ impl<const N: usize> Machine<N> {
         requires few { N ≤ 8 }
         requires enabled { state.enabled ≡ false }
         requires waiting { state.waiting ≡ false }
+
+        // The machine, whose words are those of storage.
         ensures value { result ≡ machine_at_start delays N state }
         ensures machine { IsMachine state }
     {
@@ -119,6 +121,8 @@ impl<const N: usize> Machine<N> {
         requires count { count ≤ 2 ^ 63 }
         requires last { last < 2 ^ 63 }
         requires done { self.old.state.done < 2 ^ 63 }
+
+        // What is made, and the rows of it that wait.
         ensures runs { RunsTo count last result self.old self.new }
         ensures rows { rows.new ≡ queue_with
             (rows_in_ticks (ticks_passed last self.old.now result) self.old) rows.old }

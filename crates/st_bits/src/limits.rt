@@ -11,3 +11,7 @@ pub const MOST_INSTRUCTIONS: u64 = 10_000_000;
 pub const MOST_DELAY: u64 = 255;
 /// How long a list of delays, or of signals, can be that a job gives.
 pub const LONGEST_LIST: usize = 4_096;
+/// The most bytes of a job.
+pub const LONGEST_JOB: u32 = 2_000_000;
+/// The most cards of a deck.
+pub const MOST_CARDS: u32 = 20_000;

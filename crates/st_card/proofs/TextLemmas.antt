@@ -3,6 +3,7 @@ use Rattle.std.proofs.Common.{◌≡◌, ◌≤◌, ◌-◌, ◌==◌, ◌||◌,
 use Rattle.std.proofs.lemmas.Bool.{not-false as not_false}
 use Rattle.std.proofs.lemmas.List.{take_all, take_min, take-take}
 use Rattle.std.proofs.lemmas.Bool.Decides.{nat_tests}
+use Rattle.st_bits.specs.declared.limits.TheConstants.{MOST_CARDS}
 use Rattle.st_text.specs.Pieces.{IsFront, IsBehind}
 use Rattle.st_card.specs.Cards.{first_column, columns, is_blank, kind_of, fault_of, card_at, text_in, IsCardOf}
 use Rattle.st_text.specs.Bytes.{is_printable}
@@ -23,7 +24,7 @@ not_longer n test = grind (arith, nat_tests)
 -- a card without a fault is printable and short
 pub no_fault : (n : ℕ) (text : List ℕ) → fault_of n text ≡ None → (is_printable text ≡ true) × (length text ≤ 80)
 no_fault n text none =
-    let in_number = test_passed (nat_lt 20000 n) TooManyCards _ none in
+    let in_number = test_passed (nat_lt MOST_CARDS n) TooManyCards _ none in
     let ascii = test_passed (not (is_printable text)) NotAscii _ in_number.1 in
     let short = test_passed (nat_lt 80 (length text)) CardTooLong _ ascii.1 in
     (not_false (is_printable text) ascii.0, not_longer (length text) short.0)

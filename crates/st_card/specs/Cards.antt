@@ -2,6 +2,7 @@
 use Rattle.std.specs.Prelude.{◌≡◌, ◌≤◌, ℕ, ◌+◌, ◌==◌, ◌||◌, Bool, true, not, nat_lt, min, List, [], ◌∷◌, length, take, drop, Option, Some, None, if◌then◌else◌}
 use Rattle.std.specs.List.{list_all}
 use Rattle.std.specs.Str.Lines.{strip_carriage_return}
+use Rattle.st_bits.specs.declared.limits.TheConstants.{MOST_CARDS}
 use Rattle.st_text.specs.Bytes.{line_end, blank, asterisk, slash, is_printable}
 use Rattle.st_text.specs.Pieces.{pieces_of}
 use Rattle.st_card.specs.declared.faults.Fault.{Fault}
@@ -41,7 +42,7 @@ first_fault (row ∷ rows) = if row.0 then Some row.1 else first_fault rows
 -- the fault that the n-th card has by itself
 abbrev pub fault_of : ℕ → List ℕ → Option Fault
 fault_of n text = first_fault (
-    (nat_lt 20000 n, TooManyCards)
+    (nat_lt MOST_CARDS n, TooManyCards)
     ∷ (not (is_printable text), NotAscii)
     ∷ (nat_lt 80 (length text), CardTooLong)
     ∷ (not (is_column_1 (first_column text)), BadName)

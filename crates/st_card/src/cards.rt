@@ -8,11 +8,9 @@ ghost use Rattle.st_text.specs.Pieces.{pieces_of, IsFront, IsBehind};
 
 use crate::faults::Fault;
 use st_bits::NoMemory;
+use st_bits::limits::MOST_CARDS;
 use st_text::{cut, front};
 use std::alloc::Global;
-
-// How many cards a job may have.
-const MOST_CARDS: u32 = 20_000;
 
 // How many characters a card may have.
 const MOST_CHARACTERS: usize = 80;

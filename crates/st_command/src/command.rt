@@ -42,7 +42,7 @@ const MOST_WORDS: usize = 3;
 const MOST_DIGITS: usize = 20;
 
 // The most drawn cards of a made deck.
-const MOST_CARDS: u64 = 4_000;
+const MOST_MADE_CARDS: u64 = 4_000;
 
 // Whether a word may be an argument: it is not empty, and does not begin with `-`.
 fn is_plain(word: &str) -> bool
@@ -117,7 +117,7 @@ fn command_with_by(word: &str, number: &str, cards: &str) -> Option<Command>
         return None;
     }
     let number = number_by(number, 0, u64::MAX)?;
-    let cards = number_by(cards, 1, MOST_CARDS)?;
+    let cards = number_by(cards, 1, MOST_MADE_CARDS)?;
     Some(Command::Soak {
         number,
         cards: cards as u32,

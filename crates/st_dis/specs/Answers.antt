@@ -1,5 +1,6 @@
 -- What the disassembler answers.
 use Rattle.std.specs.Prelude.{◌≡◌, ◌<◌, ⊤}
+use Rattle.st_bits.specs.declared.limits.TheConstants.{MOST_CARDS}
 use Rattle.st_object.specs.Object.{Program}
 use Rattle.st_dis.specs.Deck.{card_count}
 use Rattle.st_dis.specs.declared.disassembling.DisError.{DisError}
@@ -7,5 +8,5 @@ use Rattle.st_dis.specs.declared.disassembling.DisError.TheVariants.{TooManyCard
 
 -- why there is no deck: it would have more than 20,000 cards, which are counted, or memory ran out
 abbrev pub Explains : Program → DisError → Type 0
-Explains p (TooManyCards cards) = (cards ≡ card_count p) × (20000 < cards)
+Explains p (TooManyCards cards) = (cards ≡ card_count p) × (MOST_CARDS < cards)
 Explains p NoMemory = ⊤

@@ -1,5 +1,6 @@
 -- What holds of the cards of a deck, and not of one call.
 use Rattle.std.specs.Prelude.{◌≡◌, ◌≤◌, ◌<◌, ◌*◌, ◌^◌, ◌++◌, ℕ, [], ◌∷◌, All, map, true, false, None, Some, Ok}
+use Rattle.st_bits.specs.declared.limits.TheConstants.{MOST_CARDS, WORDS}
 use Rattle.st_text.specs.Bytes.{line_end, is_printable}
 use Rattle.st_card.specs.Cards.{text_in, cards_of}
 use Rattle.st_text.specs.Pieces.{pieces_of}
@@ -23,7 +24,7 @@ StatementsLayTheirWord = (word : ℕ) → word < 2 ^ 64 →
 -- The card before a run of words sets the location to the first of them, and the end gives the
 -- start: both as bit addresses.
 pub record PlacesComeBack : Type 0 where
-  pub location : (w : ℕ) → w < 98304 →
+  pub location : (w : ℕ) → w < WORDS →
       statement_of [] (location_statement w) ≡ Ok (SetLocation (number_expr (64 * w)))
   pub start : (start : ℕ) → start < 2 ^ 19 →
       statement_of [] (end_text start) ≡ Ok (End (number_expr (32 * start)))
@@ -43,15 +44,15 @@ pub record CardsAreLines : Type 0 where
 -- An assembler cuts a deck that it can take into its cards: each has its text, and none has a fault
 -- by itself.
 pub record DecksAreCutIntoTheirCards : Type 0 where
-  pub texts : (p : Program) → IsProgram p → AreWords p.words → card_count p ≤ 20000 →
+  pub texts : (p : Program) → IsProgram p → AreWords p.words → card_count p ≤ MOST_CARDS →
       map (text_in (deck_text p)) (cards_of (deck_text p)) ≡ deck_cards p
-  pub good : (p : Program) → IsProgram p → AreWords p.words → card_count p ≤ 20000 →
+  pub good : (p : Program) → IsProgram p → AreWords p.words → card_count p ≤ MOST_CARDS →
       All (λ card. card.fault ≡ None) (cards_of (deck_text p))
 
 -- The deck of a program assembles to the program: the same words of storage, the same start, and
 -- the same that is asked for.
 abbrev pub DecksAssembleToTheirProgram : Type 0
 DecksAssembleToTheirProgram = (p : Program) → IsProgram p → AreWords p.words → card_count p
-    ≤ 20000 →
+    ≤ MOST_CARDS →
     (a : Assembly) × (assembly (deck_text p) ≡ Ok a) × (a.image ≡ p.words) × (a.start ≡ p.start)
     × (a.asked ≡ p.controls)

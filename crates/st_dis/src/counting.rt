@@ -1,6 +1,7 @@
 //! How many cards a deck has.
 
 ghost use Rattle.std.specs.Prelude.{◌≡◌, ◌≤◌, ◌+◌, ◌*◌, ℕ, List, [], length, if◌then◌else◌};
+ghost use Rattle.st_bits.specs.declared.limits.TheConstants.{WORDS};
 ghost use Rattle.st_card.specs.Limits.{IsWithinLimits};
 ghost use Rattle.st_card.specs.Written.{where_asked};
 ghost use Rattle.st_dis.specs.Deck as spec;
@@ -45,9 +46,9 @@ fn count_placed(symbols: &Symbols, before: u64, word: u64) -> u32
 // How many cards words have.
 fn count_words(symbols: &Symbols, words: &[u64]) -> u32
     requires symbols { symbols.now ≡ [] }
-    requires few { length words.now ≤ 98304 }
+    requires few { length words.now ≤ WORDS }
     ensures count { result ≡ length (spec.word_cards 0 0 words.now) }
-    ensures few { result ≤ 3 * 98304 }
+    ensures few { result ≤ 3 * WORDS }
 {
     let mut count = 0;
     let mut before = 0;
@@ -93,7 +94,7 @@ fn count_shows(controls: &Controls) -> u32
 #[tactic(auto, unfolding(crate::specs::Deck::card_count))]
 pub(crate) fn card_count(symbols: &Symbols, words: &[u64], start: u32, controls: &Controls) -> u32
     requires symbols { symbols.now ≡ [] }
-    requires few { length words.now ≤ 98304 }
+    requires few { length words.now ≤ WORDS }
     requires limits { IsWithinLimits controls.now }
     ensures { result ≡ spec.card_count (spec.program words.now start controls.now) }
 {

@@ -1,18 +1,17 @@
 //! A program as a deck.
 
 ghost use Rattle.std.specs.Prelude.{◌≡◌, ◌≤◌, IfOk, IfErr, length};
+ghost use Rattle.st_bits.specs.declared.limits.TheConstants.{LONGEST_JOB, MOST_CARDS};
 ghost use Rattle.st_object.specs.Object.{IsProgram, AreWords};
 ghost use Rattle.st_dis.specs.Deck.{program, deck_text, card_count};
 ghost use Rattle.st_dis.specs.Answers.{Explains};
 
 use crate::counting::card_count;
 use crate::writing::push_deck;
+use st_bits::limits::MOST_CARDS;
 use st_card::Controls;
 use st_expr::Symbols;
 use std::alloc::Global;
-
-// The most cards that a deck has.
-const MOST_CARDS: u32 = 20_000;
 
 /// Why a program has no deck.
 #[derive(Clone, Copy, Debug, PartialEq, Eq)]
@@ -40,9 +39,9 @@ pub fn disassemble(
     ensures deck { let p = program words.now start controls.now in
         IfOk result (λ deck. deck.items ≡ deck_text p) }
     ensures few { let p = program words.now start controls.now in
-        IfOk result (λ deck. card_count p ≤ 20000) }
+        IfOk result (λ deck. card_count p ≤ MOST_CARDS) }
     ensures err { IfErr result (Explains (program words.now start controls.now)) }
-    ensures short { IfOk result (λ deck. length deck.items ≤ 2000000) }
+    ensures short { IfOk result (λ deck. length deck.items ≤ LONGEST_JOB) }
 {
     know_words(words);
     let symbols = Symbols::new(alloc);

@@ -1,6 +1,7 @@
 //! Writing a deck.
 
 ghost use Rattle.std.specs.Prelude.{◌≡◌, ◌≤◌, ◌++◌, [], ◌∷◌, OnOk, map, codes, decimal, length};
+ghost use Rattle.st_bits.specs.declared.limits.TheConstants.{WORDS};
 ghost use Rattle.st_dis.specs.Deck as spec;
 ghost use Rattle.st_dis.specs.Spelling.{statements_of};
 
@@ -97,7 +98,7 @@ fn push_placed(
 // Appends the cards of words.
 fn push_words(deck: &mut Vec<u8>, symbols: &Symbols, words: &[u64]) -> Result<(), AllocError>
     requires symbols { symbols.now ≡ [] }
-    requires few { length words.now ≤ 98304 }
+    requires few { length words.now ≤ WORDS }
     ensures { OnOk result (deck.new.items
         ≡ deck.old.items ++ spec.deck_of (spec.word_cards 0 0 words.now)) }
 {
@@ -131,7 +132,7 @@ fn push_program(
     start: u32,
 ) -> Result<(), AllocError>
     requires symbols { symbols.now ≡ [] }
-    requires few { length words.now ≤ 98304 }
+    requires few { length words.now ≤ WORDS }
     ensures { let cards = spec.word_cards 0 0 words.now
         ++ spec.statement_card (spec.end_text start) ∷ [] in
         OnOk result (deck.new.items ≡ deck.old.items ++ spec.deck_of cards) }
@@ -150,7 +151,7 @@ pub(crate) fn push_deck(
     controls: &Controls,
 ) -> Result<(), AllocError>
     requires symbols { symbols.now ≡ [] }
-    requires few { length words.now ≤ 98304 }
+    requires few { length words.now ≤ WORDS }
     ensures { let p = spec.program words.now start controls.now in
         OnOk result (deck.new.items ≡ deck.old.items ++ spec.deck_text p) }
 {

@@ -141,6 +141,8 @@ fn next_changed(old: &Vec<u64>, state: &State, may: &Changeable, w: u32) -> u32
     requires most { w ≤ WORDS }
     requires left { (v : ℕ) → w ≤ v → v < WORDS → IsLeft v may.now →
         slice_index old.now.items v ≡ word_of state.now v }
+
+    // No word before it may have changed.
     ensures least { w ≤ result }
     ensures most { result ≤ WORDS }
     ensures between { (v : ℕ) → w ≤ v → v < result →

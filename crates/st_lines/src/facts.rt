@@ -360,6 +360,8 @@ fn write_waits<K: Sink>(
     ensures lines { WritesLines (K.output out.old) (K.output out.new)
         (charged_lines uses.now before.now (charges_behind done.now.before
         (parts_of_row done.now.start done.now.row.ticks)) ++ late_entry_lines done.now) result }
+
+    // What its waits leave of the sums.
     ensures within { IsOk result → AreWaitsWithin
         (done.now.before + all_ticks (charges_behind done.now.before
         (parts_of_row done.now.start done.now.row.ticks))) waiting.new.totals }
@@ -398,6 +400,8 @@ fn write_spent<K: Sink>(
         ++ facts_lines done.now.n done.now.end p.now known.now done.now.origin uses.now)
         ++ (charged_lines uses.now before.now (charges_behind done.now.before
         (parts_of_row done.now.start done.now.row.ticks)) ++ late_entry_lines done.now)) result }
+
+    // What its waits leave of the sums.
     ensures within { IsOk result → AreWaitsWithin
         (done.now.before + all_ticks (charges_behind done.now.before
         (parts_of_row done.now.start done.now.row.ticks))) waiting.new.totals }
@@ -427,6 +431,8 @@ pub fn write_done<K: Sink>(
     requires within { AreWaitsWithin done.now.before waiting.old.totals }
     ensures lines { WritesLines (K.output out.old) (K.output out.new)
         (done_entry_lines done.now p.now known.now uses.now before.now) result }
+
+    // What its waits leave of the sums.
     ensures within { IsOk result → AreWaitsWithin
         (done.now.before + all_ticks (charges_behind done.now.before
         (parts_of_row done.now.start done.now.row.ticks))) waiting.new.totals }

@@ -152,6 +152,8 @@ fn write_part<K: Sink>(
     requires within { AreWaitsWithin from waiting.old.totals }
     ensures lines { WritesLines (K.output out.old) (K.output out.new)
         (charged_lines uses.now before.now (part_charges from part)) result }
+
+    // What its waits leave of the sums.
     ensures within { IsOk result → AreWaitsWithin (max from part.end) waiting.new.totals }
     ensures sums { IsOk result → (r : StageOf) (s : StallOf) → is_parted r ≡ true →
         waited_at r s waiting.new.totals ≡ waited_at r s waiting.old.totals
@@ -185,6 +187,8 @@ fn write_parts<K: Sink>(
     requires within { AreWaitsWithin from waiting.old.totals }
     ensures lines { WritesLines (K.output out.old) (K.output out.new)
         (charged_lines uses.now before.now (charges_behind from parts.now)) result }
+
+    // What its waits leave of the sums.
     ensures within { IsOk result →
         AreWaitsWithin (from + all_ticks (charges_behind from parts.now)) waiting.new.totals }
     ensures sums { IsOk result → (r : StageOf) (s : StallOf) → is_parted r ≡ true →
@@ -217,6 +221,8 @@ pub fn write_charged<K: Sink>(
     ensures lines { WritesLines (K.output out.old) (K.output out.new)
         (charged_lines uses.now before.now (charges_behind done (parts_of_row start row.now)))
         result }
+
+    // What its waits leave of the sums.
     ensures within { IsOk result → AreWaitsWithin
         (done + all_ticks (charges_behind done (parts_of_row start row.now))) waiting.new.totals }
     ensures sums { IsOk result → (r : StageOf) (s : StallOf) → is_parted r ≡ true →

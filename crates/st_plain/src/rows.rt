@@ -89,6 +89,8 @@ fn fetch_all(
     requires tight { IsTight MOST_DELAY front.now }
     requires early { front.now.c ≤ 2 ^ 63 + 2 ^ 20 }
     requires space { length uses.old.items + 4 ≤ 48 }
+
+    // The words fetched, the log of their reads, and their uses.
     ensures words { words.new ≡ words_tick delays.now front.now entry.now }
     ensures log { log.new
         ≡ log_after_reads delays.now

@@ -93,6 +93,8 @@ pub(crate) fn make_rows<const N: usize>(run: &mut Progress<N>, rows: &mut RowQue
     requires run { IsUnderWay run.old }
     requires none { rows.old.rows ≡ [] }
     requires shut { rows.old.room ≡ 0 }
+
+    // What is told, and what the run is then.
     ensures kept { IsUnderWay run.new }
     ensures shut { rows.new.room ≡ 0 }
     ensures told { rest_behind run.old ≡ rows_then rows.new.rows (rest_behind run.new) }
@@ -206,6 +208,8 @@ fn go<const N: usize>(run: &mut Progress<N>, rows: &mut RowQueue) -> TimedRunEve
     requires turn { run.old.turn ≡ turns.Before }
     requires waits { IsTold run.old }
     requires shut { rows.old.room ≡ 0 }
+
+    // What is told, and what the run is then.
     ensures rows { rows.new ≡ rows.old }
     ensures kept { IsUnderWay run.new }
     ensures told { told_ahead run.old ≡ told_by result run.new ∷ rest_behind run.new }

@@ -22,6 +22,8 @@ pub(crate) fn run_until<const N: usize>(
     requires in_time { (oldest_row driven.old.machine).c < 2 ^ 63 }
     requires few { driven.old.machine.state.done < 2 ^ 63 }
     requires snap { IfSome snap (λ x. driven.old.machine.now - 1 ≤ x) }
+
+    // What is made.
     ensures made { AreMade result snap driven.old driven.new }
     ensures rows { rows.old.room ≡ 0 → rows.new ≡ rows.old }
 {

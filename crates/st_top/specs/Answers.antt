@@ -1,5 +1,6 @@
 -- What each answer of the program says: when it comes, and what was read and written.
 use Rattle.std.specs.Prelude.{◌≡◌, ℕ, ◌+◌, ◌*◌, ◌≤◌, List, All, Option, None, Some}
+use Rattle.st_bits.specs.declared.limits.TheConstants.{LONGEST_JOB}
 use Rattle.st_io.specs.Count.{HasRisen}
 use Rattle.st_io.specs.Input.{InputState, CameWhole, CameWithin, CamePast}
 use Rattle.st_io.specs.Output.{OutputState, Wrote}
@@ -11,10 +12,6 @@ use Rattle.st_top.specs.declared.answer.Status.{Status}
 use Rattle.st_top.specs.declared.answer.Status.TheVariants.{Done, Refused, Usage, JobTooLong, ReadFault, WriteFault, NoMemory}
 use Rattle.st_command.specs.declared.command.Command.{Command}
 use Rattle.st_command.specs.declared.command.Command.TheVariants.{Run, Assemble, Load, Disassemble, Sweep, Soak}
-
--- the longest job, in bytes
-abbrev pub job_limit : ℕ
-job_limit = 2000000
 
 -- nothing ran
 pub record NothingRan (answer : Answer) : Type 0 where
@@ -52,7 +49,7 @@ pub record WroteOutput (command : Command) (status : Status) (input input' : Inp
     (before after : OutputState)
     (answer : Answer) : Type 0 where
   pub job : List ℕ
-  pub read : CameWhole input input' job_limit job
+  pub read : CameWhole input input' LONGEST_JOB job
   pub written : Writes status before after (output_of command job) answer
   pub in_time : KeepsTime (delays_of command job) answer
 
@@ -66,13 +63,13 @@ Did command Refused input input' before after answer =
 Did command WriteFault input input' before after answer =
     WroteOutput command WriteFault input input' before after answer
 Did command JobTooLong input input' before after answer =
-    CamePast input input' job_limit × (input'.faults ≡ input.faults) × (after ≡ before)
+    CamePast input input' LONGEST_JOB × (input'.faults ≡ input.faults) × (after ≡ before)
     × NothingRan answer
 Did command ReadFault input input' before after answer =
-    CameWithin input input' job_limit × HasRisen input.faults input'.faults × (after ≡ before)
+    CameWithin input input' LONGEST_JOB × HasRisen input.faults input'.faults × (after ≡ before)
     × NothingRan answer
 Did command NoMemory input input' before after answer =
-    CameWithin input input' job_limit × (input'.faults ≡ input.faults) × (after ≡ before)
+    CameWithin input input' LONGEST_JOB × (input'.faults ≡ input.faults) × (after ≡ before)
     × NothingRan answer
 Did command Usage input input' before after answer = ⊥
 

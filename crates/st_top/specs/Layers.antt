@@ -1,5 +1,6 @@
 -- What the errors of the layers below say of a command that reads a job.
 use Rattle.std.specs.Prelude.{◌≡◌, ℕ, List, Result, Ok, Err}
+use Rattle.st_bits.specs.declared.limits.TheConstants.{LONGEST_JOB}
 use Rattle.st_asm.specs.declared.stop.AsmError.{AsmError}
 use Rattle.st_asm.specs.declared.stop.AsmError.TheVariants.{Refused as AsmRefused, NoMemory as AsmNoMemory}
 use Rattle.st_object.specs.declared.reading.ObjectError.{ObjectError}
@@ -12,7 +13,7 @@ use Rattle.st_io.specs.Input.{InputState, CameWhole, CameWithin, CamePast}
 use Rattle.st_io.specs.Output.{OutputState}
 use Rattle.st_io.specs.declared.source.ReadError.{ReadError}
 use Rattle.st_io.specs.declared.source.ReadError.TheVariants.{TooLong as ReadTooLong, Failed, NoMemory as ReadNoMemory}
-use Rattle.st_top.specs.Answers.{Writes, KeepsTime, job_limit}
+use Rattle.st_top.specs.Answers.{Writes, KeepsTime}
 use Rattle.st_top.specs.Output.{Output, output_of, delays_of, refusal_output}
 use Rattle.st_top.specs.declared.answer.Answer.{Answer}
 use Rattle.st_command.specs.declared.command.Command.{Command}
@@ -59,7 +60,7 @@ Ends before after output delays (Err e) = (after ≡ before) × Halts output e
 pub record EndsOnJob (command : Command) (input input' : InputState) (before after : OutputState)
     (result : Result Answer LayerError) : Type 0 where
   pub job : List ℕ
-  pub read : CameWhole input input' job_limit job
+  pub read : CameWhole input input' LONGEST_JOB job
   pub ends : Ends before after (output_of command job) (delays_of command job) result
 
 -- how a command ends that reads a job
@@ -70,8 +71,8 @@ Tries command input input' before after (Ok answer) = EndsOnJob command input in
 Tries command input input' before after (Err (Refused card fault)) =
     EndsOnJob command input input' before after (Err (Refused card fault))
 Tries command input input' before after (Err TooLong) =
-    CamePast input input' job_limit × (input'.faults ≡ input.faults) × (after ≡ before)
+    CamePast input input' LONGEST_JOB × (input'.faults ≡ input.faults) × (after ≡ before)
 Tries command input input' before after (Err Unread) =
-    CameWithin input input' job_limit × HasRisen input.faults input'.faults × (after ≡ before)
+    CameWithin input input' LONGEST_JOB × HasRisen input.faults input'.faults × (after ≡ before)
 Tries command input input' before after (Err NoMemory) =
-    CameWithin input input' job_limit × (input'.faults ≡ input.faults) × (after ≡ before)
+    CameWithin input input' LONGEST_JOB × (input'.faults ≡ input.faults) × (after ≡ before)

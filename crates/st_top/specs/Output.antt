@@ -1,5 +1,6 @@
 -- What the program writes for a command and a job.
 use Rattle.std.specs.Prelude.{ℕ, slice_index, List, [], ◌∷◌, ◌++◌, nat_le, if◌then◌else◌, Option, None, Some, Result, Ok, Err}
+use Rattle.st_bits.specs.declared.limits.TheConstants.{MOST_CARDS}
 use Rattle.st_card.specs.Controls.{Asked}
 use Rattle.st_card.specs.Faults.{name_of}
 use Rattle.st_asm.specs.Pass.{Refusal}
@@ -113,7 +114,7 @@ loaded_by (Err n) = refusal_output (record { card = n; fault = BadObjectCard })
 -- the deck of a program, line by line, or the refusal of the first card that is too many
 abbrev pub deck_by : Program → Output
 deck_by p =
-    if nat_le (card_count p) 20000 then lines_alone Done (deck_lines p)
+    if nat_le (card_count p) MOST_CARDS then lines_alone Done (deck_lines p)
     else refusal_output (record { card = 20001; fault = TooManyCards })
 
 -- the output of `disassemble`, by what an object text holds: its deck, or the number of its bad

@@ -2,6 +2,7 @@
 ghost use Rattle.std.specs.Prelude.{◌≡◌, ◌<◌, ◌≤◌, ◌^◌, None, false, map, length};
 ghost use Rattle.std.specs.List.{list_all};
 ghost use Rattle.std.specs.String.{string_bytes};
+ghost use Rattle.st_bits.specs.declared.limits.TheConstants.{LONGEST_JOB};
 ghost use Rattle.st_asm.specs.Assembly.{assembly};
 ghost use Rattle.st_command.specs.Command.{command_of, IsWithinCards};
 ghost use Rattle.st_command.specs.CommandLine.{is_plain};
@@ -18,15 +19,13 @@ use crate::objects::{answer_deck, answer_object, image_of};
 use crate::refusal::refuse;
 use crate::sweeping::execute_sweep;
 use st_asm::{assemble, assemble_cards};
+use st_bits::limits::LONGEST_JOB;
 use st_card::split;
 use st_command::{Command, read_words};
 use st_gen::make_deck;
 use st_io::{Sink, Source, read_all};
 use st_object::read_object;
 use std::alloc::Global;
-
-// The longest job, in bytes.
-const JOB_LIMIT: u32 = 2_000_000;
 
 // Assembles a job, made by a seed with a number of cards or not, and runs it. Its cards are cut
 // once.
@@ -62,7 +61,7 @@ fn assemble_job<K: Sink>(alloc: Global, job: &[u8], out: &mut K) -> Result<Answe
 // Loads an object text and runs it.
 #[tactic(auto, unfolding(crate::specs::Output::output_of, crate::specs::Output::delays_of))]
 fn load_job<K: Sink>(alloc: Global, text: &[u8], out: &mut K) -> Result<Answer, LayerError>
-    requires { length text.now ≤ 2000000 }
+    requires { length text.now ≤ LONGEST_JOB }
     ensures { Ends (K.output out.old) (K.output out.new) (output_of Load text.now)
         (delays_of Load text.now) result }
 {
@@ -73,7 +72,7 @@ fn load_job<K: Sink>(alloc: Global, text: &[u8], out: &mut K) -> Result<Answer, 
 // Reads an object text and writes its deck.
 #[tactic(auto, unfolding(crate::specs::Output::output_of, crate::specs::Output::delays_of))]
 fn disassemble_text<K: Sink>(alloc: Global, text: &[u8], out: &mut K) -> Result<Answer, LayerError>
-    requires { length text.now ≤ 2000000 }
+    requires { length text.now ≤ LONGEST_JOB }
     ensures { Ends (K.output out.old) (K.output out.new) (output_of Disassemble text.now)
         (delays_of Disassemble text.now) result }
 {
@@ -119,7 +118,7 @@ fn try_job<K: Sink>(
     job: &[u8],
     out: &mut K,
 ) -> Result<Answer, LayerError>
-    requires job { length job.now ≤ 2000000 }
+    requires job { length job.now ≤ LONGEST_JOB }
     requires cards { IsWithinCards command }
     ensures { Ends (K.output out.old) (K.output out.new) (output_of command job.now)
         (delays_of command job.now) result }
@@ -145,7 +144,7 @@ fn try_command<S: Source, K: Sink>(
     ensures { Tries command (S.input job.old) (S.input job.new) (K.output out.old)
         (K.output out.new) result }
 {
-    let text = read_all(alloc, job, JOB_LIMIT)?;
+    let text = read_all(alloc, job, LONGEST_JOB)?;
     try_job(alloc, command, text.as_slice(), out)
 }
 
