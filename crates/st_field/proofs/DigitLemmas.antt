@@ -1,8 +1,9 @@
 -- Decimal digits and their value, from one place to the next.
-use Rattle.std.proofs.Common.{lit≤, lit<, ◌≡◌, ℕ, zero, suc, ◌+◌, ◌-◌, ◌*◌, ◌/◌, ◌%◌, ◌^◌, ◌<◌, ◌≤◌, refl, sym, ap, arith, add-one, ◌∙◌}
+use Rattle.std.proofs.Common.{inl, inr, lit≤, lit<, ◌≡◌, ◌≢◌, ℕ, zero, suc, ◌+◌, ◌-◌, ◌*◌, ◌/◌, ◌%◌, ◌^◌, ◌<◌, ◌≤◌, refl, sym, ap, arith, add-one, ◌∙◌}
 use native.Mathlib.Numerals.{unary_clauses}
+use Rattle.std.proofs.lemmas.Bool.{cases_lt}
 use Rattle.std.proofs.lemmas.Nat.{pow-add, div-mul-add}
-use Rattle.std.proofs.Math.Nat.{pow-suc, pow-succ', mul-le-mul, pow-le-pow_right, div-div-eq-div-mul, mod-eq_of_lt, add-mul-div_right, add-mul-mod_self_right, zero-div}
+use Rattle.std.proofs.Math.Nat.{pow-suc, pow-succ', mul-le-mul, pow-le-pow_right, div-div-eq-div-mul, mod-eq_of_lt, add-mul-div_right, add-mul-mod_self_right, zero-div, div-eq_of_lt}
 use Rattle.std.proofs.Math.Arith.{mod-mul}
 use Rattle.st_field.specs.Digits.{code_at, value_of_digits, digits_of}
 use Rattle.st_field.proofs.FieldLemmas.{digit_below}
@@ -115,6 +116,15 @@ value_of-none d n (suc k) h =
     let none : d / 16 ^ (n + k) ≡ 0 = rest-none d 16 n k h in
     let rest : value_of_digits (n + k) d ≡ value_of_digits n d = value_of-none d n k h in
     ap (λ m. value_of_digits m d) next ∙ rw none (omega (arith, rest))
+
+-- where something is left of 128 bits, fewer than 32 digits are behind
+pub some-left : (d n : ℕ) → d < 2 ^ 128 → d / 16 ^ n ≢ 0 → n < 32
+some-left d n bound left = elim (cases_lt n 32) [
+    | inl few ↦ few
+    | inr all ↦
+      let power : 16 ^ 32 ≤ 16 ^ n = pow-le-pow_right {n = 16} (lit< tt) all in
+      absurd (left (div-eq_of_lt (omega (arith, power, bound))))
+  ]
 
 -- the value of 32 digits is that of the first n, where nothing is left
 pub value_of-stop : (d n : ℕ) → n ≤ 32 → d / 16 ^ n ≡ 0 → value_of_digits 32 d ≡ value_of_digits n d

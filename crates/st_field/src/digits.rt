@@ -9,10 +9,7 @@ pub fn digits_value(digits: u128) -> u128
     let mut value = 0;
     let mut rest = digits;
     let mut weight = 1;
-    for _place in 0..32u32 {
-        if rest == 0 {
-            return value;
-        }
+    'places: while rest != 0 {
         value += rest % 16 * weight;
         rest /= 16;
         weight *= 10;
