@@ -1,6 +1,6 @@
 -- What kept a row from being prepared earlier: where the path ends that goes back from its
 -- completion. Words stand youngest first: those of the row, and those of the row before it.
-use Rattle.std.specs.Prelude.{ℕ, zero, suc, ◌+◌, ◌-◌, Bool, ◌&&◌, ◌||◌, nat_eq, nat_le, nat_lt, if◌then◌else◌, List, [], ◌∷◌, length, reverse, Option, None, Some}
+use Rattle.std.specs.Prelude.{ℕ, ◌-◌, Bool, ◌&&◌, ◌||◌, nat_eq, nat_le, nat_lt, if◌then◌else◌, List, [], ◌∷◌, find, length, reverse, Option, None, Some, unwrap_or}
 use Rattle.std.specs.List.{list_any}
 use Rattle.st_bits.specs.declared.register.TheConstants.{FIRST_STORAGE_WORD}
 use Rattle.st_rows.specs.Entries.{latest_done}
@@ -25,16 +25,10 @@ abbrev pub row_reason : Reason → ℕ → ℕ → ℕ → Because
 row_reason reason back tick late =
     Earlier (record { reason = reason; back = back; tick = tick; late = late })
 
--- how many entries before, from the k-th on of so many, the one lies that is done at the tick t; 0
--- where there is none
-unfoldable pub back_from : ℕ → List Past → ℕ → ℕ → ℕ
-back_from t past k zero = 0
-back_from t past k (suc left) = if nat_eq (done_before k past) t then k
-    else back_from t past (k + 1) left
-
--- among the last eight
+-- how many entries before the one lies that is done at the tick t, 1 to 8; 0 where there is none
 abbrev pub back_to : ℕ → List Past → ℕ
-back_to t past = back_from t past 1 8
+back_to t past = unwrap_or (find (λ k. nat_eq (done_before k past) t)
+    (1 ∷ 2 ∷ 3 ∷ 4 ∷ 5 ∷ 6 ∷ 7 ∷ 8 ∷ [])) 0
 
 -- no entry of the segment lies before it
 abbrev pub is_first : Front → Bool

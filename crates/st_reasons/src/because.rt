@@ -1,9 +1,9 @@
 //! What kept a row from being prepared earlier.
-ghost use Rattle.std.specs.Prelude.{◌≡◌, ◌+◌, ◌-◌, ◌≤◌, ◌<◌, ◌∷◌, ◌++◌, [], reverse, length, if◌then◌else◌, ◌&&◌, ◌||◌, Some, None, MatchOption, IfSome};
+ghost use Rattle.std.specs.Prelude.{◌≡◌, ◌+◌, ◌-◌, ◌≤◌, ◌<◌, ◌∷◌, ◌++◌, [], nat_eq, find, reverse, length, if◌then◌else◌, ◌&&◌, ◌||◌, Some, None, All, MatchOption, IfSome, unwrap_or};
 ghost use Rattle.st_reasons.specs.declared.because.Because.TheVariants.{Prefetch as PrefetchOf};
 ghost use Rattle.std.specs.List.{list_any};
 ghost use Rattle.st_rows.specs.Rows.{done_before};
-ghost use Rattle.st_reasons.specs.Reasons.{row_reason, back_from, back_to as back_by, is_first as is_first_of, is_written as is_written_of, is_stored as is_stored_of, reason_done, reason_in_order, reason_of_bus, reason_of_words, reason_of_address, writer_of as writer_by, side_writer as side_writer_of, reason_of_side, because as because_of};
+ghost use Rattle.st_reasons.specs.Reasons.{row_reason, back_to as back_by, is_first as is_first_of, is_written as is_written_of, is_stored as is_stored_of, reason_done, reason_in_order, reason_of_bus, reason_of_words, reason_of_address, writer_of as writer_by, side_writer as side_writer_of, reason_of_side, because as because_of};
 
 use crate::uses::{decides, is_index, is_instruction, is_read, last_use, read_of};
 use st_bits::register::FIRST_STORAGE_WORD;
@@ -72,27 +72,29 @@ fn earlier_reason(reason: Reason, back: u8, tick: u64, late: u64) -> Because
     })
 }
 
-// How many entries before the one lies that is done at the tick, from `k` on and up to 8; 0 where
-// there is none.
-#[tactic(auto, unfolding(crate::specs::Reasons::back_from))]
-fn back_of(t: u64, past: &LastEntries, k: u8) -> u8
-    requires { (1 ≤ k) × (k ≤ 9) }
-    ensures { result ≡ back_from t past.now k (9 - k) }
+// The first of some numbers from 1 to 8 for which the entry so many before is done at the tick; 0
+// where there is none.
+fn first_done(t: u64, past: &LastEntries, numbers: &[u8]) -> u8
+    requires { All (λ k. (1 ≤ k) × (k ≤ 8)) numbers.now }
+    ensures { result
+        ≡ unwrap_or (find (λ k. nat_eq (done_before k past.now) t) numbers.now) 0 }
 {
-    if k == 9 {
-        return 0;
+    match numbers {
+        [k, more @ ..] => {
+            if past.done_before(usize::from(*k)) == t {
+                return *k;
+            }
+            first_done(t, past, more)
+        }
+        [] => 0,
     }
-    if past.done_before(usize::from(k)) == t {
-        return k;
-    }
-    back_of(t, past, k + 1)
 }
 
-// The same among the last eight.
+// How many entries before the one lies that is done at the tick, 1 to 8; 0 where there is none.
 fn back_to(t: u64, past: &LastEntries) -> u8
     ensures { result ≡ back_by t past.now }
 {
-    back_of(t, past, 1)
+    first_done(t, past, &[1, 2, 3, 4, 5, 6, 7, 8])
 }
 
 // Whether an entry is the first one of its segment.
