@@ -22,7 +22,7 @@ use Rattle.st_ahead.specs.Overlap.{Overlap, state_ahead, oldest_row, interrupt_d
 use Rattle.st_ahead.specs.Calls.{is_done, row_done, machine_after_completion, machine_after_tick, machine_after_pass, machine_after_settling, answer, answer_by}
 use Rattle.st_ahead.specs.RunTo.{may_come, ArePassed, may_come_from_outside}
 use Rattle.st_ahead.specs.RowsDone.{Queue, queue_with, rows_in_ticks}
-use Rattle.st_ahead.specs.Running.{IsAwake, IsRunning, HasPassed}
+use Rattle.st_ahead.specs.Running.{IsAwake, HasPassed}
 use Rattle.st_ahead.specs.Look.{LookView, IsLook, IsOutlook, count}
 use Rattle.st_ahead.specs.Going.{IsGoing, IsDueAt}
 use Rattle.st_ahead.specs.Inside.{answers_before}
@@ -96,6 +96,19 @@ move : (ds : List ℕ) (n count k j now to at : ℕ) (t x : Option ℕ) (s u : M
 move ds n count k j now to at t x s u f g same there are =
     subst (λ (i : ℕ). ArePassed count j (machine_between_ticks ds n s t f now) (machine_between_ticks ds n u x g i)) there
     (subst (λ (i : ℕ). ArePassed count i (machine_between_ticks ds n s t f now) (machine_between_ticks ds n u x g to)) same are)
+
+-- from the tick `now` on all ticks are passed up to a tick, `last` at the latest; v runs ahead of
+-- the state u, and k says whether its next entry is a table instruction
+pub record IsRunning (ds : List ℕ) (n count last now : ℕ) (t : Option ℕ) (s : Machine) (f : Front)
+    (k : Option ℕ) (u : Machine) (v : LookView) : Type 0 where
+  pub tick : ℕ
+  pub front : Front
+  pub passed : ArePassed count (tick + 1 - now) (machine_between_ticks ds n s t f now)
+      (machine_between_ticks ds n u k front (tick + 1))
+  pub behind : now ≤ tick + 1
+  pub soon : tick ≤ last
+  pub awake : IsAwake k u
+  pub going : IsGoing ds n tick tick k u front v
 
 pub running-idle : (ds : List ℕ) (n count last now to : ℕ) (t k : Option ℕ) (s u : Machine) (f : Front) (v : LookView)
     (is : IsRunning ds n count last now t s f k u v) → is.tick < to → to ≤ (row_of_entry ds n is.front (entry k u)).c

@@ -9,7 +9,6 @@ use Rattle.st_ahead.specs.Overlap.{machine_between_ticks, banks_at_its_end}
 use Rattle.st_ahead.specs.Calls.{machine_after_tick, answer}
 use Rattle.st_ahead.specs.RunTo.{may_come, ArePassed}
 use Rattle.st_ahead.specs.Look.{LookView, IsLook}
-use Rattle.st_ahead.specs.Going.{IsGoing}
 use Rattle.st_ahead.specs.Ticked.{IsDoneAt}
 use Rattle.st_ahead.specs.Inside.{answers_before}
 use Rattle.st_ahead.specs.declared.look_run.Stop.{Stop}
@@ -19,19 +18,6 @@ use Rattle.st_ahead.specs.declared.events.Settled.TheVariants.{Goes}
 pub record IsAwake (t : Option ℕ) (s : Machine) : Type 0 where
   pub due : (if is_none t then interrupt s else None) ≡ None
   pub goes : rests s ≡ false
-
--- from the tick `now` on all ticks are passed up to a tick, `last` at the latest; v runs ahead of
--- the state u, and k says whether its next entry is a table instruction
-pub record IsRunning (ds : List ℕ) (n count last now : ℕ) (t : Option ℕ) (s : Machine) (f : Front)
-    (k : Option ℕ) (u : Machine) (v : LookView) : Type 0 where
-  pub tick : ℕ
-  pub front : Front
-  pub passed : ArePassed count (tick + 1 - now) (machine_between_ticks ds n s t f now)
-      (machine_between_ticks ds n u k front (tick + 1))
-  pub behind : now ≤ tick + 1
-  pub soon : tick ≤ last
-  pub awake : IsAwake k u
-  pub going : IsGoing ds n tick tick k u front v
 
 -- there is such a start
 pub record Starts (ds : List ℕ) (n last : ℕ) (t : Option ℕ) (s : Machine)

@@ -29,13 +29,13 @@ use Rattle.st_segment.specs.Entries.{entry}
 use Rattle.st_segment.proofs.EntryRanges.{entry-ranges}
 use Rattle.st_next.specs.Words.{words_alone, words_so_far, asked_so_far}
 use Rattle.st_next.specs.Progress.{IsKnown, reads_so_far}
-use Rattle.st_next.specs.Going.{IsFrontInTime, IsEarly, IsReadFurther, IsPlannedAs, entry_seen}
+use Rattle.st_next.specs.Going.{IsFrontInTime, IsEarly, IsReadFurther, entry_seen}
 use Rattle.st_next.specs.declared.next.Next.{Next}
 use Rattle.st_next.proofs.Starts.{IsNextOwn, IsNextTarget, word-behind}
 use Rattle.st_next.proofs.Contents.{words-entry}
 use Rattle.st_next.proofs.WordByWord.{want_of, read_of, own-asked, target-asked}
 use Rattle.st_next.proofs.Late.{IsLate}
-use Rattle.st_next.proofs.Steps.{what, comes-own, comes-target, comes-all, with_own, with_target, sight-same, entry-same}
+use Rattle.st_next.proofs.Steps.{IsPlannedAs, what, comes-own, comes-target, comes-all, with_own, with_target, sight-same, entry-same}
 
 -- ---- when they are wanted
 

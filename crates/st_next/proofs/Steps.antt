@@ -22,7 +22,7 @@ use Rattle.st_segment.proofs.KnownEarly.{known-early}
 use Rattle.st_next.specs.Words.{run_with_word, words_so_far}
 use Rattle.st_next.specs.Known.{IsStateBefore}
 use Rattle.st_next.specs.Progress.{IsReadOn, IsPlanned, IsPlannedIf, Rests, Planned, Waits, Target}
-use Rattle.st_next.specs.Going.{GoesOnTo, IsPlannedAs, IsPreparedBy, entry_seen, prepared_as}
+use Rattle.st_next.specs.Going.{GoesOnTo, IsPreparedBy, entry_seen, prepared_as}
 use Rattle.st_next.specs.declared.next.Next.{Next}
 use Rattle.st_next.proofs.Starts.{IsNextOwn, own-more, IsNextTarget, target-more, word-behind, IsAll}
 use Rattle.st_next.proofs.Given.{contents_of, gives-own, gives-target, gives-all}
@@ -90,6 +90,22 @@ entry-whole t u own target o g =
 pub entry-same : (t : Option ℕ) (u : Machine) (own target : WordRun) (v : Sight) → own ≡ (entry t u).own → target ≡ (entry t u).target
     → v ≡ sight u (place_of u t) → entry_seen own target v ≡ entry t u
 entry-same t u own target v o g e = ap (λ v. entry_seen own target v) e ∙ entry-whole t u own target o g
+
+-- an entry of which the words are there is planned, of which so much is seen
+pub record IsPlannedAs (ds : List ℕ) (n : ℕ) (f : Front) (v : Sight)
+    (before after : Next) : Type 0 where
+  pub place : after.place ≡ before.place
+  pub own : after.own ≡ before.own
+  pub target : after.target ≡ before.target
+  pub awaited : after.words.awaited ≡ before.words.awaited
+  pub planned : after.planned ≡ true
+  pub found : after.fetched ≡ v.fetched
+  pub needed : after.needs ≡ needs v
+  pub ready : after.prepared ≡ prepared_entry v (option_map (λ w. 0) (needs v).index_read)
+  pub entry : after.entry ≡ entry_seen before.own before.target v
+  pub address : after.formed.a ≡ tick_a ds f (entry_seen before.own before.target v)
+  pub bus : after.words.bus ≡ bus_a ds f (entry_seen before.own before.target v)
+  pub tick : after.formed.p ≡ tick_p ds n f (entry_seen before.own before.target v)
 
 module _ (ds : List ℕ) (n now : ℕ) (f : Front) (x : List ℕ) (s : Machine) (before : Next) (un : before.planned ≡ false) (due : before.words.awaited ≤ now)
     (cs : List ℕ) (contents : cs ≡ map (word s) (words_of_run before.own ++ words_of_run before.target)) where

@@ -10,7 +10,7 @@ use Rattle.st_prep.specs.Reading.{reading_at_place, left_after, fetching_of}
 use Rattle.st_rows.specs.Asked.{Read, reads_of_entry, bus_after_reads}
 use Rattle.st_rows.specs.Notes.{log_after_reads}
 use Rattle.st_rows.specs.Ranges.{IsTight, IsFetchingWithin, ArePastWithin}
-use Rattle.st_rows.specs.Rows.{wanted_from, tick_a, bus_a, tick_p}
+use Rattle.st_rows.specs.Rows.{wanted_from}
 use Rattle.st_rows.specs.declared.entry.WordRun.{WordRun}
 use Rattle.st_rows.specs.declared.entry.Entry.{Entry}
 use Rattle.st_rows.specs.declared.fetching.Fetching.{Fetching}
@@ -108,22 +108,6 @@ abbrev pub IsPlanAtItsTick : List ℕ → Machine → Next → Prepared → Type
 IsPlanAtItsTick x s next p = (ds : List ℕ) (n now : ℕ) (f : Front) (t : Option ℕ) (u : Machine) →
     IfSome t (λ i. i < 64) → IsStateBefore now f.past x s u → IsNext ds n t u f next →
     now ≡ next.formed.p → ((entry t u).serial ≡ true → u ≡ s) → p ≡ plan u t
-
--- an entry of which the words are there is planned, of which so much is seen
-pub record IsPlannedAs (ds : List ℕ) (n : ℕ) (f : Front) (v : Sight)
-    (before after : Next) : Type 0 where
-  pub place : after.place ≡ before.place
-  pub own : after.own ≡ before.own
-  pub target : after.target ≡ before.target
-  pub awaited : after.words.awaited ≡ before.words.awaited
-  pub planned : after.planned ≡ true
-  pub found : after.fetched ≡ v.fetched
-  pub needed : after.needs ≡ needs v
-  pub ready : after.prepared ≡ prepared_entry v (option_map (λ w. 0) (needs v).index_read)
-  pub entry : after.entry ≡ entry_seen before.own before.target v
-  pub address : after.formed.a ≡ tick_a ds f (entry_seen before.own before.target v)
-  pub bus : after.words.bus ≡ bus_a ds f (entry_seen before.own before.target v)
-  pub tick : after.formed.p ≡ tick_p ds n f (entry_seen before.own before.target v)
 
 -- the reads so far are the first ones of the entry, and those that are left are wanted at a tick or
 -- later

@@ -12,7 +12,7 @@ use Rattle.st_run.specs.Moments.{Moment, Standing, next_row, next_moment}
 use Rattle.st_run.specs.TimedRun.{completion, timed_from, timed_behind}
 use Rattle.st_run.specs.Order.{AreRising}
 use Rattle.st_run.specs.Told.{Done, Told, told_of, told_of_events}
-use Rattle.st_run.specs.Together.{Together, IsBeforeEntry, standing_of, moment_of, at_tick}
+use Rattle.st_run.specs.Together.{Together, IsBeforeEntry, standing_of, moment_of}
 use Rattle.st_run.specs.Telling.{AreInTime, IsShown, IsLeft, snapshot_tick}
 use Rattle.st_run.specs.Ticking.{AreMade, at_completion}
 use Rattle.st_run.proofs.Turns.{behind-done, behind-none}
@@ -21,6 +21,10 @@ use Rattle.st_run.proofs.TickLemmas.{row-same}
 use Rattle.st_run.proofs.MomentLemmas.{moment-next, behind-next, row-before}
 use Rattle.st_run.proofs.LeftLemmas.{next-done, next-tick, oldest-in_time}
 use Rattle.st_refine.proofs.SplitLemmas.{plan-address}
+
+-- the machine so many ticks later, at none of which an entry is done
+abbrev pub at_tick : ℕ → Together → Together
+at_tick now t = record t { machine = record t.machine { now = now } }
 
 -- ---- snapshots
 

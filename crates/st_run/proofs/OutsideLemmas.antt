@@ -9,9 +9,12 @@ use Rattle.st_exch.specs.Printer.{line_of_words}
 use Rattle.st_exec.specs.Step.{rests}
 use Rattle.st_run.specs.Run.{Scene, Transition, PlainEvent, and_then, uneventful, with_device, with_order_at_rest, with_wait}
 use Rattle.st_run.specs.Together.{AreTexts, text_told}
-use Rattle.st_run.specs.Outside.{Coming, HasHappened, scene_at, first_words, joined_of, nothing, a_wait, ends_by}
+use Rattle.st_run.specs.Outside.{Coming, HasHappened, scene_at, first_words, joined_of, nothing, ends_by}
 use Rattle.st_run.specs.declared.between.Interlude.{Interlude}
 use Rattle.st_run.proofs.SignalLemmas.{wait-none}
+
+abbrev pub a_wait : Interlude
+a_wait = record { card = false; waited = true; words = None }
 
 -- what is kept of the rest of a machine, one thing after another
 abbrev pub Both : {A : Type 0} → (Bool → A → A → Type 0) → Type 0

@@ -21,7 +21,7 @@ use Rattle.st_run.specs.Moments.{Standing, moment_at_start, answers_at_start, ne
 use Rattle.st_run.specs.TimedRun.{drops, happening_at, events_between, timed_behind, timed_run}
 use Rattle.st_run.specs.Order.{AreRising}
 use Rattle.st_run.specs.Told.{Told, told_of, told_of_events}
-use Rattle.st_run.specs.Together.{Together, with_scene, IsBeforeEntry}
+use Rattle.st_run.specs.Together.{Together, IsBeforeEntry}
 use Rattle.st_run.specs.Telling.{Waiting, whats, rest_of, IsRun, AreInTime}
 use Rattle.st_run.specs.declared.turn.Turn.TheVariants as turns
 use Rattle.st_run.proofs.ProgressLemmas.{Quiet, rest-quiet}
@@ -32,6 +32,14 @@ use Rattle.st_run.proofs.SceneLemmas.{due-scene}
 use Rattle.st_run.specs.Outside.{Coming}
 use Rattle.st_run.proofs.InterludeLemmas.{with_coming}
 use Rattle.st_run.proofs.SignalLemmas.{wait-none}
+
+-- the same at another scene
+abbrev pub with_scene : Together → Scene → Together
+with_scene t c = record {
+  machine = record t.machine { state = c.machine };
+  signals = c.signals;
+  cards = c.cards;
+}
 
 -- ---- the machine once the signals that are due came
 

@@ -1,6 +1,6 @@
 -- What comes to a machine from outside between two steps, whatever the machine has beside its plain
 -- state.
-use Rattle.std.specs.Prelude.{ℕ, ◌≡◌, ◌≤◌, ◌||◌, Bool, true, false, nat_lt, nat_le, if◌then◌else◌, List, [], ◌∷◌, length, option_map, Option, None, Some}
+use Rattle.std.specs.Prelude.{ℕ, ◌≡◌, ◌≤◌, ◌||◌, Bool, false, nat_lt, nat_le, if◌then◌else◌, List, [], ◌∷◌, length, option_map, Option, None, Some}
 use Rattle.st_card.specs.declared.control_cards.Signal.{Signal}
 use Rattle.st_state.specs.Machine.{Machine}
 use Rattle.st_exch.specs.Printer.{line_of_words}
@@ -41,9 +41,6 @@ first_words None later = later
 
 abbrev pub nothing : Interlude
 nothing = record { card = false; waited = false; words = None }
-
-abbrev pub a_wait : Interlude
-a_wait = record { card = false; waited = true; words = None }
 
 -- one thing after another
 abbrev pub joined_of : Interlude → Interlude → Interlude

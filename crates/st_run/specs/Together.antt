@@ -22,14 +22,6 @@ pub record Together : Type 0 where
 abbrev pub scene_of : Together → Scene
 scene_of t = record { machine = t.machine.state; signals = t.signals; cards = t.cards }
 
--- the same at another scene
-abbrev pub with_scene : Together → Scene → Together
-with_scene t c = record {
-  machine = record t.machine { state = c.machine };
-  signals = c.signals;
-  cards = c.cards;
-}
-
 -- ---- between two ticks, before an entry is done
 
 -- nothing is owed, nothing comes between and no entry is late
@@ -55,10 +47,6 @@ pub record IsBeforeEntry (t : Together) : Type 0 where
 -- where the run stands then, the last entry done at the tick
 abbrev pub standing_of : ℕ → Together → Standing
 standing_of tick t = record { scene = scene_of t; tick = tick; front = t.machine.front }
-
--- the machine so many ticks later, at none of which an entry is done
-abbrev pub at_tick : ℕ → Together → Together
-at_tick now t = record t { machine = record t.machine { now = now } }
 
 -- ---- an entry has just been done, and nothing has come from outside since
 

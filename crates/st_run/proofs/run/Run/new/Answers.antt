@@ -4,13 +4,13 @@ use Rattle.st_rows.proofs.Within.{AreDelays-list}
 use Rattle.st_ahead.specs.Overlap.{Overlap}
 use Rattle.st_ahead.specs.Calls.{MaySignal}
 use Rattle.st_run.specs.Scenes.{IsScene}
-use Rattle.st_run.specs.Together.{Together, with_scene}
+use Rattle.st_run.specs.Together.{Together}
 use Rattle.st_ahead.specs.RowsDone.{Queue}
 use Rattle.st_run.specs.Telling.{Waiting, IsRun, rest_of, rows_then}
 use Rattle.st_run.specs.declared.turn.Turn.TheVariants as turns
 use Rattle.st_refine.specs.Reached.{CanStart, IsLed}
 use Rattle.st_run.proofs.LedLemmas.{start-led, due-led}
-use Rattle.st_run.proofs.StartLemmas.{IsIdle, started, start-run, start-told, none}
+use Rattle.st_run.proofs.StartLemmas.{IsIdle, started, start-run, start-told, none, with_scene}
 use Rattle.st_run.proofs.InterludeLemmas.{with_coming}
 use Rattle.st_run.proofs.run.Run.new.Goals as goal
 
