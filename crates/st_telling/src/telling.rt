@@ -6,7 +6,7 @@ ghost use Rattle.st_io.specs.Lines.{WritesLines};
 ghost use Rattle.st_report.specs.Line.{trc_line, row_line, drop_line, prt_line, int_line, time_line, snap_line as snap_line_of, lev_line, end_line, done_line, ticks_line};
 ghost use Rattle.st_time.specs.Shown.{levels_standing, change_shown};
 ghost use Rattle.st_run.specs.Events.{Level};
-ghost use Rattle.st_run.specs.Telling.{AreLevelsShown, row_told, what_told};
+ghost use Rattle.st_run.specs.Telling.{AreLevelsShown, what_told};
 ghost use Rattle.st_telling.specs.Report.{block, line_if, done_lines, interrupt_lines, snapshot_lines, end_lines, lines_told, report};
 ghost use Rattle.st_telling.specs.Running.{WritesEvents, WritesNothing, last_moment, views_lines};
 
@@ -376,18 +376,6 @@ fn pass_counted<const N: usize>(run: &mut Run<'_, N>, moment: &mut Moment, contr
     }
 }
 
-// The row of an entry that a run tells next, where such are written.
-#[inline(always)]
-fn next_written<const N: usize>(run: &mut Run<'_, N>, written: bool) -> Option<Row>
-    ensures { MatchOption result (run.new.rest ≡ run.old.rest) (λ row. run.old.rest ≡ row_told row
-        ∷ run.new.rest) }
-{
-    if !written {
-        return None;
-    }
-    run.next_row()
-}
-
 // What a run tells next, behind entries that are done and of which nothing is written.
 fn next_told<const N: usize>(
     run: &mut Run<'_, N>,
@@ -421,7 +409,7 @@ pub fn write_run<K: Sink, const N: usize>(
     let mut line = EntryLine::new();
     let written = is_written(controls);
     'telling: loop {
-        if let Some(row) = next_written(run, written) {
+        if let Some(row) = run.next_row(written) {
             *moment = moment_at(&row);
             write_done(out, &mut line, row, controls)?;
             continue 'telling;
