@@ -140,13 +140,13 @@ impl<'a, const N: usize> Run<'a, N> {
     }
 
     /// The next thing that is told, where that is an entry that is done, as its row. There may be
-    /// none as long as snapshots are to come, and there is none where rows are not `wanted`.
+    /// none as long as snapshots are to come.
     #[inline(always)]
-    pub fn next_row(&mut self, wanted: bool) -> Option<Row>
+    pub fn next_row(&mut self) -> Option<Row>
         ensures { MatchOption result (self.new.rest ≡ self.old.rest) (λ row. self.old.rest
             ≡ row_told row ∷ self.new.rest) }
     {
-        next_row_of(&mut self.teller, wanted)
+        next_row_of(&mut self.teller)
     }
 
     /// The state that is shown. Calls within the protocol of the machine lead to what the run

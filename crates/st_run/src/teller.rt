@@ -32,10 +32,9 @@ pub(crate) fn next_of<const N: usize>(teller: &mut Teller<N>) -> Option<TimedRun
     tell_next(&mut teller.progress, &mut teller.rows)
 }
 
-// Where no row waits and rows are wanted, they are made, as long as nothing else is told between
-// them.
+// Where no row waits, rows are made, as long as nothing else is told between them.
 #[inline(always)]
-fn make_ready<const N: usize>(teller: &mut Teller<N>, wanted: bool)
+fn make_ready<const N: usize>(teller: &mut Teller<N>)
     requires run { IsUnderWay teller.old.progress }
     requires shut { teller.old.rows.room ≡ 0 }
     ensures kept { IsUnderWay teller.new.progress }
@@ -45,16 +44,12 @@ fn make_ready<const N: usize>(teller: &mut Teller<N>, wanted: bool)
     if !teller.rows.is_empty() {
         return;
     }
-    if !wanted {
-        return;
-    }
     make_rows(&mut teller.progress, &mut teller.rows);
 }
 
-// The next thing that is told, where that is a row: the first one that waits, or one that is made,
-// where such are wanted.
+// The next thing that is told, where that is a row: the first one that waits, or one that is made.
 #[inline(always)]
-pub(crate) fn next_row_of<const N: usize>(teller: &mut Teller<N>, wanted: bool) -> Option<Row>
+pub(crate) fn next_row_of<const N: usize>(teller: &mut Teller<N>) -> Option<Row>
     requires run { IsUnderWay teller.old.progress }
     requires shut { teller.old.rows.room ≡ 0 }
     ensures kept { IsUnderWay teller.new.progress }
@@ -62,7 +57,7 @@ pub(crate) fn next_row_of<const N: usize>(teller: &mut Teller<N>, wanted: bool) 
     ensures told { MatchOption result (rest_with_rows teller.new ≡ rest_with_rows teller.old)
         (λ row. rest_with_rows teller.old ≡ row_told row ∷ rest_with_rows teller.new) }
 {
-    make_ready(teller, wanted);
+    make_ready(teller);
     teller.rows.next()
 }
 

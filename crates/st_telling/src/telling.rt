@@ -6,7 +6,7 @@ ghost use Rattle.st_io.specs.Lines.{WritesLines};
 ghost use Rattle.st_report.specs.Line.{trc_line, row_line, drop_line, prt_line, int_line, time_line, snap_line as snap_line_of, lev_line, end_line, done_line, ticks_line};
 ghost use Rattle.st_time.specs.Shown.{levels_standing, change_shown};
 ghost use Rattle.st_run.specs.Events.{Level};
-ghost use Rattle.st_run.specs.Telling.{AreLevelsShown, what_told};
+ghost use Rattle.st_run.specs.Telling.{AreLevelsShown, row_told, what_told};
 ghost use Rattle.st_telling.specs.Report.{block, line_if, done_lines, interrupt_lines, snapshot_lines, end_lines, lines_told, report};
 ghost use Rattle.st_telling.specs.Running.{WritesEvents, WritesNothing, last_moment, views_lines};
 
@@ -376,6 +376,18 @@ fn pass_counted<const N: usize>(run: &mut Run<'_, N>, moment: &mut Moment, contr
     }
 }
 
+// The row of an entry that a run tells next, where such are written.
+#[inline(always)]
+fn next_written<const N: usize>(run: &mut Run<'_, N>, written: bool) -> Option<Row>
+    ensures { MatchOption result (run.new.rest ≡ run.old.rest) (λ row. run.old.rest ≡ row_told row
+        ∷ run.new.rest) }
+{
+    if !written {
+        return None;
+    }
+    run.next_row()
+}
+
 // What a run tells next, behind entries that are done and of which nothing is written.
 fn next_told<const N: usize>(
     run: &mut Run<'_, N>,
@@ -393,9 +405,9 @@ fn next_told<const N: usize>(
     run.next()
 }
 
-/// Writes the report of all that a run still has to tell. After a failed write `moment` is that of
-/// the line, else that of the end.
-pub fn write_run<K: Sink, const N: usize>(
+// Writes the report of all that a run still has to tell.
+#[inline(always)]
+fn write_rest<K: Sink, const N: usize>(
     out: &mut K,
     run: &mut Run<'_, N>,
     moment: &mut Moment,
@@ -409,7 +421,7 @@ pub fn write_run<K: Sink, const N: usize>(
     let mut line = EntryLine::new();
     let written = is_written(controls);
     'telling: loop {
-        if let Some(row) = run.next_row(written) {
+        if let Some(row) = next_written(run, written) {
             *moment = moment_at(&row);
             write_done(out, &mut line, row, controls)?;
             continue 'telling;
@@ -420,4 +432,23 @@ pub fn write_run<K: Sink, const N: usize>(
         *moment = moment_of(&told);
         write_told(out, &mut line, run, *moment, told.what, controls)?;
     }
+}
+
+/// Writes the report of all that a run still has to tell. After a failed write `moment` is that of
+/// the line, else that of the end.
+pub fn write_run<K: Sink, const N: usize>(
+    out: &mut K,
+    run: &mut Run<'_, N>,
+    moment: &mut Moment,
+    controls: &Controls,
+) -> Result<(), Failed>
+    requires { AllPass is_part controls.now.dumps }
+    ensures { WritesEvents (K.output out.old) (K.output out.new) (report controls.now run.old.rest)
+        (last_moment moment.old run.old.rest) moment.new result }
+{
+    // A moment of its own is changed for each line without a look at where that of the caller is.
+    let mut here = *moment;
+    let written = write_rest(out, run, &mut here, controls);
+    *moment = here;
+    written
 }

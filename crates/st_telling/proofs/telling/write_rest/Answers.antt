@@ -5,7 +5,7 @@ use Rattle.st_run.specs.Telling.{what_told}
 use Rattle.st_telling.specs.Report.{lines_at}
 use Rattle.st_telling.specs.declared.moment.Moment.{Moment}
 use Rattle.st_telling.proofs.Runs.{told_begins, told_skips, none_skips, told_more, told_stops, told_all, row_more, row_stops}
-use Rattle.st_telling.proofs.telling.write_run.Goals as goal
+use Rattle.st_telling.proofs.telling.write_rest.Goals as goal
 
 pub telling-init : goal.telling-init
 telling-init g c = told_begins _ c.args.controls.now c.args.moment.now c.args.run.now.rest

@@ -1,6 +1,6 @@
 use Rattle.std.proofs.Common.{length}
 use Rattle.st_telling.proofs.Runs.{ToldSoFar}
-use Rattle.st_telling.proofs.telling.write_run.Given as goal
+use Rattle.st_telling.proofs.telling.write_rest.Given as goal
 
 -- what is left to write is what the run still has to tell
 abbrev pub invariant-telling : goal.invariant-telling
