@@ -120,11 +120,11 @@ value_of-none d n (suc k) h =
 -- where something is left of 128 bits, fewer than 32 digits are behind
 pub some-left : (d n : ℕ) → d < 2 ^ 128 → d / 16 ^ n ≢ 0 → n < 32
 some-left d n bound left = elim (cases_lt n 32) [
-    | inl few ↦ few
-    | inr all ↦
+  | inl few ↦ few
+  | inr all ↦
       let power : 16 ^ 32 ≤ 16 ^ n = pow-le-pow_right {n = 16} (lit< tt) all in
       absurd (left (div-eq_of_lt (omega (arith, power, bound))))
-  ]
+]
 
 -- the value of 32 digits is that of the first n, where nothing is left
 pub value_of-stop : (d n : ℕ) → n ≤ 32 → d / 16 ^ n ≡ 0 → value_of_digits 32 d ≡ value_of_digits n d
