@@ -18,7 +18,7 @@ ghost use Rattle.st_lines.specs.Changes.{IsLeft};
 ghost use Rattle.st_lines.specs.Origins.{origin_at};
 ghost use Rattle.st_lines.specs.declared.lines.Why.TheVariants.{Run as RunBegins};
 ghost use Rattle.st_plain.specs.Looking.{seen_ahead, first_late};
-ghost use Rattle.st_reasons.specs.Sums.{AreWaitsWithin, is_parted, waited_at, row_stalled};
+ghost use Rattle.st_reasons.specs.Sums.{AreWaitsWithin, row_stalled};
 ghost use Rattle.st_reasons.specs.Words.{IsReadInTime};
 ghost use Rattle.st_reasons.specs.declared.waits.Stall.{Stall};
 ghost use Rattle.st_rows.specs.Asked.{Read, made_before};
@@ -29,7 +29,7 @@ ghost use Rattle.st_run.specs.Moments.{Moment, Standing, next_front, next_moment
 ghost use Rattle.st_segment.specs.Ahead.{ahead, prepared_before, reads_before};
 ghost use Rattle.st_state.specs.Machine.{Machine, word};
 ghost use Rattle.st_account.specs.Text.{why_by, run_ends, segment_end_at, segment_after, segment_lines, uses_at, words_before, lines_of_entry, last_lines};
-ghost use Rattle.st_account.specs.Standing.{guessing, kept_lines, kept_stalled, IsWaiting, HasReads, IsLast, IsStanding, IsAt, IsBehindMoment};
+ghost use Rattle.st_account.specs.Standing.{guessing, kept_lines, kept_stalled, IsWaiting, AddsKeptWaits, HasReads, IsLast, IsStanding, IsAt, IsBehindMoment};
 
 use crate::behind::{Behind, look_behind, nothing_came};
 use crate::last::{Last, at_start, clear_if, open_if};
@@ -89,10 +89,8 @@ fn write_row<K: Sink>(
     requires { IsWaiting last.now waiting.old.totals }
     ensures lines { WritesLines (K.output out.old) (K.output out.new)
         (kept_lines k last.now end) result }
-    ensures within { IsOk result → AreWaitsWithin last.now.tick waiting.new.totals }
-    ensures sums { IsOk result → (r : Stage) (s : Stall) → is_parted r ≡ true →
-        waited_at r s waiting.new.totals
-        ≡ waited_at r s waiting.old.totals + kept_stalled r s k last.now }
+    ensures waits { IsOk result →
+        AddsKeptWaits k last.now waiting.old.totals waiting.new.totals }
 {
     if k == 0 {
         return Ok(());
@@ -383,11 +381,8 @@ impl Account {
             IsBehindMoment ds n left b m self.old xs cards → IsOk result →
             self.new.last.uses.items ≡ words_before m self.old.last.uses.items }
         ensures read { IsOk result → All IsReadInTime self.new.last.uses.items }
-        ensures within { IsOk result → AreWaitsWithin self.new.last.tick
-            self.new.waiting.totals }
-        ensures stalled { IsOk result → (r : Stage) (s : Stall) → is_parted r ≡ true →
-            waited_at r s self.new.waiting.totals ≡ waited_at r s self.old.waiting.totals
-            + kept_stalled r s self.old.k self.old.last }
+        ensures waits { IsOk result → AddsKeptWaits self.old.k self.old.last
+            self.old.waiting.totals self.new.waiting.totals }
     {
         self.state.shape();
         let border = self.open();
@@ -423,9 +418,8 @@ impl Account {
             (kept_lines self.old.k self.old.last (segment_end_at left m)
             ++ last_lines (origin_at self.old.origins) ds n self.old.k b m) result }
         ensures sums { self.new.sums ≡ self.old.sums }
-        ensures stalled { IsOk result → (r : Stage) (s : Stall) → is_parted r ≡ true →
-            waited_at r s self.new.waiting.totals ≡ waited_at r s self.old.waiting.totals
-            + kept_stalled r s self.old.k self.old.last }
+        ensures waits { IsOk result → AddsKeptWaits self.old.k self.old.last
+            self.old.waiting.totals self.new.waiting.totals }
     {
         let end = end_of(true, self.last.tick);
         write_row(out, &self.last, self.k, end, &mut self.waiting)?;

@@ -11,6 +11,7 @@ use Rattle.st_plain.specs.declared.known.Known.{Known}
 use Rattle.st_plain.specs.declared.uses.Use.{Use}
 use Rattle.st_ledger.specs.Charges.{parts_of_row, charges_behind}
 use Rattle.st_ledger.specs.Lines.{row_stage_line}
+use Rattle.st_ledger.specs.declared.charges.Charge.{Charge}
 use Rattle.st_lines.specs.Lines.{missed_line, alone_line, suppressed_line, laid_line, code_line, writes_line, index_line, level_line}
 use Rattle.st_lines.specs.UseLines.{use_lines}
 use Rattle.st_lines.specs.WaitLines.{charged_lines, because_lines}
@@ -89,6 +90,10 @@ missed_lines false = []
 unfoldable pub level_lines : ℕ → List (List ℕ)
 level_lines d = if nat_eq d 0 then [] else level_line d ∷ []
 
+-- what its ticks are charged to
+abbrev pub charges_of_entry : EntryDone → List Charge
+charges_of_entry d = charges_behind d.before (parts_of_row d.start d.row.ticks)
+
 -- its wait for a level, and what kept it back
 abbrev pub late_entry_lines : EntryDone → List (List ℕ)
 late_entry_lines d =
@@ -100,5 +105,4 @@ unfoldable pub done_entry_lines : EntryDone → Prepared → Known → List Use 
 done_entry_lines d p k uses before =
     row_stage_line d.n d.address d.row.ticks
     ∷ ((missed_lines d.missed ++ facts_lines d.n d.end p k d.origin uses)
-    ++ (charged_lines uses before (charges_behind d.before (parts_of_row d.start d.row.ticks))
-    ++ late_entry_lines d))
+    ++ (charged_lines uses before (charges_of_entry d) ++ late_entry_lines d))

@@ -1,17 +1,15 @@
 //! What is known of an entry by itself.
-ghost use Rattle.std.specs.Prelude.{◌≡◌, ◌+◌, ◌-◌, ◌≤◌, ◌==◌, ◌||◌, ◌++◌, true, IsOk};
+ghost use Rattle.std.specs.Prelude.{◌≡◌, ◌-◌, ◌≤◌, ◌==◌, ◌||◌, ◌++◌, IsOk};
 ghost use Rattle.st_bits.specs.Indicators.{indicator as indicator_of};
 ghost use Rattle.st_prep.specs.Entry.{is_register as is_register_of, has_register as has_register_of};
 ghost use Rattle.st_state.specs.Interrupts.{first_from};
 ghost use Rattle.st_io.specs.Lines.{WritesLines};
-ghost use Rattle.st_ledger.specs.Charges.{parts_of_row, charges_behind, all_ticks};
-ghost use Rattle.st_ledger.specs.declared.charges.Stage.{Stage as StageOf};
-ghost use Rattle.st_reasons.specs.Sums.{AreWaitsWithin, is_parted, waited_at, row_stalled};
+ghost use Rattle.st_reasons.specs.Sums.{AreWaitsWithin};
 ghost use Rattle.st_reasons.specs.Words.{AreWordsInTime};
-ghost use Rattle.st_reasons.specs.declared.waits.Stall.{Stall as StallOf};
-ghost use Rattle.st_lines.specs.EntryLines.{alone_for as alone_of, alone_by as alone_why, alone_lines, suppressed_by as suppressed_of, suppressed_lines, laid_lines, code_lines, run_lines, writes_lines, index_lines, facts_lines, missed_lines, level_lines, late_entry_lines, done_entry_lines};
+ghost use Rattle.st_lines.specs.EntryLines.{alone_for as alone_of, alone_by as alone_why, alone_lines, suppressed_by as suppressed_of, suppressed_lines, laid_lines, code_lines, run_lines, writes_lines, index_lines, facts_lines, missed_lines, level_lines, charges_of_entry, late_entry_lines, done_entry_lines};
 ghost use Rattle.st_lines.specs.UseLines.{use_lines};
 ghost use Rattle.st_lines.specs.WaitLines.{charged_lines};
+ghost use Rattle.st_lines.specs.Waited.{AddsWaits};
 
 use crate::digits::{fill_code, fill_index, fill_writes};
 use crate::lines::{Alone, line_alone, line_level, line_missed, line_suppressed};
@@ -358,17 +356,10 @@ fn write_waits<K: Sink>(
     requires before { AreWordsInTime before.now }
     requires within { AreWaitsWithin done.now.before waiting.old.totals }
     ensures lines { WritesLines (K.output out.old) (K.output out.new)
-        (charged_lines uses.now before.now (charges_behind done.now.before
-        (parts_of_row done.now.start done.now.row.ticks)) ++ late_entry_lines done.now) result }
-
-    // What its waits leave of the sums.
-    ensures within { IsOk result → AreWaitsWithin
-        (done.now.before + all_ticks (charges_behind done.now.before
-        (parts_of_row done.now.start done.now.row.ticks))) waiting.new.totals }
-    ensures sums { IsOk result → (r : StageOf) (s : StallOf) → is_parted r ≡ true →
-        waited_at r s waiting.new.totals ≡ waited_at r s waiting.old.totals
-        + row_stalled r s uses.now before.now (charges_behind done.now.before
-        (parts_of_row done.now.start done.now.row.ticks)) }
+        (charged_lines uses.now before.now (charges_of_entry done.now)
+        ++ late_entry_lines done.now) result }
+    ensures waits { IsOk result → AddsWaits uses.now before.now done.now.before
+        (charges_of_entry done.now) waiting.old.totals waiting.new.totals }
 {
     write_charged(
         out,
@@ -398,17 +389,10 @@ fn write_spent<K: Sink>(
     ensures lines { WritesLines (K.output out.old) (K.output out.new)
         ((missed_lines done.now.missed
         ++ facts_lines done.now.n done.now.end p.now known.now done.now.origin uses.now)
-        ++ (charged_lines uses.now before.now (charges_behind done.now.before
-        (parts_of_row done.now.start done.now.row.ticks)) ++ late_entry_lines done.now)) result }
-
-    // What its waits leave of the sums.
-    ensures within { IsOk result → AreWaitsWithin
-        (done.now.before + all_ticks (charges_behind done.now.before
-        (parts_of_row done.now.start done.now.row.ticks))) waiting.new.totals }
-    ensures sums { IsOk result → (r : StageOf) (s : StallOf) → is_parted r ≡ true →
-        waited_at r s waiting.new.totals ≡ waited_at r s waiting.old.totals
-        + row_stalled r s uses.now before.now (charges_behind done.now.before
-        (parts_of_row done.now.start done.now.row.ticks)) }
+        ++ (charged_lines uses.now before.now (charges_of_entry done.now)
+        ++ late_entry_lines done.now)) result }
+    ensures waits { IsOk result → AddsWaits uses.now before.now done.now.before
+        (charges_of_entry done.now) waiting.old.totals waiting.new.totals }
 {
     write_known(out, &mut waiting.facts, done, p, known, uses)?;
     write_waits(out, done, uses, before, waiting)
@@ -431,15 +415,8 @@ pub fn write_done<K: Sink>(
     requires within { AreWaitsWithin done.now.before waiting.old.totals }
     ensures lines { WritesLines (K.output out.old) (K.output out.new)
         (done_entry_lines done.now p.now known.now uses.now before.now) result }
-
-    // What its waits leave of the sums.
-    ensures within { IsOk result → AreWaitsWithin
-        (done.now.before + all_ticks (charges_behind done.now.before
-        (parts_of_row done.now.start done.now.row.ticks))) waiting.new.totals }
-    ensures sums { IsOk result → (r : StageOf) (s : StallOf) → is_parted r ≡ true →
-        waited_at r s waiting.new.totals ≡ waited_at r s waiting.old.totals
-        + row_stalled r s uses.now before.now (charges_behind done.now.before
-        (parts_of_row done.now.start done.now.row.ticks)) }
+    ensures waits { IsOk result → AddsWaits uses.now before.now done.now.before
+        (charges_of_entry done.now) waiting.old.totals waiting.new.totals }
 {
     write_row(
         out,

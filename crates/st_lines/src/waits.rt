@@ -1,16 +1,15 @@
 //! The lines that tell what a row waited for, and what kept it back.
-ghost use Rattle.std.specs.Prelude.{◌≡◌, ◌+◌, ◌<◌, ◌≤◌, ◌∷◌, ◌++◌, [], length, codes, decimal, true, max, MatchOption, IfSome, IsOk};
+ghost use Rattle.std.specs.Prelude.{◌≡◌, ◌+◌, ◌<◌, ◌≤◌, ◌∷◌, ◌++◌, [], length, codes, decimal, MatchOption, IfSome, IsOk};
 ghost use Rattle.arrayvec.specs.ArrayString.{array_string_len};
 ghost use Rattle.st_text.specs.Bytes.{lf};
 ghost use Rattle.st_banks.specs.Bank.{bank_of};
 ghost use Rattle.st_io.specs.Lines.{WritesLines};
-ghost use Rattle.st_ledger.specs.declared.charges.Stage.{Stage as StageOf};
-ghost use Rattle.st_ledger.specs.Charges.{parts_of_row, charges_behind, part_charges, all_ticks};
+ghost use Rattle.st_ledger.specs.Charges.{parts_of_row, charges_behind, part_charges};
 ghost use Rattle.st_ledger.specs.Lines.{charge_line};
 ghost use Rattle.st_reasons.specs.declared.because.Because.TheVariants.{Start as StartOf, Prefetch as PrefetchOf, Earlier as EarlierOf};
-ghost use Rattle.st_reasons.specs.declared.waits.Stall.{Stall as StallOf};
 ghost use Rattle.st_reasons.specs.Words.{AreWordsInTime};
-ghost use Rattle.st_reasons.specs.Sums.{AreWaitsWithin, is_parted, waited_at, row_stalled, wait_sums_by};
+ghost use Rattle.st_reasons.specs.Sums.{AreWaitsWithin, waited_at, wait_sums_by};
+ghost use Rattle.st_lines.specs.Waited.{AddsWaits};
 ghost use Rattle.st_lines.specs.WaitLines.{stall_name, wait_line, wait_lines, charged_lines, wait_sum_line, wait_sum_lines, reason_name, because_line, because_lines};
 
 use crate::uses::{FactLine, bank_number};
@@ -152,12 +151,8 @@ fn write_part<K: Sink>(
     requires within { AreWaitsWithin from waiting.old.totals }
     ensures lines { WritesLines (K.output out.old) (K.output out.new)
         (charged_lines uses.now before.now (part_charges from part)) result }
-
-    // What its waits leave of the sums.
-    ensures within { IsOk result → AreWaitsWithin (max from part.end) waiting.new.totals }
-    ensures sums { IsOk result → (r : StageOf) (s : StallOf) → is_parted r ≡ true →
-        waited_at r s waiting.new.totals ≡ waited_at r s waiting.old.totals
-        + row_stalled r s uses.now before.now (part_charges from part) }
+    ensures waits { IsOk result → AddsWaits uses.now before.now from (part_charges from part)
+        waiting.old.totals waiting.new.totals }
 {
     if part.end <= from {
         return Ok(());
@@ -187,13 +182,8 @@ fn write_parts<K: Sink>(
     requires within { AreWaitsWithin from waiting.old.totals }
     ensures lines { WritesLines (K.output out.old) (K.output out.new)
         (charged_lines uses.now before.now (charges_behind from parts.now)) result }
-
-    // What its waits leave of the sums.
-    ensures within { IsOk result →
-        AreWaitsWithin (from + all_ticks (charges_behind from parts.now)) waiting.new.totals }
-    ensures sums { IsOk result → (r : StageOf) (s : StallOf) → is_parted r ≡ true →
-        waited_at r s waiting.new.totals ≡ waited_at r s waiting.old.totals
-        + row_stalled r s uses.now before.now (charges_behind from parts.now) }
+    ensures waits { IsOk result → AddsWaits uses.now before.now from
+        (charges_behind from parts.now) waiting.old.totals waiting.new.totals }
 {
     let Some((part, more)) = first_part(parts) else {
         return Ok(());
@@ -221,13 +211,8 @@ pub fn write_charged<K: Sink>(
     ensures lines { WritesLines (K.output out.old) (K.output out.new)
         (charged_lines uses.now before.now (charges_behind done (parts_of_row start row.now)))
         result }
-
-    // What its waits leave of the sums.
-    ensures within { IsOk result → AreWaitsWithin
-        (done + all_ticks (charges_behind done (parts_of_row start row.now))) waiting.new.totals }
-    ensures sums { IsOk result → (r : StageOf) (s : StallOf) → is_parted r ≡ true →
-        waited_at r s waiting.new.totals ≡ waited_at r s waiting.old.totals
-        + row_stalled r s uses.now before.now (charges_behind done (parts_of_row start row.now)) }
+    ensures waits { IsOk result → AddsWaits uses.now before.now done
+        (charges_behind done (parts_of_row start row.now)) waiting.old.totals waiting.new.totals }
 {
     write_parts(out, done, &parts(start, row), uses, before, waiting)
 }
