@@ -113,14 +113,13 @@ adds-some k l us bs old new some reach used earlier is = record {
 }
 
 -- the front of the next entry does not count there either
-pub adds-same : (j k : ℕ) (l o : Last) (t u new : WaitTotals) → j ≡ k → o ≡ record l { front = o.front; past = o.past } → t ≡ u
-    → AddsKeptWaits j o t new → AddsKeptWaits k l u new
-adds-same j k l o t u new number same is h = record {
+pub adds-same : (k : ℕ) (l o : Last) (t u new : WaitTotals) → o ≡ record l { front = o.front; past = o.past } → t ≡ u
+    → AddsKeptWaits k o t new → AddsKeptWaits k l u new
+adds-same k l o t u new same is h = record {
   within = subst (λ (x : Last). AreWaitsWithin x.tick new) same h.within;
   sums = λ r s parted.
       h.sums r s parted
-      ∙ ap (λ (x : WaitTotals). waited_at r s x + kept_stalled r s j o) is
-      ∙ ap (λ i. waited_at r s u + kept_stalled r s i o) number
+      ∙ ap (λ (x : WaitTotals). waited_at r s x + kept_stalled r s k o) is
       ∙ ap (λ n. waited_at r s u + n) (kept-stalled-same r s k l o same);
 }
 

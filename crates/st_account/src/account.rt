@@ -46,8 +46,8 @@ use st_exec::{interrupt, is_at_rest, next_address};
 use st_io::{Failed, Sink};
 use st_ledger::{RowLine, Totals};
 use st_lines::{
-    Border, EntryDone, FactLine, Origins, Waiting, counter_of, is_enabled, write_border,
-    write_done, write_end, write_marks, write_totals,
+    Between, Border, Dropped, EntryDone, EntryRecord, FactLine, Origins, Waiting, counter_of,
+    is_enabled, write_border, write_done, write_end, write_marks, write_totals,
 };
 use st_reasons::{WaitTotals, Waits};
 use st_rows::Log;
@@ -106,15 +106,14 @@ fn write_row<K: Sink>(
         end,
         because: last.because,
     };
-    write_done(
-        out,
-        &done,
-        &last.plan,
-        &last.done.known,
-        last.uses.as_slice(),
-        last.before.as_slice(),
-        waiting,
-    )
+    let entry = EntryRecord {
+        done: &done,
+        plan: &last.plan,
+        known: &last.done.known,
+        uses: last.uses.as_slice(),
+        before: last.before.as_slice(),
+    };
+    write_done(out, &entry, waiting)
 }
 
 impl Account {
@@ -266,7 +265,6 @@ impl Account {
     // What stands between the last entry and the next one; the front and the segment are then those
     // of the next one.
     fn open(&mut self) -> Border
-        requires few { self.old.state.done ≤ MOST_INSTRUCTIONS }
         requires number { self.old.k ≤ MOST_INSTRUCTIONS }
         requires early { self.old.last.tick ≤ 2 ^ 62 }
         requires dropped { length self.old.behind.found.items ≤ 8 }
@@ -278,14 +276,10 @@ impl Account {
         ensures border { result ≡ record {
           ends = result.ends;
           begins = result.begins;
-          k = self.old.k;
-          tick = self.old.last.tick;
-          n = self.old.state.done + 1;
           start = self.new.last.front.c;
           waited = self.old.behind.waited;
           why = if nat_eq self.old.k 0 then RunBegins
               else why_by (interrupt_of self.old.state) self.old.last.missed;
-          was = self.old.last.enabled;
           taken = interrupt_of self.old.state;
           done = self.old.state.done;
         } }
@@ -309,8 +303,6 @@ impl Account {
     {
         let taken = interrupt(&self.state);
         let missed = self.last.missed;
-        let was = self.last.enabled;
-        let tick = self.last.tick;
         let k = self.k;
         let ends = is_end(missed, self.behind.card, self.behind.waited, taken);
         let begins = either(k == 0, ends);
@@ -324,13 +316,9 @@ impl Account {
         Border {
             ends,
             begins,
-            k,
-            tick,
-            n: row_number(&self.state),
             start: self.last.front.c,
             waited: self.behind.waited,
             why: why_of(k == 0, taken, missed),
-            was,
             taken,
             done: done_of(&self.state),
         }
@@ -385,21 +373,25 @@ impl Account {
             self.old.waiting.totals self.new.waiting.totals }
     {
         self.state.shape();
+        let k = self.k;
         let border = self.open();
-        let end = end_of(border.ends, border.tick);
-        write_row(out, &self.last, border.k, end, &mut self.waiting)?;
+        let end = end_of(border.ends, self.last.tick);
+        write_row(out, &self.last, k, end, &mut self.waiting)?;
         clear_if(border.ends, &mut self.last.uses);
-        write_border(
-            out,
-            border,
-            &self.behind.printed,
-            &mut self.words,
-            &self.state,
-            &self.behind.may,
-            self.behind.found.as_slice(),
-            &self.behind.late,
-            &self.origins,
-        )
+        let between = Between {
+            k,
+            dropped: Dropped {
+                tick: self.last.tick,
+                n: row_number(&self.state),
+                found: self.behind.found.as_slice(),
+                late: &self.behind.late,
+                origins: &self.origins,
+            },
+            printed: self.behind.printed.as_slice(),
+            was: self.last.enabled,
+            may: &self.behind.may,
+        };
+        write_border(out, &border, &between, &mut self.words, &self.state)
     }
 
     /// Writes the lines of the last entry, of what came behind it, and of the end of the run.
@@ -442,25 +434,21 @@ impl Account {
         ensures sums { self.new.sums ≡ self.old.sums }
         ensures waits { self.new.waiting ≡ self.old.waiting }
     {
-        write_end(
-            out,
-            self.k,
-            self.last.tick,
-            row_number(&self.state),
-            self.behind.found.as_slice(),
-            &self.behind.late,
-            &self.origins,
-            &self.state,
-        )?;
-        write_marks(
-            out,
-            &self.behind.printed,
-            self.k,
-            self.last.enabled,
-            &mut self.words,
-            &self.state,
-            &self.behind.may,
-        )?;
+        let between = Between {
+            k: self.k,
+            dropped: Dropped {
+                tick: self.last.tick,
+                n: row_number(&self.state),
+                found: self.behind.found.as_slice(),
+                late: &self.behind.late,
+                origins: &self.origins,
+            },
+            printed: self.behind.printed.as_slice(),
+            was: self.last.enabled,
+            may: &self.behind.may,
+        };
+        write_end(out, between.k, &between.dropped, &self.state)?;
+        write_marks(out, &between, &mut self.words, &self.state)?;
         write_totals(
             out,
             is_at_rest(&self.state),

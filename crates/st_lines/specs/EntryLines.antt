@@ -94,15 +94,24 @@ level_lines d = if nat_eq d 0 then [] else level_line d ∷ []
 abbrev pub charges_of_entry : EntryDone → List Charge
 charges_of_entry d = charges_behind d.before (parts_of_row d.start d.row.ticks)
 
+-- what is known by itself of an entry that is done, which uses some words
+abbrev pub known_lines : EntryDone → Prepared → Known → List Use → List (List ℕ)
+known_lines d p k uses = missed_lines d.missed ++ facts_lines d.n d.end p k d.origin uses
+
 -- its wait for a level, and what kept it back
 abbrev pub late_entry_lines : EntryDone → List (List ℕ)
 late_entry_lines d =
     level_lines d.row.level_wait ++ because_lines d.n d.before d.row.ticks.r d.because
 
--- those of an entry that is done, which uses some words, and the one before it others
+-- its charges with their waits, where it uses some words and the one before it others, its wait for
+-- a level, and what kept it back
+abbrev pub spent_lines : EntryDone → List Use → List Use → List (List ℕ)
+spent_lines d uses before =
+    charged_lines uses before (charges_of_entry d) ++ late_entry_lines d
+
+-- all that is told of it
 unfoldable pub done_entry_lines : EntryDone → Prepared → Known → List Use → List Use →
     List (List ℕ)
 done_entry_lines d p k uses before =
     row_stage_line d.n d.address d.row.ticks
-    ∷ ((missed_lines d.missed ++ facts_lines d.n d.end p k d.origin uses)
-    ++ (charged_lines uses before (charges_of_entry d) ++ late_entry_lines d))
+    ∷ (known_lines d p k uses ++ spent_lines d uses before)

@@ -1,9 +1,8 @@
 //! The words that changed behind an entry.
-ghost use Rattle.std.specs.Prelude.{true, ◌≡◌, ℕ, ◌+◌, ◌-◌, ◌<◌, ◌≤◌, ◌^◌, ◌⊎◌, length, slice_index, slice_set, IsOk};
+ghost use Rattle.std.specs.Prelude.{true, ◌≡◌, ℕ, ◌+◌, ◌-◌, ◌<◌, ◌≤◌, ◌⊎◌, length, slice_index, slice_set, IsOk};
 ghost use Rattle.st_bits.specs.Storage.{words_of_storage};
 ghost use Rattle.st_bits.specs.declared.limits.TheConstants.{WORDS};
 ghost use Rattle.st_io.specs.Lines.{WritesLines, lines_for};
-ghost use Rattle.st_prep.specs.Ranges.{IsRuns};
 ghost use Rattle.st_state.specs.Machine.{word as word_of};
 ghost use Rattle.st_lines.specs.BorderLines.{change_lines};
 ghost use Rattle.st_lines.specs.Changes.{IsBeside, IsLeft};

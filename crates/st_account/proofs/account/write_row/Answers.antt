@@ -12,11 +12,12 @@ returns-then-k-eq0-clause-lines g c = same_lines _ _ _ _ _ (sym (kept-none c.arg
 pub returns-then-k-eq0-clause-waits : goal.returns-then-k-eq0-clause-waits
 returns-then-k-eq0-clause-waits g c good = adds-none c.args.k c.args.last.now _ c.if-k-eq0.true c.requires
 
-pub write_done-requires-clause-uses : goal.write_done-requires-clause-uses
-write_done-requires-clause-uses g c = record { few = c.as_slice.ensures.fits; each = subst (All IsReadInTime) (sym c.as_slice.ensures.value) c.requires.uses }
-
-pub write_done-requires-clause-before : goal.write_done-requires-clause-before
-write_done-requires-clause-before g c = record { few = c.as_slice-2.ensures.fits; each = subst (All IsReadInTime) (sym c.as_slice-2.ensures.value) c.requires.before }
+pub write_done-requires : goal.write_done-requires
+write_done-requires g c = record {
+  used = record { few = c.as_slice.ensures.fits; each = subst (All IsReadInTime) (sym c.as_slice.ensures.value) c.requires.uses };
+  earlier = record { few = c.as_slice-2.ensures.fits; each = subst (All IsReadInTime) (sym c.as_slice-2.ensures.value) c.requires.before };
+  within = c.requires.within;
+}
 
 pub returns-clause-lines : goal.returns-clause-lines
 returns-clause-lines g c =

@@ -3,7 +3,6 @@ use Rattle.st_io.proofs.Progress.{lines_cut, lines_then}
 use Rattle.st_lines.proofs.LineLemmas.{same_lines}
 use Rattle.st_account.specs.declared.account.Account.{Account}
 use Rattle.st_account.specs.declared.last.Last.{Last}
-use Rattle.st_lines.specs.declared.writing.Border.{Border}
 use Rattle.st_account.proofs.BorderLemmas.{segment-is, front-after, row-same, words-left, crossed}
 use Rattle.st_account.proofs.StallLemmas.{waiting-same, adds-same, words-read}
 use Rattle.st_account.proofs.account.Account.cross.Goals as goal
@@ -13,7 +12,7 @@ returns-in_err-write_row-clause-lines g c ds n left b m xs cards is going =
     lines_cut _ _ _ _ _ c.from_residual.result c.from_residual.ensures.0
     (same_lines _ _ _ _ _
     (row-same ds n left b m c.args.self.now xs cards is c.open-border.new.self c.open-border.result c.open-border.ensures.rest c.open-border.ensures.border
-    c.open-border.ensures.ends c.open-border.ensures.begins going c.open-border.ensures.last c.end_of-end.result c.end_of-end.ensures) c.in_err-write_row.ensures.lines)
+    c.open-border.ensures.ends c.open-border.ensures.begins c.open-border.ensures.last going c.end_of-end.result c.end_of-end.ensures) c.in_err-write_row.ensures.lines)
 
 pub returns-in_err-write_row-clause-number : goal.returns-in_err-write_row-clause-number
 returns-in_err-write_row-clause-number g c ds n left b m xs cards is =
@@ -30,10 +29,11 @@ returns-clause-lines g c ds n left b m xs cards is going =
     lines_then _ _ _ _ _ _ _
     (same_lines _ _ _ _ _
     (row-same ds n left b m c.args.self.now xs cards is c.open-border.new.self c.open-border.result c.open-border.ensures.rest c.open-border.ensures.border
-    c.open-border.ensures.ends c.open-border.ensures.begins going c.open-border.ensures.last c.end_of-end.result c.end_of-end.ensures) c.in_ok-write_row.ensures.lines)
+    c.open-border.ensures.ends c.open-border.ensures.begins c.open-border.ensures.last going c.end_of-end.result c.end_of-end.ensures) c.in_ok-write_row.ensures.lines)
     (same_lines _ _ _ _ _
     (crossed ds n left b m c.args.self.now xs cards is c.open-border.new.self c.open-border.result c.open-border.ensures.rest c.open-border.ensures.border
-    c.open-border.ensures.ends c.open-border.ensures.begins c.as_slice.result.now c.as_slice.ensures.value
+    c.open-border.ensures.ends c.open-border.ensures.begins c.open-border.ensures.last c.row_number.result c.as_slice.result.now c.as_slice-2.result.now
+    c.row_number.ensures c.as_slice.ensures.value c.as_slice-2.ensures.value
     (front-after ds n left b m c.args.self.now xs cards is c.open-border.new.self c.open-border.result c.open-border.ensures.rest c.open-border.ensures.border
     c.open-border.ensures.ends c.open-border.ensures.begins c.open-border.ensures.front)) c.write_border.ensures.lines)
 
@@ -67,5 +67,5 @@ returns-clause-read g c good =
 
 pub returns-clause-waits : goal.returns-clause-waits
 returns-clause-waits g c good =
-    adds-same _ _ _ _ _ _ _ (ap (λ (y : Border). y.k) c.open-border.ensures.border) c.open-border.ensures.last
-    (ap (λ (x : Account). x.waiting.totals) c.open-border.ensures.rest) (c.in_ok-write_row.ensures.waits refl)
+    adds-same _ _ _ _ _ _ c.open-border.ensures.last (ap (λ (x : Account). x.waiting.totals) c.open-border.ensures.rest)
+    (c.in_ok-write_row.ensures.waits refl)
