@@ -27,7 +27,7 @@ ghost use Rattle.st_rows.specs.Rows.{opening_front};
 ghost use Rattle.st_rows.specs.declared.bus.Bus.{Bus as BusOf};
 ghost use Rattle.st_run.specs.Moments.{Moment, Standing, next_front, next_moment};
 ghost use Rattle.st_segment.specs.Ahead.{ahead, prepared_before, reads_before};
-ghost use Rattle.st_state.specs.Machine.{Machine, word};
+ghost use Rattle.st_state.specs.Machine.{Machine, IsMachine, word};
 ghost use Rattle.st_account.specs.Text.{why_by, run_ends, segment_end_at, segment_after, segment_lines, uses_at, words_before, lines_of_entry, last_lines};
 ghost use Rattle.st_account.specs.Standing.{guessing, kept_lines, kept_stalled, IsWaiting, AddsKeptWaits, HasReads, IsLast, IsStanding, IsAt, IsBehindMoment};
 
@@ -121,6 +121,7 @@ impl Account {
     /// storage has, whatever they are.
     pub fn new(state: State, words: Vec<u64>, origins: Origins) -> Account
         ensures state { result.state ≡ state }
+        ensures machine { IsMachine state }
         ensures words { result.words.items ≡ words.items }
         ensures origins { result.origins ≡ origins }
 
@@ -372,7 +373,6 @@ impl Account {
         ensures waits { IsOk result → AddsKeptWaits self.old.k self.old.last
             self.old.waiting.totals self.new.waiting.totals }
     {
-        self.state.shape();
         let k = self.k;
         let border = self.open();
         let end = end_of(border.ends, self.last.tick);
@@ -500,7 +500,6 @@ impl Account {
         ensures number { self.new.k ≡ self.old.k }
     {
         timing.delays.shape();
-        self.state.shape();
         let taken = interrupt(&self.state);
         let before = self.last.tick;
         let start = self.last.front.c;

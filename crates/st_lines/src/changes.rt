@@ -213,8 +213,5 @@ pub(crate) fn keep_words(old: &mut Vec<u64>, state: &State)
     requires { length old.old.items ≡ words_of_storage }
     ensures { old.new.items ≡ state.now.words }
 {
-    state.shape();
-    for w in 0..WORDS {
-        old[w as usize] = state.word(w);
-    }
+    old.copy_from_slice(state.words());
 }

@@ -33,7 +33,7 @@ returns-clause-lines g c ds n left b m xs cards is going =
     (same_lines _ _ _ _ _
     (crossed ds n left b m c.args.self.now xs cards is c.open-border.new.self c.open-border.result c.open-border.ensures.rest c.open-border.ensures.border
     c.open-border.ensures.ends c.open-border.ensures.begins c.open-border.ensures.last c.row_number.result c.as_slice.result.now c.as_slice-2.result.now
-    c.row_number.ensures c.as_slice.ensures.value c.as_slice-2.ensures.value
+    c.row_number.ensures.number c.as_slice.ensures.value c.as_slice-2.ensures.value
     (front-after ds n left b m c.args.self.now xs cards is c.open-border.new.self c.open-border.result c.open-border.ensures.rest c.open-border.ensures.border
     c.open-border.ensures.ends c.open-border.ensures.begins c.open-border.ensures.front)) c.write_border.ensures.lines)
 
@@ -48,7 +48,7 @@ returns-clause-front g c ds n left b m xs cards is going =
     c.open-border.ensures.ends c.open-border.ensures.begins c.open-border.ensures.front
 
 pub returns-clause-size : goal.returns-clause-size
-returns-clause-size g c good = ap length (c.write_border.ensures.words good) ∙ ap (λ (x : Account). length x.state.words) c.open-border.ensures.rest ∙ c.shape.ensures.size
+returns-clause-size g c good = ap length (c.write_border.ensures.words good) ∙ c.row_number.ensures.machine.size
 
 pub write_row-requires : goal.write_row-requires
 write_row-requires g c =
