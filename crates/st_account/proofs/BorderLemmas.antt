@@ -158,24 +158,20 @@ module _ (ds : List ℕ) (levels : ℕ) (m : Moment) (s : Machine) (l : Last) (f
 
 -- ---- the border of an account
 
--- the lines of a border
-abbrev border_text : Origins → Border → List (List ℕ) → List ℕ → Machine → List Ahead → List Ahead → List (List ℕ)
-border_text table x printed old s found late =
-    ((if x.ends then segment_end_lines (origin_at table s) x.k x.tick x.n found late else []) ++ state_lines printed x.k x.was old s x.taken x.done)
-    ++ (if x.begins then start_line (x.k + 1) x.start x.waited x.why ∷ [] else [])
+-- the lines of a border, behind an entry of the segment k that was done at a tick
+abbrev border_text : Origins → Border → ℕ → ℕ → ℕ → List (List ℕ) → Bool → List ℕ → Machine → List Ahead → List Ahead → List (List ℕ)
+border_text table x k tick i printed was old s found late =
+    ((if x.ends then segment_end_lines (origin_at table s) k tick i found late else []) ++ state_lines printed k was old s x.taken x.done)
+    ++ (if x.begins then start_line (k + 1) x.start x.waited x.why ∷ [] else [])
 
 module _ (ds : List ℕ) (n left : ℕ) (b : Machine) (m : Moment) (a : Account) (xs : List Signal) (cards : List (List ℕ))
     (is : IsBehindMoment ds n left b m a xs cards) (o : Account) (x : Border) (opened : o ≡ record a { last = o.last; k = o.k })
     (border : x ≡ record {
       ends = x.ends;
       begins = x.begins;
-      k = a.k;
-      tick = a.last.tick;
-      n = a.state.done + 1;
       start = o.last.front.c;
       waited = a.behind.waited;
       why = if nat_eq a.k 0 then Run else why_by (interrupt a.state) a.last.missed;
-      was = a.last.enabled;
       taken = interrupt a.state;
       done = a.state.done;
     })
@@ -197,58 +193,44 @@ module _ (ds : List ℕ) (n left : ℕ) (b : Machine) (m : Moment) (a : Account)
   front-after is_front =
       front-is ds n m a.state a.last a.behind.found.items a.behind.banks a.behind.card a.behind.waited at (interrupt a.state) x.ends refl ends o.last.front is_front
 
-  -- the lines of the last entry
-  module _ (going : run_ends left m ≡ false) (last : o.last ≡ record a.last { front = o.last.front; past = o.last.past })
-      (end : Option ℕ) (is_end : end ≡ (if x.ends then Some x.tick else None)) where
-    until-same : end ≡ segment_end_at left m
-    unfolding segment_end_at
-    until-same =
-        is_end
-        ∙ ap (λ t. if x.ends then Some t else None) (ap (λ (y : Border). y.tick) border ∙ sym is.tick)
-        ∙ ap (λ (y : Bool). if y then Some m.tick else None) (here ∙ ap (λ y. y || ends_segment m) (sym going))
+  module _ (last : o.last ≡ record a.last { front = o.last.front; past = o.last.past }) where
+    -- the lines of the last entry
+    module _ (going : run_ends left m ≡ false) (end : Option ℕ) (is_end : end ≡ (if x.ends then Some o.last.tick else None)) where
+      until-same : end ≡ segment_end_at left m
+      unfolding segment_end_at
+      until-same =
+          is_end
+          ∙ ap (λ t. if x.ends then Some t else None) (ap (λ (l : Last). l.tick) last ∙ sym is.tick)
+          ∙ ap (λ (y : Bool). if y then Some m.tick else None) (here ∙ ap (λ y. y || ends_segment m) (sym going))
 
-    pub row-same : kept_lines x.k o.last end ≡ kept_lines a.k a.last (segment_end_at left m)
-    unfolding kept_lines
-    row-same =
-        ap (λ k. kept_lines k o.last end) (ap (λ (y : Border). y.k) border)
-        ∙ ap (λ (l : Last). kept_lines a.k l end) last
-        ∙ ap (kept_lines a.k a.last) until-same
+      pub row-same : kept_lines a.k o.last end ≡ kept_lines a.k a.last (segment_end_at left m)
+      unfolding kept_lines
+      row-same =
+          ap (λ (l : Last). kept_lines a.k l end) last
+          ∙ ap (kept_lines a.k a.last) until-same
 
-  -- those of the border
-  pub crossed : (found : List Ahead) → found ≡ o.behind.found.items → o.last.front ≡ next_front m
-      → border_text o.origins x o.behind.printed.items o.words.items o.state found (o.behind.late ∷ []) ≡ segment_lines (origin_at a.origins) ds n a.k b m
-  crossed found is_found front =
-      ap (λ (y : Border). border_text o.origins y o.behind.printed.items o.words.items o.state found (o.behind.late ∷ [])) border
-      ∙ ap (λ (fs : List Ahead). border_text o.origins (record {
-        ends = x.ends;
-        begins = x.begins;
-        k = a.k;
-        tick = a.last.tick;
-        n = a.state.done + 1;
-        start = o.last.front.c;
-        waited = a.behind.waited;
-        why = if nat_eq a.k 0 then Run else why_by (interrupt a.state) a.last.missed;
-        was = a.last.enabled;
-        taken = interrupt a.state;
-        done = a.state.done;
-      }) o.behind.printed.items o.words.items o.state fs (o.behind.late ∷ [])) is_found
-      ∙ ap (λ (y : Account). border_text y.origins (record {
-        ends = x.ends;
-        begins = x.begins;
-        k = a.k;
-        tick = a.last.tick;
-        n = a.state.done + 1;
-        start = o.last.front.c;
-        waited = a.behind.waited;
-        why = if nat_eq a.k 0 then Run else why_by (interrupt a.state) a.last.missed;
-        was = a.last.enabled;
-        taken = interrupt a.state;
-        done = a.state.done;
-      }) y.behind.printed.items y.words.items y.state y.behind.found.items (y.behind.late ∷ [])) opened
-      ∙ border-lines ds n m a.state a.last a.behind.found.items a.behind.banks a.behind.card a.behind.waited at (interrupt a.state) x.ends refl ends (origin_at a.origins) b a.last.enabled
-      a.words.items a.behind.printed.items (a.behind.late ∷ []) is.was is.printed a.k (a.state.done + 1) o.last.front.c x.begins
-      (if nat_eq a.k 0 then Run else why_by (interrupt a.state) a.last.missed) is.words (λ on some. is.late (ends-by left m on) some) begins refl
-      (ap (λ (f : Front). f.c) front) refl
+    -- those of the border
+    pub crossed : (i : ℕ) (found : List Ahead) (printed : List (List ℕ)) → i ≡ o.state.done + 1 → found ≡ o.behind.found.items → printed ≡ o.behind.printed.items
+        → o.last.front ≡ next_front m
+        → border_text o.origins x a.k o.last.tick i printed o.last.enabled o.words.items o.state found (o.behind.late ∷ []) ≡ segment_lines (origin_at a.origins) ds n a.k b m
+    crossed i found printed is_i is_found is_printed front =
+        let opening : Border = record {
+          ends = x.ends;
+          begins = x.begins;
+          start = o.last.front.c;
+          waited = a.behind.waited;
+          why = if nat_eq a.k 0 then Run else why_by (interrupt a.state) a.last.missed;
+          taken = interrupt a.state;
+          done = a.state.done;
+        } in
+        ap (λ (y : Border). border_text o.origins y a.k o.last.tick i printed o.last.enabled o.words.items o.state found (o.behind.late ∷ [])) border
+        ∙ ap (λ (fs : List Ahead). border_text o.origins opening a.k o.last.tick i printed o.last.enabled o.words.items o.state fs (o.behind.late ∷ [])) is_found
+        ∙ ap (λ (l : Last). border_text o.origins opening a.k l.tick i printed l.enabled o.words.items o.state o.behind.found.items (o.behind.late ∷ [])) last
+        ∙ ap (λ (y : Account). border_text y.origins opening a.k a.last.tick i printed a.last.enabled y.words.items y.state y.behind.found.items (y.behind.late ∷ [])) opened
+        ∙ border-lines ds n m a.state a.last a.behind.found.items a.behind.banks a.behind.card a.behind.waited at (interrupt a.state) x.ends refl ends (origin_at a.origins) b a.last.enabled
+        a.words.items printed (a.behind.late ∷ []) is.was (is_printed ∙ ap (λ (y : Account). y.behind.printed.items) opened ∙ is.printed) a.k i o.last.front.c x.begins
+        (if nat_eq a.k 0 then Run else why_by (interrupt a.state) a.last.missed) is.words (λ on some. is.late (ends-by left m on) some) begins
+        (is_i ∙ ap (λ (y : Account). y.state.done + 1) opened) (ap (λ (f : Front). f.c) front) refl
 
 -- ---- the end of the run
 
@@ -287,11 +269,11 @@ module _ (ds : List ℕ) (n left : ℕ) (b : Machine) (m : Moment) (a : Account)
   last-row end is_end =
       ap (kept_lines a.k a.last) (is_end ∙ ap Some (sym is.tick) ∙ ap (λ (y : Bool). if y then Some m.tick else None) (sym ends-there))
 
-  pub last-lines : (i : ℕ) (found : List Ahead) → i ≡ a.state.done + 1 → found ≡ a.behind.found.items
-      → ((segment_end_lines (origin_at a.origins a.state) a.k a.last.tick i found (a.behind.late ∷ []) ++ marks_lines a.behind.printed.items a.k a.last.enabled a.words.items a.state)
+  pub last-lines : (i : ℕ) (found : List Ahead) (printed : List (List ℕ)) → i ≡ a.state.done + 1 → found ≡ a.behind.found.items → printed ≡ a.behind.printed.items
+      → ((segment_end_lines (origin_at a.origins a.state) a.k a.last.tick i found (a.behind.late ∷ []) ++ marks_lines printed a.k a.last.enabled a.words.items a.state)
       ++ run_end_line (rests a.state) ∷ done_line a.state.done ∷ ticks_line a.last.tick ∷ []) ≡ last_lines (origin_at a.origins) ds n a.k b m
-  last-lines i found number is_found =
-      last-is (origin_at a.origins) ds n b a.last.enabled is.was m a.behind.printed.items is.printed a.state a.k a.last.tick i found (a.behind.late ∷ []) is.tick
+  last-lines i found printed number is_found is_printed =
+      last-is (origin_at a.origins) ds n b a.last.enabled is.was m printed (is_printed ∙ is.printed) a.state a.k a.last.tick i found (a.behind.late ∷ []) is.tick
       (ap (λ (c : Scene). c.machine) is.scene) (is_found ∙ is.dropped ends-there) (is.late ends-there) number a.words.items is.words
 
 -- the words of the last entry, of which none count where a segment ends

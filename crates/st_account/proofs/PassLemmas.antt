@@ -1,6 +1,6 @@
 -- What comes behind a moment, and what is then at hand.
 use Rattle.std.specs.Prelude.{slice_index, nat_lt, nat_eq, ◌||◌, not, Bool, map, All}
-use Rattle.std.proofs.Common.{◌≡◌, ◌≢◌, ℕ, suc, ◌<◌, ◌≤◌, true, None, List, [], ◌∷◌, ◌++◌, length, sym, ◌∙◌, ap, subst}
+use Rattle.std.proofs.Common.{◌≡◌, ◌≢◌, ℕ, suc, ◌<◌, true, None, List, ◌++◌, length, sym, ◌∙◌, ap, subst}
 use Rattle.st_bits.specs.declared.limits.TheConstants.{WORDS}
 use Rattle.st_banks.specs.declared.answers.LastAnswers.{LastAnswers}
 use Rattle.st_card.specs.declared.control_cards.Signal.{Signal}

@@ -24,7 +24,8 @@ use Rattle.st_reasons.specs.declared.waits.Stall.{Stall}
 use Rattle.st_reasons.specs.declared.waits.Stall.TheVariants.{Turn, Bank, Storage}
 use Rattle.st_reasons.proofs.Added.{shares-later}
 use Rattle.st_account.specs.declared.last.Last.{Last}
-use Rattle.st_account.specs.Standing.{kept_stalled, IsWaiting, IsStanding}
+use Rattle.st_lines.specs.Waited.{AddsWaits}
+use Rattle.st_account.specs.Standing.{charges_kept, kept_stalled, IsWaiting, AddsKeptWaits, IsStanding}
 use Rattle.st_account.specs.Text.{uses_at}
 use Rattle.st_account.proofs.EntryLemmas.{row-is}
 
@@ -87,12 +88,40 @@ waiting-same l k t u same is h =
       within = subst (AreWaitsWithin l.done.before) (sym is) h.within;
     })
 
-pub kept-stalled-same : (r : Stage) (s : Stall) (k : ℕ) (l j : Last) → j ≡ record l { front = j.front; past = j.past } → kept_stalled r s k j ≡ kept_stalled r s k l
+kept-stalled-same : (r : Stage) (s : Stall) (k : ℕ) (l j : Last) → j ≡ record l { front = j.front; past = j.past } → kept_stalled r s k j ≡ kept_stalled r s k l
 unfolding kept_stalled
 kept-stalled-same r s k l j same = ap (kept_stalled r s k) same
 
-pub reach-within : (l : Last) (sums new : WaitTotals) → IsWaiting l sums → AreWaitsWithin l.done.before new → AreWaitsWithin l.tick new
+reach-within : (l : Last) (sums new : WaitTotals) → IsWaiting l sums → AreWaitsWithin l.done.before new → AreWaitsWithin l.tick new
 reach-within l sums new is within = waits-later l.done.before l.tick new (omega (arith, is.reach)) within
+
+pub adds-none : (k : ℕ) (l : Last) (sums : WaitTotals) → k ≡ 0 → IsWaiting l sums → AddsKeptWaits k l sums sums
+adds-none k l sums none is = record {
+  within = reach-within l sums sums is is.within;
+  sums = λ r s parted. omega (arith, kept-stalled-none r s k l none);
+}
+
+pub adds-some : (k : ℕ) (l : Last) (us bs : List Use) (old new : WaitTotals) → k ≢ 0 → l.done.before + all_ticks (charges_kept l) ≡ l.tick
+    → us ≡ l.uses.items → bs ≡ l.before.items → AddsWaits us bs l.done.before (charges_kept l) old new → AddsKeptWaits k l old new
+adds-some k l us bs old new some reach used earlier is = record {
+  within = subst (λ t. AreWaitsWithin t new) reach is.within;
+  sums = λ r s parted.
+      is.sums r s parted
+      ∙ ap (λ xs. waited_at r s old + row_stalled r s xs bs (charges_kept l)) used
+      ∙ ap (λ xs. waited_at r s old + row_stalled r s l.uses.items xs (charges_kept l)) earlier
+      ∙ ap (λ n. waited_at r s old + n) (sym (kept-stalled-some r s k l some));
+}
+
+-- the front of the next entry does not count there either
+pub adds-same : (k : ℕ) (l o : Last) (t u new : WaitTotals) → o ≡ record l { front = o.front; past = o.past } → t ≡ u
+    → AddsKeptWaits k o t new → AddsKeptWaits k l u new
+adds-same k l o t u new same is h = record {
+  within = subst (λ (x : Last). AreWaitsWithin x.tick new) same h.within;
+  sums = λ r s parted.
+      h.sums r s parted
+      ∙ ap (λ (x : WaitTotals). waited_at r s x + kept_stalled r s k o) is
+      ∙ ap (λ n. waited_at r s u + n) (kept-stalled-same r s k l o same);
+}
 
 -- ---- the next entry
 

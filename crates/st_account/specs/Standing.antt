@@ -18,7 +18,7 @@ use Rattle.st_run.specs.Reached.{IsCard}
 use Rattle.st_ledger.specs.Charges.{parts_of_row, charges_behind, all_ticks}
 use Rattle.st_ledger.specs.declared.charges.Charge.{Charge}
 use Rattle.st_ledger.specs.declared.charges.Stage.{Stage}
-use Rattle.st_reasons.specs.Sums.{AreWaitsWithin, row_stalled}
+use Rattle.st_reasons.specs.Sums.{AreWaitsWithin, is_parted, waited_at, row_stalled}
 use Rattle.st_reasons.specs.Words.{IsReadInTime}
 use Rattle.st_reasons.specs.declared.sums.WaitTotals.{WaitTotals}
 use Rattle.st_reasons.specs.declared.waits.Stall.{Stall}
@@ -105,6 +105,12 @@ pub record IsWaiting (l : Last) (sums : WaitTotals) : Type 0 where
   pub before : All IsReadInTime l.before.items
   pub reach : l.done.before + all_ticks (charges_kept l) ≡ l.tick
   pub within : AreWaitsWithin l.done.before sums
+
+-- its waits are added to the sums; before the first entry there are none
+pub record AddsKeptWaits (k : ℕ) (l : Last) (old new : WaitTotals) : Type 0 where
+  pub within : AreWaitsWithin l.tick new
+  pub sums : (r : Stage) (s : Stall) → is_parted r ≡ true →
+      waited_at r s new ≡ waited_at r s old + kept_stalled r s k l
 
 -- The run stands at the moment, which the entry before made of the state b: this is at hand of it,
 -- and these signals and cards are still to come.

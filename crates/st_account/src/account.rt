@@ -18,7 +18,7 @@ ghost use Rattle.st_lines.specs.Changes.{IsLeft};
 ghost use Rattle.st_lines.specs.Origins.{origin_at};
 ghost use Rattle.st_lines.specs.declared.lines.Why.TheVariants.{Run as RunBegins};
 ghost use Rattle.st_plain.specs.Looking.{seen_ahead, first_late};
-ghost use Rattle.st_reasons.specs.Sums.{AreWaitsWithin, is_parted, waited_at, row_stalled};
+ghost use Rattle.st_reasons.specs.Sums.{AreWaitsWithin, row_stalled};
 ghost use Rattle.st_reasons.specs.Words.{IsReadInTime};
 ghost use Rattle.st_reasons.specs.declared.waits.Stall.{Stall};
 ghost use Rattle.st_rows.specs.Asked.{Read, made_before};
@@ -27,9 +27,9 @@ ghost use Rattle.st_rows.specs.Rows.{opening_front};
 ghost use Rattle.st_rows.specs.declared.bus.Bus.{Bus as BusOf};
 ghost use Rattle.st_run.specs.Moments.{Moment, Standing, next_front, next_moment};
 ghost use Rattle.st_segment.specs.Ahead.{ahead, prepared_before, reads_before};
-ghost use Rattle.st_state.specs.Machine.{Machine, word};
+ghost use Rattle.st_state.specs.Machine.{Machine, IsMachine, word};
 ghost use Rattle.st_account.specs.Text.{why_by, run_ends, segment_end_at, segment_after, segment_lines, uses_at, words_before, lines_of_entry, last_lines};
-ghost use Rattle.st_account.specs.Standing.{guessing, kept_lines, kept_stalled, IsWaiting, HasReads, IsLast, IsStanding, IsAt, IsBehindMoment};
+ghost use Rattle.st_account.specs.Standing.{guessing, kept_lines, kept_stalled, IsWaiting, AddsKeptWaits, HasReads, IsLast, IsStanding, IsAt, IsBehindMoment};
 
 use crate::behind::{Behind, look_behind, nothing_came};
 use crate::last::{Last, at_start, clear_if, open_if};
@@ -46,8 +46,8 @@ use st_exec::{interrupt, is_at_rest, next_address};
 use st_io::{Failed, Sink};
 use st_ledger::{RowLine, Totals};
 use st_lines::{
-    Border, EntryDone, FactLine, Origins, Waiting, counter_of, is_enabled, write_border,
-    write_done, write_end, write_marks, write_totals,
+    Between, Border, Dropped, EntryDone, EntryRecord, FactLine, Origins, Waiting, counter_of,
+    is_enabled, write_border, write_done, write_end, write_marks, write_totals,
 };
 use st_reasons::{WaitTotals, Waits};
 use st_rows::Log;
@@ -89,10 +89,8 @@ fn write_row<K: Sink>(
     requires { IsWaiting last.now waiting.old.totals }
     ensures lines { WritesLines (K.output out.old) (K.output out.new)
         (kept_lines k last.now end) result }
-    ensures within { IsOk result → AreWaitsWithin last.now.tick waiting.new.totals }
-    ensures sums { IsOk result → (r : Stage) (s : Stall) → is_parted r ≡ true →
-        waited_at r s waiting.new.totals
-        ≡ waited_at r s waiting.old.totals + kept_stalled r s k last.now }
+    ensures waits { IsOk result →
+        AddsKeptWaits k last.now waiting.old.totals waiting.new.totals }
 {
     if k == 0 {
         return Ok(());
@@ -108,15 +106,14 @@ fn write_row<K: Sink>(
         end,
         because: last.because,
     };
-    write_done(
-        out,
-        &done,
-        &last.plan,
-        &last.done.known,
-        last.uses.as_slice(),
-        last.before.as_slice(),
-        waiting,
-    )
+    let entry = EntryRecord {
+        done: &done,
+        plan: &last.plan,
+        known: &last.done.known,
+        uses: last.uses.as_slice(),
+        before: last.before.as_slice(),
+    };
+    write_done(out, &entry, waiting)
 }
 
 impl Account {
@@ -124,6 +121,7 @@ impl Account {
     /// storage has, whatever they are.
     pub fn new(state: State, words: Vec<u64>, origins: Origins) -> Account
         ensures state { result.state ≡ state }
+        ensures machine { IsMachine state }
         ensures words { result.words.items ≡ words.items }
         ensures origins { result.origins ≡ origins }
 
@@ -268,7 +266,6 @@ impl Account {
     // What stands between the last entry and the next one; the front and the segment are then those
     // of the next one.
     fn open(&mut self) -> Border
-        requires few { self.old.state.done ≤ MOST_INSTRUCTIONS }
         requires number { self.old.k ≤ MOST_INSTRUCTIONS }
         requires early { self.old.last.tick ≤ 2 ^ 62 }
         requires dropped { length self.old.behind.found.items ≤ 8 }
@@ -280,14 +277,10 @@ impl Account {
         ensures border { result ≡ record {
           ends = result.ends;
           begins = result.begins;
-          k = self.old.k;
-          tick = self.old.last.tick;
-          n = self.old.state.done + 1;
           start = self.new.last.front.c;
           waited = self.old.behind.waited;
           why = if nat_eq self.old.k 0 then RunBegins
               else why_by (interrupt_of self.old.state) self.old.last.missed;
-          was = self.old.last.enabled;
           taken = interrupt_of self.old.state;
           done = self.old.state.done;
         } }
@@ -311,8 +304,6 @@ impl Account {
     {
         let taken = interrupt(&self.state);
         let missed = self.last.missed;
-        let was = self.last.enabled;
-        let tick = self.last.tick;
         let k = self.k;
         let ends = is_end(missed, self.behind.card, self.behind.waited, taken);
         let begins = either(k == 0, ends);
@@ -326,13 +317,9 @@ impl Account {
         Border {
             ends,
             begins,
-            k,
-            tick,
-            n: row_number(&self.state),
             start: self.last.front.c,
             waited: self.behind.waited,
             why: why_of(k == 0, taken, missed),
-            was,
             taken,
             done: done_of(&self.state),
         }
@@ -383,28 +370,28 @@ impl Account {
             IsBehindMoment ds n left b m self.old xs cards → IsOk result →
             self.new.last.uses.items ≡ words_before m self.old.last.uses.items }
         ensures read { IsOk result → All IsReadInTime self.new.last.uses.items }
-        ensures within { IsOk result → AreWaitsWithin self.new.last.tick
-            self.new.waiting.totals }
-        ensures stalled { IsOk result → (r : Stage) (s : Stall) → is_parted r ≡ true →
-            waited_at r s self.new.waiting.totals ≡ waited_at r s self.old.waiting.totals
-            + kept_stalled r s self.old.k self.old.last }
+        ensures waits { IsOk result → AddsKeptWaits self.old.k self.old.last
+            self.old.waiting.totals self.new.waiting.totals }
     {
-        self.state.shape();
+        let k = self.k;
         let border = self.open();
-        let end = end_of(border.ends, border.tick);
-        write_row(out, &self.last, border.k, end, &mut self.waiting)?;
+        let end = end_of(border.ends, self.last.tick);
+        write_row(out, &self.last, k, end, &mut self.waiting)?;
         clear_if(border.ends, &mut self.last.uses);
-        write_border(
-            out,
-            border,
-            &self.behind.printed,
-            &mut self.words,
-            &self.state,
-            &self.behind.may,
-            self.behind.found.as_slice(),
-            &self.behind.late,
-            &self.origins,
-        )
+        let between = Between {
+            k,
+            dropped: Dropped {
+                tick: self.last.tick,
+                n: row_number(&self.state),
+                found: self.behind.found.as_slice(),
+                late: &self.behind.late,
+                origins: &self.origins,
+            },
+            printed: self.behind.printed.as_slice(),
+            was: self.last.enabled,
+            may: &self.behind.may,
+        };
+        write_border(out, &border, &between, &mut self.words, &self.state)
     }
 
     /// Writes the lines of the last entry, of what came behind it, and of the end of the run.
@@ -423,9 +410,8 @@ impl Account {
             (kept_lines self.old.k self.old.last (segment_end_at left m)
             ++ last_lines (origin_at self.old.origins) ds n self.old.k b m) result }
         ensures sums { self.new.sums ≡ self.old.sums }
-        ensures stalled { IsOk result → (r : Stage) (s : Stall) → is_parted r ≡ true →
-            waited_at r s self.new.waiting.totals ≡ waited_at r s self.old.waiting.totals
-            + kept_stalled r s self.old.k self.old.last }
+        ensures waits { IsOk result → AddsKeptWaits self.old.k self.old.last
+            self.old.waiting.totals self.new.waiting.totals }
     {
         let end = end_of(true, self.last.tick);
         write_row(out, &self.last, self.k, end, &mut self.waiting)?;
@@ -448,25 +434,21 @@ impl Account {
         ensures sums { self.new.sums ≡ self.old.sums }
         ensures waits { self.new.waiting ≡ self.old.waiting }
     {
-        write_end(
-            out,
-            self.k,
-            self.last.tick,
-            row_number(&self.state),
-            self.behind.found.as_slice(),
-            &self.behind.late,
-            &self.origins,
-            &self.state,
-        )?;
-        write_marks(
-            out,
-            &self.behind.printed,
-            self.k,
-            self.last.enabled,
-            &mut self.words,
-            &self.state,
-            &self.behind.may,
-        )?;
+        let between = Between {
+            k: self.k,
+            dropped: Dropped {
+                tick: self.last.tick,
+                n: row_number(&self.state),
+                found: self.behind.found.as_slice(),
+                late: &self.behind.late,
+                origins: &self.origins,
+            },
+            printed: self.behind.printed.as_slice(),
+            was: self.last.enabled,
+            may: &self.behind.may,
+        };
+        write_end(out, between.k, &between.dropped, &self.state)?;
+        write_marks(out, &between, &mut self.words, &self.state)?;
         write_totals(
             out,
             is_at_rest(&self.state),
@@ -518,7 +500,6 @@ impl Account {
         ensures number { self.new.k ≡ self.old.k }
     {
         timing.delays.shape();
-        self.state.shape();
         let taken = interrupt(&self.state);
         let before = self.last.tick;
         let start = self.last.front.c;

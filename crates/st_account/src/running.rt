@@ -96,7 +96,6 @@ fn write_run<K: Sink>(
         mut cards,
         timing,
     } = ready;
-    state.shape();
     timing.delays.shape();
     let mut account = Account::new(state, words, origins);
     let mut rest = signals(controls);

@@ -15,6 +15,7 @@ ghost use Rattle.st_segment.specs.Entries.{entry as entry_of};
 ghost use Rattle.st_account.specs.Text.{why_by};
 ghost use Rattle.st_account.specs.Standing.{guessing, has_due, still_by};
 ghost use Rattle.st_lines.specs.declared.lines.Why.TheVariants.{Run as RunBegins};
+ghost use Rattle.st_state.specs.Machine.{IsMachine};
 
 use crate::last::Last;
 use crate::timing::Timing;
@@ -191,7 +192,6 @@ fn guessed_counter(p: &Prepared, state: &State) -> u32
     ensures value { result ≡ (if p.now.serial then state.now.ic else p.now.following) }
     ensures below { result < 2 ^ 19 }
 {
-    state.shape();
     if p.serial { state.ic } else { p.following }
 }
 
@@ -226,7 +226,8 @@ pub(crate) fn done_of(state: &State) -> u64
 /// The number of the next row.
 pub(crate) fn row_number(state: &State) -> u32
     requires { state.now.done ≤ MOST_INSTRUCTIONS }
-    ensures { result ≡ state.now.done + 1 }
+    ensures number { result ≡ state.now.done + 1 }
+    ensures machine { IsMachine state.now }
 {
     state.done as u32 + 1
 }

@@ -192,30 +192,6 @@ module _ (s t : OutputState) (old now : List ℕ) (m : Machine) (w : ℕ) (h : I
   pub words-kept : length m.words ≡ words_of_storage → now ≡ m.words
   words-kept size = ext_get_or 0 now m.words (h.size ∙ sym size) (λ v inside. h.kept v (omega (arith, h.size, words_of_storage_is, inside)))
 
--- ---- words that are kept, whatever was there
-
-pub record IsKeeping (now : List ℕ) (m : Machine) (w : ℕ) : Type 0 where
-  pub size : length now ≡ words_of_storage
-  pub kept : (v : ℕ) → v < w → slice_index now v ≡ word m v
-
-pub keep-starts : (old : List ℕ) (m : Machine) → length old ≡ words_of_storage → IsKeeping old m 0
-keep-starts old m size = record { size = size; kept = λ v below. absurd (omega arith) }
-
-pub keep-turn : (now new : List ℕ) (m : Machine) (w x : ℕ) → IsKeeping now m w → w < WORDS → x ≡ word m w → new ≡ slice_set now w x → IsKeeping new m (w + 1)
-keep-turn now new m w x h some is_word is =
-    let inside : w < length now = omega (arith, h.size, words_of_storage_is) in
-    record {
-      size = ap length is ∙ length-set now w x ∙ h.size;
-      kept = λ v below.
-          elim (eqb_tells v w) [
-            | inl e ↦ subst (λ k. slice_index new k ≡ word m k) (sym e.1) (ap (λ xs. slice_index xs w) is ∙ get_or-set_same now w x 0 inside ∙ is_word)
-            | inr e ↦ ap (λ xs. slice_index xs v) is ∙ get_or-set_other now w v x 0 e.1 ∙ h.kept v (omega (arith, e.1))
-          ];
-    }
-
-pub keep-ends : (now : List ℕ) (m : Machine) (w : ℕ) → IsKeeping now m w → WORDS ≤ w → length m.words ≡ words_of_storage → now ≡ m.words
-keep-ends now m w h end size = ext_get_or 0 now m.words (h.size ∙ sym size) (λ v inside. h.kept v (omega (arith, h.size, words_of_storage_is, inside)))
-
 -- ---- one of two
 
 pub first_of : (s u : OutputState) (b : Bool) (xs ys : List (List ℕ)) (r : Result (Unit {0}) Failed) → b ≡ true → WritesLines s u xs r

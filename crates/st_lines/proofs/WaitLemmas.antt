@@ -1,6 +1,6 @@
 -- Writing charges with their waits, one after another.
 use Rattle.std.specs.Prelude.{if◌then◌else◌, Result, Ok, Err, IsErr, codes, decimal}
-use Rattle.std.proofs.Common.{◌≡◌, ℕ, ◌+◌, ◌≤◌, ◌<◌, max, List, [], ◌∷◌, ◌++◌, refl, sym, ◌∙◌, ap, subst, append_assoc, arith}
+use Rattle.std.proofs.Common.{◌≡◌, ℕ, ◌+◌, ◌≤◌, ◌<◌, max, true, List, [], ◌∷◌, ◌++◌, refl, sym, ◌∙◌, ap, subst, append_assoc, arith}
 use Rattle.std.proofs.lemmas.Bool.{lt-ltb, le-ltb}
 use Rattle.std.proofs.lemmas.Fmt.{decimal_digit}
 use Rattle.std.proofs.lemmas.List.{append-nil}
@@ -13,17 +13,19 @@ use Rattle.st_plain.specs.declared.uses.Use.{Use}
 use Rattle.st_ledger.specs.declared.charges.Charge.{Charge}
 use Rattle.st_ledger.specs.declared.charges.Part.{Part}
 use Rattle.st_ledger.specs.declared.charges.Stage.{Stage}
-use Rattle.st_ledger.specs.Charges.{charges_behind, part_charges, is_stage}
+use Rattle.st_ledger.specs.Charges.{charges_behind, part_charges, is_stage, all_ticks}
 use Rattle.st_ledger.specs.Lines.{charge_line}
+use Rattle.st_ledger.proofs.Added.{reach-end, reach-later}
 use Rattle.st_ledger.proofs.Told.{charged-parts}
 use Rattle.st_reasons.specs.Waits.{charge_waits}
-use Rattle.st_reasons.specs.Sums.{stalled_for, row_stalled, AreWaitsWithin, all_stalled}
+use Rattle.st_reasons.specs.Sums.{stalled_for, row_stalled, is_parted, waited_at, AreWaitsWithin, all_stalled}
 use Rattle.st_reasons.specs.Words.{AreWordsInTime}
 use Rattle.st_reasons.specs.declared.sums.WaitSum.{WaitSum}
 use Rattle.st_reasons.specs.declared.sums.WaitTotals.{WaitTotals}
 use Rattle.st_reasons.specs.declared.waits.Stall.{Stall}
 use Rattle.st_reasons.specs.declared.waits.Wait.{Wait}
 use Rattle.st_reasons.proofs.Laws.{waits_are_within_their_charge}
+use Rattle.st_lines.specs.Waited.{AddsWaits}
 use Rattle.st_lines.specs.WaitLines.{wait_line, wait_lines, charged_lines, wait_sum_line, wait_sum_lines}
 
 -- the digit of a bank before a line
@@ -83,12 +85,14 @@ pub part_left : (s : OutputState) (uses before : List Use) (t : ℕ) (x : Part) 
 unfolding charged_lines
 part_left s uses before t x o past = rw (le-ltb t x.end past) (record { ok = wrote_nothing s; err = tt })
 
-pub part_within : (t : ℕ) (x : Part) (a : WaitTotals) → x.end ≤ t → AreWaitsWithin t a → AreWaitsWithin (max t x.end) a
-part_within t x a past within =
-    let same : t ≡ max t x.end = omega (arith, past) in
-    subst (λ m. AreWaitsWithin m a) same within
+-- where it ends
+pub part_end : (t late : ℕ) (x : Part) → late ≡ max t x.end → t + all_ticks (part_charges t x) ≡ late
+unfolding charges_behind all_ticks
+part_end t late x top =
+    let none : late + 0 ≡ late = omega arith in
+    sym (reach-later t late (x ∷ []) [] x refl top) ∙ none
 
-pub part_stalled : (r : Stage) (s : Stall) (uses before : List Use) (t : ℕ) (x : Part) (n : ℕ) → x.end ≤ t
+part_stalled : (r : Stage) (s : Stall) (uses before : List Use) (t : ℕ) (x : Part) (n : ℕ) → x.end ≤ t
     → n ≡ n + row_stalled r s uses before (part_charges t x)
 unfolding row_stalled
 part_stalled r s uses before t x n past = rw (le-ltb t x.end past) (omega arith)
@@ -104,13 +108,29 @@ pub part_told : (s u : OutputState) (uses before : List Use) (t : ℕ) (x : Part
 part_told s u uses before t x c waits r early is waits_is h =
     subst (λ ls. WritesLines s u ls r) (ap (λ ws. charge_line c ∷ wait_lines ws) waits_is ∙ sym (charge-lines uses before t x c early is)) h
 
-pub part_added : (r : Stage) (s : Stall) (uses before : List Use) (t : ℕ) (x : Part) (waits : List Wait) (n m : ℕ) → t < x.end
+part_added : (r : Stage) (s : Stall) (uses before : List Use) (t : ℕ) (x : Part) (waits : List Wait) (n m : ℕ) → t < x.end
     → waits ≡ charge_waits (record { from = t; to = x.end; stage = x.stage }) uses before
     → m ≡ n + (if is_stage r x.stage then stalled_for s waits else 0)
     → m ≡ n + row_stalled r s uses before (part_charges t x)
 unfolding row_stalled
 part_added r s uses before t x waits n m early waits_is h =
     h ∙ rw (lt-ltb t x.end early, sym waits_is) (omega arith)
+
+pub part_passed : (uses before : List Use) (t : ℕ) (x : Part) (sums : WaitTotals) → x.end ≤ t → AreWaitsWithin t sums
+    → AddsWaits uses before t (part_charges t x) sums sums
+part_passed uses before t x sums past within = record {
+  within = subst (λ m. AreWaitsWithin m sums) (sym (part_end t t x (omega (arith, past)))) within;
+  sums = λ r s parted. part_stalled r s uses before t x _ past;
+}
+
+pub part_taken : (uses before : List Use) (t : ℕ) (x : Part) (waits : List Wait) (old new : WaitTotals) → t < x.end
+    → waits ≡ charge_waits (record { from = t; to = x.end; stage = x.stage }) uses before → AreWaitsWithin x.end new
+    → ((r : Stage) (s : Stall) → is_parted r ≡ true → waited_at r s new ≡ waited_at r s old + (if is_stage r x.stage then stalled_for s waits else 0))
+    → AddsWaits uses before t (part_charges t x) old new
+part_taken uses before t x waits old new early waits_is within sums = record {
+  within = subst (λ m. AreWaitsWithin m new) (sym (part_end t x.end x (omega (arith, early)))) within;
+  sums = λ r s parted. part_added r s uses before t x waits _ _ early waits_is (sums r s parted);
+}
 
 pub part_few : (uses before : List Use) (t : ℕ) (x : Part) (waits : List Wait) → t < x.end → AreWordsInTime uses → AreWordsInTime before
     → waits ≡ charge_waits (record { from = t; to = x.end; stage = x.stage }) uses before → t + all_stalled waits ≤ x.end
@@ -164,7 +184,7 @@ unfolding row_stalled
 stalled-append r s uses before [] ys = omega arith
 stalled-append r s uses before (x ∷ xs) ys = omega (arith, stalled-append r s uses before xs ys)
 
-pub stalled_more : (r : Stage) (s : Stall) (uses before : List Use) (t late : ℕ) (parts xs : List Part) (x : Part) (n m k : ℕ) → parts ≡ x ∷ xs
+stalled_more : (r : Stage) (s : Stall) (uses before : List Use) (t late : ℕ) (parts xs : List Part) (x : Part) (n m k : ℕ) → parts ≡ x ∷ xs
     → late ≡ max t x.end → m ≡ n + row_stalled r s uses before (part_charges t x)
     → k ≡ m + row_stalled r s uses before (charges_behind late xs) → k ≡ n + row_stalled r s uses before (charges_behind t parts)
 stalled_more r s uses before t late parts xs x n m k is top first rest =
@@ -177,7 +197,27 @@ stalled_more r s uses before t late parts xs x n m k is top first rest =
     ap (λ u. row_stalled r s uses before (charges_behind u xs)) top in
     omega (arith, all, later, first, rest)
 
-pub stalled_none : (r : Stage) (s : Stall) (uses before : List Use) (t : ℕ) (parts : List Part) (n : ℕ) → parts ≡ []
+stalled_none : (r : Stage) (s : Stall) (uses before : List Use) (t : ℕ) (parts : List Part) (n : ℕ) → parts ≡ []
     → n ≡ n + row_stalled r s uses before (charges_behind t parts)
 unfolding charges_behind row_stalled
 stalled_none r s uses before t parts n is = rw is (omega arith)
+
+pub parts_passed : (uses before : List Use) (t : ℕ) (parts : List Part) (sums : WaitTotals) → parts ≡ [] → AreWaitsWithin t sums
+    → AddsWaits uses before t (charges_behind t parts) sums sums
+parts_passed uses before t parts sums is within = record {
+  within = subst (λ m. AreWaitsWithin m sums) (reach-end t parts is) within;
+  sums = λ r s parted. stalled_none r s uses before t parts _ is;
+}
+
+pub parts_taken : (uses before : List Use) (t late : ℕ) (parts xs : List Part) (x : Part) (old mid new : WaitTotals) → parts ≡ x ∷ xs → late ≡ max t x.end
+    → AddsWaits uses before t (part_charges t x) old mid → AddsWaits uses before late (charges_behind late xs) mid new
+    → AddsWaits uses before t (charges_behind t parts) old new
+parts_taken uses before t late parts xs x old mid new is top first rest = record {
+  within = subst (λ m. AreWaitsWithin m new) (reach-later t late parts xs x is top) rest.within;
+  sums = λ r s parted. stalled_more r s uses before t late parts xs x _ _ _ is top (first.sums r s parted) (rest.sums r s parted);
+}
+
+-- no sum is greater than the tick at which the next ones begin
+pub next_within : (uses before : List Use) (t late : ℕ) (x : Part) (old new : WaitTotals) → late ≡ max t x.end
+    → AddsWaits uses before t (part_charges t x) old new → AreWaitsWithin late new
+next_within uses before t late x old new top is = subst (λ m. AreWaitsWithin m new) (part_end t late x top) is.within

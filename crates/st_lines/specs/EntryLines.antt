@@ -11,6 +11,7 @@ use Rattle.st_plain.specs.declared.known.Known.{Known}
 use Rattle.st_plain.specs.declared.uses.Use.{Use}
 use Rattle.st_ledger.specs.Charges.{parts_of_row, charges_behind}
 use Rattle.st_ledger.specs.Lines.{row_stage_line}
+use Rattle.st_ledger.specs.declared.charges.Charge.{Charge}
 use Rattle.st_lines.specs.Lines.{missed_line, alone_line, suppressed_line, laid_line, code_line, writes_line, index_line, level_line}
 use Rattle.st_lines.specs.UseLines.{use_lines}
 use Rattle.st_lines.specs.WaitLines.{charged_lines, because_lines}
@@ -89,16 +90,28 @@ missed_lines false = []
 unfoldable pub level_lines : ℕ → List (List ℕ)
 level_lines d = if nat_eq d 0 then [] else level_line d ∷ []
 
+-- what its ticks are charged to
+abbrev pub charges_of_entry : EntryDone → List Charge
+charges_of_entry d = charges_behind d.before (parts_of_row d.start d.row.ticks)
+
+-- what is known by itself of an entry that is done, which uses some words
+abbrev pub known_lines : EntryDone → Prepared → Known → List Use → List (List ℕ)
+known_lines d p k uses = missed_lines d.missed ++ facts_lines d.n d.end p k d.origin uses
+
 -- its wait for a level, and what kept it back
 abbrev pub late_entry_lines : EntryDone → List (List ℕ)
 late_entry_lines d =
     level_lines d.row.level_wait ++ because_lines d.n d.before d.row.ticks.r d.because
 
--- those of an entry that is done, which uses some words, and the one before it others
+-- its charges with their waits, where it uses some words and the one before it others, its wait for
+-- a level, and what kept it back
+abbrev pub spent_lines : EntryDone → List Use → List Use → List (List ℕ)
+spent_lines d uses before =
+    charged_lines uses before (charges_of_entry d) ++ late_entry_lines d
+
+-- all that is told of it
 unfoldable pub done_entry_lines : EntryDone → Prepared → Known → List Use → List Use →
     List (List ℕ)
 done_entry_lines d p k uses before =
     row_stage_line d.n d.address d.row.ticks
-    ∷ ((missed_lines d.missed ++ facts_lines d.n d.end p k d.origin uses)
-    ++ (charged_lines uses before (charges_behind d.before (parts_of_row d.start d.row.ticks))
-    ++ late_entry_lines d))
+    ∷ (known_lines d p k uses ++ spent_lines d uses before)

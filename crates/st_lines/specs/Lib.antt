@@ -2,6 +2,7 @@ pub mod Lines
 pub mod Origins
 pub mod UseLines
 pub mod WaitLines
+pub mod Waited
 pub mod EntryLines
 pub mod BorderLines
 pub mod Changes

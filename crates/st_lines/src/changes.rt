@@ -1,9 +1,8 @@
 //! The words that changed behind an entry.
-ghost use Rattle.std.specs.Prelude.{true, ◌≡◌, ℕ, ◌+◌, ◌-◌, ◌<◌, ◌≤◌, ◌^◌, ◌⊎◌, length, slice_index, slice_set, IsOk};
+ghost use Rattle.std.specs.Prelude.{true, ◌≡◌, ℕ, ◌+◌, ◌-◌, ◌<◌, ◌≤◌, ◌⊎◌, length, slice_index, slice_set, IsOk};
 ghost use Rattle.st_bits.specs.Storage.{words_of_storage};
 ghost use Rattle.st_bits.specs.declared.limits.TheConstants.{WORDS};
 ghost use Rattle.st_io.specs.Lines.{WritesLines, lines_for};
-ghost use Rattle.st_prep.specs.Ranges.{IsRuns};
 ghost use Rattle.st_state.specs.Machine.{word as word_of};
 ghost use Rattle.st_lines.specs.BorderLines.{change_lines};
 ghost use Rattle.st_lines.specs.Changes.{IsBeside, IsLeft};
@@ -214,8 +213,5 @@ pub(crate) fn keep_words(old: &mut Vec<u64>, state: &State)
     requires { length old.old.items ≡ words_of_storage }
     ensures { old.new.items ≡ state.now.words }
 {
-    state.shape();
-    for w in 0..WORDS {
-        old[w as usize] = state.word(w);
-    }
+    old.copy_from_slice(state.words());
 }

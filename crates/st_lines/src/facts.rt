@@ -1,17 +1,12 @@
 //! What is known of an entry by itself.
-ghost use Rattle.std.specs.Prelude.{◌≡◌, ◌+◌, ◌-◌, ◌≤◌, ◌==◌, ◌||◌, ◌++◌, true, IsOk};
+ghost use Rattle.std.specs.Prelude.{◌≡◌, ◌-◌, ◌≤◌, ◌==◌, ◌||◌, ◌++◌, IsOk};
 ghost use Rattle.st_bits.specs.Indicators.{indicator as indicator_of};
 ghost use Rattle.st_prep.specs.Entry.{is_register as is_register_of, has_register as has_register_of};
 ghost use Rattle.st_state.specs.Interrupts.{first_from};
 ghost use Rattle.st_io.specs.Lines.{WritesLines};
-ghost use Rattle.st_ledger.specs.Charges.{parts_of_row, charges_behind, all_ticks};
-ghost use Rattle.st_ledger.specs.declared.charges.Stage.{Stage as StageOf};
-ghost use Rattle.st_reasons.specs.Sums.{AreWaitsWithin, is_parted, waited_at, row_stalled};
-ghost use Rattle.st_reasons.specs.Words.{AreWordsInTime};
-ghost use Rattle.st_reasons.specs.declared.waits.Stall.{Stall as StallOf};
-ghost use Rattle.st_lines.specs.EntryLines.{alone_for as alone_of, alone_by as alone_why, alone_lines, suppressed_by as suppressed_of, suppressed_lines, laid_lines, code_lines, run_lines, writes_lines, index_lines, facts_lines, missed_lines, level_lines, late_entry_lines, done_entry_lines};
+ghost use Rattle.st_lines.specs.EntryLines.{alone_for as alone_of, alone_by as alone_why, alone_lines, suppressed_by as suppressed_of, suppressed_lines, laid_lines, code_lines, run_lines, writes_lines, index_lines, facts_lines, missed_lines, level_lines, charges_of_entry, known_lines, late_entry_lines, spent_lines, done_entry_lines};
 ghost use Rattle.st_lines.specs.UseLines.{use_lines};
-ghost use Rattle.st_lines.specs.WaitLines.{charged_lines};
+ghost use Rattle.st_lines.specs.Waited.{AreWaitsReady, AddsWaits};
 
 use crate::digits::{fill_code, fill_index, fill_writes};
 use crate::lines::{Alone, line_alone, line_level, line_missed, line_suppressed};
@@ -239,41 +234,47 @@ fn write_halves<K: Sink>(
     write_code(out, line, code)
 }
 
-// Writes what the n-th entry uses and what it writes, and the index word that it changes early.
-fn write_words<K: Sink>(
-    out: &mut K,
-    line: &mut FactLine,
-    n: u32,
-    end: Option<u64>,
-    p: &Prepared,
-    uses: &[Use],
-) -> Result<(), Failed>
-    ensures { WritesLines (K.output out.old) (K.output out.new)
-        (use_lines n end uses.now ++ (writes_lines p.now.writes ++ index_lines p.now.index))
-        result }
-{
-    write_uses(out, line, n, end, uses)?;
-    write_changes(out, &mut line.bytes, p)
+/// What is known of an entry by itself.
+#[derive(Clone, Copy)]
+pub(crate) struct Facts<'a> {
+    /// Its number.
+    pub n: u32,
+    /// The tick at which its segment ends, or None where that goes on.
+    pub end: Option<u64>,
+    /// How it is prepared.
+    pub plan: &'a Prepared,
+    /// What else is known of it.
+    pub known: &'a Known,
+    /// Where its half-words come from.
+    pub origin: Option<Origin>,
+    /// The words that it uses.
+    pub uses: &'a [Use],
 }
 
-/// Writes what is known by itself of the n-th entry, whose segment ends at the tick `end`, or goes
-/// on.
+// Writes what an entry uses and what it writes, and the index word that it changes early.
+fn write_words<K: Sink>(out: &mut K, line: &mut FactLine, facts: &Facts<'_>) -> Result<(), Failed>
+    ensures { WritesLines (K.output out.old) (K.output out.new)
+        (use_lines facts.now.n facts.now.end facts.now.uses.now
+        ++ (writes_lines facts.now.plan.now.writes ++ index_lines facts.now.plan.now.index))
+        result }
+{
+    write_uses(out, line, facts.n, facts.end, facts.uses)?;
+    write_changes(out, &mut line.bytes, facts.plan)
+}
+
+/// Writes what is known of an entry by itself.
 pub(crate) fn write_facts<K: Sink>(
     out: &mut K,
     line: &mut FactLine,
-    n: u32,
-    end: Option<u64>,
-    p: &Prepared,
-    known: &Known,
-    origin: Option<Origin>,
-    uses: &[Use],
+    facts: &Facts<'_>,
 ) -> Result<(), Failed>
     ensures { WritesLines (K.output out.old) (K.output out.new)
-        (facts_lines n end p.now known.now origin uses.now) result }
+        (facts_lines facts.now.n facts.now.end facts.now.plan.now facts.now.known.now
+        facts.now.origin facts.now.uses.now) result }
 {
-    write_kind(out, p, known)?;
-    write_halves(out, &mut line.bytes, origin, known.code)?;
-    write_words(out, line, n, end, p, uses)
+    write_kind(out, facts.plan, facts.known)?;
+    write_halves(out, &mut line.bytes, facts.origin, facts.known.code)?;
+    write_words(out, line, facts)
 }
 
 /// An entry that is done.
@@ -299,6 +300,21 @@ pub struct EntryDone {
     pub because: Because,
 }
 
+/// All that is told of an entry that is done.
+#[derive(Clone, Copy)]
+pub struct EntryRecord<'a> {
+    /// What it did, and when.
+    pub done: &'a EntryDone,
+    /// How it was prepared.
+    pub plan: &'a Prepared,
+    /// What else is known of it.
+    pub known: &'a Known,
+    /// The words that it uses.
+    pub uses: &'a [Use],
+    /// Those that the entry before it in its segment uses, none for the first one.
+    pub before: &'a [Use],
+}
+
 // Writes that a branch was guessed wrongly, where it was.
 #[tactic(auto, unfolding(crate::specs::EntryLines::missed_lines), using(st_io::proofs::Progress::wrote_nothing))]
 fn write_missed<K: Sink>(out: &mut K, missed: bool) -> Result<(), Failed>
@@ -314,17 +330,23 @@ fn write_missed<K: Sink>(out: &mut K, missed: bool) -> Result<(), Failed>
 fn write_known<K: Sink>(
     out: &mut K,
     line: &mut FactLine,
-    done: &EntryDone,
-    p: &Prepared,
-    known: &Known,
-    uses: &[Use],
+    entry: &EntryRecord<'_>,
 ) -> Result<(), Failed>
     ensures { WritesLines (K.output out.old) (K.output out.new)
-        (missed_lines done.now.missed
-        ++ facts_lines done.now.n done.now.end p.now known.now done.now.origin uses.now) result }
+        (known_lines entry.now.done.now entry.now.plan.now entry.now.known.now entry.now.uses.now)
+        result }
 {
+    let done = entry.done;
     write_missed(out, done.missed)?;
-    write_facts(out, line, done.n, done.end, p, known, done.origin, uses)
+    let facts = Facts {
+        n: done.n,
+        end: done.end,
+        plan: entry.plan,
+        known: entry.known,
+        origin: done.origin,
+        uses: entry.uses,
+    };
+    write_facts(out, line, &facts)
 }
 
 // Writes for how many ticks an entry waited for a level, where it did.
@@ -349,98 +371,56 @@ fn write_late_entry<K: Sink>(out: &mut K, done: &EntryDone) -> Result<(), Failed
 // Writes the charges of an entry with their waits, its wait for a level, and what kept it back.
 fn write_waits<K: Sink>(
     out: &mut K,
-    done: &EntryDone,
-    uses: &[Use],
-    before: &[Use],
+    entry: &EntryRecord<'_>,
     waiting: &mut Waiting,
 ) -> Result<(), Failed>
-    requires uses { AreWordsInTime uses.now }
-    requires before { AreWordsInTime before.now }
-    requires within { AreWaitsWithin done.now.before waiting.old.totals }
+    requires { AreWaitsReady entry.now.uses.now entry.now.before.now entry.now.done.now.before
+        waiting.old.totals }
     ensures lines { WritesLines (K.output out.old) (K.output out.new)
-        (charged_lines uses.now before.now (charges_behind done.now.before
-        (parts_of_row done.now.start done.now.row.ticks)) ++ late_entry_lines done.now) result }
-
-    // What its waits leave of the sums.
-    ensures within { IsOk result → AreWaitsWithin
-        (done.now.before + all_ticks (charges_behind done.now.before
-        (parts_of_row done.now.start done.now.row.ticks))) waiting.new.totals }
-    ensures sums { IsOk result → (r : StageOf) (s : StallOf) → is_parted r ≡ true →
-        waited_at r s waiting.new.totals ≡ waited_at r s waiting.old.totals
-        + row_stalled r s uses.now before.now (charges_behind done.now.before
-        (parts_of_row done.now.start done.now.row.ticks)) }
+        (spent_lines entry.now.done.now entry.now.uses.now entry.now.before.now) result }
+    ensures waits { IsOk result → AddsWaits entry.now.uses.now entry.now.before.now
+        entry.now.done.now.before (charges_of_entry entry.now.done.now) waiting.old.totals
+        waiting.new.totals }
 {
-    write_charged(
-        out,
-        &done.row.ticks,
-        done.before,
-        done.start,
-        uses,
-        before,
-        waiting,
-    )?;
-    write_late_entry(out, done)
+    write_charged(out, entry, waiting)?;
+    write_late_entry(out, entry.done)
 }
 
 // What is known of an entry that is done, and what was spent on it.
 fn write_spent<K: Sink>(
     out: &mut K,
-    done: &EntryDone,
-    p: &Prepared,
-    known: &Known,
-    uses: &[Use],
-    before: &[Use],
+    entry: &EntryRecord<'_>,
     waiting: &mut Waiting,
 ) -> Result<(), Failed>
-    requires uses { AreWordsInTime uses.now }
-    requires before { AreWordsInTime before.now }
-    requires within { AreWaitsWithin done.now.before waiting.old.totals }
+    requires { AreWaitsReady entry.now.uses.now entry.now.before.now entry.now.done.now.before
+        waiting.old.totals }
     ensures lines { WritesLines (K.output out.old) (K.output out.new)
-        ((missed_lines done.now.missed
-        ++ facts_lines done.now.n done.now.end p.now known.now done.now.origin uses.now)
-        ++ (charged_lines uses.now before.now (charges_behind done.now.before
-        (parts_of_row done.now.start done.now.row.ticks)) ++ late_entry_lines done.now)) result }
-
-    // What its waits leave of the sums.
-    ensures within { IsOk result → AreWaitsWithin
-        (done.now.before + all_ticks (charges_behind done.now.before
-        (parts_of_row done.now.start done.now.row.ticks))) waiting.new.totals }
-    ensures sums { IsOk result → (r : StageOf) (s : StallOf) → is_parted r ≡ true →
-        waited_at r s waiting.new.totals ≡ waited_at r s waiting.old.totals
-        + row_stalled r s uses.now before.now (charges_behind done.now.before
-        (parts_of_row done.now.start done.now.row.ticks)) }
+        (known_lines entry.now.done.now entry.now.plan.now entry.now.known.now entry.now.uses.now
+        ++ spent_lines entry.now.done.now entry.now.uses.now entry.now.before.now) result }
+    ensures waits { IsOk result → AddsWaits entry.now.uses.now entry.now.before.now
+        entry.now.done.now.before (charges_of_entry entry.now.done.now) waiting.old.totals
+        waiting.new.totals }
 {
-    write_known(out, &mut waiting.facts, done, p, known, uses)?;
-    write_waits(out, done, uses, before, waiting)
+    write_known(out, &mut waiting.facts, entry)?;
+    write_waits(out, entry, waiting)
 }
 
-/// Writes the lines of an entry that is done: `p` is how it is prepared, `known` what else is known
-/// of it, `uses` are the words that it uses, and `before` those that the entry before it in its
-/// segment uses, none for the first one. Its waits are added to the sums.
+/// Writes the lines of an entry that is done. Its waits are added to the sums.
 pub fn write_done<K: Sink>(
     out: &mut K,
-    done: &EntryDone,
-    p: &Prepared,
-    known: &Known,
-    uses: &[Use],
-    before: &[Use],
+    entry: &EntryRecord<'_>,
     waiting: &mut Waiting,
 ) -> Result<(), Failed>
-    requires uses { AreWordsInTime uses.now }
-    requires before { AreWordsInTime before.now }
-    requires within { AreWaitsWithin done.now.before waiting.old.totals }
+    requires { AreWaitsReady entry.now.uses.now entry.now.before.now entry.now.done.now.before
+        waiting.old.totals }
     ensures lines { WritesLines (K.output out.old) (K.output out.new)
-        (done_entry_lines done.now p.now known.now uses.now before.now) result }
-
-    // What its waits leave of the sums.
-    ensures within { IsOk result → AreWaitsWithin
-        (done.now.before + all_ticks (charges_behind done.now.before
-        (parts_of_row done.now.start done.now.row.ticks))) waiting.new.totals }
-    ensures sums { IsOk result → (r : StageOf) (s : StallOf) → is_parted r ≡ true →
-        waited_at r s waiting.new.totals ≡ waited_at r s waiting.old.totals
-        + row_stalled r s uses.now before.now (charges_behind done.now.before
-        (parts_of_row done.now.start done.now.row.ticks)) }
+        (done_entry_lines entry.now.done.now entry.now.plan.now entry.now.known.now
+        entry.now.uses.now entry.now.before.now) result }
+    ensures waits { IsOk result → AddsWaits entry.now.uses.now entry.now.before.now
+        entry.now.done.now.before (charges_of_entry entry.now.done.now) waiting.old.totals
+        waiting.new.totals }
 {
+    let done = entry.done;
     write_row(
         out,
         &mut waiting.line,
@@ -448,5 +428,5 @@ pub fn write_done<K: Sink>(
         done.address,
         &done.row.ticks,
     )?;
-    write_spent(out, done, p, known, uses, before, waiting)
+    write_spent(out, entry, waiting)
 }

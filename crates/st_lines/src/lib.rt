@@ -11,12 +11,12 @@ mod waits;
 mod writing;
 
 pub use changes::Changeable;
-pub use facts::{EntryDone, write_done};
+pub use facts::{EntryDone, EntryRecord, write_done};
 pub use lines::{Alone, Why};
 pub use origins::{Origin, Origins};
 pub use uses::FactLine;
 pub use waits::{Waiting, write_because, write_charged, write_wait_sums};
 pub use writing::{
-    Border, Printed, counter_of, is_enabled, put, write_border, write_end, write_machine,
-    write_marks, write_totals,
+    Between, Border, Dropped, Printed, counter_of, is_enabled, put, write_border, write_end,
+    write_machine, write_marks, write_totals,
 };

@@ -1,12 +1,11 @@
 //! Where the half-words come from that an entry begins with.
 ghost use Rattle.std.specs.Prelude.{◌≡◌, ◌+◌, ◌≤◌, ◌++◌, length, codes, slice_index};
 ghost use Rattle.st_prep.specs.Reading.{half_of as half_by};
-ghost use Rattle.st_state.specs.Machine.{word as word_of};
 ghost use Rattle.st_text.specs.Numerals.{flag};
 ghost use Rattle.st_lines.specs.Lines.{laid_line};
 ghost use Rattle.st_lines.specs.Origins.{half_in, is_same_half as is_same_half_of, is_kept as is_kept_of, origin_at};
 
-use st_bits::{WORDS, part};
+use st_bits::part;
 use st_format::length_in_halves;
 use st_report::LineFromEnd;
 use st_state::State;
@@ -30,25 +29,12 @@ pub struct Origins {
     pub image: Vec<u64>,
 }
 
-// Word `w` of the image, 0 behind the last one.
+// Word `w` of some words, 0 behind the last one.
 #[inline(always)]
-fn laid_word(image: &Vec<u64>, w: usize) -> u64
-    ensures { result ≡ slice_index image.now.items w }
+fn word_in(words: &[u64], w: usize) -> u64
+    ensures { result ≡ slice_index words.now w }
 {
-    if w < image.len() { image[w] } else { 0 }
-}
-
-// Word `w` of a state, 0 behind the last one.
-#[inline(always)]
-fn present_word(state: &State, w: usize) -> u64
-    ensures { result ≡ word_of state.now w }
-{
-    state.shape();
-    if w < WORDS as usize {
-        state.word(w as u32)
-    } else {
-        0
-    }
+    if w < words.len() { words[w] } else { 0 }
 }
 
 // The half-word at the address `h` of a word.
@@ -59,33 +45,33 @@ fn half_of(word: u64, h: usize) -> u32
     part(word, 32 * (h % 2) as u32, 32) as u32
 }
 
-// Half-word `h` of a state.
+// Half-word `h` of some words.
 #[inline(always)]
-fn half_at(state: &State, h: usize) -> u32
-    ensures { result ≡ half_in state.now.words h }
+fn half_at(words: &[u64], h: usize) -> u32
+    ensures { result ≡ half_in words.now h }
 {
-    half_of(present_word(state, h / 2), h)
+    half_of(word_in(words, h / 2), h)
 }
 
-// Whether half-word `h` of a state is that of the image.
+// Whether half-word `h` of some words is that of the image.
 #[inline(always)]
 #[tactic(auto, unfolding(crate::specs::Origins::is_same_half))]
-fn is_same_half(image: &Vec<u64>, state: &State, h: usize) -> bool
-    ensures { result ≡ is_same_half_of image.now.items state.now.words h }
+fn is_same_half(image: &[u64], words: &[u64], h: usize) -> bool
+    ensures { result ≡ is_same_half_of image.now words.now h }
 {
-    half_at(state, h) == half_of(laid_word(image, h / 2), h)
+    half_at(words, h) == half_at(image, h)
 }
 
 // The same of what begins there, a half-word or a full word.
 #[tactic(auto, unfolding(crate::specs::Origins::is_kept))]
-fn is_kept(image: &Vec<u64>, state: &State, h: u32) -> bool
-    ensures { result ≡ is_kept_of image.now.items state.now.words h }
+fn is_kept(image: &[u64], words: &[u64], h: u32) -> bool
+    ensures { result ≡ is_kept_of image.now words.now h }
 {
     let h = h as usize;
-    if !is_same_half(image, state, h) {
+    if !is_same_half(image, words, h) {
         return false;
     }
-    length_in_halves(half_at(state, h)) == 1 || is_same_half(image, state, h + 1)
+    length_in_halves(half_at(words, h)) == 1 || is_same_half(image, words, h + 1)
 }
 
 // The number of the card of half-word `h`, or 0.
@@ -108,7 +94,7 @@ impl Origins {
         }
         Some(Origin {
             card,
-            kept: is_kept(&self.image, state, h),
+            kept: is_kept(self.image.as_slice(), state.words(), h),
         })
     }
 }

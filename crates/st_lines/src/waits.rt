@@ -1,29 +1,27 @@
 //! The lines that tell what a row waited for, and what kept it back.
-ghost use Rattle.std.specs.Prelude.{◌≡◌, ◌+◌, ◌<◌, ◌≤◌, ◌∷◌, ◌++◌, [], length, codes, decimal, true, max, MatchOption, IfSome, IsOk};
+ghost use Rattle.std.specs.Prelude.{◌≡◌, ◌+◌, ◌<◌, ◌≤◌, ◌∷◌, ◌++◌, [], length, codes, decimal, MatchOption, IfSome, IsOk};
 ghost use Rattle.arrayvec.specs.ArrayString.{array_string_len};
 ghost use Rattle.st_text.specs.Bytes.{lf};
 ghost use Rattle.st_banks.specs.Bank.{bank_of};
 ghost use Rattle.st_io.specs.Lines.{WritesLines};
-ghost use Rattle.st_ledger.specs.declared.charges.Stage.{Stage as StageOf};
-ghost use Rattle.st_ledger.specs.Charges.{parts_of_row, charges_behind, part_charges, all_ticks};
+ghost use Rattle.st_ledger.specs.Charges.{charges_behind, part_charges};
 ghost use Rattle.st_ledger.specs.Lines.{charge_line};
 ghost use Rattle.st_reasons.specs.declared.because.Because.TheVariants.{Start as StartOf, Prefetch as PrefetchOf, Earlier as EarlierOf};
-ghost use Rattle.st_reasons.specs.declared.waits.Stall.{Stall as StallOf};
-ghost use Rattle.st_reasons.specs.Words.{AreWordsInTime};
-ghost use Rattle.st_reasons.specs.Sums.{AreWaitsWithin, is_parted, waited_at, row_stalled, wait_sums_by};
+ghost use Rattle.st_reasons.specs.Sums.{waited_at, wait_sums_by};
+ghost use Rattle.st_lines.specs.EntryLines.{charges_of_entry};
+ghost use Rattle.st_lines.specs.Waited.{AreWaitsReady, AddsWaits};
 ghost use Rattle.st_lines.specs.WaitLines.{stall_name, wait_line, wait_lines, charged_lines, wait_sum_line, wait_sum_lines, reason_name, because_line, because_lines};
 
+use crate::facts::EntryRecord;
 use crate::uses::{FactLine, bank_number};
 use crate::writing::put;
 use st_io::{Failed, Sink, write_line};
 use st_ledger::{Charge, Part, RowLine, fill_charge, first_part, later, name_of, parts};
-use st_plain::Use;
 use st_reasons::{
     Because, Cause, Prefetched, Reason, Stall, Wait, WaitSum, WaitTotals, Waits, fill_waits,
     wait_sums,
 };
 use st_report::LineFromEnd;
-use st_rows::EntryTicks;
 use st_text::{Line, begun, push_decimal};
 
 // Puts the bank of the word of a read before a line.
@@ -137,27 +135,20 @@ pub struct Waiting {
     pub facts: FactLine,
 }
 
-// Writes the charge of a stage behind the tick `from`, where it ends later, and its waits, and adds
-// them to the sums.
+// Writes the charge of a stage of an entry behind the tick `from`, where it ends later, and its
+// waits, and adds them to the sums.
 fn write_part<K: Sink>(
     out: &mut K,
     from: u64,
     part: Part,
-    uses: &[Use],
-    before: &[Use],
+    entry: &EntryRecord<'_>,
     waiting: &mut Waiting,
 ) -> Result<(), Failed>
-    requires uses { AreWordsInTime uses.now }
-    requires before { AreWordsInTime before.now }
-    requires within { AreWaitsWithin from waiting.old.totals }
+    requires { AreWaitsReady entry.now.uses.now entry.now.before.now from waiting.old.totals }
     ensures lines { WritesLines (K.output out.old) (K.output out.new)
-        (charged_lines uses.now before.now (part_charges from part)) result }
-
-    // What its waits leave of the sums.
-    ensures within { IsOk result → AreWaitsWithin (max from part.end) waiting.new.totals }
-    ensures sums { IsOk result → (r : StageOf) (s : StallOf) → is_parted r ≡ true →
-        waited_at r s waiting.new.totals ≡ waited_at r s waiting.old.totals
-        + row_stalled r s uses.now before.now (part_charges from part) }
+        (charged_lines entry.now.uses.now entry.now.before.now (part_charges from part)) result }
+    ensures waits { IsOk result → AddsWaits entry.now.uses.now entry.now.before.now from
+        (part_charges from part) waiting.old.totals waiting.new.totals }
 {
     if part.end <= from {
         return Ok(());
@@ -167,69 +158,50 @@ fn write_part<K: Sink>(
         to: part.end,
         stage: part.stage,
     };
-    fill_waits(&mut waiting.waits, charge, uses, before);
+    fill_waits(&mut waiting.waits, charge, entry.uses, entry.before);
     waiting.totals.add(charge, waiting.waits.as_slice());
     write_charge_with(out, &mut waiting.line, charge, waiting.waits.as_slice())
 }
 
-// Writes the charges of stages behind the tick `from`, each with its waits, and adds these to the
-// sums.
+// Writes the charges of stages of an entry behind the tick `from`, each with its waits, and adds
+// these to the sums.
 fn write_parts<K: Sink>(
     out: &mut K,
     from: u64,
     parts: &[Part],
-    uses: &[Use],
-    before: &[Use],
+    entry: &EntryRecord<'_>,
     waiting: &mut Waiting,
 ) -> Result<(), Failed>
-    requires uses { AreWordsInTime uses.now }
-    requires before { AreWordsInTime before.now }
-    requires within { AreWaitsWithin from waiting.old.totals }
-    ensures lines { WritesLines (K.output out.old) (K.output out.new)
-        (charged_lines uses.now before.now (charges_behind from parts.now)) result }
-
-    // What its waits leave of the sums.
-    ensures within { IsOk result →
-        AreWaitsWithin (from + all_ticks (charges_behind from parts.now)) waiting.new.totals }
-    ensures sums { IsOk result → (r : StageOf) (s : StallOf) → is_parted r ≡ true →
-        waited_at r s waiting.new.totals ≡ waited_at r s waiting.old.totals
-        + row_stalled r s uses.now before.now (charges_behind from parts.now) }
+    requires { AreWaitsReady entry.now.uses.now entry.now.before.now from waiting.old.totals }
+    ensures lines { WritesLines (K.output out.old) (K.output out.new) (charged_lines
+        entry.now.uses.now entry.now.before.now (charges_behind from parts.now)) result }
+    ensures waits { IsOk result → AddsWaits entry.now.uses.now entry.now.before.now from
+        (charges_behind from parts.now) waiting.old.totals waiting.new.totals }
 {
     let Some((part, more)) = first_part(parts) else {
         return Ok(());
     };
-    write_part(out, from, part, uses, before, waiting)?;
-    write_parts(out, later(from, part.end), more, uses, before, waiting)
+    write_part(out, from, part, entry, waiting)?;
+    write_parts(out, later(from, part.end), more, entry, waiting)
 }
 
 /// Writes the charges of an entry that is done, each with its waits, and adds these to the sums.
-/// Its row and the words that it uses are given, and those that the entry before it in its segment
-/// uses, none for the first one. The last entry before it was done at the tick `done`, and its
-/// segment starts at `start`, if it is the first one of that.
 pub fn write_charged<K: Sink>(
     out: &mut K,
-    row: &EntryTicks,
-    done: u64,
-    start: u64,
-    uses: &[Use],
-    before: &[Use],
+    entry: &EntryRecord<'_>,
     waiting: &mut Waiting,
 ) -> Result<(), Failed>
-    requires uses { AreWordsInTime uses.now }
-    requires before { AreWordsInTime before.now }
-    requires within { AreWaitsWithin done waiting.old.totals }
-    ensures lines { WritesLines (K.output out.old) (K.output out.new)
-        (charged_lines uses.now before.now (charges_behind done (parts_of_row start row.now)))
-        result }
-
-    // What its waits leave of the sums.
-    ensures within { IsOk result → AreWaitsWithin
-        (done + all_ticks (charges_behind done (parts_of_row start row.now))) waiting.new.totals }
-    ensures sums { IsOk result → (r : StageOf) (s : StallOf) → is_parted r ≡ true →
-        waited_at r s waiting.new.totals ≡ waited_at r s waiting.old.totals
-        + row_stalled r s uses.now before.now (charges_behind done (parts_of_row start row.now)) }
+    requires { AreWaitsReady entry.now.uses.now entry.now.before.now entry.now.done.now.before
+        waiting.old.totals }
+    ensures lines { WritesLines (K.output out.old) (K.output out.new) (charged_lines
+        entry.now.uses.now entry.now.before.now (charges_of_entry entry.now.done.now)) result }
+    ensures waits { IsOk result → AddsWaits entry.now.uses.now entry.now.before.now
+        entry.now.done.now.before (charges_of_entry entry.now.done.now) waiting.old.totals
+        waiting.new.totals }
 {
-    write_parts(out, done, &parts(start, row), uses, before, waiting)
+    let done = entry.done;
+    let stages = parts(done.start, &done.row.ticks);
+    write_parts(out, done.before, &stages, entry, waiting)
 }
 
 // The name of what is waited for.

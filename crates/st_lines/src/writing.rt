@@ -2,7 +2,7 @@
 ghost use Rattle.std.specs.Prelude.{◌≡◌, ◌+◌, ◌<◌, ◌≤◌, ◌^◌, ℕ, ◌∷◌, ◌++◌, [], if◌then◌else◌, ◌||◌, length, min, MatchOption, IfSome, Some, ◌≢◌, false, slice_index, IsOk};
 ghost use Rattle.st_io.specs.Lines.{WritesLines, lines_for};
 ghost use Rattle.st_bits.specs.Storage.{words_of_storage};
-ghost use Rattle.st_state.specs.Machine.{word};
+ghost use Rattle.st_state.specs.Machine.{IsMachine, word};
 ghost use Rattle.st_bits.specs.declared.limits.TheConstants.{WORDS};
 ghost use Rattle.st_exch.specs.Printer.{line_of_words as printed_of};
 ghost use Rattle.st_report.specs.Line.{prt_line, ic_line, en_line, end_line as run_end_line, done_line, ticks_line};
@@ -14,7 +14,7 @@ ghost use Rattle.st_lines.specs.BorderLines.{drop_lines, late_lines, segment_end
 
 use crate::changes::{Changeable, keep_words, write_changed};
 use crate::digits::fill_counter;
-use crate::facts::write_facts;
+use crate::facts::{Facts, write_facts};
 use crate::lines::{
     Why, line_delays, line_drop, line_end, line_late, line_levels, line_start, line_word,
 };
@@ -38,8 +38,8 @@ pub type Printed = ArrayVec<[u64; 8], 3>;
 pub fn counter_of(state: &State) -> u32
     ensures value { result ≡ state.now.ic }
     ensures below { result < 2 ^ 19 }
+    ensures machine { IsMachine state.now }
 {
-    state.shape();
     state.ic
 }
 
@@ -76,7 +76,32 @@ fn write_drop_line<K: Sink>(out: &mut K, n: u32, ahead: &Ahead) -> Result<(), Fa
     put(out, &line_drop(n, ahead.plan.place.address, &ahead.row))
 }
 
-// The same, and what is known of it by itself, where it is dropped at a tick.
+// Writes what is known by itself of an entry that ran ahead, which is the n-th entry, where it is
+// dropped at a tick.
+fn write_ahead_facts<K: Sink>(
+    out: &mut K,
+    n: u32,
+    tick: u64,
+    ahead: &Ahead,
+    origin: Option<Origin>,
+) -> Result<(), Failed>
+    ensures { WritesLines (K.output out.old) (K.output out.new)
+        (facts_lines n (Some tick) ahead.now.plan ahead.now.known origin ahead.now.uses.items)
+        result }
+{
+    let facts = Facts {
+        n,
+        end: Some(tick),
+        plan: &ahead.plan,
+        known: &ahead.known,
+        origin,
+        uses: ahead.uses.as_slice(),
+    };
+    write_facts(out, &mut FactLine::new(), &facts)
+}
+
+// Writes the line of an entry that is dropped at a tick, which is the n-th entry, and what is known
+// of it by itself.
 fn write_drop<K: Sink>(
     out: &mut K,
     n: u32,
@@ -90,16 +115,7 @@ fn write_drop<K: Sink>(
         result }
 {
     write_drop_line(out, n, ahead)?;
-    write_facts(
-        out,
-        &mut FactLine::new(),
-        n,
-        Some(tick),
-        &ahead.plan,
-        &ahead.known,
-        origin,
-        ahead.uses.as_slice(),
-    )
+    write_ahead_facts(out, n, tick, ahead, origin)
 }
 
 // Where the half-words of an entry come from that ran ahead.
@@ -109,25 +125,49 @@ fn origin_of(ahead: &Ahead, origins: &Origins, state: &State) -> Option<Origin>
     origins.at(state, ahead.plan.place.address)
 }
 
-// Writes the lines of entries that are dropped at a tick; the first of them is the n-th entry.
+/// The entries that ran ahead of the last one of a segment, and are dropped where that ends.
+#[derive(Clone, Copy)]
+pub struct Dropped<'a> {
+    /// The tick at which the segment ends.
+    pub tick: u64,
+    /// The number of the first of them.
+    pub n: u32,
+    /// Those that were prepared by then, the oldest first.
+    pub found: &'a [Ahead],
+    /// The one behind them, which was begun.
+    pub late: &'a Ahead,
+    /// Where their half-words come from.
+    pub origins: &'a Origins,
+    ghost few: { n + length found.now < 2 ^ 32 },
+}
+
+// Writes the lines of entries that are dropped, but for the one that was begun.
 #[tactic(auto, using(st_io::proofs::Progress::wrote_nothing))]
-fn write_drops<K: Sink>(
-    out: &mut K,
-    n: u32,
-    tick: u64,
-    found: &[Ahead],
-    origins: &Origins,
-    state: &State,
-) -> Result<(), Failed>
-    requires { n + length found.now < 2 ^ 32 }
+fn write_drops<K: Sink>(out: &mut K, dropped: &Dropped<'_>, state: &State) -> Result<(), Failed>
     ensures { WritesLines (K.output out.old) (K.output out.new)
-        (drop_lines (origin_at origins.now state.now) n tick found.now) result }
+        (drop_lines (origin_at dropped.now.origins.now state.now) dropped.now.n dropped.now.tick
+        dropped.now.found.now) result }
 {
-    let Some((first, more)) = first_ahead(found) else {
+    let Some((first, more)) = first_ahead(dropped.found) else {
         return Ok(());
     };
-    write_drop(out, n, tick, first, origin_of(first, origins, state))?;
-    write_drops(out, n + 1, tick, more, origins, state)
+    let n = dropped.n;
+    let tick = dropped.tick;
+    write_drop(
+        out,
+        n,
+        tick,
+        first,
+        origin_of(first, dropped.origins, state),
+    )?;
+    let behind = Dropped {
+        tick,
+        n: n + 1,
+        found: more,
+        late: dropped.late,
+        origins: dropped.origins,
+    };
+    write_drops(out, &behind, state)
 }
 
 // Writes the line of the entry that was begun, which is the n-th entry.
@@ -138,59 +178,47 @@ fn write_late_line<K: Sink>(out: &mut K, n: u32, late: &Ahead) -> Result<(), Fai
     put(out, &line_late(n, late.plan.place.address, &late.row))
 }
 
-// The same, and what is known of it by itself.
+// The number of the entry that was begun.
+fn number_behind(dropped: &Dropped<'_>) -> u32
+    ensures { result ≡ dropped.now.n + length dropped.now.found.now }
+{
+    dropped.n + dropped.found.len() as u32
+}
+
+// Writes the line of the entry that was begun, which is the n-th entry, and what is known of it by
+// itself.
 fn write_late<K: Sink>(
     out: &mut K,
     n: u32,
-    tick: u64,
-    late: &Ahead,
-    origins: &Origins,
+    dropped: &Dropped<'_>,
     state: &State,
 ) -> Result<(), Failed>
     ensures { WritesLines (K.output out.old) (K.output out.new)
-        (late_lines (origin_at origins.now state.now) n tick (late.now ∷ [])) result }
+        (late_lines (origin_at dropped.now.origins.now state.now) n dropped.now.tick
+        (dropped.now.late.now ∷ [])) result }
 {
+    let late = dropped.late;
     write_late_line(out, n, late)?;
-    write_facts(
+    write_ahead_facts(
         out,
-        &mut FactLine::new(),
         n,
-        Some(tick),
-        &late.plan,
-        &late.known,
-        origin_of(late, origins, state),
-        late.uses.as_slice(),
+        dropped.tick,
+        late,
+        origin_of(late, dropped.origins, state),
     )
 }
 
-// The number behind those of some entries, the first of which is the n-th entry.
-fn number_behind(n: u32, found: &[Ahead]) -> u32
-    requires { n + length found.now < 2 ^ 32 }
-    ensures { result ≡ n + length found.now }
+// Writes the lines of entries that are dropped, and of the one that was begun behind them.
+fn write_ahead<K: Sink>(out: &mut K, dropped: &Dropped<'_>, state: &State) -> Result<(), Failed>
+    ensures { let d = dropped.now in
+        WritesLines (K.output out.old) (K.output out.new)
+        (drop_lines (origin_at d.origins.now state.now) d.n d.tick d.found.now
+        ++ late_lines (origin_at d.origins.now state.now) (d.n + length d.found.now) d.tick
+        (d.late.now ∷ [])) result }
 {
-    n + found.len() as u32
-}
-
-// Writes the lines of entries that are dropped at a tick, the first of which is the n-th entry, and
-// of the one that was begun behind them.
-fn write_ahead<K: Sink>(
-    out: &mut K,
-    n: u32,
-    tick: u64,
-    found: &[Ahead],
-    late: &Ahead,
-    origins: &Origins,
-    state: &State,
-) -> Result<(), Failed>
-    requires { n + length found.now < 2 ^ 32 }
-    ensures { WritesLines (K.output out.old) (K.output out.new)
-        (drop_lines (origin_at origins.now state.now) n tick found.now
-        ++ late_lines (origin_at origins.now state.now) (n + length found.now) tick
-        (late.now ∷ [])) result }
-{
-    let behind = number_behind(n, found);
-    write_drops(out, n, tick, found, origins, state)?;
-    write_late(out, behind, tick, late, origins, state)
+    let behind = number_behind(dropped);
+    write_drops(out, dropped, state)?;
+    write_late(out, behind, dropped, state)
 }
 
 // Writes the line of the end of a segment.
@@ -201,29 +229,24 @@ fn write_end_line<K: Sink>(out: &mut K, k: u32, tick: u64) -> Result<(), Failed>
     put(out, &line_end(k, tick))
 }
 
-/// Writes the end of the segment k at a tick, with the entries that are dropped, the first of which
-/// is the n-th entry, and with the one that was begun, in the state that all this leaves. Before
-/// the first segment there is none.
+/// Writes the end of the segment k, with the entries that are dropped, in the state that all this
+/// leaves. Before the first segment there is none.
 pub fn write_end<K: Sink>(
     out: &mut K,
     k: u32,
-    tick: u64,
-    n: u32,
-    found: &[Ahead],
-    late: &Ahead,
-    origins: &Origins,
+    dropped: &Dropped<'_>,
     state: &State,
 ) -> Result<(), Failed>
-    requires { n + length found.now < 2 ^ 32 }
-    ensures { WritesLines (K.output out.old) (K.output out.new)
-        (segment_end_lines (origin_at origins.now state.now) k tick n found.now (late.now ∷ []))
-        result }
+    ensures { let d = dropped.now in
+        WritesLines (K.output out.old) (K.output out.new)
+        (segment_end_lines (origin_at d.origins.now state.now) k d.tick d.n d.found.now
+        (d.late.now ∷ [])) result }
 {
     if k == 0 {
         return Ok(());
     }
-    write_end_line(out, k, tick)?;
-    write_ahead(out, n, tick, found, late, origins, state)
+    write_end_line(out, k, dropped.tick)?;
+    write_ahead(out, dropped, state)
 }
 
 // Writes the counter.
@@ -355,49 +378,61 @@ fn write_words<K: Sink>(
     write_each_word(out, state)
 }
 
+/// What is told between an entry and the next one, besides the state.
+#[derive(Clone, Copy)]
+pub struct Between<'a> {
+    /// The number of the segment of the entry, 0 before the first one.
+    pub k: u32,
+    /// The entries that are dropped behind it, if its segment ends.
+    pub dropped: Dropped<'a>,
+    /// What is printed, eight words each time.
+    pub printed: &'a [[u64; 8]],
+    /// Interrupts were enabled before it.
+    pub was: bool,
+    /// The words that may have changed since.
+    pub may: &'a Changeable,
+}
+
 // Writes the counter, whether interrupts are enabled, where that is told, and the words.
 fn write_standing<K: Sink>(
     out: &mut K,
-    k: u32,
-    was: bool,
+    between: &Between<'_>,
     old: &mut Vec<u64>,
     state: &State,
-    may: &Changeable,
 ) -> Result<(), Failed>
     requires size { length old.old.items ≡ words_of_storage }
-    requires left { k ≢ 0 → (v : ℕ) → v < WORDS → IsLeft v may.now →
+    requires left { between.now.k ≢ 0 → (v : ℕ) → v < WORDS → IsLeft v between.now.may.now →
         slice_index old.old.items v ≡ word state.now v }
     ensures lines { WritesLines (K.output out.old) (K.output out.new)
-        (ic_line state.now.ic ∷ en_lines k was state.now.enabled
-        ++ words_lines k old.old.items state.now) result }
+        (ic_line state.now.ic ∷ en_lines between.now.k between.now.was state.now.enabled
+        ++ words_lines between.now.k old.old.items state.now) result }
     ensures words { IsOk result → old.new.items ≡ state.now.words }
 {
-    write_counter(out, k, was, counter_of(state), is_enabled(state))?;
-    write_words(out, k == 0, old, state, may)
+    let k = between.k;
+    write_counter(out, k, between.was, counter_of(state), is_enabled(state))?;
+    write_words(out, k == 0, old, state, between.may)
 }
 
 /// Writes what is printed, the counter, whether interrupts are enabled, where that is told, and the
 /// words: at the start of a run, before the segment 1, those that are not zero, and else those that
-/// changed. Before the last entry interrupts were enabled or not, and the words were `old`, which
-/// then has them as they are; of the words that are no registers those may have changed.
+/// changed. Before the last entry the words were `old`, which then has them as they are; of the
+/// words that are no registers those may have changed that `between` has.
 pub fn write_marks<K: Sink>(
     out: &mut K,
-    printed: &Printed,
-    k: u32,
-    was: bool,
+    between: &Between<'_>,
     old: &mut Vec<u64>,
     state: &State,
-    may: &Changeable,
 ) -> Result<(), Failed>
     requires size { length old.old.items ≡ words_of_storage }
-    requires left { k ≢ 0 → (v : ℕ) → v < WORDS → IsLeft v may.now →
+    requires left { between.now.k ≢ 0 → (v : ℕ) → v < WORDS → IsLeft v between.now.may.now →
         slice_index old.old.items v ≡ word state.now v }
     ensures lines { WritesLines (K.output out.old) (K.output out.new)
-        (marks_lines printed.now.items k was old.old.items state.now) result }
+        (marks_lines between.now.printed.now between.now.k between.now.was old.old.items
+        state.now) result }
     ensures words { IsOk result → old.new.items ≡ state.now.words }
 {
-    write_prints(out, printed.as_slice())?;
-    write_standing(out, k, was, old, state, may)
+    write_prints(out, between.printed)?;
+    write_standing(out, between, old, state)
 }
 
 // Writes the interrupt that is taken after so many instructions, but before the first one.
@@ -419,48 +454,6 @@ fn write_taken<K: Sink>(
     }
 }
 
-// Writes the state behind an entry of the segment k, where the run goes on.
-#[tactic(auto, unfolding(crate::specs::BorderLines::state_lines))]
-fn write_state<K: Sink>(
-    out: &mut K,
-    printed: &Printed,
-    k: u32,
-    was: bool,
-    old: &mut Vec<u64>,
-    state: &State,
-    may: &Changeable,
-    taken: Option<u8>,
-    done: u64,
-) -> Result<(), Failed>
-    requires size { length old.old.items ≡ words_of_storage }
-    requires left { k ≢ 0 → (v : ℕ) → v < WORDS → IsLeft v may.now →
-        slice_index old.old.items v ≡ word state.now v }
-    ensures lines { WritesLines (K.output out.old) (K.output out.new)
-        (state_lines printed.now.items k was old.old.items state.now taken done) result }
-    ensures words { IsOk result → old.new.items ≡ state.now.words }
-{
-    write_marks(out, printed, k, was, old, state, may)?;
-    write_taken(out, k == 0, taken, done)
-}
-
-// Writes the start of the segment k, where one begins.
-fn write_begun<K: Sink>(
-    out: &mut K,
-    begins: bool,
-    k: u32,
-    start: u64,
-    waited: bool,
-    why: Why,
-) -> Result<(), Failed>
-    ensures { WritesLines (K.output out.old) (K.output out.new)
-        (if begins then start_line k start waited why ∷ [] else []) result }
-{
-    if !begins {
-        return Ok(());
-    }
-    put(out, &line_start(k, start, waited, why))
-}
-
 /// A segment ends or not, and one begins or not.
 #[derive(Clone, Copy, Debug)]
 pub struct Border {
@@ -468,20 +461,12 @@ pub struct Border {
     pub ends: bool,
     /// The next entry is the first one of a segment.
     pub begins: bool,
-    /// The number of the segment of the last entry, 0 before the first one.
-    pub k: u32,
-    /// The tick at which the last entry was done.
-    pub tick: u64,
-    /// The number of the entry behind it.
-    pub n: u32,
     /// The tick at which the next segment starts.
     pub start: u64,
     /// The machine had waited.
     pub waited: bool,
     /// Why the next segment begins.
     pub why: Why,
-    /// Interrupts were enabled before the last entry.
-    pub was: bool,
     /// The interrupt that is taken.
     pub taken: Option<u8>,
     /// The number of instructions done.
@@ -491,80 +476,82 @@ pub struct Border {
 // Writes the end of a segment, where one ends.
 fn write_ended<K: Sink>(
     out: &mut K,
-    border: &Border,
-    found: &[Ahead],
-    late: &Ahead,
-    origins: &Origins,
+    ends: bool,
+    between: &Between<'_>,
     state: &State,
 ) -> Result<(), Failed>
-    requires { border.now.n + length found.now < 2 ^ 32 }
-    ensures { WritesLines (K.output out.old) (K.output out.new)
-        (if border.now.ends then segment_end_lines (origin_at origins.now state.now) border.now.k
-        border.now.tick border.now.n found.now (late.now ∷ []) else []) result }
+    ensures { let d = between.now.dropped in
+        WritesLines (K.output out.old) (K.output out.new)
+        (if ends then segment_end_lines (origin_at d.origins.now state.now) between.now.k d.tick
+        d.n d.found.now (d.late.now ∷ []) else []) result }
 {
-    if !border.ends {
+    if !ends {
         return Ok(());
     }
-    write_end(
-        out,
-        border.k,
-        border.tick,
-        border.n,
-        found,
-        late,
-        origins,
-        state,
-    )
+    write_end(out, between.k, &between.dropped, state)
+}
+
+// Writes the state behind an entry, where the run goes on.
+#[tactic(auto, unfolding(crate::specs::BorderLines::state_lines))]
+fn write_state<K: Sink>(
+    out: &mut K,
+    border: &Border,
+    between: &Between<'_>,
+    old: &mut Vec<u64>,
+    state: &State,
+) -> Result<(), Failed>
+    requires size { length old.old.items ≡ words_of_storage }
+    requires left { between.now.k ≢ 0 → (v : ℕ) → v < WORDS → IsLeft v between.now.may.now →
+        slice_index old.old.items v ≡ word state.now v }
+    ensures lines { WritesLines (K.output out.old) (K.output out.new)
+        (state_lines between.now.printed.now between.now.k between.now.was old.old.items state.now
+        border.now.taken border.now.done) result }
+    ensures words { IsOk result → old.new.items ≡ state.now.words }
+{
+    write_marks(out, between, old, state)?;
+    write_taken(out, between.k == 0, border.taken, border.done)
+}
+
+// Writes the start of the segment k, where one begins.
+fn write_begun<K: Sink>(out: &mut K, border: &Border, k: u32) -> Result<(), Failed>
+    ensures { WritesLines (K.output out.old) (K.output out.new)
+        (if border.now.begins then start_line k border.now.start border.now.waited border.now.why
+        ∷ [] else []) result }
+{
+    if !border.begins {
+        return Ok(());
+    }
+    put(out, &line_start(k, border.start, border.waited, border.why))
 }
 
 /// Writes the end of a segment, the state, and the start of the next segment, as far as there are
-/// any. `old` and `may` are as in `write_marks`.
+/// any. `between` and `old` are as in `write_marks`.
 pub fn write_border<K: Sink>(
     out: &mut K,
-    border: Border,
-    printed: &Printed,
+    border: &Border,
+    between: &Between<'_>,
     old: &mut Vec<u64>,
     state: &State,
-    may: &Changeable,
-    found: &[Ahead],
-    late: &Ahead,
-    origins: &Origins,
 ) -> Result<(), Failed>
-    requires few { border.n + length found.now < 2 ^ 32 }
-    requires number { border.k + 1 < 2 ^ 32 }
+    requires number { between.now.k + 1 < 2 ^ 32 }
     requires size { length old.old.items ≡ words_of_storage }
-    requires left { border.k ≢ 0 → (v : ℕ) → v < WORDS → IsLeft v may.now →
+    requires left { between.now.k ≢ 0 → (v : ℕ) → v < WORDS → IsLeft v between.now.may.now →
         slice_index old.old.items v ≡ word state.now v }
 
-    ensures lines { WritesLines (K.output out.old) (K.output out.new)
-        (((if border.ends then segment_end_lines (origin_at origins.now state.now) border.k
-        border.tick border.n found.now (late.now ∷ []) else [])
-        ++ state_lines printed.now.items border.k border.was old.old.items state.now border.taken
-        border.done)
-        ++ (if border.begins then start_line (border.k + 1) border.start border.waited border.why
-        ∷ [] else [])) result }
+    ensures lines { let b = between.now in
+        let d = b.dropped in
+        WritesLines (K.output out.old) (K.output out.new)
+        (((if border.now.ends then segment_end_lines (origin_at d.origins.now state.now) b.k d.tick
+        d.n d.found.now (d.late.now ∷ []) else [])
+        ++ state_lines b.printed.now b.k b.was old.old.items state.now border.now.taken
+        border.now.done)
+        ++ (if border.now.begins then start_line (b.k + 1) border.now.start border.now.waited
+        border.now.why ∷ [] else [])) result }
     ensures words { IsOk result → old.new.items ≡ state.now.words }
 {
-    write_ended(out, &border, found, late, origins, state)?;
-    write_state(
-        out,
-        printed,
-        border.k,
-        border.was,
-        old,
-        state,
-        may,
-        border.taken,
-        border.done,
-    )?;
-    write_begun(
-        out,
-        border.begins,
-        border.k + 1,
-        border.start,
-        border.waited,
-        border.why,
-    )
+    write_ended(out, border.ends, between, state)?;
+    write_state(out, border, between, old, state)?;
+    write_begun(out, border, between.k + 1)
 }
 
 // Writes how the run ended.

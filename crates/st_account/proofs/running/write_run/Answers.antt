@@ -1,6 +1,7 @@
-use Rattle.std.proofs.Common.{length, refl, sym, ◌∙◌, ap, arith}
+use Rattle.std.proofs.Common.{length, refl, sym, ◌∙◌, ap, subst, arith}
 use Rattle.st_state.specs.Machine.{Machine}
 use Rattle.st_ledger.specs.Totals.{sum_at}
+use Rattle.st_reasons.specs.Sums.{AreWaitsWithin}
 use Rattle.st_rows.proofs.Within.{AreDelays-list}
 use Rattle.st_account.proofs.TurnLemmas.{run-starts, run-taken, few-then, soon-then, over-is, finishes, sums-are, waits-are, waiting-then, some, crossing-fails, goes}
 use Rattle.st_account.proofs.running.write_run.Goals as goal
@@ -9,7 +10,7 @@ pub entries-init : goal.entries-init
 entries-init g c =
     run-taken _ _ _ _ _ _ _ _ _ _ _ _ _ c.signals-rest.ensures c.budget-left.ensures
     (run-starts _ c.args.ready.timing.delays c.args.ready.timing.levels c.args.controls.now.budget c.args.ready.state c.args.controls.now.signals c.args.ready.cards
-    c.args.ready.origins c.new-account.result (ap length c.new-account.ensures.words ∙ c.requires.size) (AreDelays-list c.args.ready.timing.delays c.shape-2.ensures) c.requires.levels.1 c.shape.ensures c.requires.cards
+    c.args.ready.origins c.new-account.result (ap length c.new-account.ensures.words ∙ c.requires.size) (AreDelays-list c.args.ready.timing.delays c.shape.ensures) c.requires.levels.1 c.new-account.ensures.machine c.requires.cards
     c.requires.fresh c.requires.limit c.new-account.ensures.none c.requires.signals c.new-account.ensures.state c.new-account.ensures.origins c.new-account.ensures.number
     c.new-account.ensures.tick c.new-account.ensures.front c.new-account.ensures.past c.new-account.ensures.missed c.new-account.ensures.counter
     c.new-account.ensures.enabled c.new-account.ensures.below c.new-account.ensures.log c.new-account.ensures.tight c.new-account.ensures.unused c.new-account.ensures.waiting
@@ -48,7 +49,7 @@ pub returns-then-is_over-clause-waits : goal.returns-then-is_over-clause-waits
 returns-then-is_over-clause-waits g c r s parted good =
     waits-are _ _ _ _ _ _ _ _ _ _ _ c.entries.invariant c.pass-rest.new.self c.pass-rest.result.now c.pass-rest.new.cards c.pass-rest.ensures.rest (c.pass-rest.ensures.came c.entries.invariant.b c.entries.invariant.m c.entries.invariant.at)
     r s c.finish-written.new.self.waiting.totals parted (sym (over-is _ _ _ _ _ _ _ _ _ _ _ c.entries.invariant c.pass-rest.new.self c.pass-rest.result.now c.pass-rest.new.cards c.pass-rest.ensures.rest (c.pass-rest.ensures.came c.entries.invariant.b c.entries.invariant.m c.entries.invariant.at) c.is_over.result c.is_over.ensures) ∙ c.if-is_over.true)
-    (c.finish-written.ensures.stalled good r s parted)
+    ((c.finish-written.ensures.waits good).sums r s parted)
 
 pub finish-written-requires-clause-waiting : goal.finish-written-requires-clause-waiting
 finish-written-requires-clause-waiting g c = waiting-then _ _ _ _ _ _ _ _ _ _ _ c.entries.invariant c.pass-rest.new.self c.pass-rest.result.now c.pass-rest.new.cards c.pass-rest.ensures.rest (c.pass-rest.ensures.came c.entries.invariant.b c.entries.invariant.m c.entries.invariant.at)
@@ -66,6 +67,10 @@ returns-in_err-cross-clause-lines g c =
 pub step-requires-clause-few : goal.step-requires-clause-few
 step-requires-clause-few g c = omega (arith, few-then _ _ _ _ _ _ _ _ _ _ _ c.entries.invariant c.pass-rest.new.self c.pass-rest.result.now c.pass-rest.new.cards c.pass-rest.ensures.rest (c.pass-rest.ensures.came c.entries.invariant.b c.entries.invariant.m c.entries.invariant.at), some _ _ _ _ _ _ _ _ _ _ _ c.entries.invariant c.pass-rest.new.self c.pass-rest.result.now c.pass-rest.new.cards c.pass-rest.ensures.rest (c.pass-rest.ensures.came c.entries.invariant.b c.entries.invariant.m c.entries.invariant.at) (sym (over-is _ _ _ _ _ _ _ _ _ _ _ c.entries.invariant c.pass-rest.new.self c.pass-rest.result.now c.pass-rest.new.cards c.pass-rest.ensures.rest (c.pass-rest.ensures.came c.entries.invariant.b c.entries.invariant.m c.entries.invariant.at) c.is_over.result c.is_over.ensures) ∙ c.if-is_over.false), ap (λ (u : Machine). u.done) c.in_ok-cross.ensures.state)
 
+pub step-requires-clause-waits : goal.step-requires-clause-waits
+step-requires-clause-waits g c =
+    subst (λ t. AreWaitsWithin t c.cross.new.self.waiting.totals) (sym c.in_ok-cross.ensures.tick) (c.in_ok-cross.ensures.waits refl).within
+
 pub entries-preserved : goal.entries-preserved
 entries-preserved g c =
     goes _ _ _ _ _ _ _ _ _ _ _ c.entries.invariant c.pass-rest.new.self c.pass-rest.result.now c.pass-rest.new.cards c.pass-rest.ensures.rest (c.pass-rest.ensures.came c.entries.invariant.b c.entries.invariant.m c.entries.invariant.at) (sym (over-is _ _ _ _ _ _ _ _ _ _ _ c.entries.invariant c.pass-rest.new.self c.pass-rest.result.now c.pass-rest.new.cards c.pass-rest.ensures.rest (c.pass-rest.ensures.came c.entries.invariant.b c.entries.invariant.m c.entries.invariant.at) c.is_over.result c.is_over.ensures) ∙ c.if-is_over.false)
@@ -73,8 +78,8 @@ entries-preserved g c =
     (c.in_ok-cross.ensures.front _ _ c.entries.left _ _ _ _ (c.pass-rest.ensures.came c.entries.invariant.b c.entries.invariant.m c.entries.invariant.at) (sym (over-is _ _ _ _ _ _ _ _ _ _ _ c.entries.invariant c.pass-rest.new.self c.pass-rest.result.now c.pass-rest.new.cards c.pass-rest.ensures.rest (c.pass-rest.ensures.came c.entries.invariant.b c.entries.invariant.m c.entries.invariant.at) c.is_over.result c.is_over.ensures) ∙ c.if-is_over.false)) c.in_ok-cross.ensures.tick c.in_ok-cross.ensures.state c.in_ok-cross.ensures.origins
     _ _ c.step.new.self (c.in_ok-cross.ensures.lines _ _ c.entries.left _ _ _ _ (c.pass-rest.ensures.came c.entries.invariant.b c.entries.invariant.m c.entries.invariant.at) (sym (over-is _ _ _ _ _ _ _ _ _ _ _ c.entries.invariant c.pass-rest.new.self c.pass-rest.result.now c.pass-rest.new.cards c.pass-rest.ensures.rest (c.pass-rest.ensures.came c.entries.invariant.b c.entries.invariant.m c.entries.invariant.at) c.is_over.result c.is_over.ensures) ∙ c.if-is_over.false))
     (c.in_ok-cross.ensures.words refl) c.in_ok-cross.ensures.sums (c.in_ok-cross.ensures.size refl)
-    (AreDelays-list c.args.ready.timing.delays c.shape-2.ensures) c.requires.levels.1 c.pass-rest.ensures.passes
+    (AreDelays-list c.args.ready.timing.delays c.shape.ensures) c.requires.levels.1 c.pass-rest.ensures.passes
     c.step.ensures.lines c.step.ensures.state c.step.ensures.last c.step.ensures.sums c.step.ensures.within c.step.ensures.enabled c.step.ensures.guess
     c.step.ensures.left c.step.ensures.words c.step.ensures.origins c.step.ensures.number
     (c.in_ok-cross.ensures.earlier _ _ c.entries.left _ _ _ _ (c.pass-rest.ensures.came c.entries.invariant.b c.entries.invariant.m c.entries.invariant.at) refl)
-    c.step.ensures.uses c.step.ensures.waiting (λ r s parted. c.in_ok-cross.ensures.stalled refl r s parted) c.step.ensures.stalled c.step.ensures.totals
+    c.step.ensures.uses c.step.ensures.waiting (c.in_ok-cross.ensures.waits refl).sums c.step.ensures.stalled c.step.ensures.totals

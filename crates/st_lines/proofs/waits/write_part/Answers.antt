@@ -1,26 +1,26 @@
 use Rattle.std.proofs.Common.{◌∙◌, refl, arith}
-use Rattle.st_lines.proofs.WaitLemmas.{part_left, part_stalled, part_few, part_told, part_added}
+use Rattle.st_lines.proofs.WaitLemmas.{part_left, part_passed, part_few, part_told, part_taken}
 use Rattle.st_lines.proofs.waits.write_part.Goals as goal
 
 pub returns-then-part-from-clause-lines : goal.returns-then-part-from-clause-lines
 returns-then-part-from-clause-lines g c =
-    part_left _ c.args.uses.now c.args.before.now c.args.from c.args.part _ (omega (arith, c.if-part-from.true))
+    part_left _ c.args.entry.now.uses.now c.args.entry.now.before.now c.args.from c.args.part _ (omega (arith, c.if-part-from.true))
 
-pub returns-then-part-from-clause-sums : goal.returns-then-part-from-clause-sums
-returns-then-part-from-clause-sums g c ok r s parted =
-    part_stalled r s c.args.uses.now c.args.before.now c.args.from c.args.part _ (omega (arith, c.if-part-from.true))
+pub returns-then-part-from-clause-waits : goal.returns-then-part-from-clause-waits
+returns-then-part-from-clause-waits g c ok =
+    part_passed c.args.entry.now.uses.now c.args.entry.now.before.now c.args.from c.args.part _ (omega (arith, c.if-part-from.true)) c.requires.within
 
 pub add-requires-clause-few : goal.add-requires-clause-few
 add-requires-clause-few g c =
-    part_few c.args.uses.now c.args.before.now c.args.from c.args.part _ (omega (arith, c.if-part-from.false)) c.requires.uses
-    c.requires.before (c.as_slice.ensures.value ∙ c.fill_waits.ensures)
+    part_few c.args.entry.now.uses.now c.args.entry.now.before.now c.args.from c.args.part _ (omega (arith, c.if-part-from.false)) c.requires.used
+    c.requires.earlier (c.as_slice.ensures.value ∙ c.fill_waits.ensures)
 
 pub returns-clause-lines : goal.returns-clause-lines
 returns-clause-lines g c =
-    part_told _ _ c.args.uses.now c.args.before.now c.args.from c.args.part _ _ _ (omega (arith, c.if-part-from.false)) refl
+    part_told _ _ c.args.entry.now.uses.now c.args.entry.now.before.now c.args.from c.args.part _ _ _ (omega (arith, c.if-part-from.false)) refl
     (c.as_slice-2.ensures.value ∙ c.fill_waits.ensures) c.write_charge_with.ensures
 
-pub returns-clause-sums : goal.returns-clause-sums
-returns-clause-sums g c ok r s parted =
-    part_added r s c.args.uses.now c.args.before.now c.args.from c.args.part c.as_slice.result.now _ _
-    (omega (arith, c.if-part-from.false)) (c.as_slice.ensures.value ∙ c.fill_waits.ensures) (c.add.ensures.sums r s parted)
+pub returns-clause-waits : goal.returns-clause-waits
+returns-clause-waits g c ok =
+    part_taken c.args.entry.now.uses.now c.args.entry.now.before.now c.args.from c.args.part c.as_slice.result.now _ _
+    (omega (arith, c.if-part-from.false)) (c.as_slice.ensures.value ∙ c.fill_waits.ensures) c.add.ensures.within c.add.ensures.sums

@@ -7,11 +7,15 @@ use Rattle.st_lines.proofs.writing.write_ahead.Goals as goal
 
 pub returns-in_err-write_drops : goal.returns-in_err-write_drops
 returns-in_err-write_drops g c =
-    lines_cut _ _ (drop_lines (origin_at c.args.origins.now c.args.state.now) c.args.n c.args.tick c.args.found.now) (late_lines (origin_at c.args.origins.now c.args.state.now) (c.args.n + length c.args.found.now) c.args.tick (c.args.late.now ∷ [])) _
+    let d = c.args.dropped.now in
+    let by = origin_at d.origins.now c.args.state.now in
+    lines_cut _ _ (drop_lines by d.n d.tick d.found.now) (late_lines by (d.n + length d.found.now) d.tick (d.late.now ∷ [])) _
     c.from_residual.result c.from_residual.ensures.0 c.in_err-write_drops.ensures
 
 pub returns : goal.returns
 returns g c =
-    lines_then _ _ _ (drop_lines (origin_at c.args.origins.now c.args.state.now) c.args.n c.args.tick c.args.found.now) (late_lines (origin_at c.args.origins.now c.args.state.now) (c.args.n + length c.args.found.now) c.args.tick (c.args.late.now ∷ [])) _ _
+    let d = c.args.dropped.now in
+    let by = origin_at d.origins.now c.args.state.now in
+    lines_then _ _ _ (drop_lines by d.n d.tick d.found.now) (late_lines by (d.n + length d.found.now) d.tick (d.late.now ∷ [])) _ _
     c.in_ok-write_drops.ensures
-    (same_lines _ _ _ _ _ (ap (λ j. late_lines (origin_at c.args.origins.now c.args.state.now) j c.args.tick (c.args.late.now ∷ [])) c.number_behind-behind.ensures) c.write_late.ensures)
+    (same_lines _ _ _ _ _ (ap (λ j. late_lines by j d.tick (d.late.now ∷ [])) c.number_behind-behind.ensures) c.write_late.ensures)

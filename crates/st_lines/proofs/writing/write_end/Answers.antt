@@ -8,16 +8,22 @@ use Rattle.st_lines.proofs.writing.write_end.Goals as goal
 
 pub returns-then-k-eq0 : goal.returns-then-k-eq0
 returns-then-k-eq0 g c =
-    same_lines _ _ [] _ _ (sym (end-none (origin_at c.args.origins.now c.args.state.now) c.args.k c.args.tick c.args.n c.args.found.now (c.args.late.now ∷ []) c.if-k-eq0.true)) (no_lines _ _)
+    let d = c.args.dropped.now in
+    let by = origin_at d.origins.now c.args.state.now in
+    same_lines _ _ [] _ _ (sym (end-none by c.args.k d.tick d.n d.found.now (d.late.now ∷ []) c.if-k-eq0.true)) (no_lines _ _)
 
 pub returns-in_err-write_end_line : goal.returns-in_err-write_end_line
 returns-in_err-write_end_line g c =
-    same_lines _ _ _ _ _ (sym (end-some (origin_at c.args.origins.now c.args.state.now) c.args.k c.args.tick c.args.n c.args.found.now (c.args.late.now ∷ []) c.if-k-eq0.false))
-    (lines_cut _ _ (segment_end_line c.args.k c.args.tick ∷ []) (drop_lines (origin_at c.args.origins.now c.args.state.now) c.args.n c.args.tick c.args.found.now ++ late_lines (origin_at c.args.origins.now c.args.state.now) (c.args.n + length c.args.found.now) c.args.tick (c.args.late.now ∷ [])) _ c.from_residual.result
-    c.from_residual.ensures.0 c.in_err-write_end_line.ensures)
+    let d = c.args.dropped.now in
+    let by = origin_at d.origins.now c.args.state.now in
+    same_lines _ _ _ _ _ (sym (end-some by c.args.k d.tick d.n d.found.now (d.late.now ∷ []) c.if-k-eq0.false))
+    (lines_cut _ _ (segment_end_line c.args.k d.tick ∷ []) (drop_lines by d.n d.tick d.found.now ++ late_lines by (d.n + length d.found.now) d.tick (d.late.now ∷ [])) _
+    c.from_residual.result c.from_residual.ensures.0 c.in_err-write_end_line.ensures)
 
 pub returns : goal.returns
 returns g c =
-    same_lines _ _ _ _ _ (sym (end-some (origin_at c.args.origins.now c.args.state.now) c.args.k c.args.tick c.args.n c.args.found.now (c.args.late.now ∷ []) c.if-k-eq0.false))
-    (lines_then _ _ _ (segment_end_line c.args.k c.args.tick ∷ []) (drop_lines (origin_at c.args.origins.now c.args.state.now) c.args.n c.args.tick c.args.found.now ++ late_lines (origin_at c.args.origins.now c.args.state.now) (c.args.n + length c.args.found.now) c.args.tick (c.args.late.now ∷ [])) _ _ c.in_ok-write_end_line.ensures
-    c.write_ahead.ensures)
+    let d = c.args.dropped.now in
+    let by = origin_at d.origins.now c.args.state.now in
+    same_lines _ _ _ _ _ (sym (end-some by c.args.k d.tick d.n d.found.now (d.late.now ∷ []) c.if-k-eq0.false))
+    (lines_then _ _ _ (segment_end_line c.args.k d.tick ∷ []) (drop_lines by d.n d.tick d.found.now ++ late_lines by (d.n + length d.found.now) d.tick (d.late.now ∷ [])) _ _
+    c.in_ok-write_end_line.ensures c.write_ahead.ensures)

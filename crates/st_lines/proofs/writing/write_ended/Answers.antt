@@ -2,8 +2,8 @@ use Rattle.std.proofs.Common.{refl}
 use Rattle.st_lines.proofs.LineLemmas.{none_if, some_if}
 use Rattle.st_lines.proofs.writing.write_ended.Goals as goal
 
-pub returns-then-not-border : goal.returns-then-not-border
-returns-then-not-border g c = none_if _ c.args.border.now.ends _ _ c.if-not-border.true
+pub returns-then-not-ends : goal.returns-then-not-ends
+returns-then-not-ends g c = none_if _ c.args.ends _ _ c.if-not-ends.true
 
 pub returns : goal.returns
-returns g c = some_if _ _ c.args.border.now.ends _ _ _ c.if-not-border.false refl c.write_end.ensures
+returns g c = some_if _ _ c.args.ends _ _ _ c.if-not-ends.false refl c.write_end.ensures

@@ -6,21 +6,23 @@ use Rattle.st_lines.proofs.ChangeLemmas.{not-zero}
 use Rattle.st_lines.proofs.writing.write_standing.Goals as goal
 
 pub write_words-requires-clause-left : goal.write_words-requires-clause-left
-write_words-requires-clause-left g c off = c.requires.left (not-zero c.args.k off)
+write_words-requires-clause-left g c off = c.requires.left (not-zero c.args.between.now.k off)
 
 pub returns-in_err-write_counter-clause-words : goal.returns-in_err-write_counter-clause-words
 returns-in_err-write_counter-clause-words g c good = not_both c.from_residual.result c.from_residual.ensures.0 good
 
 pub returns-in_err-write_counter-clause-lines : goal.returns-in_err-write_counter-clause-lines
 returns-in_err-write_counter-clause-lines g c =
-    both_cut _ _ _ _ (words_lines c.args.k c.args.old.now.items c.args.state.now) _ c.from_residual.result c.from_residual.ensures.0
-    (ap (λ (i : ℕ). ic_line i ∷ en_lines c.args.k c.args.was c.is_enabled.result) c.counter_of.ensures.value
-    ∙ ap (λ (b : Bool). ic_line c.args.state.now.ic ∷ en_lines c.args.k c.args.was b) c.is_enabled.ensures) c.in_err-write_counter.ensures
+    let b = c.args.between.now in
+    both_cut _ _ _ _ (words_lines b.k c.args.old.now.items c.args.state.now) _ c.from_residual.result c.from_residual.ensures.0
+    (ap (λ (i : ℕ). ic_line i ∷ en_lines b.k b.was c.is_enabled.result) c.counter_of.ensures.value
+    ∙ ap (λ (e : Bool). ic_line c.args.state.now.ic ∷ en_lines b.k b.was e) c.is_enabled.ensures) c.in_err-write_counter.ensures
 
 pub returns-clause-lines : goal.returns-clause-lines
 unfolding words_lines
 returns-clause-lines g c =
-    both_then _ _ _ _ _ (words_lines c.args.k c.args.old.now.items c.args.state.now) _ _ _
-    (ap (λ (i : ℕ). ic_line i ∷ en_lines c.args.k c.args.was c.is_enabled.result) c.counter_of.ensures.value
-    ∙ ap (λ (b : Bool). ic_line c.args.state.now.ic ∷ en_lines c.args.k c.args.was b) c.is_enabled.ensures) refl c.in_ok-write_counter.ensures
+    let b = c.args.between.now in
+    both_then _ _ _ _ _ (words_lines b.k c.args.old.now.items c.args.state.now) _ _ _
+    (ap (λ (i : ℕ). ic_line i ∷ en_lines b.k b.was c.is_enabled.result) c.counter_of.ensures.value
+    ∙ ap (λ (e : Bool). ic_line c.args.state.now.ic ∷ en_lines b.k b.was e) c.is_enabled.ensures) refl c.in_ok-write_counter.ensures
     c.write_words.ensures.lines

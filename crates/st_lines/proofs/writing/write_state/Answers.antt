@@ -14,11 +14,15 @@ returns-clause-words g c good = c.in_ok-write_marks.ensures.words refl
 pub returns-in_err-write_marks-clause-lines : goal.returns-in_err-write_marks-clause-lines
 unfolding state_lines
 returns-in_err-write_marks-clause-lines g c =
-    lines_cut _ _ (marks_lines c.args.printed.now.items c.args.k c.args.was c.args.old.now.items c.args.state.now) (taken_by (nat_eq c.args.k 0) c.args.taken c.args.done) _
+    let x = c.args.border.now in
+    let b = c.args.between.now in
+    lines_cut _ _ (marks_lines b.printed.now b.k b.was c.args.old.now.items c.args.state.now) (taken_by (nat_eq b.k 0) x.taken x.done) _
     c.from_residual.result c.from_residual.ensures.0 c.in_err-write_marks.ensures.lines
 
 pub returns-clause-lines : goal.returns-clause-lines
 unfolding state_lines
 returns-clause-lines g c =
-    lines_then _ _ _ (marks_lines c.args.printed.now.items c.args.k c.args.was c.args.old.now.items c.args.state.now) (taken_by (nat_eq c.args.k 0) c.args.taken c.args.done) _ _
+    let x = c.args.border.now in
+    let b = c.args.between.now in
+    lines_then _ _ _ (marks_lines b.printed.now b.k b.was c.args.old.now.items c.args.state.now) (taken_by (nat_eq b.k 0) x.taken x.done) _ _
     c.in_ok-write_marks.ensures.lines c.write_taken.ensures

@@ -1,13 +1,10 @@
-use Rattle.std.proofs.Common.{length, ◌+◌, refl, ◌∙◌, ap}
+use Rattle.std.proofs.Common.{length, refl, ◌∙◌, ap}
 use Rattle.st_io.proofs.Progress.{lines_cut, lines_then}
 use Rattle.st_lines.proofs.LineLemmas.{same_lines}
 use Rattle.st_account.specs.declared.account.Account.{Account}
 use Rattle.st_account.specs.declared.last.Last.{Last}
-use Rattle.st_reasons.specs.Sums.{waited_at}
-use Rattle.st_lines.specs.declared.writing.Border.{Border}
-use Rattle.st_account.specs.Standing.{kept_stalled}
 use Rattle.st_account.proofs.BorderLemmas.{segment-is, front-after, row-same, words-left, crossed}
-use Rattle.st_account.proofs.StallLemmas.{waiting-same, kept-stalled-same, words-read}
+use Rattle.st_account.proofs.StallLemmas.{waiting-same, adds-same, words-read}
 use Rattle.st_account.proofs.account.Account.cross.Goals as goal
 
 pub returns-in_err-write_row-clause-lines : goal.returns-in_err-write_row-clause-lines
@@ -15,7 +12,7 @@ returns-in_err-write_row-clause-lines g c ds n left b m xs cards is going =
     lines_cut _ _ _ _ _ c.from_residual.result c.from_residual.ensures.0
     (same_lines _ _ _ _ _
     (row-same ds n left b m c.args.self.now xs cards is c.open-border.new.self c.open-border.result c.open-border.ensures.rest c.open-border.ensures.border
-    c.open-border.ensures.ends c.open-border.ensures.begins going c.open-border.ensures.last c.end_of-end.result c.end_of-end.ensures) c.in_err-write_row.ensures.lines)
+    c.open-border.ensures.ends c.open-border.ensures.begins c.open-border.ensures.last going c.end_of-end.result c.end_of-end.ensures) c.in_err-write_row.ensures.lines)
 
 pub returns-in_err-write_row-clause-number : goal.returns-in_err-write_row-clause-number
 returns-in_err-write_row-clause-number g c ds n left b m xs cards is =
@@ -32,10 +29,11 @@ returns-clause-lines g c ds n left b m xs cards is going =
     lines_then _ _ _ _ _ _ _
     (same_lines _ _ _ _ _
     (row-same ds n left b m c.args.self.now xs cards is c.open-border.new.self c.open-border.result c.open-border.ensures.rest c.open-border.ensures.border
-    c.open-border.ensures.ends c.open-border.ensures.begins going c.open-border.ensures.last c.end_of-end.result c.end_of-end.ensures) c.in_ok-write_row.ensures.lines)
+    c.open-border.ensures.ends c.open-border.ensures.begins c.open-border.ensures.last going c.end_of-end.result c.end_of-end.ensures) c.in_ok-write_row.ensures.lines)
     (same_lines _ _ _ _ _
     (crossed ds n left b m c.args.self.now xs cards is c.open-border.new.self c.open-border.result c.open-border.ensures.rest c.open-border.ensures.border
-    c.open-border.ensures.ends c.open-border.ensures.begins c.as_slice.result.now c.as_slice.ensures.value
+    c.open-border.ensures.ends c.open-border.ensures.begins c.open-border.ensures.last c.row_number.result c.as_slice.result.now c.as_slice-2.result.now
+    c.row_number.ensures.number c.as_slice.ensures.value c.as_slice-2.ensures.value
     (front-after ds n left b m c.args.self.now xs cards is c.open-border.new.self c.open-border.result c.open-border.ensures.rest c.open-border.ensures.border
     c.open-border.ensures.ends c.open-border.ensures.begins c.open-border.ensures.front)) c.write_border.ensures.lines)
 
@@ -50,7 +48,7 @@ returns-clause-front g c ds n left b m xs cards is going =
     c.open-border.ensures.ends c.open-border.ensures.begins c.open-border.ensures.front
 
 pub returns-clause-size : goal.returns-clause-size
-returns-clause-size g c good = ap length (c.write_border.ensures.words good) ∙ ap (λ (x : Account). length x.state.words) c.open-border.ensures.rest ∙ c.shape.ensures.size
+returns-clause-size g c good = ap length (c.write_border.ensures.words good) ∙ c.row_number.ensures.machine.size
 
 pub write_row-requires : goal.write_row-requires
 write_row-requires g c =
@@ -67,13 +65,7 @@ returns-clause-read g c good =
     words-read c.open-border.result.ends c.args.self.now.last.uses.items _ _ (ap (λ (l : Last). l.uses.items) c.open-border.ensures.last) c.clear_if.ensures
     c.requires.waiting.uses
 
-pub returns-clause-within : goal.returns-clause-within
-returns-clause-within g c good = c.in_ok-write_row.ensures.within refl
-
-pub returns-clause-stalled : goal.returns-clause-stalled
-returns-clause-stalled g c good r s parted =
-    c.in_ok-write_row.ensures.sums refl r s parted
-    ∙ ap (λ (x : Account). waited_at r s x.waiting.totals + kept_stalled r s c.open-border.result.k c.open-border.new.self.last) c.open-border.ensures.rest
-    ∙ ap (λ (y : Border). waited_at r s c.args.self.now.waiting.totals + kept_stalled r s y.k c.open-border.new.self.last) c.open-border.ensures.border
-    ∙ ap (λ n. waited_at r s c.args.self.now.waiting.totals + n)
-    (kept-stalled-same r s c.args.self.now.k c.args.self.now.last c.open-border.new.self.last c.open-border.ensures.last)
+pub returns-clause-waits : goal.returns-clause-waits
+returns-clause-waits g c good =
+    adds-same _ _ _ _ _ _ c.open-border.ensures.last (ap (λ (x : Account). x.waiting.totals) c.open-border.ensures.rest)
+    (c.in_ok-write_row.ensures.waits refl)

@@ -1,8 +1,8 @@
-use Rattle.std.proofs.Common.{refl, ◌∙◌, ap}
+use Rattle.std.proofs.Common.{refl, sym, subst}
 use Rattle.st_io.proofs.Progress.{lines_cut, lines_then}
 use Rattle.st_lines.proofs.LineLemmas.{same_lines}
-use Rattle.st_reasons.specs.Sums.{waited_at}
 use Rattle.st_lines.specs.declared.waits.Waiting.{Waiting}
+use Rattle.st_account.specs.Standing.{AddsKeptWaits}
 use Rattle.st_account.proofs.BorderLemmas.{last-row, behind-same}
 use Rattle.st_account.proofs.account.Account.finish.Goals as goal
 
@@ -17,6 +17,7 @@ returns-clause-lines g c ds n left b m xs cards is end =
     (same_lines _ _ _ _ _ (last-row ds n left b m c.args.self.now xs cards is end c.end_of-end.result c.end_of-end.ensures) c.in_ok-write_row.ensures.lines)
     (c.write_last.ensures.lines ds n left b m xs cards (behind-same ds n left b m c.args.self.now xs cards _ is) end)
 
-pub returns-clause-stalled : goal.returns-clause-stalled
-returns-clause-stalled g c good r s parted =
-    ap (λ (w : Waiting). waited_at r s w.totals) c.write_last.ensures.waits ∙ c.in_ok-write_row.ensures.sums refl r s parted
+pub returns-clause-waits : goal.returns-clause-waits
+returns-clause-waits g c good =
+    let a = c.args.self.now in
+    subst (λ (w : Waiting). AddsKeptWaits a.k a.last a.waiting.totals w.totals) (sym c.write_last.ensures.waits) (c.in_ok-write_row.ensures.waits refl)

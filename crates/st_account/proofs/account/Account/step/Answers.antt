@@ -33,7 +33,7 @@ returns-clause-lines c p end some is =
     ∙ ap (origin_at c.args.self.now.origins c.args.self.now.state) c.next_address-address.ensures.value)
     (ap (λ (l : Last). l.done.row.ticks) rest ∙ c.count_on.ensures.row)
     (ap (λ (l : Last). l.done.row.level_wait) rest ∙ c.count_on.ensures.wait)
-    (ap (λ (l : Last). l.done.n) rest ∙ c.count_on.ensures.number ∙ c.row_number-self.ensures)
+    (ap (λ (l : Last). l.done.n) rest ∙ c.count_on.ensures.number ∙ c.row_number-self.ensures.number)
     (ap (λ (l : Last). l.missed) rest)
     (ap (λ (l : Last). l.plan) rest ∙ c.count_on.ensures.plan)
     (ap (λ (l : Last). l.done.known) rest ∙ c.count_on.ensures.known)
@@ -94,7 +94,7 @@ returns-clause-last c p is =
     entry-last c.args.timing.now.delays (AreDelays-list c.args.timing.now.delays c.shape.ensures) c.args.timing.now.levels p c.args.self.now.state
     c.execute.new.state c.args.self.now.last
     c.count_on.new.last c.execute.new.last c.count_on.new.log c.interrupt-taken.result c.count_on.new.last.done.row.ticks is c.requires.tight c.interrupt-taken.ensures.value
-    (entry-ranges c.interrupt-taken.result c.args.self.now.state c.shape-2.ensures c.interrupt-taken.ensures.bound) c.execute.ensures.state c.execute.ensures.guess
+    (entry-ranges c.interrupt-taken.result c.args.self.now.state c.row_number-self.ensures.machine c.interrupt-taken.ensures.bound) c.execute.ensures.state c.execute.ensures.guess
     c.execute.ensures.counter c.count_on.ensures.row c.count_on.ensures.tick c.count_on.ensures.front c.count_on.ensures.log
     c.count_on.ensures.past c.execute.ensures.rest
 
@@ -119,5 +119,5 @@ returns-clause-guess c =
 
 pub returns-clause-left : goal.returns-clause-left
 returns-clause-left c w above among =
-    entry-left c.args.self.now.state _ c.interrupt-taken.result c.count_on.new.last.plan c.shape-2.ensures c.count_on.ensures.prepared
+    entry-left c.args.self.now.state _ c.interrupt-taken.result c.count_on.new.last.plan c.row_number-self.ensures.machine c.count_on.ensures.prepared
     c.count_on.ensures.plan c.execute.ensures.state w above (subst (λ (l : Last). IsNotAmong w l.plan.writes) c.execute.ensures.rest among)

@@ -1,0 +1,25 @@
+-- What charges with their waits ask of the sums of waits, and what they leave of them. A row uses
+-- some words, and the row before it others.
+use Rattle.std.specs.Prelude.{ℕ, ◌≡◌, ◌+◌, true, List}
+use Rattle.st_ledger.specs.Charges.{all_ticks}
+use Rattle.st_ledger.specs.declared.charges.Charge.{Charge}
+use Rattle.st_ledger.specs.declared.charges.Stage.{Stage}
+use Rattle.st_plain.specs.declared.uses.Use.{Use}
+use Rattle.st_reasons.specs.Sums.{AreWaitsWithin, is_parted, waited_at, row_stalled}
+use Rattle.st_reasons.specs.Words.{AreWordsInTime}
+use Rattle.st_reasons.specs.declared.sums.WaitTotals.{WaitTotals}
+use Rattle.st_reasons.specs.declared.waits.Stall.{Stall}
+
+-- The waits of charges behind the tick `from` can be told: words are accepted and answered in time,
+-- and no sum is greater than that tick.
+pub record AreWaitsReady (uses before : List Use) (from : ℕ) (sums : WaitTotals) : Type 0 where
+  pub used : AreWordsInTime uses
+  pub earlier : AreWordsInTime before
+  pub within : AreWaitsWithin from sums
+
+-- They are added to the sums, none of which is then greater than the tick at which the charges end.
+pub record AddsWaits (uses before : List Use) (from : ℕ) (charges : List Charge)
+    (old new : WaitTotals) : Type 0 where
+  pub within : AreWaitsWithin (from + all_ticks charges) new
+  pub sums : (r : Stage) (s : Stall) → is_parted r ≡ true →
+      waited_at r s new ≡ waited_at r s old + row_stalled r s uses before charges
