@@ -59,7 +59,7 @@ use std::alloc::Global;
 
 // A run that is ready to be told.
 #[derive(Drop)]
-struct Prepared<'a> {
+struct RunWithPast<'a> {
     run: Run<'a, LEVELS>,
     // The machine beside it, where steps back are asked for.
     past: Option<Past<'a>>,
@@ -70,7 +70,7 @@ fn write_output<K: Sink>(
     out: &mut K,
     job: &Job,
     program: &Assembled,
-    prepared: &mut Prepared<'_>,
+    prepared: &mut RunWithPast<'_>,
     moment: &mut Moment,
 ) -> Result<(), Failed>
     requires cards { HasCards job.now.text.now program.now.listing.items job.now.cards.now }
@@ -189,7 +189,7 @@ fn prepare<'a>(
     image: &[u64],
     start: u32,
     controls: &'a Controls,
-) -> Result<Prepared<'a>, NoMemory>
+) -> Result<RunWithPast<'a>, NoMemory>
     requires whole { length image.now ≡ words_of_storage }
     requires registers { (w : ℕ) → w < FIRST_STORAGE_WORD → slice_index image.now w ≡ 0 }
     requires counter { start < 2 ^ 19 }
@@ -219,7 +219,7 @@ fn prepare<'a>(
         snaps(controls),
         budget(controls),
     );
-    Ok(Prepared { run, past })
+    Ok(RunWithPast { run, past })
 }
 
 // Writes what stands in front of the report of a job, and the report of its run, and answers.
@@ -227,7 +227,7 @@ fn answer_run<K: Sink>(
     out: &mut K,
     job: &Job,
     program: &Assembled,
-    prepared: &mut Prepared<'_>,
+    prepared: &mut RunWithPast<'_>,
 ) -> Answer
     requires cards { HasCards job.now.text.now program.now.listing.items job.now.cards.now }
     requires symbols { All IsSymbol program.now.symbols.items }
@@ -269,7 +269,11 @@ pub fn execute<K: Sink>(alloc: Global, job: &Job, program: &Assembled, out: &mut
 }
 
 // Writes the report of the run of a program that was loaded, and answers.
-fn answer_loaded<K: Sink>(out: &mut K, prepared: &mut Prepared<'_>, controls: &Controls) -> Answer
+fn answer_loaded<K: Sink>(
+    out: &mut K,
+    prepared: &mut RunWithPast<'_>,
+    controls: &Controls,
+) -> Answer
     requires limit { controls.now.budget ≤ MOST_INSTRUCTIONS }
     requires parts { AllPass is_part controls.now.dumps }
     requires fresh { IfSome prepared.old.past (λ b. b.0.machine.done ≡ 0) }
