@@ -28,7 +28,6 @@ ghost use Rattle.st_card.specs.Limits.{IsWithinLimits, is_part};
 ghost use Rattle.st_exch.specs.Reader.{reader_cards};
 ghost use Rattle.st_run.specs.Reached.{IsCard};
 ghost use Rattle.st_run.specs.Scenes.{IsScene};
-ghost use Rattle.st_state.specs.Machine.{opening_state};
 ghost use Rattle.st_run.specs.Run.{Scene as SceneOf};
 ghost use Rattle.st_io.specs.Event.{at_moment};
 ghost use Rattle.st_object.specs.Object.{IsProgram};
@@ -41,6 +40,7 @@ ghost use Rattle.st_top.specs.Output.{scene_at_start, ran_by, loaded_by, output_
 ghost use Rattle.st_top.specs.Answers.{Writes, KeepsTime};
 
 use crate::answer::{Answer, Status};
+use crate::job::Job;
 use crate::listing::write_front;
 use crate::reporting::{LEVELS, budget, write_report};
 use st_asm::Assembled;
@@ -57,35 +57,47 @@ use st_state::State;
 use st_telling::Moment;
 use std::alloc::Global;
 
+// A run that is ready to be told.
+#[derive(Drop)]
+struct RunWithPast<'a> {
+    run: Run<'a, LEVELS>,
+    // The machine beside it, where steps back are asked for.
+    past: Option<Past<'a>>,
+}
+
 // Writes what stands in front of the report of a job, and then the report of its run.
 fn write_output<K: Sink>(
     out: &mut K,
-    made: Option<(u64, u32)>,
-    job: &[u8],
-    cards: &[Card],
+    job: &Job,
     program: &Assembled,
-    run: &mut Run<'_, LEVELS>,
-    past: &mut Option<Past>,
+    prepared: &mut RunWithPast<'_>,
     moment: &mut Moment,
 ) -> Result<(), Failed>
-    requires cards { HasCards job.now program.now.listing.items cards.now }
+    requires cards { HasCards job.now.text.now program.now.listing.items job.now.cards.now }
     requires symbols { All IsSymbol program.now.symbols.items }
     requires limit { program.now.controls.budget ≤ MOST_INSTRUCTIONS }
     requires parts { AllPass is_part program.now.controls.dumps }
-    requires fresh { IfSome past.old (λ b. b.0.machine.done ≡ 0) }
-    requires ready { IfSome past.old IsBesideReady }
+    requires fresh { IfSome prepared.old.past (λ b. b.0.machine.done ≡ 0) }
+    requires ready { IfSome prepared.old.past IsBesideReady }
     requires moment { moment.old ≡ record { done = 0; tick = 0 } }
 
-    ensures { (start : SceneOf) → run.old.rest ≡ told_of_events
+    ensures { (start : SceneOf) → prepared.old.run.rest ≡ told_of_events
         (events_of_run program.now.controls start)
-        → StandsAtStart program.now.controls.back start past.old
+        → StandsAtStart program.now.controls.back start prepared.old.past
         → WritesEvents (K.output out.old) (K.output out.new)
-        (at_moment 0 0 (front_lines made job.now (assembly_parts program.now)) ++ run_report
-        program.now.controls start)
+        (at_moment 0 0
+        (front_lines job.now.made job.now.text.now (assembly_parts program.now))
+        ++ run_report program.now.controls start)
         (moment_at_end program.now.controls start) moment.new result }
 {
-    write_front(out, made, job, cards, program)?;
-    write_report(out, run, past, moment, &program.controls)
+    write_front(out, job, program)?;
+    write_report(
+        out,
+        &mut prepared.run,
+        &mut prepared.past,
+        moment,
+        &program.controls,
+    )
 }
 
 // The answer of a run, or of one whose report stopped at a moment.
@@ -144,20 +156,18 @@ fn reader(alloc: Global, job: &[u8], cards: &[Card]) -> Result<Hopper, NoMemory>
 // The machine beside a run, where steps back are asked for. It reads the cards of the same job.
 fn beside<'a>(
     alloc: Global,
-    job: &[u8],
-    cards: &[Card],
+    job: &Job,
     image: &[u64],
     start: u32,
     controls: &'a Controls,
 ) -> Result<Option<Past<'a>>, NoMemory>
-    requires cards { cards.now ≡ cards_of job.now }
     requires whole { length image.now ≡ words_of_storage }
     requires registers { (w : ℕ) → w < FIRST_STORAGE_WORD → slice_index image.now w ≡ 0 }
     requires counter { start < 2 ^ 19 }
     requires limits { IsWithinLimits controls.now }
 
     ensures start { IfOk result (λ past. StandsAtStart controls.now.back
-        (scene_at_start image.now start controls.now job.now) past) }
+        (scene_at_start image.now start controls.now job.now.text.now) past) }
     ensures fresh { IfOk result (λ past. IfSome past (λ b. b.0.machine.done ≡ 0)) }
     ensures ready { IfOk result (λ past. IfSome past IsBesideReady) }
 {
@@ -166,25 +176,20 @@ fn beside<'a>(
         return Ok(None);
     }
     let machine = State::new(alloc, image, start)?;
-    let hopper = Hopper::of_cards(alloc, job, cards)?;
+    let hopper = Hopper::of_cards(alloc, job.text, job.cards)?;
     let steps = Back::new(alloc, depth)?;
     Ok(Some(Past::new(machine, signals(controls), hopper, steps)))
 }
 
-// A run that is ready to be told, and the machine beside it, where steps back are asked for.
-type Prepared<'a> = (Run<'a, LEVELS>, Option<Past<'a>>);
-
 // Takes all memory of a run: that of an image, a start and controls, with the reader's cards of a
-// job, whose cards these are.
+// job.
 fn prepare<'a>(
     alloc: Global,
-    job: &[u8],
-    cards: &[Card],
+    job: &Job,
     image: &[u64],
     start: u32,
     controls: &'a Controls,
-) -> Result<Prepared<'a>, NoMemory>
-    requires cards { cards.now ≡ cards_of job.now }
+) -> Result<RunWithPast<'a>, NoMemory>
     requires whole { length image.now ≡ words_of_storage }
     requires registers { (w : ℕ) → w < FIRST_STORAGE_WORD → slice_index image.now w ≡ 0 }
     requires counter { start < 2 ^ 19 }
@@ -192,20 +197,20 @@ fn prepare<'a>(
     requires budget { 1 ≤ controls.now.budget }
     requires delays { 1 ≤ length controls.now.delays }
 
-    ensures rest { IfOk result (λ run. run.0.rest
-        ≡ told_of_events
-        (events_of_run controls.now (scene_at_start image.now start controls.now job.now))) }
-    ensures beside { IfOk result (λ run. StandsAtStart controls.now.back
-        (scene_at_start image.now start controls.now job.now) run.1) }
-    ensures fresh { IfOk result (λ run. IfSome run.1 (λ b. b.0.machine.done ≡ 0)) }
-    ensures ready { IfOk result (λ run. IfSome run.1 IsBesideReady) }
+    ensures rest { IfOk result (λ prepared. prepared.run.rest
+        ≡ told_of_events (events_of_run controls.now
+        (scene_at_start image.now start controls.now job.now.text.now))) }
+    ensures beside { IfOk result (λ prepared. StandsAtStart controls.now.back
+        (scene_at_start image.now start controls.now job.now.text.now) prepared.past) }
+    ensures fresh { IfOk result (λ prepared. IfSome prepared.past (λ b. b.0.machine.done ≡ 0)) }
+    ensures ready { IfOk result (λ prepared. IfSome prepared.past IsBesideReady) }
     ensures scene { IfOk result
-        (λ run. IsScene (scene_at_start image.now start controls.now job.now)) }
+        (λ prepared. IsScene (scene_at_start image.now start controls.now job.now.text.now)) }
 {
     let state = State::new(alloc, image, start)?;
-    let hopper = reader(alloc, job, cards)?;
+    let hopper = reader(alloc, job.text, job.cards)?;
     let delays = delays(alloc, controls)?;
-    let past = beside(alloc, job, cards, image, start, controls)?;
+    let past = beside(alloc, job, image, start, controls)?;
     let run = Run::new(
         state,
         delays,
@@ -214,83 +219,79 @@ fn prepare<'a>(
         snaps(controls),
         budget(controls),
     );
-    Ok((run, past))
+    Ok(RunWithPast { run, past })
 }
 
 // Writes what stands in front of the report of a job, and the report of its run, and answers.
 fn answer_run<K: Sink>(
     out: &mut K,
-    made: Option<(u64, u32)>,
-    job: &[u8],
-    cards: &[Card],
+    job: &Job,
     program: &Assembled,
-    run: &mut Run<'_, LEVELS>,
-    past: &mut Option<Past>,
+    prepared: &mut RunWithPast<'_>,
 ) -> Answer
-    requires cards { HasCards job.now program.now.listing.items cards.now }
+    requires cards { HasCards job.now.text.now program.now.listing.items job.now.cards.now }
     requires symbols { All IsSymbol program.now.symbols.items }
     requires limit { program.now.controls.budget ≤ MOST_INSTRUCTIONS }
     requires parts { AllPass is_part program.now.controls.dumps }
-    requires fresh { IfSome past.old (λ b. b.0.machine.done ≡ 0) }
-    requires ready { IfSome past.old IsBesideReady }
+    requires fresh { IfSome prepared.old.past (λ b. b.0.machine.done ≡ 0) }
+    requires ready { IfSome prepared.old.past IsBesideReady }
 
-    ensures { (start : SceneOf) → run.old.rest ≡ told_of_events
+    ensures { (start : SceneOf) → prepared.old.run.rest ≡ told_of_events
         (events_of_run program.now.controls start)
-        → StandsAtStart program.now.controls.back start past.old
+        → StandsAtStart program.now.controls.back start prepared.old.past
         → Writes result.status (K.output out.old) (K.output out.new)
-        (output_of_run (front_lines made job.now (assembly_parts program.now)) program.now.controls
-        start) result }
+        (output_of_run
+        (front_lines job.now.made job.now.text.now (assembly_parts program.now))
+        program.now.controls start) result }
 {
     let mut moment = Moment::start();
-    let written = write_output(out, made, job, cards, program, run, past, &mut moment);
+    let written = write_output(out, job, program, prepared, &mut moment);
     answer_of(written, moment)
 }
 
-/// Runs a job that is assembled from its start, and writes its report. A deck that is made has its
-/// seed and its number of cards in `made`, and begins with their line. `cards` are the cards of the
-/// job.
+/// Runs a job that is assembled from its start, and writes its report. That of a made deck begins
+/// with the line of its seed and its number of cards.
 #[tactic(auto, using(st_bits::specs::Storage::words_of_storage_is, crate::proofs::Times::keeps_still))]
-pub fn execute<K: Sink>(
-    alloc: Global,
-    made: Option<(u64, u32)>,
-    job: &[u8],
-    cards: &[Card],
-    program: &Assembled,
-    out: &mut K,
-) -> Answer
-    requires cards { cards.now ≡ cards_of job.now }
-    requires sound { IsAssemblySound (length (cards_of job.now)) (assembly_parts program.now) }
-    requires good { All (λ card. card.fault ≡ None) (cards_of job.now) }
+pub fn execute<K: Sink>(alloc: Global, job: &Job, program: &Assembled, out: &mut K) -> Answer
+    requires sound { IsAssemblySound (length (cards_of job.now.text.now))
+        (assembly_parts program.now) }
+    requires good { All (λ card. card.fault ≡ None) (cards_of job.now.text.now) }
     ensures writes { Writes result.status (K.output out.old) (K.output out.new)
-        (ran_by made job.now (Ok (assembly_parts program.now))) result }
+        (ran_by job.now.made job.now.text.now (Ok (assembly_parts program.now))) result }
     ensures in_time { KeepsTime program.now.controls.delays result }
 {
     let words = program.image.as_slice();
     let start = program.start;
-    let Ok((mut run, mut past)) = prepare(alloc, job, cards, words, start, &program.controls) else {
+    let Ok(mut prepared) = prepare(alloc, job, words, start, &program.controls) else {
         return Answer::without_run(Status::NoMemory);
     };
-    answer_run(out, made, job, cards, program, &mut run, &mut past)
+    answer_run(out, job, program, &mut prepared)
 }
 
 // Writes the report of the run of a program that was loaded, and answers.
 fn answer_loaded<K: Sink>(
     out: &mut K,
-    run: &mut Run<'_, LEVELS>,
-    past: &mut Option<Past>,
+    prepared: &mut RunWithPast<'_>,
     controls: &Controls,
 ) -> Answer
     requires limit { controls.now.budget ≤ MOST_INSTRUCTIONS }
     requires parts { AllPass is_part controls.now.dumps }
-    requires fresh { IfSome past.old (λ b. b.0.machine.done ≡ 0) }
-    requires ready { IfSome past.old IsBesideReady }
-    ensures { (start : SceneOf) → run.old.rest ≡ told_of_events (events_of_run controls.now start)
-        → StandsAtStart controls.now.back start past.old
+    requires fresh { IfSome prepared.old.past (λ b. b.0.machine.done ≡ 0) }
+    requires ready { IfSome prepared.old.past IsBesideReady }
+    ensures { (start : SceneOf) → prepared.old.run.rest ≡ told_of_events
+        (events_of_run controls.now start)
+        → StandsAtStart controls.now.back start prepared.old.past
         → Writes result.status (K.output out.old) (K.output out.new)
         (output_of_run [] controls.now start) result }
 {
     let mut moment = Moment::start();
-    let written = write_report(out, run, past, &mut moment, controls);
+    let written = write_report(
+        out,
+        &mut prepared.run,
+        &mut prepared.past,
+        &mut moment,
+        controls,
+    );
     answer_of(written, moment)
 }
 
@@ -302,10 +303,15 @@ pub fn execute_loaded<K: Sink>(alloc: Global, program: &Image, out: &mut K) -> A
         (loaded_by (Ok program.now)) result }
     ensures in_time { KeepsTime program.now.controls.delays result }
 {
+    let job = Job {
+        made: None,
+        text: b"",
+        cards: &[],
+    };
     let words = program.words.as_slice();
     let start = program.start;
-    let Ok((mut run, mut past)) = prepare(alloc, b"", &[], words, start, &program.controls) else {
+    let Ok(mut prepared) = prepare(alloc, &job, words, start, &program.controls) else {
         return Answer::without_run(Status::NoMemory);
     };
-    answer_loaded(out, &mut run, &mut past, &program.controls)
+    answer_loaded(out, &mut prepared, &program.controls)
 }

@@ -5,6 +5,7 @@
 
 mod answer;
 mod execution;
+mod job;
 mod layer_error;
 mod listing;
 mod objects;

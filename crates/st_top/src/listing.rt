@@ -6,6 +6,7 @@ ghost use Rattle.st_card.specs.Cards.{IsCardOf};
 ghost use Rattle.st_io.specs.Lines.{WritesLines};
 ghost use Rattle.st_top.specs.Listing.{HasCards, listing_row_line, rows_lines, symbols_lines, listing, made_lines, front_lines};
 
+use crate::job::Job;
 use st_asm::{Assembled, Listed, Symbol};
 use st_card::{Card, Controls};
 use st_io::{Failed, Sink};
@@ -77,17 +78,17 @@ fn is_listed(controls: &Controls) -> bool
 // Writes a line for each card of a job, and then one for each symbol.
 fn write_both<K: Sink>(
     out: &mut K,
-    job: &[u8],
-    cards: &[Card],
+    job: &Job,
     rows: &[Listed],
     symbols: &[Symbol],
 ) -> Result<(), Failed>
-    requires cards { HasCards job.now rows.now cards.now }
+    requires cards { HasCards job.now.text.now rows.now job.now.cards.now }
     requires symbols { All IsSymbol symbols.now }
     ensures { WritesLines (K.output out.old) (K.output out.new)
-        (rows_lines job.now rows.now cards.now ++ symbols_lines symbols.now) result }
+        (rows_lines job.now.text.now rows.now job.now.cards.now ++ symbols_lines symbols.now)
+        result }
 {
-    write_rows(out, job, rows, cards)?;
+    write_rows(out, job.text, rows, job.cards)?;
     write_symbols(out, symbols)
 }
 
@@ -102,33 +103,22 @@ fn write_made<K: Sink>(out: &mut K, made: Option<(u64, u32)>) -> Result<(), Fail
 }
 
 /// Writes what stands in front of the report of a job that is assembled.
-pub fn write_front<K: Sink>(
-    out: &mut K,
-    made: Option<(u64, u32)>,
-    job: &[u8],
-    cards: &[Card],
-    program: &Assembled,
-) -> Result<(), Failed>
-    requires cards { HasCards job.now program.now.listing.items cards.now }
+pub fn write_front<K: Sink>(out: &mut K, job: &Job, program: &Assembled) -> Result<(), Failed>
+    requires cards { HasCards job.now.text.now program.now.listing.items job.now.cards.now }
     requires symbols { All IsSymbol program.now.symbols.items }
     ensures { WritesLines (K.output out.old) (K.output out.new)
-        (front_lines made job.now (assembly_parts program.now)) result }
+        (front_lines job.now.made job.now.text.now (assembly_parts program.now)) result }
 {
-    write_made(out, made)?;
-    write_listing(out, job, cards, program)
+    write_made(out, job.made)?;
+    write_listing(out, job, program)
 }
 
 // Writes the listing of a job that is assembled, where it is asked for.
-fn write_listing<K: Sink>(
-    out: &mut K,
-    job: &[u8],
-    cards: &[Card],
-    program: &Assembled,
-) -> Result<(), Failed>
-    requires cards { HasCards job.now program.now.listing.items cards.now }
+fn write_listing<K: Sink>(out: &mut K, job: &Job, program: &Assembled) -> Result<(), Failed>
+    requires cards { HasCards job.now.text.now program.now.listing.items job.now.cards.now }
     requires symbols { All IsSymbol program.now.symbols.items }
     ensures { WritesLines (K.output out.old) (K.output out.new)
-        (listing job.now (assembly_parts program.now)) result }
+        (listing job.now.text.now (assembly_parts program.now)) result }
 {
     if !is_listed(&program.controls) {
         return Ok(());
@@ -136,7 +126,6 @@ fn write_listing<K: Sink>(
     write_both(
         out,
         job,
-        cards,
         program.listing.as_slice(),
         program.symbols.as_slice(),
     )

@@ -14,6 +14,7 @@ ghost use Rattle.st_top.specs.Layers.{Ends, Tries};
 
 use crate::answer::{Answer, Status};
 use crate::execution::{execute, execute_loaded};
+use crate::job::Job;
 use crate::layer_error::LayerError;
 use crate::objects::{answer_deck, answer_object, image_of};
 use crate::refusal::refuse;
@@ -42,9 +43,13 @@ fn run_job<K: Sink>(
     let Ok(cards) = split(alloc, job) else {
         return Err(LayerError::NoMemory);
     };
-    let deck = cards.as_slice();
-    let program = assemble_cards(alloc, job, deck)?;
-    Ok(execute(alloc, made, job, deck, &program, out))
+    let job = Job {
+        made,
+        text: job,
+        cards: cards.as_slice(),
+    };
+    let program = assemble_cards(alloc, job.text, job.cards)?;
+    Ok(execute(alloc, &job, &program, out))
 }
 
 // Assembles a job and writes its object text.

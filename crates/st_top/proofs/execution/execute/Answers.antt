@@ -10,23 +10,23 @@ use Rattle.st_card.proofs.Laws.{cards_stand_in_their_job}
 
 pub answer_run-requires-clause-cards : goal.answer_run-requires-clause-cards
 answer_run-requires-clause-cards g c =
-    has_cards c.args.job.now c.args.program.now.listing.items c.args.cards.now c.requires.cards (cards_stand_in_their_job c.args.job.now)
+    has_cards c.args.job.now.text.now c.args.program.now.listing.items c.args.job.now.cards.now c.args.job.now.cards_are (cards_stand_in_their_job c.args.job.now.text.now)
     c.requires.good c.requires.sound.rows c.requires.sound.row_count
 
 pub returns-clause-writes : goal.returns-clause-writes
 returns-clause-writes g c =
-    let job = c.args.job.now in
+    let job = c.args.job.now.text.now in
     let a = assembly_parts c.args.program.now in
     let start = scene_at_start c.as_slice-words.result.now a.start a.asked job in
     let ready = c.in-Ok.ensures in
-    writes_output _ _ _ _ _ (ap (λ (image : List ℕ). output_of_run (front_lines c.args.made job a) a.asked (scene_at_start image a.start a.asked job)) c.as_slice-words.ensures.value)
+    writes_output _ _ _ _ _ (ap (λ (image : List ℕ). output_of_run (front_lines c.args.job.now.made job a) a.asked (scene_at_start image a.start a.asked job)) c.as_slice-words.ensures.value)
     (c.answer_run.ensures start ready.rest ready.beside)
 
 pub returns-clause-in_time : goal.returns-clause-in_time
 returns-clause-in_time g c =
-    let job = c.args.job.now in
+    let job = c.args.job.now.text.now in
     let a = assembly_parts c.args.program.now in
     let start = scene_at_start c.as_slice-words.result.now a.start a.asked job in
     let ready = c.in-Ok.ensures in
-    keeps_time a.asked start _ _ (front_lines c.args.made job a) _ c.requires.sound.delays c.requires.sound.limits.delays.each ready.scene
+    keeps_time a.asked start _ _ (front_lines c.args.job.now.made job a) _ c.requires.sound.delays c.requires.sound.limits.delays.each ready.scene
     (c.answer_run.ensures start ready.rest ready.beside)

@@ -7,13 +7,13 @@ use Rattle.st_top.proofs.listing.write_listing.Goals as goal
 
 pub returns-then-not-is_listed : goal.returns-then-not-is_listed
 returns-then-not-is_listed g c =
-    lines_are _ _ _ _ _ (listing_none c.args.job.now (assembly_parts c.args.program.now) (sym c.is_listed.ensures ∙ c.if-not-is_listed.true))
+    lines_are _ _ _ _ _ (listing_none c.args.job.now.text.now (assembly_parts c.args.program.now) (sym c.is_listed.ensures ∙ c.if-not-is_listed.true))
     (record { ok = wrote_nothing _; err = tt })
 
 pub returns : goal.returns
 returns g c =
-    let job = c.args.job.now in
-    let cards = c.args.cards.now in
+    let job = c.args.job.now.text.now in
+    let cards = c.args.job.now.cards.now in
     let rows = ap (λ xs. rows_lines job xs cards ++ symbols_lines c.as_slice-2.result.now) c.as_slice.ensures.value in
     let symbols = ap (λ xs. rows_lines job c.args.program.now.listing.items cards ++ symbols_lines xs) c.as_slice-2.ensures.value in
     lines_are _ _ _ _ _
