@@ -14,7 +14,7 @@ ghost use Rattle.st_prep.specs.Ranges.{IsRuns};
 ghost use Rattle.st_plain.specs.Uses.{instruction_uses, fetch_uses, formed_uses, prepared_uses};
 
 use crate::entries::Planned;
-use crate::uses::{Role, Uses, fetch_supply, note, use_data, use_following, use_side};
+use crate::uses::{Role, Uses, Wanted, fetch_supply, note, use_data, use_following, use_side};
 use st_banks::{BANKS, Delays, LastAnswers};
 use st_prep::Words;
 use st_rows::{Bus, Entry, EntryTicks, Fetching, Formed, Front, LastEntries, Log, Past, WordRun};
@@ -209,7 +209,13 @@ pub fn begin(
     } else {
         let bus = words.bus;
         formed = front.form(delays, levels, entry, words, log);
-        use_side(uses, &bus, delays, &front.past, past, side, formed.a);
+        let wanted = Wanted {
+            tick: formed.a,
+            delays,
+            last: &front.past,
+            past,
+        };
+        use_side(uses, &bus, &wanted, side);
     }
     begun.level_wait = level_wait(front, levels, entry, formed.a, &words.bus);
     begun.formed = formed;
@@ -252,13 +258,18 @@ pub fn finish(
 {
     delays.shape();
     let Formed { a, p } = begun.formed;
-    let last = &front.past;
+    let wanted = Wanted {
+        tick: p,
+        delays,
+        last: &front.past,
+        past,
+    };
     let words = &mut begun.words;
     words.answered = p;
-    use_data(uses, words, log, delays, last, past, entry, reads, p);
+    use_data(uses, words, log, &wanted, entry, reads);
     let r = words.answered;
     let c = front.c.max(r) + u64::from(entry.cost);
-    use_following(uses, &mut words.bus, log, delays, entry, p);
+    use_following(uses, &mut words.bus, log, &wanted, entry);
     let row = EntryTicks { a, p, r, c };
     front.pass(entry, &row, &words.bus);
     row

@@ -246,77 +246,66 @@ fn writer_back(past: &[Past; 8], w: u32) -> u8
     }
 }
 
+/// When words are wanted, and where they come from besides a bus: storage with its delays, and the
+/// last entries of a front, as that keeps them and the newest one first.
+#[derive(Clone, Copy)]
+pub(crate) struct Wanted<'a> {
+    pub tick: u64,
+    pub delays: &'a Delays,
+    pub last: &'a LastEntries,
+    pub past: &'a [Past; 8],
+    ghost same: { past.now ≡ last.now },
+}
+
 // Where a word of storage comes from that is wanted at a tick.
 #[inline(always)]
-fn storage_supply(
-    bus: &Bus,
-    delays: &Delays,
-    last: &LastEntries,
-    past: &[Past; 8],
-    w: u32,
-    tick: u64,
-) -> Supply
+fn storage_supply(bus: &Bus, wanted: &Wanted<'_>, w: u32) -> Supply
     requires room { IsBusWithin (2 ^ 64 - 512) bus.now }
-    requires early { tick ≤ 2 ^ 64 - 512 }
+    requires early { wanted.now.tick ≤ 2 ^ 64 - 512 }
     requires storage { 32 ≤ w }
-    requires past { past.now ≡ last.now }
-    ensures { result ≡ storage_supply_of delays.now last.now bus.now w tick }
+    ensures { let x = wanted.now in
+        result ≡ storage_supply_of x.delays.now x.last.now bus.now w x.tick }
 {
+    let last = wanted.last;
     let done = last.latest_done(w);
-    if done > tick {
+    if done > wanted.tick {
         return Supply::Forwarded(Writer {
-            back: writer_back(past, w),
+            back: writer_back(wanted.past, w),
             done,
         });
     }
-    Supply::Read(read_ticks(bus, delays, w, tick))
+    Supply::Read(read_ticks(bus, wanted.delays, w, wanted.tick))
 }
 
 // Where an index-side word comes from, which is wanted at the tick at which the address is formed.
-fn side_supply(
-    bus: &Bus,
-    delays: &Delays,
-    last: &LastEntries,
-    past: &[Past; 8],
-    w: u32,
-    a: u64,
-) -> Supply
+fn side_supply(bus: &Bus, wanted: &Wanted<'_>, w: u32) -> Supply
     requires room { IsBusWithin (2 ^ 64 - 512) bus.now }
-    requires early { a ≤ 2 ^ 64 - 512 }
-    requires past { past.now ≡ last.now }
-    ensures { result ≡ side_supply_of delays.now last.now bus.now w a }
+    requires early { wanted.now.tick ≤ 2 ^ 64 - 512 }
+    ensures { let x = wanted.now in
+        result ≡ side_supply_of x.delays.now x.last.now bus.now w x.tick }
 {
     if w < FIRST_STORAGE_WORD {
         return Supply::Register;
     }
-    storage_supply(bus, delays, last, past, w, a)
+    storage_supply(bus, wanted, w)
 }
 
 /// Notes the index-side word, if there is one, of an entry whose address is formed at `a`.
 #[inline(always)]
 #[tactic(auto, unfolding(crate::specs::Uses::side_uses))]
-pub(crate) fn use_side(
-    uses: &mut Uses,
-    bus: &Bus,
-    delays: &Delays,
-    last: &LastEntries,
-    past: &[Past; 8],
-    side: Option<u32>,
-    a: u64,
-)
+pub(crate) fn use_side(uses: &mut Uses, bus: &Bus, wanted: &Wanted<'_>, side: Option<u32>)
     requires space { length uses.old.items < 48 }
     requires room { IsBusWithin (2 ^ 64 - 512) bus.now }
-    requires early { a ≤ 2 ^ 64 - 512 }
-    requires past { past.now ≡ last.now }
+    requires early { wanted.now.tick ≤ 2 ^ 64 - 512 }
 
-    ensures items { uses.new.items
-        ≡ uses.old.items ++ side_uses delays.now last.now bus.now side a }
+    ensures items { let x = wanted.now in uses.new.items
+        ≡ uses.old.items ++ side_uses x.delays.now x.last.now bus.now side x.tick }
     ensures room { length uses.new.items ≤ length uses.old.items + 1 }
 {
     let Some(w) = side else {
         return;
     };
-    let supply = side_supply(bus, delays, last, past, w, a);
+    let supply = side_supply(bus, wanted, w);
     note(uses, Role::Index, w, supply);
 }
 
@@ -339,36 +328,27 @@ fn use_registers(uses: &mut Uses, first: u32, count: u8)
 // Notes an operand word that is no register, and reads it, unless it is forwarded.
 #[inline(always)]
 #[tactic(auto, unfolding(st_rows::specs::Rows::read_word, st_rows::specs::Notes::log_after_reads))]
-fn use_operand(
-    uses: &mut Uses,
-    words: &mut Fetching,
-    log: &mut Log,
-    delays: &Delays,
-    last: &LastEntries,
-    past: &[Past; 8],
-    w: u32,
-    p: u64,
-)
+fn use_operand(uses: &mut Uses, words: &mut Fetching, log: &mut Log, wanted: &Wanted<'_>, w: u32)
     requires space { length uses.old.items < 48 }
     requires room { IsReadingWithin (2 ^ 64 - 512) (reading_of_fetch words.old) }
-    requires early { p ≤ 2 ^ 64 - 512 }
+    requires early { wanted.now.tick ≤ 2 ^ 64 - 512 }
     requires storage { 32 ≤ w }
-    requires past { past.now ≡ last.now }
 
-    ensures after { reading_of_fetch words.new
-        ≡ read_word delays.now last.now (reading_of_fetch words.old) w p }
-    ensures log { log.new ≡ log_after_reads delays.now (data_asked last.now w p) words.old.bus
-        log.old }
-    ensures items { uses.new.items ≡ uses.old.items ++ record {
+    ensures after { let x = wanted.now in reading_of_fetch words.new
+        ≡ read_word x.delays.now x.last.now (reading_of_fetch words.old) w x.tick }
+    ensures log { let x = wanted.now in log.new
+        ≡ log_after_reads x.delays.now (data_asked x.last.now w x.tick) words.old.bus log.old }
+    ensures items { let x = wanted.now in uses.new.items ≡ uses.old.items ++ record {
       role = Operand;
       word = w;
-      supply = storage_supply_of delays.now last.now words.old.bus w p;
+      supply = storage_supply_of x.delays.now x.last.now words.old.bus w x.tick;
     } ∷ [] }
     ensures room { length uses.new.items ≡ length uses.old.items + 1 }
 {
+    let last = wanted.last;
     let done = last.latest_done(w);
-    if done > p {
-        let back = writer_back(past, w);
+    if done > wanted.tick {
+        let back = writer_back(wanted.past, w);
         note(
             uses,
             Role::Operand,
@@ -377,8 +357,8 @@ fn use_operand(
         );
         return;
     }
-    let ticks = read_ticks(&words.bus, delays, w, p);
-    words.bus.read(log, delays, w, p);
+    let ticks = read_ticks(&words.bus, wanted.delays, w, wanted.tick);
+    words.bus.read(log, wanted.delays, w, wanted.tick);
     words.answered = words.answered.max(ticks.answer);
     note(uses, Role::Operand, w, Supply::Read(ticks));
 }
@@ -390,32 +370,31 @@ fn use_operands(
     uses: &mut Uses,
     words: &mut Fetching,
     log: &mut Log,
-    delays: &Delays,
-    last: &LastEntries,
-    past: &[Past; 8],
+    wanted: &Wanted<'_>,
     run: WordRun,
-    p: u64,
 )
     requires space { length uses.old.items + run.len ≤ 48 }
     requires room { IsReadingWithin (2 ^ 64 - 2 ^ 16) (reading_of_fetch words.old) }
-    requires early { p ≤ 2 ^ 64 - 2 ^ 16 }
+    requires early { wanted.now.tick ≤ 2 ^ 64 - 2 ^ 16 }
     requires words { IsReadable run }
     requires few { run.len ≤ 16 }
-    requires past { past.now ≡ last.now }
 
-    ensures after { reading_of_fetch words.new ≡ read_words delays.now last.now
-        (reading_of_fetch words.old) p run.first run.len }
-    ensures log { log.new ≡ log_after_reads delays.now
-        (operands_asked last.now p run.first run.len) words.old.bus log.old }
-    ensures items { uses.new.items ≡ uses.old.items ++ operand_uses delays.now last.now
-        (reading_of_fetch words.old) p run.first run.len }
+    ensures after { let x = wanted.now in reading_of_fetch words.new
+        ≡ read_words x.delays.now x.last.now (reading_of_fetch words.old) x.tick run.first
+        run.len }
+    ensures log { let x = wanted.now in log.new ≡ log_after_reads x.delays.now
+        (operands_asked x.last.now x.tick run.first run.len) words.old.bus log.old }
+    ensures items { let x = wanted.now in uses.new.items ≡ uses.old.items
+        ++ operand_uses x.delays.now x.last.now (reading_of_fetch words.old) x.tick
+        run.first run.len }
     ensures room { length uses.new.items ≤ length uses.old.items + run.len }
 {
+    let delays = wanted.delays;
     delays.shape();
     let mut w = run.first;
     let mut left = run.len;
     'words: while left > 0 {
-        use_operand(uses, words, log, delays, last, past, w, p);
+        use_operand(uses, words, log, wanted, w);
         w += 1;
         left -= 1;
     }
@@ -428,35 +407,33 @@ fn use_run(
     uses: &mut Uses,
     words: &mut Fetching,
     log: &mut Log,
-    delays: &Delays,
-    last: &LastEntries,
-    past: &[Past; 8],
+    wanted: &Wanted<'_>,
     all: WordRun,
     run: WordRun,
-    p: u64,
 )
     requires space { length uses.old.items + 16 ≤ 48 }
     requires start { all.first < 2 ^ 18 }
     requires all { all.len ≤ 16 }
     requires room { IsReadingWithin (2 ^ 64 - 2 ^ 16) (reading_of_fetch words.old) }
-    requires early { p ≤ 2 ^ 64 - 2 ^ 16 }
+    requires early { wanted.now.tick ≤ 2 ^ 64 - 2 ^ 16 }
     requires words { IsReadable run }
     requires few { run.len ≤ 16 }
-    requires past { past.now ≡ last.now }
 
-    ensures after { reading_of_fetch words.new ≡ read_words delays.now last.now
-        (reading_of_fetch words.old) p run.first run.len }
-    ensures log { log.new ≡ log_after_reads delays.now
-        (operands_asked last.now p run.first run.len) words.old.bus log.old }
-    ensures items { uses.new.items ≡ uses.old.items ++ run_uses delays.now last.now
-        (reading_of_fetch words.old) p all.first all.len run }
+    ensures after { let x = wanted.now in reading_of_fetch words.new
+        ≡ read_words x.delays.now x.last.now (reading_of_fetch words.old) x.tick run.first
+        run.len }
+    ensures log { let x = wanted.now in log.new ≡ log_after_reads x.delays.now
+        (operands_asked x.last.now x.tick run.first run.len) words.old.bus log.old }
+    ensures items { let x = wanted.now in uses.new.items ≡ uses.old.items
+        ++ run_uses x.delays.now x.last.now (reading_of_fetch words.old) x.tick
+        all.first all.len run }
     ensures room { length uses.new.items ≤ length uses.old.items + 16 }
 {
     use_registers(uses, all.first, all.len.saturating_sub(run.len));
-    use_operands(uses, words, log, delays, last, past, run, p);
+    use_operands(uses, words, log, wanted, run);
 }
 
-/// Notes the operand words of an entry that is prepared at `p`, and reads those that are no
+/// Notes the operand words of an entry that is prepared at the tick, and reads those that are no
 /// registers.
 #[inline(always)]
 #[tactic(auto, unfolding(crate::specs::Uses::data_uses, st_rows::specs::Rows::operands_read))]
@@ -464,29 +441,26 @@ pub(crate) fn use_data(
     uses: &mut Uses,
     words: &mut Fetching,
     log: &mut Log,
-    delays: &Delays,
-    last: &LastEntries,
-    past: &[Past; 8],
+    wanted: &Wanted<'_>,
     entry: &Entry,
     reads: Words,
-    p: u64,
 )
     requires space { length uses.old.items + 32 ≤ 48 }
     requires runs { IsRuns reads }
     requires entry { IsEntryInTime entry.now }
     requires room { IsBusWithin (2 ^ 64 - 2 ^ 17) words.old.bus }
-    requires early { p ≤ 2 ^ 64 - 2 ^ 17 }
-    requires start { words.old.answered ≡ p }
-    requires past { past.now ≡ last.now }
+    requires early { wanted.now.tick ≤ 2 ^ 64 - 2 ^ 17 }
+    requires start { words.old.answered ≡ wanted.now.tick }
 
-    ensures after { reading_of_fetch words.new
-        ≡ operands_read delays.now last.now words.old.bus entry.now.reads p }
-    ensures log { log.new ≡ log_after_reads delays.now (runs_asked last.now entry.now.reads p)
-        words.old.bus log.old }
-    ensures items { uses.new.items ≡ uses.old.items ++ data_uses delays.now last.now
-        words.old.bus p reads entry.now.reads }
+    ensures after { let x = wanted.now in reading_of_fetch words.new
+        ≡ operands_read x.delays.now x.last.now words.old.bus entry.now.reads x.tick }
+    ensures log { let x = wanted.now in log.new ≡ log_after_reads x.delays.now
+        (runs_asked x.last.now entry.now.reads x.tick) words.old.bus log.old }
+    ensures items { let x = wanted.now in uses.new.items ≡ uses.old.items
+        ++ data_uses x.delays.now x.last.now words.old.bus x.tick reads entry.now.reads }
     ensures room { length uses.new.items ≤ length uses.old.items + 32 }
 {
+    let delays = wanted.delays;
     delays.shape();
     let one = WordRun {
         first: reads.first,
@@ -497,21 +471,24 @@ pub(crate) fn use_data(
         len: reads.len2,
     };
     let reads = entry.reads;
-    use_run(uses, words, log, delays, last, past, one, reads.one, p);
-    use_run(uses, words, log, delays, last, past, two, reads.two, p);
+    use_run(uses, words, log, wanted, one, reads.one);
+    use_run(uses, words, log, wanted, two, reads.two);
 }
 
 // Notes a following word, and asks for it, if it is a word of storage.
 #[inline(always)]
 #[tactic(auto, unfolding(crate::specs::Uses::inside_uses, st_rows::specs::BusTimes::bus_after_read, st_rows::specs::BusTimes::bus_after_request, st_rows::specs::Notes::log_after_reads), using(st_bits::specs::Storage::words_of_storage_is))]
-fn use_inside(uses: &mut Uses, bus: &mut Bus, log: &mut Log, delays: &Delays, w: u32, p: u64)
+fn use_inside(uses: &mut Uses, bus: &mut Bus, log: &mut Log, wanted: &Wanted<'_>, w: u32)
     requires space { length uses.old.items < 48 }
     requires room { IsBusWithin (2 ^ 64 - 512) bus.old }
-    requires early { p ≤ 2 ^ 64 - 512 }
+    requires early { wanted.now.tick ≤ 2 ^ 64 - 512 }
 
-    ensures after { bus.new ≡ request_inside_of delays.now bus.old w p }
-    ensures log { log.new ≡ log_after_reads delays.now (inside_asked bus.old w p) bus.old log.old }
-    ensures items { uses.new.items ≡ uses.old.items ++ inside_uses delays.now bus.old w p }
+    ensures after { let x = wanted.now in
+        bus.new ≡ request_inside_of x.delays.now bus.old w x.tick }
+    ensures log { let x = wanted.now in
+        log.new ≡ log_after_reads x.delays.now (inside_asked bus.old w x.tick) bus.old log.old }
+    ensures items { let x = wanted.now in
+        uses.new.items ≡ uses.old.items ++ inside_uses x.delays.now bus.old w x.tick }
     ensures room { length uses.new.items ≤ length uses.old.items + 1 }
 {
     if w >= WORDS {
@@ -520,41 +497,42 @@ fn use_inside(uses: &mut Uses, bus: &mut Bus, log: &mut Log, delays: &Delays, w:
     match bus.held.tick_of(w) {
         Some(tick) => note(uses, Role::Following, w, Supply::Held(tick)),
         None => {
-            let ticks = read_ticks(bus, delays, w, p);
-            bus.read(log, delays, w, p);
+            let ticks = read_ticks(bus, wanted.delays, w, wanted.tick);
+            bus.read(log, wanted.delays, w, wanted.tick);
             bus.held.request(w, ticks.answer);
             note(uses, Role::Following, w, Supply::Read(ticks));
         }
     }
 }
 
-/// Notes the words that follow an entry that is prepared at `p`, where it asks for them.
+/// Notes the words that follow an entry that is prepared at the tick, where it asks for them.
 #[inline(always)]
 #[tactic(auto, unfolding(crate::specs::Uses::following_uses, st_rows::specs::Rows::bus_followed, st_rows::specs::Asked::following_asked, st_rows::specs::Notes::log_after_reads))]
 pub(crate) fn use_following(
     uses: &mut Uses,
     bus: &mut Bus,
     log: &mut Log,
-    delays: &Delays,
+    wanted: &Wanted<'_>,
     entry: &Entry,
-    p: u64,
 )
     requires space { length uses.old.items + 2 ≤ 48 }
     requires entry { IsEntryInTime entry.now }
     requires room { IsBusWithin (2 ^ 64 - 1024) bus.old }
-    requires early { p ≤ 2 ^ 64 - 1024 }
+    requires early { wanted.now.tick ≤ 2 ^ 64 - 1024 }
 
-    ensures after { bus.new ≡ bus_followed delays.now bus.old entry.now p }
-    ensures log { log.new ≡ log_after_reads delays.now
-        (following_asked delays.now bus.old entry.now p) bus.old log.old }
-    ensures items { uses.new.items
-        ≡ uses.old.items ++ following_uses delays.now bus.old entry.now p }
+    ensures after { let x = wanted.now in
+        bus.new ≡ bus_followed x.delays.now bus.old entry.now x.tick }
+    ensures log { let x = wanted.now in log.new ≡ log_after_reads x.delays.now
+        (following_asked x.delays.now bus.old entry.now x.tick) bus.old log.old }
+    ensures items { let x = wanted.now in uses.new.items
+        ≡ uses.old.items ++ following_uses x.delays.now bus.old entry.now x.tick }
 {
+    let delays = wanted.delays;
     delays.shape();
     if !entry.follows {
         return;
     }
     let w = entry.own.first + u32::from(entry.own.len);
-    use_inside(uses, bus, log, delays, w, p);
-    use_inside(uses, bus, log, delays, w + 1, p);
+    use_inside(uses, bus, log, wanted, w);
+    use_inside(uses, bus, log, wanted, w + 1);
 }

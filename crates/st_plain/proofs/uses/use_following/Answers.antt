@@ -17,11 +17,11 @@ overflow_add-w-2 c =
 pub use_inside-requires-2-clause-room : goal.use_inside-requires-2-clause-room
 use_inside-requires-2-clause-room c =
     rw c.use_inside.ensures.after
-    (request_inside-within 255 c.args.delays.now (AreDelays-list c.args.delays.now c.shape.ensures) (2 ^ 64 - 1024) (2 ^ 64 - 512) (omega arith)
-    c.args.bus.now _ c.args.p c.requires.room c.requires.early)
+    (request_inside-within 255 c.args.wanted.now.delays.now (AreDelays-list c.args.wanted.now.delays.now c.shape.ensures) (2 ^ 64 - 1024) (2 ^ 64 - 512) (omega arith)
+    c.args.bus.now _ c.args.wanted.now.tick c.requires.room c.requires.early)
 
 pub returns-clause-log : goal.returns-clause-log
 returns-clause-log c =
-    both-noted c.args.delays.now c.args.bus.now c.use_inside.new.bus c.args.entry.now c.args.p (c.args.entry.now.own.first + c.from.result) c.args.log.now c.use_inside.new.log
+    both-noted c.args.wanted.now.delays.now c.args.bus.now c.use_inside.new.bus c.args.entry.now c.args.wanted.now.tick (c.args.entry.now.own.first + c.from.result) c.args.log.now c.use_inside.new.log
     c.use_inside-2.new.log c.if-not-entry.false (ap (λ n. c.args.entry.now.own.first + n) c.from.ensures) c.use_inside.ensures.after c.use_inside.ensures.log
     c.use_inside-2.ensures.log
