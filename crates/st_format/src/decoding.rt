@@ -53,7 +53,6 @@ pub fn length_in_halves(first: u32) -> u8
 /// The format of the instruction that two half-words spell. The second is read only where the first
 /// is that of a full word.
 #[inline(always)]
-#[tactic(auto, unfolding(crate::specs::Formats::instruction_of))]
 pub fn format_of(first: u32, second: u32) -> Format
     ensures { spelled_as result first second ≡ instruction_of first second }
 {
@@ -65,7 +64,6 @@ pub fn format_of(first: u32, second: u32) -> Format
 }
 
 #[inline(always)]
-#[tactic(auto, unfolding(crate::specs::Formats::half_word))]
 fn half_format(first: u32) -> Format
     ensures { (second : ℕ) → spelled_as result first second ≡ half_word first }
 {
@@ -158,7 +156,6 @@ fn spelled_by(format: Format, first: u32, second: u32) -> Instr
 
 // The full-word instruction with this operation.
 #[inline(always)]
-#[tactic(auto, unfolding(crate::specs::Formats::full_word_instruction))]
 fn spell(op: FullOp, first: u32, second: u32) -> Instr
     ensures { result ≡ full_word_instruction op first second }
 {

@@ -127,7 +127,6 @@ fn pack(instr: &Instr) -> (u32, Option<u32>)
 }
 
 // A half-word instruction.
-#[tactic(auto, unfolding(crate::specs::Halves::half_bits))]
 fn half_bits(address: u32, j: u8, operation: u32, i: u8) -> u32
     requires address_fits { address < 2 ^ 19 }
     requires j_fits { j < 16 }
@@ -139,7 +138,6 @@ fn half_bits(address: u32, j: u8, operation: u32, i: u8) -> u32
 }
 
 // The first half-word of a full word.
-#[tactic(auto, unfolding(crate::specs::Halves::first_bits))]
 fn first_bits(address: u32, i: u8) -> u32
     requires address_fits { address < 2 ^ 24 }
     requires i_fits { i < 16 }
@@ -149,7 +147,6 @@ fn first_bits(address: u32, i: u8) -> u32
 }
 
 // The second half-word of an operation on a field.
-#[tactic(auto, unfolding(crate::specs::Halves::second_half_bits))]
 fn field_bits(p: u8, length: u8, byte: u8, offset: u8, operation: u32) -> u32
     requires p_fits { p < 8 }
     requires offset_fits { offset < 128 }
@@ -164,7 +161,6 @@ fn field_bits(p: u8, length: u8, byte: u8, offset: u8, operation: u32) -> u32
 }
 
 // The second half-word of an instruction with two addresses.
-#[tactic(auto, unfolding(crate::specs::Halves::second_bits))]
 fn second_bits(second: u32, operation: u32, k: u8) -> u32
     requires second_fits { second < 2 ^ 19 }
     requires operation_fits { operation < 512 }

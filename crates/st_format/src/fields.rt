@@ -27,7 +27,6 @@ pub fn later(second: u32, first: u32, count: u32) -> u32
 
 /// Whether a first half-word is that of a full word.
 #[inline(always)]
-#[tactic(auto, unfolding(crate::specs::Halves::is_full))]
 pub fn is_full(first: u32) -> bool
     ensures { result ≡ is_full_of first }
 {
@@ -36,7 +35,6 @@ pub fn is_full(first: u32) -> bool
 
 /// The number of the index word of the address, 0 to 15.
 #[inline(always)]
-#[tactic(auto, unfolding(crate::specs::Halves::i_of))]
 pub fn index_field(first: u32) -> u8
     ensures value { result ≡ i_of first }
     ensures bound { result < 16 }
@@ -46,7 +44,6 @@ pub fn index_field(first: u32) -> u8
 
 /// The half-word address of a half-word instruction, below 2^19.
 #[inline(always)]
-#[tactic(auto, unfolding(crate::specs::Halves::address_of))]
 pub fn half_address(first: u32) -> u32
     ensures value { result ≡ address_of first }
     ensures bound { result < 2 ^ 19 }
@@ -56,7 +53,6 @@ pub fn half_address(first: u32) -> u32
 
 /// The number of the index word that a half-word instruction works on, 0 to 15.
 #[inline(always)]
-#[tactic(auto, unfolding(crate::specs::Halves::j_of))]
 pub fn register_field(first: u32) -> u8
     ensures value { result ≡ j_of first }
     ensures bound { result < 16 }
@@ -66,7 +62,6 @@ pub fn register_field(first: u32) -> u8
 
 /// The number of a half-word operation, 0 to 31.
 #[inline(always)]
-#[tactic(auto, unfolding(crate::specs::Halves::operation_of))]
 pub fn operation_field(first: u32) -> u8
     ensures value { result ≡ operation_of first }
     ensures bound { result < 32 }
@@ -76,7 +71,6 @@ pub fn operation_field(first: u32) -> u8
 
 /// The bit address of a full-word instruction, below 2^24.
 #[inline(always)]
-#[tactic(auto, unfolding(crate::specs::Halves::bit_address_of))]
 pub fn bit_address(first: u32) -> u32
     ensures value { result ≡ bit_address_of first }
     ensures bound { result < 2 ^ 24 }
@@ -86,7 +80,6 @@ pub fn bit_address(first: u32) -> u32
 
 /// The second address of a full-word instruction, a half-word address below 2^19.
 #[inline(always)]
-#[tactic(auto, unfolding(crate::specs::Halves::second_address_of))]
 pub fn second_address(second: u32) -> u32
     ensures value { result ≡ second_address_of second }
     ensures bound { result < 2 ^ 19 }
@@ -96,7 +89,6 @@ pub fn second_address(second: u32) -> u32
 
 /// The progressive form, 0 to 7.
 #[inline(always)]
-#[tactic(auto, unfolding(crate::specs::Halves::p_of))]
 pub fn progressive_form(second: u32) -> u8
     ensures value { result ≡ p_of second }
     ensures bound { result < 8 }
@@ -106,7 +98,6 @@ pub fn progressive_form(second: u32) -> u8
 
 /// The length of a field, 1 to 64.
 #[inline(always)]
-#[tactic(auto, unfolding(crate::specs::Halves::length_of))]
 pub fn field_length(second: u32) -> u8
     ensures value { result ≡ length_of second }
     ensures some { 1 ≤ result }
@@ -117,7 +108,6 @@ pub fn field_length(second: u32) -> u8
 
 /// The size of a field's bytes, 1 to 8.
 #[inline(always)]
-#[tactic(auto, unfolding(crate::specs::Halves::byte_of))]
 pub fn byte_size(second: u32) -> u8
     ensures value { result ≡ byte_of second }
     ensures some { 1 ≤ result }
@@ -128,7 +118,6 @@ pub fn byte_size(second: u32) -> u8
 
 /// The offset in the accumulator, 0 to 127.
 #[inline(always)]
-#[tactic(auto, unfolding(crate::specs::Halves::offset_of))]
 pub fn offset(second: u32) -> u8
     ensures value { result ≡ offset_of second }
     ensures bound { result < 128 }
@@ -138,7 +127,6 @@ pub fn offset(second: u32) -> u8
 
 /// The last four bits.
 #[inline(always)]
-#[tactic(auto, unfolding(crate::specs::Halves::k_of))]
 pub fn last_field(second: u32) -> u8
     ensures value { result ≡ k_of second }
     ensures bound { result < 16 }
@@ -148,7 +136,6 @@ pub fn last_field(second: u32) -> u8
 
 /// The number of words that are moved, 1 to 16.
 #[inline(always)]
-#[tactic(auto, unfolding(crate::specs::Halves::words_moved))]
 pub fn word_count(second: u32) -> u8
     ensures value { result ≡ words_moved second }
     ensures some { 1 ≤ result }

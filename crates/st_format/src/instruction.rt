@@ -133,7 +133,6 @@ impl Default for Instr {
     ghost is_default = { IsBlank };
 
     /// A half-word that spells no instruction.
-    #[tactic(auto, unfolding(crate::specs::Halves::is_full, crate::specs::Halves::operation_of, crate::specs::Validity::is_invalid_half))]
     fn default() -> Instr {
         Instr::Invalid {
             first: UNUSED as u32 * 16,

@@ -32,7 +32,6 @@ pub enum FullOp {
 
 /// The half-word operation of a number, the floating group and the branch group apart.
 #[inline(always)]
-#[tactic(auto, unfolding(crate::specs::Operations::half_op, crate::specs::Operations::half_ops))]
 pub fn half_op(number: u8) -> Option<HalfOp>
     requires { number < 32 }
     ensures { result ≡ half_op_of number }
@@ -71,7 +70,6 @@ pub fn half_op(number: u8) -> Option<HalfOp>
 
 /// The branch of a number.
 #[inline(always)]
-#[tactic(auto, unfolding(crate::specs::Operations::branch_op, crate::specs::Operations::branch_ops))]
 pub fn branch_op(number: u8) -> Option<BranchOp>
     ensures { result ≡ branch_op_of number }
 {
@@ -88,7 +86,6 @@ pub fn branch_op(number: u8) -> Option<BranchOp>
 
 /// The operation of a full word by its second half-word.
 #[inline(always)]
-#[tactic(auto, unfolding(crate::specs::Operations::full_op))]
 pub fn full_op(second: u32) -> Option<FullOp>
     ensures { result ≡ full_op_of second }
 {
@@ -100,7 +97,6 @@ pub fn full_op(second: u32) -> Option<FullOp>
 }
 
 #[inline(always)]
-#[tactic(auto, unfolding(crate::specs::Operations::numbered_op, crate::specs::Operations::full_ops))]
 fn numbered_op(number: u32) -> Option<FullOp>
     requires { number < 32 }
     ensures { result ≡ numbered_op_of number }
@@ -138,7 +134,6 @@ fn numbered_op(number: u32) -> Option<FullOp>
 }
 
 #[inline(always)]
-#[tactic(auto, unfolding(crate::specs::Operations::kind, crate::specs::Operations::kinds))]
 fn kind(number: u32) -> Option<ConnKind>
     requires { number < 4 }
     ensures { result ≡ kind_of number }

@@ -9,7 +9,6 @@ use crate::operations::{FullOp, writes_field};
 
 /// Whether the bits of a full word with this operation break a rule.
 #[inline(always)]
-#[tactic(auto, unfolding(crate::specs::Validity::breaks_rules))]
 pub fn breaks_rules(op: FullOp, first: u32, second: u32) -> bool
     ensures { result ≡ breaks_rules_of op first second }
 {

@@ -84,7 +84,6 @@ fn default_form() -> Form
     }
 }
 
-#[tactic(auto, unfolding(crate::specs::Describing::modes))]
 fn mode_of(word: &[u8]) -> Option<Mode>
     ensures { result ≡ row_of word.now spec.modes }
 {
@@ -92,7 +91,6 @@ fn mode_of(word: &[u8]) -> Option<Mode>
 }
 
 // The number from 1 on that a text is, up to the most.
-#[tactic(auto, unfolding(crate::specs::Describing::number_to))]
 fn number_to(most: u8, text: &[u8]) -> Option<u8>
     ensures { result ≡ spec.number_to most text.now }
 {
@@ -103,7 +101,6 @@ fn number_to(most: u8, text: &[u8]) -> Option<u8>
 }
 
 // What a length, a byte size or neither say behind a mode.
-#[tactic(auto, unfolding(crate::specs::Describing::in_mode))]
 fn in_mode(mode: Mode, more: &[Field]) -> Option<Description>
     ensures { result ≡ spec.in_mode mode (texts more.now) }
 {
@@ -117,7 +114,6 @@ fn in_mode(mode: Mode, more: &[Field]) -> Option<Description>
     }
 }
 
-#[tactic(auto, unfolding(crate::specs::Describing::in_mode))]
 fn in_form(decimal: bool, unsigned: bool, more: &[Field]) -> Option<Description>
     ensures { result ≡ spec.in_mode (Mode.Field decimal unsigned) (texts more.now) }
 {
@@ -144,7 +140,6 @@ fn usual_byte(decimal: bool) -> u8
 }
 
 // What a group says as a description.
-#[tactic(auto, unfolding(crate::specs::Describing::description_of))]
 fn description_of(group: &[u8]) -> Option<Description>
     requires { length group.now ≤ 63 }
     ensures { result ≡ spec.description_of group.now }
@@ -178,7 +173,6 @@ fn in_fields(fields: &[Field]) -> Option<Description>
 }
 
 // Whether an operation may have a form.
-#[tactic(auto, unfolding(crate::specs::Describing::may_have))]
 fn may_have(op: Operation, form: Form) -> bool
     ensures { result ≡ spec.may_have op form }
 {
@@ -191,7 +185,6 @@ fn may_have(op: Operation, form: Form) -> bool
     }
 }
 
-#[tactic(auto, unfolding(crate::specs::Describing::floating_number))]
 fn floating_number(op: Operation) -> Option<u8>
     ensures value { result ≡ spec.floating_number op }
     ensures bound { IfSome result (λ n. n ≤ 6) }
@@ -211,7 +204,6 @@ fn floating_number(op: Operation) -> Option<u8>
 }
 
 // The operation and the form that a description makes of an operation, where it may stand there.
-#[tactic(auto, unfolding(crate::specs::Describing::described_form))]
 fn described(op: Operation, description: Description) -> Option<(Operation, Form)>
     ensures { result ≡ spec.described_form op description }
 {

@@ -23,7 +23,6 @@ const FORMS: [(&[u8], u8); 7] = [
 ];
 
 // The number of a group without the parenthesis that closes it.
-#[tactic(auto, unfolding(crate::specs::Forming::progressive_forms))]
 fn form_row(group: &[u8]) -> Option<u8>
     ensures { result ≡ row_of group.now spec.progressive_forms }
 {
@@ -31,7 +30,6 @@ fn form_row(group: &[u8]) -> Option<u8>
 }
 
 // A group without the parenthesis that closes it.
-#[tactic(auto, unfolding(crate::specs::Forming::open_group))]
 fn unclosed(group: &[u8]) -> &[u8]
     ensures { result.now ≡ spec.open_group group.now }
 {
@@ -45,7 +43,6 @@ fn unclosed(group: &[u8]) -> &[u8]
 /// The data description that stands behind an operation, a group in parentheses, and what stands
 /// behind it. It is empty where there is none: a first group that spells a progressive form is
 /// none.
-#[tactic(auto, unfolding(crate::specs::Forming::description_in, crate::specs::Forming::behind_description))]
 pub fn split_description(text: &[u8]) -> (&[u8], &[u8])
     ensures description { result.0.now ≡ spec.description_in text.now }
     ensures behind { result.1.now ≡ spec.behind_description text.now }
@@ -63,7 +60,6 @@ pub fn split_description(text: &[u8]) -> (&[u8], &[u8])
 /// The form of an operation with the progressive form that a text begins with, none where it begins
 /// with no group; and what stands behind that. There is no form where the group spells none, where
 /// the operation may not have it, or where neither fields nothing stand behind it.
-#[tactic(auto, unfolding(crate::specs::Forming::form_with_progress))]
 pub fn progressed(op: Operation, form: Form, text: &[u8]) -> (Option<Form>, &[u8])
     ensures form { result.0 ≡ spec.form_with_progress op form text.now }
     ensures behind { result.1.now ≡ behind_group text.now }
@@ -102,7 +98,6 @@ fn is_behind_groups(text: &[u8]) -> bool
 }
 
 // The progressive form that a group is, 0 where there is no group; one that is not closed is none.
-#[tactic(auto, unfolding(crate::specs::Forming::form_number))]
 fn form_number(group: &[u8]) -> Option<u8>
     ensures { result ≡ spec.form_number group.now }
 {
@@ -116,7 +111,6 @@ fn form_number(group: &[u8]) -> Option<u8>
 }
 
 // Whether an operation whose field has so many bits may have a progressive form by its number.
-#[tactic(auto, unfolding(crate::specs::Forming::may_have_form))]
 fn may_have_form(op: Operation, length: u8, p: u8) -> bool
     ensures { result ≡ spec.may_have_form op length p }
 {

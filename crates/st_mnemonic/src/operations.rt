@@ -238,7 +238,6 @@ const TRUTH_TABLES: [(&[u8], u8); 16] = [
 ];
 
 /// The operation that a word names, as it stands by itself; None where it names none.
-#[tactic(auto, unfolding(crate::specs::Table::operation_of_word))]
 pub fn operation_of(word: &[u8]) -> Option<Operation>
     ensures { result ≡ spec.operation_of_word word.now }
 {
@@ -267,7 +266,6 @@ fn listed_operation(word: &[u8]) -> Option<Operation>
     other_operation(word)
 }
 
-#[tactic(auto, unfolding(crate::specs::Table::other_operations))]
 fn other_operation(word: &[u8]) -> Option<Operation>
     ensures { result ≡ row_of word.now spec.other_operations }
 {
@@ -280,7 +278,6 @@ fn index_operation(word: &[u8]) -> Option<Operation>
     index_row(word).map(Operation::Half)
 }
 
-#[tactic(auto, unfolding(crate::specs::Table::index_operations))]
 fn index_row(word: &[u8]) -> Option<HalfOp>
     ensures { result ≡ row_of word.now spec.index_operations }
 {
@@ -293,7 +290,6 @@ fn field_operation(word: &[u8], negated: bool) -> Option<Operation>
     field_row(word).map(|op| Operation::Vfl { op, negated })
 }
 
-#[tactic(auto, unfolding(crate::specs::Table::field_operations))]
 fn field_row(word: &[u8]) -> Option<VflOp>
     ensures { result ≡ row_of word.now spec.field_operations }
 {
@@ -301,7 +297,6 @@ fn field_row(word: &[u8]) -> Option<VflOp>
 }
 
 // An operation on a field with a last letter N, for negated.
-#[tactic(auto, unfolding(crate::specs::Table::negated_operation))]
 fn negated_operation(word: &[u8]) -> Option<Operation>
     ensures { result ≡ spec.negated_operation word.now }
 {
@@ -313,7 +308,6 @@ fn negated_operation(word: &[u8]) -> Option<Operation>
 }
 
 // A connective: its kind, and four digits for its truth table.
-#[tactic(auto, unfolding(crate::specs::Table::connective))]
 fn connective(word: &[u8]) -> Option<Operation>
     ensures { result ≡ spec.connective word.now }
 {
@@ -326,14 +320,12 @@ fn connective(word: &[u8]) -> Option<Operation>
         .map(|(kind, table)| Operation::Connect { kind, table })
 }
 
-#[tactic(auto, unfolding(crate::specs::Table::connective_kinds))]
 fn kind_row(word: &[u8]) -> Option<ConnKind>
     ensures { result ≡ row_of word.now spec.connective_kinds }
 {
     row_of(&KINDS, word)
 }
 
-#[tactic(auto, unfolding(crate::specs::Table::truth_tables))]
 fn table_row(digits: &[u8]) -> Option<u8>
     ensures { result ≡ row_of digits.now spec.truth_tables }
 {

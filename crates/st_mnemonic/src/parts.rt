@@ -43,7 +43,6 @@ pub fn ends_with(text: &[u8], byte: u8) -> bool
 
 /// A statement without its comment, which begins with `;`, and without its blanks. The text is what
 /// columns 10 to 72 of a card hold, at most 63 bytes.
-#[tactic(auto, unfolding(crate::specs::Text::statement_text))]
 pub fn clean(text: &[u8]) -> ArrayVec<u8, 63>
     requires { length text.now ≤ 63 }
     ensures value { result.items ≡ spec.statement_text text.now }
@@ -80,7 +79,6 @@ pub fn split_word(statement: &[u8]) -> (&[u8], &[u8])
 }
 
 // The length of the group that a text begins with.
-#[tactic(auto, unfolding(crate::specs::Text::group_length))]
 pub(crate) fn group_length(text: &[u8]) -> usize
     ensures value { result ≡ spec.group_length text.now }
     ensures within { result ≤ length text.now }
@@ -94,7 +92,6 @@ pub(crate) fn group_length(text: &[u8]) -> usize
 
 /// The first seventeen fields, each behind a comma, of the text that stands behind an operation and
 /// its groups; none where that is empty. No operation has more than sixteen.
-#[tactic(auto, unfolding(crate::specs::Text::fields_of))]
 pub fn fields(text: &[u8]) -> Fields<'_>
     requires { length text.now ≤ 63 }
     ensures { texts result.items ≡ take 17 (spec.fields_of text.now) }
