@@ -21,7 +21,6 @@ const INDICATOR_NAMES: &[u8; 256] =
     XVGZXL  XE  XH  MOP RLZ RZ  RGZ RN  AL  AE  AH      ";
 
 // The names of the indicators as one text.
-#[tactic(auto, unfolding(crate::specs::Caption::indicator_names))]
 fn indicator_names() -> &'static [u8]
     ensures { result.now ≡ spec.indicator_names }
 {
@@ -29,7 +28,6 @@ fn indicator_names() -> &'static [u8]
 }
 
 // The name of an indicator; blanks where it has none, and nothing past the last.
-#[tactic(auto, unfolding(crate::specs::Caption::indicator_text))]
 fn indicator(i: u64) -> &'static [u8]
     ensures { result.now ≡ spec.indicator_text i }
 {
@@ -60,7 +58,6 @@ fn place_text(alloc: Global, place: Place) -> Result<Vec<u8>, AllocError>
 
 /// The first text of an entry: its number, where it is done, else what it is (`drop`, `INT` or
 /// `SNAP`).
-#[tactic(auto, unfolding(crate::specs::Caption::caption_number))]
 pub fn first_text(alloc: Global, entry: Entry) -> Result<Vec<u8>, AllocError>
     ensures { IfOk result (λ text. text.items ≡ spec.caption_number entry) }
 {
@@ -74,7 +71,6 @@ pub fn first_text(alloc: Global, entry: Entry) -> Result<Vec<u8>, AllocError>
 
 /// The second text of an entry: its address as word.bit; of an interrupt the number of its
 /// indicator, of a snapshot its tick.
-#[tactic(auto, unfolding(crate::specs::Caption::second_text))]
 pub fn second_text(alloc: Global, entry: Entry) -> Result<Vec<u8>, AllocError>
     ensures { IfOk result (λ text. text.items ≡ spec.second_text entry) }
 {
@@ -88,7 +84,6 @@ pub fn second_text(alloc: Global, entry: Entry) -> Result<Vec<u8>, AllocError>
 
 /// The third text of an entry: that of its card in the report's listing, where it has one; of an
 /// interrupt the name of its indicator.
-#[tactic(auto, unfolding(crate::specs::Caption::third_text))]
 pub fn third_text<'a>(report: &'a [u8], entry: Entry) -> &'a [u8]
     ensures { result.now ≡ spec.third_text report.now entry }
 {
@@ -102,7 +97,6 @@ pub fn third_text<'a>(report: &'a [u8], entry: Entry) -> &'a [u8]
 
 /// A third text where ASCII alone may stand: of one with more than 40 characters the first 37, and
 /// three dots.
-#[tactic(auto, unfolding(crate::specs::Caption::with_dots))]
 pub fn with_dots(alloc: Global, text: &[u8]) -> Result<Vec<u8>, AllocError>
     ensures { IfOk result (λ out. out.items ≡ spec.with_dots text.now) }
 {
@@ -129,7 +123,6 @@ pub fn widest(report: &[u8], entries: &[Entry]) -> usize
 }
 
 // Appends words and a number.
-#[tactic(auto, unfolding(crate::specs::Caption::words_with_number))]
 fn push_numbered(out: &mut Vec<u8>, words: &[u8], n: u64) -> Result<(), AllocError>
     ensures { IfOk result (λ _. out.new.items ≡ out.old.items
         ++ spec.words_with_number words.now n) }
@@ -139,7 +132,6 @@ fn push_numbered(out: &mut Vec<u8>, words: &[u8], n: u64) -> Result<(), AllocErr
 }
 
 // Appends what the bars of an entry tell.
-#[tactic(auto, unfolding(crate::specs::Caption::title))]
 fn push_title(out: &mut Vec<u8>, entry: Entry) -> Result<(), AllocError>
     ensures { IfOk result (λ _. out.new.items ≡ out.old.items ++ spec.title entry) }
 {

@@ -7,7 +7,6 @@ use crate::report::{Place, number, place_of};
 use st_text::{behind, cut, front, without_end_blanks, without_front_blanks};
 
 // Whether a line is one of the listing: it begins with a number, at the right of five places.
-#[tactic(auto, unfolding(crate::specs::Label::is_listed))]
 fn is_listed(line: &[u8]) -> bool
     ensures { result ≡ spec.is_listed line.now }
 {
@@ -35,7 +34,6 @@ fn is_filled(text: &[u8]) -> bool
 }
 
 // Whether the card of a listed line lays bits at a place.
-#[tactic(auto, unfolding(crate::specs::Label::lays))]
 fn lays(line: &[u8], here: Place) -> bool
     ensures { result ≡ spec.lays line.now here }
 {
@@ -43,7 +41,6 @@ fn lays(line: &[u8], here: Place) -> bool
 }
 
 // The text of a listed card, without the blanks around it.
-#[tactic(auto, unfolding(crate::specs::Label::card_text))]
 fn card_text(line: &[u8]) -> &[u8]
     ensures { result.now ≡ spec.card_text line.now }
 {
@@ -52,7 +49,6 @@ fn card_text(line: &[u8]) -> &[u8]
 
 /// The text of the card that lays what stands at a place; nothing, where the report has no listing
 /// of it.
-#[tactic(auto, unfolding(crate::specs::Label::label))]
 pub fn label_at(report: &[u8], here: Place) -> &[u8]
     ensures { result.now ≡ spec.label report.now here }
 {

@@ -51,7 +51,6 @@ pub fn piece(text: &[u8], at: u8, k: usize) -> &[u8]
 }
 
 /// The k-th word of a line, counted from 0.
-#[tactic(auto, unfolding(crate::specs::Report::word_in_line))]
 pub fn word(line: &[u8], k: usize) -> &[u8]
     ensures { result.now ≡ spec.word_in_line line.now k }
 {
@@ -59,7 +58,6 @@ pub fn word(line: &[u8], k: usize) -> &[u8]
 }
 
 /// The number that a word is, if it is one and fits 64 bits.
-#[tactic(auto, unfolding(crate::specs::Report::number_in_report))]
 pub fn number(text: &[u8]) -> Option<u64>
     ensures { result ≡ spec.number_in_report text.now }
 {
@@ -67,7 +65,6 @@ pub fn number(text: &[u8]) -> Option<u64>
 }
 
 /// The place that a word is, written as word.bit.
-#[tactic(auto, unfolding(crate::specs::Report::place_in_report))]
 pub fn place_of(text: &[u8]) -> Option<Place>
     ensures { result ≡ spec.place_in_report text.now }
 {
@@ -85,7 +82,6 @@ fn has(line: &[u8], k: usize, text: &[u8]) -> bool
 }
 
 // The entry that a line says is done.
-#[tactic(auto, unfolding(crate::specs::Report::row_item))]
 fn row(line: &[u8]) -> Option<Item>
     ensures { result ≡ spec.row_item line.now }
 {
@@ -104,7 +100,6 @@ fn row(line: &[u8]) -> Option<Item>
 }
 
 // The entry that a line says was dropped.
-#[tactic(auto, unfolding(crate::specs::Report::dropped_item))]
 fn dropped(line: &[u8]) -> Option<Item>
     ensures { result ≡ spec.dropped_item line.now }
 {
@@ -121,7 +116,6 @@ fn is_row(line: &[u8]) -> bool
 }
 
 /// What a line says, if it speaks of the timetable.
-#[tactic(auto, unfolding(crate::specs::Report::item))]
 pub fn item_of(line: &[u8]) -> Option<Item>
     ensures { result ≡ spec.item line.now }
 {

@@ -198,7 +198,6 @@ fn take_lines(part: Part, told: &mut Told, report: &[u8]) -> Result<(), AllocErr
 
 /// The timetable that the lines of a report tell, as far as a part of its rows is asked for. A line
 /// that says nothing of it is passed over.
-#[tactic(auto, unfolding(crate::specs::Timetable::timetable))]
 pub fn read_timetable(alloc: Global, part: Part, report: &[u8]) -> Result<Told, AllocError>
     ensures { IfOk result (λ told. kept_by told ≡ spec.timetable part report.now) }
 {

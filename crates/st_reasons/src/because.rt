@@ -115,7 +115,6 @@ fn is_written(past: &LastEntries, t: u64, w: u32) -> bool
 
 // Whether a word is an instruction word that was written by an entry that is done at the tick.
 #[inline(always)]
-#[tactic(auto, unfolding(crate::specs::Reasons::is_stored))]
 fn is_stored(past: &LastEntries, t: u64, one: &Use) -> bool
     ensures { result ≡ is_stored_of past.now t one.now }
 {
@@ -138,7 +137,6 @@ fn is_any_stored(past: &LastEntries, t: u64, uses: &[Use]) -> bool
 // What was done at the tick: the entry before, where that or this one is done alone, or one that
 // wrote one of these words.
 #[inline(always)]
-#[tactic(auto, unfolding(crate::specs::Reasons::reason_done))]
 fn done_at(front: &Front, alone: bool, t: u64, words: &[Use]) -> Option<Because>
     ensures { result ≡ reason_done front.now alone t (reverse words.now) }
 {
@@ -156,7 +154,6 @@ fn done_at(front: &Front, alone: bool, t: u64, words: &[Use]) -> Option<Because>
 }
 
 // The start of the segment, or the entry before.
-#[tactic(auto, unfolding(crate::specs::Reasons::reason_in_order))]
 fn in_order(front: &Front) -> Because
     ensures { result ≡ reason_in_order front.now }
 {
@@ -168,7 +165,6 @@ fn in_order(front: &Front) -> Because
 
 // The last read of the row before, where it was accepted at the tick and later than that row was
 // prepared, or else what the order is.
-#[tactic(auto, unfolding(crate::specs::Reasons::reason_of_bus))]
 fn bus_or_order(front: &Front, t: u64, before: &[Use]) -> Because
     ensures { result ≡ reason_of_bus front.now t (reverse before.now) }
 {
@@ -197,7 +193,6 @@ fn asked_before(front: &Front, word: u32, t: u64) -> Because
 }
 
 // What the words awaited that were asked for so far, where the path is at the tick `t`.
-#[tactic(auto, unfolding(crate::specs::Reasons::reason_of_words))]
 fn of_words(front: &Front, own: u8, t: u64, words: &[Use], before: &[Use]) -> Because
     ensures { result
         ≡ reason_of_words front.now own (reverse before.now) t (reverse words.now) }
@@ -232,7 +227,6 @@ fn of_address(front: &Front, entry: &Entry, t: u64, words: &[Use], before: &[Use
 
 // The writer of a word that is forwarded.
 #[inline(always)]
-#[tactic(auto, unfolding(crate::specs::Reasons::writer_of))]
 fn writer_of(supply: &Supply) -> Option<Writer>
     ensures { result ≡ writer_by supply.now }
 {
@@ -255,7 +249,6 @@ fn first_use(uses: &[Use]) -> Option<(&Use, &[Use])>
 }
 
 // The writer of the index-side word, if that is forwarded.
-#[tactic(auto, unfolding(crate::specs::Reasons::side_writer))]
 fn side_writer(uses: &[Use]) -> Option<Writer>
     ensures { result ≡ side_writer_of uses.now }
 {
@@ -271,7 +264,6 @@ fn side_writer(uses: &[Use]) -> Option<Writer>
 /// What kept the entry behind a front from being prepared earlier, which is begun so. It uses some
 /// words until its address is formed, and the row before it in its segment the words `before`; the
 /// first row of a segment has none before it.
-#[tactic(auto, unfolding(crate::specs::Reasons::because))]
 pub fn find_reason(
     front: &Front,
     entry: &Entry,

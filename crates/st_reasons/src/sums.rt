@@ -55,7 +55,6 @@ impl Shares {
     }
 
     // Adds waits.
-    #[tactic(auto, unfolding(crate::specs::Sums::stalled_for, crate::specs::Sums::all_stalled))]
     fn add(&mut self, waits: &[Wait])
         requires turn { self.old.turn + all_stalled waits.now < 2 ^ 64 }
         requires bank { self.old.bank + all_stalled waits.now < 2 ^ 64 }

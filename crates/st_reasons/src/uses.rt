@@ -20,7 +20,6 @@ pub(crate) fn last_use(uses: &[Use]) -> Option<(&Use, &[Use])>
 
 /// Whether a word is read.
 #[inline(always)]
-#[tactic(auto, unfolding(crate::specs::Words::is_read))]
 pub(crate) fn is_read(supply: &Supply) -> bool
     ensures { result ≡ is_read_of supply.now }
 {
@@ -32,7 +31,6 @@ pub(crate) fn is_read(supply: &Supply) -> bool
 
 /// The ticks of the read of a word, all 0 where it is not read.
 #[inline(always)]
-#[tactic(auto, unfolding(crate::specs::Words::read_of))]
 pub(crate) fn read_of(supply: &Supply) -> ReadTicks
     ensures { result ≡ read_by supply.now }
 {
@@ -96,7 +94,6 @@ fn is_role(role: Role, other: Role) -> bool
 
 // Whether a word is answered at the tick.
 #[inline(always)]
-#[tactic(auto, unfolding(crate::specs::Words::is_answered))]
 fn is_answered(t: u64, supply: &Supply) -> bool
     ensures { result ≡ is_answered_of t supply.now }
 {
@@ -109,7 +106,6 @@ fn is_answered(t: u64, supply: &Supply) -> bool
 
 // Whether a word has this role and is answered at the tick.
 #[inline(always)]
-#[tactic(auto, unfolding(crate::specs::Words::is_due))]
 fn is_due(role: Role, t: u64, one: &Use) -> bool
     ensures { result ≡ is_due_of role t one.now }
 {

@@ -57,7 +57,6 @@ pub type Waits = ArrayVec<Wait, 514>;
 
 // Adds the ticks behind one, up to another, where there are any.
 #[inline(always)]
-#[tactic(auto, unfolding(crate::specs::Waits::piece))]
 fn add_piece(waits: &mut Waits, from: u64, to: u64, why: Stall, word: u32, read: u32)
     requires { length waits.old.items < 514 }
     ensures items { waits.new.items ≡ waits.old.items ++ piece from to why word read }
@@ -77,7 +76,6 @@ fn add_piece(waits: &mut Waits, from: u64, to: u64, why: Stall, word: u32, read:
 
 // The read of a word.
 #[inline(always)]
-#[tactic(auto, unfolding(crate::specs::Waits::accepted))]
 fn acceptance(one: &Use) -> Accepted
     ensures { result ≡ accepted_of one.now }
 {
@@ -89,7 +87,6 @@ fn acceptance(one: &Use) -> Accepted
 
 // Whether a word is read, and accepted from the tick `from` on and before another.
 #[inline(always)]
-#[tactic(auto, unfolding(crate::specs::Waits::is_between))]
 fn is_between(from: u64, before: u64, supply: &Supply) -> bool
     ensures { result ≡ is_between_of from before supply.now }
 {
@@ -143,7 +140,6 @@ fn add_all_turns(waits: &mut Waits, from: u64, read: Accepted, earlier: &[Use], 
 }
 
 // Adds the waits of a word that is read, behind the tick `from` up to that of its answer.
-#[tactic(auto, unfolding(crate::specs::Waits::read_waits, crate::specs::Waits::accepted))]
 fn add_read(waits: &mut Waits, from: u64, t: u64, one: &Use, earlier: &[Use], before: &[Use])
     requires room { length waits.old.items + 2 * (length earlier.now + length before.now) + 2
         ≤ 514 }
@@ -165,7 +161,6 @@ fn add_read(waits: &mut Waits, from: u64, t: u64, one: &Use, earlier: &[Use], be
 }
 
 // Adds the waits of the first word of a role that is answered at the tick `t`.
-#[tactic(auto, unfolding(crate::specs::Waits::data_waits))]
 fn add_data(waits: &mut Waits, role: Role, from: u64, t: u64, uses: &[Use], before: &[Use])
     requires room { length waits.old.items + 2 * (length uses.now + length before.now) + 2 ≤ 514 }
     ensures items { waits.new.items ≡ waits.old.items
@@ -192,7 +187,6 @@ fn is_read_at(word: u32, t: u64, one: &Use) -> bool
 
 // Adds the waits of an instruction word that is held and answered at the tick `t`, by the words of
 // the row before.
-#[tactic(auto, unfolding(crate::specs::Waits::held_waits))]
 fn add_held(waits: &mut Waits, from: u64, t: u64, word: u32, before: &[Use])
     requires room { length waits.old.items + 2 * length before.now + 2 ≤ 514 }
     ensures items { waits.new.items ≡ waits.old.items
@@ -212,7 +206,6 @@ fn add_held(waits: &mut Waits, from: u64, t: u64, word: u32, before: &[Use])
 
 // Adds what stands before the acceptance of the last read of the row before, where that is at the
 // tick `t`.
-#[tactic(auto, unfolding(crate::specs::Waits::bus_waits, crate::specs::Waits::accepted))]
 fn add_bus(waits: &mut Waits, from: u64, t: u64, before: &[Use])
     requires room { length waits.old.items + 2 * length before.now + 2 ≤ 514 }
     ensures items { waits.new.items ≡ waits.old.items ++ bus_waits from t (reverse before.now) }
@@ -233,7 +226,6 @@ fn add_bus(waits: &mut Waits, from: u64, t: u64, before: &[Use])
 
 // Adds the waits of instruction words: of the first one that is answered at the tick `t`, and from
 // its want on of those before it.
-#[tactic(auto, unfolding(crate::specs::Waits::fetch_waits))]
 fn add_fetches(waits: &mut Waits, from: u64, t: u64, words: &[Use], before: &[Use])
     requires words { length words.now ≤ 4 }
     requires before { length before.now ≤ 48 }
@@ -268,7 +260,6 @@ fn first_four(uses: &[Use]) -> &[Use]
 
 /// Fills a list with the waits of a charge of a row that uses these words, where those of the row
 /// before it in its segment are `before`, none for the first row of one. What the list had is gone.
-#[tactic(auto, unfolding(crate::specs::Waits::stage_waits))]
 pub fn fill_waits(waits: &mut Waits, charge: Charge, uses: &[Use], before: &[Use])
     requires uses { length uses.now ≤ 48 }
     requires before { length before.now ≤ 48 }

@@ -93,7 +93,6 @@ fn last_open(text: &[u8]) -> Option<usize>
 }
 
 // Where the index part of a field begins, the field's end where it has none.
-#[tactic(auto, unfolding(crate::specs::Reading::index_start))]
 fn index_start(field: &[u8]) -> usize
     ensures value { result ≡ spec.index_start field.now }
     ensures within { result ≤ length field.now }
@@ -116,14 +115,12 @@ fn split_index(field: &[u8]) -> (&[u8], &[u8])
     field.split_at(index_start(field))
 }
 
-#[tactic(auto, unfolding(crate::specs::Reading::index_fields))]
 fn field_row(field: &[u8]) -> Option<u8>
     ensures { result ≡ row_of field.now spec.index_fields }
 {
     row_of(&INDEX_FIELDS, field)
 }
 
-#[tactic(auto, unfolding(crate::specs::Reading::index_parts))]
 fn part_row(part: &[u8]) -> Option<u8>
     ensures { result ≡ row_of part.now spec.index_parts }
 {
@@ -140,7 +137,6 @@ pub(crate) fn index_field(field: &[u8]) -> Result<u8, Fault>
 }
 
 // The index word that an index part names, 0 where no part stands and none must.
-#[tactic(auto, unfolding(crate::specs::Reading::index_named))]
 fn index_of(must: bool, part: &[u8]) -> Result<u8, Fault>
     ensures { result ≡ spec.index_named must part.now }
 {
@@ -188,7 +184,6 @@ pub(crate) fn expression(field: &[u8]) -> Result<ExprText, Fault>
 }
 
 // A plain number below 2^64.
-#[tactic(auto, unfolding(crate::specs::Reading::number_result))]
 fn number_of(text: &[u8]) -> Result<u64, Fault>
     ensures { result ≡ spec.number_result text.now }
 {
@@ -200,7 +195,6 @@ fn number_of(text: &[u8]) -> Result<u64, Fault>
 }
 
 // A field that is a plain number.
-#[tactic(auto, unfolding(crate::specs::Reading::plain_number))]
 pub(crate) fn plain_number(field: &[u8]) -> Result<u64, Fault>
     ensures { result ≡ spec.plain_number field.now }
 {
@@ -219,7 +213,6 @@ fn with_sign(minus: bool, text: &[u8]) -> Result<(bool, u64), Fault>
 }
 
 // Whether a minus stands before a number, and the number.
-#[tactic(auto, unfolding(crate::specs::Reading::signed_of))]
 fn signed_of(text: &[u8]) -> Result<(bool, u64), Fault>
     ensures { result ≡ spec.signed_of text.now }
 {

@@ -43,7 +43,6 @@ pub fn read_compact(name: &[u8], text: &[u8]) -> Result<CompactStatement, Fault>
 }
 
 // The statement of a name and of a text without comment and blanks.
-#[tactic(auto, unfolding(crate::specs::Saying::clean_statement_of))]
 fn read_clean(name: &[u8], statement: &[u8]) -> Result<CompactStatement, Fault>
     requires { length statement.now ≤ 63 }
     ensures { result ≡ spec.clean_statement_of name.now statement.now }
@@ -60,7 +59,6 @@ fn read_clean(name: &[u8], statement: &[u8]) -> Result<CompactStatement, Fault>
 }
 
 // Whether the name is none, or the operation is one of those that ask for a name or for none.
-#[tactic(auto, unfolding(crate::specs::Saying::is_misnamed))]
 fn is_misnamed(name: &[u8], op: Option<Operation>) -> bool
     ensures { result ≡ spec.is_misnamed name.now op }
 {
@@ -78,7 +76,6 @@ fn misnames(named: bool, op: Operation) -> bool
 }
 
 // What an operation says with the text behind it.
-#[tactic(auto, unfolding(crate::specs::Saying::reading_of_operation))]
 fn say(op: Operation, text: &[u8]) -> Result<CompactStatement, Fault>
     requires { length text.now ≤ 63 }
     ensures { result ≡ spec.reading_of_operation op text.now }
@@ -91,7 +88,6 @@ fn say(op: Operation, text: &[u8]) -> Result<CompactStatement, Fault>
 }
 
 // What an operation says with an allowed description and the text behind that.
-#[tactic(auto, unfolding(crate::specs::Saying::statement_in_form))]
 fn say_formed(op: Operation, form: Form, text: &[u8]) -> Result<CompactStatement, Fault>
     requires { length text.now ≤ 63 }
     ensures { result ≡ spec.statement_in_form op form text.now }
@@ -112,7 +108,6 @@ fn with_text(op: Operation, form: Form, text: &[u8]) -> Result<CompactStatement,
 }
 
 // What an operation says with its form and its fields.
-#[tactic(auto, unfolding(crate::specs::Saying::with_fields))]
 fn with_fields(op: Operation, form: Form, fields: &[Field]) -> Result<CompactStatement, Fault>
     ensures { result ≡ spec.with_fields op form (texts fields.now) }
 {

@@ -17,7 +17,6 @@ use st_mnemonic::{Field, Form, Operation};
 
 // What an operation on an index word says.
 #[inline(never)]
-#[tactic(auto, unfolding(crate::specs::Saying::with_fields))]
 pub(crate) fn say_half(op: HalfOp, fields: &[Field]) -> Result<CompactStatement, Fault>
     ensures { (form : FormOf) → result ≡ spec.with_fields (Operation.Half op) form
         (texts fields.now) }
@@ -28,7 +27,6 @@ pub(crate) fn say_half(op: HalfOp, fields: &[Field]) -> Result<CompactStatement,
 
 // What LVS says.
 #[inline(never)]
-#[tactic(auto, unfolding(crate::specs::Saying::with_fields))]
 pub(crate) fn say_sum(fields: &[Field]) -> Result<CompactStatement, Fault>
     ensures { (form : FormOf) → result ≡ spec.with_fields Operation.Sum form (texts fields.now) }
 {
@@ -38,7 +36,6 @@ pub(crate) fn say_sum(fields: &[Field]) -> Result<CompactStatement, Fault>
 
 // What R says.
 #[inline(never)]
-#[tactic(auto, unfolding(crate::specs::Saying::with_fields))]
 pub(crate) fn say_refill(fields: &[Field]) -> Result<CompactStatement, Fault>
     ensures { (form : FormOf) → result ≡ spec.with_fields Operation.Refill form (texts fields.now) }
 {
@@ -49,7 +46,6 @@ pub(crate) fn say_refill(fields: &[Field]) -> Result<CompactStatement, Fault>
 
 // What EX says.
 #[inline(never)]
-#[tactic(auto, unfolding(crate::specs::Saying::with_fields))]
 pub(crate) fn say_execute(fields: &[Field]) -> Result<CompactStatement, Fault>
     ensures { (form : FormOf) → result ≡ spec.with_fields Operation.Execute form
         (texts fields.now) }
@@ -63,7 +59,6 @@ pub(crate) fn say_execute(fields: &[Field]) -> Result<CompactStatement, Fault>
 
 // What a branch says.
 #[inline(never)]
-#[tactic(auto, unfolding(crate::specs::Saying::with_fields))]
 pub(crate) fn say_branch(op: BranchOp, fields: &[Field]) -> Result<CompactStatement, Fault>
     ensures { (form : FormOf) → result ≡ spec.with_fields (Operation.Branch op) form
         (texts fields.now) }
@@ -76,7 +71,6 @@ pub(crate) fn say_branch(op: BranchOp, fields: &[Field]) -> Result<CompactStatem
 
 // What an operation of the branch group without an address says.
 #[inline(never)]
-#[tactic(auto, unfolding(crate::specs::Saying::with_fields))]
 pub(crate) fn say_bare(op: BranchOp, fields: &[Field]) -> Result<CompactStatement, Fault>
     ensures { (form : FormOf) → result ≡ spec.with_fields (Operation.Bare op) form
         (texts fields.now) }
@@ -86,7 +80,6 @@ pub(crate) fn say_bare(op: BranchOp, fields: &[Field]) -> Result<CompactStatemen
 
 // What an operation of the floating group says.
 #[inline(never)]
-#[tactic(auto, unfolding(crate::specs::Saying::with_fields))]
 pub(crate) fn say_floating(number: u8, fields: &[Field]) -> Result<CompactStatement, Fault>
     ensures { (form : FormOf) → result ≡ spec.with_fields (Operation.Floating number) form
         (texts fields.now) }
@@ -99,7 +92,6 @@ pub(crate) fn say_floating(number: u8, fields: &[Field]) -> Result<CompactStatem
 
 // What an operation on a field says.
 #[inline(never)]
-#[tactic(auto, unfolding(crate::specs::Saying::with_fields))]
 pub(crate) fn say_vfl(
     op: VflOp,
     negated: bool,
@@ -120,7 +112,6 @@ pub(crate) fn say_vfl(
 
 // What a connective says.
 #[inline(never)]
-#[tactic(auto, unfolding(crate::specs::Saying::with_fields))]
 pub(crate) fn say_connect(
     kind: ConnKind,
     table: u8,
@@ -141,7 +132,6 @@ pub(crate) fn say_connect(
 
 // What T or SWAP says.
 #[inline(never)]
-#[tactic(auto, unfolding(crate::specs::Saying::with_fields))]
 pub(crate) fn say_move(swap: bool, fields: &[Field]) -> Result<CompactStatement, Fault>
     ensures { (form : FormOf) → result ≡ spec.with_fields (Operation.Move swap) form
         (texts fields.now) }
@@ -157,7 +147,6 @@ pub(crate) fn say_move(swap: bool, fields: &[Field]) -> Result<CompactStatement,
 
 // What a branch on a bit says.
 #[inline(never)]
-#[tactic(auto, unfolding(crate::specs::Saying::with_fields))]
 pub(crate) fn say_bit_branch(
     sense: bool,
     change: u8,
@@ -177,7 +166,6 @@ pub(crate) fn say_bit_branch(
 
 // What a branch on an indicator says.
 #[inline(never)]
-#[tactic(auto, unfolding(crate::specs::Saying::with_fields))]
 pub(crate) fn say_ind_branch(
     sense: bool,
     off: bool,
@@ -197,7 +185,6 @@ pub(crate) fn say_ind_branch(
 
 // What SIC says.
 #[inline(never)]
-#[tactic(auto, unfolding(crate::specs::Saying::with_fields))]
 pub(crate) fn say_store_counter(fields: &[Field]) -> Result<CompactStatement, Fault>
     ensures { (form : FormOf) → result ≡ spec.with_fields Operation.StoreCounter form
         (texts fields.now) }
@@ -208,7 +195,6 @@ pub(crate) fn say_store_counter(fields: &[Field]) -> Result<CompactStatement, Fa
 
 // What RD or WR says.
 #[inline(never)]
-#[tactic(auto, unfolding(crate::specs::Saying::with_fields))]
 pub(crate) fn say_transfer(write: bool, fields: &[Field]) -> Result<CompactStatement, Fault>
     ensures { (form : FormOf) → result ≡ spec.with_fields (Operation.Transfer write) form
         (texts fields.now) }
@@ -219,7 +205,6 @@ pub(crate) fn say_transfer(write: bool, fields: &[Field]) -> Result<CompactState
 
 // What DD says.
 #[inline(never)]
-#[tactic(auto, unfolding(crate::specs::Saying::with_fields))]
 pub(crate) fn say_data(form: Form, fields: &[Field]) -> Result<CompactStatement, Fault>
     ensures { result ≡ spec.with_fields Operation.Data form (texts fields.now) }
 {
@@ -233,7 +218,6 @@ pub(crate) fn say_data(form: Form, fields: &[Field]) -> Result<CompactStatement,
 
 // What XW says.
 #[inline(never)]
-#[tactic(auto, unfolding(crate::specs::Saying::with_fields))]
 pub(crate) fn say_index_word(fields: &[Field]) -> Result<CompactStatement, Fault>
     ensures { (form : FormOf) → result ≡ spec.with_fields Operation.IndexWord form
         (texts fields.now) }
@@ -249,7 +233,6 @@ pub(crate) fn say_index_word(fields: &[Field]) -> Result<CompactStatement, Fault
 
 // What SYN says.
 #[inline(never)]
-#[tactic(auto, unfolding(crate::specs::Saying::with_fields))]
 pub(crate) fn say_synonym(fields: &[Field]) -> Result<CompactStatement, Fault>
     ensures { (form : FormOf) → result ≡ spec.with_fields Operation.Synonym form
         (texts fields.now) }
@@ -261,7 +244,6 @@ pub(crate) fn say_synonym(fields: &[Field]) -> Result<CompactStatement, Fault>
 
 // What SLC says.
 #[inline(never)]
-#[tactic(auto, unfolding(crate::specs::Saying::with_fields))]
 pub(crate) fn say_set_location(fields: &[Field]) -> Result<CompactStatement, Fault>
     ensures { (form : FormOf) → result ≡ spec.with_fields Operation.SetLocation form
         (texts fields.now) }
@@ -273,7 +255,6 @@ pub(crate) fn say_set_location(fields: &[Field]) -> Result<CompactStatement, Fau
 
 // What DR says.
 #[inline(never)]
-#[tactic(auto, unfolding(crate::specs::Saying::with_fields))]
 pub(crate) fn say_reserve(fields: &[Field]) -> Result<CompactStatement, Fault>
     ensures { (form : FormOf) → result ≡ spec.with_fields Operation.Reserve form
         (texts fields.now) }
@@ -285,7 +266,6 @@ pub(crate) fn say_reserve(fields: &[Field]) -> Result<CompactStatement, Fault>
 
 // What END says.
 #[inline(never)]
-#[tactic(auto, unfolding(crate::specs::Saying::with_fields))]
 pub(crate) fn say_end(fields: &[Field]) -> Result<CompactStatement, Fault>
     ensures { (form : FormOf) → result ≡ spec.with_fields Operation.End form (texts fields.now) }
 {

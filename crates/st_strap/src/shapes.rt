@@ -33,7 +33,6 @@ pub(crate) struct CountAndRefill {
 }
 
 // One field that is an index word.
-#[tactic(auto, unfolding(crate::specs::Saying::index_alone))]
 pub(crate) fn index_alone(fields: &[Field]) -> Result<u8, Fault>
     ensures { result ≡ spec.index_alone (texts fields.now) }
 {
@@ -44,7 +43,6 @@ pub(crate) fn index_alone(fields: &[Field]) -> Result<u8, Fault>
 }
 
 // One address that may have an index part.
-#[tactic(auto, unfolding(crate::specs::Saying::spot_alone))]
 pub(crate) fn spot_alone(fields: &[Field]) -> Result<CompactSpot, Fault>
     ensures { result ≡ spec.spot_alone (texts fields.now) }
 {
@@ -55,7 +53,6 @@ pub(crate) fn spot_alone(fields: &[Field]) -> Result<CompactSpot, Fault>
 }
 
 // One address without an index part.
-#[tactic(auto, unfolding(crate::specs::Saying::expression_alone))]
 pub(crate) fn expression_alone(fields: &[Field]) -> Result<ExprText, Fault>
     ensures { result ≡ spec.expression_alone (texts fields.now) }
 {
@@ -66,7 +63,6 @@ pub(crate) fn expression_alone(fields: &[Field]) -> Result<ExprText, Fault>
 }
 
 // One number with a sign or none.
-#[tactic(auto, unfolding(crate::specs::Saying::number_alone))]
 pub(crate) fn number_alone(fields: &[Field]) -> Result<(bool, u64), Fault>
     ensures { result ≡ spec.number_alone (texts fields.now) }
 {
@@ -77,7 +73,6 @@ pub(crate) fn number_alone(fields: &[Field]) -> Result<(bool, u64), Fault>
 }
 
 // An index word and an address.
-#[tactic(auto, unfolding(crate::specs::Saying::index_and_spot))]
 pub(crate) fn index_and_spot(fields: &[Field]) -> Result<(u8, CompactSpot), Fault>
     ensures { result ≡ spec.index_and_spot (texts fields.now) }
 {
@@ -88,7 +83,6 @@ pub(crate) fn index_and_spot(fields: &[Field]) -> Result<(u8, CompactSpot), Faul
 }
 
 // An index word, and 1 to 15 that are listed.
-#[tactic(auto, unfolding(crate::specs::Saying::index_and_list))]
 pub(crate) fn index_and_list(fields: &[Field]) -> Result<(u8, u16), Fault>
     ensures { result ≡ spec.index_and_list (texts fields.now) }
 {
@@ -101,7 +95,6 @@ pub(crate) fn index_and_list(fields: &[Field]) -> Result<(u8, u16), Fault>
 }
 
 // The address of a field and an offset or none.
-#[tactic(auto, unfolding(crate::specs::Saying::operand_spot))]
 pub(crate) fn operand(form: Form, fields: &[Field]) -> Result<(CompactSpot, u64), Fault>
     ensures { result ≡ spec.operand_spot form (texts fields.now) }
 {
@@ -113,7 +106,6 @@ pub(crate) fn operand(form: Form, fields: &[Field]) -> Result<(CompactSpot, u64)
 }
 
 // An address and a second one.
-#[tactic(auto, unfolding(crate::specs::Saying::two_addresses))]
 pub(crate) fn two_addresses(fields: &[Field]) -> Result<(CompactSpot, ExprText), Fault>
     ensures { result ≡ spec.two_addresses (texts fields.now) }
 {
@@ -124,7 +116,6 @@ pub(crate) fn two_addresses(fields: &[Field]) -> Result<(CompactSpot, ExprText),
 }
 
 // An address and a number.
-#[tactic(auto, unfolding(crate::specs::Saying::spot_and_number))]
 pub(crate) fn spot_and_number(fields: &[Field]) -> Result<(CompactSpot, u64), Fault>
     ensures { result ≡ spec.spot_and_number (texts fields.now) }
 {
@@ -148,7 +139,6 @@ fn address_with_number(
 }
 
 // An address without an index part and a number.
-#[tactic(auto, unfolding(crate::specs::Saying::address_and_number))]
 fn address_and_number(fields: &[Field]) -> Result<AddressAndNumber, Fault>
     ensures { result ≡ spec.address_and_number (texts fields.now) }
 {
@@ -159,7 +149,6 @@ fn address_and_number(fields: &[Field]) -> Result<AddressAndNumber, Fault>
 }
 
 // Two addresses and a number.
-#[tactic(auto, unfolding(crate::specs::Saying::two_addresses_and_number))]
 pub(crate) fn two_addresses_and_number(
     fields: &[Field],
 ) -> Result<(CompactSpot, AddressAndNumber), Fault>
@@ -185,7 +174,6 @@ fn refill_with_flags(
 }
 
 // A refill address, and flags or none.
-#[tactic(auto, unfolding(crate::specs::Saying::refill_and_flags))]
 fn refill_and_flags(fields: &[Field]) -> Result<RefillAndFlags, Fault>
     ensures { result ≡ spec.refill_and_flags (texts fields.now) }
 {
@@ -214,7 +202,6 @@ fn count_with_refill(
 }
 
 // A count, a refill address, and flags or none.
-#[tactic(auto, unfolding(crate::specs::Saying::count_and_refill))]
 fn count_and_refill(fields: &[Field]) -> Result<CountAndRefill, Fault>
     ensures { result ≡ spec.count_and_refill (texts fields.now) }
 {
@@ -225,7 +212,6 @@ fn count_and_refill(fields: &[Field]) -> Result<CountAndRefill, Fault>
 }
 
 // The parts of an index word.
-#[tactic(auto, unfolding(crate::specs::Saying::index_word_parts))]
 pub(crate) fn index_word_parts(fields: &[Field]) -> Result<(ExprText, CountAndRefill), Fault>
     ensures { result ≡ spec.index_word_parts (texts fields.now) }
 {
@@ -236,7 +222,6 @@ pub(crate) fn index_word_parts(fields: &[Field]) -> Result<(ExprText, CountAndRe
 }
 
 // A statement without fields.
-#[tactic(auto, unfolding(crate::specs::Saying::without_fields))]
 pub(crate) fn without_fields(
     statement: CompactStatement,
     fields: &[Field],
