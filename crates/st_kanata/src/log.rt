@@ -7,7 +7,6 @@ use st_entries::{Entry, first_text, push_decimal, push_plain, second_text, third
 use std::alloc::{AllocError, Global};
 
 // The name of the log's format, and what stands before the tick at which it starts.
-#[tactic(auto, unfolding(crate::specs::Log::heading))]
 fn heading() -> &'static [u8]
     ensures { result.now ≡ spec.heading }
 {
@@ -15,7 +14,6 @@ fn heading() -> &'static [u8]
 }
 
 // Appends the name of the log's format, and the tick at which it starts.
-#[tactic(auto, unfolding(crate::specs::Log::log_front))]
 fn push_opening(out: &mut Vec<u8>, tick: u64) -> Result<(), AllocError>
     ensures { IfOk result (λ _. out.new.items ≡ out.old.items ++ spec.log_front tick) }
 {
@@ -25,7 +23,6 @@ fn push_opening(out: &mut Vec<u8>, tick: u64) -> Result<(), AllocError>
 }
 
 // Appends that ticks pass, where they do.
-#[tactic(auto, unfolding(crate::specs::Log::passing))]
 fn push_passing(out: &mut Vec<u8>, from: u64, to: u64) -> Result<(), AllocError>
     ensures { IfOk result (λ _. out.new.items ≡ out.old.items ++ spec.passing from to) }
 {
@@ -76,7 +73,6 @@ fn push_stage(out: &mut Vec<u8>, sign: &[u8], number: u64, stage: &[u8]) -> Resu
 }
 
 // Appends that it is done with, as a row or as none: retired, 0, or flushed, 1.
-#[tactic(auto, unfolding(crate::specs::Log::log_end_line))]
 fn push_end_line(out: &mut Vec<u8>, number: u64, row: u64, how: &[u8]) -> Result<(), AllocError>
     ensures { IfOk result (λ _. out.new.items ≡ out.old.items
         ++ spec.log_end_line number row how.now) }
@@ -154,7 +150,6 @@ fn manner(entry: Entry) -> &'static [u8]
 }
 
 // Appends the lines of an entry that begins.
-#[tactic(auto, unfolding(crate::specs::Log::begin_lines))]
 fn push_begin(
     alloc: Global,
     out: &mut Vec<u8>,
@@ -172,7 +167,6 @@ fn push_begin(
 }
 
 // Appends the lines of an entry that goes from one stage to another.
-#[tactic(auto, unfolding(crate::specs::Log::change_lines))]
 fn push_change(out: &mut Vec<u8>, number: u64, from: &[u8], to: &[u8]) -> Result<(), AllocError>
     ensures { IfOk result (λ _. out.new.items ≡ out.old.items
         ++ spec.change_lines number from.now to.now) }
@@ -182,7 +176,6 @@ fn push_change(out: &mut Vec<u8>, number: u64, from: &[u8], to: &[u8]) -> Result
 }
 
 // Appends the lines of an entry that ends.
-#[tactic(auto, unfolding(crate::specs::Log::log_end_lines))]
 fn push_end(out: &mut Vec<u8>, number: u64, entry: Entry) -> Result<(), AllocError>
     ensures { IfOk result (λ _. out.new.items ≡ out.old.items ++ spec.log_end_lines number entry) }
 {
@@ -209,7 +202,6 @@ fn push_step(
 }
 
 // Appends the lines of a moment that comes after a tick, or at it.
-#[tactic(auto, unfolding(crate::specs::Log::moment_lines))]
 fn push_moment(
     alloc: Global,
     out: &mut Vec<u8>,
@@ -257,7 +249,6 @@ fn start_of(moments: &[Moment]) -> u64
 
 /// The log of entries, in the order of ticks, with the three texts of each from the listing of
 /// their report. It fails for want of memory alone.
-#[tactic(auto, unfolding(crate::specs::Log::log, crate::specs::Log::log_of))]
 pub fn write_log(alloc: Global, report: &[u8], entries: &[Entry]) -> Result<Vec<u8>, AllocError>
     ensures { IfOk result (λ out. out.items ≡ spec.log report.now entries.now) }
 {

@@ -124,7 +124,6 @@ fn push_waits(out: &mut Vec<Moment>, number: u64, entry: Entry) -> Result<(), Al
 }
 
 // Appends all that happens to the entry with a number.
-#[tactic(auto, unfolding(crate::specs::Moments::moments_of))]
 fn push_moments_of(out: &mut Vec<Moment>, number: u64, entry: Entry) -> Result<(), AllocError>
     ensures { IfOk result (λ _. out.new.items ≡ out.old.items ++ spec.moments_of number entry) }
 {
@@ -201,7 +200,6 @@ fn in_order(alloc: Global, moments: &[Moment]) -> Result<Vec<Moment>, AllocError
 }
 
 /// What happens to entries, in the order of ticks; they are numbered from 0 on as they begin.
-#[tactic(auto, unfolding(crate::specs::Moments::happenings))]
 pub fn happenings(alloc: Global, entries: &[Entry]) -> Result<Vec<Moment>, AllocError>
     ensures { IfOk result (λ out. out.items ≡ spec.happenings entries.now) }
 {
