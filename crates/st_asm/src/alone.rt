@@ -24,7 +24,6 @@ pub struct LaidBits {
 
 /// What a text lays that stands on a card without a name, where the names of a table are defined;
 /// none where it has a fault of any pass. The text is what columns 10 to 72 hold, at most 63 bytes.
-#[tactic(auto, unfolding(crate::specs::Alone::laid_alone))]
 pub fn laid_alone(symbols: &Symbols, text: &[u8]) -> Option<LaidBits>
     requires { length text.now ≤ 63 }
     ensures { result ≡ spec.laid_alone symbols.now text.now }
@@ -36,7 +35,6 @@ pub fn laid_alone(symbols: &Symbols, text: &[u8]) -> Option<LaidBits>
 }
 
 // What a statement lays whose names are all in a table.
-#[tactic(auto, unfolding(crate::specs::Alone::laid_by))]
 fn laid_by(symbols: &Symbols, s: &CompactStatement) -> Option<LaidBits>
     requires { IsWellFormed s.now }
     ensures { result ≡ spec.laid_by symbols.now s.now }

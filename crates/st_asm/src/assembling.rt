@@ -62,7 +62,6 @@ pub fn assemble(alloc: Global, job: &[u8]) -> Result<Assembled, AsmError>
 /// order.
 ///
 /// `NoMemory` where memory ran out.
-#[tactic(auto, unfolding(crate::specs::Assembly::assembly))]
 pub fn assemble_cards(alloc: Global, job: &[u8], cards: &[Card]) -> Result<Assembled, AsmError>
     requires { cards.now ≡ cards_of job.now }
     ensures ok { IfOk result (λ a. spec.assembly job.now ≡ Ok (spec.assembly_parts a)) }
@@ -94,7 +93,6 @@ pub fn assemble_cards(alloc: Global, job: &[u8], cards: &[Card]) -> Result<Assem
 }
 
 // Controls with what counts where no card says it.
-#[tactic(auto, unfolding(crate::specs::Assembly::with_defaults))]
 fn with_defaults(mut controls: Controls) -> Result<Controls, AsmError>
     ensures defaults { IfOk result (λ c. c ≡ spec.with_defaults controls) }
     ensures err { IfErr result (λ e. e ≡ AsmError.NoMemory) }

@@ -35,7 +35,6 @@ pub const MOST_FLAGS: u64 = 7;
 const FIRST_BIT: u64 = 64 * FIRST_STORAGE_WORD as u64;
 
 // The fault of a statement with its values at its place, if it has one.
-#[tactic(auto, unfolding(crate::specs::Checks::value_fault))]
 pub(crate) fn value_fault(s: &CompactStatement, role: Role, v: Values, place: u32) -> Option<Fault>
     requires well { IsWellFormed s.now }
     requires role { role ≡ role_of s.now }
@@ -55,7 +54,6 @@ pub(crate) fn value_fault(s: &CompactStatement, role: Role, v: Values, place: u3
 }
 
 // Whether each address is one.
-#[tactic(auto, unfolding(crate::specs::Checks::in_range))]
 fn in_range(s: &CompactStatement, v: Values) -> bool
     ensures { result ≡ spec.in_range s.now v }
 {
@@ -79,7 +77,6 @@ fn is_address(a: i64) -> bool
 }
 
 // Whether each value fits its place.
-#[tactic(auto, unfolding(crate::specs::Checks::fits))]
 fn fits(s: &CompactStatement, v: Values) -> bool
     requires { IsWellFormed s.now }
     ensures { result ≡ spec.fits s.now v }
@@ -105,7 +102,6 @@ fn fits_index_word(value: i64, count: u64, flags: u64) -> bool
 }
 
 // Whether each address is on the boundary that its use asks for.
-#[tactic(auto, unfolding(crate::specs::Checks::on_boundary))]
 fn on_boundary(s: &CompactStatement, v: Values) -> bool
     ensures { result ≡ spec.on_boundary s.now v }
 {
@@ -144,7 +140,6 @@ fn extent(role: Role, value: i64) -> u64
 }
 
 // Whether bits from a place on are all in the words of storage that are no registers.
-#[tactic(auto, unfolding(crate::specs::Checks::in_storage))]
 fn in_storage(place: u32, bits: u64) -> bool
     requires { bits ≤ 2 ^ 63 }
     ensures { result ≡ spec.in_storage place bits }

@@ -24,7 +24,6 @@ pub(crate) struct Deck {
 }
 
 // The form pass over the cards of a job.
-#[tactic(auto, unfolding(crate::specs::Forming::form_pass))]
 pub(crate) fn form_pass(alloc: Global, job: &[u8], cards: &[Card]) -> Result<Deck, AsmError>
     requires texts { All (IsCardOf job.now) cards.now }
     requires few { length cards.now ≤ 20001 }
@@ -73,7 +72,6 @@ fn empty_deck(alloc: Global) -> Deck
 }
 
 // A card more.
-#[tactic(auto, unfolding(crate::specs::Forming::form_card))]
 fn add_card(deck: &mut Deck, job: &[u8], card: Card) -> Result<(), Stop>
     requires { IsCardOf job.now card }
     ensures ok { OnOk result (spec.form_card job.now (spec.found_in deck.old) card
@@ -125,7 +123,6 @@ fn add_line(deck: &mut Deck, line: Line) -> Result<(), Stop>
 }
 
 // A control card more.
-#[tactic(auto, unfolding(crate::specs::Forming::form_control))]
 fn add_control(deck: &mut Deck, card: u32, text: &[u8]) -> Result<(), Stop>
     ensures ok { OnOk result (spec.form_control (spec.found_in deck.old) card text.now
         ≡ Ok (spec.found_in deck.new)) }
@@ -142,7 +139,6 @@ fn add_control(deck: &mut Deck, card: u32, text: &[u8]) -> Result<(), Stop>
 }
 
 // A statement card more, with the fault that it has by itself.
-#[tactic(auto, unfolding(crate::specs::Forming::form_statement))]
 fn add_statement(deck: &mut Deck, card: u32, fault: Option<Fault>, text: &[u8]) -> Result<(), Stop>
     ensures ok { OnOk result (spec.form_statement (spec.found_in deck.old) card fault text.now
         ≡ Ok (spec.found_in deck.new)) }

@@ -14,7 +14,6 @@ use st_format::{Instr, encode};
 use st_strap::{CompactSpot, CompactStatement, Statement};
 
 // The bits that a statement lays, as a number; its values were found to fit.
-#[tactic(auto, unfolding(crate::specs::Laying::bits_of, crate::specs::Checks::fits))]
 pub(crate) fn bits_of(s: &CompactStatement, v: Values) -> u64
     requires well { IsWellFormed s.now }
     requires first { unsigned_abs v.first < 2 ^ 24 }
@@ -195,7 +194,6 @@ fn joined(first: u32, second: Option<u32>) -> u64
 }
 
 // An index word.
-#[tactic(auto, unfolding(crate::specs::Laying::index_word_bits))]
 fn index_word_bits(value: i64, count: u32, refill: i64, flags: u64) -> u64
     requires value { unsigned_abs value < 2 ^ 24 }
     requires count { count < 2 ^ 18 }

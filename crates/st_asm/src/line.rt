@@ -37,7 +37,6 @@ pub(crate) fn silent(card: u32) -> Line
 }
 
 // The name of a statement card: columns 2 to 9 without the blanks at both ends.
-#[tactic(auto, unfolding(crate::specs::Lines::name_field))]
 pub(crate) fn name_field(text: &[u8]) -> &[u8]
     ensures name { result.now ≡ spec.name_field text.now }
     ensures short { length result.now ≤ 8 }
@@ -46,7 +45,6 @@ pub(crate) fn name_field(text: &[u8]) -> &[u8]
 }
 
 // The statement of a statement card: columns 10 to 72.
-#[tactic(auto, unfolding(crate::specs::Lines::statement_field))]
 pub(crate) fn statement_field(text: &[u8]) -> &[u8]
     ensures statement { result.now ≡ spec.statement_field text.now }
     ensures short { length result.now ≤ 63 }
@@ -55,7 +53,6 @@ pub(crate) fn statement_field(text: &[u8]) -> &[u8]
 }
 
 // A name filled with blanks to eight bytes, where there is one.
-#[tactic(auto, unfolding(crate::specs::Lines::name_in))]
 pub(crate) fn name_in(field: &[u8]) -> Option<[u8; 8]>
     requires { length field.now ≤ 8 }
     ensures { result ≡ spec.name_in field.now }

@@ -48,7 +48,6 @@ pub(crate) struct Names {
 }
 
 // The name pass.
-#[tactic(auto, unfolding(crate::specs::Naming::name_pass))]
 pub(crate) fn name_pass(alloc: Global, lines: &[Line]) -> Result<Names, AsmError>
     requires { All (λ line. IsWellFormedIfAny line.statement) lines.now }
     ensures ok { IfOk result (λ n. spec.name_pass lines.now ≡ Ok (spec.named_in n)) }
@@ -113,7 +112,6 @@ fn name_line(names: &mut Names, all: &Symbols, line: &Line) -> Result<(), Stop>
 }
 
 // The fault of a card, if it has one.
-#[tactic(auto, unfolding(crate::specs::Naming::name_fault))]
 fn name_fault(names: &Names, all: &Symbols, line: &Line) -> Option<Fault>
     requires well { IsWellFormedIfAny line.now.statement }
     requires kept { spec.AreNamesKept names.now }
@@ -175,7 +173,6 @@ fn is_statement_earlier(symbols: &Symbols, statement: &CompactStatement) -> bool
 }
 
 // A card more, which has no fault.
-#[tactic(auto, unfolding(crate::specs::Naming::name_step))]
 fn add_line(names: &mut Names, line: &Line) -> Result<(), Stop>
     requires well { IsWellFormedIfAny line.now.statement }
     requires kept { spec.AreNamesKept names.old }

@@ -43,7 +43,6 @@ fn capacity(form: Form) -> u128
 }
 
 // Whether a field can hold a number.
-#[tactic(auto, unfolding(crate::specs::Numbers::holds))]
 pub(crate) fn holds(form: Form, minus: bool, number: u64) -> bool
     requires { IsNumberForm form }
     ensures { result ≡ spec.holds form minus number }
@@ -90,7 +89,6 @@ fn sign_byte(byte: u8, minus: bool) -> u64
 }
 
 // The bits of a field that holds a number.
-#[tactic(auto, unfolding(crate::specs::Numbers::field_bits_of))]
 pub(crate) fn field_of(form: Form, minus: bool, number: u64) -> u64
     requires form { IsNumberForm form }
     requires few { number < spec.capacity form }

@@ -11,7 +11,6 @@ use st_strap::{CompactStatement, Statement};
 use std::alloc::Global;
 
 // Whether each name that a statement speaks of is in a table.
-#[tactic(auto, unfolding(crate::specs::Symbols::accepts_all))]
 pub(crate) fn knows_all(symbols: &Symbols, statement: &CompactStatement) -> bool
     ensures { result ≡ spec.accepts_all (spec.is_defined symbols.now) statement.now }
 {

@@ -14,7 +14,6 @@ pub(crate) struct Values {
 }
 
 // The values of a statement's expressions; a name that is not defined makes its expression 0.
-#[tactic(auto, unfolding(crate::specs::Values::values_of))]
 pub(crate) fn values_of(symbols: &Symbols, statement: &CompactStatement) -> Values
     ensures { result ≡ spec.values_of symbols.now statement.now }
 {
@@ -72,7 +71,6 @@ fn value_in(symbols: &Symbols, e: &ExprText) -> i64
 }
 
 // A number modulo 2^24.
-#[tactic(auto, unfolding(crate::specs::Values::value_modulo))]
 pub(crate) fn wrapped(value: i64) -> u32
     ensures value { result ≡ spec.value_modulo value }
     ensures below { result < 2 ^ 24 }

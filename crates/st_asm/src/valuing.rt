@@ -49,7 +49,6 @@ pub(crate) struct Layout {
 }
 
 // The value pass.
-#[tactic(auto, unfolding(crate::specs::Valuing::value_pass))]
 pub(crate) fn value_pass(
     alloc: Global,
     symbols: &Symbols,
@@ -101,7 +100,6 @@ fn number_of_words() -> usize
 }
 
 // A card more.
-#[tactic(auto, unfolding(crate::specs::Valuing::value_card))]
 fn value_line(
     layout: &mut Layout,
     symbols: &Symbols,
@@ -161,7 +159,6 @@ fn add_row(layout: &mut Layout, row: Listed) -> Result<(), Stop>
 }
 
 // A statement card more.
-#[tactic(auto, unfolding(crate::specs::Valuing::value_statement))]
 fn value_statement(
     layout: &mut Layout,
     card: u32,
@@ -233,7 +230,6 @@ fn start_behind(start: u32, s: &CompactStatement, v: Values) -> u32
 }
 
 // Puts so many bits into the image from a place on.
-#[tactic(auto, unfolding(crate::specs::Valuing::image_with))]
 fn put_bits(image: &mut [u64], place: u32, length: u8, bits: u64)
     requires few { length ≤ 64 }
     requires image { IsImage image.old }
