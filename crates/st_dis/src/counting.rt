@@ -12,7 +12,6 @@ use st_card::Controls;
 use st_expr::Symbols;
 
 // Whether a word is two instructions, each of which has a spelling.
-#[tactic(auto, unfolding(crate::specs::Spelling::statements_of))]
 fn is_pair(symbols: &Symbols, word: u64) -> bool
     requires { symbols.now ≡ [] }
     ensures { length (statements_of word) ≡ (if result then 2 else 1) }
@@ -31,7 +30,6 @@ fn count_filled(symbols: &Symbols, before: u64, word: u64) -> u32
 }
 
 // How many cards a word has, with the word before it.
-#[tactic(auto, unfolding(crate::specs::Deck::cards_of_word))]
 fn count_placed(symbols: &Symbols, before: u64, word: u64) -> u32
     requires { symbols.now ≡ [] }
     ensures count { result ≡ length (spec.cards_of_word 0 before word) }

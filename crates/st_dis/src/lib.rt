@@ -1,6 +1,6 @@
 //! The disassembler: a program in storage as a deck that assembles to it, by the rules of
 //! `docs/disassembly.md`.
-#![tactic(auto)]
+#![tactic(auto, unfolding(crate::specs::Deck::cards_of_word, crate::specs::Deck::deck_text, crate::specs::Spelling::statements_of, crate::specs::Texts::instruction_text))]
 
 mod counting;
 mod disassembling;

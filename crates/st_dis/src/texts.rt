@@ -48,7 +48,6 @@ fn branch_text(op: BranchOp, address: u32, i: u8) -> Line
 }
 
 // The text of an instruction: empty where it has none.
-#[tactic(auto, unfolding(crate::specs::Texts::instruction_text))]
 pub(crate) fn text_of(instr: Instr) -> Line
     ensures { result.bytes ≡ spec.instruction_text instr }
 {

@@ -41,7 +41,6 @@ fn number_text(word: u64) -> Line
 }
 
 // Appends the statements of a word.
-#[tactic(auto, unfolding(crate::specs::Spelling::statements_of))]
 fn push_statements(deck: &mut Vec<u8>, symbols: &Symbols, word: u64) -> Result<(), AllocError>
     requires { symbols.now ≡ [] }
     ensures { OnOk result (deck.new.items
@@ -76,7 +75,6 @@ fn push_location(deck: &mut Vec<u8>, w: u32, before: u64) -> Result<(), AllocErr
 }
 
 // Appends the cards of a word, with the word before it.
-#[tactic(auto, unfolding(crate::specs::Deck::cards_of_word))]
 fn push_placed(
     deck: &mut Vec<u8>,
     symbols: &Symbols,
@@ -142,7 +140,6 @@ fn push_program(
 }
 
 // The deck of a program. The table of symbols is empty.
-#[tactic(auto, unfolding(crate::specs::Deck::deck_text))]
 pub(crate) fn push_deck(
     deck: &mut Vec<u8>,
     symbols: &Symbols,

@@ -8,7 +8,6 @@ use st_index::effective;
 
 // Index word `i`, and zero where `i` is 0.
 #[inline(always)]
-#[tactic(auto, unfolding(crate::specs::EarlyChange::index_operand))]
 fn index_part(x: &[u64; 16], i: u8) -> u64
     requires { i < 16 }
     ensures { result ≡ index_part_of x.now i }
@@ -18,7 +17,6 @@ fn index_part(x: &[u64; 16], i: u8) -> u64
 
 // Where a half-word instruction points.
 #[inline(always)]
-#[tactic(auto, unfolding(crate::specs::EarlyChange::half_word_address))]
 fn half_address(x: &[u64; 16], address: u32, i: u8) -> u32
     requires address { address < 2 ^ 19 }
     requires index { i < 16 }
@@ -30,7 +28,6 @@ fn half_address(x: &[u64; 16], address: u32, i: u8) -> u32
 
 // Where a full-word instruction points.
 #[inline(always)]
-#[tactic(auto, unfolding(crate::specs::EarlyChange::full_word_address))]
 fn bit_address(x: &[u64; 16], address: u32, i: u8) -> u32
     requires address { address < 2 ^ 24 }
     requires index { i < 16 }
@@ -42,7 +39,6 @@ fn bit_address(x: &[u64; 16], address: u32, i: u8) -> u32
 
 // Where the field of an operation with the progressive form `p` begins.
 #[inline(always)]
-#[tactic(auto, unfolding(crate::specs::EarlyChange::field_address))]
 fn field_address(x: &[u64; 16], p: u8, address: u32, i: u8) -> u32
     requires address { address < 2 ^ 24 }
     requires index { i < 16 }
@@ -58,7 +54,6 @@ fn field_address(x: &[u64; 16], p: u8, address: u32, i: u8) -> u32
 
 /// The effective address of an instruction.
 #[inline(always)]
-#[tactic(auto, unfolding(crate::specs::EarlyChange::effective))]
 pub fn effective_address(instr: &Instr, x: &[u64; 16]) -> u32
     requires { HasFields instr.now }
     ensures value { result ≡ effective_of x.now instr.now }

@@ -31,7 +31,6 @@ pub struct Half {
 
 // The refill address of an index word, where its count became zero.
 #[inline(always)]
-#[tactic(auto, unfolding(crate::specs::EarlyChange::refill_word))]
 fn refill_word(y: u64) -> Option<u32>
     ensures { result ≡ refill_word_of y }
 {
@@ -45,7 +44,6 @@ fn refill_word(y: u64) -> Option<u32>
 // The index-side word of a half-word instruction with the effective address `e`, `x` being index
 // word J.
 #[inline(always)]
-#[tactic(auto, unfolding(crate::specs::EarlyChange::half_side))]
 fn half_side(op: HalfOp, x: u64, e: u32) -> Option<u32>
     requires { e < 2 ^ 24 }
     ensures { result ≡ half_side_of op x e }
@@ -68,7 +66,6 @@ fn half_side(op: HalfOp, x: u64, e: u32) -> Option<u32>
 
 // The index-side word of a progressive form, `x` being its index word.
 #[inline(always)]
-#[tactic(auto, unfolding(crate::specs::EarlyChange::progressive_side))]
 fn progressive_side(p: u8, x: u64, address: u32) -> Option<u32>
     requires form { p < 8 }
     requires address { address < 2 ^ 24 }
@@ -87,7 +84,6 @@ fn progressive_side(p: u8, x: u64, address: u32) -> Option<u32>
 
 /// The index-side word of an instruction with the effective address `e`.
 #[inline(always)]
-#[tactic(auto, unfolding(crate::specs::EarlyChange::side))]
 pub fn side(instr: &Instr, x: &[u64; 16], e: u32) -> Option<u32>
     requires shape { HasFields instr.now }
     requires address { e < 2 ^ 24 }
@@ -114,7 +110,6 @@ fn no_change() -> Early
 
 // Two numbers are compared.
 #[inline(always)]
-#[tactic(auto, unfolding(crate::specs::EarlyChange::change_of_comparison))]
 fn compared(a: i32, b: i32) -> Early
     ensures { result ≡ compared_of a b }
 {
@@ -187,7 +182,6 @@ fn half_change(half: Half, words: &[u64; 16], e: u32, read: Option<u64>) -> Earl
 
 // What a progressive form makes of index word `i`, which is `x`; `read` is its index-side word.
 #[inline(always)]
-#[tactic(auto, unfolding(crate::specs::EarlyChange::progressive_change))]
 fn progressive_change(p: u8, i: u8, x: u64, address: u32, read: Option<u64>) -> Early
     requires form { p < 8 }
     requires address { address < 2 ^ 24 }
@@ -203,7 +197,6 @@ fn progressive_change(p: u8, i: u8, x: u64, address: u32, read: Option<u64>) -> 
 /// The early change by an instruction with the effective address `e`; `read` is its index-side
 /// word.
 #[inline(always)]
-#[tactic(auto, unfolding(crate::specs::EarlyChange::change))]
 pub fn change(instr: &Instr, x: &[u64; 16], e: u32, read: Option<u64>) -> Early
     requires shape { HasFields instr.now }
     requires address { e < 2 ^ 24 }

@@ -17,7 +17,6 @@ const AREA: u8 = 8;
 
 /// The instruction that is executed: the target of EX, or else the instruction itself.
 #[inline(always)]
-#[tactic(auto, unfolding(crate::specs::Checks::effective_instr))]
 pub fn effective_instr(fetched: &Fetched) -> &Instr
     requires { IsFetched fetched.now }
     ensures value { result.now ≡ effective_instr_of fetched.now }
@@ -86,7 +85,6 @@ fn forbidden_side(state: &State, word: Option<u32>) -> Option<u8>
 
 // The indicator that forbids the area of an order with the effective address `e`.
 #[inline(always)]
-#[tactic(auto, unfolding(crate::specs::Checks::forbidden_area))]
 fn forbidden_area(state: &State, instr: &Instr, e: u32) -> Option<u8>
     requires { e < 2 ^ 24 }
     ensures value { result ≡ forbidden_area_of (word state.now 3) state.now.enabled instr.now e }
@@ -127,7 +125,6 @@ fn operation_fault(instr: &Instr) -> Option<u8>
 
 /// The indicator of the first check that an entry fails, `aim.fault` being that of its words.
 #[inline(always)]
-#[tactic(auto, unfolding(crate::specs::Checks::fault))]
 pub fn fault(aim: &Aim, state: &State) -> Option<u8>
     requires { IsAim aim.now }
     ensures value { result ≡ fault_of aim.now (word state.now 3) state.now.enabled }

@@ -131,7 +131,6 @@ fn has(decoded: Decoded, fault: Option<u8>, used: usize) -> Part
 }
 
 // The instruction at the half-word address `h`, whose first word is read.
-#[tactic(auto, unfolding(crate::specs::Reading::with_first))]
 fn with_first(h: u32, contents: &[u64], state: &State) -> Part
     requires address { h < 2 ^ 19 }
     requires some { 1 ≤ length contents.now }
@@ -170,7 +169,6 @@ fn part_at(h: u32, contents: &[u64], state: &State) -> Part
 }
 
 /// Whether an instruction is EX.
-#[tactic(auto, unfolding(crate::specs::Reading::is_execute))]
 pub fn is_execute(instr: &Instr) -> bool
     ensures { result ≡ is_execute_of instr.now }
 {
@@ -214,7 +212,6 @@ fn fetch_target(own: Found, x: &[u64; 16], contents: &[u64], state: &State) -> F
 
 // The entry with this own instruction, as far as the contents behind it tell.
 #[inline(always)]
-#[tactic(auto, unfolding(crate::specs::Reading::own_use))]
 fn own_or_target(own: Found, x: &[u64; 16], contents: &[u64], state: &State) -> Fetching
     requires { IsFoundInRange own }
     ensures value { result ≡ fetching_of (left_after (own_use x.now
@@ -260,7 +257,6 @@ fn second_known(h: u32, contents: &[u64], state: &State) -> Option<u32>
 // The half-words of the instruction at the half-word address `h`, whose first word may be fetched,
 // as `halves_known` gives them.
 #[inline(always)]
-#[tactic(auto, unfolding(crate::specs::Reading::with_first))]
 fn halves_of(h: u32, contents: &[u64], state: &State) -> Option<(u32, u32)>
     requires address { h < 2 ^ 19 }
     requires some { 1 ≤ length contents.now }
@@ -308,7 +304,6 @@ pub fn halves_known(h: u32, contents: &[u64], state: &State) -> Option<(u32, u32
 /// after another: the word that is read next, or what is fetched. `x` are the index words, and of
 /// `state` only the boundary register and the mark for interrupts count.
 #[inline(always)]
-#[tactic(auto, unfolding(crate::specs::Reading::reading_at_place))]
 pub fn fetch_on(place: &Place, x: &[u64; 16], contents: &[u64], state: &State) -> Fetching
     requires { IsPlace place.now }
     ensures value { result ≡ fetching_of (left_after (reading_at_place x.now

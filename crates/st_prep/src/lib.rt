@@ -1,7 +1,7 @@
 //! What is known of an instruction before it is completed: whether it is suppressed, what it makes
 //! of an index word, the words that it will read and write, and the counter after it.
 //! `docs/machine.md` has the rules.
-#![tactic(auto, using(st_bits::specs::Storage::words_of_storage_is))]
+#![tactic(auto, using(st_bits::specs::Storage::words_of_storage_is), unfolding(crate::specs::Checks::effective_instr, crate::specs::Checks::fault, crate::specs::Checks::forbidden_area, crate::specs::EarlyChange::change, crate::specs::EarlyChange::change_of_comparison, crate::specs::EarlyChange::effective, crate::specs::EarlyChange::field_address, crate::specs::EarlyChange::full_word_address, crate::specs::EarlyChange::half_side, crate::specs::EarlyChange::half_word_address, crate::specs::EarlyChange::index_operand, crate::specs::EarlyChange::progressive_change, crate::specs::EarlyChange::progressive_side, crate::specs::EarlyChange::refill_word, crate::specs::EarlyChange::side, crate::specs::Entry::acts_alone, crate::specs::Entry::cost, crate::specs::Entry::counter_after, crate::specs::Entry::counter_behind, crate::specs::Entry::field_words, crate::specs::Entry::has_register, crate::specs::Entry::reads, crate::specs::Entry::value_stored, crate::specs::Entry::words_written, crate::specs::Plan::aim, crate::specs::Plan::aim_at, crate::specs::Plan::entry_at, crate::specs::Plan::fault_of_checks, crate::specs::Plan::is_serial, crate::specs::Plan::needs, crate::specs::Plan::prepared_entry, crate::specs::Plan::suppressed_entry, crate::specs::Reading::is_execute, crate::specs::Reading::own_use, crate::specs::Reading::reading_at_place, crate::specs::Reading::with_first))]
 
 mod addresses;
 mod early;

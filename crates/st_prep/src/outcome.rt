@@ -12,7 +12,6 @@ use st_index::count_down;
 /// The following instruction: `halves` half-words on, or the counter as it stands after a table
 /// instruction.
 #[inline(always)]
-#[tactic(auto, unfolding(crate::specs::Entry::counter_behind))]
 pub fn next(place: &Place, halves: u8) -> u32
     requires { place.now.counter < 2 ^ 19 }
     ensures value { result ≡ next_of place.now halves }
@@ -60,7 +59,6 @@ fn after_branch(op: BranchOp, counter: u32, e: u32, following: u32) -> u32
 
 /// The counter after an instruction, given the counter before it and the following instruction.
 #[inline(always)]
-#[tactic(auto, unfolding(crate::specs::Entry::counter_after))]
 pub fn after(instr: &Instr, x: &[u64; 16], e: u32, counter: u32, following: u32) -> u32
     requires shape { HasFields instr.now }
     requires counter { counter < 2 ^ 19 }
@@ -92,7 +90,6 @@ fn stored_part(op: HalfOp, x: u64) -> u64
 
 /// What an instruction stores of an index word or of the counter.
 #[inline(always)]
-#[tactic(auto, unfolding(crate::specs::Entry::value_stored))]
 pub fn value(instr: &Instr, x: &[u64; 16], following: u32) -> u64
     requires { HasFields instr.now }
     ensures { result ≡ value_of instr.now x.now following }
@@ -127,7 +124,6 @@ fn decimal_cost(op: VflOp) -> u8
 
 /// The ticks that an instruction takes once its operands are there.
 #[inline(always)]
-#[tactic(auto, unfolding(crate::specs::Entry::cost))]
 pub fn cost(instr: &Instr) -> u8
     ensures { result ≡ cost_of instr.now }
 {
@@ -147,7 +143,6 @@ pub fn cost(instr: &Instr) -> u8
 
 /// Whether an instruction is one of those that are done alone.
 #[inline(always)]
-#[tactic(auto, unfolding(crate::specs::Entry::acts_alone))]
 pub fn acts_alone(instr: &Instr) -> bool
     ensures { result ≡ acts_alone_of instr.now }
 {

@@ -33,7 +33,6 @@ fn is_alone(place: &Place, fetched: &Fetched) -> bool
 
 // What an entry is aimed at, before it is checked.
 #[inline(always)]
-#[tactic(auto, unfolding(crate::specs::Plan::aim_at))]
 fn aimed(place: &Place, fetched: &Fetched, x: &[u64; 16]) -> Aim
     requires { IsFetched fetched.now }
     ensures value { result ≡ aimed_of place.now fetched.now x.now }
@@ -55,7 +54,6 @@ fn aimed(place: &Place, fetched: &Fetched, x: &[u64; 16]) -> Aim
 
 // What an entry is aimed at, and the first check that it fails.
 #[inline(always)]
-#[tactic(auto, unfolding(crate::specs::Plan::aim, crate::specs::Plan::fault_of_checks))]
 fn aim(place: &Place, fetched: &Fetched, x: &[u64; 16], state: &State) -> Aim
     requires { IsFetched fetched.now }
     ensures value { result ≡ aim_of (sight_of place.now fetched.now x.now state.now) }
@@ -68,7 +66,6 @@ fn aim(place: &Place, fetched: &Fetched, x: &[u64; 16], state: &State) -> Aim
 
 // Whether an entry that is not suppressed is done alone.
 #[inline(always)]
-#[tactic(auto, unfolding(crate::specs::Plan::is_serial))]
 fn is_serial(aim: &Aim) -> bool
     ensures { result ≡ is_serial_of aim.now }
 {
@@ -98,7 +95,6 @@ fn needs(aim: &Aim) -> Needs
 
 /// What an entry needs before it can be prepared. `fetched` is what stands at `place`, `x` are the
 /// index words, and of `state` only the boundary register and the mark for interrupts count.
-#[tactic(auto, unfolding(crate::specs::Plan::needs))]
 pub fn look(place: &Place, fetched: &Fetched, x: &[u64; 16], state: &State) -> Needs
     requires { IsFetched fetched.now }
     ensures value { result ≡ needs_of (sight_of place.now fetched.now x.now state.now) }
@@ -113,7 +109,6 @@ pub fn look(place: &Place, fetched: &Fetched, x: &[u64; 16], state: &State) -> N
 
 // Fills in an entry that is suppressed by the indicator `i`.
 #[inline(never)]
-#[tactic(auto, unfolding(crate::specs::Plan::suppressed_entry))]
 fn suppress(aim: &Aim, i: u8, p: &mut Prepared)
     requires place { p.old.place.counter < 2 ^ 19 }
     requires indicator { i < 64 }
@@ -137,7 +132,6 @@ fn suppress(aim: &Aim, i: u8, p: &mut Prepared)
 
 // Fills in an entry that is not suppressed; `read` is its index-side word.
 #[inline(always)]
-#[tactic(auto, unfolding(crate::specs::Plan::entry_at))]
 fn enter(aim: &Aim, x: &[u64; 16], read: Option<u64>, p: &mut Prepared)
     requires place { p.old.place.counter < 2 ^ 19 }
     requires aim { IsAim aim.now }
@@ -185,7 +179,6 @@ fn read_shape(read: Option<u64>)
 }
 
 /// Prepares the entry that stands at `p.place`, in place, as `prepare` does.
-#[tactic(auto, unfolding(crate::specs::Plan::prepared_entry))]
 pub fn prepare_in(
     p: &mut Prepared,
     fetched: &Fetched,
@@ -214,7 +207,6 @@ pub fn prepare_in(
 /// but `index` and `ind` is final, and these too where no such word is asked for. The result says
 /// what is needed. `x` stays.
 #[inline(always)]
-#[tactic(auto, unfolding(crate::specs::Plan::prepared_entry, crate::specs::Plan::needs))]
 pub fn prepare_without_side(
     p: &mut Prepared,
     fetched: &Fetched,
@@ -322,7 +314,6 @@ pub fn side_word(state: &State, table: Option<u8>, w: Option<u32>) -> Option<u64
 
 /// Whether an instruction of this format is EX.
 #[inline(always)]
-#[tactic(auto, unfolding(crate::specs::Reading::is_execute))]
 pub fn is_execute_format(format: Format) -> bool
     ensures { (first second : ℕ) → result ≡ is_execute_of (spelled_as format first second) }
 {
@@ -335,7 +326,6 @@ pub fn is_execute_format(format: Format) -> bool
 
 // Fills in the entry of a state that stands at `p.place`, by what is fetched there. The result is
 // the word address of its index-side word, if there is one.
-#[tactic(auto, unfolding(crate::specs::Plan::prepared_entry, crate::specs::Plan::needs))]
 fn fill_fetched(fetched: &Fetched, x: &[u64; 16], state: &State, p: &mut Prepared) -> Option<u32>
     requires place { IsPlace p.old.place }
     requires fetched { IsFetched fetched.now }

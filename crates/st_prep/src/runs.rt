@@ -43,7 +43,6 @@ fn two_runs(first: u32, first2: u32, len: u8) -> Words
 
 // The one or two words that the `length` bits from bit `e` on touch.
 #[inline(always)]
-#[tactic(auto, unfolding(crate::specs::Entry::field_words))]
 fn field_words(e: u32, length: u8) -> Words
     requires { e < 2 ^ 24 }
     ensures value { result ≡ field_words_of e length }
@@ -115,7 +114,6 @@ pub fn reads_field(op: VflOp) -> bool
 
 /// The words that an instruction with the effective address `e` reads, in order.
 #[inline(always)]
-#[tactic(auto, unfolding(crate::specs::Entry::reads))]
 pub fn reads(instr: &Instr, e: u32) -> Words
     requires shape { HasFields instr.now }
     requires address { e < 2 ^ 24 }
@@ -138,7 +136,6 @@ pub fn reads(instr: &Instr, e: u32) -> Words
 
 /// The words that an instruction with the effective address `e` writes, in order.
 #[inline(always)]
-#[tactic(auto, unfolding(crate::specs::Entry::words_written))]
 pub fn writes(instr: &Instr, e: u32) -> Words
     requires shape { HasFields instr.now }
     requires address { e < 2 ^ 24 }
@@ -166,7 +163,6 @@ pub fn writes(instr: &Instr, e: u32) -> Words
 
 /// Whether a register, a word below 32, is among the words.
 #[inline(always)]
-#[tactic(auto, unfolding(crate::specs::Entry::has_register))]
 pub fn has_register(words: Words) -> bool
     ensures { result ≡ has_register_of words }
 {
