@@ -89,7 +89,6 @@ fn step_from(fuel: u8, unit: u64, span: u64) -> u64
 }
 
 /// The axis of entries, at least so many ticks long.
-#[tactic(auto, unfolding(crate::specs::Axis::axis))]
 pub fn axis_of(entries: &[Entry], least: u64) -> Axis
     requires { 1 ≤ least }
     ensures value { result ≡ spec.axis entries.now least }
@@ -108,7 +107,6 @@ pub fn axis_of(entries: &[Entry], least: u64) -> Axis
 }
 
 /// Where a tick stands.
-#[tactic(auto, unfolding(crate::specs::Axis::x_of_tick))]
 pub fn at(room: Room, axis: Axis, tick: u64) -> u64
     requires { 1 ≤ axis.span }
     ensures value { result ≡ spec.x_of_tick room axis tick }

@@ -27,7 +27,6 @@ pub struct Spot {
 }
 
 // Appends a number as the value of an attribute.
-#[tactic(auto, unfolding(crate::specs::Element::attribute))]
 fn push_attribute(out: &mut Vec<u8>, name: &[u8], n: u128) -> Result<(), AllocError>
     ensures { IfOk result (λ _. out.new.items ≡ out.old.items ++ attribute name.now n) }
 {
@@ -49,7 +48,6 @@ fn push_front(out: &mut Vec<u8>, name: &[u8], class: &[u8]) -> Result<(), AllocE
 }
 
 // Appends where an element stands.
-#[tactic(auto, unfolding(crate::specs::Element::corner))]
 fn push_corner(out: &mut Vec<u8>, x: u128, y: u128) -> Result<(), AllocError>
     ensures { IfOk result (λ _. out.new.items ≡ out.old.items ++ corner x y) }
 {
@@ -58,7 +56,6 @@ fn push_corner(out: &mut Vec<u8>, x: u128, y: u128) -> Result<(), AllocError>
 }
 
 // Appends how far a box reaches.
-#[tactic(auto, unfolding(crate::specs::Element::size))]
 fn push_size(out: &mut Vec<u8>, width: u128, height: u128) -> Result<(), AllocError>
     ensures { IfOk result (λ _. out.new.items ≡ out.old.items ++ size width height) }
 {
@@ -79,7 +76,6 @@ fn push_ends(out: &mut Vec<u8>, area: Area) -> Result<(), AllocError>
 }
 
 // The end of a title and of its box.
-#[tactic(auto, unfolding(crate::specs::Element::title_end))]
 fn end_of_title() -> &'static [u8]
     ensures { result.now ≡ title_end }
 {
@@ -87,7 +83,6 @@ fn end_of_title() -> &'static [u8]
 }
 
 // Appends what a box says when it is pointed at, and its end.
-#[tactic(auto, unfolding(crate::specs::Element::box_title))]
 fn push_title(out: &mut Vec<u8>, text: &[u8]) -> Result<(), AllocError>
     ensures { IfOk result (λ _. out.new.items ≡ out.old.items ++ box_title text.now) }
 {
@@ -97,7 +92,6 @@ fn push_title(out: &mut Vec<u8>, text: &[u8]) -> Result<(), AllocError>
 }
 
 // Appends what is shown of a card: one that is too long ends in an ellipsis.
-#[tactic(auto, unfolding(crate::specs::Element::shown_card))]
 fn push_shown_card(out: &mut Vec<u8>, text: &[u8]) -> Result<(), AllocError>
     ensures { IfOk result (λ _. out.new.items ≡ out.old.items ++ shown_card text.now) }
 {
@@ -109,7 +103,6 @@ fn push_shown_card(out: &mut Vec<u8>, text: &[u8]) -> Result<(), AllocError>
 }
 
 // Appends a card, and its end.
-#[tactic(auto, unfolding(crate::specs::Element::card_content))]
 fn push_card_content(out: &mut Vec<u8>, text: &[u8]) -> Result<(), AllocError>
     ensures { IfOk result (λ _. out.new.items ≡ out.old.items ++ card_content text.now) }
 {
@@ -119,7 +112,6 @@ fn push_card_content(out: &mut Vec<u8>, text: &[u8]) -> Result<(), AllocError>
 }
 
 // Appends what a text says, and its end.
-#[tactic(auto, unfolding(crate::specs::Element::content))]
 fn push_content(out: &mut Vec<u8>, text: &[u8]) -> Result<(), AllocError>
     ensures { IfOk result (λ _. out.new.items ≡ out.old.items ++ content text.now) }
 {

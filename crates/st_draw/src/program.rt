@@ -69,7 +69,6 @@ fn status_with(shown: u64) -> Status
 }
 
 // The picture of a report that is asked for, and its status.
-#[tactic(auto, unfolding(crate::specs::Answers::picture, crate::specs::Answers::picture_status))]
 fn picture(alloc: Global, choice: Choice, report: &[u8]) -> Result<(Vec<u8>, Status), AllocError>
     ensures bytes { IfOk result (λ made. made.0.items ≡ spec.picture choice report.now) }
     ensures status { IfOk result (λ made. made.1 ≡ spec.picture_status choice report.now) }

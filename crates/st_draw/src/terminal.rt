@@ -30,7 +30,6 @@ fn push_many(out: &mut Vec<u8>, count: usize, byte: u8) -> Result<(), AllocError
 }
 
 // Appends a text at the right of so many places.
-#[tactic(auto, unfolding(crate::specs::Terminal::text_at_right))]
 fn push_right(out: &mut Vec<u8>, width: usize, text: &[u8]) -> Result<(), AllocError>
     ensures { IfOk result (λ _. out.new.items ≡ out.old.items
         ++ spec.text_at_right width text.now) }
@@ -40,7 +39,6 @@ fn push_right(out: &mut Vec<u8>, width: usize, text: &[u8]) -> Result<(), AllocE
 }
 
 // Appends a text at the left of so many places.
-#[tactic(auto, unfolding(crate::specs::Terminal::text_at_left))]
 fn push_left(out: &mut Vec<u8>, width: usize, text: &[u8]) -> Result<(), AllocError>
     ensures { IfOk result (λ _. out.new.items ≡ out.old.items ++ spec.text_at_left width text.now) }
 {
@@ -49,7 +47,6 @@ fn push_left(out: &mut Vec<u8>, width: usize, text: &[u8]) -> Result<(), AllocEr
 }
 
 // Appends three texts in columns, the last one at the left of so many places.
-#[tactic(auto, unfolding(crate::specs::Terminal::text_columns))]
 fn push_columns(
     out: &mut Vec<u8>,
     places: usize,
@@ -95,7 +92,6 @@ fn push_stroke(
 }
 
 // Appends the bars of an entry behind blanks up to its first tick, or its sign.
-#[tactic(auto, unfolding(crate::specs::Terminal::strokes))]
 fn push_strokes(out: &mut Vec<u8>, axis: &Axis, entry: Entry) -> Result<(), AllocError>
     requires { 1 ≤ axis.now.span }
     ensures { IfOk result (λ _. out.new.items ≡ out.old.items ++ spec.strokes axis.now entry) }
@@ -120,7 +116,6 @@ fn push_strokes(out: &mut Vec<u8>, axis: &Axis, entry: Entry) -> Result<(), Allo
 }
 
 // Appends the line of an entry.
-#[tactic(auto, unfolding(crate::specs::Terminal::entry_line))]
 fn push_entry(
     alloc: Global,
     out: &mut Vec<u8>,
@@ -195,7 +190,6 @@ fn push_scale(line: &mut Vec<u8>, page: &Page, ticks: &[u64]) -> Result<(), Allo
 }
 
 // The line above the rows: what its numbers are, and round ticks; or that there is no entry.
-#[tactic(auto, unfolding(crate::specs::Terminal::head))]
 fn head(alloc: Global, page: &Page, entries: &[Entry]) -> Result<Vec<u8>, AllocError>
     requires axis { 1 ≤ page.now.axis.span }
     requires places { page.now.places ≤ 40 }
@@ -213,7 +207,6 @@ fn head(alloc: Global, page: &Page, entries: &[Entry]) -> Result<Vec<u8>, AllocE
 }
 
 // Appends what the marks mean.
-#[tactic(auto, unfolding(crate::specs::Terminal::key))]
 fn push_key(out: &mut Vec<u8>) -> Result<(), AllocError>
     ensures { IfOk result (λ _. out.new.items ≡ out.old.items ++ spec.key) }
 {
@@ -224,7 +217,6 @@ fn push_key(out: &mut Vec<u8>) -> Result<(), AllocError>
 }
 
 /// Draws entries as lines of text: `shown` of them are rows, and `later` rows follow.
-#[tactic(auto, unfolding(crate::specs::Terminal::page_text))]
 pub fn draw_text(
     alloc: Global,
     report: &[u8],

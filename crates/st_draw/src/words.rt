@@ -53,7 +53,6 @@ fn part_between(from: u64, to: u64) -> Option<Part>
 }
 
 // The part that two words name.
-#[tactic(auto, unfolding(crate::specs::Words::part_named))]
 fn part_named(from: &str, to: &str) -> Option<Part>
     ensures { result ≡ spec.part_named from.now to.now }
 {
@@ -72,7 +71,6 @@ fn chosen(word: &str, from: &str, to: &str) -> Option<Choice>
 }
 
 /// What the words ask for; None where they mean nothing.
-#[tactic(auto, unfolding(crate::specs::Words::picture_choice))]
 pub fn read_words(words: &[String]) -> Option<Choice>
     ensures { result ≡ spec.picture_choice (map string_bytes words.now) }
 {
