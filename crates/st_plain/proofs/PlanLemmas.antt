@@ -39,4 +39,4 @@ module _ (s : Machine) (table : Option ℕ) (q : Place) (x : List ℕ) (p : Prep
       let r = reading_of s q in
       there.entry
       ∙ ap (λ p. entry_shown (run_of (take (own_words r (word s)) (words_read r (word s)))) (run_of (drop (own_words r (word s)) (words_read r (word s))))
-      (needs (sight s q)).index_read p (is_none table && is_none (words_fetched s q).fault)) plan-planned
+      (needs (sight s q)) p (is_none table && is_none (words_fetched s q).fault)) plan-planned

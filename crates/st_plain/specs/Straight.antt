@@ -1,12 +1,13 @@
 -- An entry that is planned at once: its words, and what the timetable sees of it.
-use Rattle.std.specs.Prelude.{ℕ, ◌+◌, ◌/◌, ◌≡◌, Option, Bool, true, false, ◌&&◌, is_none, List, [], ◌∷◌, ◌++◌, length}
+use Rattle.std.specs.Prelude.{ℕ, ◌+◌, ◌≡◌, Bool, true, false, ◌&&◌, is_none, List, [], ◌∷◌, ◌++◌, length}
 use Rattle.st_state.specs.Machine.{Machine}
 use Rattle.st_prep.specs.Plan.{sight_of, needs, prepared_entry, side_of}
 use Rattle.st_prep.specs.Reading.{Reading, outcome, words_read, own_words, is_execute}
 use Rattle.st_prep.specs.declared.entries.Place.{Place}
 use Rattle.st_prep.specs.declared.entries.Fetched.{Fetched}
+use Rattle.st_prep.specs.declared.entries.Needs.{Needs}
 use Rattle.st_prep.specs.declared.entries.Prepared.{Prepared}
-use Rattle.st_segment.specs.Entries.{run_of, words_to_read, words_to_write, side_to_read}
+use Rattle.st_segment.specs.Entries.{words_to_read, words_to_write, side_to_read}
 use Rattle.st_rows.specs.declared.entry.WordRun.{WordRun}
 use Rattle.st_rows.specs.declared.entry.Entry.{Entry}
 use Rattle.st_plain.specs.Looking.{code_found}
@@ -26,19 +27,15 @@ abbrev pub if_more : Bool → ℕ → List ℕ
 if_more true w = w ∷ []
 if_more false w = []
 
--- the words of an instruction at the half-word address h, of one word or of more, as a run
-abbrev pub words_spelled : ℕ → Bool → WordRun
-words_spelled h more = run_of (h / 2 ∷ if_more more ((h + 1) / 2))
-
 -- ---- the entry
 
 -- what the timetable sees of an entry, by its runs of instruction words, by what it needs and what
 -- it is
-unfoldable pub entry_shown : WordRun → WordRun → Option ℕ → Prepared → Bool → Entry
-entry_shown own target side p follows = record {
+unfoldable pub entry_shown : WordRun → WordRun → Needs → Prepared → Bool → Entry
+entry_shown own target n p follows = record {
   own = own;
   target = target;
-  side = side_to_read side;
+  side = side_to_read n.index_read;
   reads = words_to_read p.reads;
   writes = words_to_write p.writes;
   cost = p.cost;
@@ -51,7 +48,7 @@ entry_shown own target side p follows = record {
 pub record IsEntryPlanned (s : Machine) (x : List ℕ) (q : Place) (f : Fetched) (own target : WordRun)
     (p : Prepared) (e : Planned) : Type 0 where
   pub plan : let v = sight_of q f x s in p ≡ prepared_entry v (side_of s v)
-  pub entry : e.entry ≡ entry_shown own target (needs (sight_of q f x s)).index_read p
+  pub entry : e.entry ≡ entry_shown own target (needs (sight_of q f x s)) p
       (is_none q.table && is_none f.fault)
   pub known : e.known ≡ record {
     side = (needs (sight_of q f x s)).index_read;

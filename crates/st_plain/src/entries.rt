@@ -9,7 +9,7 @@ ghost use Rattle.st_prep.specs.Plan.{needs as needs_of, plan as plan_of, prepare
 ghost use Rattle.st_prep.specs.Ranges.{HasFields, IsPlace, IsFetched, IsNeeds, IsPrepared};
 ghost use Rattle.st_prep.specs.Reading.{Use, words_read, own_words, half_of as half_by, with_second as with_second_of, with_first as with_first_of, instruction_at, is_execute as is_execute_of, fetched_plain, allowed_found};
 ghost use Rattle.st_plain.specs.Looking.{code_found as code_found_of, known_at};
-ghost use Rattle.st_plain.specs.Straight.{IsReadOver, if_more, words_spelled, entry_shown, IsEntryPlanned};
+ghost use Rattle.st_plain.specs.Straight.{IsReadOver, if_more, entry_shown, IsEntryPlanned};
 ghost use Rattle.st_segment.specs.Entries.{run_of as run_by, above_registers as above_registers_of, words_to_read as words_to_read_of, words_to_write as words_to_write_of, side_to_read as side_to_read_of, entry as entry_of};
 
 use crate::known::{Code, Known, code_found, code_in};
@@ -306,7 +306,7 @@ fn halves_at(h: u32, state: &State) -> Option<Spelled>
 #[inline(always)]
 #[tactic(auto, unfolding(st_segment::specs::Entries::run_of))]
 fn words_at(h: u32, more: bool) -> WordRun
-    ensures { result ≡ words_spelled h more }
+    ensures { result ≡ run_by (h / 2 ∷ if_more more ((h + 1) / 2)) }
 {
     WordRun {
         first: h / 2,
@@ -332,91 +332,115 @@ fn is_execute(instr: &Instr) -> bool
     matches!(*instr, Instr::Half { op: HalfOp::Ex, .. })
 }
 
-// An entry by how it is prepared and what else is known of it, with its instruction words, its own
-// and those of the target of EX.
+// What is known of an entry.
 #[inline(always)]
 #[tactic(auto, unfolding(crate::specs::Straight::entry_shown))]
-fn show(own: WordRun, target: WordRun, p: &Prepared, follows: bool, known: Known) -> Planned
-    ensures entry { result.entry ≡ entry_shown own target known.side p.now follows }
-    ensures known { result.known ≡ known }
+fn show(
+    own: WordRun,
+    target: WordRun,
+    needs: Needs,
+    p: &Prepared,
+    follows: bool,
+    execute: bool,
+    code: Option<Code>,
+) -> Planned
+    ensures entry { result.entry ≡ entry_shown own target needs p.now follows }
+    ensures known { result.known ≡ record {
+      side = needs.index_read;
+      execute = execute;
+      code = code;
+    } }
 {
     Planned {
         entry: Entry {
             own,
             target,
-            side: side_to_read(known.side),
+            side: side_to_read(needs.index_read),
             reads: words_to_read(p.reads),
             writes: words_to_write(p.writes),
             cost: p.cost,
             serial: p.serial,
             follows,
         },
-        known,
+        known: Known {
+            side: needs.index_read,
+            execute,
+            code,
+        },
     }
 }
 
-// Plans the entry at `p.place`, an instruction that is not EX and whose words may be fetched, by
-// its half-words, whose format is known. Each format that is told apart has a copy of its own, with
-// one caller, in which the format stays known; `KIND` is the copy's number. A row of the ledger
-// takes some 240 host instructions less for it.
+// Plans the entry at `p.place`, an own instruction that is not EX and whose words may be fetched,
+// with its half-words.
 #[inline(always)]
-fn plan_as<const KIND: u8>(
-    format: Format,
-    spelled: Spelled,
+fn plan_own(
+    own: Decoded,
+    code: Option<Code>,
+    words: WordRun,
     x: &[u64; 16],
     state: &State,
     p: &mut Prepared,
 ) -> Planned
     requires place { IsPlace p.old.place }
-    requires format { spelled_as format spelled.first spelled.second
-        ≡ instruction_of spelled.first spelled.second }
-    ensures planned { IsEntryPlanned state.now x.now p.old.place
-        (fetched_plain (decoded_entry spelled.first spelled.second))
-        (words_spelled p.old.place.address spelled.more)
+    requires fields { HasFields own.instr }
+    requires code { code ≡ code_found_of (fetched_plain own) }
+    ensures planned { IsEntryPlanned state.now x.now p.old.place (fetched_plain own) words
         (record { first = 0; len = 0 }) p.new result }
     ensures ranges { IsPrepared p.new }
 {
-    let words = words_at(p.place.address, spelled.more);
     let fetched = Fetched {
-        instr: decode_as(format, spelled.first, spelled.second),
+        instr: own,
         target: None,
         fault: None,
     };
     let table = p.place.table;
     let needs = prepare_found(p, &fetched, x, state);
-    let known = Known {
-        side: needs.index_read,
-        execute: is_execute(&fetched.instr.instr),
-        code: code_in(spelled.first, spelled.second),
-    };
-    show(
-        words,
-        WordRun::default(),
-        p,
-        asks_for_following(table, None),
-        known,
-    )
+    let follows = asks_for_following(table, None);
+    let execute = is_execute(&fetched.instr.instr);
+    show(words, WordRun::default(), needs, p, follows, execute, code)
+}
+
+// The same of half-words whose format is known. Each format that is told apart has a copy of its
+// own, with one caller, in which the format stays known; `KIND` is the copy's number. A row of the
+// ledger takes some 240 host instructions less for it.
+#[inline(always)]
+fn plan_as<const KIND: u8>(
+    format: Format,
+    halves: (u32, u32),
+    words: WordRun,
+    x: &[u64; 16],
+    state: &State,
+    p: &mut Prepared,
+) -> Planned
+    requires place { IsPlace p.old.place }
+    requires format { spelled_as format halves.0 halves.1 ≡ instruction_of halves.0 halves.1 }
+    ensures planned { IsEntryPlanned state.now x.now p.old.place
+        (fetched_plain (decoded_entry halves.0 halves.1)) words (record { first = 0; len = 0 })
+        p.new result }
+    ensures ranges { IsPrepared p.new }
+{
+    let own = decode_as(format, halves.0, halves.1);
+    plan_own(own, code_in(halves.0, halves.1), words, x, state, p)
 }
 
 // The same of a format that is not frequent.
 #[inline(never)]
 fn plan_cold(
     format: Format,
-    spelled: Spelled,
+    halves: (u32, u32),
+    words: WordRun,
     x: &[u64; 16],
     state: &State,
     p: &mut Prepared,
 ) -> Planned
     requires place { IsPlace p.old.place }
-    requires format { spelled_as format spelled.first spelled.second
-        ≡ instruction_of spelled.first spelled.second }
+    requires format { spelled_as format halves.0 halves.1 ≡ instruction_of halves.0 halves.1 }
     ensures planned { IsEntryPlanned state.now x.now p.old.place
-        (fetched_plain (decoded_entry spelled.first spelled.second))
-        (words_spelled p.old.place.address spelled.more)
-        (record { first = 0; len = 0 }) p.new result }
+        (fetched_plain (decoded_entry halves.0 halves.1)) words (record { first = 0; len = 0 })
+        p.new result }
     ensures ranges { IsPrepared p.new }
 {
-    plan_as::<3>(format, spelled, x, state, p)
+    plan_as::<3>(format, halves, words, x, state, p)
 }
 
 // The same of any format. What follows knows the format of a frequent instruction, so that it is
@@ -424,28 +448,27 @@ fn plan_cold(
 #[inline(always)]
 fn plan_known(
     format: Format,
-    spelled: Spelled,
+    halves: (u32, u32),
+    words: WordRun,
     x: &[u64; 16],
     state: &State,
     p: &mut Prepared,
 ) -> Planned
     requires place { IsPlace p.old.place }
-    requires format { spelled_as format spelled.first spelled.second
-        ≡ instruction_of spelled.first spelled.second }
+    requires format { spelled_as format halves.0 halves.1 ≡ instruction_of halves.0 halves.1 }
     ensures planned { IsEntryPlanned state.now x.now p.old.place
-        (fetched_plain (decoded_entry spelled.first spelled.second))
-        (words_spelled p.old.place.address spelled.more)
-        (record { first = 0; len = 0 }) p.new result }
+        (fetched_plain (decoded_entry halves.0 halves.1)) words (record { first = 0; len = 0 })
+        p.new result }
     ensures ranges { IsPrepared p.new }
 {
     match format {
-        Format::Index(op) => plan_as::<0>(Format::Index(op), spelled, x, state, p),
-        Format::Branch(op) => plan_as::<1>(Format::Branch(op), spelled, x, state, p),
+        Format::Index(op) => plan_as::<0>(Format::Index(op), halves, words, x, state, p),
+        Format::Branch(op) => plan_as::<1>(Format::Branch(op), halves, words, x, state, p),
         Format::Whole(FullOp::Variable(op)) => {
             let format = Format::Whole(FullOp::Variable(op));
-            plan_as::<2>(format, spelled, x, state, p)
+            plan_as::<2>(format, halves, words, x, state, p)
         }
-        _ => plan_cold(format, spelled, x, state, p),
+        _ => plan_cold(format, halves, words, x, state, p),
     }
 }
 
@@ -465,12 +488,9 @@ fn plan_other(x: &[u64; 16], state: &State, p: &mut Prepared) -> Planned
     let found = find(&p.place, x, state);
     let needs = prepare_found(p, &found.fetched, x, state);
     let follows = asks_for_following(table, found.fetched.fault);
-    let known = Known {
-        side: needs.index_read,
-        execute: is_execute(&found.fetched.instr.instr),
-        code: code_found(&found.fetched),
-    };
-    show(found.own, found.target, p, follows, known)
+    let execute = is_execute(&found.fetched.instr.instr);
+    let code = code_found(&found.fetched);
+    show(found.own, found.target, needs, p, follows, execute, code)
 }
 
 // Plans the entry at `p.place`, of which these are the half-words.
@@ -493,7 +513,8 @@ fn plan_spelled(spelled: Spelled, x: &[u64; 16], state: &State, p: &mut Prepared
     if is_execute_format(format) {
         plan_other(x, state, p)
     } else {
-        plan_known(format, spelled, x, state, p)
+        let words = words_at(p.place.address, spelled.more);
+        plan_known(format, (spelled.first, spelled.second), words, x, state, p)
     }
 }
 
