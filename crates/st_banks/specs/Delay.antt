@@ -1,9 +1,7 @@
 -- How long a read takes.
-use Rattle.std.specs.Prelude.{ℕ, ◌≡◌, ◌≤◌, ◌+◌, ◌%◌, ◌==◌, List, length, All, slice_index, Option, None, Some, Result, Ok, Err}
+use Rattle.std.specs.Prelude.{ℕ, ◌≡◌, ◌≤◌, ◌+◌, ◌%◌, ◌==◌, List, length, All, slice_index, Option}
 use Rattle.std.specs.List.{position}
 use Rattle.st_bits.specs.declared.limits.TheConstants.{MOST_DELAY}
-use Rattle.st_banks.specs.declared.delays.DelayError.{DelayError}
-use Rattle.st_banks.specs.declared.delays.DelayError.TheVariants.{ZeroDelay, NoMemory}
 
 -- a delay of a read
 abbrev pub IsDelay : ℕ → Type 0
@@ -25,10 +23,3 @@ answer_tick list tick = tick + delay list tick
 -- the place of the first entry that is zero
 abbrev pub first_zero : List ℕ → Option ℕ
 first_zero list = position (λ d. d == 0) list
-
--- what is answered of a list: itself, or its first zero; want of memory comes only where no entry
--- is zero
-abbrev pub IsDelayAnswer : List ℕ → Result (List ℕ) DelayError → Type 0
-IsDelayAnswer list (Ok delays) = (first_zero list ≡ None) × (delays ≡ list)
-IsDelayAnswer list (Err (ZeroDelay place)) = first_zero list ≡ Some place
-IsDelayAnswer list (Err NoMemory) = first_zero list ≡ None

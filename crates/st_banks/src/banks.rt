@@ -22,7 +22,7 @@ impl Model for Banks {
 
     ghost Value = { BankTimes };
 
-    ghost view = { λ a. record { delays = a.delays; answers = a.answers.ticks } };
+    ghost view = { λ a. record { delays = a.delays.list; answers = a.answers.ticks } };
 
     ghost invariant = { λ a. length a.answers.ticks ≡ BANKS };
 }
@@ -33,7 +33,7 @@ impl Banks {
 
     /// The banks before the first read.
     pub fn new(delays: Delays) -> Banks
-        ensures { result ≡ banks_at_start delays }
+        ensures { result ≡ banks_at_start delays.list }
     {
         Banks {
             delays,

@@ -1,7 +1,8 @@
 //! Delay lists, which are gone round.
 ghost use Rattle.std.specs.Prelude.{◌≡◌, ◌+◌, ◌<◌, ◌≤◌, ◌^◌, length, All, IfSome, IfNone};
 ghost use Rattle.st_bits.specs.declared.limits.TheConstants.{LONGEST_LIST, MOST_DELAY};
-ghost use Rattle.st_banks.specs.Delay.{delay, first_zero as first_zero_of};
+ghost use Rattle.st_banks.specs.Delay.{delay, IsDelay, first_zero as first_zero_of};
+ghost use Rattle.std.proofs.Props.{props};
 
 use std::alloc::Global;
 use std::marker::Model;
@@ -15,25 +16,32 @@ pub enum DelayError {
     NoMemory,
 }
 
-/// The delays of reads, in ticks, each from 1 to 255. Contracts see the list.
+/// A list of bytes. Contracts see its entries.
 #[derive(Drop)]
-pub struct Delays {
-    list: Vec<u8>,
+pub struct DelayList {
+    bytes: Vec<u8>,
 }
 
-impl Model for Delays {
+impl Model for DelayList {
     ghost use Rattle.std.specs.Prelude.{List, ℕ};
-    ghost use Rattle.st_banks.specs.Delay.{IsDelayList};
 
     ghost Value = { List ℕ };
 
-    ghost view = { λ a. a.list.items };
+    ghost view = { λ a. a.bytes.items };
+}
 
-    ghost invariant = { λ a. IsDelayList a.list.items };
+/// The delays of reads, in ticks: one or more, each from 1 to 255.
+#[derive(Drop)]
+pub struct Delays {
+    /// The list that is gone round, one entry a tick.
+    pub list: DelayList,
+    pub ghost some: { 1 ≤ length list },
+    pub ghost each: { All IsDelay list } by { Prim.hlevel props },
 }
 
 impl Delays {
-    ghost use Rattle.st_banks.specs.Delay.{IsDelayAnswer, IsDelayList, answer_tick};
+    ghost use Rattle.st_banks.specs.Delay.{answer_tick};
+    ghost use Rattle.st_banks.specs.DelayAnswers.{IsDelayAnswer};
 
     /// The delays of the list, which has 1 to 4,096 entries. A list with a zero is refused before
     /// memory is asked for.
@@ -48,36 +56,31 @@ impl Delays {
             });
         }
         match Vec::from_slice(alloc, list) {
-            Ok(list) => Ok(Delays { list }),
+            Ok(bytes) => Ok(Delays {
+                list: DelayList { bytes },
+            }),
             Err(_) => Err(DelayError::NoMemory),
         }
-    }
-
-    /// Makes known what holds of each list of delays: it is not empty, and each entry is from 1 to
-    /// 255.
-    pub fn shape(&self)
-        ensures { IsDelayList self.now }
-    {
-        let _ = &self.list;
     }
 
     /// The delay, from 1 to 255 ticks, of a read that is accepted at `tick`: the list is gone
     /// round, one entry a tick.
     pub fn at(&self, tick: u64) -> u8
-        ensures value { result ≡ delay self.now tick }
+        ensures value { result ≡ delay self.now.list tick }
         ensures least { 1 ≤ result }
     {
-        let len = self.list.len() as u64;
+        let bytes = &self.list.bytes;
+        let len = bytes.len() as u64;
         // One delay for all is frequent, and needs no division.
         let place = if len == 1 { 0 } else { tick % len };
-        self.list[place as usize]
+        bytes[place as usize]
     }
 
     /// The tick, 1 to 255 later, at which a read is answered that is accepted at `tick`, which is
     /// below 2^64 - 255.
     pub fn answer(&self, tick: u64) -> u64
         requires early { tick + MOST_DELAY < 2 ^ 64 }
-        ensures value { result ≡ answer_tick self.now tick }
+        ensures value { result ≡ answer_tick self.now.list tick }
         ensures later { tick < result }
         ensures most { result ≤ tick + MOST_DELAY }
     {

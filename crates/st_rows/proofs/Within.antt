@@ -6,7 +6,8 @@ use Rattle.std.proofs.lemmas.List.Elements.{All-head, All-tail, All-cons, All-se
 use Rattle.std.proofs.lemmas.Bool.{cases_Bool}
 use Rattle.st_bits.specs.Storage.{words_of_storage}
 use Rattle.st_banks.specs.Bank.{bank_of}
-use Rattle.st_banks.specs.Delay.{IsDelayList, delay}
+use Rattle.st_banks.specs.Delay.{delay}
+use Rattle.st_banks.specs.declared.delays.Delays.{Delays}
 use Rattle.st_fetch.specs.Planned.{tick_of}
 use Rattle.st_fetch.specs.declared.fetched.AskedWord.{AskedWord}
 use Rattle.st_rows.specs.BusTimes.{Reading, accept_at, answer_at, bus_after_read, requested_if, answer_if, bus_after_request, answer_tick_on}
@@ -18,8 +19,8 @@ use Rattle.st_rows.specs.declared.past.Past.{Past}
 use Rattle.st_rows.specs.declared.fetching.Fetching.{Fetching}
 
 -- the delays of the banks are at most 255
-pub AreDelays-list : (ds : List ℕ) → IsDelayList ds → AreDelaysUpTo 255 ds
-AreDelays-list ds is = record { some = is.some; each = is.each }
+pub delays-are : (d : Delays) → AreDelaysUpTo 255 d.list
+delays-are d = record { some = d.some; each = d.each }
 
 -- an item of a list, or the 0 past its end
 pub at-within : (m : ℕ) (xs : List ℕ) (i : ℕ) → All (λ t. t ≤ m) xs → get_or xs i 0 ≤ m

@@ -41,8 +41,8 @@ impl Bus {
     pub fn read(&mut self, log: &mut Log, delays: &Delays, w: u32, want: u64) -> u64
         requires room { IsBusWithin (2 ^ 64 - 512) self.old }
         requires early { want ≤ 2 ^ 64 - 512 }
-        ensures value { result ≡ answer_at delays.now self.old w want }
-        ensures after { self.new ≡ bus_after_read delays.now self.old w want }
+        ensures value { result ≡ answer_at delays.now.list self.old w want }
+        ensures after { self.new ≡ bus_after_read delays.now.list self.old w want }
         ensures log { log.new ≡ take 64 (note self.old (record {
           w = w;
           want = want;
@@ -67,9 +67,9 @@ impl Bus {
     pub fn request(&mut self, log: &mut Log, delays: &Delays, w: u32, want: u64) -> u64
         requires room { IsBusWithin (2 ^ 64 - 512) self.old }
         requires early { want ≤ 2 ^ 64 - 512 }
-        ensures value { result ≡ answer_tick_on delays.now self.old w want }
-        ensures after { self.new ≡ bus_after_request delays.now self.old w want }
-        ensures log { log.new ≡ log_after_reads delays.now
+        ensures value { result ≡ answer_tick_on delays.now.list self.old w want }
+        ensures after { self.new ≡ bus_after_request delays.now.list self.old w want }
+        ensures log { log.new ≡ log_after_reads delays.now.list
             (word_asked (tick_of self.old.held.words w) w want) self.old log.old }
     {
         if let Some(tick) = self.held.tick_of(w) {

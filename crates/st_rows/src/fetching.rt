@@ -53,8 +53,8 @@ impl Fetching {
         requires early { from ≤ 2 ^ 64 - 512 }
         requires storage { 32 ≤ w }
 
-        ensures after { self.new ≡ fetch_word delays.now past.now self.old w from }
-        ensures log { log.new ≡ log_after_reads delays.now
+        ensures after { self.new ≡ fetch_word delays.now.list past.now self.old w from }
+        ensures log { log.new ≡ log_after_reads delays.now.list
             (word_asked (tick_of self.old.bus.held.words w) w
             (max (max from self.old.answered) self.old.awaited)) self.old.bus log.old }
     {

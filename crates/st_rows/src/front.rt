@@ -124,16 +124,15 @@ impl Front {
         requires tight { IsTight MOST_DELAY self.now }
         requires early { self.now.c ≤ 2 ^ 63 + 2 ^ 20 }
         requires levels { (1 ≤ levels) × (levels ≤ 8) }
-        requires words { words.old ≡ words_tick delays.now self.now entry.now }
+        requires words { words.old ≡ words_tick delays.now.list self.now entry.now }
 
-        ensures address { result.a ≡ tick_a delays.now self.now entry.now }
-        ensures bus { words.new.bus ≡ bus_a delays.now self.now entry.now }
+        ensures address { result.a ≡ tick_a delays.now.list self.now entry.now }
+        ensures bus { words.new.bus ≡ bus_a delays.now.list self.now entry.now }
         ensures awaited { words.new.awaited ≡ words.old.awaited }
-        ensures tick { result.p ≡ tick_p delays.now levels self.now entry.now }
-        ensures log { log.new ≡ log_after_reads delays.now
+        ensures tick { result.p ≡ tick_p delays.now.list levels self.now entry.now }
+        ensures log { log.new ≡ log_after_reads delays.now.list
             (side_asked self.now.past entry.now.side result.a) words.old.bus log.old }
     {
-        delays.shape();
         let a = self.address(entry, words);
         let y = side(&mut words.bus, log, delays, &self.past, entry.side, a);
         let p = prepared_at(levels, &self.past, a, y);
@@ -156,17 +155,16 @@ impl Front {
         requires tight { IsTight MOST_DELAY self.now }
         requires early { self.now.c ≤ 2 ^ 63 + 2 ^ 20 }
         requires levels { (1 ≤ levels) × (levels ≤ 8) }
-        requires address { formed.a ≡ tick_a delays.now self.now entry.now }
-        requires bus { words.old.bus ≡ bus_a delays.now self.now entry.now }
-        requires tick { formed.p ≡ tick_p delays.now levels self.now entry.now }
+        requires address { formed.a ≡ tick_a delays.now.list self.now entry.now }
+        requires bus { words.old.bus ≡ bus_a delays.now.list self.now entry.now }
+        requires tick { formed.p ≡ tick_p delays.now.list levels self.now entry.now }
 
-        ensures value { result.row ≡ row_of delays.now levels self.now entry.now }
-        ensures fills { result.fills ≡ fills_of_entry delays.now levels self.now entry.now }
-        ensures bus { words.new.bus ≡ (front_after_entry delays.now levels self.now entry.now).bus }
-        ensures log { log.new ≡ log_after_reads delays.now
-            (prepared_asked delays.now levels self.now entry.now) words.old.bus log.old }
+        ensures value { result.row ≡ row_of delays.now.list levels self.now entry.now }
+        ensures fills { result.fills ≡ fills_of_entry delays.now.list levels self.now entry.now }
+        ensures bus { words.new.bus ≡ (front_after_entry delays.now.list levels self.now entry.now).bus }
+        ensures log { log.new ≡ log_after_reads delays.now.list
+            (prepared_asked delays.now.list levels self.now entry.now) words.old.bus log.old }
     {
-        delays.shape();
         let Formed { a, p } = formed;
         words.answered = p;
         let fills = read_operands(words, log, delays, &self.past, entry, p);
@@ -212,10 +210,10 @@ fn side(
     requires early { a ≤ 2 ^ 64 - 512 }
     requires storage { IfSome word (λ w. 32 ≤ w) }
 
-    ensures value { result ≡ side_there delays.now past.now bus.old word a }
-    ensures after { bus.new ≡ bus_sided delays.now past.now bus.old word a }
+    ensures value { result ≡ side_there delays.now.list past.now bus.old word a }
+    ensures after { bus.new ≡ bus_sided delays.now.list past.now bus.old word a }
     ensures log { log.new
-        ≡ log_after_reads delays.now (side_asked past.now word a) bus.old log.old }
+        ≡ log_after_reads delays.now.list (side_asked past.now word a) bus.old log.old }
 {
     let Some(w) = word else {
         return 0;
@@ -260,13 +258,12 @@ fn read_operands(
     requires start { operands.old.answered ≡ p }
 
     ensures value { reading_of_fetch operands.new
-        ≡ operands_read delays.now past.now operands.old.bus entry.now.reads p }
-    ensures fills { result ≡ fills_of delays.now past.now operands.old.bus entry.now.reads.one p }
+        ≡ operands_read delays.now.list past.now operands.old.bus entry.now.reads p }
+    ensures fills { result ≡ fills_of delays.now.list past.now operands.old.bus entry.now.reads.one p }
     ensures log { log.new
-        ≡ log_after_reads delays.now
+        ≡ log_after_reads delays.now.list
         (runs_asked past.now entry.now.reads p) operands.old.bus log.old }
 {
-    delays.shape();
     let fills = read_run(operands, log, delays, past, entry.reads.one, p);
     operands.read_on(log, delays, past, entry.reads.two, p);
     fills
@@ -292,13 +289,12 @@ fn read_run(
     requires start { operands.old.answered ≡ p }
 
     ensures value { reading_of_fetch operands.new ≡
-        read_words delays.now past.now (reading_of_fetch operands.old) p run.first run.len }
-    ensures fills { result ≡ fills_of delays.now past.now operands.old.bus run p }
+        read_words delays.now.list past.now (reading_of_fetch operands.old) p run.first run.len }
+    ensures fills { result ≡ fills_of delays.now.list past.now operands.old.bus run p }
     ensures log { log.new
-        ≡ log_after_reads delays.now
+        ≡ log_after_reads delays.now.list
         (operands_asked past.now p run.first run.len) operands.old.bus log.old }
 {
-    delays.shape();
     if run.len == 0 {
         return [0, 0];
     }
@@ -322,12 +318,11 @@ fn follow(bus: &mut Bus, log: &mut Log, delays: &Delays, entry: &Entry, p: u64)
     requires entry { IsEntryInTime entry.now }
     requires room { IsBusWithin (2 ^ 64 - 1024) bus.old }
     requires early { p ≤ 2 ^ 64 - 1024 }
-    ensures after { bus.new ≡ bus_followed delays.now bus.old entry.now p }
+    ensures after { bus.new ≡ bus_followed delays.now.list bus.old entry.now p }
     ensures log { log.new
-        ≡ log_after_reads delays.now
-        (following_asked delays.now bus.old entry.now p) bus.old log.old }
+        ≡ log_after_reads delays.now.list
+        (following_asked delays.now.list bus.old entry.now p) bus.old log.old }
 {
-    delays.shape();
     if !entry.follows {
         return;
     }
@@ -341,8 +336,8 @@ fn follow(bus: &mut Bus, log: &mut Log, delays: &Delays, entry: &Entry, p: u64)
 fn request_inside(bus: &mut Bus, log: &mut Log, delays: &Delays, w: u32, p: u64)
     requires room { IsBusWithin (2 ^ 64 - 512) bus.old }
     requires early { p ≤ 2 ^ 64 - 512 }
-    ensures after { bus.new ≡ request_inside_of delays.now bus.old w p }
-    ensures log { log.new ≡ log_after_reads delays.now (inside_asked bus.old w p) bus.old log.old }
+    ensures after { bus.new ≡ request_inside_of delays.now.list bus.old w p }
+    ensures log { log.new ≡ log_after_reads delays.now.list (inside_asked bus.old w p) bus.old log.old }
 {
     if w >= WORDS {
         return;

@@ -28,10 +28,10 @@ impl Fetching {
         requires early { p ≤ 2 ^ 64 - 512 }
         requires storage { 32 ≤ w }
 
-        ensures value { result ≡ fill_at delays.now past.now self.old.bus w p }
-        ensures after { reading_of_fetch self.new ≡ read_word delays.now past.now
+        ensures value { result ≡ fill_at delays.now.list past.now self.old.bus w p }
+        ensures after { reading_of_fetch self.new ≡ read_word delays.now.list past.now
             (reading_of_fetch self.old) w p }
-        ensures log { log.new ≡ log_after_reads delays.now
+        ensures log { log.new ≡ log_after_reads delays.now.list
             (data_asked past.now w p) self.old.bus log.old }
     {
         let done = past.latest_done(w);
@@ -61,11 +61,10 @@ impl Fetching {
         requires few { run.len ≤ 16 }
 
         ensures value { reading_of_fetch self.new
-            ≡ read_words delays.now past.now (reading_of_fetch self.old) p run.first run.len }
-        ensures log { log.new ≡ log_after_reads delays.now
+            ≡ read_words delays.now.list past.now (reading_of_fetch self.old) p run.first run.len }
+        ensures log { log.new ≡ log_after_reads delays.now.list
             (operands_asked past.now p run.first run.len) self.old.bus log.old }
     {
-        delays.shape();
         let mut w = run.first;
         let mut left = run.len;
         'words: while left > 0 {
