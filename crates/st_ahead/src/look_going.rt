@@ -20,12 +20,12 @@ impl<const N: usize> Lookahead<N> {
         requires some { 1 ≤ N }
         requires few { N ≤ 8 }
         requires early { last < 2 ^ 63 }
-        requires going { Reaches delays.now N last state.now self.old }
+        requires going { Reaches delays.now.list N last state.now self.old }
 
         // What becomes levels.
         ensures goes { (t : Option ℕ) (f : FrontOf) (since : ℕ) →
-            GoesUpTo delays.now N since last t state.now f self.old →
-            HasGone delays.now N since last t state.now f self.new result }
+            GoesUpTo delays.now.list N since last t state.now f self.old →
+            HasGone delays.now.list N since last t state.now f self.new result }
         ensures before { count self.old ≤ N }
         ensures few { count self.new ≤ N }
     {
@@ -79,11 +79,11 @@ impl<const N: usize> Lookahead<N> {
         requires few { N ≤ 8 }
         requires early { last < 2 ^ 63 }
         requires due { due ≡ due_of self.old.levels.plans }
-        requires going { Reaches delays.now N last state.now self.old }
+        requires going { Reaches delays.now.list N last state.now self.old }
 
         ensures going { (t : Option ℕ) (f : FrontOf) (tick : ℕ) →
-            IsGoing delays.now N tick tick t state.now f self.old →
-            IsGoing delays.now N tick due t state.now f self.new }
+            IsGoing delays.now.list N tick tick t state.now f self.old →
+            IsGoing delays.now.list N tick due t state.now f self.new }
         ensures levels { self.new.levels ≡ self.old.levels }
     {
         if self.next.planned {
@@ -107,17 +107,16 @@ impl<const N: usize> Lookahead<N> {
         requires some { 1 ≤ N }
         requires few { N ≤ 8 }
         requires early { now < 2 ^ 63 }
-        requires going { Goes delays.now N now (now + 1) state.now self.old }
+        requires going { Goes delays.now.list N now (now + 1) state.now self.old }
         requires planned { self.old.next.planned ≡ true }
         requires due { self.old.next.formed.p ≡ now }
 
         ensures going { (t : Option ℕ) (f : FrontOf) →
-            IsGoing delays.now N now (now + 1) t state.now f self.old →
-            IsGoing delays.now N now now t state.now f self.new }
+            IsGoing delays.now.list N now (now + 1) t state.now f self.old →
+            IsGoing delays.now.list N now now t state.now f self.new }
         ensures count { count self.new ≡ count self.old + 1 }
         ensures few { count self.new ≤ N }
     {
-        delays.shape();
         self.next.prepare(self.levels.index(), state);
         let filled = self.front.fill(
             delays,

@@ -49,17 +49,16 @@ impl<const N: usize> Lookahead<N> {
         requires early { last < 2 ^ 63 }
         requires count { count ≤ 2 ^ 63 }
         requires done { state.old.done < 2 ^ 63 }
-        requires starts { Starts delays.now N last taken.old state.old self.old }
+        requires starts { Starts delays.now.list N last taken.old state.old self.old }
 
         ensures { (f : FrontOf) (now : ℕ) →
-            IsLook delays.now N (now - 1) now taken.old state.old f self.old → now ≤ last →
+            IsLook delays.now.list N (now - 1) now taken.old state.old f self.old → now ≤ last →
             IsAwake taken.old state.old →
-            HasRunTo delays.now N count last now taken.old state.old f taken.new state.new
+            HasRunTo delays.now.list N count last now taken.old state.old f taken.new state.new
             self.new result
             × (rows.new ≡ queue_with (rows_in_ticks (ticks_run last now result)
-            (machine_between_ticks delays.now N state.old taken.old f now)) rows.old) }
+            (machine_between_ticks delays.now.list N state.old taken.old f now)) rows.old) }
     {
-        delays.shape();
         'entries: loop {
             let Some(tick) = self.go_to(last, state, delays) else {
                 self.fill(state, last);

@@ -16,10 +16,10 @@ impl<const N: usize> Lookahead<N> {
         requires some { 1 ≤ N }
         requires few { N ≤ 8 }
         requires early { now < 2 ^ 63 }
-        requires going { Reaches delays.now N now state.now self.old }
+        requires going { Reaches delays.now.list N now state.now self.old }
         ensures { (t : Option ℕ) (f : FrontOf) →
-            IsLook delays.now N now now t state.now f self.old →
-            IsLook delays.now N now (now + 1) t state.now f self.new }
+            IsLook delays.now.list N now now t state.now f self.old →
+            IsLook delays.now.list N now (now + 1) t state.now f self.new }
     {
         if self.is_prepared_behind(now) {
             return;
@@ -41,12 +41,11 @@ impl<const N: usize> Lookahead<N> {
         requires some { 1 ≤ N }
         requires few { N ≤ 8 }
         requires early { now < 2 ^ 63 }
-        requires going { Reaches delays.now N now state.now self.old }
+        requires going { Reaches delays.now.list N now state.now self.old }
         ensures { (t : Option ℕ) (f : FrontOf) →
-            IsLook delays.now N now now t state.now f self.old →
-            IsLook delays.now N now (now + 1) t state.now f self.new }
+            IsLook delays.now.list N now now t state.now f self.old →
+            IsLook delays.now.list N now (now + 1) t state.now f self.new }
     {
-        delays.shape();
         self.go_to(now, state, delays);
         self.fill(state, now);
     }

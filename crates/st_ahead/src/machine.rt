@@ -35,10 +35,10 @@ impl<const N: usize> Model for Machine<N> {
 
     ghost Value = { Overlap };
 
-    ghost view = { λ a. overlap_of N a.delays a.state a.taken a.behind a.now a.owed a.ended
+    ghost view = { λ a. overlap_of N a.delays.list a.state a.taken a.behind a.now a.owed a.ended
         a.stopped a.fresh a.look };
 
-    ghost invariant = { λ a. IsInside (overlap_of N a.delays a.state a.taken a.behind a.now a.owed
+    ghost invariant = { λ a. IsInside (overlap_of N a.delays.list a.state a.taken a.behind a.now a.owed
         a.ended a.stopped a.fresh a.look) a.fresh a.look };
 }
 
@@ -61,7 +61,7 @@ impl<const N: usize> Machine<N> {
         requires waiting { state.waiting ≡ false }
 
         // The machine, whose words are those of storage.
-        ensures value { result ≡ machine_at_start delays N state }
+        ensures value { result ≡ machine_at_start delays.list N state }
         ensures machine { IsMachine state }
     {
         let look = Lookahead::new(&state, None, LastAnswers::new(), 0);
@@ -89,7 +89,6 @@ impl<const N: usize> Machine<N> {
         ensures event { IsEvent self.old result }
         ensures after { self.new ≡ machine_after_tick self.old }
     {
-        self.delays.shape();
         let now = self.now;
         let done = self.look.tick(&mut self.state, now);
         let number = done_in(&self.state);
@@ -127,7 +126,6 @@ impl<const N: usize> Machine<N> {
         ensures rows { rows.new ≡ queue_with
             (rows_in_ticks (ticks_passed last self.old.now result) self.old) rows.old }
     {
-        self.delays.shape();
         let now = self.now;
         if now > last {
             return None;
@@ -276,7 +274,6 @@ impl<const N: usize> Machine<N> {
         ensures dropped { result ≡ drop_count self.old }
         ensures after { self.new ≡ machine_after_segment self.old }
     {
-        self.delays.shape();
         if self.ended {
             return 0;
         }
@@ -341,7 +338,6 @@ impl<const N: usize> Machine<N> {
         requires turn { MaySignal self.old }
         ensures { self.new ≡ signalled_by i self.old }
     {
-        self.delays.shape();
         self.state.signal(i);
     }
 
@@ -388,7 +384,6 @@ impl<const N: usize> Machine<N> {
         ensures dropped { result ≡ drop_count self.old }
         ensures after { self.new ≡ machine_after_segment self.old }
     {
-        self.delays.shape();
         if self.ended {
             return 0;
         }
@@ -423,7 +418,6 @@ impl<const N: usize> Machine<N> {
         ensures { IfSome self.old.state.reader (λ order. self.new
             ≡ read_in_by order.word None self.old) }
     {
-        self.delays.shape();
         st_exec::read_in(&mut self.state, None);
     }
 
@@ -449,7 +443,6 @@ impl<const N: usize> Machine<N> {
             ≡ words_from self.old.state order.word 8) }
         ensures after { self.new ≡ printed_by self.old }
     {
-        self.delays.shape();
         st_exec::print_out(&mut self.state)
     }
 
@@ -458,7 +451,6 @@ impl<const N: usize> Machine<N> {
         ensures levels { AreLevelsOf self.entry.now result.now }
         ensures few { length result.now ≤ 8 }
     {
-        self.delays.shape();
         self.look.ring()
     }
 
@@ -466,7 +458,6 @@ impl<const N: usize> Machine<N> {
     pub fn index(&self) -> &[u64; 16]
         ensures { result.now ≡ lent_index_words self.entry.now }
     {
-        self.delays.shape();
         self.look.index()
     }
 
@@ -515,7 +506,6 @@ impl<const N: usize> Machine<N> {
         ensures eight { length (view_at_tick self.entry.now).levels ≡ 8 }
     {
         let tick = self.last_tick();
-        self.delays.shape();
         self.look.level(k, tick)
     }
 

@@ -171,9 +171,9 @@ impl Next {
         requires storage { 32 ≤ w }
         ensures words { self.new ≡ record self.old {
           words =
-              fetch_word delays.now front.now.past self.old.words w from;
+              fetch_word delays.now.list front.now.past self.old.words w from;
         } }
-        ensures log { log.new ≡ log_after_reads delays.now (word_asked
+        ensures log { log.new ≡ log_after_reads delays.now.list (word_asked
             (tick_of self.old.words.bus.held.words w) w
             (max (max from self.old.words.answered) self.old.words.awaited))
             self.old.words.bus log.old }
@@ -188,10 +188,10 @@ impl Next {
         requires room { IsEarly front.now self.old.words }
         requires storage { 32 ≤ w }
         ensures next { self.new ≡ record self.old {
-          words = fetch_word delays.now front.now.past self.old.words w (wanted_from front.now);
+          words = fetch_word delays.now.list front.now.past self.old.words w (wanted_from front.now);
           own = with_word_of self.old.own w;
         } }
-        ensures log { log.new ≡ log_after_reads delays.now (word_asked
+        ensures log { log.new ≡ log_after_reads delays.now.list (word_asked
             (tick_of self.old.words.bus.held.words w) w
             (max (max (wanted_from front.now) self.old.words.answered) self.old.words.awaited))
             self.old.words.bus log.old }
@@ -207,11 +207,11 @@ impl Next {
         requires room { IsEarly front.now self.old.words }
         requires storage { 32 ≤ w }
         ensures next { self.new ≡ record self.old {
-          words = fetch_word delays.now front.now.past self.old.words w
+          words = fetch_word delays.now.list front.now.past self.old.words w
               (max (wanted_from front.now) front.now.c);
           target = with_word_of self.old.target w;
         } }
-        ensures log { log.new ≡ log_after_reads delays.now (word_asked
+        ensures log { log.new ≡ log_after_reads delays.now.list (word_asked
             (tick_of self.old.words.bus.held.words w) w
             (max (max (max (wanted_from front.now) front.now.c) self.old.words.answered)
             self.old.words.awaited)) self.old.words.bus log.old }
@@ -250,13 +250,13 @@ impl Next {
     ) -> bool
         requires known { max self.old.words.awaited (if front.now.serial then front.now.c else 0)
             < due →
-            IsKnown delays.now levels (due - 1) front.now x.now state.now self.old }
+            IsKnown delays.now.list levels (due - 1) front.now x.now state.now self.old }
         requires front { IsFrontInTime levels front.now }
         requires unplanned { self.old.planned ≡ false }
 
-        ensures next { GoesOnTo delays.now levels
+        ensures next { GoesOnTo delays.now.list levels
             (due - 1) front.now x.now state.now self.old self.new due }
-        ensures further { IsReadFurther delays.now front.now self.old self.new log.old log.new }
+        ensures further { IsReadFurther delays.now.list front.now self.old self.new log.old log.new }
         ensures planned { result ≡ self.new.planned }
         ensures still { due ≤ max self.old.words.awaited
             (if front.now.serial then front.now.c else 0) →
@@ -286,15 +286,15 @@ impl Next {
         delays: &Delays,
         log: &mut Log,
     ) -> bool
-        requires known { IsKnown delays.now levels (due - 1) front.now x.now state.now self.old }
+        requires known { IsKnown delays.now.list levels (due - 1) front.now x.now state.now self.old }
         requires front { IsFrontInTime levels front.now }
         requires unplanned { self.old.planned ≡ false }
         requires soon { self.old.words.awaited < due }
 
-        ensures next { GoesOnTo delays.now levels
+        ensures next { GoesOnTo delays.now.list levels
             (due - 1) front.now x.now state.now self.old self.new
             (if result then 0 else due) }
-        ensures further { IsReadFurther delays.now front.now self.old self.new log.old log.new }
+        ensures further { IsReadFurther delays.now.list front.now self.old self.new log.old log.new }
         ensures unplanned { self.new.planned ≡ false }
         ensures prepared { result ≡ true → IsPreparedBy (due - 1) x.now state.now self.new }
     {
@@ -314,17 +314,16 @@ impl Next {
         delays: &Delays,
         log: &mut Log,
     )
-        requires known { IsKnown delays.now levels (due - 1) front.now x.now state.now self.old }
+        requires known { IsKnown delays.now.list levels (due - 1) front.now x.now state.now self.old }
         requires front { IsFrontInTime levels front.now }
         requires unplanned { self.old.planned ≡ false }
         requires soon { self.old.words.awaited < due }
 
-        ensures next { GoesOnTo delays.now levels
+        ensures next { GoesOnTo delays.now.list levels
             (due - 1) front.now x.now state.now self.old self.new 0 }
-        ensures further { IsReadFurther delays.now front.now self.old self.new log.old log.new }
+        ensures further { IsReadFurther delays.now.list front.now self.old self.new log.old log.new }
         ensures unplanned { self.new.planned ≡ false }
     {
-        delays.shape();
         let _ = (due, levels);
         if self.own.len != 0 || self.target.len != 0 {
             return;
@@ -351,18 +350,17 @@ impl Next {
         delays: &Delays,
         log: &mut Log,
     ) -> bool
-        requires known { IsKnown delays.now levels (due - 1) front.now x.now state.now self.old }
+        requires known { IsKnown delays.now.list levels (due - 1) front.now x.now state.now self.old }
         requires front { IsFrontInTime levels front.now }
         requires unplanned { self.old.planned ≡ false }
 
-        ensures next { GoesOnTo delays.now levels
+        ensures next { GoesOnTo delays.now.list levels
             (due - 1) front.now x.now state.now self.old self.new
             (if result then 0 else due) }
-        ensures further { IsReadFurther delays.now front.now self.old self.new log.old log.new }
+        ensures further { IsReadFurther delays.now.list front.now self.old self.new log.old log.new }
         ensures unplanned { self.new.planned ≡ false }
         ensures prepared { result ≡ true → IsPreparedBy (due - 1) x.now state.now self.new }
     {
-        delays.shape();
         'words: loop {
             if self.words.awaited >= due {
                 return false;

@@ -1,5 +1,5 @@
 use Rattle.std.proofs.Common.{◌+◌, refl, arith}
-use Rattle.st_rows.proofs.Within.{AreDelays-list}
+use Rattle.st_rows.proofs.Within.{delays-are}
 use Rattle.st_ahead.proofs.Gone.{gone-on, oldest-late}
 use Rattle.st_ahead.proofs.Settling.{look-goes}
 use Rattle.st_ahead.proofs.look.Lookahead.go_further.Goals as goal
@@ -7,11 +7,11 @@ use Rattle.st_ahead.proofs.Laws.{looks_are_levels}
 
 pub returns : goal.returns
 returns g c = λ t f h.
-    let ds = c.args.delays.now in
+    let ds = c.args.delays.now.list in
     let n = g.row.N in
     let s = c.args.state.now in
     let now = c.args.now in
-    let are = AreDelays-list ds c.shape.ensures in
+    let are = delays-are c.args.delays.now in
     let v = c.args.self.now in
     let late = oldest-late ds n now now t s f v c.requires.some are (omega arith) h
     (looks_are_levels ds n now now t s f v c.requires.some c.requires.few are (omega arith) c.go_to.ensures.before h) in

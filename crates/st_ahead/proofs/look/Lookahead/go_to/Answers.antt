@@ -9,7 +9,7 @@ entries-init g c = record { going = c.requires.going; each = λ t f since is. is
 
 pub push-requires : goal.push-requires
 push-requires g c =
-    let ds = c.args.delays.now in
+    let ds = c.args.delays.now.list in
     let n = g.row.N in
     let s = c.args.state.now in
     let goes = c.entries.invariant.going in
@@ -40,7 +40,7 @@ push-requires g c =
 
 pub entries-preserved : goal.entries-preserved
 entries-preserved g c =
-    let ds = c.args.delays.now in
+    let ds = c.args.delays.now.list in
     let n = g.row.N in
     let s = c.args.state.now in
     let goes = c.entries.invariant.going in
@@ -82,7 +82,7 @@ entries-smaller g c = omega (arith, c.push.ensures.count, c.push.ensures.few, ap
 
 pub returns-then-not-is_next_before-clause-goes : goal.returns-then-not-is_next_before-clause-goes
 returns-then-not-is_next_before-clause-goes g c = λ t f since given.
-    let ds = c.args.delays.now in
+    let ds = c.args.delays.now.list in
     let n = g.row.N in
     let s = c.args.state.now in
     let old = c.entries.invariant.each t f since given in

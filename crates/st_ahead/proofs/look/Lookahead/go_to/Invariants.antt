@@ -7,8 +7,8 @@ use Rattle.st_ahead.proofs.look.Lookahead.go_to.Given as goal
 -- it goes on as it did, and no level is taken away
 abbrev pub invariant-entries : goal.invariant-entries
 invariant-entries g l = record {
-  going : Reaches l.delays g.row.N l.last l.state l.self;
-  each : (t : Option ℕ) (f : Front) (since : ℕ) → GoesUpTo l.delays g.row.N since l.last t l.state f l.fn.self → GoesUpTo l.delays g.row.N since l.last t l.state f l.self;
+  going : Reaches l.delays.list g.row.N l.last l.state l.self;
+  each : (t : Option ℕ) (f : Front) (since : ℕ) → GoesUpTo l.delays.list g.row.N since l.last t l.state f l.fn.self → GoesUpTo l.delays.list g.row.N since l.last t l.state f l.self;
   grows : count l.fn.self ≤ count l.self;
 }
 

@@ -13,7 +13,7 @@ use Rattle.st_ahead.proofs.Laws.{next_entries_are_known, open_levels_run_ahead}
 
 pub returns-then-self-clause-going : goal.returns-then-self-clause-going
 returns-then-self-clause-going g c = λ t f tick given.
-    let ds = c.args.delays.now in
+    let ds = c.args.delays.now.list in
     let n = g.row.N in
     let s = c.args.state.now in
     let view : LookView = record { levels = c.self.inside.levels; front = c.self.inside.front; log = c.self.inside.log; next = c.self.inside.next } in
@@ -23,7 +23,7 @@ returns-then-self-clause-going g c = λ t f tick given.
 
 pub plan_before-requires-clause-known : goal.plan_before-requires-clause-known
 plan_before-requires-clause-known g c = λ waits.
-    let ds = c.args.delays.now in
+    let ds = c.args.delays.now.list in
     let n = g.row.N in
     let s = c.args.state.now in
     let due = c.args.due in
@@ -44,7 +44,7 @@ plan_before-requires-clause-known g c = λ waits.
 
 pub plan_before-requires-clause-front : goal.plan_before-requires-clause-front
 plan_before-requires-clause-front g c =
-    let ds = c.args.delays.now in
+    let ds = c.args.delays.now.list in
     let n = g.row.N in
     let s = c.args.state.now in
     let t = c.requires.going.table in
@@ -57,7 +57,7 @@ plan_before-requires-clause-front g c =
 
 pub returns-clause-going : goal.returns-clause-going
 returns-clause-going g c = λ t f tick given.
-    let ds = c.args.delays.now in
+    let ds = c.args.delays.now.list in
     let n = g.row.N in
     let s = c.args.state.now in
     let due = c.args.due in

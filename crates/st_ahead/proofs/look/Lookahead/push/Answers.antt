@@ -10,7 +10,7 @@ use Rattle.st_rows.specs.declared.fetching.Fetching.{Fetching}
 use Rattle.st_rows.specs.declared.front.Front.{Front}
 use Rattle.st_rows.specs.declared.front.EntryTicks.{EntryTicks}
 use Rattle.st_rows.specs.declared.front.Formed.{Formed}
-use Rattle.st_rows.proofs.Within.{AreDelays-list}
+use Rattle.st_rows.proofs.Within.{delays-are}
 use Rattle.st_segment.specs.Entries.{entry}
 use Rattle.st_segment.specs.Guesses.{guesses, table_behind}
 use Rattle.st_ring.specs.Levels.{AreAhead}
@@ -32,7 +32,7 @@ begun b = record { bus = b; answered = 0; awaited = 0 }
 
 pub prepare-requires-clause-ready : goal.prepare-requires-clause-ready
 prepare-requires-clause-ready g c =
-    let ds = c.args.delays.now in
+    let ds = c.args.delays.now.list in
     let n = g.row.N in
     let now = c.args.now in
     let t = c.requires.going.table in
@@ -43,7 +43,7 @@ prepare-requires-clause-ready g c =
     let planned : view.next.planned ≡ true = ap (λ (w : LookView). w.next.planned) c.self.view_is ∙ c.requires.planned in
     let due : view.next.formed.p ≡ now = ap (λ (w : LookView). w.next.formed.p) c.self.view_is ∙ c.requires.due in
     let becomes = planned_entries_become_levels ds n now t s f view c.requires.some c.requires.few
-    (AreDelays-list ds c.shape.ensures) c.index.ensures.few c.requires.early is planned due in
+    (delays-are c.args.delays.now) c.index.ensures.few c.requires.early is planned due in
     let u = guesses (count view) t s in
     record {
       delays = ds;
@@ -60,7 +60,7 @@ prepare-requires-clause-ready g c =
 -- the front before it is that of the planned entry still, and preparing leaves the entry and its ticks
 pub fill-filled-requires : goal.fill-filled-requires
 fill-filled-requires g c =
-    let ds = c.args.delays.now in
+    let ds = c.args.delays.now.list in
     let n = g.row.N in
     let now = c.args.now in
     let t = c.requires.going.table in
@@ -71,7 +71,7 @@ fill-filled-requires g c =
     let planned : view.next.planned ≡ true = ap (λ (w : LookView). w.next.planned) c.self.view_is ∙ c.requires.planned in
     let due : view.next.formed.p ≡ now = ap (λ (w : LookView). w.next.formed.p) c.self.view_is ∙ c.requires.due in
     let becomes = planned_entries_become_levels ds n now t s f view c.requires.some c.requires.few
-    (AreDelays-list ds c.shape.ensures) c.index.ensures.few c.requires.early is planned due in
+    (delays-are c.args.delays.now) c.index.ensures.few c.requires.early is planned due in
     let entry_is : c.prepare.new.self.entry ≡ view.next.entry = ap (λ (next : Next). next.entry) c.prepare.ensures.rest in
     let formed_is : c.prepare.new.self.formed ≡ view.next.formed = ap (λ (next : Next). next.formed) c.prepare.ensures.rest in
     let words_are : c.prepare.new.self.words ≡ view.next.words = ap (λ (next : Next). next.words) c.prepare.ensures.rest in
@@ -87,7 +87,7 @@ fill-filled-requires g c =
 
 pub push-requires : goal.push-requires
 push-requires g c =
-    let ds = c.args.delays.now in
+    let ds = c.args.delays.now.list in
     let n = g.row.N in
     let now = c.args.now in
     let t = c.requires.going.table in
@@ -98,11 +98,11 @@ push-requires g c =
     let planned : view.next.planned ≡ true = ap (λ (w : LookView). w.next.planned) c.self.view_is ∙ c.requires.planned in
     let due : view.next.formed.p ≡ now = ap (λ (w : LookView). w.next.formed.p) c.self.view_is ∙ c.requires.due in
     let becomes = planned_entries_become_levels ds n now t s f view c.requires.some c.requires.few
-    (AreDelays-list ds c.shape.ensures) c.index.ensures.few c.requires.early is planned due in (omega arith, (becomes.room, c.prepare.ensures.ranges))
+    (delays-are c.args.delays.now) c.index.ensures.few c.requires.early is planned due in (omega arith, (becomes.room, c.prepare.ensures.ranges))
 
 pub returns-clause-going : goal.returns-clause-going
 returns-clause-going g c = λ t f given.
-    let ds = c.args.delays.now in
+    let ds = c.args.delays.now.list in
     let n = g.row.N in
     let now = c.args.now in
     let s = c.args.state.now in
@@ -110,7 +110,7 @@ returns-clause-going g c = λ t f given.
     let is = subst (λ (w : LookView). IsGoing ds n now (now + 1) t s f w) (sym c.self.view_is) given in
     let planned : view.next.planned ≡ true = ap (λ (w : LookView). w.next.planned) c.self.view_is ∙ c.requires.planned in
     let due : view.next.formed.p ≡ now = ap (λ (w : LookView). w.next.formed.p) c.self.view_is ∙ c.requires.due in
-    let are = AreDelays-list ds c.shape.ensures in
+    let are = delays-are c.args.delays.now in
     let becomes = planned_entries_become_levels ds n now t s f view c.requires.some c.requires.few
     are c.index.ensures.few c.requires.early is planned due in
     let k = table_behind (count view) t in

@@ -7,7 +7,7 @@ use Rattle.st_prep.specs.Plan.{plan}
 use Rattle.st_exec.specs.Completion.{guess}
 use Rattle.st_exec.specs.Step.{interrupt, rests}
 use Rattle.st_rows.specs.Rows.{row_of_entry, front_after_entry}
-use Rattle.st_rows.proofs.Within.{AreDelays-list}
+use Rattle.st_rows.proofs.Within.{delays-are}
 use Rattle.st_segment.specs.Entries.{entry}
 use Rattle.st_segment.proofs.GuessLemmas.{guess-machine}
 use Rattle.st_next.specs.declared.next.Next.{Next}
@@ -30,7 +30,7 @@ use Rattle.st_ring.proofs.OrderLemmas.{after-c}
 pub entries-init : goal.entries-init
 entries-init g c = record {
   each = λ f now h soon awake.
-      noting-starts c.args.delays.now g.row.N c.args.count c.args.last now c.args.taken.now c.args.state.now f c.args.self.now c.args.rows.now h soon awake;
+      noting-starts c.args.delays.now.list g.row.N c.args.count c.args.last now c.args.taken.now c.args.state.now f c.args.self.now c.args.rows.now h soon awake;
   done = c.requires.done;
 }
 
@@ -65,11 +65,11 @@ complete-done-requires g c =
 
 pub returns-in_default : goal.returns-in_default
 returns-in_default g c = λ f now h soon awake.
-    let ds = c.args.delays.now in
+    let ds = c.args.delays.now.list in
     let n = g.row.N in
     let k = c.entries.taken in
     let u = c.entries.state in
-    let are = AreDelays-list ds c.shape.ensures in
+    let are = delays-are c.args.delays.now in
     let last = c.args.last in
     let noting = c.entries.invariant.each f now h soon awake in
     let run = noting.run in
@@ -85,11 +85,11 @@ returns-in_default g c = λ f now h soon awake.
 
 pub entries-preserved : goal.entries-preserved
 entries-preserved g c =
-    let ds = c.args.delays.now in
+    let ds = c.args.delays.now.list in
     let n = g.row.N in
     let k = c.entries.taken in
     let u = c.entries.state in
-    let are = AreDelays-list ds c.shape.ensures in
+    let are = delays-are c.args.delays.now in
     let starts = c.requires.starts in
     let run = (c.entries.invariant.each starts.front starts.now starts.look starts.soon starts.awake).run in
     let goes = c.is_stopped.ensures.goes c.if-is_stopped.false in
@@ -114,11 +114,11 @@ entries-preserved g c =
 
 pub entries-smaller : goal.entries-smaller
 entries-smaller g c =
-    let ds = c.args.delays.now in
+    let ds = c.args.delays.now.list in
     let n = g.row.N in
     let k = c.entries.taken in
     let u = c.entries.state in
-    let are = AreDelays-list ds c.shape.ensures in
+    let are = delays-are c.args.delays.now in
     let starts = c.requires.starts in
     let run = (c.entries.invariant.each starts.front starts.now starts.look starts.soon starts.awake).run in
     let at = c.in-Some.ensures.goes k run.front run.tick (record { tick = run.tick; going = run.going; behind = omega arith; soon = run.soon }) in
@@ -134,11 +134,11 @@ entries-smaller g c =
 
 pub returns-then-is_stopped : goal.returns-then-is_stopped
 returns-then-is_stopped g c = λ f now h soon awake.
-    let ds = c.args.delays.now in
+    let ds = c.args.delays.now.list in
     let n = g.row.N in
     let k = c.entries.taken in
     let u = c.entries.state in
-    let are = AreDelays-list ds c.shape.ensures in
+    let are = delays-are c.args.delays.now in
     let noting = c.entries.invariant.each f now h soon awake in
     let run = noting.run in
     let at = c.in-Some.ensures.goes k run.front run.tick (record { tick = run.tick; going = run.going; behind = omega arith; soon = run.soon }) in

@@ -8,8 +8,8 @@ use Rattle.st_ahead.proofs.look.Lookahead.run_to.Given as goal
 -- ticks are passed so far
 abbrev pub invariant-entries : goal.invariant-entries
 invariant-entries g l = record {
-  each : (f : Front) (now : ℕ) → IsLook l.delays g.row.N (now - 1) now l.fn.taken l.fn.state f l.fn.self → now ≤ l.last → IsAwake l.fn.taken l.fn.state
-      → IsNoting l.delays g.row.N l.count l.last now l.fn.taken l.fn.state f l.taken l.state l.self l.fn.rows l.rows;
+  each : (f : Front) (now : ℕ) → IsLook l.delays.list g.row.N (now - 1) now l.fn.taken l.fn.state f l.fn.self → now ≤ l.last → IsAwake l.fn.taken l.fn.state
+      → IsNoting l.delays.list g.row.N l.count l.last now l.fn.taken l.fn.state f l.taken l.state l.self l.fn.rows l.rows;
   done : l.state.done < 2 ^ 63;
 }
 

@@ -1,6 +1,6 @@
 use Rattle.std.specs.Prelude.{get_or}
 use Rattle.std.proofs.Common.{◌≡◌, ◌≤◌, length, None, ap, subst, ◌∙◌, sym, arith}
-use Rattle.st_rows.proofs.Within.{AreDelays-list}
+use Rattle.st_rows.proofs.Within.{delays-are}
 use Rattle.st_ahead.specs.Overlap.{Overlap, state_ahead, last_tick_made}
 use Rattle.st_ahead.specs.Look.{count}
 use Rattle.st_ahead.specs.Shown.{view_at_tick}
@@ -14,10 +14,10 @@ pub returns-clause-value : goal.returns-clause-value
 returns-clause-value g c =
     let n = g.row.N in
     let i = c.self.inside in
-    let m = overlap_of n i.delays i.state i.taken i.behind i.now i.owed i.ended i.stopped i.fresh i.look in
-    let look = look-inside i.stopped n i.delays i.state i.taken i.behind i.now i.owed i.ended i.fresh i.look c.self.invariant in
-    let is = showing m i.look look (looks_are_levels i.delays n (last_tick_made m) i.now i.taken (state_ahead m) m.front i.look
-    c.self.invariant.some c.self.invariant.few (AreDelays-list i.delays c.shape.ensures) (soon-last i.owed i.now) c.level.ensures.few look) in
+    let m = overlap_of n i.delays.list i.state i.taken i.behind i.now i.owed i.ended i.stopped i.fresh i.look in
+    let look = look-inside i.stopped n i.delays.list i.state i.taken i.behind i.now i.owed i.ended i.fresh i.look c.self.invariant in
+    let is = showing m i.look look (looks_are_levels i.delays.list n (last_tick_made m) i.now i.taken (state_ahead m) m.front i.look
+    c.self.invariant.some c.self.invariant.few (delays-are i.delays) (soon-last i.owed i.now) c.level.ensures.few look) in
     let tick = c.last_tick-tick.ensures ∙ ap (λ (x : Overlap). last_tick_made x) (sym c.self.view_is) in
     subst (λ (x : Overlap). c.level.result ≡ get_or (view_at_tick x).levels c.args.k None) c.self.view_is
     (c.level.ensures.value ∙ ap (λ t. kept_at t i.look.levels.ring i.look.levels.plans c.args.k) tick ∙ showing-level m i.look c.args.k is)
@@ -26,10 +26,10 @@ pub returns-clause-eight : goal.returns-clause-eight
 returns-clause-eight g c =
     let n = g.row.N in
     let i = c.self.inside in
-    let m = overlap_of n i.delays i.state i.taken i.behind i.now i.owed i.ended i.stopped i.fresh i.look in
-    let look = look-inside i.stopped n i.delays i.state i.taken i.behind i.now i.owed i.ended i.fresh i.look c.self.invariant in
-    let is = showing m i.look look (looks_are_levels i.delays n (last_tick_made m) i.now i.taken (state_ahead m) m.front i.look
-    c.self.invariant.some c.self.invariant.few (AreDelays-list i.delays c.shape.ensures) (soon-last i.owed i.now) c.level.ensures.few look) in
+    let m = overlap_of n i.delays.list i.state i.taken i.behind i.now i.owed i.ended i.stopped i.fresh i.look in
+    let look = look-inside i.stopped n i.delays.list i.state i.taken i.behind i.now i.owed i.ended i.fresh i.look c.self.invariant in
+    let is = showing m i.look look (looks_are_levels i.delays.list n (last_tick_made m) i.now i.taken (state_ahead m) m.front i.look
+    c.self.invariant.some c.self.invariant.few (delays-are i.delays) (soon-last i.owed i.now) c.level.ensures.few look) in
     let most : count i.look ≤ n = c.level.ensures.few in
     let few : n ≤ 8 = c.self.invariant.few in
     subst (λ (x : Overlap). length (view_at_tick x).levels ≡ 8) c.self.view_is (showing-eight m i.look is (omega (arith, most, few)))

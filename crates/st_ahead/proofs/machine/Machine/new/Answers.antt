@@ -5,11 +5,11 @@ use Rattle.st_ahead.proofs.Standing.{started-inside}
 use Rattle.st_ahead.proofs.machine.Machine.new.Goals as goal
 
 pub invariant_of-result : goal.invariant_of-result
-invariant_of-result g c = (started-inside g.row.N c.args.delays c.args.state c.new-look.result c.requires.some c.requires.few c.new-look.ensures.machine
+invariant_of-result g c = (started-inside g.row.N c.args.delays.list c.args.state c.new-look.result c.requires.some c.requires.few c.new-look.ensures.machine
     c.requires.enabled c.requires.waiting
     (subst (λ (ticks : List ℕ). IsOpened None c.args.state (opening_front (record { ticks = ticks }) 0) c.new-look.result) c.new.ensures c.new-look.ensures.opened)).0
 
 pub returns-clause-value : goal.returns-clause-value
-returns-clause-value g c = (started-inside g.row.N c.args.delays c.args.state c.new-look.result c.requires.some c.requires.few c.new-look.ensures.machine
+returns-clause-value g c = (started-inside g.row.N c.args.delays.list c.args.state c.new-look.result c.requires.some c.requires.few c.new-look.ensures.machine
     c.requires.enabled c.requires.waiting
     (subst (λ (ticks : List ℕ). IsOpened None c.args.state (opening_front (record { ticks = ticks }) 0) c.new-look.result) c.new.ensures c.new-look.ensures.opened)).1

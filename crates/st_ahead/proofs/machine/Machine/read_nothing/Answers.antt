@@ -1,7 +1,7 @@
 use Rattle.std.specs.Prelude.{IsSome, IfSome}
 use Rattle.std.proofs.Common.{◌≡◌, inr, None, sym, subst}
 use Rattle.st_state.specs.Machine.{Machine}
-use Rattle.st_rows.proofs.Within.{AreDelays-list}
+use Rattle.st_rows.proofs.Within.{delays-are}
 use Rattle.st_ahead.specs.Overlap.{Overlap}
 use Rattle.st_ahead.specs.Calls.{MayServe, read_in_by}
 use Rattle.st_ahead.specs.Inside.{overlap_of}
@@ -17,16 +17,16 @@ invariant_of-self g c =
     let i = c.self.inside in
     let some = subst (λ (m : Overlap). IsSome m.state.reader) (sym c.self.view_is) c.requires.order in
     let may = subst MayServe (sym c.self.view_is) c.requires.turn in
-    signal-inside i.stopped n i.delays i.state c.read_in.new.state i.taken i.behind i.now i.owed i.ended i.fresh i.look c.self.invariant
+    signal-inside i.stopped n i.delays.list i.state c.read_in.new.state i.taken i.behind i.now i.owed i.ended i.fresh i.look c.self.invariant
     (inr (may.0, may.1)) c.read_in.ensures.after
     (no_card-alike i.state c.read_in.new.state i.state.reader (orders_are_passed_over.no_card i.state) some c.read_in.ensures.state)
-    (λ x y f look late done m alike. signals_leave_looks.look i.delays n i.now i.now x y f i.look
-    c.self.invariant.some c.self.invariant.few (AreDelays-list i.delays c.shape.ensures) look late done m alike)
+    (λ x y f look late done m alike. signals_leave_looks.look i.delays.list n i.now i.now x y f i.look
+    c.self.invariant.some c.self.invariant.few (delays-are i.delays) look late done m alike)
 
 pub returns : goal.returns
 returns g c =
     let n = g.row.N in
     let i = c.self.inside in
-    subst (λ (m : Overlap). IfSome m.state.reader (λ order. overlap_of n i.delays c.read_in.new.state i.taken i.behind i.now i.owed i.ended i.stopped i.fresh i.look ≡ read_in_by order.word None m))
+    subst (λ (m : Overlap). IfSome m.state.reader (λ order. overlap_of n i.delays.list c.read_in.new.state i.taken i.behind i.now i.owed i.ended i.stopped i.fresh i.look ≡ read_in_by order.word None m))
     c.self.view_is
-    (with-read i.state.reader None i.state c.read_in.new.state (λ (u : Machine). overlap_of n i.delays u i.taken i.behind i.now i.owed i.ended i.stopped i.fresh i.look) c.read_in.ensures.state)
+    (with-read i.state.reader None i.state c.read_in.new.state (λ (u : Machine). overlap_of n i.delays.list u i.taken i.behind i.now i.owed i.ended i.stopped i.fresh i.look) c.read_in.ensures.state)

@@ -1,5 +1,5 @@
 use Rattle.std.proofs.Common.{length, subst, sym, ap, arith}
-use Rattle.st_rows.proofs.Within.{AreDelays-list}
+use Rattle.st_rows.proofs.Within.{delays-are}
 use Rattle.st_ring.specs.declared.level.Level.{Level}
 use Rattle.std.specs.Prelude.{List}
 use Rattle.st_ahead.specs.Overlap.{Overlap, state_ahead, last_tick_made}
@@ -13,10 +13,10 @@ pub returns-clause-levels : goal.returns-clause-levels
 returns-clause-levels g c =
     let n = g.row.N in
     let i = c.self.inside in
-    let m = overlap_of n i.delays i.state i.taken i.behind i.now i.owed i.ended i.stopped i.fresh i.look in
-    let look = look-inside i.stopped n i.delays i.state i.taken i.behind i.now i.owed i.ended i.fresh i.look c.self.invariant in
-    let is = showing m i.look look (looks_are_levels i.delays n (last_tick_made m) i.now i.taken (state_ahead m) m.front i.look
-    c.self.invariant.some c.self.invariant.few (AreDelays-list i.delays c.shape.ensures) (soon-last i.owed i.now) c.ring.ensures.few look) in
+    let m = overlap_of n i.delays.list i.state i.taken i.behind i.now i.owed i.ended i.stopped i.fresh i.look in
+    let look = look-inside i.stopped n i.delays.list i.state i.taken i.behind i.now i.owed i.ended i.fresh i.look c.self.invariant in
+    let is = showing m i.look look (looks_are_levels i.delays.list n (last_tick_made m) i.now i.taken (state_ahead m) m.front i.look
+    c.self.invariant.some c.self.invariant.few (delays-are i.delays) (soon-last i.owed i.now) c.ring.ensures.few look) in
     subst (λ (x : Overlap). AreLevelsOf x c.ring.result.now) c.self.view_is
     (subst (λ (levels : List Level). AreLevelsOf m levels) (sym c.ring.ensures.levels) (showing-ring m i.look is))
 

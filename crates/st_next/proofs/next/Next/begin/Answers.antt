@@ -1,6 +1,6 @@
 use Rattle.std.proofs.Common.{refl, sym, ◌∙◌, ap, arith}
 use Rattle.st_prep.specs.declared.entries.Fetching.TheVariants.{Next}
-use Rattle.st_rows.proofs.Within.{AreDelays-list}
+use Rattle.st_rows.proofs.Within.{delays-are}
 use Rattle.st_next.proofs.Steps.{own-goes}
 use Rattle.st_next.proofs.Asking.{known-early, known-place, own-above, own-asks, further-nothing}
 use Rattle.st_next.proofs.next.Next.begin.Goals as goal
@@ -13,7 +13,7 @@ given-requires-clause-place c = known-place _ _ _ _ _ _ _ c.requires.unplanned c
 
 pub ask_own-requires-clause-room : goal.ask_own-requires-clause-room
 ask_own-requires-clause-room c =
-    known-early _ _ _ _ _ _ _ c.requires.unplanned c.requires.known (AreDelays-list c.args.delays.now c.shape.ensures) c.requires.front
+    known-early _ _ _ _ _ _ _ c.requires.unplanned c.requires.known (delays-are c.args.delays.now) c.requires.front
 
 pub ask_own-requires-clause-storage : goal.ask_own-requires-clause-storage
 ask_own-requires-clause-storage c =
