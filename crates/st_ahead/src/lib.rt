@@ -10,6 +10,7 @@ mod look_shown;
 mod look_steps;
 mod look_tick;
 mod machine;
+mod present;
 mod row_queue;
 
 pub use events::{Event, LevelView, Row, Settled, View};

@@ -7,17 +7,17 @@ ghost use Rattle.st_ahead.specs.Running.{IsAwake};
 
 use crate::events::Row;
 use crate::look::Lookahead;
+use crate::present::Present;
 use crate::row_queue::RowQueue;
 use st_banks::Delays;
 use st_exec::{interrupt, is_at_rest};
 use st_ring::Completed;
 use st_state::{State, is_due};
 
-/// How a machine runs on by itself: by these delays of reads, until `count` instructions are done,
-/// 2^63 at most, and up to the tick `last`, below 2^63.
+/// How far a machine runs on by itself: until `count` instructions are done, 2^63 at most, and up
+/// to the tick `last`, below 2^63.
 #[derive(Clone, Copy)]
-pub struct Course<'a> {
-    pub delays: &'a Delays,
+pub struct Limits {
     pub count: u64,
     pub last: u64,
     pub ghost most: { count ≤ 2 ^ 63 },
@@ -39,51 +39,46 @@ impl<const N: usize> Lookahead<N> {
     ghost use Rattle.st_ahead.specs.Running.{Starts, HasRunTo, ticks_run};
     ghost use Rattle.st_ahead.specs.RowsDone.{queue_with, rows_in_ticks};
 
-    /// Makes ticks and goes on behind each, up to the last one of its course, until an entry is
-    /// done behind which something may come: as many instructions are done by then as the course
-    /// has, an order is due, or the next decision is not that it goes on. The result is what was
+    /// Makes ticks and goes on behind each, up to the last one of its limits, until an entry is
+    /// done behind which something may come: as many instructions are done by then as the limits
+    /// say, an order is due, or the next decision is not that it goes on. The result is what was
     /// done, with its tick. The rows of those that are done before it wait, as far as there is
-    /// room. `taken` is the indicator whose table instruction comes next. Fewer than 2^63
-    /// instructions are done.
+    /// room. Fewer than 2^63 instructions are done.
     #[inline(never)]
     pub fn run_to(
         &mut self,
-        course: &Course<'_>,
-        taken: &mut Option<u8>,
-        state: &mut State,
+        limits: Limits,
+        present: &mut Present,
         rows: &mut RowQueue,
+        delays: &Delays,
     ) -> Option<Stop>
         requires some { 1 ≤ N }
         requires few { N ≤ 8 }
-        requires done { state.old.done < 2 ^ 63 }
-        requires starts { let x = course.now in
-            Starts x.delays.now.list N x.last taken.old state.old self.old }
+        requires done { present.old.state.done < 2 ^ 63 }
+        requires starts { let x = present.old in
+            Starts delays.now.list N limits.last x.taken x.state self.old }
 
-        ensures { let x = course.now in let ds = x.delays.now.list in (f : FrontOf) (now : ℕ) →
-            IsLook ds N (now - 1) now taken.old state.old f self.old → now ≤ x.last →
-            IsAwake taken.old state.old →
-            HasRunTo ds N x.count x.last now taken.old state.old f taken.new state.new
-            self.new result
-            × (rows.new ≡ queue_with (rows_in_ticks (ticks_run x.last now result)
-            (machine_between_ticks ds N state.old taken.old f now)) rows.old) }
+        ensures { (f : FrontOf) (now : ℕ) → let x = present.old in let y = present.new in
+            let ds = delays.now.list in let last = limits.last in
+            IsLook ds N (now - 1) now x.taken x.state f self.old → now ≤ last →
+            IsAwake x.taken x.state →
+            HasRunTo ds N limits.count last now x.taken x.state f y.taken y.state self.new result
+            × (rows.new ≡ queue_with (rows_in_ticks (ticks_run last now result)
+            (machine_between_ticks ds N x.state x.taken f now)) rows.old) }
     {
-        let Course {
-            delays,
-            count,
-            last,
-        } = *course;
+        let Limits { count, last } = limits;
         'entries: loop {
-            let Some(tick) = self.go_to(last, state, delays) else {
-                self.fill(state, last);
+            let Some(tick) = self.go_to(last, &present.state, delays) else {
+                self.fill(&present.state, last);
                 return None;
             };
-            let done = self.complete(state);
-            *taken = None;
-            if is_stopped(&done, state, count) {
-                self.fill(state, tick);
+            let done = self.complete(&mut present.state);
+            present.taken = None;
+            if is_stopped(&done, &present.state, count) {
+                self.fill(&present.state, tick);
                 return Some(Stop { done, tick });
             }
-            rows.put(row_of(&done, tick, state));
+            rows.put(row_of(&done, tick, &present.state));
         }
     }
 }

@@ -3,7 +3,8 @@ ghost use Rattle.std.specs.Prelude.{◌≡◌, ◌<◌, ◌≤◌, ◌^◌, true
 
 use crate::events::{Event, LevelView, Row, Settled, View};
 use crate::look::Lookahead;
-use crate::look_run::Course;
+use crate::look_run::Limits;
+use crate::present::Present;
 use crate::row_queue::RowQueue;
 use st_banks::{Delays, LastAnswers};
 use st_exec::is_at_rest;
@@ -18,8 +19,7 @@ use std::marker::Model;
 #[derive(Drop)]
 pub struct Machine<const N: usize> {
     delays: Delays,
-    state: State,
-    taken: Option<u8>,
+    present: Present,
     behind: Option<u32>,
     now: u64,
     owed: bool,
@@ -36,11 +36,11 @@ impl<const N: usize> Model for Machine<N> {
 
     ghost Value = { Overlap };
 
-    ghost view = { λ a. overlap_of N a.delays.list a.state a.taken a.behind a.now a.owed a.ended
-        a.stopped a.fresh a.look };
+    ghost view = { λ a. overlap_of N a.delays.list a.present.state a.present.taken a.behind a.now
+        a.owed a.ended a.stopped a.fresh a.look };
 
-    ghost invariant = { λ a. IsInside (overlap_of N a.delays.list a.state a.taken a.behind a.now a.owed
-        a.ended a.stopped a.fresh a.look) a.fresh a.look };
+    ghost invariant = { λ a. IsInside (overlap_of N a.delays.list a.present.state a.present.taken
+        a.behind a.now a.owed a.ended a.stopped a.fresh a.look) a.fresh a.look };
 }
 
 impl<const N: usize> Machine<N> {
@@ -68,8 +68,7 @@ impl<const N: usize> Machine<N> {
         let look = Lookahead::new(&state, None, LastAnswers::new(), 0);
         Machine {
             delays,
-            state,
-            taken: None,
+            present: Present { state, taken: None },
             behind: None,
             now: 0,
             owed: false,
@@ -91,13 +90,13 @@ impl<const N: usize> Machine<N> {
         ensures after { self.new ≡ machine_after_tick self.old }
     {
         let now = self.now;
-        let done = self.look.tick(&mut self.state, now);
-        let number = done_in(&self.state);
+        let done = self.look.tick(&mut self.present.state, now);
+        let number = done_in(&self.present.state);
         self.owed = true;
         let Some(done) = done else {
             return Event::Passed;
         };
-        self.taken = None;
+        self.present.taken = None;
         self.behind = done.missed;
         self.fresh = true;
         Event::Done(Row {
@@ -131,15 +130,11 @@ impl<const N: usize> Machine<N> {
         if now > last {
             return None;
         }
-        let course = Course {
-            delays: &self.delays,
-            count,
-            last,
-        };
+        let limits = Limits { count, last };
         let stop = self
             .look
-            .run_to(&course, &mut self.taken, &mut self.state, rows);
-        let number = done_in(&self.state);
+            .run_to(limits, &mut self.present, rows, &self.delays);
+        let number = done_in(&self.present.state);
         let Some(stop) = stop else {
             self.now = last + 1;
             return None;
@@ -199,7 +194,7 @@ impl<const N: usize> Machine<N> {
             return;
         }
         let now = self.now;
-        self.look.go_on(now, &self.state, &self.delays);
+        self.look.go_on(now, &self.present.state, &self.delays);
         self.owed = false;
         self.fresh = false;
         self.now += 1;
@@ -238,17 +233,17 @@ impl<const N: usize> Machine<N> {
         ensures value { result ≡ interrupt_due_of self.entry.now }
         ensures bound { IfSome result (λ i. i < 64) }
     {
-        if self.taken.is_some() {
+        if self.present.taken.is_some() {
             return None;
         }
-        st_exec::interrupt(&self.state)
+        st_exec::interrupt(&self.present.state)
     }
 
     // Whether the machine waits, and nothing is pending.
     fn is_resting(&self) -> bool
         ensures { result ≡ rests self.entry.now.state }
     {
-        is_at_rest(&self.state)
+        is_at_rest(&self.present.state)
     }
 
     // Whether a branch was missed at this tick.
@@ -279,7 +274,7 @@ impl<const N: usize> Machine<N> {
             return 0;
         }
         let now = self.now;
-        let dropped = self.look.end(&self.state, None, now);
+        let dropped = self.look.end(&self.present.state, None, now);
         self.ended = true;
         dropped
     }
@@ -296,11 +291,11 @@ impl<const N: usize> Machine<N> {
         ensures after { self.new ≡ machine_after_settling self.old }
     {
         let dropped = self.end();
-        let place = place_of(&self.state, Some(indicator));
-        let done = done_in(&self.state);
-        let ic = counter_of(&self.state);
+        let place = place_of(&self.present.state, Some(indicator));
+        let done = done_in(&self.present.state);
+        let ic = counter_of(&self.present.state);
         self.look.stand(place);
-        self.taken = Some(indicator);
+        self.present.taken = Some(indicator);
         self.behind = None;
         self.owed = false;
         self.ended = false;
@@ -339,7 +334,7 @@ impl<const N: usize> Machine<N> {
         requires turn { MaySignal self.old }
         ensures { self.new ≡ signalled_by i self.old }
     {
-        self.state.signal(i);
+        self.present.state.signal(i);
     }
 
     /// Ends the segment at the end of a run, at the tick whose settle is owed. The result is the
@@ -389,7 +384,9 @@ impl<const N: usize> Machine<N> {
             return 0;
         }
         let now = self.now;
-        let dropped = self.look.give_up(&self.state, self.taken, now);
+        let dropped = self
+            .look
+            .give_up(&self.present.state, self.present.taken, now);
         self.ended = true;
         dropped
     }
@@ -419,7 +416,7 @@ impl<const N: usize> Machine<N> {
         ensures { IfSome self.old.state.reader (λ order. self.new
             ≡ read_in_by order.word None self.old) }
     {
-        st_exec::read_in(&mut self.state, None);
+        st_exec::read_in(&mut self.present.state, None);
     }
 
     // The order of the reader takes effect with a card, where the segment has ended.
@@ -433,7 +430,7 @@ impl<const N: usize> Machine<N> {
                   (Some card);
             }) }
     {
-        st_exec::read_in(&mut self.state, Some(card));
+        st_exec::read_in(&mut self.present.state, Some(card));
     }
 
     /// The order of the printer takes effect; its eight words are the result.
@@ -444,7 +441,7 @@ impl<const N: usize> Machine<N> {
             ≡ words_from self.old.state order.word 8) }
         ensures after { self.new ≡ printed_by self.old }
     {
-        st_exec::print_out(&mut self.state)
+        st_exec::print_out(&mut self.present.state)
     }
 
     /// The levels, oldest first.
@@ -497,7 +494,7 @@ impl<const N: usize> Machine<N> {
     fn done(&self) -> u64
         ensures { result ≡ self.entry.now.state.done }
     {
-        done_in(&self.state)
+        done_in(&self.present.state)
     }
 
     // Level k, counted from the oldest, as it is shown; none behind the last one. There is room for
@@ -514,7 +511,7 @@ impl<const N: usize> Machine<N> {
     pub fn state(&self) -> &State
         ensures { result.now ≡ self.entry.now.state }
     {
-        &self.state
+        &self.present.state
     }
 }
 

@@ -17,7 +17,7 @@ go_on-requires g c =
     let i = c.self.inside in
     let owes = subst (λ (m : Overlap). m.owed ≡ true) (sym c.self.view_is) c.requires.owed in
     let right = subst (λ (m : Overlap). m.behind ≡ None) (sym c.self.view_is) c.requires.right in
-    let both = going-look i.stopped g.row.N i.delays.list i.state i.taken i.behind i.now i.owed i.ended i.fresh i.look c.self.invariant owes c.if-self.false right in
+    let both = going-look i.stopped g.row.N i.delays.list i.present.state i.present.taken i.behind i.now i.owed i.ended i.fresh i.look c.self.invariant owes c.if-self.false right in
     let f = oldest_front i.look.levels.plans i.look.front in (
       omega arith,
       (
@@ -27,10 +27,10 @@ go_on-requires g c =
           (
             both.1,
             record {
-              table = i.taken;
+              table = i.present.taken;
               front = f;
               since = i.now;
-              goes = record { tick = i.now; going = look-goes i.delays.list g.row.N i.now i.taken i.state f i.look both.0; behind = omega arith; soon = omega arith };
+              goes = record { tick = i.now; going = look-goes i.delays.list g.row.N i.now i.present.taken i.present.state f i.look both.0; behind = omega arith; soon = omega arith };
             },
           ),
         ),
@@ -42,7 +42,7 @@ overflow_add-self g c =
     let i = c.self.inside in
     let owes = subst (λ (m : Overlap). m.owed ≡ true) (sym c.self.view_is) c.requires.owed in
     let right = subst (λ (m : Overlap). m.behind ≡ None) (sym c.self.view_is) c.requires.right in
-    let both = going-look i.stopped g.row.N i.delays.list i.state i.taken i.behind i.now i.owed i.ended i.fresh i.look c.self.invariant owes c.if-self.false right in
+    let both = going-look i.stopped g.row.N i.delays.list i.present.state i.present.taken i.behind i.now i.owed i.ended i.fresh i.look c.self.invariant owes c.if-self.false right in
     let early : i.now < 2 ^ 63 = both.1 in
     omega (arith, early)
 
@@ -53,14 +53,14 @@ invariant_of-self g c =
     let w = c.go_on.new.self in
     let owes = subst (λ (m : Overlap). m.owed ≡ true) (sym c.self.view_is) c.requires.owed in
     let right = subst (λ (m : Overlap). m.behind ≡ None) (sym c.self.view_is) c.requires.right in
-    let both = going-look i.stopped n i.delays.list i.state i.taken i.behind i.now i.owed i.ended i.fresh i.look c.self.invariant owes c.if-self.false right in
+    let both = going-look i.stopped n i.delays.list i.present.state i.present.taken i.behind i.now i.owed i.ended i.fresh i.look c.self.invariant owes c.if-self.false right in
     let f = oldest_front i.look.levels.plans i.look.front in
-    let look = c.go_on.ensures i.taken f both.0 in
-    (go-inside i.stopped n i.delays.list i.state i.taken i.behind i.now i.owed i.ended i.fresh i.look w c.self.invariant
+    let look = c.go_on.ensures i.present.taken f both.0 in
+    (go-inside i.stopped n i.delays.list i.present.state i.present.taken i.behind i.now i.owed i.ended i.fresh i.look w c.self.invariant
     (subst (λ (m : Overlap). m.stopped ≡ false) (sym c.self.view_is) c.requires.stands) owes c.if-self.false right
     (subst (λ (m : Overlap). interrupt_due m ≡ None) (sym c.self.view_is) c.requires.due)
     (subst (λ (m : Overlap). rests m.state ≡ false) (sym c.self.view_is) c.requires.goes)
-    look (levels_are_the_entries_ahead.oldest i.delays.list n i.now i.taken i.state f w.front w.levels look.ahead)).0
+    look (levels_are_the_entries_ahead.oldest i.delays.list n i.now i.present.taken i.present.state f w.front w.levels look.ahead)).0
 
 pub returns : goal.returns
 returns g c =
@@ -69,12 +69,12 @@ returns g c =
     let w = c.go_on.new.self in
     let owes = subst (λ (m : Overlap). m.owed ≡ true) (sym c.self.view_is) c.requires.owed in
     let right = subst (λ (m : Overlap). m.behind ≡ None) (sym c.self.view_is) c.requires.right in
-    let both = going-look i.stopped n i.delays.list i.state i.taken i.behind i.now i.owed i.ended i.fresh i.look c.self.invariant owes c.if-self.false right in
+    let both = going-look i.stopped n i.delays.list i.present.state i.present.taken i.behind i.now i.owed i.ended i.fresh i.look c.self.invariant owes c.if-self.false right in
     let f = oldest_front i.look.levels.plans i.look.front in
-    let look = c.go_on.ensures i.taken f both.0 in
-    subst (λ (m : Overlap). overlap_of n i.delays.list i.state i.taken i.behind (i.now + 1) false i.ended i.stopped false w ≡ machine_after_pass m) c.self.view_is
-    (go-inside i.stopped n i.delays.list i.state i.taken i.behind i.now i.owed i.ended i.fresh i.look w c.self.invariant
+    let look = c.go_on.ensures i.present.taken f both.0 in
+    subst (λ (m : Overlap). overlap_of n i.delays.list i.present.state i.present.taken i.behind (i.now + 1) false i.ended i.stopped false w ≡ machine_after_pass m) c.self.view_is
+    (go-inside i.stopped n i.delays.list i.present.state i.present.taken i.behind i.now i.owed i.ended i.fresh i.look w c.self.invariant
     (subst (λ (m : Overlap). m.stopped ≡ false) (sym c.self.view_is) c.requires.stands) owes c.if-self.false right
     (subst (λ (m : Overlap). interrupt_due m ≡ None) (sym c.self.view_is) c.requires.due)
     (subst (λ (m : Overlap). rests m.state ≡ false) (sym c.self.view_is) c.requires.goes)
-    look (levels_are_the_entries_ahead.oldest i.delays.list n i.now i.taken i.state f w.front w.levels look.ahead)).1
+    look (levels_are_the_entries_ahead.oldest i.delays.list n i.now i.present.taken i.present.state f w.front w.levels look.ahead)).1

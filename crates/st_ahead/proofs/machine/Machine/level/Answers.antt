@@ -14,9 +14,9 @@ pub returns-clause-value : goal.returns-clause-value
 returns-clause-value g c =
     let n = g.row.N in
     let i = c.self.inside in
-    let m = overlap_of n i.delays.list i.state i.taken i.behind i.now i.owed i.ended i.stopped i.fresh i.look in
-    let look = look-inside i.stopped n i.delays.list i.state i.taken i.behind i.now i.owed i.ended i.fresh i.look c.self.invariant in
-    let is = showing m i.look look (looks_are_levels i.delays.list n (last_tick_made m) i.now i.taken (state_ahead m) m.front i.look
+    let m = overlap_of n i.delays.list i.present.state i.present.taken i.behind i.now i.owed i.ended i.stopped i.fresh i.look in
+    let look = look-inside i.stopped n i.delays.list i.present.state i.present.taken i.behind i.now i.owed i.ended i.fresh i.look c.self.invariant in
+    let is = showing m i.look look (looks_are_levels i.delays.list n (last_tick_made m) i.now i.present.taken (state_ahead m) m.front i.look
     c.self.invariant.some c.self.invariant.few (delays-are i.delays) (soon-last i.owed i.now) c.level.ensures.few look) in
     let tick = c.last_tick-tick.ensures ∙ ap (λ (x : Overlap). last_tick_made x) (sym c.self.view_is) in
     subst (λ (x : Overlap). c.level.result ≡ get_or (view_at_tick x).levels c.args.k None) c.self.view_is
@@ -26,9 +26,9 @@ pub returns-clause-eight : goal.returns-clause-eight
 returns-clause-eight g c =
     let n = g.row.N in
     let i = c.self.inside in
-    let m = overlap_of n i.delays.list i.state i.taken i.behind i.now i.owed i.ended i.stopped i.fresh i.look in
-    let look = look-inside i.stopped n i.delays.list i.state i.taken i.behind i.now i.owed i.ended i.fresh i.look c.self.invariant in
-    let is = showing m i.look look (looks_are_levels i.delays.list n (last_tick_made m) i.now i.taken (state_ahead m) m.front i.look
+    let m = overlap_of n i.delays.list i.present.state i.present.taken i.behind i.now i.owed i.ended i.stopped i.fresh i.look in
+    let look = look-inside i.stopped n i.delays.list i.present.state i.present.taken i.behind i.now i.owed i.ended i.fresh i.look c.self.invariant in
+    let is = showing m i.look look (looks_are_levels i.delays.list n (last_tick_made m) i.now i.present.taken (state_ahead m) m.front i.look
     c.self.invariant.some c.self.invariant.few (delays-are i.delays) (soon-last i.owed i.now) c.level.ensures.few look) in
     let most : count i.look ≤ n = c.level.ensures.few in
     let few : n ≤ 8 = c.self.invariant.few in

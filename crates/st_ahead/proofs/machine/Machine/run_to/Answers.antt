@@ -38,7 +38,7 @@ run_to-stop-requires g c =
     let i = c.self.inside in
     let owes = subst (λ (m : Overlap). m.owed ≡ false) (sym c.self.view_is) c.requires.settled in
     let few = subst (λ (m : Overlap). m.state.done < 2 ^ 63) (sym c.self.view_is) c.requires.done in
-    let at = idle i.stopped n i.delays.list i.state i.taken i.behind i.now i.owed i.ended i.fresh i.look c.self.invariant owes in (
+    let at = idle i.stopped n i.delays.list i.present.state i.present.taken i.behind i.now i.owed i.ended i.fresh i.look c.self.invariant owes in (
       omega arith,
       (
         c.self.invariant.some,
@@ -51,7 +51,7 @@ run_to-stop-requires g c =
               now = i.now;
               look = at.look;
               soon = omega (arith, c.if-now-last.false);
-              awake = awake-inside i.stopped n i.delays.list i.state i.taken i.behind i.now i.owed i.ended i.fresh i.look c.self.invariant owes;
+              awake = awake-inside i.stopped n i.delays.list i.present.state i.present.taken i.behind i.now i.owed i.ended i.fresh i.look c.self.invariant owes;
             },
           ),
         ),
@@ -66,12 +66,12 @@ invariant_of-self g c =
     let w = c.run_to-stop.new.self in
     let f = oldest_front v.levels.plans v.front in
     let owes = subst (λ (m : Overlap). m.owed ≡ false) (sym c.self.view_is) c.requires.settled in
-    let at = idle i.stopped n i.delays.list i.state i.taken i.behind i.now i.owed i.ended i.fresh v c.self.invariant owes in
-    let awake = awake-inside i.stopped n i.delays.list i.state i.taken i.behind i.now i.owed i.ended i.fresh v c.self.invariant owes in
-    let by = subst (λ (x : Option Stop). HasRunTo i.delays.list n c.args.count c.args.last i.now i.taken i.state f c.run_to-stop.new.taken c.run_to-stop.new.state w x) c.in_default.is
+    let at = idle i.stopped n i.delays.list i.present.state i.present.taken i.behind i.now i.owed i.ended i.fresh v c.self.invariant owes in
+    let awake = awake-inside i.stopped n i.delays.list i.present.state i.present.taken i.behind i.now i.owed i.ended i.fresh v c.self.invariant owes in
+    let by = subst (λ (x : Option Stop). HasRunTo i.delays.list n c.args.count c.args.last i.now i.present.taken i.present.state f c.run_to-stop.new.present.taken c.run_to-stop.new.present.state w x) c.in_default.is
     (c.run_to-stop.ensures f i.now at.look (omega (arith, c.if-now-last.false)) awake).0 in
-    let front = levels_are_the_entries_ahead.oldest i.delays.list n c.args.last c.run_to-stop.new.taken c.run_to-stop.new.state by.front w.front w.levels by.look.ahead in
-    let all = passed-machine i.stopped n i.delays.list i.state c.run_to-stop.new.state i.taken c.run_to-stop.new.taken i.behind i.now c.args.last c.args.count i.owed i.ended i.fresh v w
+    let front = levels_are_the_entries_ahead.oldest i.delays.list n c.args.last c.run_to-stop.new.present.taken c.run_to-stop.new.present.state by.front w.front w.levels by.look.ahead in
+    let all = passed-machine i.stopped n i.delays.list i.present.state c.run_to-stop.new.present.state i.present.taken c.run_to-stop.new.present.taken i.behind i.now c.args.last c.args.count i.owed i.ended i.fresh v w
     c.self.invariant owes c.requires.last by front in
     all.0
 
@@ -83,14 +83,14 @@ returns-in_default-clause-runs g c =
     let w = c.run_to-stop.new.self in
     let f = oldest_front v.levels.plans v.front in
     let owes = subst (λ (m : Overlap). m.owed ≡ false) (sym c.self.view_is) c.requires.settled in
-    let at = idle i.stopped n i.delays.list i.state i.taken i.behind i.now i.owed i.ended i.fresh v c.self.invariant owes in
-    let awake = awake-inside i.stopped n i.delays.list i.state i.taken i.behind i.now i.owed i.ended i.fresh v c.self.invariant owes in
-    let by = subst (λ (x : Option Stop). HasRunTo i.delays.list n c.args.count c.args.last i.now i.taken i.state f c.run_to-stop.new.taken c.run_to-stop.new.state w x) c.in_default.is
+    let at = idle i.stopped n i.delays.list i.present.state i.present.taken i.behind i.now i.owed i.ended i.fresh v c.self.invariant owes in
+    let awake = awake-inside i.stopped n i.delays.list i.present.state i.present.taken i.behind i.now i.owed i.ended i.fresh v c.self.invariant owes in
+    let by = subst (λ (x : Option Stop). HasRunTo i.delays.list n c.args.count c.args.last i.now i.present.taken i.present.state f c.run_to-stop.new.present.taken c.run_to-stop.new.present.state w x) c.in_default.is
     (c.run_to-stop.ensures f i.now at.look (omega (arith, c.if-now-last.false)) awake).0 in
-    let front = levels_are_the_entries_ahead.oldest i.delays.list n c.args.last c.run_to-stop.new.taken c.run_to-stop.new.state by.front w.front w.levels by.look.ahead in
-    let all = passed-machine i.stopped n i.delays.list i.state c.run_to-stop.new.state i.taken c.run_to-stop.new.taken i.behind i.now c.args.last c.args.count i.owed i.ended i.fresh v w
+    let front = levels_are_the_entries_ahead.oldest i.delays.list n c.args.last c.run_to-stop.new.present.taken c.run_to-stop.new.present.state by.front w.front w.levels by.look.ahead in
+    let all = passed-machine i.stopped n i.delays.list i.present.state c.run_to-stop.new.present.state i.present.taken c.run_to-stop.new.present.taken i.behind i.now c.args.last c.args.count i.owed i.ended i.fresh v w
     c.self.invariant owes c.requires.last by front in
-    subst (λ (m : Overlap). ArePassed c.args.count (c.args.last + 1 - m.now) m (overlap_of n i.delays.list c.run_to-stop.new.state c.run_to-stop.new.taken i.behind (c.args.last + 1) i.owed i.ended i.stopped i.fresh w))
+    subst (λ (m : Overlap). ArePassed c.args.count (c.args.last + 1 - m.now) m (overlap_of n i.delays.list c.run_to-stop.new.present.state c.run_to-stop.new.present.taken i.behind (c.args.last + 1) i.owed i.ended i.stopped i.fresh w))
     c.self.view_is all.1
 
 pub invariant_of-self-2 : goal.invariant_of-self-2
@@ -101,18 +101,18 @@ invariant_of-self-2 g c =
     let w = c.run_to-stop.new.self in
     let f = oldest_front v.levels.plans v.front in
     let owes = subst (λ (m : Overlap). m.owed ≡ false) (sym c.self.view_is) c.requires.settled in
-    let at = idle i.stopped n i.delays.list i.state i.taken i.behind i.now i.owed i.ended i.fresh v c.self.invariant owes in
-    let awake = awake-inside i.stopped n i.delays.list i.state i.taken i.behind i.now i.owed i.ended i.fresh v c.self.invariant owes in
-    let by = subst (λ (x : Option Stop). HasRunTo i.delays.list n c.args.count c.args.last i.now i.taken i.state f c.run_to-stop.new.taken c.run_to-stop.new.state w x) c.in-Some.is
+    let at = idle i.stopped n i.delays.list i.present.state i.present.taken i.behind i.now i.owed i.ended i.fresh v c.self.invariant owes in
+    let awake = awake-inside i.stopped n i.delays.list i.present.state i.present.taken i.behind i.now i.owed i.ended i.fresh v c.self.invariant owes in
+    let by = subst (λ (x : Option Stop). HasRunTo i.delays.list n c.args.count c.args.last i.now i.present.taken i.present.state f c.run_to-stop.new.present.taken c.run_to-stop.new.present.state w x) c.in-Some.is
     (c.run_to-stop.ensures f i.now at.look (omega (arith, c.if-now-last.false)) awake).0 in
     let stop = c.in-Some.stop in
     let told = by.done_at in
     let front = levels_are_the_entries_ahead.oldest i.delays.list n stop.tick None (guess by.table by.state) (front_after_entry i.delays.list n by.front (entry by.table by.state)) w.front w.levels
     told.look.ahead in
-    let guessed = guess-seen by.table by.state c.run_to-stop.new.state (is_missed (plan by.state by.table) by.state) stop.done.missed refl told.state told.told.missed
+    let guessed = guess-seen by.table by.state c.run_to-stop.new.present.state (is_missed (plan by.state by.table) by.state) stop.done.missed refl told.state told.told.missed
     (steps_are_guesses.right by.table by.state by.machine by.indicator) (steps_are_guesses.missed by.table by.state by.machine by.indicator) in
     let counted = c.done_in-number.ensures ∙ ap (λ (m : Machine). m.done) told.state ∙ entries_count_as_one (plan by.state by.table) by.state in
-    let all = stopped-machine i.stopped n i.delays.list i.state c.run_to-stop.new.state i.taken c.run_to-stop.new.taken i.behind i.now c.args.last c.args.count stop.tick c.done_in-number.result
+    let all = stopped-machine i.stopped n i.delays.list i.present.state c.run_to-stop.new.present.state i.present.taken c.run_to-stop.new.present.taken i.behind i.now c.args.last c.args.count stop.tick c.done_in-number.result
     i.owed i.ended i.fresh v w stop.done c.self.invariant owes c.requires.last by front guessed counted in
     all.0
 
@@ -124,21 +124,21 @@ returns-clause-runs g c =
     let w = c.run_to-stop.new.self in
     let f = oldest_front v.levels.plans v.front in
     let owes = subst (λ (m : Overlap). m.owed ≡ false) (sym c.self.view_is) c.requires.settled in
-    let at = idle i.stopped n i.delays.list i.state i.taken i.behind i.now i.owed i.ended i.fresh v c.self.invariant owes in
-    let awake = awake-inside i.stopped n i.delays.list i.state i.taken i.behind i.now i.owed i.ended i.fresh v c.self.invariant owes in
-    let by = subst (λ (x : Option Stop). HasRunTo i.delays.list n c.args.count c.args.last i.now i.taken i.state f c.run_to-stop.new.taken c.run_to-stop.new.state w x) c.in-Some.is
+    let at = idle i.stopped n i.delays.list i.present.state i.present.taken i.behind i.now i.owed i.ended i.fresh v c.self.invariant owes in
+    let awake = awake-inside i.stopped n i.delays.list i.present.state i.present.taken i.behind i.now i.owed i.ended i.fresh v c.self.invariant owes in
+    let by = subst (λ (x : Option Stop). HasRunTo i.delays.list n c.args.count c.args.last i.now i.present.taken i.present.state f c.run_to-stop.new.present.taken c.run_to-stop.new.present.state w x) c.in-Some.is
     (c.run_to-stop.ensures f i.now at.look (omega (arith, c.if-now-last.false)) awake).0 in
     let stop = c.in-Some.stop in
     let told = by.done_at in
     let front = levels_are_the_entries_ahead.oldest i.delays.list n stop.tick None (guess by.table by.state) (front_after_entry i.delays.list n by.front (entry by.table by.state)) w.front w.levels
     told.look.ahead in
-    let guessed = guess-seen by.table by.state c.run_to-stop.new.state (is_missed (plan by.state by.table) by.state) stop.done.missed refl told.state told.told.missed
+    let guessed = guess-seen by.table by.state c.run_to-stop.new.present.state (is_missed (plan by.state by.table) by.state) stop.done.missed refl told.state told.told.missed
     (steps_are_guesses.right by.table by.state by.machine by.indicator) (steps_are_guesses.missed by.table by.state by.machine by.indicator) in
     let counted = c.done_in-number.ensures ∙ ap (λ (m : Machine). m.done) told.state ∙ entries_count_as_one (plan by.state by.table) by.state in
-    let all = stopped-machine i.stopped n i.delays.list i.state c.run_to-stop.new.state i.taken c.run_to-stop.new.taken i.behind i.now c.args.last c.args.count stop.tick c.done_in-number.result
+    let all = stopped-machine i.stopped n i.delays.list i.present.state c.run_to-stop.new.present.state i.present.taken c.run_to-stop.new.present.taken i.behind i.now c.args.last c.args.count stop.tick c.done_in-number.result
     i.owed i.ended i.fresh v w stop.done c.self.invariant owes c.requires.last by front guessed counted in
     subst (λ (m : Overlap). StopsAt c.args.count c.args.last (told_row c.done_in-number.result stop.done.address stop.done.p stop.done.r stop.tick) m
-    (overlap_of n i.delays.list c.run_to-stop.new.state c.run_to-stop.new.taken stop.done.missed stop.tick true i.ended i.stopped true w)) c.self.view_is all.1
+    (overlap_of n i.delays.list c.run_to-stop.new.present.state c.run_to-stop.new.present.taken stop.done.missed stop.tick true i.ended i.stopped true w)) c.self.view_is all.1
 
 pub returns-in_default-clause-rows : goal.returns-in_default-clause-rows
 returns-in_default-clause-rows g c =
@@ -147,14 +147,14 @@ returns-in_default-clause-rows g c =
     let v = i.look in
     let f = oldest_front v.levels.plans v.front in
     let owes = subst (λ (m : Overlap). m.owed ≡ false) (sym c.self.view_is) c.requires.settled in
-    let at = idle i.stopped n i.delays.list i.state i.taken i.behind i.now i.owed i.ended i.fresh v c.self.invariant owes in
-    let awake = awake-inside i.stopped n i.delays.list i.state i.taken i.behind i.now i.owed i.ended i.fresh v c.self.invariant owes in
-    let start = machine_between_ticks i.delays.list n i.state i.taken f i.now in
+    let at = idle i.stopped n i.delays.list i.present.state i.present.taken i.behind i.now i.owed i.ended i.fresh v c.self.invariant owes in
+    let awake = awake-inside i.stopped n i.delays.list i.present.state i.present.taken i.behind i.now i.owed i.ended i.fresh v c.self.invariant owes in
+    let start = machine_between_ticks i.delays.list n i.present.state i.present.taken f i.now in
     let old = c.args.rows.now in
     let noted = subst (λ (x : Option Stop). c.run_to-stop.new.rows ≡ queue_with (rows_in_ticks (ticks_run c.args.last i.now x) start) old) c.in_default.is
     (c.run_to-stop.ensures f i.now at.look (omega (arith, c.if-now-last.false)) awake).1 in
     let same : start ≡ c.args.self.now =
-    settled-between i.stopped n i.delays.list i.state i.taken i.behind i.now i.owed i.ended i.fresh v c.self.invariant owes ∙ c.self.view_is in
+    settled-between i.stopped n i.delays.list i.present.state i.present.taken i.behind i.now i.owed i.ended i.fresh v c.self.invariant owes ∙ c.self.view_is in
     subst (λ (m : Overlap). c.run_to-stop.new.rows ≡ queue_with (rows_in_ticks (c.args.last + 1 - m.now) m) old) same noted
 
 pub returns-clause-rows : goal.returns-clause-rows
@@ -164,12 +164,12 @@ returns-clause-rows g c =
     let v = i.look in
     let f = oldest_front v.levels.plans v.front in
     let owes = subst (λ (m : Overlap). m.owed ≡ false) (sym c.self.view_is) c.requires.settled in
-    let at = idle i.stopped n i.delays.list i.state i.taken i.behind i.now i.owed i.ended i.fresh v c.self.invariant owes in
-    let awake = awake-inside i.stopped n i.delays.list i.state i.taken i.behind i.now i.owed i.ended i.fresh v c.self.invariant owes in
-    let start = machine_between_ticks i.delays.list n i.state i.taken f i.now in
+    let at = idle i.stopped n i.delays.list i.present.state i.present.taken i.behind i.now i.owed i.ended i.fresh v c.self.invariant owes in
+    let awake = awake-inside i.stopped n i.delays.list i.present.state i.present.taken i.behind i.now i.owed i.ended i.fresh v c.self.invariant owes in
+    let start = machine_between_ticks i.delays.list n i.present.state i.present.taken f i.now in
     let old = c.args.rows.now in
     let noted = subst (λ (x : Option Stop). c.run_to-stop.new.rows ≡ queue_with (rows_in_ticks (ticks_run c.args.last i.now x) start) old) c.in-Some.is
     (c.run_to-stop.ensures f i.now at.look (omega (arith, c.if-now-last.false)) awake).1 in
     let same : start ≡ c.args.self.now =
-    settled-between i.stopped n i.delays.list i.state i.taken i.behind i.now i.owed i.ended i.fresh v c.self.invariant owes ∙ c.self.view_is in
+    settled-between i.stopped n i.delays.list i.present.state i.present.taken i.behind i.now i.owed i.ended i.fresh v c.self.invariant owes ∙ c.self.view_is in
     subst (λ (m : Overlap). c.run_to-stop.new.rows ≡ queue_with (rows_in_ticks (c.in-Some.stop.tick - m.now) m) old) same noted

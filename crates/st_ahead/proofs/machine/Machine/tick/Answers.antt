@@ -32,14 +32,14 @@ invariant_of-self g c =
     let f = oldest_front v.levels.plans v.front in
     let owes = subst (λ (m : Overlap). m.owed ≡ false) (sym c.self.view_is) c.requires.settled in
     let early = subst (λ (m : Overlap). m.now < 2 ^ 63) (sym c.self.view_is) c.requires.tick in
-    let at = idle i.stopped n i.delays.list i.state i.taken i.behind i.now i.owed i.ended i.fresh v c.self.invariant owes in
+    let at = idle i.stopped n i.delays.list i.present.state i.present.taken i.behind i.now i.owed i.ended i.fresh v c.self.invariant owes in
     let w = c.tick-done.new.self in
     let u = c.tick-done.new.state in
     let are = delays-are i.delays in
-    let by = subst (λ (x : Option Completed). IsTicked i.delays.list n i.now i.taken i.state f v u w x) c.in_default.is
-    (c.tick-done.ensures.ticked i.delays.list (i.now - 1) i.taken f c.self.invariant.some c.self.invariant.few are at.look (not-first i.now v.levels.ring at.look.prepared)) in
-    let all = passed-tick i.stopped n i.delays.list i.state u i.taken i.behind i.now i.owed i.ended i.fresh v w c.self.invariant owes early by
-    (levels_are_the_entries_ahead.oldest i.delays.list n i.now i.taken i.state f w.front w.levels by.look.ahead) in
+    let by = subst (λ (x : Option Completed). IsTicked i.delays.list n i.now i.present.taken i.present.state f v u w x) c.in_default.is
+    (c.tick-done.ensures.ticked i.delays.list (i.now - 1) i.present.taken f c.self.invariant.some c.self.invariant.few are at.look (not-first i.now v.levels.ring at.look.prepared)) in
+    let all = passed-tick i.stopped n i.delays.list i.present.state u i.present.taken i.behind i.now i.owed i.ended i.fresh v w c.self.invariant owes early by
+    (levels_are_the_entries_ahead.oldest i.delays.list n i.now i.present.taken i.present.state f w.front w.levels by.look.ahead) in
     all.0
 
 pub returns-in_default-clause-event : goal.returns-in_default-clause-event
@@ -50,14 +50,14 @@ returns-in_default-clause-event g c =
     let f = oldest_front v.levels.plans v.front in
     let owes = subst (λ (m : Overlap). m.owed ≡ false) (sym c.self.view_is) c.requires.settled in
     let early = subst (λ (m : Overlap). m.now < 2 ^ 63) (sym c.self.view_is) c.requires.tick in
-    let at = idle i.stopped n i.delays.list i.state i.taken i.behind i.now i.owed i.ended i.fresh v c.self.invariant owes in
+    let at = idle i.stopped n i.delays.list i.present.state i.present.taken i.behind i.now i.owed i.ended i.fresh v c.self.invariant owes in
     let w = c.tick-done.new.self in
     let u = c.tick-done.new.state in
     let are = delays-are i.delays in
-    let by = subst (λ (x : Option Completed). IsTicked i.delays.list n i.now i.taken i.state f v u w x) c.in_default.is
-    (c.tick-done.ensures.ticked i.delays.list (i.now - 1) i.taken f c.self.invariant.some c.self.invariant.few are at.look (not-first i.now v.levels.ring at.look.prepared)) in
-    let all = passed-tick i.stopped n i.delays.list i.state u i.taken i.behind i.now i.owed i.ended i.fresh v w c.self.invariant owes early by
-    (levels_are_the_entries_ahead.oldest i.delays.list n i.now i.taken i.state f w.front w.levels by.look.ahead) in
+    let by = subst (λ (x : Option Completed). IsTicked i.delays.list n i.now i.present.taken i.present.state f v u w x) c.in_default.is
+    (c.tick-done.ensures.ticked i.delays.list (i.now - 1) i.present.taken f c.self.invariant.some c.self.invariant.few are at.look (not-first i.now v.levels.ring at.look.prepared)) in
+    let all = passed-tick i.stopped n i.delays.list i.present.state u i.present.taken i.behind i.now i.owed i.ended i.fresh v w c.self.invariant owes early by
+    (levels_are_the_entries_ahead.oldest i.delays.list n i.now i.present.taken i.present.state f w.front w.levels by.look.ahead) in
     subst (λ (m : Overlap). is_done m ≡ false) c.self.view_is all.1
 
 pub returns-in_default-clause-after : goal.returns-in_default-clause-after
@@ -68,15 +68,15 @@ returns-in_default-clause-after g c =
     let f = oldest_front v.levels.plans v.front in
     let owes = subst (λ (m : Overlap). m.owed ≡ false) (sym c.self.view_is) c.requires.settled in
     let early = subst (λ (m : Overlap). m.now < 2 ^ 63) (sym c.self.view_is) c.requires.tick in
-    let at = idle i.stopped n i.delays.list i.state i.taken i.behind i.now i.owed i.ended i.fresh v c.self.invariant owes in
+    let at = idle i.stopped n i.delays.list i.present.state i.present.taken i.behind i.now i.owed i.ended i.fresh v c.self.invariant owes in
     let w = c.tick-done.new.self in
     let u = c.tick-done.new.state in
     let are = delays-are i.delays in
-    let by = subst (λ (x : Option Completed). IsTicked i.delays.list n i.now i.taken i.state f v u w x) c.in_default.is
-    (c.tick-done.ensures.ticked i.delays.list (i.now - 1) i.taken f c.self.invariant.some c.self.invariant.few are at.look (not-first i.now v.levels.ring at.look.prepared)) in
-    let all = passed-tick i.stopped n i.delays.list i.state u i.taken i.behind i.now i.owed i.ended i.fresh v w c.self.invariant owes early by
-    (levels_are_the_entries_ahead.oldest i.delays.list n i.now i.taken i.state f w.front w.levels by.look.ahead) in
-    subst (λ (m : Overlap). overlap_of n i.delays.list u i.taken i.behind i.now true i.ended i.stopped i.fresh w ≡ machine_after_tick m) c.self.view_is all.2
+    let by = subst (λ (x : Option Completed). IsTicked i.delays.list n i.now i.present.taken i.present.state f v u w x) c.in_default.is
+    (c.tick-done.ensures.ticked i.delays.list (i.now - 1) i.present.taken f c.self.invariant.some c.self.invariant.few are at.look (not-first i.now v.levels.ring at.look.prepared)) in
+    let all = passed-tick i.stopped n i.delays.list i.present.state u i.present.taken i.behind i.now i.owed i.ended i.fresh v w c.self.invariant owes early by
+    (levels_are_the_entries_ahead.oldest i.delays.list n i.now i.present.taken i.present.state f w.front w.levels by.look.ahead) in
+    subst (λ (m : Overlap). overlap_of n i.delays.list u i.present.taken i.behind i.now true i.ended i.stopped i.fresh w ≡ machine_after_tick m) c.self.view_is all.2
 
 pub invariant_of-self-2 : goal.invariant_of-self-2
 invariant_of-self-2 g c =
@@ -86,28 +86,28 @@ invariant_of-self-2 g c =
     let f = oldest_front v.levels.plans v.front in
     let owes = subst (λ (m : Overlap). m.owed ≡ false) (sym c.self.view_is) c.requires.settled in
     let early = subst (λ (m : Overlap). m.now < 2 ^ 63) (sym c.self.view_is) c.requires.tick in
-    let at = idle i.stopped n i.delays.list i.state i.taken i.behind i.now i.owed i.ended i.fresh v c.self.invariant owes in
+    let at = idle i.stopped n i.delays.list i.present.state i.present.taken i.behind i.now i.owed i.ended i.fresh v c.self.invariant owes in
     let w = c.tick-done.new.self in
     let u = c.tick-done.new.state in
     let are = delays-are i.delays in
-    let by = subst (λ (x : Option Completed). IsTicked i.delays.list n i.now i.taken i.state f v u w x) c.in-Some.is
-    (c.tick-done.ensures.ticked i.delays.list (i.now - 1) i.taken f c.self.invariant.some c.self.invariant.few are at.look (not-first i.now v.levels.ring at.look.prepared)) in
+    let by = subst (λ (x : Option Completed). IsTicked i.delays.list n i.now i.present.taken i.present.state f v u w x) c.in-Some.is
+    (c.tick-done.ensures.ticked i.delays.list (i.now - 1) i.present.taken f c.self.invariant.some c.self.invariant.few are at.look (not-first i.now v.levels.ring at.look.prepared)) in
     let done = c.in-Some.done in
     let m = at.look.machine in
     let t = at.look.indicator in
     let most : count v ≤ n = c.tick-done.ensures.few in
     let few : i.now ≤ i.now - 1 + 1 = omega arith in
-    let levels = looks_are_levels i.delays.list n (i.now - 1) i.now i.taken i.state f v c.self.invariant.some c.self.invariant.few are few most at.look in
-    let some = some-due (count v) (λ empty. unprepared i.delays.list n (count v) i.now i.taken i.state f c.self.invariant.some empty are
-    (entries_are_in_range.ranges i.taken i.state m t) at.look.oldest levels by.due) in
+    let levels = looks_are_levels i.delays.list n (i.now - 1) i.now i.present.taken i.present.state f v c.self.invariant.some c.self.invariant.few are few most at.look in
+    let some = some-due (count v) (λ empty. unprepared i.delays.list n (count v) i.now i.present.taken i.present.state f c.self.invariant.some empty are
+    (entries_are_in_range.ranges i.present.taken i.present.state m t) at.look.oldest levels by.due) in
     let next = not-first i.now v.levels.ring at.look.prepared some in
-    let left = the_banks_are_left i.delays.list n (i.now - 1) i.now i.taken i.state f v
-    c.self.invariant.some c.self.invariant.few are next most some (outlook-of i.delays.list n (i.now - 1) i.now i.taken i.state f v at.look) by.due in
-    let banks = banks-at i.stopped n i.delays.list i.state i.taken i.now v left.0 in
-    let guessed = guess-seen i.taken i.state u (is_missed (plan i.state i.taken) i.state) done.missed refl by.state by.told.missed
-    (steps_are_guesses.right i.taken i.state m t) (steps_are_guesses.missed i.taken i.state m t) in
-    let front = levels_are_the_entries_ahead.oldest i.delays.list n i.now None (guess i.taken i.state) (front_after_entry i.delays.list n f (entry i.taken i.state)) w.front w.levels by.look.ahead in
-    let all = done-tick i.stopped n i.delays.list i.state u i.taken i.behind i.now i.owed i.ended i.fresh v w done c.self.invariant owes early by front banks left.1 guessed in
+    let left = the_banks_are_left i.delays.list n (i.now - 1) i.now i.present.taken i.present.state f v
+    c.self.invariant.some c.self.invariant.few are next most some (outlook-of i.delays.list n (i.now - 1) i.now i.present.taken i.present.state f v at.look) by.due in
+    let banks = banks-at i.stopped n i.delays.list i.present.state i.present.taken i.now v left.0 in
+    let guessed = guess-seen i.present.taken i.present.state u (is_missed (plan i.present.state i.present.taken) i.present.state) done.missed refl by.state by.told.missed
+    (steps_are_guesses.right i.present.taken i.present.state m t) (steps_are_guesses.missed i.present.taken i.present.state m t) in
+    let front = levels_are_the_entries_ahead.oldest i.delays.list n i.now None (guess i.present.taken i.present.state) (front_after_entry i.delays.list n f (entry i.present.taken i.present.state)) w.front w.levels by.look.ahead in
+    let all = done-tick i.stopped n i.delays.list i.present.state u i.present.taken i.behind i.now i.owed i.ended i.fresh v w done c.self.invariant owes early by front banks left.1 guessed in
     all.0
 
 pub returns-clause-event : goal.returns-clause-event
@@ -118,30 +118,30 @@ returns-clause-event g c =
     let f = oldest_front v.levels.plans v.front in
     let owes = subst (λ (m : Overlap). m.owed ≡ false) (sym c.self.view_is) c.requires.settled in
     let early = subst (λ (m : Overlap). m.now < 2 ^ 63) (sym c.self.view_is) c.requires.tick in
-    let at = idle i.stopped n i.delays.list i.state i.taken i.behind i.now i.owed i.ended i.fresh v c.self.invariant owes in
+    let at = idle i.stopped n i.delays.list i.present.state i.present.taken i.behind i.now i.owed i.ended i.fresh v c.self.invariant owes in
     let w = c.tick-done.new.self in
     let u = c.tick-done.new.state in
     let are = delays-are i.delays in
-    let by = subst (λ (x : Option Completed). IsTicked i.delays.list n i.now i.taken i.state f v u w x) c.in-Some.is
-    (c.tick-done.ensures.ticked i.delays.list (i.now - 1) i.taken f c.self.invariant.some c.self.invariant.few are at.look (not-first i.now v.levels.ring at.look.prepared)) in
+    let by = subst (λ (x : Option Completed). IsTicked i.delays.list n i.now i.present.taken i.present.state f v u w x) c.in-Some.is
+    (c.tick-done.ensures.ticked i.delays.list (i.now - 1) i.present.taken f c.self.invariant.some c.self.invariant.few are at.look (not-first i.now v.levels.ring at.look.prepared)) in
     let done = c.in-Some.done in
     let m = at.look.machine in
     let t = at.look.indicator in
     let most : count v ≤ n = c.tick-done.ensures.few in
     let few : i.now ≤ i.now - 1 + 1 = omega arith in
-    let levels = looks_are_levels i.delays.list n (i.now - 1) i.now i.taken i.state f v c.self.invariant.some c.self.invariant.few are few most at.look in
-    let some = some-due (count v) (λ empty. unprepared i.delays.list n (count v) i.now i.taken i.state f c.self.invariant.some empty are
-    (entries_are_in_range.ranges i.taken i.state m t) at.look.oldest levels by.due) in
+    let levels = looks_are_levels i.delays.list n (i.now - 1) i.now i.present.taken i.present.state f v c.self.invariant.some c.self.invariant.few are few most at.look in
+    let some = some-due (count v) (λ empty. unprepared i.delays.list n (count v) i.now i.present.taken i.present.state f c.self.invariant.some empty are
+    (entries_are_in_range.ranges i.present.taken i.present.state m t) at.look.oldest levels by.due) in
     let next = not-first i.now v.levels.ring at.look.prepared some in
-    let left = the_banks_are_left i.delays.list n (i.now - 1) i.now i.taken i.state f v
-    c.self.invariant.some c.self.invariant.few are next most some (outlook-of i.delays.list n (i.now - 1) i.now i.taken i.state f v at.look) by.due in
-    let banks = banks-at i.stopped n i.delays.list i.state i.taken i.now v left.0 in
-    let guessed = guess-seen i.taken i.state u (is_missed (plan i.state i.taken) i.state) done.missed refl by.state by.told.missed
-    (steps_are_guesses.right i.taken i.state m t) (steps_are_guesses.missed i.taken i.state m t) in
-    let front = levels_are_the_entries_ahead.oldest i.delays.list n i.now None (guess i.taken i.state) (front_after_entry i.delays.list n f (entry i.taken i.state)) w.front w.levels by.look.ahead in
-    let all = done-tick i.stopped n i.delays.list i.state u i.taken i.behind i.now i.owed i.ended i.fresh v w done c.self.invariant owes early by front banks left.1 guessed in
-    let row = row-tick i.stopped n i.delays.list i.state u i.taken i.behind i.now i.owed i.ended i.fresh v w done c.self.invariant owes by
-    (entries_count_as_one (plan i.state i.taken) i.state) in
+    let left = the_banks_are_left i.delays.list n (i.now - 1) i.now i.present.taken i.present.state f v
+    c.self.invariant.some c.self.invariant.few are next most some (outlook-of i.delays.list n (i.now - 1) i.now i.present.taken i.present.state f v at.look) by.due in
+    let banks = banks-at i.stopped n i.delays.list i.present.state i.present.taken i.now v left.0 in
+    let guessed = guess-seen i.present.taken i.present.state u (is_missed (plan i.present.state i.present.taken) i.present.state) done.missed refl by.state by.told.missed
+    (steps_are_guesses.right i.present.taken i.present.state m t) (steps_are_guesses.missed i.present.taken i.present.state m t) in
+    let front = levels_are_the_entries_ahead.oldest i.delays.list n i.now None (guess i.present.taken i.present.state) (front_after_entry i.delays.list n f (entry i.present.taken i.present.state)) w.front w.levels by.look.ahead in
+    let all = done-tick i.stopped n i.delays.list i.present.state u i.present.taken i.behind i.now i.owed i.ended i.fresh v w done c.self.invariant owes early by front banks left.1 guessed in
+    let row = row-tick i.stopped n i.delays.list i.present.state u i.present.taken i.behind i.now i.owed i.ended i.fresh v w done c.self.invariant owes by
+    (entries_count_as_one (plan i.present.state i.present.taken) i.present.state) in
     subst (λ (m : Overlap). (is_done m ≡ true) × (told c.done_in-number.result done.address done.p done.r i.now ≡ row_done m)) c.self.view_is (all.1, ap (λ k. told k done.address done.p done.r i.now) c.done_in-number.ensures ∙ row)
 
 pub returns-clause-after : goal.returns-clause-after
@@ -152,26 +152,26 @@ returns-clause-after g c =
     let f = oldest_front v.levels.plans v.front in
     let owes = subst (λ (m : Overlap). m.owed ≡ false) (sym c.self.view_is) c.requires.settled in
     let early = subst (λ (m : Overlap). m.now < 2 ^ 63) (sym c.self.view_is) c.requires.tick in
-    let at = idle i.stopped n i.delays.list i.state i.taken i.behind i.now i.owed i.ended i.fresh v c.self.invariant owes in
+    let at = idle i.stopped n i.delays.list i.present.state i.present.taken i.behind i.now i.owed i.ended i.fresh v c.self.invariant owes in
     let w = c.tick-done.new.self in
     let u = c.tick-done.new.state in
     let are = delays-are i.delays in
-    let by = subst (λ (x : Option Completed). IsTicked i.delays.list n i.now i.taken i.state f v u w x) c.in-Some.is
-    (c.tick-done.ensures.ticked i.delays.list (i.now - 1) i.taken f c.self.invariant.some c.self.invariant.few are at.look (not-first i.now v.levels.ring at.look.prepared)) in
+    let by = subst (λ (x : Option Completed). IsTicked i.delays.list n i.now i.present.taken i.present.state f v u w x) c.in-Some.is
+    (c.tick-done.ensures.ticked i.delays.list (i.now - 1) i.present.taken f c.self.invariant.some c.self.invariant.few are at.look (not-first i.now v.levels.ring at.look.prepared)) in
     let done = c.in-Some.done in
     let m = at.look.machine in
     let t = at.look.indicator in
     let most : count v ≤ n = c.tick-done.ensures.few in
     let few : i.now ≤ i.now - 1 + 1 = omega arith in
-    let levels = looks_are_levels i.delays.list n (i.now - 1) i.now i.taken i.state f v c.self.invariant.some c.self.invariant.few are few most at.look in
-    let some = some-due (count v) (λ empty. unprepared i.delays.list n (count v) i.now i.taken i.state f c.self.invariant.some empty are
-    (entries_are_in_range.ranges i.taken i.state m t) at.look.oldest levels by.due) in
+    let levels = looks_are_levels i.delays.list n (i.now - 1) i.now i.present.taken i.present.state f v c.self.invariant.some c.self.invariant.few are few most at.look in
+    let some = some-due (count v) (λ empty. unprepared i.delays.list n (count v) i.now i.present.taken i.present.state f c.self.invariant.some empty are
+    (entries_are_in_range.ranges i.present.taken i.present.state m t) at.look.oldest levels by.due) in
     let next = not-first i.now v.levels.ring at.look.prepared some in
-    let left = the_banks_are_left i.delays.list n (i.now - 1) i.now i.taken i.state f v
-    c.self.invariant.some c.self.invariant.few are next most some (outlook-of i.delays.list n (i.now - 1) i.now i.taken i.state f v at.look) by.due in
-    let banks = banks-at i.stopped n i.delays.list i.state i.taken i.now v left.0 in
-    let guessed = guess-seen i.taken i.state u (is_missed (plan i.state i.taken) i.state) done.missed refl by.state by.told.missed
-    (steps_are_guesses.right i.taken i.state m t) (steps_are_guesses.missed i.taken i.state m t) in
-    let front = levels_are_the_entries_ahead.oldest i.delays.list n i.now None (guess i.taken i.state) (front_after_entry i.delays.list n f (entry i.taken i.state)) w.front w.levels by.look.ahead in
-    let all = done-tick i.stopped n i.delays.list i.state u i.taken i.behind i.now i.owed i.ended i.fresh v w done c.self.invariant owes early by front banks left.1 guessed in
+    let left = the_banks_are_left i.delays.list n (i.now - 1) i.now i.present.taken i.present.state f v
+    c.self.invariant.some c.self.invariant.few are next most some (outlook-of i.delays.list n (i.now - 1) i.now i.present.taken i.present.state f v at.look) by.due in
+    let banks = banks-at i.stopped n i.delays.list i.present.state i.present.taken i.now v left.0 in
+    let guessed = guess-seen i.present.taken i.present.state u (is_missed (plan i.present.state i.present.taken) i.present.state) done.missed refl by.state by.told.missed
+    (steps_are_guesses.right i.present.taken i.present.state m t) (steps_are_guesses.missed i.present.taken i.present.state m t) in
+    let front = levels_are_the_entries_ahead.oldest i.delays.list n i.now None (guess i.present.taken i.present.state) (front_after_entry i.delays.list n f (entry i.present.taken i.present.state)) w.front w.levels by.look.ahead in
+    let all = done-tick i.stopped n i.delays.list i.present.state u i.present.taken i.behind i.now i.owed i.ended i.fresh v w done c.self.invariant owes early by front banks left.1 guessed in
     subst (λ (m : Overlap). overlap_of n i.delays.list u None done.missed i.now true i.ended i.stopped true w ≡ machine_after_tick m) c.self.view_is all.2
