@@ -9,7 +9,6 @@ use Rattle.st_run.specs.Run.{Scene, with_due_signals, with_due_orders, interlude
 use Rattle.st_banks.specs.declared.answers.LastAnswers.{LastAnswers}
 use Rattle.st_banks.specs.declared.answers.TheConstants.{BANKS}
 use Rattle.st_rows.specs.Rows.{opening_front, row_of_entry, front_after_entry}
-use Rattle.st_rows.specs.Asked.{Read}
 use Rattle.st_rows.specs.declared.entry.Entry.{Entry}
 use Rattle.st_rows.specs.declared.front.Front.{Front}
 use Rattle.st_rows.specs.declared.front.EntryTicks.{EntryTicks}
