@@ -56,8 +56,7 @@ abbrev pub first_opening : Machine → Opening
 first_opening s = record {
   state = s;
   table = None;
-  front = opening_front
-      (record { ticks = replicate BANKS 0 }) 0;
+  front = opening_front (record { ticks = replicate BANKS 0 }) 0;
 }
 
 -- the state after j steps from it, with changes from outside

@@ -41,10 +41,7 @@ abbrev pub requested_if : Option ℕ → List ℕ → Bus → ℕ → ℕ → Bu
 requested_if (Some tick) ds b w want = b
 requested_if None ds b w want =
     record (bus_after_read ds b w want) {
-      held = record {
-        words = asked_for b.held.words w
-            (answer_at ds b w want);
-      };
+      held = record { words = asked_for b.held.words w (answer_at ds b w want) };
     }
 
 -- the tick of the word's answer, given that tick if it is held

@@ -39,8 +39,7 @@ module _ (ds : List ℕ) (past : List Past) where
   -- n words from the word w on
   unfoldable pub fetch_words : Fetching → ℕ → ℕ → ℕ → Fetching
   fetch_words s from w zero = s
-  fetch_words s from w (suc n) = fetch_words (fetch_word s w from) from
-      (w + 1) n
+  fetch_words s from w (suc n) = fetch_words (fetch_word s w from) from (w + 1) n
 
 -- behind an entry that is done alone, words are wanted once that is done, else once it is prepared
 abbrev pub wanted_from : Front → ℕ
@@ -80,8 +79,7 @@ module _ (ds : List ℕ) (past : List Past) (b : Bus) where
   -- the tick at which that word is there
   unfoldable pub side_there : Option ℕ → ℕ → ℕ
   side_there None a = 0
-  side_there (Some w) a = if is_forwarded past w a then latest_done past w
-      else answer_at ds b w a
+  side_there (Some w) a = if is_forwarded past w a then latest_done past w else answer_at ds b w a
 
 -- ---- preparation: one tick later, and later than the completion of the entry n before
 
@@ -107,8 +105,7 @@ module _ (ds : List ℕ) (past : List Past) where
       if is_forwarded past w p then s
       else record {
         bus = bus_after_read ds s.bus w p;
-        answered = max s.answered
-            (answer_at ds s.bus w p);
+        answered = max s.answered (answer_at ds s.bus w p);
       }
 
   -- n words from the word w on
@@ -190,12 +187,7 @@ module _ (ds : List ℕ) (n : ℕ) (f : Front) (e : Entry) where
 
   -- all of these ticks
   unfoldable pub row_of_entry : EntryTicks
-  row_of_entry = record {
-    a = tick_a ds f e;
-    p = tick_p;
-    r = operands.answered;
-    c = tick_c;
-  }
+  row_of_entry = record { a = tick_a ds f e; p = tick_p; r = operands.answered; c = tick_c }
 
   -- when the first two operand words of the entry e behind the front f are there
   abbrev pub fills : List ℕ

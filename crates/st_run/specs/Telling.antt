@@ -39,11 +39,7 @@ what_told (tells.Ended rests) tick s levels text = Ended rests s
 
 -- a row as it is told
 abbrev pub row_told : Row → Told
-row_told row = record {
-  done = row.number;
-  tick = row.c;
-  what = Done row.address row.p row.r row.c;
-}
+row_told row = record { done = row.number; tick = row.c; what = Done row.address row.p row.r row.c }
 
 -- rows that wait to be told, and the rest
 abbrev pub rows_then : List Row → List Told → List Told
@@ -120,8 +116,7 @@ told_with t m text =
     record {
       done = t.done;
       tick = t.tick;
-      what = what_told t.what t.tick (state_told m)
-          (ahead_of m) text;
+      what = what_told t.what t.tick (state_told m) (ahead_of m) text;
     }
 
 -- a level as the machine shows it
