@@ -54,40 +54,41 @@ IsNextIf false ds n now t s v =
 abbrev pub reads_ahead : List ℕ → ℕ → Option ℕ → Machine → Front → LookView → List Read
 reads_ahead ds n t s f v = asked_ahead ds n (count v) t s f ++ reads_so_far ds v.front v.next
 
--- What runs ahead of the state s, behind the front f of the oldest entry that is not done; t says
--- whether that is a table instruction. Entries that are prepared before `now` are levels, and those
--- are not done at `tick` or before it; no operand word stands in a slot that comes behind `tick`.
-pub record IsOutlook (ds : List ℕ) (n tick now : ℕ) (t : Option ℕ) (s : Machine) (f : Front)
-    (v : LookView) : Type 0 where
-  pub machine : IsMachine s
-  pub indicator : IfSome t (λ i. i < 64)
-  pub ahead : AreAhead ds n tick t s f v.front v.levels
-  pub prepared : All (λ level. level.p < now) v.levels.ring
-  pub not_done : AreNotDone tick v.levels
-  pub oldest : IsTight MOST_DELAY f
-  pub tight : IsTight MOST_DELAY v.front
-  pub start : f.c ≤ now + 9
-  pub early : v.front.c ≤ now + 9 + most_ticks_of_entry * count v
-  pub next : IsNextIf (is_open v) ds n now t s v
-  pub late : v.next.planned ≡ true → now ≤ v.next.formed.p
-  pub logged : IsLogged ds f.bus.free (reads_ahead ds n t s f v) f.bus v.log
+module _ (ds : List ℕ) (n tick now : ℕ) (t : Option ℕ) (s : Machine) (f : Front)
+    (v : LookView) where
+  -- What runs ahead of the state s, behind the front f of the oldest entry that is not done; t says
+  -- whether that is a table instruction. Entries that are prepared before `now` are levels, and
+  -- those are not done at `tick` or before it; no operand word stands in a slot that comes behind
+  -- `tick`.
+  pub record IsOutlook : Type 0 where
+    pub machine : IsMachine s
+    pub indicator : IfSome t (λ i. i < 64)
+    pub ahead : AreAhead ds n tick t s f v.front v.levels
+    pub prepared : All (λ level. level.p < now) v.levels.ring
+    pub not_done : AreNotDone tick v.levels
+    pub oldest : IsTight MOST_DELAY f
+    pub tight : IsTight MOST_DELAY v.front
+    pub start : f.c ≤ now + 9
+    pub early : v.front.c ≤ now + 9 + most_ticks_of_entry * count v
+    pub next : IsNextIf (is_open v) ds n now t s v
+    pub late : v.next.planned ≡ true → now ≤ v.next.formed.p
+    pub logged : IsLogged ds f.bus.free (reads_ahead ds n t s f v) f.bus v.log
 
--- The same with the slots of levels filled up to `tick`.
-pub record IsLook (ds : List ℕ) (n tick now : ℕ) (t : Option ℕ) (s : Machine) (f : Front)
-    (v : LookView) : Type 0 where
-  pub machine : IsMachine s
-  pub indicator : IfSome t (λ i. i < 64)
-  pub ahead : AreAhead ds n tick t s f v.front v.levels
-  pub prepared : All (λ level. level.p < now) v.levels.ring
-  pub full : AreFull ds n tick t s f v.levels.ring
-  pub not_done : AreNotDone tick v.levels
-  pub oldest : IsTight MOST_DELAY f
-  pub tight : IsTight MOST_DELAY v.front
-  pub start : f.c ≤ now + 9
-  pub early : v.front.c ≤ now + 9 + most_ticks_of_entry * count v
-  pub next : IsNextIf (is_open v) ds n now t s v
-  pub late : v.next.planned ≡ true → now ≤ v.next.formed.p
-  pub logged : IsLogged ds f.bus.free (reads_ahead ds n t s f v) f.bus v.log
+  -- The same with the slots of levels filled up to `tick`.
+  pub record IsLook : Type 0 where
+    pub machine : IsMachine s
+    pub indicator : IfSome t (λ i. i < 64)
+    pub ahead : AreAhead ds n tick t s f v.front v.levels
+    pub prepared : All (λ level. level.p < now) v.levels.ring
+    pub full : AreFull ds n tick t s f v.levels.ring
+    pub not_done : AreNotDone tick v.levels
+    pub oldest : IsTight MOST_DELAY f
+    pub tight : IsTight MOST_DELAY v.front
+    pub start : f.c ≤ now + 9
+    pub early : v.front.c ≤ now + 9 + most_ticks_of_entry * count v
+    pub next : IsNextIf (is_open v) ds n now t s v
+    pub late : v.next.planned ≡ true → now ≤ v.next.formed.p
+    pub logged : IsLogged ds f.bus.free (reads_ahead ds n t s f v) f.bus v.log
 
 -- nothing runs ahead yet, at the opening of a segment
 pub record IsOpened (t : Option ℕ) (s : Machine) (f : Front) (v : LookView) : Type 0 where

@@ -11,10 +11,7 @@ pub record Queue : Type 0 where
 
 -- the same with rows behind those, as far as there is room
 abbrev pub queue_with : List Row → Queue → Queue
-queue_with rows q = record {
-  rows = q.rows ++ take q.room rows;
-  room = q.room - length rows;
-}
+queue_with rows q = record { rows = q.rows ++ take q.room rows; room = q.room - length rows }
 
 -- a row, where an entry is done
 abbrev pub row_if : Bool → Row → List Row

@@ -19,6 +19,11 @@ pub record IsAwake (t : Option ℕ) (s : Machine) : Type 0 where
   pub due : (if is_none t then interrupt s else None) ≡ None
   pub goes : rests s ≡ false
 
+-- how many ticks are passed, by the entry that it stops behind
+abbrev pub ticks_run : ℕ → ℕ → Option Stop → ℕ
+ticks_run last now None = last + 1 - now
+ticks_run last now (Some stop) = stop.tick - now
+
 -- there is such a start
 pub record Starts (ds : List ℕ) (n last : ℕ) (t : Option ℕ) (s : Machine)
     (v : LookView) : Type 0 where
@@ -28,45 +33,40 @@ pub record Starts (ds : List ℕ) (n last : ℕ) (t : Option ℕ) (s : Machine)
   pub soon : now ≤ last
   pub awake : IsAwake t s
 
--- all ticks up to `last` are passed
-pub record HasPassed (ds : List ℕ) (n count last now : ℕ) (t : Option ℕ) (s : Machine) (f : Front)
-    (k : Option ℕ) (u : Machine) (v : LookView) : Type 0 where
-  pub front : Front
-  pub passed : ArePassed count (last + 1 - now) (machine_between_ticks ds n s t f now)
-      (machine_between_ticks ds n u k front (last + 1))
-  pub awake : IsAwake k u
-  pub look : IsLook ds n last (last + 1) k u front v
+module _ (ds : List ℕ) (n count last now : ℕ) where
+  -- all ticks up to `last` are passed
+  pub record HasPassed (t : Option ℕ) (s : Machine) (f : Front) (k : Option ℕ) (u : Machine)
+      (v : LookView) : Type 0 where
+    pub front : Front
+    pub passed : ArePassed count (last + 1 - now) (machine_between_ticks ds n s t f now)
+        (machine_between_ticks ds n u k front (last + 1))
+    pub awake : IsAwake k u
+    pub look : IsLook ds n last (last + 1) k u front v
 
--- the ticks before the tick `tick` are passed, and at that one an entry is done behind which
--- something may come
-pub record HasStopped (ds : List ℕ) (n count last now tick : ℕ) (t : Option ℕ) (s : Machine)
-    (f : Front) (k : Option ℕ) (u : Machine) (v : LookView) (done : Completed) : Type 0 where
-  pub table : Option ℕ
-  pub state : Machine
-  pub front : Front
-  pub ahead : LookView
-  pub passed : ArePassed count (tick - now) (machine_between_ticks ds n s t f now)
-      (machine_between_ticks ds n state table front tick)
-  pub soon : tick ≤ last
-  pub none_taken : k ≡ None
-  pub machine : IsMachine state
-  pub indicator : IfSome table (λ i. i < 64)
-  pub done_at : IsDoneAt ds n tick table state front ahead u v done
-  pub banks : banks_at_its_end (machine_between_ticks ds n state table front tick)
-      ≡ answers_before tick v
-  pub near : All (λ b. b ≤ tick + MOST_DELAY) (answers_before tick v).ticks
-  pub stops : answer (machine_after_tick (machine_between_ticks ds n state table front tick))
-      ≡ Goes → may_come count
-      (machine_after_tick (machine_between_ticks ds n state table front tick)) ≡ true
+  -- the ticks before the tick `tick` are passed, and at that one an entry is done behind which
+  -- something may come
+  pub record HasStopped (tick : ℕ) (t : Option ℕ) (s : Machine) (f : Front) (k : Option ℕ)
+      (u : Machine) (v : LookView) (done : Completed) : Type 0 where
+    pub table : Option ℕ
+    pub state : Machine
+    pub front : Front
+    pub ahead : LookView
+    pub passed : ArePassed count (tick - now) (machine_between_ticks ds n s t f now)
+        (machine_between_ticks ds n state table front tick)
+    pub soon : tick ≤ last
+    pub none_taken : k ≡ None
+    pub machine : IsMachine state
+    pub indicator : IfSome table (λ i. i < 64)
+    pub done_at : IsDoneAt ds n tick table state front ahead u v done
+    pub banks : banks_at_its_end (machine_between_ticks ds n state table front tick)
+        ≡ answers_before tick v
+    pub near : All (λ b. b ≤ tick + MOST_DELAY) (answers_before tick v).ticks
+    pub stops : answer (machine_after_tick (machine_between_ticks ds n state table front tick))
+        ≡ Goes → may_come count
+        (machine_after_tick (machine_between_ticks ds n state table front tick)) ≡ true
 
--- how many ticks are passed, by the entry that it stops behind
-abbrev pub ticks_run : ℕ → ℕ → Option Stop → ℕ
-ticks_run last now None = last + 1 - now
-ticks_run last now (Some stop) = stop.tick - now
-
--- by the entry that it stops behind
-abbrev pub HasRunTo : List ℕ → ℕ → ℕ → ℕ → ℕ → Option ℕ → Machine → Front → Option ℕ → Machine →
-    LookView → Option Stop → Type 0
-HasRunTo ds n count last now t s f k u v None = HasPassed ds n count last now t s f k u v
-HasRunTo ds n count last now t s f k u v (Some stop) =
-    HasStopped ds n count last now stop.tick t s f k u v stop.done
+  -- by the entry that it stops behind
+  abbrev pub HasRunTo : Option ℕ → Machine → Front → Option ℕ → Machine → LookView →
+      Option Stop → Type 0
+  HasRunTo t s f k u v None = HasPassed t s f k u v
+  HasRunTo t s f k u v (Some stop) = HasStopped stop.tick t s f k u v stop.done

@@ -9,27 +9,26 @@ use Rattle.st_ring.specs.Levels.{IsCompleted}
 use Rattle.st_ring.specs.declared.levels.Completed.{Completed}
 use Rattle.st_ahead.specs.Look.{LookView, IsLook}
 
--- no entry is done at it: the state u behind it is the state s before it, w runs ahead of that as v
--- did, and operands may have come
-pub record IsPassedBy (ds : List ℕ) (n now : ℕ) (t : Option ℕ) (s : Machine) (f : Front)
-    (v : LookView) (u : Machine) (w : LookView) : Type 0 where
-  pub state : u ≡ s
-  pub later : (row_of_entry ds n f (entry t s)).c ≢ now
-  pub look : IsLook ds n now now t s f w
+module _ (ds : List ℕ) (n now : ℕ) (t : Option ℕ) (s : Machine) (f : Front) (v : LookView)
+    (u : Machine) (w : LookView) where
+  -- no entry is done at it: the state u behind it is the state s before it, w runs ahead of that as
+  -- v did, and operands may have come
+  pub record IsPassedBy : Type 0 where
+    pub state : u ≡ s
+    pub later : (row_of_entry ds n f (entry t s)).c ≢ now
+    pub look : IsLook ds n now now t s f w
 
--- the oldest entry is done at it: u is the state after its step, and w runs ahead of the guess of
--- that
-pub record IsDoneAt (ds : List ℕ) (n now : ℕ) (t : Option ℕ) (s : Machine) (f : Front)
-    (v : LookView) (u : Machine) (w : LookView) (done : Completed) : Type 0 where
-  pub due : (row_of_entry ds n f (entry t s)).c ≡ now
-  pub told : IsCompleted ds n t s f done
-  pub state : u ≡ state_after_execution t s
-  pub look : IsLook ds n now now None (guess t s) (front_after_entry ds n f (entry t s)) w
-  pub log : w.log ≡ v.log
-  pub bus : w.next.words ≡ v.next.words
+  -- the oldest entry is done at it: u is the state after its step, and w runs ahead of the guess of
+  -- that
+  pub record IsDoneAt (done : Completed) : Type 0 where
+    pub due : (row_of_entry ds n f (entry t s)).c ≡ now
+    pub told : IsCompleted ds n t s f done
+    pub state : u ≡ state_after_execution t s
+    pub look : IsLook ds n now now None (guess t s) (front_after_entry ds n f (entry t s)) w
+    pub log : w.log ≡ v.log
+    pub bus : w.next.words ≡ v.next.words
 
--- by what is told of it
-abbrev pub IsTicked : List ℕ → ℕ → ℕ → Option ℕ → Machine → Front → LookView → Machine → LookView →
-    Option Completed → Type 0
-IsTicked ds n now t s f v u w None = IsPassedBy ds n now t s f v u w
-IsTicked ds n now t s f v u w (Some done) = IsDoneAt ds n now t s f v u w done
+  -- by what is told of it
+  abbrev pub IsTicked : Option Completed → Type 0
+  IsTicked None = IsPassedBy
+  IsTicked (Some done) = IsDoneAt done

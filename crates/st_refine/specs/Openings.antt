@@ -56,8 +56,7 @@ abbrev pub first_opening : Machine → Opening
 first_opening s = record {
   state = s;
   table = None;
-  front = opening_front
-      (record { ticks = replicate BANKS 0 }) 0;
+  front = opening_front (record { ticks = replicate BANKS 0 }) 0;
 }
 
 -- the state after j steps from it, with changes from outside
@@ -65,44 +64,45 @@ unfoldable pub state_after : Opening → List Outside → ℕ → Machine
 state_after o changes zero = with_changes changes o.state
 state_after o changes (suc j) = with_changes changes (step (state_after o changes j))
 
--- the front behind its first j entries, with the delays ds and n levels
-unfoldable pub front_at : List ℕ → ℕ → Opening → List Outside → ℕ → Front
-front_at ds n o changes zero = o.front
-front_at ds n o changes (suc j) =
-    front_after_entry ds n (front_at ds n o changes j)
-    (entry (table_behind j o.table) (state_after o changes j))
+module _ (ds : List ℕ) (n : ℕ) (o : Opening) (changes : List Outside) where
+  -- the front behind its first j entries, with the delays ds and n levels
+  unfoldable pub front_at : ℕ → Front
+  front_at zero = o.front
+  front_at (suc j) =
+      front_after_entry ds n (front_at j)
+      (entry (table_behind j o.table) (state_after o changes j))
 
--- the reads of those entries
-unfoldable pub reads_after : List ℕ → ℕ → Opening → List Outside → ℕ → List Read
-reads_after ds n o changes zero = []
-reads_after ds n o changes (suc j) =
-    reads_after ds n o changes j
-    ++ reads_of_entry ds n (front_at ds n o changes j)
-    (entry (table_behind j o.table) (state_after o changes j))
+  -- the reads of those entries
+  unfoldable pub reads_after : ℕ → List Read
+  reads_after zero = []
+  reads_after (suc j) =
+      reads_after j
+      ++ reads_of_entry ds n (front_at j)
+      (entry (table_behind j o.table) (state_after o changes j))
 
--- the reads of a segment, in the order of the timetable: those of its first j entries, of entry j,
--- and of the n + 1 entries behind the guess of that, no more than n of which are prepared before it
--- is done
-unfoldable pub reads_of_segment : List ℕ → ℕ → Opening → List Outside → ℕ → List Read
-reads_of_segment ds n o changes j =
-    let s = state_after o changes j in
-    let t = table_behind j o.table in
-    reads_after ds n o changes (suc j)
-    ++ asked_ahead ds n (suc n) None (guess t s)
-    (front_after_entry ds n (front_at ds n o changes j) (entry t s))
+  -- the reads of a segment, in the order of the timetable: those of its first j entries, of entry
+  -- j, and of the n + 1 entries behind the guess of that, no more than n of which are prepared
+  -- before it is done
+  unfoldable pub reads_of_segment : ℕ → List Read
+  reads_of_segment j =
+      let s = state_after o changes j in
+      let t = table_behind j o.table in
+      reads_after (suc j)
+      ++ asked_ahead ds n (suc n) None (guess t s)
+      (front_after_entry ds n (front_at j) (entry t s))
 
--- the last answers of the banks where the segment ends at the completion of entry j, after j
--- others: of all its reads, with those of the entries behind that one by the guess, those are made
--- that are accepted before that tick
-unfoldable pub banks_behind : List ℕ → ℕ → Opening → List Outside → ℕ → LastAnswers
-banks_behind ds n o changes zero = o.front.bus.banks
-banks_behind ds n o changes (suc j) =
-    let s = state_after o changes j in
-    let t = table_behind j o.table in
-    let f = front_at ds n o changes j in
-    let e = entry t s in
-    let c = (row_of_entry ds n f e).c in
-    banks_at_end ds c (reads_after ds n o changes j ++ reads_to_end ds n c t s f e) o.front.bus
+  -- the last answers of the banks where the segment ends at the completion of entry j, after j
+  -- others: of all its reads, with those of the entries behind that one by the guess, those are
+  -- made that are accepted before that tick
+  unfoldable pub banks_behind : ℕ → LastAnswers
+  banks_behind zero = o.front.bus.banks
+  banks_behind (suc j) =
+      let s = state_after o changes j in
+      let t = table_behind j o.table in
+      let f = front_at j in
+      let e = entry t s in
+      let c = (row_of_entry ds n f e).c in
+      banks_at_end ds c (reads_after j ++ reads_to_end ds n c t s f e) o.front.bus
 
 -- the opening of the next segment, where that one ends there and so many entries are dropped
 unfoldable pub opening_behind : List ℕ → ℕ → ℕ → Opening → List Outside → ℕ → Opening

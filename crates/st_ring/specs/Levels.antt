@@ -29,42 +29,42 @@ pub record AreLevelsSound (n : ℕ) (ring : List Level) (plans : List Plan) : Ty
   pub most : n ≤ 8
   pub prepared : All (λ level. IsPrepared level.prepared) ring
 
--- a level is the next entry of the state s behind the front f, prepared; t says whether it is a
--- table instruction. It has no other operand words than those that are there at the tick
-pub record IsLevel (ds : List ℕ) (n tick : ℕ) (t : Option ℕ) (s : Machine) (f : Front)
-    (level : Level) (q : Plan) : Type 0 where
-  pub prepared : level.prepared ≡ plan s t
-  pub p : level.p ≡ (row_of_entry ds n f (entry t s)).p
-  pub have : AreKept level.have (slot_of (fills ds n f (entry t s)) (plan s t) s tick 0)
-      (slot_of (fills ds n f (entry t s)) (plan s t) s tick 1)
-  pub front : q.front.value ≡ f
-  pub r : q.r ≡ (row_of_entry ds n f (entry t s)).r
-  pub c : q.c ≡ (row_of_entry ds n f (entry t s)).c
-  pub fills : q.fills ≡ fills ds n f (entry t s)
+module _ (ds : List ℕ) (n tick : ℕ) where
+  -- a level is the next entry of the state s behind the front f, prepared; t says whether it is a
+  -- table instruction. It has no other operand words than those that are there at the tick
+  pub record IsLevel (t : Option ℕ) (s : Machine) (f : Front) (level : Level)
+      (q : Plan) : Type 0 where
+    pub prepared : level.prepared ≡ plan s t
+    pub p : level.p ≡ (row_of_entry ds n f (entry t s)).p
+    pub have : AreKept level.have (slot_of (fills ds n f (entry t s)) (plan s t) s tick 0)
+        (slot_of (fills ds n f (entry t s)) (plan s t) s tick 1)
+    pub front : q.front.value ≡ f
+    pub r : q.r ≡ (row_of_entry ds n f (entry t s)).r
+    pub c : q.c ≡ (row_of_entry ds n f (entry t s)).c
+    pub fills : q.fills ≡ fills ds n f (entry t s)
 
--- levels, oldest first, are the next entries by guessed steps, and `last` is the front behind them
-unfoldable pub AreLevels : List ℕ → ℕ → ℕ → Option ℕ → Machine → Front → Front → List Level →
-    List Plan → Type 0
-AreLevels ds n tick t s f last [] [] = last ≡ f
-AreLevels ds n tick t s f last [] (q ∷ qs) = ⊥
-AreLevels ds n tick t s f last (level ∷ levels) [] = ⊥
-AreLevels ds n tick t s f last (level ∷ levels) (q ∷ qs) =
-    IsLevel ds n tick t s f level q
-    × AreLevels ds n tick None (guess t s) (front_after_entry ds n f (entry t s)) last levels qs
+  -- levels, oldest first, are the next entries by guessed steps, and `last` is the front behind
+  -- them
+  unfoldable pub AreLevels : Option ℕ → Machine → Front → Front → List Level → List Plan → Type 0
+  AreLevels t s f last [] [] = last ≡ f
+  AreLevels t s f last [] (q ∷ qs) = ⊥
+  AreLevels t s f last (level ∷ levels) [] = ⊥
+  AreLevels t s f last (level ∷ levels) (q ∷ qs) =
+      IsLevel t s f level q
+      × AreLevels None (guess t s) (front_after_entry ds n f (entry t s)) last levels qs
 
--- they have all operand words that are there at the tick
-unfoldable pub AreFull : List ℕ → ℕ → ℕ → Option ℕ → Machine → Front → List Level → Type 0
-AreFull ds n tick t s f [] = Unit {0}
-AreFull ds n tick t s f (level ∷ levels) =
-    (level.have ≡ have_of ds n tick t s f) × AreFull ds n tick None (guess t s)
-    (front_after_entry ds n f (entry t s)) levels
+  -- they have all operand words that are there at the tick
+  unfoldable pub AreFull : Option ℕ → Machine → Front → List Level → Type 0
+  AreFull t s f [] = Unit {0}
+  AreFull t s f (level ∷ levels) =
+      (level.have ≡ have_of ds n tick t s f) × AreFull None (guess t s)
+      (front_after_entry ds n f (entry t s)) levels
 
--- all of it: only the youngest level may be one that is done alone
-pub record AreAhead (ds : List ℕ) (n tick : ℕ) (t : Option ℕ) (s : Machine) (f last : Front)
-    (v : LevelsView) : Type 0 where
-  pub levels : AreLevels ds n tick t s f last v.ring v.plans
-  pub index : v.x ≡ split_words (length v.ring) t s
-  pub run_ahead : RunAhead (length v.ring - 1) t s
+  -- all of it: only the youngest level may be one that is done alone
+  pub record AreAhead (t : Option ℕ) (s : Machine) (f last : Front) (v : LevelsView) : Type 0 where
+    pub levels : AreLevels t s f last v.ring v.plans
+    pub index : v.x ≡ split_words (length v.ring) t s
+    pub run_ahead : RunAhead (length v.ring - 1) t s
 
 -- none of them is done at this tick or before it
 abbrev pub AreNotDone : ℕ → LevelsView → Type 0

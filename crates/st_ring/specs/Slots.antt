@@ -11,27 +11,29 @@ use Rattle.st_ring.specs.OneLevel.{level_with_word}
 use Rattle.st_ring.specs.declared.level.Level.{Level}
 use Rattle.st_segment.specs.Entries.{entry}
 
--- when an operand word above the registers is there, by the ticks of the first two of these words
-abbrev pub fill_tick : List ℕ → Prepared → ℕ → ℕ
-fill_tick ticks p w =
-    if nat_le FIRST_STORAGE_WORD p.reads.first then get_or ticks (w - p.reads.first) 0
-    else get_or ticks (w - FIRST_STORAGE_WORD) 0
+module _ (ticks : List ℕ) (p : Prepared) where
+  -- when an operand word above the registers is there, by the ticks of the first two of these words
+  abbrev pub fill_tick : ℕ → ℕ
+  fill_tick w =
+      if nat_le FIRST_STORAGE_WORD p.reads.first then get_or ticks (w - p.reads.first) 0
+      else get_or ticks (w - FIRST_STORAGE_WORD) 0
 
--- a register is there at once, another word when its read is answered or its latest writer is done
-abbrev pub is_there : List ℕ → Prepared → ℕ → ℕ → Bool
-is_there ticks p tick w = nat_lt w FIRST_STORAGE_WORD || nat_le (fill_tick ticks p w) tick
+  -- a register is there at once, another word when its read is answered or its latest writer is
+  -- done
+  abbrev pub is_there : ℕ → ℕ → Bool
+  is_there tick w = nat_lt w FIRST_STORAGE_WORD || nat_le (fill_tick w) tick
 
--- the word in slot k of a level, as it stands in the state s before its step, once it is there;
--- transmissions keep none
-unfoldable pub slot_of : List ℕ → Prepared → Machine → ℕ → ℕ → Option ℕ
-slot_of ticks p s tick k =
-    if not (is_transmission p.instr) && nat_lt k p.reads.len
-    && is_there ticks p tick (p.reads.first + k)
-    then Some (word s (p.reads.first + k)) else None
+  -- the word in slot k of a level, as it stands in the state s before its step, once it is there;
+  -- transmissions keep none
+  unfoldable pub slot_of : Machine → ℕ → ℕ → Option ℕ
+  slot_of s tick k =
+      if not (is_transmission p.instr) && nat_lt k p.reads.len
+      && is_there tick (p.reads.first + k)
+      then Some (word s (p.reads.first + k)) else None
 
--- both slots of a level
-abbrev pub slots_of : List ℕ → Prepared → Machine → ℕ → List (Option ℕ)
-slots_of ticks p s tick = slot_of ticks p s tick 0 ∷ slot_of ticks p s tick 1 ∷ []
+  -- both slots of a level
+  abbrev pub slots_of : Machine → ℕ → List (Option ℕ)
+  slots_of s tick = slot_of s tick 0 ∷ slot_of s tick 1 ∷ []
 
 -- those of the next entry of a state behind a front, on a machine with the delays ds and with n
 -- levels

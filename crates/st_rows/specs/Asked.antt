@@ -65,38 +65,40 @@ following_asked ds b e p =
     (e.own.first + e.own.len + 1) p
     else []
 
--- the instruction words of the entry e behind the front f
-unfoldable pub fetches_asked : List ℕ → Front → Entry → List Read
-fetches_asked ds f e =
-    words_asked ds f.past (record { bus = f.bus; answered = 0; awaited = 0 })
-    (wanted_from f) e.own.first e.own.len
-    ++ words_asked ds f.past
-    (fetch_words ds f.past (record { bus = f.bus; answered = 0; awaited = 0 })
-    (wanted_from f) e.own.first e.own.len)
-    (max (wanted_from f) f.c) e.target.first e.target.len
+module _ (ds : List ℕ) (f : Front) (e : Entry) where
+  -- the instruction words of the entry e behind the front f
+  unfoldable pub fetches_asked : List Read
+  fetches_asked =
+      words_asked ds f.past (record { bus = f.bus; answered = 0; awaited = 0 })
+      (wanted_from f) e.own.first e.own.len
+      ++ words_asked ds f.past
+      (fetch_words ds f.past (record { bus = f.bus; answered = 0; awaited = 0 })
+      (wanted_from f) e.own.first e.own.len)
+      (max (wanted_from f) f.c) e.target.first e.target.len
 
--- in two parts: its reads until its address is formed
-abbrev pub formed_asked : List ℕ → Front → Entry → List Read
-formed_asked ds f e = fetches_asked ds f e ++ side_asked f.past e.side (tick_a ds f e)
+  -- in two parts: its reads until its address is formed
+  abbrev pub formed_asked : List Read
+  formed_asked = fetches_asked ++ side_asked f.past e.side (tick_a ds f e)
 
--- and those from its preparation on
-abbrev pub prepared_asked : List ℕ → ℕ → Front → Entry → List Read
-prepared_asked ds n f e =
-    runs_asked f.past e.reads (tick_p ds n f e) ++ following_asked ds (operands ds n f e).bus e
-    (tick_p ds n f e)
+module _ (ds : List ℕ) (n : ℕ) (f : Front) (e : Entry) where
+  -- and those from its preparation on
+  abbrev pub prepared_asked : List Read
+  prepared_asked =
+      runs_asked f.past e.reads (tick_p ds n f e) ++ following_asked ds (operands ds n f e).bus e
+      (tick_p ds n f e)
 
--- those behind its instruction words
-abbrev pub data_of : List ℕ → ℕ → Front → Entry → List Read
-data_of ds n f e = side_asked f.past e.side (tick_a ds f e) ++ prepared_asked ds n f e
+  -- those behind its instruction words
+  abbrev pub data_of : List Read
+  data_of = side_asked f.past e.side (tick_a ds f e) ++ prepared_asked
 
--- all reads of that entry
-unfoldable pub reads_of_entry : List ℕ → ℕ → Front → Entry → List Read
-reads_of_entry ds n f e =
-    fetches_asked ds f e
-    ++ side_asked f.past e.side (tick_a ds f e)
-    ++ operands_asked f.past (tick_p ds n f e) e.reads.one.first e.reads.one.len
-    ++ operands_asked f.past (tick_p ds n f e) e.reads.two.first e.reads.two.len
-    ++ following_asked ds (operands ds n f e).bus e (tick_p ds n f e)
+  -- all reads of that entry
+  unfoldable pub reads_of_entry : List Read
+  reads_of_entry =
+      fetches_asked ds f e
+      ++ side_asked f.past e.side (tick_a ds f e)
+      ++ operands_asked f.past (tick_p ds n f e) e.reads.one.first e.reads.one.len
+      ++ operands_asked f.past (tick_p ds n f e) e.reads.two.first e.reads.two.len
+      ++ following_asked ds (operands ds n f e).bus e (tick_p ds n f e)
 
 -- how many words the index-side word is
 abbrev pub side_count : Option ℕ → ℕ
@@ -107,18 +109,19 @@ side_count (Some w) = 1
 abbrev pub own_reads : Entry → ℕ
 own_reads e = e.own.len + e.target.len + side_count e.side + e.reads.one.len + e.reads.two.len
 
--- the bus after a read
-abbrev pub after_one : List ℕ → Bus → Read → Bus
-after_one ds b r = if r.fetch then requested_if None ds b r.w r.want
-    else bus_after_read ds b r.w r.want
+module _ (ds : List ℕ) where
+  -- the bus after a read
+  abbrev pub after_one : Bus → Read → Bus
+  after_one b r = if r.fetch then requested_if None ds b r.w r.want
+      else bus_after_read ds b r.w r.want
 
--- after the reads of a list
-unfoldable pub bus_after_reads : List ℕ → List Read → Bus → Bus
-bus_after_reads ds [] b = b
-bus_after_reads ds (r ∷ reads) b = bus_after_reads ds reads (after_one ds b r)
+  -- after the reads of a list
+  unfoldable pub bus_after_reads : List Read → Bus → Bus
+  bus_after_reads [] b = b
+  bus_after_reads (r ∷ reads) b = bus_after_reads reads (after_one b r)
 
--- after those of them that are accepted before the tick t
-unfoldable pub made_before : List ℕ → ℕ → List Read → Bus → Bus
-made_before ds t [] b = b
-made_before ds t (r ∷ reads) b =
-    if nat_lt (accept_at b r.w r.want) t then made_before ds t reads (after_one ds b r) else b
+  -- after those of them that are accepted before the tick t
+  unfoldable pub made_before : ℕ → List Read → Bus → Bus
+  made_before t [] b = b
+  made_before t (r ∷ reads) b =
+      if nat_lt (accept_at b r.w r.want) t then made_before t reads (after_one b r) else b

@@ -41,10 +41,7 @@ abbrev pub requested_if : Option ℕ → List ℕ → Bus → ℕ → ℕ → Bu
 requested_if (Some tick) ds b w want = b
 requested_if None ds b w want =
     record (bus_after_read ds b w want) {
-      held = record {
-        words = asked_for b.held.words w
-            (answer_at ds b w want);
-      };
+      held = record { words = asked_for b.held.words w (answer_at ds b w want) };
     }
 
 -- the tick of the word's answer, given that tick if it is held
@@ -52,10 +49,11 @@ abbrev pub answer_if : Option ℕ → List ℕ → Bus → ℕ → ℕ → ℕ
 answer_if (Some tick) ds b w want = tick
 answer_if None ds b w want = answer_at ds b w want
 
--- the bus after the instruction word w was asked for
-unfoldable pub bus_after_request : List ℕ → Bus → ℕ → ℕ → Bus
-bus_after_request ds b w want = requested_if (tick_of b.held.words w) ds b w want
+module _ (ds : List ℕ) (b : Bus) (w want : ℕ) where
+  -- the bus after the instruction word w was asked for
+  unfoldable pub bus_after_request : Bus
+  bus_after_request = requested_if (tick_of b.held.words w) ds b w want
 
--- the tick of its answer
-unfoldable pub answer_tick_on : List ℕ → Bus → ℕ → ℕ → ℕ
-answer_tick_on ds b w want = answer_if (tick_of b.held.words w) ds b w want
+  -- the tick of its answer
+  unfoldable pub answer_tick_on : ℕ
+  answer_tick_on = answer_if (tick_of b.held.words w) ds b w want

@@ -27,19 +27,19 @@ opening_front banks start = record {
 -- ---- instruction words: each is wanted once the words before it are answered and the entries are
 -- done that write them
 
--- the word w, wanted from the tick `from` on
-unfoldable pub fetch_word : List ℕ → List Past → Fetching → ℕ → ℕ → Fetching
-fetch_word ds past s w from = record {
-  bus = bus_after_request ds s.bus w (max (max from s.answered) s.awaited);
-  answered = max s.answered (answer_tick_on ds s.bus w (max (max from s.answered) s.awaited));
-  awaited = max s.awaited (latest_done past w);
-}
+module _ (ds : List ℕ) (past : List Past) where
+  -- the word w, wanted from the tick `from` on
+  unfoldable pub fetch_word : Fetching → ℕ → ℕ → Fetching
+  fetch_word s w from = record {
+    bus = bus_after_request ds s.bus w (max (max from s.answered) s.awaited);
+    answered = max s.answered (answer_tick_on ds s.bus w (max (max from s.answered) s.awaited));
+    awaited = max s.awaited (latest_done past w);
+  }
 
--- n words from the word w on
-unfoldable pub fetch_words : List ℕ → List Past → Fetching → ℕ → ℕ → ℕ → Fetching
-fetch_words ds past s from w zero = s
-fetch_words ds past s from w (suc n) = fetch_words ds past (fetch_word ds past s w from) from
-    (w + 1) n
+  -- n words from the word w on
+  unfoldable pub fetch_words : Fetching → ℕ → ℕ → ℕ → Fetching
+  fetch_words s from w zero = s
+  fetch_words s from w (suc n) = fetch_words (fetch_word s w from) from (w + 1) n
 
 -- behind an entry that is done alone, words are wanted once that is done, else once it is prepared
 abbrev pub wanted_from : Front → ℕ
@@ -70,16 +70,16 @@ address_tick f e answered awaited =
 abbrev pub is_forwarded : List Past → ℕ → ℕ → Bool
 is_forwarded past w tick = nat_lt tick (latest_done past w)
 
--- the bus behind the read of the index-side word, wanted at the address's tick
-unfoldable pub bus_sided : List ℕ → List Past → Bus → Option ℕ → ℕ → Bus
-bus_sided ds past b None a = b
-bus_sided ds past b (Some w) a = if is_forwarded past w a then b else bus_after_read ds b w a
+module _ (ds : List ℕ) (past : List Past) (b : Bus) where
+  -- the bus behind the read of the index-side word, wanted at the address's tick
+  unfoldable pub bus_sided : Option ℕ → ℕ → Bus
+  bus_sided None a = b
+  bus_sided (Some w) a = if is_forwarded past w a then b else bus_after_read ds b w a
 
--- the tick at which that word is there
-unfoldable pub side_there : List ℕ → List Past → Bus → Option ℕ → ℕ → ℕ
-side_there ds past b None a = 0
-side_there ds past b (Some w) a = if is_forwarded past w a then latest_done past w
-    else answer_at ds b w a
+  -- the tick at which that word is there
+  unfoldable pub side_there : Option ℕ → ℕ → ℕ
+  side_there None a = 0
+  side_there (Some w) a = if is_forwarded past w a then latest_done past w else answer_at ds b w a
 
 -- ---- preparation: one tick later, and later than the completion of the entry n before
 
@@ -98,36 +98,44 @@ preparation_tick n past a y = max (max a y) (done_before n past) + 1
 abbrev pub reading_of_fetch : Fetching → Reading
 reading_of_fetch s = record { bus = s.bus; answered = s.answered }
 
--- the word w, wanted at preparation
-unfoldable pub read_word : List ℕ → List Past → Reading → ℕ → ℕ → Reading
-read_word ds past s w p =
-    if is_forwarded past w p then s
-    else record {
-      bus = bus_after_read ds s.bus w p;
-      answered = max s.answered
-          (answer_at ds s.bus w p);
-    }
+module _ (ds : List ℕ) (past : List Past) where
+  -- the word w, wanted at preparation
+  unfoldable pub read_word : Reading → ℕ → ℕ → Reading
+  read_word s w p =
+      if is_forwarded past w p then s
+      else record {
+        bus = bus_after_read ds s.bus w p;
+        answered = max s.answered (answer_at ds s.bus w p);
+      }
 
--- n words from the word w on
-unfoldable pub read_words : List ℕ → List Past → Reading → ℕ → ℕ → ℕ → Reading
-read_words ds past s p w zero = s
-read_words ds past s p w (suc n) = read_words ds past (read_word ds past s w p) p (w + 1) n
+  -- n words from the word w on
+  unfoldable pub read_words : Reading → ℕ → ℕ → ℕ → Reading
+  read_words s p w zero = s
+  read_words s p w (suc n) = read_words (read_word s w p) p (w + 1) n
 
--- the words of both runs
-unfoldable pub operands_read : List ℕ → List Past → Bus → WordRuns → ℕ → Reading
-operands_read ds past b reads p =
-    read_words ds past
-    (read_words ds past (record { bus = b; answered = p }) p reads.one.first reads.one.len)
-    p reads.two.first reads.two.len
+  -- the words of both runs
+  unfoldable pub operands_read : Bus → WordRuns → ℕ → Reading
+  operands_read b reads p =
+      read_words
+      (read_words (record { bus = b; answered = p }) p reads.one.first reads.one.len)
+      p reads.two.first reads.two.len
 
--- the tick at which an operand word is there: its answer, or the completion of its latest writer
--- where it is forwarded
-unfoldable pub fill_at : List ℕ → List Past → Bus → ℕ → ℕ → ℕ
-fill_at ds past b w p = if is_forwarded past w p then latest_done past w else answer_at ds b w p
+  -- the tick at which an operand word is there: its answer, or the completion of its latest writer
+  -- where it is forwarded
+  unfoldable pub fill_at : Bus → ℕ → ℕ → ℕ
+  fill_at b w p = if is_forwarded past w p then latest_done past w else answer_at ds b w p
 
 -- the same where there is such a word, and else 0
 abbrev pub fill_if : Bool → List ℕ → List Past → Bus → ℕ → ℕ → ℕ
 fill_if there ds past b w p = if there then fill_at ds past b w p else 0
+
+-- when the first two words of its first run of operands are there, 0 where the run has no such word
+unfoldable pub fills_of : List ℕ → List Past → Bus → WordRun → ℕ → List ℕ
+fills_of ds past b run p =
+    fill_if (nat_lt 0 run.len) ds past b run.first p
+    ∷ fill_if (nat_lt 1 run.len) ds past
+    (read_word ds past (record { bus = b; answered = p }) run.first p).bus (run.first + 1) p
+    ∷ []
 
 -- ---- completion
 
@@ -151,57 +159,46 @@ bus_followed ds b e p =
 
 -- ---- the row of the entry e behind the front f
 
--- when its address is formed
-unfoldable pub tick_a : List ℕ → Front → Entry → ℕ
-tick_a ds f e = address_tick f e (words_tick ds f e).answered (words_tick ds f e).awaited
+module _ (ds : List ℕ) (f : Front) (e : Entry) where
+  -- when its address is formed
+  unfoldable pub tick_a : ℕ
+  tick_a = address_tick f e (words_tick ds f e).answered (words_tick ds f e).awaited
 
--- the bus behind its instruction words and its index-side word
-unfoldable pub bus_a : List ℕ → Front → Entry → Bus
-bus_a ds f e = bus_sided ds f.past (words_tick ds f e).bus e.side (tick_a ds f e)
+  -- the bus behind its instruction words and its index-side word
+  unfoldable pub bus_a : Bus
+  bus_a = bus_sided ds f.past (words_tick ds f e).bus e.side tick_a
 
--- when its index-side word is there
-unfoldable pub tick_y : List ℕ → Front → Entry → ℕ
-tick_y ds f e = side_there ds f.past (words_tick ds f e).bus e.side (tick_a ds f e)
+  -- when its index-side word is there
+  unfoldable pub tick_y : ℕ
+  tick_y = side_there ds f.past (words_tick ds f e).bus e.side tick_a
 
--- when it is prepared
-unfoldable pub tick_p : List ℕ → ℕ → Front → Entry → ℕ
-tick_p ds n f e = preparation_tick n f.past (tick_a ds f e) (tick_y ds f e)
+module _ (ds : List ℕ) (n : ℕ) (f : Front) (e : Entry) where
+  -- when it is prepared
+  unfoldable pub tick_p : ℕ
+  tick_p = preparation_tick n f.past (tick_a ds f e) (tick_y ds f e)
 
--- its operands
-unfoldable pub operands : List ℕ → ℕ → Front → Entry → Reading
-operands ds n f e = operands_read ds f.past (bus_a ds f e) e.reads (tick_p ds n f e)
+  -- its operands
+  unfoldable pub operands : Reading
+  operands = operands_read ds f.past (bus_a ds f e) e.reads tick_p
 
--- when it is done
-unfoldable pub tick_c : List ℕ → ℕ → Front → Entry → ℕ
-tick_c ds n f e = completion_tick f e (operands ds n f e).answered
+  -- when it is done
+  unfoldable pub tick_c : ℕ
+  tick_c = completion_tick f e operands.answered
 
--- all of these ticks
-unfoldable pub row_of_entry : List ℕ → ℕ → Front → Entry → EntryTicks
-row_of_entry ds n f e = record {
-  a = tick_a ds f e;
-  p = tick_p ds n f e;
-  r = (operands ds n f e).answered;
-  c = tick_c ds n f e;
-}
+  -- all of these ticks
+  unfoldable pub row_of_entry : EntryTicks
+  row_of_entry = record { a = tick_a ds f e; p = tick_p; r = operands.answered; c = tick_c }
 
--- when the first two words of its first run of operands are there, 0 where the run has no such word
-unfoldable pub fills_of : List ℕ → List Past → Bus → WordRun → ℕ → List ℕ
-fills_of ds past b run p =
-    fill_if (nat_lt 0 run.len) ds past b run.first p
-    ∷ fill_if (nat_lt 1 run.len) ds past
-    (read_word ds past (record { bus = b; answered = p }) run.first p).bus (run.first + 1) p
-    ∷ []
+  -- when the first two operand words of the entry e behind the front f are there
+  abbrev pub fills : List ℕ
+  fills = fills_of ds f.past (bus_a ds f e) e.reads.one tick_p
 
--- when the first two operand words of the entry e behind the front f are there
-abbrev pub fills : List ℕ → ℕ → Front → Entry → List ℕ
-fills ds n f e = fills_of ds f.past (bus_a ds f e) e.reads.one (tick_p ds n f e)
-
--- the front behind it
-unfoldable pub front_after_entry : List ℕ → ℕ → Front → Entry → Front
-front_after_entry ds n f e = record {
-  bus = bus_followed ds (operands ds n f e).bus e (tick_p ds n f e);
-  p = tick_p ds n f e;
-  c = tick_c ds n f e;
-  serial = e.serial;
-  past = record { c = tick_c ds n f e; writes = e.writes } ∷ take 7 f.past;
-}
+  -- the front behind it
+  unfoldable pub front_after_entry : Front
+  front_after_entry = record {
+    bus = bus_followed ds operands.bus e tick_p;
+    p = tick_p;
+    c = tick_c;
+    serial = e.serial;
+    past = record { c = tick_c; writes = e.writes } ∷ take 7 f.past;
+  }

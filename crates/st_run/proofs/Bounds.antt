@@ -16,11 +16,11 @@ use Rattle.st_rows.proofs.Served.{made-bounds}
 use Rattle.st_rows.proofs.Stages.{c-within}
 use Rattle.st_rows.proofs.Tight.{tight-after}
 use Rattle.st_segment.specs.Entries.{entry}
-use Rattle.st_segment.specs.Ahead.{Ahead, ahead, prepared_before}
+use Rattle.st_segment.specs.Ahead.{Ahead, ahead, prepared_before, reads_to_end}
 use Rattle.st_segment.proofs.EntryRanges.{entry-ranges}
 use Rattle.st_run.specs.Events.{Timed}
 use Rattle.st_run.specs.Scenes.{IsScene}
-use Rattle.st_run.specs.Moments.{Moment, Standing, moment_at_start, answers_at_start, next_scene, next_state, ends_segment, next_segment, next_front, standing_at, interrupt_of_moment, next_row, front_after, entries_behind, reads_until, next_moment}
+use Rattle.st_run.specs.Moments.{Moment, Standing, moment_at_start, answers_at_start, next_scene, next_state, ends_segment, next_segment, next_front, standing_at, interrupt_of_moment, next_row, front_after, entries_behind, entry_of_moment, next_moment}
 use Rattle.st_run.specs.TimedRun.{timed_from}
 use Rattle.st_run.proofs.SceneLemmas.{settled-scene, stepped-scene}
 use Rattle.st_run.proofs.EachEvent.{timed-each, next-more}
@@ -75,14 +75,14 @@ module _ (most n : ℕ) (ds : List ℕ) (are : AreDelaysUpTo most ds) (levels : 
       let tick = tick_c ds n p.front e in
       let fits : IsEntryInTime e = entry-ranges t s is.machine (interrupt-below s) in
       let free : p.front.bus.free ≤ tick = free-before_done ds n p.front e fits in
-      let made = made-bounds most ds are tick (reads_until ds n tick p) p.front.bus tight.near free in
+      let made = made-bounds most ds are tick (reads_to_end ds n tick (interrupt_of_moment p) p.scene.machine p.front (entry_of_moment p)) p.front.bus tight.near free in
       record {
         scene = stepped-scene p.scene is;
         tight = tight-after most ds are n p.front e fits tight;
         last = omega arith;
         few = omega (arith, prepared-few tick (entries_behind ds n n p), ahead-few ds n n None (guess t s) (front_after ds n p));
         banks =
-            All-weaker (λ x. x ≤ (made_before ds tick (reads_until ds n tick p) p.front.bus).free + most) (λ x. x ≤ tick + most)
+            All-weaker (λ x. x ≤ (made_before ds tick (reads_to_end ds n tick (interrupt_of_moment p) p.scene.machine p.front (entry_of_moment p)) p.front.bus).free + most) (λ x. x ≤ tick + most)
             (λ x low. omega (arith, made.1)) _ made.0.banks;
       }
 

@@ -1,5 +1,5 @@
 -- Before the next entry: a snapshot, or that entry is done.
-use Rattle.std.specs.Prelude.{IfSome}
+use Rattle.std.specs.Prelude.{slice_get, IfSome}
 use Rattle.std.proofs.Common.{◌≡◌, ℕ, ◌+◌, ◌-◌, ◌<◌, ◌≤◌, ◌^◌, List, [], ◌∷◌, Option, None, Some, refl, sym, ◌∙◌, ap, subst, arith}
 use Rattle.std.proofs.lemmas.List.Elements.{All-tail}
 use Rattle.st_prep.specs.Plan.{plan}
@@ -13,8 +13,8 @@ use Rattle.st_run.specs.TimedRun.{completion, timed_from, timed_behind}
 use Rattle.st_run.specs.Order.{AreRising}
 use Rattle.st_run.specs.Told.{Done, Told, told_of, told_of_events}
 use Rattle.st_run.specs.Together.{Together, IsBeforeEntry, standing_of, moment_of}
-use Rattle.st_run.specs.Telling.{AreInTime, IsShown, IsLeft, snapshot_tick}
-use Rattle.st_run.specs.Ticking.{AreMade, at_completion}
+use Rattle.st_run.specs.Telling.{AreInTime, IsShown, IsLeft}
+use Rattle.st_run.specs.Ticking.{AreMade, AreTicked, at_completion}
 use Rattle.st_run.proofs.Turns.{behind-done, behind-none}
 use Rattle.st_run.proofs.ToldLemmas.{once}
 use Rattle.st_run.proofs.TickLemmas.{row-same}
@@ -28,19 +28,19 @@ at_tick now t = record t { machine = record t.machine { now = now } }
 
 -- ---- snapshots
 
-pub first-late : (now : ℕ) (snaps : List ℕ) → AreRising (now - 1) snaps → IfSome (snapshot_tick snaps) (λ x. now - 1 ≤ x)
+pub first-late : (now : ℕ) (snaps : List ℕ) → AreRising (now - 1) snaps → IfSome (slice_get snaps 0) (λ x. now - 1 ≤ x)
 unfolding AreRising
 first-late now [] is = tt
 first-late now (x ∷ xs) is = is.0
 
-rising-first : (t c : ℕ) (snaps : List ℕ) → AreRising t snaps → IfSome (snapshot_tick snaps) (λ x. c ≤ x) → AreRising c snaps
+rising-first : (t c : ℕ) (snaps : List ℕ) → AreRising t snaps → IfSome (slice_get snaps 0) (λ x. c ≤ x) → AreRising c snaps
 unfolding AreRising
 rising-first t c [] is late = tt
 rising-first t c (x ∷ xs) is late = (late, is.1)
 
 -- where none comes before, the entry is done first
 behind-completes : (ds : List ℕ) (n left : ℕ) (p : Standing) (snaps : List ℕ)
-    → IfSome (snapshot_tick snaps) (λ x. (next_moment ds n p).tick ≤ x)
+    → IfSome (slice_get snaps 0) (λ x. (next_moment ds n p).tick ≤ x)
     → timed_behind ds n left p snaps ≡ completion ds n p ∷ timed_from ds n left (next_moment ds n p) snaps
 behind-completes ds n left p [] late = behind-none ds n left p
 behind-completes ds n left p (x ∷ xs) late = behind-done ds n left p x xs late
@@ -63,7 +63,7 @@ module _ (left tick : ℕ) (snaps : List ℕ) (t new : Together) (before : IsBef
 
   -- a snapshot
   shown-by : (xs : List ℕ) → AreRising (o.now - 1) xs
-      → AreInTime (told_of_events (timed_behind o.delays o.levels left p xs)) → AreMade None (snapshot_tick xs) t new → IsShown left tick xs new
+      → AreInTime (told_of_events (timed_behind o.delays o.levels left p xs)) → AreMade (AreTicked None (slice_get xs 0)) t new → IsShown left tick xs new
   unfolding AreRising
   shown-by [] up all made = absurd made.ticked
   shown-by (x ∷ xs) up all made =
@@ -77,12 +77,12 @@ module _ (left tick : ℕ) (snaps : List ℕ) (t new : Together) (before : IsBef
         in_time = all;
       })
 
-  pub go-shows : (snap : Option ℕ) → snap ≡ snapshot_tick snaps → AreMade None snap t new → IsShown left tick snaps new
+  pub go-shows : (snap : Option ℕ) → snap ≡ slice_get snaps 0 → AreMade (AreTicked None snap) t new → IsShown left tick snaps new
   go-shows snap first made =
-      shown-by snaps rising in_time (subst {A = Option ℕ} (λ k. AreMade None k t new) first made)
+      shown-by snaps rising in_time (subst {A = Option ℕ} (λ k. AreMade (AreTicked None k) t new) first made)
 
   -- the entry is done
-  module _ (row : Row) (snap : Option ℕ) (first : snap ≡ snapshot_tick snaps) (made : AreMade (Some row) snap t new) where
+  module _ (row : Row) (snap : Option ℕ) (first : snap ≡ slice_get snaps 0) (made : AreMade (AreTicked (Some row) snap) t new) where
     abbrev done : Together
     done = record t { machine = machine_after_completion (at_completion o) }
 
@@ -92,11 +92,11 @@ module _ (left tick : ℕ) (snaps : List ℕ) (t new : Together) (before : IsBef
     moment-is : moment_of done ≡ next
     moment-is = moment-next t tick before
 
-    late : IfSome (snapshot_tick snaps) (λ x. (oldest_row o).c ≤ x)
+    late : IfSome (slice_get snaps 0) (λ x. (oldest_row o).c ≤ x)
     late = subst {A = Option ℕ} (λ k. IfSome k (λ x. (oldest_row o).c ≤ x)) first made.ticked.0
 
-    late-next : IfSome (snapshot_tick snaps) (λ x. next.tick ≤ x)
-    late-next = subst {A = ℕ} (λ k. IfSome (snapshot_tick snaps) (λ x. k ≤ x)) (sym (next-tick left tick snaps t before in_time)) late
+    late-next : IfSome (slice_get snaps 0) (λ x. next.tick ≤ x)
+    late-next = subst {A = ℕ} (λ k. IfSome (slice_get snaps 0) (λ x. k ≤ x)) (sym (next-tick left tick snaps t before in_time)) late
 
     all-told : told_of_events (timed_behind o.delays o.levels left p snaps)
         ≡ told_of (completion o.delays o.levels p) ∷ told_of_events (timed_from o.delays o.levels left next snaps)

@@ -1,5 +1,6 @@
 -- One thing comes to a machine after another.
 use Rattle.std.specs.Prelude.{nat_lt, option_map, if◌then◌else◌}
+use Rattle.std.specs.Option.{option_or}
 use Rattle.std.proofs.lemmas.Bool.Decides.{nat_tests}
 use Rattle.std.proofs.Common.{◌≡◌, ◌≤◌, ◌||◌, ◌++◌, ℕ, Bool, true, false, List, [], ◌∷◌, length, Option, None, Some, refl, ap, sym, subst, ◌∙◌, arith, length-append}
 use Rattle.st_state.specs.Machine.{Machine}
@@ -9,7 +10,7 @@ use Rattle.st_exch.specs.Printer.{line_of_words}
 use Rattle.st_exec.specs.Step.{rests}
 use Rattle.st_run.specs.Run.{Scene, Transition, PlainEvent, and_then, uneventful, with_device, with_order_at_rest, with_wait}
 use Rattle.st_run.specs.Together.{AreTexts, text_told}
-use Rattle.st_run.specs.Outside.{Coming, HasHappened, scene_at, first_words, joined_of, nothing, ends_by}
+use Rattle.st_run.specs.Outside.{Coming, HasHappened, scene_at, joined_of, nothing, ends_by}
 use Rattle.st_run.specs.declared.between.Interlude.{Interlude}
 use Rattle.st_run.proofs.SignalLemmas.{wait-none}
 
@@ -32,7 +33,7 @@ came-both a b c one two first second is_one is_two = rw (is_one, is_two) (grind 
 
 texts-joined : (t u : Option (List ℕ)) (xs ys : List PlainEvent) → (length xs ≤ 1 → AreTexts (option_map line_of_words t) xs)
     → (length ys ≤ 1 → AreTexts (option_map line_of_words u) ys)
-    → length (xs ++ ys) ≤ 1 → AreTexts (option_map line_of_words (first_words t u)) (xs ++ ys)
+    → length (xs ++ ys) ≤ 1 → AreTexts (option_map line_of_words (option_or t u)) (xs ++ ys)
 texts-joined None u [] ys first second few = second few
 texts-joined None u (x ∷ xs) ys first second few =
     let one : length (x ∷ xs) ≤ 1 = omega (arith, length-append (x ∷ xs) ys) in
@@ -42,7 +43,7 @@ texts-joined (Some words) u (x ∷ []) [] first second few = first (omega arith)
 texts-joined (Some words) u (x ∷ []) (y ∷ ys) first second few = absurd (omega arith)
 texts-joined (Some words) u (x ∷ z ∷ xs) ys first second few = absurd (omega arith)
 
-words-none : (t : Option (List ℕ)) → first_words t None ≡ t
+words-none : (t : Option (List ℕ)) → option_or t None ≡ t
 words-none None = refl
 words-none (Some words) = refl
 
@@ -96,8 +97,8 @@ came-none state leaves m x same = record {
 
 both-nothing : (i : Interlude) → joined_of i nothing ≡ i
 both-nothing i =
-    ap (λ (b : Bool). record { card = b; waited = i.waited || false; words = first_words i.words None }) (or-none i.card)
-    ∙ ap (λ (b : Bool). record { card = i.card; waited = b; words = first_words i.words None }) (or-none i.waited)
+    ap (λ (b : Bool). record { card = b; waited = i.waited || false; words = option_or i.words None }) (or-none i.card)
+    ∙ ap (λ (b : Bool). record { card = i.card; waited = b; words = option_or i.words None }) (or-none i.waited)
     ∙ ap (λ (t : Option (List ℕ)). record { card = i.card; waited = i.waited; words = t }) (words-none i.words)
 
 -- ---- orders

@@ -12,7 +12,7 @@ use Rattle.st_ahead.specs.Overlap.{Overlap, interrupt_due}
 use Rattle.st_ahead.specs.Calls.{machine_after_segment, machine_after_settling as settled_of, signalled_by, read_in_by, printed_by, MayServe}
 use Rattle.st_ahead.proofs.Settling.{settled-waits}
 use Rattle.st_refine.specs.Reached.{IsLed, IsCard}
-use Rattle.st_run.specs.Together.{IsSince, closed_if}
+use Rattle.st_run.specs.Together.{IsSince}
 use Rattle.st_run.specs.Overlapped.{IsChanged}
 use Rattle.st_run.specs.OverlappedLaws.{or-none}
 use Rattle.st_run.proofs.EndedLemmas.{ended-behind, ended-since, ended-state, ended-serves}
@@ -23,8 +23,8 @@ or-some true = refl
 or-some false = refl
 
 -- the state alone has changed
-since-state : (o m k : Overlap) (over : Bool) → m ≡ record (closed_if over o) { state = m.state } → k ≡ record m { state = k.state }
-    → k ≡ record (closed_if over o) { state = k.state }
+since-state : (o m k : Overlap) (over : Bool) → m ≡ record (if over then machine_after_segment o else o) { state = m.state } → k ≡ record m { state = k.state }
+    → k ≡ record (if over then machine_after_segment o else o) { state = k.state }
 since-state o m k over first next = next ∙ ap (λ (x : Overlap). record x { state = k.state }) first
 
 changed-state : (m : Overlap) (s : Machine) → AreAlikeBesideOrders m.state s → (IsLed m → IsLed (record m { state = s }))

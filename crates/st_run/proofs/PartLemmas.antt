@@ -1,11 +1,12 @@
 -- What comes between two entries leaves the delays and the number of levels.
+use Rattle.std.specs.Prelude.{if◌then◌else◌}
 use Rattle.std.proofs.Common.{◌≡◌, ℕ, ◌+◌, Bool, true, false, length, Option, None, Some, refl, sym, ◌∙◌, subst}
 use Rattle.st_prep.proofs.Choices.{of_choice}
 use Rattle.st_exec.specs.Step.{rests}
 use Rattle.st_rows.specs.Rows.{opening_front}
 use Rattle.st_ahead.specs.Overlap.{Overlap, levels_of, interrupt_due}
 use Rattle.st_ahead.specs.Calls.{banks_left, machine_after_segment, machine_after_settling as settled_of, settled_by}
-use Rattle.st_run.specs.Together.{IsSince, closed_if}
+use Rattle.st_run.specs.Together.{IsSince}
 use Rattle.st_run.specs.Between.{IsChoice}
 use Rattle.st_run.specs.declared.turn.Turn.{Turn}
 use Rattle.st_run.specs.declared.turn.Turn.TheVariants.{Before, AtEnd, Over}
@@ -40,7 +41,7 @@ choice-parts (AtEnd resting) left over o p d h =
     subst {A = Overlap} (λ q. HasParts o q) (sym h.4) (record { delays = (ended-parts o).delays; levels = (ended-parts o).levels })
 choice-parts Over left over o p d h = absurd h
 
-closed-parts : (over : Bool) (o : Overlap) → HasParts o (closed_if over o)
+closed-parts : (over : Bool) (o : Overlap) → HasParts o (if over then machine_after_segment o else o)
 closed-parts true o = ended-parts o
 closed-parts false o = record { delays = refl; levels = refl }
 

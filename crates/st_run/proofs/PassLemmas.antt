@@ -8,7 +8,7 @@ use Rattle.st_state.specs.Orders.{is_due}
 use Rattle.st_exec.specs.Step.{rests}
 use Rattle.st_ahead.specs.Overlap.{Overlap, interrupt_due}
 use Rattle.st_ahead.specs.Calls.{is_done, row_done, machine_after_completion, machine_after_tick, machine_after_pass, machine_after_settling, answer, answer_by}
-use Rattle.st_ahead.specs.RunTo.{after_ticks, may_come, IsPassed, ArePassed}
+use Rattle.st_ahead.specs.RunTo.{after_ticks, may_come, IsPassed, ArePassed, RunsTo}
 use Rattle.st_ahead.specs.RowsDone.{Queue, queue_with, rows_in_ticks}
 use Rattle.st_ahead.specs.declared.events.Row.{Row}
 use Rattle.st_ahead.specs.declared.events.Settled.TheVariants.{Goes}
@@ -21,7 +21,7 @@ use Rattle.st_run.specs.Between.{IsQuiet, signal_due}
 use Rattle.st_run.specs.Leaving.{IsDecided, nothing_decided}
 use Rattle.st_run.specs.Together.{Together, IsBeforeEntry, standing_of, moment_of}
 use Rattle.st_run.specs.Telling.{Waiting, whats, row_told, rows_then, IsDone, AreLeftOut, HasGoneFar, IsLeft, IsRun, AreInTime, rest_of}
-use Rattle.st_run.specs.Ticking.{AreMade, AreMadeUpTo, at_completion, last_for}
+use Rattle.st_run.specs.Ticking.{AreMade, AreTicked, at_completion, last_for}
 use Rattle.st_run.specs.declared.turn.Turn.TheVariants as turns
 use Rattle.st_run.proofs.TickLemmas.{tick-passes, tick-early, tick-done, done-completed}
 use Rattle.st_run.proofs.MomentLemmas.{moment-next}
@@ -102,7 +102,7 @@ module _ (left tick : ℕ) (t : Together) (before : IsBeforeEntry t) (in_time : 
   ticked-is : machine_after_tick o ≡ machine_after_completion (at_completion o)
   ticked-is = done-completed o o o.now refl due ∙ ap {A = Overlap} machine_after_completion at_end
 
-  made : AreMade (Some (row_done o)) None t behind
+  made : AreMade (AreTicked (Some (row_done o)) None) t behind
   made = record { ticked = (tt, refl, ap {A = Overlap} row_done at_end); kept = refl }
 
   pub one-left : IsLeft left [] (row_done o).c behind
@@ -258,7 +258,7 @@ pub record PassedUpTo (count left tick : ℕ) (t new : Together) (row : Row) : T
 
 module _ (count left tick : ℕ) (t new : Together) (before : IsBeforeEntry t) (in_time : AreInTime (rest_told left tick t))
     (few : count ≤ t.machine.state.done + left + 1) (signals : (d : ℕ) → d < count → signal_due d t.signals ≡ false) where
-  pub passed-row : (row : Row) → AreMadeUpTo count (Some row) t new → PassedUpTo count left tick t new row
+  pub passed-row : (row : Row) → AreMade (RunsTo count (last_for None) (Some row)) t new → PassedUpTo count left tick t new row
   passed-row row made =
       let stop = made.ticked in
       let all = all-passed stop.ticks count left tick t stop.before before in_time few signals stop.passed in
@@ -287,7 +287,7 @@ module _ (count left tick : ℕ) (t new : Together) (before : IsBeforeEntry t) (
       }
 
   -- each entry comes in time
-  pub passed-none : AreMadeUpTo count None t new → ⊥
+  pub passed-none : AreMade (RunsTo count (last_for None) None) t new → ⊥
   passed-none made =
       let o = t.machine in
       let all = all-passed (last_for None + 1 - o.now) count left tick t new.machine before in_time few signals made.ticked in
@@ -311,11 +311,11 @@ ahead-is left tick snaps w t is quiet none = record {
 }
 
 pub far-row : (count left tick : ℕ) (t new : Together) → AreAhead left tick t → count ≤ t.machine.state.done + left + 1
-    → ((d : ℕ) → d < count → signal_due d t.signals ≡ false) → (row : Row) → AreMadeUpTo count (Some row) t new → PassedUpTo count left tick t new row
+    → ((d : ℕ) → d < count → signal_due d t.signals ≡ false) → (row : Row) → AreMade (RunsTo count (last_for None) (Some row)) t new → PassedUpTo count left tick t new row
 far-row count left tick t new is few signals row made = passed-row count left tick t new is.before is.in_time few signals row made
 
 pub far-none : (count left tick : ℕ) (t new : Together) → AreAhead left tick t → count ≤ t.machine.state.done + left + 1
-    → ((d : ℕ) → d < count → signal_due d t.signals ≡ false) → AreMadeUpTo count None t new → ⊥
+    → ((d : ℕ) → d < count → signal_due d t.signals ≡ false) → AreMade (RunsTo count (last_for None) None) t new → ⊥
 far-none count left tick t new is few signals made = passed-none count left tick t new is.before is.in_time few signals made
 
 module _ (count left tick : ℕ) (snaps : List ℕ) (t new : Together) (row : Row) (far : PassedUpTo count left tick t new row) (k : ℕ) (same : far.left_now ≡ k)

@@ -1,5 +1,5 @@
 -- How a run goes on from one thing that it tells to the next.
-use Rattle.std.specs.Prelude.{map, reverse, if◌then◌else◌, IsSome, IfSome}
+use Rattle.std.specs.Prelude.{slice_get, map, reverse, if◌then◌else◌, IsSome, IfSome}
 use Rattle.std.proofs.Common.{◌≡◌, ℕ, ◌+◌, ◌-◌, ◌<◌, ◌≤◌, ◌^◌, Bool, true, false, List, [], ◌∷◌, ◌++◌, Option, None, Some, refl, sym, ◌∙◌, ap, subst, length, arith}
 use Rattle.std.proofs.lemmas.Bool.{lt-ltb, le-ltb}
 use Rattle.std.proofs.lemmas.List.Elements.{All-nil, All-tail}
@@ -18,7 +18,7 @@ use Rattle.st_run.specs.TimedRun.{ticks_before, snapshot_at, timed_behind}
 use Rattle.st_run.specs.Order.{AreRising}
 use Rattle.st_run.specs.Told.{What, Dropped, Interrupted, Shown, Ended, Told, told_of, told_of_events}
 use Rattle.st_run.specs.Together.{Together, scene_of, IsBeforeEntry, standing_of, text_told}
-use Rattle.st_run.specs.Telling.{Waiting, taken_told, whats, at_once, told_at_end, rest_of, rest_by, state_told, ahead_of, IsRun, AreInTime, IsShown, snapshot_tick}
+use Rattle.st_run.specs.Telling.{Waiting, taken_told, whats, at_once, told_at_end, rest_of, rest_by, state_told, ahead_of, IsRun, AreInTime, IsShown}
 use Rattle.st_run.specs.declared.turn.Turn.{Turn}
 use Rattle.st_run.specs.declared.turn.Turn.TheVariants as turns
 use Rattle.st_run.proofs.Turns.{behind-snapshot, same-words}
@@ -147,7 +147,7 @@ due-first : (rests : Bool) (tick x : ℕ) (xs : List ℕ) (s : Machine) → x �
 unfolding told_at_end ticks_before
 due-first rests tick x xs s due = let soon : x < tick + 1 = omega arith in rw (lt-ltb x (tick + 1) soon) refl
 
-due-none : (rests : Bool) (tick : ℕ) (snaps : List ℕ) (s : Machine) → IfSome (snapshot_tick snaps) (λ x. tick < x)
+due-none : (rests : Bool) (tick : ℕ) (snaps : List ℕ) (s : Machine) → IfSome (slice_get snaps 0) (λ x. tick < x)
     → told_at_end rests tick snaps s ≡ at_once tick s (Ended rests s) ∷ []
 unfolding told_at_end ticks_before
 due-none rests tick [] s late = refl
@@ -158,7 +158,7 @@ module _ (rests : Bool) (left tick : ℕ) (snaps : List ℕ) (w : Waiting) (t : 
   abbrev state : Machine
   state = t.machine.state
 
-  pub end-tells : IfSome (snapshot_tick snaps) (λ x. tick < x)
+  pub end-tells : IfSome (slice_get snaps 0) (λ x. tick < x)
       → told_at_end rests tick snaps state
       ≡ at_once tick state (Ended rests (state_told t.machine)) ∷ rest_of turns.Over left tick snaps w t
   end-tells late =

@@ -130,7 +130,7 @@ ticked-until o new (Some row) last snap h in_time from is ran =
 pub made-until : (old : Together) (m new : Overlap) (xs : List Signal) (cards : List (List ℕ))
     → record { machine = m; signals = xs; cards = cards } ≡ old → IsBeforeEntry old → (oldest_row old.machine).c < 2 ^ 63
     → (snap : Option ℕ) → IfSome snap (λ x. old.machine.now - 1 ≤ x) → (last : ℕ) → last ≡ last_for snap
-    → (row : Option Row) → RunsTo 0 last row m new → AreMade row snap old (record { machine = new; signals = xs; cards = cards })
+    → (row : Option Row) → RunsTo 0 last row m new → AreMade (AreTicked row snap) old (record { machine = new; signals = xs; cards = cards })
 made-until old m new xs cards view before in_time snap from last is row ran =
     let machine : m ≡ old.machine = ap (λ (t : Together). t.machine) view in
     let ready : IsMachineReady old.machine = assumption in

@@ -27,8 +27,7 @@ IsChoice Over left over old d new = ⊥
 abbrev pub choice_of : Settled → Bool → Bool × Option ℕ
 choice_of (answers.Interrupt i done ic dropped) over = (true, Some i)
 choice_of (answers.Missed dropped) over = (true, None)
-choice_of answers.Goes over = (over, None)
-choice_of answers.Waits over = (over, None)
+choice_of _ over = (over, None)
 
 -- ---- nothing of it
 

@@ -1,5 +1,5 @@
 -- What happens in a run with its timetable, and what is shown of it.
-use Rattle.std.specs.Prelude.{ℕ, ◌+◌, Bool, nat_le, List, [], ◌∷◌, ◌++◌, map, length, take, drop, Option, None, Some}
+use Rattle.std.specs.Prelude.{ℕ, ◌+◌, Bool, nat_le, List, [], ◌∷◌, ◌++◌, map, length, take, drop, Option, option_map}
 use Rattle.st_bits.specs.declared.register.TheConstants.{FIRST_INDEX_WORD, FIRST_STORAGE_WORD}
 use Rattle.st_state.specs.Machine.{Machine, word}
 use Rattle.st_prep.specs.declared.entries.IndexChange.{IndexChange}
@@ -54,9 +54,8 @@ drop_of a = Drops (address_ahead a) a.row.p
 
 -- the index word that it changes early, and what that is in the state before its step
 abbrev pub changed_by : Option IndexChange → Machine → Option Changed
-changed_by None s = None
-changed_by (Some c) s =
-    Some (record { number = c.number; before = word s (FIRST_INDEX_WORD + c.number) })
+changed_by change s = option_map
+    (λ c. record { number = c.number; before = word s (FIRST_INDEX_WORD + c.number) }) change
 
 -- how it is shown at a tick
 abbrev pub level_at : ℕ → Ahead → Level
@@ -83,9 +82,8 @@ snapshot tick taken s levels =
 -- what an event is in the plain run
 abbrev pub plain_events_of : Event → List PlainEvent
 plain_events_of (Completes s address row) = Executes s address ∷ []
-plain_events_of (Drops address p) = []
-plain_events_of (Shows tick s levels) = []
 plain_events_of (Happens happening) = happening ∷ []
+plain_events_of _ = []
 
 -- what a list of events is there
 unfoldable pub plain_run : List Timed → List PlainEvent

@@ -9,7 +9,6 @@ use Rattle.st_run.specs.Run.{Scene, with_due_signals, with_due_orders, interlude
 use Rattle.st_banks.specs.declared.answers.LastAnswers.{LastAnswers}
 use Rattle.st_banks.specs.declared.answers.TheConstants.{BANKS}
 use Rattle.st_rows.specs.Rows.{opening_front, row_of_entry, front_after_entry}
-use Rattle.st_rows.specs.Asked.{Read}
 use Rattle.st_rows.specs.declared.entry.Entry.{Entry}
 use Rattle.st_rows.specs.declared.front.Front.{Front}
 use Rattle.st_rows.specs.declared.front.EntryTicks.{EntryTicks}
@@ -98,38 +97,34 @@ interrupt_of_moment p = interrupt p.scene.machine
 abbrev pub entry_of_moment : Standing → Entry
 entry_of_moment p = entry (interrupt_of_moment p) p.scene.machine
 
--- its row
-unfoldable pub next_row : List ℕ → ℕ → Standing → EntryTicks
-next_row ds n p = row_of_entry ds n p.front (entry_of_moment p)
+module _ (ds : List ℕ) (n : ℕ) where
+  -- its row
+  unfoldable pub next_row : Standing → EntryTicks
+  next_row p = row_of_entry ds n p.front (entry_of_moment p)
 
--- the front behind it
-abbrev pub front_after : List ℕ → ℕ → Standing → Front
-front_after ds n p = front_after_entry ds n p.front (entry_of_moment p)
+  -- the front behind it
+  abbrev pub front_after : Standing → Front
+  front_after p = front_after_entry ds n p.front (entry_of_moment p)
 
--- it, and the entries behind it, by guessed steps
-abbrev pub entries_at_moment : List ℕ → ℕ → Standing → List Ahead
-entries_at_moment ds n p = ahead ds n n (interrupt_of_moment p) p.scene.machine p.front
+  -- it, and the entries behind it, by guessed steps
+  abbrev pub entries_at_moment : Standing → List Ahead
+  entries_at_moment p = ahead ds n n (interrupt_of_moment p) p.scene.machine p.front
 
--- k entries behind its guess
-abbrev pub entries_behind : List ℕ → ℕ → ℕ → Standing → List Ahead
-entries_behind ds n k p = ahead ds n k None (guess (interrupt_of_moment p) p.scene.machine)
-    (front_after ds n p)
+  -- k entries behind its guess
+  abbrev pub entries_behind : ℕ → Standing → List Ahead
+  entries_behind k p = ahead ds n k None (guess (interrupt_of_moment p) p.scene.machine)
+      (front_after p)
 
--- its reads, those of the entries behind it that are prepared before the tick, and of the one
--- behind these
-abbrev pub reads_until : List ℕ → ℕ → ℕ → Standing → List Read
-reads_until ds n tick p = reads_to_end ds n tick (interrupt_of_moment p) p.scene.machine p.front
-    (entry_of_moment p)
-
--- the moment at which it is done: of the reads those are made that are accepted before
-unfoldable pub next_moment : List ℕ → ℕ → Standing → Moment
-next_moment ds n p =
-    let tick = (next_row ds n p).c in
-    record {
-      scene = scene_after_step p.scene;
-      tick = tick;
-      front = front_after ds n p;
-      missed = is_missed (plan p.scene.machine (interrupt_of_moment p)) p.scene.machine;
-      dropped = prepared_before tick (entries_behind ds n n p);
-      banks = banks_at_end ds tick (reads_until ds n tick p) p.front.bus;
-    }
+  -- the moment at which it is done: of the reads those are made that are accepted before
+  unfoldable pub next_moment : Standing → Moment
+  next_moment p =
+      let tick = (next_row p).c in
+      record {
+        scene = scene_after_step p.scene;
+        tick = tick;
+        front = front_after p;
+        missed = is_missed (plan p.scene.machine (interrupt_of_moment p)) p.scene.machine;
+        dropped = prepared_before tick (entries_behind n p);
+        banks = banks_at_end ds tick (reads_to_end ds n tick (interrupt_of_moment p)
+            p.scene.machine p.front (entry_of_moment p)) p.front.bus;
+      }

@@ -1,14 +1,12 @@
 -- The order of events.
 use Rattle.std.specs.Prelude.{ℕ, ◌+◌, ◌≤◌, List, [], ◌∷◌, ◌++◌}
-use Rattle.st_run.specs.Events.{Event, Timed, Completes, Drops, Shows, Happens}
+use Rattle.st_run.specs.Events.{Event, Timed, Shows}
 
 -- the tick at which an event is told: a snapshot at the one that was asked for, else that at which
 -- the last entry was done
 abbrev pub told_at : ℕ → Event → ℕ
-told_at tick (Completes s address row) = tick
-told_at tick (Drops address p) = tick
 told_at tick (Shows asked s levels) = asked
-told_at tick (Happens happening) = tick
+told_at tick _ = tick
 
 -- events in the order of their ticks, none before the tick t
 unfoldable pub AreEventsInOrder : ℕ → List Timed → Type 0
@@ -25,10 +23,8 @@ AreRising t (x ∷ xs) = (t ≤ x) × AreRising (x + 1) xs
 
 -- a snapshot's tick
 abbrev pub asked_by : Event → List ℕ
-asked_by (Completes s address row) = []
-asked_by (Drops address p) = []
 asked_by (Shows asked s levels) = asked ∷ []
-asked_by (Happens happening) = []
+asked_by _ = []
 
 -- the ticks at which snapshots are shown
 unfoldable pub shown_ticks : List Timed → List ℕ

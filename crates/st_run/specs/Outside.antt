@@ -1,6 +1,7 @@
 -- What comes to a machine from outside between two steps, whatever the machine has beside its plain
 -- state.
 use Rattle.std.specs.Prelude.{ℕ, ◌≡◌, ◌≤◌, ◌||◌, Bool, false, nat_lt, nat_le, if◌then◌else◌, List, [], ◌∷◌, length, option_map, Option, None, Some}
+use Rattle.std.specs.Option.{option_or}
 use Rattle.st_card.specs.declared.control_cards.Signal.{Signal}
 use Rattle.st_state.specs.Machine.{Machine}
 use Rattle.st_exch.specs.Printer.{line_of_words}
@@ -34,11 +35,6 @@ signals_after (Some i) (x ∷ xs) = xs
 
 -- ---- what came
 
--- of two printed areas the first one
-abbrev pub first_words : Option (List ℕ) → Option (List ℕ) → Option (List ℕ)
-first_words (Some words) later = Some words
-first_words None later = later
-
 abbrev pub nothing : Interlude
 nothing = record { card = false; waited = false; words = None }
 
@@ -47,7 +43,7 @@ abbrev pub joined_of : Interlude → Interlude → Interlude
 joined_of i j = record {
   card = i.card || j.card;
   waited = i.waited || j.waited;
-  words = first_words i.words j.words;
+  words = option_or i.words j.words;
 }
 
 -- a card or a wait ends the segment

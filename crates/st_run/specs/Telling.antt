@@ -39,11 +39,7 @@ what_told (tells.Ended rests) tick s levels text = Ended rests s
 
 -- a row as it is told
 abbrev pub row_told : Row → Told
-row_told row = record {
-  done = row.number;
-  tick = row.c;
-  what = Done row.address row.p row.r row.c;
-}
+row_told row = record { done = row.number; tick = row.c; what = Done row.address row.p row.r row.c }
 
 -- rows that wait to be told, and the rest
 abbrev pub rows_then : List Row → List Told → List Told
@@ -52,11 +48,7 @@ rows_then rows rest = map row_told rows ++ rest
 -- an entry that is done
 abbrev pub IsDone : What → Type 0
 IsDone (Done address p r c) = ⊤
-IsDone (Dropped address p) = ⊥
-IsDone (Printed text) = ⊥
-IsDone (Interrupted i s) = ⊥
-IsDone (Shown tick s levels) = ⊥
-IsDone (Ended rests s) = ⊥
+IsDone _ = ⊥
 
 -- of what was to be told entries that are done are left out at the front, of which this is the last
 -- one, and nothing else
@@ -124,8 +116,7 @@ told_with t m text =
     record {
       done = t.done;
       tick = t.tick;
-      what = what_told t.what t.tick (state_told m)
-          (ahead_of m) text;
+      what = what_told t.what t.tick (state_told m) (ahead_of m) text;
     }
 
 -- a level as the machine shows it
@@ -145,8 +136,7 @@ pub record AreLevelsShown (shown : List (Option LevelView)) (levels : List Level
 -- where the machine stands by the turn: an entry is to be done, or nothing is ahead any more
 abbrev pub IsTurn : Turn → List ℕ → Together → Type 0
 IsTurn turns.Before snaps t = IsBeforeEntry t × AreRising (t.machine.now - 1) snaps
-IsTurn (turns.AtEnd rests) snaps t = levels_of t.machine ≡ []
-IsTurn turns.Over snaps t = levels_of t.machine ≡ []
+IsTurn _ snaps t = levels_of t.machine ≡ []
 
 -- all that is still to be told comes in time
 abbrev pub AreInTime : List Told → Type 0
@@ -162,11 +152,6 @@ pub record IsRun (turn : Turn) (left tick : ℕ) (snaps : List ℕ) (w : Waiting
 
 -- ---- on the way from one thing that is told to the next
 
--- the tick of the next snapshot
-abbrev pub snapshot_tick : List ℕ → Option ℕ
-snapshot_tick [] = None
-snapshot_tick (x ∷ xs) = Some x
-
 -- the tick before was that of the first snapshot
 abbrev pub IsAtFirst : ℕ → List ℕ → Type 0
 IsAtFirst now [] = ⊥
@@ -177,8 +162,7 @@ pub record IsShown (left tick : ℕ) (snaps : List ℕ) (t : Together) : Type 0 
   pub before : IsBeforeEntry t
   pub first : IsAtFirst t.machine.now snaps
   pub soon : t.machine.now ≤ 2 ^ 63
-  pub in_time : AreInTime (told_of_events (timed_behind t.machine.delays t.machine.levels left
-      (standing_of tick t) snaps))
+  pub in_time : AreInTime (rest_by turns.Before left tick snaps t)
 
 -- an entry has just been done at a tick
 pub record IsLeft (left : ℕ) (snaps : List ℕ) (tick : ℕ) (t : Together) : Type 0 where
@@ -198,8 +182,3 @@ pub record HasGoneFar (done most : ℕ) (row : Row) (old new : List Told) (befor
   pub told : old ≡ rows_then passed (row_told row ∷ new)
   pub waits : after ≡ queue_with passed before
   pub few : length passed ≤ most - done - 1
-
--- by the answer
-abbrev pub GoesFar : ℕ → ℕ → Option Row → List Told → List Told → Queue → Queue → Type 0
-GoesFar done most None old new before after = ⊥
-GoesFar done most (Some row) old new before after = HasGoneFar done most row old new before after

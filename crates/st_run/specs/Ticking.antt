@@ -2,7 +2,6 @@
 use Rattle.std.specs.Prelude.{ℕ, ◌≡◌, ◌+◌, ◌-◌, ◌<◌, ◌≤◌, ◌^◌, min, Option, None, Some, IfSome}
 use Rattle.st_ahead.specs.Overlap.{Overlap, oldest_row}
 use Rattle.st_ahead.specs.Calls.{machine_after_completion, row_done}
-use Rattle.st_ahead.specs.RunTo.{RunsTo}
 use Rattle.st_ahead.specs.declared.events.Row.{Row}
 use Rattle.st_run.specs.Together.{Together}
 
@@ -20,18 +19,12 @@ AreTicked (Some row) snap old new =
     × (new ≡ machine_after_completion (at_completion old))
     × (row ≡ row_done (at_completion old))
 
--- the same of a machine with what is still to come, which stays
-pub record AreMade (row : Option Row) (snap : Option ℕ) (old new : Together) : Type 0 where
-  pub ticked : AreTicked row snap old.machine new.machine
+-- such ticks are made by a machine with what is still to come, which stays
+pub record AreMade (ticks : Overlap → Overlap → Type 0) (old new : Together) : Type 0 where
+  pub ticked : ticks old.machine new.machine
   pub kept : new ≡ record old { machine = new.machine }
 
 -- the last tick that may be made: that of a snapshot, or one that no run reaches
 abbrev pub last_for : Option ℕ → ℕ
 last_for None = 2 ^ 63 - 1
 last_for (Some x) = min x (2 ^ 63 - 1)
-
--- ticks are made up to an entry that is done behind which something may come, or when so many
--- instructions are done
-pub record AreMadeUpTo (count : ℕ) (row : Option Row) (old new : Together) : Type 0 where
-  pub ticked : RunsTo count (last_for None) row old.machine new.machine
-  pub kept : new ≡ record old { machine = new.machine }

@@ -45,28 +45,6 @@ events_between m =
     ++ map (happening_at m)
     ((interlude m.scene).happened ++ interrupts_by (interrupt (next_state m)) (next_state m))
 
--- ---- events until the next entry is done
-
--- the state at a tick, and what is ahead of it
-abbrev pub snapshot_at : List ℕ → ℕ → Standing → ℕ → Timed
-snapshot_at ds n p tick =
-    event_at p.tick p.scene.machine
-    (snapshot tick (interrupt_of_moment p) p.scene.machine
-    (prepared_before (tick + 1) (entries_at_moment ds n p)))
-
--- the next entry is done
-abbrev pub completion : List ℕ → ℕ → Standing → Timed
-completion ds n p =
-    let m = next_moment ds n p in
-    event_at m.tick m.scene.machine (Completes m.scene.machine (address p.scene.machine)
-    (next_row ds n p))
-
--- the snapshots that come before, and that
-unfoldable pub until_done : List ℕ → ℕ → Standing → List ℕ → List Timed
-until_done ds n p snaps =
-    map (snapshot_at ds n p) (ticks_before (next_moment ds n p).tick snaps) ++ completion ds n p
-    ∷ []
-
 -- ---- the end
 
 -- the last state, of which nothing is ahead
@@ -82,24 +60,46 @@ last_events m snaps =
     ++ map (last_snapshot_at m) (ticks_before (m.tick + 1) snaps)
     ++ happening_at m (Ends (next_state m) (rests (next_state m))) ∷ []
 
--- ---- the whole
+module _ (ds : List ℕ) (n : ℕ) where
+  -- ---- events until the next entry is done
 
--- the run from a moment on, in which so many entries may still be done, with snapshots at ticks
--- that are to come; a rest is tried before the budget
-unfoldable pub timed_from : List ℕ → ℕ → ℕ → Moment → List ℕ → List Timed
-timed_from ds n zero m snaps = last_events m snaps
-timed_from ds n (suc left) m snaps =
-    if rests (next_state m) then last_events m snaps
-    else events_between m ++ until_done ds n (standing_at m) snaps
-    ++ timed_from ds n left (next_moment ds n (standing_at m))
-    (snapshots_from (next_moment ds n (standing_at m)).tick snaps)
+  -- the state at a tick, and what is ahead of it
+  abbrev pub snapshot_at : Standing → ℕ → Timed
+  snapshot_at p tick =
+      event_at p.tick p.scene.machine
+      (snapshot tick (interrupt_of_moment p) p.scene.machine
+      (prepared_before (tick + 1) (entries_at_moment ds n p)))
 
--- the same before an entry, behind which so many more may be done
-abbrev pub timed_behind : List ℕ → ℕ → ℕ → Standing → List ℕ → List Timed
-timed_behind ds n left p snaps =
-    until_done ds n p snaps
-    ++ timed_from ds n left (next_moment ds n p) (snapshots_from (next_moment ds n p).tick snaps)
+  -- the next entry is done
+  abbrev pub completion : Standing → Timed
+  completion p =
+      let m = next_moment ds n p in
+      event_at m.tick m.scene.machine (Completes m.scene.machine (address p.scene.machine)
+      (next_row ds n p))
 
--- the whole run of a scene
-abbrev pub timed_run : List ℕ → ℕ → ℕ → Scene → List ℕ → List Timed
-timed_run ds n left c snaps = timed_from ds n left (moment_at_start c) snaps
+  -- the snapshots that come before, and that
+  unfoldable pub until_done : Standing → List ℕ → List Timed
+  until_done p snaps =
+      map (snapshot_at p) (ticks_before (next_moment ds n p).tick snaps) ++ completion p ∷ []
+
+  -- ---- the whole
+
+  -- the run from a moment on, in which so many entries may still be done, with snapshots at ticks
+  -- that are to come; a rest is tried before the budget
+  unfoldable pub timed_from : ℕ → Moment → List ℕ → List Timed
+  timed_from zero m snaps = last_events m snaps
+  timed_from (suc left) m snaps =
+      if rests (next_state m) then last_events m snaps
+      else events_between m ++ until_done (standing_at m) snaps
+      ++ timed_from left (next_moment ds n (standing_at m))
+      (snapshots_from (next_moment ds n (standing_at m)).tick snaps)
+
+  -- the same before an entry, behind which so many more may be done
+  abbrev pub timed_behind : ℕ → Standing → List ℕ → List Timed
+  timed_behind left p snaps =
+      until_done p snaps
+      ++ timed_from left (next_moment ds n p) (snapshots_from (next_moment ds n p).tick snaps)
+
+  -- the whole run of a scene
+  abbrev pub timed_run : ℕ → Scene → List ℕ → List Timed
+  timed_run left c snaps = timed_from left (moment_at_start c) snaps

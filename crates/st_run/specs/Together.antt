@@ -77,14 +77,10 @@ moment_of t = record {
 
 -- ---- what comes between two entries has come in part
 
--- the segment has ended, or not
-abbrev pub closed_if : Bool → Overlap → Overlap
-closed_if over o = if over then machine_after_segment o else o
-
 -- since the machine was o the state alone has changed, and the segment has ended or not; as long as
 -- it has not, a signal or an order without a card has changed it
 pub record IsSince (o : Overlap) (over : Bool) (m : Overlap) : Type 0 where
-  pub machine : m ≡ record (closed_if over o) { state = m.state }
+  pub machine : m ≡ record (if over then machine_after_segment o else o) { state = m.state }
   pub alike : over ≡ false → AreAlikeBesideOrders o.state m.state
 
 -- ---- what comes between two entries is over

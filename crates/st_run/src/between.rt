@@ -1,10 +1,11 @@
 //! What comes to a machine between two steps: signals, orders of the reader and the printer, and
 //! what ends a wait.
 ghost use Rattle.std.specs.Prelude.{◌≡◌, false, IsSome};
+ghost use Rattle.std.specs.Option.{option_or};
 ghost use Rattle.st_state.specs.declared.devices.Device.TheVariants.{Reader, Printer};
 ghost use Rattle.st_exec.specs.Step.{rests};
 ghost use Rattle.st_run.specs.Run as run;
-ghost use Rattle.st_run.specs.Outside.{HasHappened, scene_at, joined_of, first_words as first_words_of};
+ghost use Rattle.st_run.specs.Outside.{HasHappened, scene_at, joined_of};
 
 use crate::coming::Coming;
 use crate::outside::Outside;
@@ -156,7 +157,7 @@ fn take_signals_at_rest<M: Outside>(machine: &mut M, coming: &mut Coming)
 
 // Of two printed areas the first one.
 fn first_words(first: Option<[u64; 8]>, later: Option<[u64; 8]>) -> Option<[u64; 8]>
-    ensures { result ≡ first_words_of first later }
+    ensures { result ≡ option_or first later }
 {
     match first {
         Some(words) => Some(words),

@@ -1,8 +1,8 @@
 //! How far a run has come, and how it goes on.
-ghost use Rattle.std.specs.Prelude.{◌≡◌, ◌+◌, ◌-◌, ◌<◌, ◌≤◌, ◌^◌, ℕ, true, false, if◌then◌else◌, [], ◌∷◌, MatchOption, IfSome};
+ghost use Rattle.std.specs.Prelude.{◌≡◌, ◌+◌, ◌-◌, ◌<◌, ◌≤◌, ◌^◌, ℕ, true, false, if◌then◌else◌, [], ◌∷◌, MatchOption, IfSome, slice_get};
 ghost use Rattle.st_ahead.specs.Overlap.{levels_of};
 ghost use Rattle.st_run.specs.Between.{signal_due};
-ghost use Rattle.st_run.specs.Telling.{told_at_end, snapshot_tick, AreLeftOut, GoesFar, rows_then, IsShown, IsLeft, AreInTime};
+ghost use Rattle.st_run.specs.Telling.{told_at_end, AreLeftOut, HasGoneFar, rows_then, IsShown, IsLeft, AreInTime};
 ghost use Rattle.st_run.specs.Progress.{rest_behind, told_ahead, told_after, told_by, IsBeforeNext, IsTold, IsUnderWay};
 ghost use Rattle.st_run.specs.declared.told.RunEvent.TheVariants as tells;
 ghost use Rattle.st_run.specs.declared.turn.Turn.TheVariants as turns;
@@ -141,8 +141,8 @@ fn go_far<const N: usize>(
     requires done { done ≡ run.old.driven.machine.state.done }
 
     ensures kept { IsUnderWay run.new }
-    ensures told { GoesFar done most result (told_ahead run.old) (rest_behind run.new)
-        rows.old rows.new }
+    ensures told { MatchOption result ⊥ (λ row. HasGoneFar done most row
+        (told_ahead run.old) (rest_behind run.new) rows.old rows.new) }
 {
     let count = count_of(&run.driven, done, run.left, most);
     let Some(row) = run_many(&mut run.driven, count, rows) else {
@@ -321,7 +321,7 @@ fn done_in(state: &State) -> u64
 
 // The tick of the next snapshot.
 fn first_of(snaps: &[u64]) -> Option<u64>
-    ensures { result ≡ snapshot_tick snaps.now }
+    ensures { result ≡ slice_get snaps.now 0 }
 {
     match snaps {
         [first, ..] => Some(*first),
@@ -341,7 +341,7 @@ fn split_first(snaps: &[u64]) -> Option<(u64, &[u64])>
 
 // The same where it comes up to this tick.
 fn split_due(snaps: &[u64], tick: u64) -> Option<(u64, &[u64])>
-    ensures { MatchOption result (IfSome (snapshot_tick snaps.now) (λ x. tick < x))
+    ensures { MatchOption result (IfSome (slice_get snaps.now 0) (λ x. tick < x))
         (λ r. (snaps.now ≡ r.0 ∷ r.1.now) × (r.0 ≤ tick)) }
 {
     let (first, after) = split_first(snaps)?;

@@ -2,7 +2,8 @@
 ghost use Rattle.std.specs.Prelude.{◌≡◌, ◌-◌, ◌<◌, ◌≤◌, ◌^◌, None, IfSome};
 ghost use Rattle.st_ahead.specs.Overlap.{oldest_row};
 ghost use Rattle.st_run.specs.Together.{IsBeforeEntry};
-ghost use Rattle.st_run.specs.Ticking.{AreMade, AreMadeUpTo, last_for};
+ghost use Rattle.st_run.specs.Ticking.{AreMade, AreTicked, last_for};
+ghost use Rattle.st_ahead.specs.RunTo.{RunsTo};
 ghost use Rattle.st_ahead.specs.RowsDone.{queue_with, rows_in_ticks, ticks_passed};
 
 use crate::driven::Driven;
@@ -24,7 +25,7 @@ pub(crate) fn run_until<const N: usize>(
     requires snap { IfSome snap (λ x. driven.old.machine.now - 1 ≤ x) }
 
     // What is made.
-    ensures made { AreMade result snap driven.old driven.new }
+    ensures made { AreMade (AreTicked result snap) driven.old driven.new }
     ensures rows { rows.old.room ≡ 0 → rows.new ≡ rows.old }
 {
     driven.machine.run_to(0, last_of(snap), rows)
@@ -41,7 +42,7 @@ pub(crate) fn run_many<const N: usize>(
     requires before { IsBeforeEntry driven.old }
     requires few { driven.old.machine.state.done < 2 ^ 63 }
     requires count { count ≤ 2 ^ 63 }
-    ensures made { AreMadeUpTo count result driven.old driven.new }
+    ensures made { AreMade (RunsTo count (last_for None) result) driven.old driven.new }
     ensures rows { rows.new ≡ queue_with
         (rows_in_ticks (ticks_passed (last_for None) driven.old.machine.now result)
         driven.old.machine)

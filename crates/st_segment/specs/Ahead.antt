@@ -23,29 +23,6 @@ pub record Ahead : Type 0 where
   pub entry : Entry
   pub row : EntryTicks
 
--- the next entry of a state behind a front
-abbrev pub next_ahead : List ℕ → ℕ → Option ℕ → Machine → Front → Ahead
-next_ahead ds n table s f = record {
-  state = s;
-  table = table;
-  front = f;
-  entry = entry table s;
-  row = row_of_entry ds n f (entry table s);
-}
-
--- the next k entries by guessed steps, on a machine with the delays ds and with n levels
-unfoldable pub ahead : List ℕ → ℕ → ℕ → Option ℕ → Machine → Front → List Ahead
-ahead ds n zero table s f = []
-ahead ds n (suc k) table s f =
-    next_ahead ds n table s f ∷ ahead ds n k None (guess table s)
-    (front_after_entry ds n f (entry table s))
-
--- the front behind k of them
-unfoldable pub front_behind : List ℕ → ℕ → ℕ → Option ℕ → Machine → Front → Front
-front_behind ds n zero table s f = f
-front_behind ds n (suc k) table s f =
-    front_behind ds n k None (guess table s) (front_after_entry ds n f (entry table s))
-
 -- how an entry ahead is prepared
 abbrev pub plan_of : Ahead → Prepared
 plan_of a = plan a.state a.table
@@ -55,22 +32,47 @@ unfoldable pub prepared_before : ℕ → List Ahead → List Ahead
 prepared_before t [] = []
 prepared_before t (a ∷ rest) = if nat_lt a.row.p t then a ∷ prepared_before t rest else []
 
--- the reads of those, and of the first one that is not: its instruction words, and its index-side
--- word, may be accepted before that tick
-unfoldable pub reads_before : List ℕ → ℕ → ℕ → List Ahead → List Read
-reads_before ds n t [] = []
-reads_before ds n t (a ∷ rest) =
-    reads_of_entry ds n a.front a.entry ++ (if nat_lt a.row.p t then reads_before ds n t rest
-    else [])
+-- on a machine with the delays ds and with n levels
+module _ (ds : List ℕ) (n : ℕ) where
+  -- the next entry of a state behind a front
+  abbrev pub next_ahead : Option ℕ → Machine → Front → Ahead
+  next_ahead table s f = record {
+    state = s;
+    table = table;
+    front = f;
+    entry = entry table s;
+    row = row_of_entry ds n f (entry table s);
+  }
 
--- ---- the end of a segment
+  -- the next k entries by guessed steps, on a machine with the delays ds and with n levels
+  unfoldable pub ahead : ℕ → Option ℕ → Machine → Front → List Ahead
+  ahead zero table s f = []
+  ahead (suc k) table s f =
+      next_ahead table s f ∷ ahead k None (guess table s)
+      (front_after_entry ds n f (entry table s))
 
--- the reads that may be made by then, where it ends at a tick: those of the next entry, and of
--- those behind the guess of it
-abbrev pub reads_to_end : List ℕ → ℕ → ℕ → Option ℕ → Machine → Front → Entry → List Read
-reads_to_end ds n tick table s f e =
-    reads_of_entry ds n f e ++ reads_before ds n tick (ahead ds n (suc n) None (guess table s)
-    (front_after_entry ds n f e))
+  -- the front behind k of them
+  unfoldable pub front_behind : ℕ → Option ℕ → Machine → Front → Front
+  front_behind zero table s f = f
+  front_behind (suc k) table s f =
+      front_behind k None (guess table s) (front_after_entry ds n f (entry table s))
+
+  -- the reads of those, and of the first one that is not: its instruction words, and its index-side
+  -- word, may be accepted before that tick
+  unfoldable pub reads_before : ℕ → List Ahead → List Read
+  reads_before t [] = []
+  reads_before t (a ∷ rest) =
+      reads_of_entry ds n a.front a.entry ++ (if nat_lt a.row.p t then reads_before t rest
+      else [])
+
+  -- ---- the end of a segment
+
+  -- the reads that may be made by then, where it ends at a tick: those of the next entry, and of
+  -- those behind the guess of it
+  abbrev pub reads_to_end : ℕ → Option ℕ → Machine → Front → Entry → List Read
+  reads_to_end tick table s f e =
+      reads_of_entry ds n f e ++ reads_before tick (ahead (suc n) None (guess table s)
+      (front_after_entry ds n f e))
 
 -- the last answers of the banks, where it ends at a tick: those of the reads are made that are
 -- accepted before
