@@ -181,7 +181,7 @@ came-waiting state leaves both r i j m n o p x y z resting came kept left wait =
     (came-then state leaves both r with_wait true false (joined_of i a_wait) j m o p x y z
     (record {
       scene = ap (λ (s : Machine). scene_at s y) kept ∙ came.scene;
-      told = λ few. subst (λ t. ArePrinted t _) (sym (words-none i.words)) (came.told few);
+      told = λ few. subst (λ t. ArePrinted t r.happened) (sym (words-none i.words)) (came.told few);
       card = or-none i.card ∙ came.card;
       fewer = came.fewer;
       wait = ap (λ (b : Bool). b || true) came.wait;
