@@ -82,18 +82,17 @@ pub fn look(
 
     ensures state { state.new ≡ state.old }
     ensures found { found.new.items ≡ found.old.items
-        ++ map (seen_ahead delays.now levels) (prepared_before tick
-        (ahead_of delays.now levels more None state.old front.old)) }
-    ensures late { late.new ∷ [] ≡ map (seen_ahead delays.now levels) (first_late tick
-        (ahead_of delays.now levels (suc more) None state.old front.old)) }
-    ensures log { log.new ≡ log_after_reads delays.now
-        (reads_up_to delays.now levels tick (ahead_of delays.now levels (suc more) None state.old
+        ++ map (seen_ahead delays.now.list levels) (prepared_before tick
+        (ahead_of delays.now.list levels more None state.old front.old)) }
+    ensures late { late.new ∷ [] ≡ map (seen_ahead delays.now.list levels) (first_late tick
+        (ahead_of delays.now.list levels (suc more) None state.old front.old)) }
+    ensures log { log.new ≡ log_after_reads delays.now.list
+        (reads_up_to delays.now.list levels tick (ahead_of delays.now.list levels (suc more) None state.old
         front.old)) front.old.bus log.old }
-    ensures bus { front.new.bus ≡ bus_after_reads delays.now
-        (reads_up_to delays.now levels tick (ahead_of delays.now levels (suc more) None state.old
+    ensures bus { front.new.bus ≡ bus_after_reads delays.now.list
+        (reads_up_to delays.now.list levels tick (ahead_of delays.now.list levels (suc more) None state.old
         front.old)) front.old.bus }
 {
-    delays.shape();
     state.shape();
     let mut p = Prepared::default();
     let planned = plan_entry(None, state, &mut p);

@@ -51,16 +51,15 @@ fn fetch_run(
     requires few { run.len ≤ 16 }
     requires space { length uses.old.items + run.len ≤ 48 }
 
-    ensures words { words.new ≡ fetch_words delays.now past.now words.old from run.first run.len }
+    ensures words { words.new ≡ fetch_words delays.now.list past.now words.old from run.first run.len }
     ensures log { log.new
-        ≡ log_after_reads delays.now
-        (words_asked delays.now past.now words.old from run.first run.len)
+        ≡ log_after_reads delays.now.list
+        (words_asked delays.now.list past.now words.old from run.first run.len)
         words.old.bus log.old }
     ensures uses { uses.new.items ≡ uses.old.items
-        ++ instruction_uses delays.now past.now words.old from run.first run.len }
+        ++ instruction_uses delays.now.list past.now words.old from run.first run.len }
     ensures noted { length uses.new.items ≤ length uses.old.items + run.len }
 {
-    delays.shape();
     let mut w = run.first;
     let mut left = run.len;
     'words: while left > 0 {
@@ -91,15 +90,14 @@ fn fetch_all(
     requires space { length uses.old.items + 4 ≤ 48 }
 
     // The words fetched, the log of their reads, and their uses.
-    ensures words { words.new ≡ words_tick delays.now front.now entry.now }
+    ensures words { words.new ≡ words_tick delays.now.list front.now entry.now }
     ensures log { log.new
-        ≡ log_after_reads delays.now
-        (fetches_asked delays.now front.now entry.now) front.now.bus log.old }
+        ≡ log_after_reads delays.now.list
+        (fetches_asked delays.now.list front.now entry.now) front.now.bus log.old }
     ensures uses { uses.new.items
-        ≡ uses.old.items ++ fetch_uses delays.now front.now entry.now }
+        ≡ uses.old.items ++ fetch_uses delays.now.list front.now entry.now }
     ensures noted { length uses.new.items ≤ length uses.old.items + 4 }
 {
-    delays.shape();
     let past = &front.past;
     let from = front.wanted_from();
     fetch_run(words, delays, past, entry.own, from, log, uses);
@@ -181,19 +179,18 @@ pub fn begin(
     requires past { past.now ≡ front.now.past }
     requires space { length uses.old.items + 5 ≤ 48 }
 
-    ensures address { begun.new.formed.a ≡ tick_a delays.now front.now planned.now.entry }
-    ensures tick { begun.new.formed.p ≡ tick_p delays.now levels front.now planned.now.entry }
-    ensures bus { begun.new.words.bus ≡ bus_a delays.now front.now planned.now.entry }
+    ensures address { begun.new.formed.a ≡ tick_a delays.now.list front.now planned.now.entry }
+    ensures tick { begun.new.formed.p ≡ tick_p delays.now.list levels front.now planned.now.entry }
+    ensures bus { begun.new.words.bus ≡ bus_a delays.now.list front.now planned.now.entry }
     ensures wait { begun.new.level_wait
-        ≡ level_wait_of delays.now levels front.now planned.now.entry }
+        ≡ level_wait_of delays.now.list levels front.now planned.now.entry }
     ensures log { log.new
-        ≡ log_after_reads delays.now
-        (formed_asked delays.now front.now planned.now.entry) front.now.bus log.old }
+        ≡ log_after_reads delays.now.list
+        (formed_asked delays.now.list front.now planned.now.entry) front.now.bus log.old }
     ensures uses { uses.new.items ≡ uses.old.items
-        ++ formed_uses delays.now front.now planned.now.entry planned.now.known.side }
+        ++ formed_uses delays.now.list front.now planned.now.entry planned.now.known.side }
     ensures noted { length uses.new.items ≤ length uses.old.items + 5 }
 {
-    delays.shape();
     let entry = &planned.entry;
     let side = planned.known.side;
     begun.words = Fetching {
@@ -238,25 +235,24 @@ pub fn finish(
     requires tight { IsTight MOST_DELAY front.old }
     requires early { front.old.c ≤ 2 ^ 63 + 2 ^ 20 }
     requires levels { (1 ≤ levels) × (levels ≤ 8) }
-    requires address { begun.old.formed.a ≡ tick_a delays.now front.old entry.now }
-    requires tick { begun.old.formed.p ≡ tick_p delays.now levels front.old entry.now }
-    requires bus { begun.old.words.bus ≡ bus_a delays.now front.old entry.now }
+    requires address { begun.old.formed.a ≡ tick_a delays.now.list front.old entry.now }
+    requires tick { begun.old.formed.p ≡ tick_p delays.now.list levels front.old entry.now }
+    requires bus { begun.old.words.bus ≡ bus_a delays.now.list front.old entry.now }
     requires past { past.now ≡ front.old.past }
     requires runs { IsRuns reads }
     requires space { length uses.old.items + 34 ≤ 48 }
 
-    ensures value { result ≡ row_of delays.now levels front.old entry.now }
-    ensures after { front.new ≡ after_of delays.now levels front.old entry.now }
-    ensures log { (before : List Made) → log.old ≡ log_after_reads delays.now
-        (formed_asked delays.now front.old entry.now) front.old.bus before →
-        log.new ≡ log_after_reads delays.now
-        (asked_of delays.now levels front.old entry.now) front.old.bus before }
+    ensures value { result ≡ row_of delays.now.list levels front.old entry.now }
+    ensures after { front.new ≡ after_of delays.now.list levels front.old entry.now }
+    ensures log { (before : List Made) → log.old ≡ log_after_reads delays.now.list
+        (formed_asked delays.now.list front.old entry.now) front.old.bus before →
+        log.new ≡ log_after_reads delays.now.list
+        (asked_of delays.now.list levels front.old entry.now) front.old.bus before }
     ensures uses { uses.new.items ≡ uses.old.items
-        ++ prepared_uses delays.now levels front.old entry.now reads }
+        ++ prepared_uses delays.now.list levels front.old entry.now reads }
     ensures tight { IsTight MOST_DELAY front.new }
     ensures bound { front.new.c ≤ front.old.c + most_ticks_of_entry }
 {
-    delays.shape();
     let Formed { a, p } = begun.formed;
     let wanted = Wanted {
         tick: p,

@@ -202,7 +202,7 @@ pub(crate) fn note(uses: &mut Uses, role: Role, word: u32, supply: Supply)
 fn read_ticks(bus: &Bus, delays: &Delays, w: u32, want: u64) -> ReadTicks
     requires room { IsBusWithin (2 ^ 64 - 512) bus.now }
     requires early { want ≤ 2 ^ 64 - 512 }
-    ensures { result ≡ read_ticks_of delays.now bus.now w want }
+    ensures { result ≡ read_ticks_of delays.now.list bus.now w want }
 {
     let accept = bus.banks.accept_tick(w, bus.free, want);
     ReadTicks {
@@ -220,7 +220,7 @@ pub(crate) fn fetch_supply(bus: &Bus, delays: &Delays, w: u32, want: u64) -> Sup
     requires room { IsBusWithin (2 ^ 64 - 512) bus.now }
     requires early { want ≤ 2 ^ 64 - 512 }
     ensures { result
-        ≡ fetch_supply_of (tick_of bus.now.held.words w) delays.now bus.now w want }
+        ≡ fetch_supply_of (tick_of bus.now.held.words w) delays.now.list bus.now w want }
 {
     match bus.held.tick_of(w) {
         Some(tick) => Supply::Held(tick),
@@ -264,7 +264,7 @@ fn storage_supply(bus: &Bus, wanted: &Wanted<'_>, w: u32) -> Supply
     requires early { wanted.now.tick ≤ 2 ^ 64 - 512 }
     requires storage { 32 ≤ w }
     ensures { let x = wanted.now in
-        result ≡ storage_supply_of x.delays.now x.last.now bus.now w x.tick }
+        result ≡ storage_supply_of x.delays.now.list x.last.now bus.now w x.tick }
 {
     let last = wanted.last;
     let done = last.latest_done(w);
@@ -282,7 +282,7 @@ fn side_supply(bus: &Bus, wanted: &Wanted<'_>, w: u32) -> Supply
     requires room { IsBusWithin (2 ^ 64 - 512) bus.now }
     requires early { wanted.now.tick ≤ 2 ^ 64 - 512 }
     ensures { let x = wanted.now in
-        result ≡ side_supply_of x.delays.now x.last.now bus.now w x.tick }
+        result ≡ side_supply_of x.delays.now.list x.last.now bus.now w x.tick }
 {
     if w < FIRST_STORAGE_WORD {
         return Supply::Register;
@@ -299,7 +299,7 @@ pub(crate) fn use_side(uses: &mut Uses, bus: &Bus, wanted: &Wanted<'_>, side: Op
     requires early { wanted.now.tick ≤ 2 ^ 64 - 512 }
 
     ensures items { let x = wanted.now in uses.new.items
-        ≡ uses.old.items ++ side_uses x.delays.now x.last.now bus.now side x.tick }
+        ≡ uses.old.items ++ side_uses x.delays.now.list x.last.now bus.now side x.tick }
     ensures room { length uses.new.items ≤ length uses.old.items + 1 }
 {
     let Some(w) = side else {
@@ -335,13 +335,13 @@ fn use_operand(uses: &mut Uses, words: &mut Fetching, log: &mut Log, wanted: &Wa
     requires storage { 32 ≤ w }
 
     ensures after { let x = wanted.now in reading_of_fetch words.new
-        ≡ read_word x.delays.now x.last.now (reading_of_fetch words.old) w x.tick }
+        ≡ read_word x.delays.now.list x.last.now (reading_of_fetch words.old) w x.tick }
     ensures log { let x = wanted.now in log.new
-        ≡ log_after_reads x.delays.now (data_asked x.last.now w x.tick) words.old.bus log.old }
+        ≡ log_after_reads x.delays.now.list (data_asked x.last.now w x.tick) words.old.bus log.old }
     ensures items { let x = wanted.now in uses.new.items ≡ uses.old.items ++ record {
       role = Operand;
       word = w;
-      supply = storage_supply_of x.delays.now x.last.now words.old.bus w x.tick;
+      supply = storage_supply_of x.delays.now.list x.last.now words.old.bus w x.tick;
     } ∷ [] }
     ensures room { length uses.new.items ≡ length uses.old.items + 1 }
 {
@@ -380,17 +380,15 @@ fn use_operands(
     requires few { run.len ≤ 16 }
 
     ensures after { let x = wanted.now in reading_of_fetch words.new
-        ≡ read_words x.delays.now x.last.now (reading_of_fetch words.old) x.tick run.first
+        ≡ read_words x.delays.now.list x.last.now (reading_of_fetch words.old) x.tick run.first
         run.len }
-    ensures log { let x = wanted.now in log.new ≡ log_after_reads x.delays.now
+    ensures log { let x = wanted.now in log.new ≡ log_after_reads x.delays.now.list
         (operands_asked x.last.now x.tick run.first run.len) words.old.bus log.old }
     ensures items { let x = wanted.now in uses.new.items ≡ uses.old.items
-        ++ operand_uses x.delays.now x.last.now (reading_of_fetch words.old) x.tick
+        ++ operand_uses x.delays.now.list x.last.now (reading_of_fetch words.old) x.tick
         run.first run.len }
     ensures room { length uses.new.items ≤ length uses.old.items + run.len }
 {
-    let delays = wanted.delays;
-    delays.shape();
     let mut w = run.first;
     let mut left = run.len;
     'words: while left > 0 {
@@ -420,12 +418,12 @@ fn use_run(
     requires few { run.len ≤ 16 }
 
     ensures after { let x = wanted.now in reading_of_fetch words.new
-        ≡ read_words x.delays.now x.last.now (reading_of_fetch words.old) x.tick run.first
+        ≡ read_words x.delays.now.list x.last.now (reading_of_fetch words.old) x.tick run.first
         run.len }
-    ensures log { let x = wanted.now in log.new ≡ log_after_reads x.delays.now
+    ensures log { let x = wanted.now in log.new ≡ log_after_reads x.delays.now.list
         (operands_asked x.last.now x.tick run.first run.len) words.old.bus log.old }
     ensures items { let x = wanted.now in uses.new.items ≡ uses.old.items
-        ++ run_uses x.delays.now x.last.now (reading_of_fetch words.old) x.tick
+        ++ run_uses x.delays.now.list x.last.now (reading_of_fetch words.old) x.tick
         all.first all.len run }
     ensures room { length uses.new.items ≤ length uses.old.items + 16 }
 {
@@ -453,15 +451,13 @@ pub(crate) fn use_data(
     requires start { words.old.answered ≡ wanted.now.tick }
 
     ensures after { let x = wanted.now in reading_of_fetch words.new
-        ≡ operands_read x.delays.now x.last.now words.old.bus entry.now.reads x.tick }
-    ensures log { let x = wanted.now in log.new ≡ log_after_reads x.delays.now
+        ≡ operands_read x.delays.now.list x.last.now words.old.bus entry.now.reads x.tick }
+    ensures log { let x = wanted.now in log.new ≡ log_after_reads x.delays.now.list
         (runs_asked x.last.now entry.now.reads x.tick) words.old.bus log.old }
     ensures items { let x = wanted.now in uses.new.items ≡ uses.old.items
-        ++ data_uses x.delays.now x.last.now words.old.bus x.tick reads entry.now.reads }
+        ++ data_uses x.delays.now.list x.last.now words.old.bus x.tick reads entry.now.reads }
     ensures room { length uses.new.items ≤ length uses.old.items + 32 }
 {
-    let delays = wanted.delays;
-    delays.shape();
     let one = WordRun {
         first: reads.first,
         len: reads.len,
@@ -484,11 +480,11 @@ fn use_inside(uses: &mut Uses, bus: &mut Bus, log: &mut Log, wanted: &Wanted<'_>
     requires early { wanted.now.tick ≤ 2 ^ 64 - 512 }
 
     ensures after { let x = wanted.now in
-        bus.new ≡ request_inside_of x.delays.now bus.old w x.tick }
+        bus.new ≡ request_inside_of x.delays.now.list bus.old w x.tick }
     ensures log { let x = wanted.now in
-        log.new ≡ log_after_reads x.delays.now (inside_asked bus.old w x.tick) bus.old log.old }
+        log.new ≡ log_after_reads x.delays.now.list (inside_asked bus.old w x.tick) bus.old log.old }
     ensures items { let x = wanted.now in
-        uses.new.items ≡ uses.old.items ++ inside_uses x.delays.now bus.old w x.tick }
+        uses.new.items ≡ uses.old.items ++ inside_uses x.delays.now.list bus.old w x.tick }
     ensures room { length uses.new.items ≤ length uses.old.items + 1 }
 {
     if w >= WORDS {
@@ -521,14 +517,12 @@ pub(crate) fn use_following(
     requires early { wanted.now.tick ≤ 2 ^ 64 - 1024 }
 
     ensures after { let x = wanted.now in
-        bus.new ≡ bus_followed x.delays.now bus.old entry.now x.tick }
-    ensures log { let x = wanted.now in log.new ≡ log_after_reads x.delays.now
-        (following_asked x.delays.now bus.old entry.now x.tick) bus.old log.old }
+        bus.new ≡ bus_followed x.delays.now.list bus.old entry.now x.tick }
+    ensures log { let x = wanted.now in log.new ≡ log_after_reads x.delays.now.list
+        (following_asked x.delays.now.list bus.old entry.now x.tick) bus.old log.old }
     ensures items { let x = wanted.now in uses.new.items
-        ≡ uses.old.items ++ following_uses x.delays.now bus.old entry.now x.tick }
+        ≡ uses.old.items ++ following_uses x.delays.now.list bus.old entry.now x.tick }
 {
-    let delays = wanted.delays;
-    delays.shape();
     if !entry.follows {
         return;
     }

@@ -12,7 +12,7 @@ use Rattle.st_rows.specs.declared.entry.Entry.{Entry}
 use Rattle.st_rows.specs.declared.front.Front.{Front}
 use Rattle.st_rows.specs.declared.front.EntryTicks.{EntryTicks}
 use Rattle.st_rows.proofs.Tight.{later-c}
-use Rattle.st_rows.proofs.Within.{AreDelays-list}
+use Rattle.st_rows.proofs.Within.{delays-are}
 use Rattle.st_segment.specs.Entries.{entry}
 use Rattle.st_segment.proofs.EntryRanges.{entry-ranges}
 use Rattle.arrayvec.specs.ArrayVec.{ArrayVec}
@@ -29,19 +29,19 @@ abbrev Uses : Type 0
 Uses = ArrayVec Use
 
 pub begin-requires-clause-entry : goal.begin-requires-clause-entry
-begin-requires-clause-entry t c = rw c.plan_entry-planned.ensures.entry (entry-ranges None c.args.state.now c.shape-2.ensures tt)
+begin-requires-clause-entry t c = rw c.plan_entry-planned.ensures.entry (entry-ranges None c.args.state.now c.shape.ensures tt)
 
 pub finish-row-requires-clause-entry : goal.finish-row-requires-clause-entry
-finish-row-requires-clause-entry t c = rw c.plan_entry-planned.ensures.entry (entry-ranges None c.args.state.now c.shape-2.ensures tt)
+finish-row-requires-clause-entry t c = rw c.plan_entry-planned.ensures.entry (entry-ranges None c.args.state.now c.shape.ensures tt)
 
 -- the next entry is not prepared in time
 
 pub finish-ticks-requires-clause-entry : goal.finish-ticks-requires-clause-entry
-finish-ticks-requires-clause-entry t c = rw c.plan_entry-planned.ensures.entry (entry-ranges None c.args.state.now c.shape-2.ensures tt)
+finish-ticks-requires-clause-entry t c = rw c.plan_entry-planned.ensures.entry (entry-ranges None c.args.state.now c.shape.ensures tt)
 
 pub returns-then-begun-tick-clause-late : goal.returns-then-begun-tick-clause-late
 returns-then-begun-tick-clause-late t c =
-    let ds = c.args.delays.now in
+    let ds = c.args.delays.now.list in
     let n = c.args.levels in
     let f = c.args.front.now in
     let s = c.args.state.now in
@@ -61,7 +61,7 @@ returns-then-begun-tick-clause-late t c =
 
 pub returns-then-begun-tick-clause-found : goal.returns-then-begun-tick-clause-found
 returns-then-begun-tick-clause-found t c =
-    let ds = c.args.delays.now in
+    let ds = c.args.delays.now.list in
     let n = c.args.levels in
     let f = c.args.front.now in
     let s = c.args.state.now in
@@ -71,7 +71,7 @@ returns-then-begun-tick-clause-found t c =
 
 pub returns-then-begun-tick-clause-log : goal.returns-then-begun-tick-clause-log
 returns-then-begun-tick-clause-log t c =
-    let ds = c.args.delays.now in
+    let ds = c.args.delays.now.list in
     let n = c.args.levels in
     let f = c.args.front.now in
     let s = c.args.state.now in
@@ -82,7 +82,7 @@ returns-then-begun-tick-clause-log t c =
 
 pub returns-then-begun-tick-clause-bus : goal.returns-then-begun-tick-clause-bus
 returns-then-begun-tick-clause-bus t c =
-    let ds = c.args.delays.now in
+    let ds = c.args.delays.now.list in
     let n = c.args.levels in
     let f = c.args.front.now in
     let s = c.args.state.now in
@@ -95,19 +95,19 @@ returns-then-begun-tick-clause-bus t c =
 
 pub push-requires : goal.push-requires
 push-requires t c =
-    let some = some-more c.args.delays.now c.args.levels c.args.more c.args.tick c.args.front.now c.plan_entry-planned.result.entry c.requires.levels.0 c.requires.first
+    let some = some-more c.args.delays.now.list c.args.levels c.args.more c.args.tick c.args.front.now c.plan_entry-planned.result.entry c.requires.levels.0 c.requires.first
     (omega (arith, c.begin.ensures.tick, c.if-begun-tick.false)) in
     let room : length c.args.found.now.items < 8 = omega (arith, c.requires.space, some) in
     (omega arith, room)
 
 pub overflow_sub-more : goal.overflow_sub-more
 overflow_sub-more t c =
-    some-more c.args.delays.now c.args.levels c.args.more c.args.tick c.args.front.now c.plan_entry-planned.result.entry c.requires.levels.0 c.requires.first
+    some-more c.args.delays.now.list c.args.levels c.args.more c.args.tick c.args.front.now c.plan_entry-planned.result.entry c.requires.levels.0 c.requires.first
     (omega (arith, c.begin.ensures.tick, c.if-begun-tick.false))
 
 pub look-requires : goal.look-requires
 look-requires t c =
-    let ds = c.args.delays.now in
+    let ds = c.args.delays.now.list in
     let n = c.args.levels in
     let f = c.args.front.now in
     let e = c.plan_entry-planned.result.entry in
@@ -115,13 +115,13 @@ look-requires t c =
     (omega (arith, c.begin.ensures.tick, c.if-begun-tick.false)) in
     let done = ap (λ (s : Machine). s.done) c.guess.ensures ∙ guess-done c.plan_entry-planned.new.p c.args.state.now in
     let more = ap length c.push.ensures.items ∙ length_push c.args.found.now.items _ in
-    let range : IsEntryInTime e = rw c.plan_entry-planned.ensures.entry (entry-ranges None c.args.state.now c.shape-2.ensures tt) in
+    let range : IsEntryInTime e = rw c.plan_entry-planned.ensures.entry (entry-ranges None c.args.state.now c.shape.ensures tt) in
     let rises : f.c < c.finish-row.new.front.c =
     omega (
       arith,
       ap (λ (g : Front). g.c) c.finish-row.ensures.after,
       after-c ds n f e,
-      (later-c 255 ds (AreDelays-list ds c.shape.ensures) n f e range c.requires.tight).0,
+      (later-c 255 ds (delays-are c.args.delays.now) n f e range c.requires.tight).0,
     ) in (
       omega (arith, c.decreases, some),
       (
@@ -159,7 +159,7 @@ returns-clause-state t c =
 
 pub returns-clause-found : goal.returns-clause-found
 returns-clause-found t c =
-    let ds = c.args.delays.now in
+    let ds = c.args.delays.now.list in
     let n = c.args.levels in
     let f = c.args.front.now in
     let s = c.args.state.now in
@@ -185,7 +185,7 @@ returns-clause-found t c =
 
 pub returns-clause-late : goal.returns-clause-late
 returns-clause-late t c =
-    let ds = c.args.delays.now in
+    let ds = c.args.delays.now.list in
     let n = c.args.levels in
     let f = c.args.front.now in
     let s = c.args.state.now in
@@ -200,7 +200,7 @@ returns-clause-late t c =
 
 pub returns-clause-log : goal.returns-clause-log
 returns-clause-log t c =
-    let ds = c.args.delays.now in
+    let ds = c.args.delays.now.list in
     let n = c.args.levels in
     let f = c.args.front.now in
     let s = c.args.state.now in
@@ -216,7 +216,7 @@ returns-clause-log t c =
 
 pub returns-clause-bus : goal.returns-clause-bus
 returns-clause-bus t c =
-    let ds = c.args.delays.now in
+    let ds = c.args.delays.now.list in
     let n = c.args.levels in
     let f = c.args.front.now in
     let s = c.args.state.now in

@@ -1,5 +1,5 @@
 use Rattle.std.proofs.Common.{◌+◌, ◌-◌, ◌*◌, ◌^◌, ◌∙◌, ap, arith}
-use Rattle.st_rows.proofs.Within.{AreDelays-list, bus-weaker}
+use Rattle.st_rows.proofs.Within.{delays-are, bus-weaker}
 use Rattle.st_rows.proofs.Stages.{fetched-within, a-within}
 use Rattle.st_plain.proofs.RowLemmas.{noted-formed}
 use Rattle.st_plain.proofs.UseLemmas.{formed-used, formed-bare}
@@ -8,7 +8,7 @@ use Rattle.st_plain.proofs.rows.begin.Goals as goal
 
 pub returns-clause-log : goal.returns-clause-log
 returns-clause-log c =
-    let ds = c.args.delays.now in
+    let ds = c.args.delays.now.list in
     let f = c.args.front.now in
     let e = c.args.planned.now.entry in
     elim c.if-is_none.branch [
@@ -26,16 +26,16 @@ use_side-requires-clause-room c =
     let f = c.args.front.now in
     rw c.fetch_all.ensures.words
     (bus-weaker (f.c + 7 * 255 + 6) (2 ^ 64 - 512) _ (omega arith)
-    (fetched-within 255 c.args.delays.now (AreDelays-list c.args.delays.now c.shape.ensures) f c.args.planned.now.entry c.requires.entry c.requires.tight).bus)
+    (fetched-within 255 c.args.delays.now.list (delays-are c.args.delays.now) f c.args.planned.now.entry c.requires.entry c.requires.tight).bus)
 
 pub use_side-requires-clause-early : goal.use_side-requires-clause-early
 use_side-requires-clause-early c =
     rw c.form-formed-else-is_none.ensures.address
-    (omega (arith, a-within 255 c.args.delays.now (AreDelays-list c.args.delays.now c.shape.ensures) c.args.front.now c.args.planned.now.entry c.requires.entry c.requires.tight))
+    (omega (arith, a-within 255 c.args.delays.now.list (delays-are c.args.delays.now) c.args.front.now c.args.planned.now.entry c.requires.entry c.requires.tight))
 
 pub returns-clause-uses : goal.returns-clause-uses
 returns-clause-uses c =
-    let ds = c.args.delays.now in
+    let ds = c.args.delays.now.list in
     let f = c.args.front.now in
     let e = c.args.planned.now.entry in
     elim c.if-is_none.branch [

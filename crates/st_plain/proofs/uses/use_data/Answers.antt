@@ -3,7 +3,7 @@ use Rattle.st_rows.specs.BusTimes.{Reading}
 use Rattle.st_rows.specs.Ranges.{IsReadingWithin}
 use Rattle.st_rows.specs.Rows.{reading_of_fetch}
 use Rattle.st_rows.proofs.Noted.{runs-noted}
-use Rattle.st_rows.proofs.Within.{AreDelays-list, reading-weaker}
+use Rattle.st_rows.proofs.Within.{delays-are, reading-weaker}
 use Rattle.st_rows.proofs.Stages.{read_sixteen-within}
 use Rattle.st_plain.proofs.uses.use_data.Goals as goal
 
@@ -14,10 +14,10 @@ use_run-requires-2-clause-room c =
     let start : IsReadingWithin m (reading_of_fetch c.args.words.now) = record { bus = c.requires.room; answered = omega (arith, c.requires.start, c.requires.early) } in
     subst (λ (s : Reading). IsReadingWithin (2 ^ 64 - 2 ^ 16) s) (sym c.use_run.ensures.after)
     (reading-weaker (m + 16 * 256) (2 ^ 64 - 2 ^ 16) _ (omega arith)
-    (read_sixteen-within 255 c.args.wanted.now.delays.now (AreDelays-list c.args.wanted.now.delays.now c.shape.ensures) c.args.wanted.now.last.now c.args.wanted.now.tick
+    (read_sixteen-within 255 c.args.wanted.now.delays.now.list (delays-are c.args.wanted.now.delays.now) c.args.wanted.now.last.now c.args.wanted.now.tick
     c.args.entry.now.reads.one.first c.args.entry.now.reads.one.len m _ c.requires.entry.one_few start c.requires.early))
 
 pub returns-clause-log : goal.returns-clause-log
 returns-clause-log c =
-    runs-noted c.args.wanted.now.delays.now c.args.wanted.now.last.now c.args.wanted.now.tick c.args.entry.now.reads (reading_of_fetch c.args.words.now) (reading_of_fetch c.use_run.new.words) c.args.log.now
+    runs-noted c.args.wanted.now.delays.now.list c.args.wanted.now.last.now c.args.wanted.now.tick c.args.entry.now.reads (reading_of_fetch c.args.words.now) (reading_of_fetch c.use_run.new.words) c.args.log.now
     c.use_run.new.log c.use_run-2.new.log c.use_run.ensures.after c.use_run.ensures.log c.use_run-2.ensures.log

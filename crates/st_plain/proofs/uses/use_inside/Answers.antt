@@ -5,4 +5,4 @@ use Rattle.st_plain.proofs.uses.use_inside.Goals as goal
 
 pub returns-then-w-ge-WORDS-clause-items : goal.returns-then-w-ge-WORDS-clause-items
 returns-then-w-ge-WORDS-clause-items c =
-    inside-none c.args.wanted.now.delays.now c.args.bus.now c.args.w c.args.wanted.now.tick c.args.uses.now.items (omega (arith, words_of_storage_is, c.if-w-ge-WORDS.true))
+    inside-none c.args.wanted.now.delays.now.list c.args.bus.now c.args.w c.args.wanted.now.tick c.args.uses.now.items (omega (arith, words_of_storage_is, c.if-w-ge-WORDS.true))
