@@ -1,5 +1,5 @@
 -- What is printed between two entries.
-use Rattle.std.proofs.Common.{◌≡◌, ℕ, List, [], ◌∷◌, Option, None, Some, sym, ap}
+use Rattle.std.proofs.Common.{◌≡◌, ℕ, List, [], ◌∷◌, None, Some, sym, ap}
 use Rattle.st_run.specs.Run.{PlainEvent}
 use Rattle.st_run.specs.Outside.{ArePrinted}
 use Rattle.st_account.specs.Settling.{words_printed}

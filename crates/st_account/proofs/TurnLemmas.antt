@@ -17,6 +17,7 @@ use Rattle.st_rows.specs.Rows.{opening_front}
 use Rattle.st_rows.specs.declared.front.Front.{Front}
 use Rattle.st_run.specs.Run.{Scene}
 use Rattle.st_run.specs.Reached.{IsCard}
+use Rattle.st_run.specs.Outside.{Coming}
 use Rattle.st_run.specs.Moments.{Moment, Standing, moment_at_start, answers_at_start, next_state, next_front, standing_at, next_moment}
 use Rattle.st_exec.proofs.StepLemmas.{step-done}
 use Rattle.st_run.proofs.DoneLemmas.{settled-done}
@@ -113,10 +114,12 @@ run-starts s ds n budget state signals cards table a size are few machine each f
     }
 
 -- the signals and the budget as they are taken up
-pub run-taken : (s t : OutputState) (all : List (List ℕ)) (ds : List ℕ) (n : ℕ) (total : Stage → ℕ) (waited : Stage → Stall → ℕ) (a : Account) (xs ys : List Signal) (cards : List (List ℕ))
-    (left budget : ℕ) → ys ≡ xs → left ≡ budget → IsRunning s t all ds n total waited a xs cards budget → IsRunning s t all ds n total waited a ys cards left
-run-taken s t all ds n total waited a xs ys cards left budget is same h =
-    subst (λ zs. IsRunning s t all ds n total waited a zs cards left) (sym is) (subst (λ k. IsRunning s t all ds n total waited a xs cards k) (sym same) h)
+pub run-taken : (s t : OutputState) (all : List (List ℕ)) (ds : List ℕ) (n : ℕ) (total : Stage → ℕ) (waited : Stage → Stall → ℕ) (a : Account) (x : Coming)
+    (xs ys : List Signal) (cards : List (List ℕ)) (left budget : ℕ) → x ≡ record { signals = xs; cards = cards } → xs ≡ ys → left ≡ budget
+    → IsRunning s t all ds n total waited a ys cards budget → IsRunning s t all ds n total waited a x.signals x.cards left
+run-taken s t all ds n total waited a x xs ys cards left budget came is same h =
+    subst (λ (y : Coming). IsRunning s t all ds n total waited a y.signals y.cards left) (sym came)
+    (subst (λ zs. IsRunning s t all ds n total waited a zs cards left) (sym is) (subst (λ k. IsRunning s t all ds n total waited a ys cards k) (sym same) h))
 
 -- ---- what holds at the head of the loop
 

@@ -8,7 +8,7 @@ use Rattle.st_account.proofs.running.write_run.Goals as goal
 
 pub entries-init : goal.entries-init
 entries-init g c =
-    run-taken _ _ _ _ _ _ _ _ _ _ _ _ _ c.signals-rest.ensures c.budget-left.ensures
+    run-taken _ _ _ _ _ _ _ _ _ _ _ _ _ _ c.new-coming.ensures c.signals.ensures c.budget-left.ensures
     (run-starts _ c.args.ready.timing.delays.list c.args.ready.timing.levels c.args.controls.now.budget c.args.ready.state c.args.controls.now.signals c.args.ready.cards
     c.args.ready.origins c.new-account.result (ap length c.new-account.ensures.words ∙ c.requires.size) (delays-are c.args.ready.timing.delays) c.requires.levels.1 c.new-account.ensures.machine c.requires.cards
     c.requires.fresh c.requires.limit c.new-account.ensures.none c.new-account.ensures.state c.new-account.ensures.origins c.new-account.ensures.number

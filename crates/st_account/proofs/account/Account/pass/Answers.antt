@@ -1,5 +1,6 @@
 use Rattle.std.specs.Prelude.{slice_index}
 use Rattle.std.proofs.Common.{sym, ◌∙◌, ap}
+use Rattle.st_account.specs.Standing.{still_by}
 use Rattle.st_account.specs.declared.account.Account.{Account}
 use Rattle.st_account.proofs.PassLemmas.{scene-is, printed-is, card-is, waited-is, left-is, may-is, dropped-is, banks-is, late-is}
 use Rattle.st_account.proofs.account.Account.pass.Goals as goal
@@ -9,6 +10,7 @@ returns-clause-came c b m at =
     let ds = c.args.timing.now.delays.list in
     let n = c.args.timing.now.levels in
     let a = c.args.self.now in
+    let still = c.is_still-still.ensures ∙ ap (still_by a.state a.last.missed) c.signals.ensures in
     let last = ap (λ (x : Account). x.last) c.look_if.ensures.rest in
     let segment = ap (λ (x : Account). x.k) c.look_if.ensures.rest in
     record {
@@ -19,13 +21,13 @@ returns-clause-came c b m at =
       missed = at.hand.missed ∙ ap (λ l. l.missed) (sym last);
       was = at.was ∙ ap (λ l. l.enabled) (sym last);
       dropped = λ ends.
-          dropped-is ds n b m a c.args.coming.now.signals c.args.coming.now.cards at c.args.left c.is_still-still.result c.is_end_near.result c.is_still-still.ensures
+          dropped-is ds n b m a c.args.coming.now.signals c.args.coming.now.cards at c.args.left c.is_still-still.result c.is_end_near.result still
           c.is_end_near.ensures ends _ c.look_if.ensures.found;
       late = λ ends some.
-          late-is ds n b m a c.args.coming.now.signals c.args.coming.now.cards at c.args.left c.is_still-still.result c.is_end_near.result c.is_still-still.ensures
+          late-is ds n b m a c.args.coming.now.signals c.args.coming.now.cards at c.args.left c.is_still-still.result c.is_end_near.result still
           c.is_end_near.ensures ends _ c.look_if.ensures.late (λ none. some (segment ∙ none));
       banks = λ ends.
-          banks-is ds n b m a c.args.coming.now.signals c.args.coming.now.cards at c.args.left c.is_still-still.result c.is_end_near.result c.is_still-still.ensures
+          banks-is ds n b m a c.args.coming.now.signals c.args.coming.now.cards at c.args.left c.is_still-still.result c.is_end_near.result still
           c.is_end_near.ensures ends _ (λ yes. c.look_if.ensures.banks at.hand.reads at.hand.bus yes at.hand.has);
       printed = printed-is ds n b m a c.args.coming.now.signals c.args.coming.now.cards at c.look_if.new.self.state c.settle-came.new.state _ c.settle-came.new.coming.cards
           c.look_if.ensures.state (sym c.settle-came.ensures.came) _ c.settle-came.ensures.printed;
