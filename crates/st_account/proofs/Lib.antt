@@ -9,7 +9,6 @@ pub mod LoopLemmas
 pub mod PassLemmas
 pub mod TurnLemmas
 pub mod LedgerLemmas
-pub mod Stages
 pub mod PrintLemmas
 pub mod LeftLemmas
 pub mod FirstLemmas

@@ -1,9 +1,7 @@
 -- The run at the head of its loop, and what one turn makes of it.
 use Rattle.std.specs.Prelude.{Bool, Result, Ok, Err, IsErr, nat_eq, ◌||◌, All}
 use Rattle.std.proofs.Common.{◌≡◌, ◌≢◌, ℕ, ◌+◌, ◌-◌, ◌*◌, ◌^◌, ◌≤◌, ◌<◌, true, false, Option, List, [], ◌++◌, length, refl, sym, ◌∙◌, ap, subst, arith}
-use Rattle.std.specs.List.{AllPass}
 use Rattle.st_bits.specs.declared.limits.TheConstants.{MOST_INSTRUCTIONS}
-use Rattle.st_card.specs.Limits.{is_signal}
 use Rattle.st_card.specs.declared.control_cards.Signal.{Signal}
 use Rattle.st_io.specs.Output.{OutputState}
 use Rattle.st_io.specs.declared.Failed.{Failed}
@@ -19,6 +17,7 @@ use Rattle.st_rows.specs.Rows.{opening_front}
 use Rattle.st_rows.specs.declared.front.Front.{Front}
 use Rattle.st_run.specs.Run.{Scene}
 use Rattle.st_run.specs.Reached.{IsCard}
+use Rattle.st_run.specs.Outside.{Coming}
 use Rattle.st_run.specs.Moments.{Moment, Standing, moment_at_start, answers_at_start, next_state, next_front, standing_at, next_moment}
 use Rattle.st_exec.proofs.StepLemmas.{step-done}
 use Rattle.st_run.proofs.DoneLemmas.{settled-done}
@@ -60,7 +59,6 @@ pub record IsRunning (s t : OutputState) (all : List (List ℕ)) (ds : List ℕ)
   pub waiting : IsWaiting a.last a.waiting.totals
   pub waits : (r : Stage) (z : Stall) → is_parted r ≡ true
       → waited_at r z a.waiting.totals + (kept_stalled r z a.k a.last + stalled_from r z ds n left a.last.uses.items m) ≡ waited r z
-  pub passes : AllPass is_signal rest
   pub size : length a.words.items ≡ words_of_storage
 
 next-done : (ds : List ℕ) (n : ℕ) (m : Moment) → (next_moment ds n (standing_at m)).scene.machine.done ≡ m.scene.machine.done + 1
@@ -71,13 +69,13 @@ next-done ds n m = step-done (next_state m) ∙ ap (λ d. d + 1) (settled-done m
 
 pub run-starts : (s : OutputState) (ds : List ℕ) (n budget : ℕ) (state : Machine) (signals : List Signal) (cards : List (List ℕ)) (table : Origins) (a : Account)
     → length a.words.items ≡ words_of_storage → AreDelaysUpTo 255 ds → n ≤ 8 → IsMachine state → All IsCard cards → state.done ≡ 0 → budget ≤ MOST_INSTRUCTIONS
-    → AreWithin 0 a.sums → AllPass is_signal signals → a.state ≡ state → a.origins ≡ table → a.k ≡ 0 → a.last.tick ≡ 0 → a.last.front ≡ opening_front answers_at_start 0
+    → AreWithin 0 a.sums → a.state ≡ state → a.origins ≡ table → a.k ≡ 0 → a.last.tick ≡ 0 → a.last.front ≡ opening_front answers_at_start 0
     → a.last.past ≡ a.last.front.past → a.last.missed ≡ false → a.last.ic ≡ state.ic → a.last.enabled ≡ state.enabled → a.last.ic < 2 ^ 19 → a.log ≡ []
     → IsTight 255 a.last.front → a.last.uses.items ≡ [] → IsWaiting a.last a.waiting.totals → AreWaitsWithin 0 a.waiting.totals
     → IsRunning s s (lines_from (origin_at table) ds n budget 0 state [] (moment_at_start (at_hand state signals cards))) ds n
     (λ x. ticks_for x (all_charges ds n (entries_from ds n budget (moment_at_start (at_hand state signals cards)))))
     (λ r z. stalled_from r z ds n budget [] (moment_at_start (at_hand state signals cards))) a signals cards budget
-run-starts s ds n budget state signals cards table a size are few machine each fresh limit none passes is same_table number tick front past missed ic enabled counter empty tight unused waiting unwaited =
+run-starts s ds n budget state signals cards table a size are few machine each fresh limit none is same_table number tick front past missed ic enabled counter empty tight unused waiting unwaited =
     let c = at_hand state signals cards in
     let m = moment_at_start c in
     let all = lines_from (origin_at table) ds n budget 0 state [] m in
@@ -112,15 +110,16 @@ run-starts s ds n budget state signals cards table a size are few machine each f
           let unkept = kept-stalled-none r z a.k a.last number in
           let same = ap (λ us. stalled_from r z ds n budget us m) unused in
           omega (arith, nothing, unkept, same);
-      passes = passes;
       size = size;
     }
 
 -- the signals and the budget as they are taken up
-pub run-taken : (s t : OutputState) (all : List (List ℕ)) (ds : List ℕ) (n : ℕ) (total : Stage → ℕ) (waited : Stage → Stall → ℕ) (a : Account) (xs ys : List Signal) (cards : List (List ℕ))
-    (left budget : ℕ) → ys ≡ xs → left ≡ budget → IsRunning s t all ds n total waited a xs cards budget → IsRunning s t all ds n total waited a ys cards left
-run-taken s t all ds n total waited a xs ys cards left budget is same h =
-    subst (λ zs. IsRunning s t all ds n total waited a zs cards left) (sym is) (subst (λ k. IsRunning s t all ds n total waited a xs cards k) (sym same) h)
+pub run-taken : (s t : OutputState) (all : List (List ℕ)) (ds : List ℕ) (n : ℕ) (total : Stage → ℕ) (waited : Stage → Stall → ℕ) (a : Account) (x : Coming)
+    (xs ys : List Signal) (cards : List (List ℕ)) (left budget : ℕ) → x ≡ record { signals = xs; cards = cards } → xs ≡ ys → left ≡ budget
+    → IsRunning s t all ds n total waited a ys cards budget → IsRunning s t all ds n total waited a x.signals x.cards left
+run-taken s t all ds n total waited a x xs ys cards left budget came is same h =
+    subst (λ (y : Coming). IsRunning s t all ds n total waited a y.signals y.cards left) (sym came)
+    (subst (λ zs. IsRunning s t all ds n total waited a zs cards left) (sym is) (subst (λ k. IsRunning s t all ds n total waited a ys cards k) (sym same) h))
 
 -- ---- what holds at the head of the loop
 
@@ -224,7 +223,7 @@ module _ (s t : OutputState) (all : List (List ℕ)) (ds : List ℕ) (n : ℕ) (
 
         pub goes : (u : OutputState) (x : Unit {0}) (d : Account)
             → WritesLines t u (kept_lines a'.k a'.last (segment_end_at left h.m) ++ segment_lines (origin_at a'.origins) ds n a'.k h.b h.m) (Ok x)
-            → c.words.items ≡ a'.state.words → c.sums ≡ a'.sums → length c.words.items ≡ words_of_storage → AreDelaysUpTo 255 ds → n ≤ 8 → AllPass is_signal ys
+            → c.words.items ≡ a'.state.words → c.sums ≡ a'.sums → length c.words.items ≡ words_of_storage → AreDelaysUpTo 255 ds → n ≤ 8
             → ((p : Standing) (end : Option ℕ) → c.k ≢ 0 → IsStanding p c.state c.last → kept_lines d.k d.last end ≡ lines_of_entry (origin_at c.origins) ds n end c.last.uses.items p)
             → d.state ≡ step c.state → ((p : Standing) → IsStanding p c.state c.last → IsLast ds n (next_moment ds n p) d.last d.log)
             → ((p : Standing) (x : Stage) → IsStanding p c.state c.last → sum_at x d.sums ≡ sum_at x c.sums + ticks_for x (charges_at ds n p))
@@ -237,7 +236,7 @@ module _ (s t : OutputState) (all : List (List ℕ)) (ds : List ℕ) (n : ℕ) (
             → kept_stalled r z d.k d.last ≡ row_stalled r z (uses_at ds n p) c.last.uses.items (charges_at ds n p))
             → d.waiting.totals ≡ c.waiting.totals
             → IsRunning s u all ds n total waited d ys cards' (left - 1)
-        goes u x d writes words sums size are few passes entry made hand added within enabled guessed unwritten kept_words kept_table segment' earlier used waits_new told kept totals =
+        goes u x d writes words sums size are few entry made hand added within enabled guessed unwritten kept_words kept_table segment' earlier used waits_new told kept totals =
             let m' = next_moment ds n (standing_at h.m) in
             let bounds = next-is 255 n ds are few h.m h.bounds in
             let more = next-done ds n h.m in
@@ -283,6 +282,5 @@ module _ (s t : OutputState) (all : List (List ℕ)) (ds : List ℕ) (n : ℕ) (
                   waits-next ds n left a.last.uses.items d.last.uses.items h.m r z _ _ _ _ (waited r z) some on (waits-then r z parted)
                   (ap (waited_at r z) totals ∙ told r z parted)
                   (kept p r z later stands ∙ ap (λ us. row_stalled r z (uses_at ds n p) us (charges_at ds n p)) old) (used p stands);
-              passes = passes;
               size = ap length kept_words ∙ size;
             }

@@ -2,16 +2,11 @@
 use Rattle.std.specs.Prelude.{ℕ, List, [], ◌∷◌}
 use Rattle.st_state.specs.Machine.{Machine}
 use Rattle.st_card.specs.declared.control_cards.Signal.{Signal}
-use Rattle.st_run.specs.Run.{Scene, PlainEvent, Prints, Interrupts, Executes, Ends, Transition, and_then, with_order_at_rest}
+use Rattle.st_run.specs.Run.{Scene, PlainEvent, Prints, Interrupts, Executes, Ends}
 
 -- a machine, the signals that are still to come, and the cards of its reader
 abbrev pub at_hand : Machine → List Signal → List (List ℕ) → Scene
 at_hand s xs cards = record { machine = s; signals = xs; cards = cards }
-
--- what ends a wait but the signals: the orders that are given, the one that is due first before the
--- other
-abbrev pub with_orders_at_rest : Scene → Transition
-with_orders_at_rest c = and_then (with_order_at_rest c) with_order_at_rest
 
 -- the words that are printed, eight each time
 unfoldable pub words_printed : List PlainEvent → List (List ℕ)

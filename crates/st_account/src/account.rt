@@ -1,10 +1,8 @@
 //! The ledger of a run as far as it is written, and how it goes on from one entry to the next.
 ghost use Rattle.std.specs.Prelude.{◌≡◌, ◌≢◌, List, true, false, ℕ, ◌+◌, ◌<◌, ◌≤◌, ◌^◌, ◌∷◌, ◌++◌, ◌||◌, nat_eq, suc, [], if◌then◌else◌, length, map, replicate, All, IsOk, is_some, None, Option, slice_index};
-ghost use Rattle.std.specs.List.{AllPass};
 ghost use Rattle.st_bits.specs.declared.limits.TheConstants.{MOST_DELAY, MOST_INSTRUCTIONS, WORDS};
 ghost use Rattle.st_bits.specs.Storage.{words_of_storage};
 ghost use Rattle.st_banks.specs.declared.answers.TheConstants.{BANKS};
-ghost use Rattle.st_card.specs.Limits.{is_signal};
 ghost use Rattle.st_card.specs.declared.control_cards.Signal.{Signal as SignalOf};
 ghost use Rattle.st_exec.specs.Ahead.{IsNotAmong};
 ghost use Rattle.st_exec.specs.Completion.{guess as guess_of};
@@ -40,8 +38,6 @@ use crate::stepping::{
 };
 use crate::timing::Timing;
 use st_banks::LastAnswers;
-use st_card::Signal;
-use st_exch::Hopper;
 use st_exec::{interrupt, is_at_rest, next_address};
 use st_io::{Failed, Sink};
 use st_ledger::{RowLine, Totals};
@@ -51,6 +47,7 @@ use st_lines::{
 };
 use st_reasons::{WaitTotals, Waits};
 use st_rows::Log;
+use st_run::Coming;
 use st_state::State;
 
 /// The ledger of a run as far as it is written: the lines of the entry that was done last, and all
@@ -214,15 +211,8 @@ impl Account {
     }
 
     /// What comes behind the last entry takes effect: of the signals and cards that are still to
-    /// come what is due, and what ends a wait. The result are the signals that are then still to
-    /// come. So many entries may still be done.
-    pub fn pass<'a>(
-        &mut self,
-        timing: &Timing,
-        left: u64,
-        signals: &'a [Signal],
-        cards: &mut Hopper,
-    ) -> &'a [Signal]
+    /// come what is due, and what ends a wait. So many entries may still be done.
+    pub fn pass(&mut self, timing: &Timing, left: u64, coming: &mut Coming<'_>)
         requires few { self.old.state.done + 8 < 2 ^ 63 }
         requires tight { IsTight MOST_DELAY self.old.last.front }
         requires early { self.old.last.front.c ≤ 2 ^ 63 }
@@ -230,30 +220,29 @@ impl Account {
         requires levels { (1 ≤ timing.now.levels) × (timing.now.levels ≤ 8) }
         requires past { self.old.last.past ≡ self.old.last.front.past }
         requires counter { self.old.last.ic < 2 ^ 19 }
-        requires passes { AllPass is_signal signals.now }
 
         ensures came { (b : Machine) (m : Moment) →
-            IsAt timing.now.delays.list timing.now.levels b m self.old signals.now cards.old →
-            IsBehindMoment timing.now.delays.list timing.now.levels left b m self.new result.now
-            cards.new }
+            IsAt timing.now.delays.list timing.now.levels b m self.old coming.old.signals
+            coming.old.cards →
+            IsBehindMoment timing.now.delays.list timing.now.levels left b m self.new
+            coming.new.signals coming.new.cards }
         ensures soon { (b : Machine) (m : Moment) →
-            IsAt timing.now.delays.list timing.now.levels b m self.old signals.now cards.old →
+            IsAt timing.now.delays.list timing.now.levels b m self.old coming.old.signals
+            coming.old.cards →
             All (λ t. t ≤ self.old.last.tick + MOST_DELAY) self.new.behind.banks.ticks }
         ensures few { length self.new.behind.found.items ≤ 8 }
-        ensures passes { AllPass is_signal result.now }
         ensures rest { self.new ≡ record self.old {
           state = self.new.state;
           log = self.new.log;
           behind = self.new.behind;
         } }
     {
-        let still = is_still(&self.state, self.last.missed, signals);
+        let still = is_still(&self.state, self.last.missed, coming.signals());
         self.look_if(timing, is_end_near(left, still));
         self.behind.may = changeable(&self.last.plan, &self.state);
-        let settled = settle(&mut self.state, signals, cards, &mut self.behind.printed);
-        self.behind.card = settled.card;
-        self.behind.waited = settled.waited;
-        settled.signals
+        let came = settle(&mut self.state, coming, &mut self.behind.printed);
+        self.behind.card = came.card;
+        self.behind.waited = came.waited;
     }
 
     /// Whether the run ends, where so many entries may still be done.

@@ -25,6 +25,7 @@ use st_io::{Failed, Sink};
 use st_ledger::{Totals, write_sums};
 use st_lines::{Origins, write_machine, write_wait_sums};
 use st_reasons::WaitTotals;
+use st_run::Coming;
 use st_state::State;
 
 /// A run that is ready to be written: nothing has happened in the machine.
@@ -93,14 +94,14 @@ fn write_run<K: Sink>(
         state,
         words,
         origins,
-        mut cards,
+        cards,
         timing,
     } = ready;
     let mut account = Account::new(state, words, origins);
-    let mut rest = signals(controls);
+    let mut coming = Coming::new(signals(controls), cards);
     let mut left = budget(controls);
     'entries: loop {
-        rest = account.pass(&timing, left, rest, &mut cards);
+        account.pass(&timing, left, &mut coming);
         if account.is_over(left) {
             let written = account.finish(out);
             *sums = account.sums;

@@ -11,6 +11,7 @@ use Rattle.st_run.specs.Together.{Together, scene_of, moment_of, AreTexts, IsBeh
 use Rattle.st_run.specs.Outside.{Coming, HasHappened, scene_at, ends_by}
 use Rattle.st_run.specs.Overlapped.{IsChanged}
 use Rattle.st_run.specs.declared.between.Interlude.{Interlude}
+use Rattle.st_run.proofs.OutsideLemmas.{printed-texts}
 use Rattle.st_run.proofs.PrintLemmas.{settled-one}
 
 -- all of it came: the scene, the text that was printed, and whether that has ended the segment
@@ -43,7 +44,7 @@ come-between b m n x y i over view is came same =
     (λ behind. subst {A = Bool} (λ o. HasCome (with_coming m x) (with_coming n y) (option_map line_of_words i.words) o) (sym same)
     (record {
       scene = came.scene;
-      told = came.told (settled-one (scene_at m.state x));
+      told = printed-texts i.words _ (came.told (settled-one (scene_at m.state x)));
       since = came.rest.since (with_coming m x) false behind (since-none m);
       ends = or-change i.waited i.card (has_card (moment_of (with_coming m x))) _ came.wait
           (came.card ∙ ap (λ (c : Scene). nat_lt (length c.cards) (length x.cards)) came.scene);

@@ -1,5 +1,5 @@
 -- One thing comes to a machine after another.
-use Rattle.std.specs.Prelude.{nat_lt, option_map, if◌then◌else◌}
+use Rattle.std.specs.Prelude.{nat_lt, option_map, map, if◌then◌else◌}
 use Rattle.std.specs.Option.{option_or}
 use Rattle.std.proofs.lemmas.Bool.Decides.{nat_tests}
 use Rattle.std.proofs.Common.{◌≡◌, ◌≤◌, ◌||◌, ◌++◌, ℕ, Bool, true, false, List, [], ◌∷◌, length, Option, None, Some, refl, ap, sym, subst, ◌∙◌, arith, length-append}
@@ -9,8 +9,9 @@ use Rattle.st_state.specs.declared.devices.Device.{Device}
 use Rattle.st_exch.specs.Printer.{line_of_words}
 use Rattle.st_exec.specs.Step.{rests}
 use Rattle.st_run.specs.Run.{Scene, Transition, PlainEvent, and_then, uneventful, with_device, with_order_at_rest, with_wait}
-use Rattle.st_run.specs.Together.{AreTexts, text_told}
-use Rattle.st_run.specs.Outside.{Coming, HasHappened, scene_at, joined_of, nothing, ends_by}
+use Rattle.st_run.specs.Together.{AreTexts}
+use Rattle.st_run.specs.Told.{what_happens}
+use Rattle.st_run.specs.Outside.{Coming, ArePrinted, HasHappened, scene_at, joined_of, nothing, ends_by}
 use Rattle.st_run.specs.declared.between.Interlude.{Interlude}
 use Rattle.st_run.proofs.SignalLemmas.{wait-none}
 
@@ -29,19 +30,23 @@ none-came n = grind (arith, nat_tests)
 came-both : (a b c : ℕ) (one two : Bool) → b ≤ a → c ≤ b → one ≡ nat_lt b a → two ≡ nat_lt c b → (one || two) ≡ nat_lt c a
 came-both a b c one two first second is_one is_two = rw (is_one, is_two) (grind (arith, nat_tests))
 
--- ---- texts
+-- ---- what was printed
 
-texts-joined : (t u : Option (List ℕ)) (xs ys : List PlainEvent) → (length xs ≤ 1 → AreTexts (option_map line_of_words t) xs)
-    → (length ys ≤ 1 → AreTexts (option_map line_of_words u) ys)
-    → length (xs ++ ys) ≤ 1 → AreTexts (option_map line_of_words (option_or t u)) (xs ++ ys)
-texts-joined None u [] ys first second few = second few
-texts-joined None u (x ∷ xs) ys first second few =
+printed-joined : (t u : Option (List ℕ)) (xs ys : List PlainEvent) → (length xs ≤ 1 → ArePrinted t xs) → (length ys ≤ 1 → ArePrinted u ys)
+    → length (xs ++ ys) ≤ 1 → ArePrinted (option_or t u) (xs ++ ys)
+printed-joined None u [] ys first second few = second few
+printed-joined None u (x ∷ xs) ys first second few =
     let one : length (x ∷ xs) ≤ 1 = omega (arith, length-append (x ∷ xs) ys) in
     absurd (cc (first one))
-texts-joined (Some words) u [] ys first second few = absurd (cc (first (omega arith)))
-texts-joined (Some words) u (x ∷ []) [] first second few = first (omega arith)
-texts-joined (Some words) u (x ∷ []) (y ∷ ys) first second few = absurd (omega arith)
-texts-joined (Some words) u (x ∷ z ∷ xs) ys first second few = absurd (omega arith)
+printed-joined (Some words) u [] ys first second few = absurd (cc (first (omega arith)).1)
+printed-joined (Some words) u (x ∷ []) [] first second few = first (omega arith)
+printed-joined (Some words) u (x ∷ []) (y ∷ ys) first second few = absurd (omega arith)
+printed-joined (Some words) u (x ∷ z ∷ xs) ys first second few = absurd (omega arith)
+
+-- it is told as text
+pub printed-texts : (t : Option (List ℕ)) (xs : List PlainEvent) → ArePrinted t xs → AreTexts (option_map line_of_words t) xs
+printed-texts None xs is = ap (map what_happens) (sym is)
+printed-texts (Some words) xs is = ap (map what_happens) (sym is.1)
 
 words-none : (t : Option (List ℕ)) → option_or t None ≡ t
 words-none None = refl
@@ -71,8 +76,8 @@ came-then state leaves both r f v w i j m n o x y z first next =
     let same : f (scene_at (state n) y) ≡ f r.scene = ap f first.scene in
     record {
       scene = next.scene ∙ ap (λ (q : Transition). q.scene) same;
-      told = texts-joined i.words j.words r.happened (f r.scene).happened first.told
-          (subst (λ (q : Transition). length q.happened ≤ 1 → AreTexts (option_map line_of_words j.words) q.happened) same next.told);
+      told = printed-joined i.words j.words r.happened (f r.scene).happened first.told
+          (subst (λ (q : Transition). length q.happened ≤ 1 → ArePrinted j.words q.happened) same next.told);
       card = came-both (length x.cards) (length y.cards) (length z.cards) i.card j.card first.fewer next.fewer first.card next.card;
       fewer = omega (arith, first.fewer, next.fewer);
       wait = ap (λ (b : Bool). b || j.waited) first.wait ∙ ap (λ (b : Bool). v || b) next.wait;
@@ -177,7 +182,7 @@ came-waiting state leaves both r i j m n o p x y z resting came kept left wait =
     (came-then state leaves both r with_wait true false (joined_of i a_wait) j m o p x y z
     (record {
       scene = ap (λ (s : Machine). scene_at s y) kept ∙ came.scene;
-      told = λ few. ap (λ (t : Option (List ℕ)). text_told (option_map line_of_words t)) (words-none i.words) ∙ came.told few;
+      told = λ few. subst (λ t. ArePrinted t r.happened) (sym (words-none i.words)) (came.told few);
       card = or-none i.card ∙ came.card;
       fewer = came.fewer;
       wait = ap (λ (b : Bool). b || true) came.wait;

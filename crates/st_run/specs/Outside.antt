@@ -1,12 +1,10 @@
 -- What comes to a machine from outside between two steps, whatever the machine has beside its plain
 -- state.
-use Rattle.std.specs.Prelude.{ℕ, ◌≡◌, ◌≤◌, ◌||◌, Bool, false, nat_lt, nat_le, if◌then◌else◌, List, [], ◌∷◌, length, option_map, Option, None, Some}
+use Rattle.std.specs.Prelude.{ℕ, ◌≡◌, ◌≤◌, ◌||◌, Bool, false, nat_lt, nat_le, if◌then◌else◌, List, [], ◌∷◌, length, Option, None, Some}
 use Rattle.std.specs.Option.{option_or}
 use Rattle.st_card.specs.declared.control_cards.Signal.{Signal}
 use Rattle.st_state.specs.Machine.{Machine}
-use Rattle.st_exch.specs.Printer.{line_of_words}
-use Rattle.st_run.specs.Run.{Scene, Transition}
-use Rattle.st_run.specs.Together.{AreTexts}
+use Rattle.st_run.specs.Run.{Scene, PlainEvent, Prints, Transition}
 use Rattle.st_run.specs.declared.between.Interlude.{Interlude}
 
 -- what is still to come
@@ -50,6 +48,11 @@ joined_of i j = record {
 abbrev pub ends_by : Interlude → Bool
 ends_by i = i.waited || i.card
 
+-- what happened is that this was printed, and nothing else
+abbrev pub ArePrinted : Option (List ℕ) → List PlainEvent → Type 0
+ArePrinted None happened = happened ≡ []
+ArePrinted (Some words) happened = (s : Machine) × (happened ≡ Prints s words ∷ [])
+
 -- What came to a machine: its scene is the one that is reached; the words are what was printed, if
 -- that is no more than one area; whether a card came, and whether the machine waited; and what is
 -- left of the rest of the machine
@@ -57,7 +60,7 @@ pub record HasHappened {A : Type 0} (state : A → Machine) (leaves : Bool → A
     (r : Transition) (waited : Bool) (i : Interlude)
     (old : A) (o : Coming) (new : A) (n : Coming) : Type 0 where
   pub scene : scene_at (state new) n ≡ r.scene
-  pub told : length r.happened ≤ 1 → AreTexts (option_map line_of_words i.words) r.happened
+  pub told : length r.happened ≤ 1 → ArePrinted i.words r.happened
   pub card : i.card ≡ nat_lt (length n.cards) (length o.cards)
   pub fewer : length n.cards ≤ length o.cards
   pub wait : i.waited ≡ waited

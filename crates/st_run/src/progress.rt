@@ -9,6 +9,7 @@ ghost use Rattle.st_run.specs.declared.turn.Turn.TheVariants as turns;
 
 use crate::driven::Driven;
 use crate::leaving::{leave, levels_ahead, pass_on};
+use crate::plain::done_in;
 use crate::ticking::{run_many, run_until};
 use crate::told::{RunEvent, TimedRunEvent};
 use crate::turn::Turn;
@@ -16,7 +17,6 @@ use crate::waiting::Waiting;
 use arrayvec::{ArrayString, ArrayVec};
 use st_ahead::{Row, RowQueue};
 use st_card::Signal;
-use st_state::State;
 
 // No more instructions are done than this number, 2^63 - 1.
 const MOST: u64 = (1 << 63) - 1;
@@ -310,13 +310,6 @@ fn done_of<const N: usize>(driven: &Driven<N>) -> u64
     ensures { result ≡ driven.now.machine.state.done }
 {
     done_in(driven.machine.state())
-}
-
-// The number of instructions done.
-fn done_in(state: &State) -> u64
-    ensures { result ≡ state.now.done }
-{
-    state.done
 }
 
 // The tick of the next snapshot.

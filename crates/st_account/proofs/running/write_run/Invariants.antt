@@ -15,7 +15,7 @@ invariant-entries g l =
     l.timing.delays.list l.timing.levels
     (λ x. ticks_for x (all_charges l.timing.delays.list l.timing.levels (entries_from l.timing.delays.list l.timing.levels l.controls.budget c)))
     (λ r s. stalled_from r s l.timing.delays.list l.timing.levels l.controls.budget [] c)
-    l.account l.rest l.cards l.left
+    l.account l.coming.signals l.coming.cards l.left
 
 abbrev pub decreases-entries : goal.decreases-entries
 decreases-entries g l = l.left

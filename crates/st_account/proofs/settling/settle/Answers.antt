@@ -1,15 +1,20 @@
-use Rattle.st_account.proofs.Stages.{settled-stages}
-use Rattle.st_account.proofs.PrintLemmas.{settled-printed}
+use Rattle.std.proofs.Common.{◌∙◌, ap, subst, ◌++◌, [], ◌∷◌}
+use Rattle.st_run.specs.Outside.{ArePrinted, scene_at}
+use Rattle.st_run.specs.Run.{interlude}
+use Rattle.st_run.proofs.PrintLemmas.{settled-one}
+use Rattle.st_account.proofs.PrintLemmas.{none-printed, some-printed}
 use Rattle.st_account.proofs.settling.settle.Goals as goal
 
-pub returns-clause-came : goal.returns-clause-came
-returns-clause-came c =
-    let ys = c.due_signals-due.result.now in
-    settled-stages _ _ _ _ _ _ ys _ _ _ _ (c.due_signals-due.ensures.came c.args.cards.now) (c.serve_due-first.ensures.scene ys)
-    (c.serve_wait-second.ensures.scene ys) (c.signals_at_rest.ensures.came c.serve_wait-second.new.cards)
+pub returns-in-Some-clause-printed : goal.returns-in-Some-clause-printed
+returns-in-Some-clause-printed c =
+    let before = scene_at c.args.state.now c.args.coming.now in
+    c.push.ensures.items ∙ ap (λ ws. ws ++ c.in-Some.words ∷ []) c.clear.ensures
+    ∙ some-printed c.in-Some.words (interlude before).happened
+    (subst (λ ws. ArePrinted ws (interlude before).happened) c.in-Some.is (c.between-came.ensures.told (settled-one before)))
 
-pub returns-clause-printed : goal.returns-clause-printed
-returns-clause-printed c =
-    let ys = c.due_signals-due.result.now in
-    settled-printed _ _ _ _ ys _ _ _ _ _ c.clear.ensures (c.due_signals-due.ensures.came c.args.cards.now) (c.serve_due-first.ensures.scene ys)
-    (c.serve_due-first.ensures.printed ys) (c.serve_wait-second.ensures.printed ys)
+pub returns-in_default-clause-printed : goal.returns-in_default-clause-printed
+returns-in_default-clause-printed c =
+    let before = scene_at c.args.state.now c.args.coming.now in
+    c.clear.ensures
+    ∙ none-printed (interlude before).happened
+    (subst (λ ws. ArePrinted ws (interlude before).happened) c.in_default.is (c.between-came.ensures.told (settled-one before)))

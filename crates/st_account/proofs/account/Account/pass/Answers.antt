@@ -1,5 +1,6 @@
 use Rattle.std.specs.Prelude.{slice_index}
 use Rattle.std.proofs.Common.{sym, ◌∙◌, ap}
+use Rattle.st_account.specs.Standing.{still_by}
 use Rattle.st_account.specs.declared.account.Account.{Account}
 use Rattle.st_account.proofs.PassLemmas.{scene-is, printed-is, card-is, waited-is, left-is, may-is, dropped-is, banks-is, late-is}
 use Rattle.st_account.proofs.account.Account.pass.Goals as goal
@@ -9,34 +10,35 @@ returns-clause-came c b m at =
     let ds = c.args.timing.now.delays.list in
     let n = c.args.timing.now.levels in
     let a = c.args.self.now in
+    let still = c.is_still-still.ensures ∙ ap (still_by a.state a.last.missed) c.signals.ensures in
     let last = ap (λ (x : Account). x.last) c.look_if.ensures.rest in
     let segment = ap (λ (x : Account). x.k) c.look_if.ensures.rest in
     record {
-      scene = scene-is ds n b m a c.args.signals.now c.args.cards.now at c.look_if.new.self.state c.settle-settled.new.state _ c.settle-settled.new.cards
-          c.look_if.ensures.state c.settle-settled.ensures.came;
+      scene = scene-is ds n b m a c.args.coming.now.signals c.args.coming.now.cards at c.look_if.new.self.state c.settle-came.new.state _ c.settle-came.new.coming.cards
+          c.look_if.ensures.state (sym c.settle-came.ensures.came);
       tick = at.hand.tick ∙ ap (λ l. l.tick) (sym last);
       front = at.hand.front ∙ ap (λ l. l.front) (sym last);
       missed = at.hand.missed ∙ ap (λ l. l.missed) (sym last);
       was = at.was ∙ ap (λ l. l.enabled) (sym last);
       dropped = λ ends.
-          dropped-is ds n b m a c.args.signals.now c.args.cards.now at c.args.left c.is_still-still.result c.is_end_near.result c.is_still-still.ensures
+          dropped-is ds n b m a c.args.coming.now.signals c.args.coming.now.cards at c.args.left c.is_still-still.result c.is_end_near.result still
           c.is_end_near.ensures ends _ c.look_if.ensures.found;
       late = λ ends some.
-          late-is ds n b m a c.args.signals.now c.args.cards.now at c.args.left c.is_still-still.result c.is_end_near.result c.is_still-still.ensures
+          late-is ds n b m a c.args.coming.now.signals c.args.coming.now.cards at c.args.left c.is_still-still.result c.is_end_near.result still
           c.is_end_near.ensures ends _ c.look_if.ensures.late (λ none. some (segment ∙ none));
       banks = λ ends.
-          banks-is ds n b m a c.args.signals.now c.args.cards.now at c.args.left c.is_still-still.result c.is_end_near.result c.is_still-still.ensures
+          banks-is ds n b m a c.args.coming.now.signals c.args.coming.now.cards at c.args.left c.is_still-still.result c.is_end_near.result still
           c.is_end_near.ensures ends _ (λ yes. c.look_if.ensures.banks at.hand.reads at.hand.bus yes at.hand.has);
-      printed = printed-is ds n b m a c.args.signals.now c.args.cards.now at c.look_if.new.self.state c.settle-settled.new.state _ c.settle-settled.new.cards
-          c.look_if.ensures.state c.settle-settled.ensures.came _ c.settle-settled.ensures.printed;
-      card = card-is ds n b m a c.args.signals.now c.args.cards.now at c.look_if.new.self.state c.settle-settled.new.state _ c.settle-settled.new.cards
-          c.look_if.ensures.state c.settle-settled.ensures.came _ c.settle-settled.ensures.card;
-      waited = waited-is ds n b m a c.args.signals.now c.args.cards.now at c.look_if.new.self.state c.settle-settled.new.state _ c.settle-settled.new.cards
-          c.look_if.ensures.state c.settle-settled.ensures.came _ c.settle-settled.ensures.waited;
+      printed = printed-is ds n b m a c.args.coming.now.signals c.args.coming.now.cards at c.look_if.new.self.state c.settle-came.new.state _ c.settle-came.new.coming.cards
+          c.look_if.ensures.state (sym c.settle-came.ensures.came) _ c.settle-came.ensures.printed;
+      card = card-is ds n b m a c.args.coming.now.signals c.args.coming.now.cards at c.look_if.new.self.state c.settle-came.new.state _ c.settle-came.new.coming.cards
+          c.look_if.ensures.state (sym c.settle-came.ensures.came) _ c.settle-came.ensures.card;
+      waited = waited-is ds n b m a c.args.coming.now.signals c.args.coming.now.cards at c.look_if.new.self.state c.settle-came.new.state _ c.settle-came.new.coming.cards
+          c.look_if.ensures.state (sym c.settle-came.ensures.came) _ c.settle-came.ensures.waited;
       words = λ some. ap (λ (x : Account). x.words.items) c.look_if.ensures.rest ∙ at.words (λ none. some (segment ∙ none));
       unchanged = λ some v inside left.
           ap (λ (x : Account). slice_index x.words.items v) c.look_if.ensures.rest
-          ∙ left-is ds n b m a c.args.signals.now c.args.cards.now at c.look_if.new.self.state c.settle-settled.new.state _ c.settle-settled.new.cards
-          c.look_if.ensures.state c.settle-settled.ensures.came _ (may-is _ c.look_if.new.self.last a.last c.look_if.new.self.state c.changeable-self.ensures last)
+          ∙ left-is ds n b m a c.args.coming.now.signals c.args.coming.now.cards at c.look_if.new.self.state c.settle-came.new.state _ c.settle-came.new.coming.cards
+          c.look_if.ensures.state (sym c.settle-came.ensures.came) _ (may-is _ c.look_if.new.self.last a.last c.look_if.new.self.state c.changeable-self.ensures last)
           (λ none. some (segment ∙ none)) v inside left;
     }
