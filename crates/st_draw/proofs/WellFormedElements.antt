@@ -1,7 +1,7 @@
 -- Texts that stay in their elements, and elements that are closed.
 use Rattle.std.proofs.Common.{◌≡◌, inl, inr, ℕ, ◌==◌, ◌&&◌, nat_le, Bool, true, false, List, [], ◌∷◌, ◌++◌, length, take, codes, refl, arith, append_assoc}
 use Rattle.std.proofs.lemmas.List.Folds.{list_all-append}
-use Rattle.st_draw.specs.Element.{Element, Box, Bar, Line, Text, Card, element_text, front, corner, size, ends, content, title_end, box_title, shown_card, card_content, ellipsis}
+use Rattle.st_draw.specs.Element.{Element, Box, Bar, Line, Text, Card, element_text, element_front, corner, size, ends, content, title_end, box_title, shown_card, card_content, ellipsis}
 use Rattle.st_entries.specs.Caption.{card_limit}
 use Rattle.st_draw.specs.Escape.{escaped_text, escaped_byte}
 use Rattle.st_draw.specs.WellFormed.{is_inner, are_inner, IsClosed, IsFull}
@@ -27,7 +27,7 @@ escaped_inner (c ∷ cs) =
 -- a card is closed, by whether it is short enough to be shown whole
 card_closed : (whole : Bool) (x y : ℕ) (text : List ℕ) → nat_le (length text) card_limit ≡ whole
     → IsFull (codes "text") (element_text (Card x y text))
-unfolding element_text front card_content shown_card
+unfolding element_text element_front card_content shown_card
 card_closed true x y text test = record {
   attributes = codes "c\"" ++ corner x y;
   inner = escaped_text text;
@@ -53,7 +53,7 @@ bar_parts front class quote place reach begin title end = simp append_assoc refl
 
 -- each element is closed
 pub element_closed : (e : Element) → IsClosed (element_text e)
-unfolding element_text front content box_title
+unfolding element_text element_front content box_title
 element_closed (Box class x y width height) = inl (record {
   attributes = class ++ codes "\"" ++ corner x y ++ size width height;
   parts = simp append_assoc refl;

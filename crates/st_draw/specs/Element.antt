@@ -8,8 +8,8 @@ unfoldable pub attribute : List ℕ → ℕ → List ℕ
 attribute name n = name ++ codes "=\"" ++ decimal n ++ codes "\""
 
 -- the front of an element, with its class
-unfoldable pub front : List ℕ → List ℕ → List ℕ
-front name class = name ++ codes " class=\"" ++ class ++ codes "\""
+unfoldable pub element_front : List ℕ → List ℕ → List ℕ
+element_front name class = name ++ codes " class=\"" ++ class ++ codes "\""
 
 -- where an element stands
 unfoldable pub corner : ℕ → ℕ → List ℕ
@@ -61,13 +61,13 @@ pub data Element : Type 0 where
 
 -- the bytes of an element
 unfoldable pub element_text : Element → List ℕ
-element_text (Box class x y width height) = front (codes "<rect") class ++ corner x y
+element_text (Box class x y width height) = element_front (codes "<rect") class ++ corner x y
     ++ size width height ++ codes "/>\n"
 element_text (Bar class x y width height title) =
-    front (codes "<rect") class ++ corner x y ++ size width height ++ box_title title
-element_text (Line class x y x' y') = front (codes "<line") class ++ ends x y x' y' ++ codes "/>\n"
-element_text (Text class x y text) = front (codes "<text") class ++ corner x y ++ content text
-element_text (Card x y text) = front (codes "<text") (codes "c") ++ corner x y ++ card_content text
+    element_front (codes "<rect") class ++ corner x y ++ size width height ++ box_title title
+element_text (Line class x y x' y') = element_front (codes "<line") class ++ ends x y x' y' ++ codes "/>\n"
+element_text (Text class x y text) = element_front (codes "<text") class ++ corner x y ++ content text
+element_text (Card x y text) = element_front (codes "<text") (codes "c") ++ corner x y ++ card_content text
 
 -- the bytes of elements, one after another
 unfoldable pub elements_text : List Element → List ℕ

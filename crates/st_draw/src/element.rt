@@ -1,6 +1,6 @@
 //! The elements of a picture.
 ghost use Rattle.std.specs.Prelude.{◌≡◌, ◌++◌, IfOk};
-ghost use Rattle.st_draw.specs.Element.{attribute, front, corner, size, ends, content, title_end, box_title, shown_card, card_content, element_text, Box, Bar, Line, Text, Card};
+ghost use Rattle.st_draw.specs.Element.{attribute, element_front, corner, size, ends, content, title_end, box_title, shown_card, card_content, element_text, Box, Bar, Line, Text, Card};
 
 use crate::escape::push_escaped;
 use st_entries::{CARD_LIMIT, push_decimal};
@@ -37,9 +37,9 @@ fn push_attribute(out: &mut Vec<u8>, name: &[u8], n: u128) -> Result<(), AllocEr
 }
 
 // Appends the front of an element, with its class.
-#[tactic(auto, unfolding(crate::specs::Element::front))]
+#[tactic(auto, unfolding(crate::specs::Element::element_front))]
 fn push_front(out: &mut Vec<u8>, name: &[u8], class: &[u8]) -> Result<(), AllocError>
-    ensures { IfOk result (λ _. out.new.items ≡ out.old.items ++ front name.now class.now) }
+    ensures { IfOk result (λ _. out.new.items ≡ out.old.items ++ element_front name.now class.now) }
 {
     out.extend_from_slice(name)?;
     out.extend_from_slice(b" class=\"")?;
