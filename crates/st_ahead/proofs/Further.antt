@@ -125,8 +125,8 @@ known ds n now rest done t s f v is opened before = record {
 }
 
 pub going-front : (ds : List ℕ) (n now rest : ℕ) (t : Option ℕ) (s : Machine) (f : Front) (v : LookView) → IsGoing ds n now rest t s f v
-    → 1 ≤ n → n ≤ 8 → count v ≤ n → now < 2 ^ 63 → IsFrontInTime n v.front
-going-front ds n now rest t s f v is some most few early =
+    → n ≤ 8 → count v ≤ n → now < 2 ^ 63 → IsFrontInTime v.front
+going-front ds n now rest t s f v is most few early =
     let early : v.front.c ≤ 2 ^ 63 + 2 ^ 20 = omega (arith, is.early) in
     assumption
 

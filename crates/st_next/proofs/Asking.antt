@@ -67,9 +67,9 @@ reads-planned ds f next is =
 
 -- ---- the front is early enough
 
-pub words-early : (ds : List ℕ) (n : ℕ) (f : Front) (own target : WordRun) (words : Fetching) → AreDelaysUpTo 255 ds → IsFrontInTime n f
+pub words-early : (ds : List ℕ) (f : Front) (own target : WordRun) (words : Fetching) → AreDelaysUpTo 255 ds → IsFrontInTime f
     → IsEntryInTime (words_alone own target) → words ≡ words_so_far ds f own target → IsEarly f words
-words-early ds n f own target words are is e same = record {
+words-early ds f own target words are is e same = record {
   room = rw same (fetching-weaker (f.c + 7 * 255 + 6) (2 ^ 64 - 512) _ (omega (arith, is.early)) (fetched-within 255 ds are f (words_alone own target) e is.tight));
   before = past-weaker f.c (2 ^ 64 - 512) f.past (omega (arith, is.early)) is.tight.done;
   wanted = omega (arith, is.early, wanted-early 255 f is.tight);
@@ -84,8 +84,8 @@ module _ (ds : List ℕ) (n now : ℕ) (f : Front) (x : List ℕ) (s : Machine) 
   pub known-words : IsEntryInTime (words_alone before.own before.target)
   known-words = words-entry before.own before.target (entry k.table k.state) k.is_next.read_on.first known-entry
 
-  pub known-early : AreDelaysUpTo 255 ds → IsFrontInTime n f → IsEarly f before.words
-  known-early are is = words-early ds n f before.own before.target before.words are is known-words (k.is_next.read_on.words un)
+  pub known-early : AreDelaysUpTo 255 ds → IsFrontInTime f → IsEarly f before.words
+  known-early are is = words-early ds f before.own before.target before.words are is known-words (k.is_next.read_on.words un)
 
   pub known-place : IsPlace before.place
   unfolding sight

@@ -22,10 +22,8 @@ use Rattle.st_next.specs.Known.{IsStateBefore}
 use Rattle.st_next.specs.Progress.{IsNext, Rests, reads_so_far}
 use Rattle.st_next.specs.declared.next.Next.{Next}
 
--- a machine of 1 to 8 levels, and a front whose ticks lie close together and are early enough
-pub record IsFrontInTime (n : ℕ) (f : Front) : Type 0 where
-  pub some : 1 ≤ n
-  pub most : n ≤ 8
+-- the ticks of a front lie close together and are early enough
+pub record IsFrontInTime (f : Front) : Type 0 where
   pub tight : IsTight MOST_DELAY f
   pub early : f.c ≤ 2 ^ 63 + 2 ^ 20
 

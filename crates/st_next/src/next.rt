@@ -180,7 +180,8 @@ impl Next {
         requires room { IsEarly front.now self.old.words }
         requires storage { 32 ≤ w }
         ensures next { self.new ≡ record self.old {
-          words = fetch_word delays.now.list front.now.past self.old.words w (wanted_from front.now);
+          words = fetch_word delays.now.list front.now.past self.old.words w
+              (wanted_from front.now);
           own = with_word_of self.old.own w;
         } }
         ensures log { log.new ≡ log_after_reads delays.now.list (word_asked
@@ -244,7 +245,7 @@ impl Next {
         requires known { let b = basis.now in let t = b.timing in let f = b.front.now in
             max self.old.words.awaited (if f.serial then f.c else 0) < due →
             IsKnown t.delays.now.list t.levels (due - 1) f b.index.now b.state.now self.old }
-        requires front { IsFrontInTime basis.now.timing.levels basis.now.front.now }
+        requires front { IsFrontInTime basis.now.front.now }
         requires unplanned { self.old.planned ≡ false }
 
         ensures next { let b = basis.now in let t = b.timing in GoesOnTo t.delays.now.list
@@ -274,7 +275,7 @@ impl Next {
     fn prepare_own_before(&mut self, due: u64, basis: &Basis<'_, '_>, log: &mut Log) -> bool
         requires known { let b = basis.now in let t = b.timing in IsKnown
             t.delays.now.list t.levels (due - 1) b.front.now b.index.now b.state.now self.old }
-        requires front { IsFrontInTime basis.now.timing.levels basis.now.front.now }
+        requires front { IsFrontInTime basis.now.front.now }
         requires unplanned { self.old.planned ≡ false }
         requires soon { self.old.words.awaited < due }
 
@@ -296,7 +297,7 @@ impl Next {
     fn begin(&mut self, due: u64, basis: &Basis<'_, '_>, log: &mut Log)
         requires known { let b = basis.now in let t = b.timing in IsKnown
             t.delays.now.list t.levels (due - 1) b.front.now b.index.now b.state.now self.old }
-        requires front { IsFrontInTime basis.now.timing.levels basis.now.front.now }
+        requires front { IsFrontInTime basis.now.front.now }
         requires unplanned { self.old.planned ≡ false }
         requires soon { self.old.words.awaited < due }
 
@@ -325,7 +326,7 @@ impl Next {
     fn prepare_before(&mut self, due: u64, basis: &Basis<'_, '_>, log: &mut Log) -> bool
         requires known { let b = basis.now in let t = b.timing in IsKnown
             t.delays.now.list t.levels (due - 1) b.front.now b.index.now b.state.now self.old }
-        requires front { IsFrontInTime basis.now.timing.levels basis.now.front.now }
+        requires front { IsFrontInTime basis.now.front.now }
         requires unplanned { self.old.planned ≡ false }
 
         ensures next { let b = basis.now in let t = b.timing in GoesOnTo t.delays.now.list

@@ -347,7 +347,8 @@ fn request_inside(bus: &mut Bus, log: &mut Log, delays: &Delays, w: u32, p: u64)
     requires room { IsBusWithin (2 ^ 64 - 512) bus.old }
     requires early { p ≤ 2 ^ 64 - 512 }
     ensures after { bus.new ≡ request_inside_of delays.now.list bus.old w p }
-    ensures log { log.new ≡ log_after_reads delays.now.list (inside_asked bus.old w p) bus.old log.old }
+    ensures log { log.new
+        ≡ log_after_reads delays.now.list (inside_asked bus.old w p) bus.old log.old }
 {
     if w >= WORDS {
         return;

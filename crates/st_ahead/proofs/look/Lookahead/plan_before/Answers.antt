@@ -52,7 +52,7 @@ plan_before-requires-clause-front g c =
     let tick = c.requires.going.goes.tick in
     let view : LookView = record { levels = c.self.inside.levels; front = c.self.inside.front; log = c.self.inside.log; next = c.self.inside.next } in
     let is = subst (λ (w : LookView). IsGoing ds n tick tick t s f w) (sym c.self.view_is) c.requires.going.goes.going in
-    going-front ds n tick tick t s f view is c.requires.some c.requires.few c.index.ensures.few
+    going-front ds n tick tick t s f view is c.requires.few c.index.ensures.few
     (omega (arith, c.requires.going.goes.soon, c.requires.early))
 
 pub returns-clause-going : goal.returns-clause-going
