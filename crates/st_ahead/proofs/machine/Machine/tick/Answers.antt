@@ -37,9 +37,9 @@ invariant_of-self g c =
     let u = c.tick-done.new.state in
     let are = delays-are i.delays in
     let by = subst (λ (x : Option Completed). IsTicked i.delays.list n i.now i.taken i.state f v u w x) c.in_default.is
-    (c.tick-done.ensures.ticked i.delays.list (i.now - 1) i.taken f c.self.invariant.some c.self.invariant.few are at.look (not-first i.now v.levels.ring at.look.prepared)) in
+    (c.tick-done.ensures.ticked i.delays.list (i.now - 1) i.taken f c.self.invariant.some c.self.invariant.few are at.look (not-first i.now v.levels.ring at.look.outlook.prepared)) in
     let all = passed-tick i.stopped n i.delays.list i.state u i.taken i.behind i.now i.owed i.ended i.fresh v w c.self.invariant owes early by
-    (levels_are_the_entries_ahead.oldest i.delays.list n i.now i.taken i.state f w.front w.levels by.look.ahead) in
+    (levels_are_the_entries_ahead.oldest i.delays.list n i.now i.taken i.state f w.front w.levels by.look.outlook.ahead) in
     all.0
 
 pub returns-in_default-clause-event : goal.returns-in_default-clause-event
@@ -55,9 +55,9 @@ returns-in_default-clause-event g c =
     let u = c.tick-done.new.state in
     let are = delays-are i.delays in
     let by = subst (λ (x : Option Completed). IsTicked i.delays.list n i.now i.taken i.state f v u w x) c.in_default.is
-    (c.tick-done.ensures.ticked i.delays.list (i.now - 1) i.taken f c.self.invariant.some c.self.invariant.few are at.look (not-first i.now v.levels.ring at.look.prepared)) in
+    (c.tick-done.ensures.ticked i.delays.list (i.now - 1) i.taken f c.self.invariant.some c.self.invariant.few are at.look (not-first i.now v.levels.ring at.look.outlook.prepared)) in
     let all = passed-tick i.stopped n i.delays.list i.state u i.taken i.behind i.now i.owed i.ended i.fresh v w c.self.invariant owes early by
-    (levels_are_the_entries_ahead.oldest i.delays.list n i.now i.taken i.state f w.front w.levels by.look.ahead) in
+    (levels_are_the_entries_ahead.oldest i.delays.list n i.now i.taken i.state f w.front w.levels by.look.outlook.ahead) in
     subst (λ (m : Overlap). is_done m ≡ false) c.self.view_is all.1
 
 pub returns-in_default-clause-after : goal.returns-in_default-clause-after
@@ -73,9 +73,9 @@ returns-in_default-clause-after g c =
     let u = c.tick-done.new.state in
     let are = delays-are i.delays in
     let by = subst (λ (x : Option Completed). IsTicked i.delays.list n i.now i.taken i.state f v u w x) c.in_default.is
-    (c.tick-done.ensures.ticked i.delays.list (i.now - 1) i.taken f c.self.invariant.some c.self.invariant.few are at.look (not-first i.now v.levels.ring at.look.prepared)) in
+    (c.tick-done.ensures.ticked i.delays.list (i.now - 1) i.taken f c.self.invariant.some c.self.invariant.few are at.look (not-first i.now v.levels.ring at.look.outlook.prepared)) in
     let all = passed-tick i.stopped n i.delays.list i.state u i.taken i.behind i.now i.owed i.ended i.fresh v w c.self.invariant owes early by
-    (levels_are_the_entries_ahead.oldest i.delays.list n i.now i.taken i.state f w.front w.levels by.look.ahead) in
+    (levels_are_the_entries_ahead.oldest i.delays.list n i.now i.taken i.state f w.front w.levels by.look.outlook.ahead) in
     subst (λ (m : Overlap). overlap_of n i.delays.list u i.taken i.behind i.now true i.ended i.stopped i.fresh w ≡ machine_after_tick m) c.self.view_is all.2
 
 pub invariant_of-self-2 : goal.invariant_of-self-2
@@ -91,22 +91,22 @@ invariant_of-self-2 g c =
     let u = c.tick-done.new.state in
     let are = delays-are i.delays in
     let by = subst (λ (x : Option Completed). IsTicked i.delays.list n i.now i.taken i.state f v u w x) c.in-Some.is
-    (c.tick-done.ensures.ticked i.delays.list (i.now - 1) i.taken f c.self.invariant.some c.self.invariant.few are at.look (not-first i.now v.levels.ring at.look.prepared)) in
+    (c.tick-done.ensures.ticked i.delays.list (i.now - 1) i.taken f c.self.invariant.some c.self.invariant.few are at.look (not-first i.now v.levels.ring at.look.outlook.prepared)) in
     let done = c.in-Some.done in
-    let m = at.look.machine in
-    let t = at.look.indicator in
+    let m = at.look.outlook.machine in
+    let t = at.look.outlook.indicator in
     let most : count v ≤ n = c.tick-done.ensures.few in
     let few : i.now ≤ i.now - 1 + 1 = omega arith in
     let levels = looks_are_levels i.delays.list n (i.now - 1) i.now i.taken i.state f v c.self.invariant.some c.self.invariant.few are few most at.look in
     let some = some-due (count v) (λ empty. unprepared i.delays.list n (count v) i.now i.taken i.state f c.self.invariant.some empty are
-    (entries_are_in_range.ranges i.taken i.state m t) at.look.oldest levels by.due) in
-    let next = not-first i.now v.levels.ring at.look.prepared some in
+    (entries_are_in_range.ranges i.taken i.state m t) at.look.outlook.oldest levels by.due) in
+    let next = not-first i.now v.levels.ring at.look.outlook.prepared some in
     let left = the_banks_are_left i.delays.list n (i.now - 1) i.now i.taken i.state f v
     c.self.invariant.some c.self.invariant.few are next most some (outlook-of i.delays.list n (i.now - 1) i.now i.taken i.state f v at.look) by.due in
     let banks = banks-at i.stopped n i.delays.list i.state i.taken i.now v left.0 in
     let guessed = guess-seen i.taken i.state u (is_missed (plan i.state i.taken) i.state) done.missed refl by.state by.told.missed
     (steps_are_guesses.right i.taken i.state m t) (steps_are_guesses.missed i.taken i.state m t) in
-    let front = levels_are_the_entries_ahead.oldest i.delays.list n i.now None (guess i.taken i.state) (front_after_entry i.delays.list n f (entry i.taken i.state)) w.front w.levels by.look.ahead in
+    let front = levels_are_the_entries_ahead.oldest i.delays.list n i.now None (guess i.taken i.state) (front_after_entry i.delays.list n f (entry i.taken i.state)) w.front w.levels by.look.outlook.ahead in
     let all = done-tick i.stopped n i.delays.list i.state u i.taken i.behind i.now i.owed i.ended i.fresh v w done c.self.invariant owes early by front banks left.1 guessed in
     all.0
 
@@ -123,22 +123,22 @@ returns-clause-event g c =
     let u = c.tick-done.new.state in
     let are = delays-are i.delays in
     let by = subst (λ (x : Option Completed). IsTicked i.delays.list n i.now i.taken i.state f v u w x) c.in-Some.is
-    (c.tick-done.ensures.ticked i.delays.list (i.now - 1) i.taken f c.self.invariant.some c.self.invariant.few are at.look (not-first i.now v.levels.ring at.look.prepared)) in
+    (c.tick-done.ensures.ticked i.delays.list (i.now - 1) i.taken f c.self.invariant.some c.self.invariant.few are at.look (not-first i.now v.levels.ring at.look.outlook.prepared)) in
     let done = c.in-Some.done in
-    let m = at.look.machine in
-    let t = at.look.indicator in
+    let m = at.look.outlook.machine in
+    let t = at.look.outlook.indicator in
     let most : count v ≤ n = c.tick-done.ensures.few in
     let few : i.now ≤ i.now - 1 + 1 = omega arith in
     let levels = looks_are_levels i.delays.list n (i.now - 1) i.now i.taken i.state f v c.self.invariant.some c.self.invariant.few are few most at.look in
     let some = some-due (count v) (λ empty. unprepared i.delays.list n (count v) i.now i.taken i.state f c.self.invariant.some empty are
-    (entries_are_in_range.ranges i.taken i.state m t) at.look.oldest levels by.due) in
-    let next = not-first i.now v.levels.ring at.look.prepared some in
+    (entries_are_in_range.ranges i.taken i.state m t) at.look.outlook.oldest levels by.due) in
+    let next = not-first i.now v.levels.ring at.look.outlook.prepared some in
     let left = the_banks_are_left i.delays.list n (i.now - 1) i.now i.taken i.state f v
     c.self.invariant.some c.self.invariant.few are next most some (outlook-of i.delays.list n (i.now - 1) i.now i.taken i.state f v at.look) by.due in
     let banks = banks-at i.stopped n i.delays.list i.state i.taken i.now v left.0 in
     let guessed = guess-seen i.taken i.state u (is_missed (plan i.state i.taken) i.state) done.missed refl by.state by.told.missed
     (steps_are_guesses.right i.taken i.state m t) (steps_are_guesses.missed i.taken i.state m t) in
-    let front = levels_are_the_entries_ahead.oldest i.delays.list n i.now None (guess i.taken i.state) (front_after_entry i.delays.list n f (entry i.taken i.state)) w.front w.levels by.look.ahead in
+    let front = levels_are_the_entries_ahead.oldest i.delays.list n i.now None (guess i.taken i.state) (front_after_entry i.delays.list n f (entry i.taken i.state)) w.front w.levels by.look.outlook.ahead in
     let all = done-tick i.stopped n i.delays.list i.state u i.taken i.behind i.now i.owed i.ended i.fresh v w done c.self.invariant owes early by front banks left.1 guessed in
     let row = row-tick i.stopped n i.delays.list i.state u i.taken i.behind i.now i.owed i.ended i.fresh v w done c.self.invariant owes by
     (entries_count_as_one (plan i.state i.taken) i.state) in
@@ -157,21 +157,21 @@ returns-clause-after g c =
     let u = c.tick-done.new.state in
     let are = delays-are i.delays in
     let by = subst (λ (x : Option Completed). IsTicked i.delays.list n i.now i.taken i.state f v u w x) c.in-Some.is
-    (c.tick-done.ensures.ticked i.delays.list (i.now - 1) i.taken f c.self.invariant.some c.self.invariant.few are at.look (not-first i.now v.levels.ring at.look.prepared)) in
+    (c.tick-done.ensures.ticked i.delays.list (i.now - 1) i.taken f c.self.invariant.some c.self.invariant.few are at.look (not-first i.now v.levels.ring at.look.outlook.prepared)) in
     let done = c.in-Some.done in
-    let m = at.look.machine in
-    let t = at.look.indicator in
+    let m = at.look.outlook.machine in
+    let t = at.look.outlook.indicator in
     let most : count v ≤ n = c.tick-done.ensures.few in
     let few : i.now ≤ i.now - 1 + 1 = omega arith in
     let levels = looks_are_levels i.delays.list n (i.now - 1) i.now i.taken i.state f v c.self.invariant.some c.self.invariant.few are few most at.look in
     let some = some-due (count v) (λ empty. unprepared i.delays.list n (count v) i.now i.taken i.state f c.self.invariant.some empty are
-    (entries_are_in_range.ranges i.taken i.state m t) at.look.oldest levels by.due) in
-    let next = not-first i.now v.levels.ring at.look.prepared some in
+    (entries_are_in_range.ranges i.taken i.state m t) at.look.outlook.oldest levels by.due) in
+    let next = not-first i.now v.levels.ring at.look.outlook.prepared some in
     let left = the_banks_are_left i.delays.list n (i.now - 1) i.now i.taken i.state f v
     c.self.invariant.some c.self.invariant.few are next most some (outlook-of i.delays.list n (i.now - 1) i.now i.taken i.state f v at.look) by.due in
     let banks = banks-at i.stopped n i.delays.list i.state i.taken i.now v left.0 in
     let guessed = guess-seen i.taken i.state u (is_missed (plan i.state i.taken) i.state) done.missed refl by.state by.told.missed
     (steps_are_guesses.right i.taken i.state m t) (steps_are_guesses.missed i.taken i.state m t) in
-    let front = levels_are_the_entries_ahead.oldest i.delays.list n i.now None (guess i.taken i.state) (front_after_entry i.delays.list n f (entry i.taken i.state)) w.front w.levels by.look.ahead in
+    let front = levels_are_the_entries_ahead.oldest i.delays.list n i.now None (guess i.taken i.state) (front_after_entry i.delays.list n f (entry i.taken i.state)) w.front w.levels by.look.outlook.ahead in
     let all = done-tick i.stopped n i.delays.list i.state u i.taken i.behind i.now i.owed i.ended i.fresh v w done c.self.invariant owes early by front banks left.1 guessed in
     subst (λ (m : Overlap). overlap_of n i.delays.list u None done.missed i.now true i.ended i.stopped true w ≡ machine_after_tick m) c.self.view_is all.2
