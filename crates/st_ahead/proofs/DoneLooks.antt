@@ -77,19 +77,21 @@ look-filled ds n tick now next t s f v levels h ahead full late =
     let same : length levels.ring ≡ count v =
     same-count ds n tick now t s f v.front v.levels.ring levels.ring v.levels.plans levels.plans h.machine h.indicator h.ahead.levels ahead.levels in
     record {
-      machine = h.machine;
-      indicator = h.indicator;
-      ahead = ahead;
+      outlook = record {
+        machine = h.machine;
+        indicator = h.indicator;
+        ahead = ahead;
+        prepared = prepared-still ds n tick now next t s f v.front v.levels.ring levels.ring v.levels.plans levels.plans h.ahead.levels ahead.levels same h.prepared;
+        not_done = late;
+        oldest = h.oldest;
+        tight = h.tight;
+        start = h.start;
+        early = subst (λ k. v.front.c ≤ next + 9 + 16576 * k) (sym same) h.early;
+        next = next-same ds n next t s v levels same h.next;
+        late = h.late;
+        logged = subst (λ k. IsLogged ds f.bus.free (asked_ahead ds n k t s f ++ reads_so_far ds v.front v.next) f.bus v.log) (sym same) h.logged;
+      };
       full = full;
-      prepared = prepared-still ds n tick now next t s f v.front v.levels.ring levels.ring v.levels.plans levels.plans h.ahead.levels ahead.levels same h.prepared;
-      not_done = late;
-      oldest = h.oldest;
-      tight = h.tight;
-      start = h.start;
-      early = subst (λ k. v.front.c ≤ next + 9 + 16576 * k) (sym same) h.early;
-      next = next-same ds n next t s v levels same h.next;
-      late = h.late;
-      logged = subst (λ k. IsLogged ds f.bus.free (asked_ahead ds n k t s f ++ reads_so_far ds v.front v.next) f.bus v.log) (sym same) h.logged;
     }
 
 -- without levels there is nothing to fill
@@ -107,10 +109,11 @@ full-without ds n tick t s f (level ∷ levels) empty = absurd (omega (arith, em
 
 pub look-without : (ds : List ℕ) (n tick now : ℕ) (t : Option ℕ) (s : Machine) (f : Front) (v : LookView) → count v ≡ 0
     → IsLook ds n tick now t s f v → IsLook ds n now now t s f v
-look-without ds n tick now t s f v empty h =
+look-without ds n tick now t s f v empty looks =
+    let h = looks.outlook in
     let levels = nothing-filled ds n tick now t s f v.front v.levels.ring v.levels.plans empty h.ahead.levels in
     let ahead : AreAhead ds n now t s f v.front v.levels = record { levels = levels.0; index = h.ahead.index; run_ahead = h.ahead.run_ahead } in
-    assumption (full-without ds n now t s f v.levels.ring empty)
+    record { outlook = assumption; full = full-without ds n now t s f v.levels.ring empty }
 
 -- ---- once the oldest entry is done
 

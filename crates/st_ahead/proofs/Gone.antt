@@ -157,7 +157,7 @@ gone-on (Some due) ds n since last t s f v late h = absurd (omega (arith, late, 
 
 pub outlook-of : (ds : List ℕ) (n tick now : ℕ) (t : Option ℕ) (s : Machine) (f : Front) (v : LookView) → IsLook ds n tick now t s f v
     → IsOutlook ds n tick now t s f v
-outlook-of ds n tick now t s f v is = assumption
+outlook-of ds n tick now t s f v is = is.outlook
 
 -- ---- the oldest entry is done later
 
@@ -165,10 +165,10 @@ oldest-by : (ds : List ℕ) (n tick now k : ℕ) (t : Option ℕ) (s : Machine) 
     → IsLook ds n tick now t s f v → prepared_before now (ahead ds n n t s f) ≡ ahead ds n (count v) t s f → tick < (row_of_entry ds n f (entry t s)).c
 oldest-by ds n tick now zero t s f v none some are soon is levels =
     let p = none-prepared ds n n (count v) now t s f some none levels in
-    omega (arith, p, soon, cases.done-behind ds n f (entry t s) are (entry-ranges t s is.machine is.indicator) is.oldest)
+    omega (arith, p, soon, cases.done-behind ds n f (entry t s) are (entry-ranges t s is.outlook.machine is.outlook.indicator) is.outlook.oldest)
 oldest-by ds n tick now (suc k) t s f v one some are soon is levels =
-    due-late ds n tick t s f v.front v.levels.ring v.levels.plans is.ahead.levels is.not_done (omega (arith, one)) (row_of_entry ds n f (entry t s)).c
-    (sym (due-row ds n tick t s f v.front v.levels.ring v.levels.plans is.ahead.levels (omega (arith, one))))
+    due-late ds n tick t s f v.front v.levels.ring v.levels.plans is.outlook.ahead.levels is.outlook.not_done (omega (arith, one)) (row_of_entry ds n f (entry t s)).c
+    (sym (due-row ds n tick t s f v.front v.levels.ring v.levels.plans is.outlook.ahead.levels (omega (arith, one))))
 
 pub oldest-late : (ds : List ℕ) (n tick now : ℕ) (t : Option ℕ) (s : Machine) (f : Front) (v : LookView) → 1 ≤ n → AreDelaysUpTo 255 ds → tick ≤ now
     → IsLook ds n tick now t s f v → prepared_before now (ahead ds n n t s f) ≡ ahead ds n (count v) t s f → tick < (row_of_entry ds n f (entry t s)).c
@@ -178,8 +178,9 @@ oldest-late ds n tick now t s f v some are soon is levels = oldest-by ds n tick 
 
 pub look-rests : (ds : List ℕ) (n now : ℕ) (t : Option ℕ) (s : Machine) (f : Front) (v : LookView) → v.next.planned ≡ true → now < v.next.formed.p
     → IsLook ds n now now t s f v → IsLook ds n now (now + 1) t s f v
-look-rests ds n now t s f v planned late is =
+look-rests ds n now t s f v planned late looks =
+    let is = looks.outlook in
     let start : f.c ≤ (now + 1) + 9 = omega (arith, is.start) in
     let early : v.front.c ≤ (now + 1) + 9 + most_ticks_of_entry * count v = omega (arith, is.early) in
     let late : v.next.planned ≡ true → (now + 1) ≤ v.next.formed.p = λ yes. omega (arith, late) in
-    assumption (All-weaker (λ (x : Level). x.p < now) (λ x. x.p < now + 1) (λ x h. omega (arith, h)) v.levels.ring is.prepared, next-planned (is_open v) ds n now (now + 1) t s v planned is.next)
+    record { outlook = assumption (All-weaker (λ (x : Level). x.p < now) (λ x. x.p < now + 1) (λ x h. omega (arith, h)) v.levels.ring is.prepared, next-planned (is_open v) ds n now (now + 1) t s v planned is.next); full = looks.full }

@@ -67,8 +67,8 @@ instruction_words_are_those_of_the_run = record {
       contents-same ds now v.front v.levels.x s u v.next.own v.next.target before words
       (subst (λ (a : ℕ). a ≤ now) next.read_on.awaited done);
   fetched = λ ds n tick now t s f v look planned.
-      let opened = planned-open (is_open v) ds n now t s v look.next planned in
-      let next = (subst (λ (b : Bool). IsNextIf b ds n now t s v) opened look.next).0 in
+      let opened = planned-open (is_open v) ds n now t s v look.outlook.next planned in
+      let next = (subst (λ (b : Bool). IsNextIf b ds n now t s v) opened look.outlook.next).0 in
       (planned-is v.next.planned ds n (table_behind (count v) t) (guesses (count v) t s) v.front v.next planned next.planned).all.found;
 }
 
@@ -94,9 +94,9 @@ looks_are_levels = λ ds n tick now t s f v some most are soon few is.
       fetches = reads_are_wanted_in_time.fetches ds;
       behind = reads_are_wanted_in_time.«data» ds n;
     } in
-    let order = levels_come_in_order.completed ds n tick t s f v.front v.levels is.machine is.indicator is.ahead in
+    let order = levels_come_in_order.completed ds n tick t s f v.front v.levels is.outlook.machine is.outlook.indicator is.outlook.ahead in
     let later = look-later ds n tick now t s f v ordered soon (outlook-of ds n tick now t s f v is) order in
-    (levels_are_the_entries_ahead.prepared ds n tick now n t s f v.front v.levels is.ahead is.prepared later.prepared few).0
+    (levels_are_the_entries_ahead.prepared ds n tick now n t s f v.front v.levels is.outlook.ahead is.outlook.prepared later.prepared few).0
 
 pub the_banks_are_left : TheBanksAreLeft
 unfolding row_of_entry

@@ -1,12 +1,12 @@
 -- Rows of the entries that are done in ticks, and rows that wait.
-use Rattle.std.specs.Prelude.{take, drop, nat_eq}
+use Rattle.std.specs.Prelude.{take, drop, nat_eq, if◌then◌else◌}
 use Rattle.std.proofs.Common.{◌≡◌, ℕ, zero, suc, ◌+◌, ◌-◌, ◌≤◌, Bool, true, false, List, [], ◌∷◌, ◌++◌, length, inl, inr, refl, sym, ◌∙◌, ap, arith, append_assoc, length-drop, length-append}
 use Rattle.std.proofs.lemmas.Bool.{cases_eq, eq-eqb, ne_eqb}
 use Rattle.std.proofs.lemmas.List.{append-nil, length-take}
 use Rattle.st_ahead.specs.Overlap.{Overlap}
 use Rattle.st_ahead.specs.Calls.{is_done, row_done, machine_after_tick, machine_after_settling}
 use Rattle.st_ahead.specs.RunTo.{after_ticks, IsPassed, ArePassed}
-use Rattle.st_ahead.specs.RowsDone.{Queue, queue_with, row_if, rows_in_ticks}
+use Rattle.st_ahead.specs.RowsDone.{Queue, queue_with, rows_in_ticks}
 use Rattle.st_ahead.specs.declared.events.Row.{Row}
 use Rattle.st_ahead.proofs.Idling.{zero-comes}
 
@@ -58,13 +58,13 @@ rows-join (suc j) k m =
     let same : suc j + k ≡ suc (j + k) = omega arith in
     let next = machine_after_settling (machine_after_tick m) in
     ap {A = ℕ} (λ i. rows_in_ticks i m) same
-    ∙ ap {A = List Row} (λ rest. row_if (is_done m) (row_done m) ++ rest) (rows-join j k next)
-    ∙ sym (append_assoc (row_if (is_done m) (row_done m)) (rows_in_ticks j next) (rows_in_ticks k (after_ticks j next)))
+    ∙ ap {A = List Row} (λ rest. (if is_done m then row_done m ∷ [] else []) ++ rest) (rows-join j k next)
+    ∙ sym (append_assoc (if is_done m then row_done m ∷ [] else []) (rows_in_ticks j next) (rows_in_ticks k (after_ticks j next)))
 
-none-done : (m : Overlap) → IsPassed 0 m → row_if (is_done m) (row_done m) ≡ []
+none-done : (m : Overlap) → IsPassed 0 m → (if is_done m then row_done m ∷ [] else []) ≡ []
 none-done m is = by (is_done m) refl
   where
-    by : (b : Bool) → is_done m ≡ b → row_if b (row_done m) ≡ []
+    by : (b : Bool) → is_done m ≡ b → (if b then row_done m ∷ [] else []) ≡ []
     by true done = absurd (zero-comes (machine_after_tick m) (is.nothing done))
     by false late = refl
 
@@ -91,7 +91,7 @@ row-late m late = rw late refl
 pub rows-first : (k : ℕ) (m : Overlap) → rows_in_ticks (suc k) m ≡ rows_in_ticks 1 m ++ rows_in_ticks k (machine_after_settling (machine_after_tick m))
 unfolding rows_in_ticks
 rows-first k m =
-    ap {A = List Row} (λ xs. xs ++ rows_in_ticks k (machine_after_settling (machine_after_tick m))) (sym (append-nil (row_if (is_done m) (row_done m))))
+    ap {A = List Row} (λ xs. xs ++ rows_in_ticks k (machine_after_settling (machine_after_tick m))) (sym (append-nil (if is_done m then row_done m ∷ [] else [])))
 
 pub no-rows : (m : Overlap) → rows_in_ticks 0 m ≡ []
 unfolding rows_in_ticks

@@ -137,17 +137,19 @@ opening-looks ds n tick now start t s banks v is machine some early before soon 
     let next = next-none ds n now t s f v.next is.place is.own is.target is.planned is.words before refl in
     let reads = reads-none ds v.front v.next is.own is.target is.planned in
     record {
-      machine = machine;
-      indicator = some;
-      ahead = no-levels ds n tick t s f v.front v.levels is.ring is.plans is.index front;
+      outlook = record {
+        machine = machine;
+        indicator = some;
+        ahead = no-levels ds n tick t s f v.front v.levels is.ring is.plans is.index front;
+        prepared = rw is.ring (All-nil (λ (level : Level). level.p < now));
+        not_done = rw is.plans (All-nil (λ (q : Plan). tick < q.c));
+        oldest = tight;
+        tight = subst (IsTight 255) (sym front) tight;
+        start = soon;
+        early = rw (is.ring, front) (omega (arith, soon));
+        next = rw (is.ring, front) next;
+        late = λ planned. absurd (cc (sym is.planned ∙ planned));
+        logged = rw (is.ring, reads, is.log) (opened-log ds f.bus.free f.bus);
+      };
       full = no-slots ds n tick t s f v.levels.ring is.ring;
-      prepared = rw is.ring (All-nil (λ (level : Level). level.p < now));
-      not_done = rw is.plans (All-nil (λ (q : Plan). tick < q.c));
-      oldest = tight;
-      tight = subst (IsTight 255) (sym front) tight;
-      start = soon;
-      early = rw (is.ring, front) (omega (arith, soon));
-      next = rw (is.ring, front) next;
-      late = λ planned. absurd (cc (sym is.planned ∙ planned));
-      logged = rw (is.ring, reads, is.log) (opened-log ds f.bus.free f.bus);
     }

@@ -151,7 +151,7 @@ pub running-starts : (ds : List ℕ) (n count last now : ℕ) (t : Option ℕ) (
 running-starts ds n count last now t s f v is soon awake = record {
   tick = now - 1;
   front = f;
-  passed = start-by ds n count now t s f is.machine is.indicator awake;
+  passed = start-by ds n count now t s f is.outlook.machine is.outlook.indicator awake;
   behind = omega arith;
   soon = omega (arith, soon);
   awake = awake;
@@ -170,7 +170,7 @@ unfolding running-starts
 noting-starts ds n count last now t s f v q is soon awake = record {
   run = running-starts ds n count last now t s f v is soon awake;
   noted = queue-none q ∙ ap {A = List Row} (λ xs. queue_with xs q)
-      (sym (rows-none (now - 1 + 1 - now) _ _ (start-by ds n 0 now t s f is.machine is.indicator awake)));
+      (sym (rows-none (now - 1 + 1 - now) _ _ (start-by ds n 0 now t s f is.outlook.machine is.outlook.indicator awake)));
 }
 
 -- ---- behind an entry that is done it goes on

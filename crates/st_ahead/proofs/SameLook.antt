@@ -108,23 +108,25 @@ module _ (ds : List ℕ) (n : ℕ) where
 pub look-same : (ds : List ℕ) (n tick now : ℕ) (s u : Machine) (f : Front) (v : LookView) → RunAhead (count v) None s
     → IsLook ds n tick now None s f v → IsMachine u → AreAlikeBesideOrders s u → IsLook ds n tick now None u f v
 look-same ds n tick now s u f v run is m beside =
-    let over = passed-over (count v) s u is.machine beside run in
+    let over = passed-over (count v) s u is.outlook.machine beside run in
     record {
-      machine = m;
-      indicator = tt;
-      ahead = ahead-same ds n tick s u f v.front v.levels is.machine beside run is.ahead;
-      full = full-same ds n tick s u f v.levels.ring is.machine beside run is.full;
-      prepared = is.prepared;
-      not_done = is.not_done;
-      oldest = is.oldest;
-      tight = is.tight;
-      start = is.start;
-      early = is.early;
-      next = next-if_same ds n (is_open v) now s u v over.1 is.next;
-      late = is.late;
-      logged =
-          subst (λ reads. IsLogged ds f.bus.free (reads ++ reads_so_far ds v.front v.next) f.bus v.log)
-          (sym (asked-same ds n (count v) s u f is.machine beside run)) is.logged;
+      outlook = record {
+        machine = m;
+        indicator = tt;
+        ahead = ahead-same ds n tick s u f v.front v.levels is.outlook.machine beside run is.outlook.ahead;
+        prepared = is.outlook.prepared;
+        not_done = is.outlook.not_done;
+        oldest = is.outlook.oldest;
+        tight = is.outlook.tight;
+        start = is.outlook.start;
+        early = is.outlook.early;
+        next = next-if_same ds n (is_open v) now s u v over.1 is.outlook.next;
+        late = is.outlook.late;
+        logged =
+            subst (λ reads. IsLogged ds f.bus.free (reads ++ reads_so_far ds v.front v.next) f.bus v.log)
+            (sym (asked-same ds n (count v) s u f is.outlook.machine beside run)) is.outlook.logged;
+      };
+      full = full-same ds n tick s u f v.levels.ring is.outlook.machine beside run is.full;
     }
 
 -- behind the entry before that is done at the tick, no level that is not done by then is done alone
@@ -137,7 +139,7 @@ look-ahead ds n tick now awaits t s f v is late done = by-count (count v) refl
     by-count : (k : ℕ) → count v ≡ k → RunAhead (count v) t s
     by-count zero e = rw e tt
     by-count (suc k) e =
-        (behind-ahead ds n tick now awaits t s f v.front v.levels.ring v.levels.plans is.ahead.levels is.prepared
+        (behind-ahead ds n tick now awaits t s f v.front v.levels.ring v.levels.plans is.outlook.ahead.levels is.outlook.prepared
         (All-weaker (λ (q : Plan). now < q.c) (λ (q : Plan). now ≤ q.c) (λ q h. omega arith) v.levels.plans late) done (omega arith)).1
 
 -- an opening stands in both

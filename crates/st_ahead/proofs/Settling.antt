@@ -380,7 +380,8 @@ interrupt-taken halt n ds s None b now owed over fresh v w i none is off owes en
 
 pub look-goes : (ds : List ℕ) (n now : ℕ) (t : Option ℕ) (s : Machine) (f : Front) (v : LookView) → IsLook ds n now now t s f v
     → IsGoing ds n now now t s f v
-look-goes ds n now t s f v is =
+look-goes ds n now t s f v looks =
+    let is = looks.outlook in
     let start : f.c ≤ now + 10 = omega (arith, is.start) in
     let early : v.front.c ≤ now + 10 + most_ticks_of_entry * count v = omega (arith, is.early) in
     assumption (All-weaker (λ (level : Level). level.p < now) (λ level. level.p ≤ now) (λ level h. omega arith) v.levels.ring is.prepared)
@@ -388,7 +389,8 @@ look-goes ds n now t s f v is =
 -- the same before a tick that is not made
 pub look-runs : (ds : List ℕ) (n now : ℕ) (t : Option ℕ) (s : Machine) (f : Front) (v : LookView) → IsLook ds n (now - 1) now t s f v
     → IsGoing ds n (now - 1) (now - 1) t s f v
-look-runs ds n now t s f v is =
+look-runs ds n now t s f v looks =
+    let is = looks.outlook in
     let start : f.c ≤ (now - 1) + 10 = omega (arith, is.start) in
     let early : v.front.c ≤ (now - 1) + 10 + most_ticks_of_entry * count v = omega (arith, is.early) in
     let late : v.next.planned ≡ true → (now - 1) ≤ v.next.formed.p = λ planned. omega (arith, is.late planned) in

@@ -66,11 +66,11 @@ showing m v look levels = record { look = look; levels = levels }
 pub showing-ring : (m : Overlap) (v : LookView) → IsShowing m v → AreLevelsOf m v.levels.ring
 showing-ring m v is =
     subst (λ (levels : List Ahead). AllZip (IsLevelOf m.delays m.levels (last_tick_made m)) v.levels.ring levels) (sym is.levels)
-    (levels-zip m.delays m.levels (last_tick_made m) m.taken (state_ahead m) m.front v.front v.levels.ring v.levels.plans is.look.ahead.levels is.look.full)
+    (levels-zip m.delays m.levels (last_tick_made m) m.taken (state_ahead m) m.front v.front v.levels.ring v.levels.plans is.look.outlook.ahead.levels is.look.full)
 
 pub showing-count : (m : Overlap) (v : LookView) → IsShowing m v → length (levels_of m) ≡ count v
 showing-count m v is = ap length is.levels ∙ length-ahead m.delays m.levels (count v) m.taken (state_ahead m) m.front
 
 pub showing-index : (m : Overlap) (v : LookView) → IsShowing m v → v.levels.x ≡ lent_index_words m
 unfolding lent_index_words
-showing-index m v is = is.look.ahead.index ∙ ap (λ k. split_words k m.taken (state_ahead m)) (sym (showing-count m v is))
+showing-index m v is = is.look.outlook.ahead.index ∙ ap (λ k. split_words k m.taken (state_ahead m)) (sym (showing-count m v is))

@@ -44,7 +44,7 @@ before-first halt n ds s u None None now false false v is start m alike on =
     let un = is.unstarted refl start in
     let last : now - 1 ≡ now = omega (arith, start) in
     let look : IsLook ds n now now None s f v = subst (λ (x : ℕ). IsLook ds n x now None s f v) last is.looking in
-    let next = on s u f look look.not_done (un.start ∙ sym start) m alike in
+    let next = on s u f look look.outlook.not_done (un.start ∙ sym start) m alike in
     let enabled : u.enabled ≡ false = alike.enabled ∙ un.enabled in
     let waiting : u.waiting ≡ false = alike.waiting ∙ un.waiting in
     record {
@@ -77,8 +77,8 @@ behind-done halt n ds s u None b now true true v is done m alike on =
 behind-done halt n ds s u None b now false true v is done m alike on =
     let f = oldest_front v.levels.plans v.front in
     let look : IsLook ds n now now None (with_counter b s) f v = is.looking in
-    let next = on (with_counter b s) (with_counter b u) f look look.not_done (is.done_now refl refl)
-    (counted-machine b s u look.machine m) (counted-alike b s u alike) in
+    let next = on (with_counter b s) (with_counter b u) f look look.outlook.not_done (is.done_now refl refl)
+    (counted-machine b s u look.outlook.machine m) (counted-alike b s u alike) in
     inside-fresh halt false n ds u b now v is.some is.few is.in_time next (λ e. is.done_now refl refl) (is.near refl)
 
 done-fresh : (fresh : Bool) (banks : LastAnswers) → IsSome (if fresh then Some banks else None) → fresh ≡ true

@@ -45,7 +45,7 @@ passed-hazard_free : (n : ℕ) (ds : List ℕ) (s u : Machine) (t k : Option ℕ
 unfolding state_ahead
 passed-hazard_free n ds s u t k now last count v w is early by front = (
   inside-between false n ds u k last w is.some is.few refl early (subst (λ (g : Front). IsLook ds n last (last + 1) k u g w) (sym front) by.look)
-      by.look.indicator by.awake.due by.awake.goes,
+      by.look.outlook.indicator by.awake.due by.awake.goes,
   subst (λ (g : Front). ArePassed count (last + 1 - now) (overlap_of n ds s t None now false false false false v) (machine_between_ticks ds n u k g (last + 1))) (sym front) by.passed,
 )
 

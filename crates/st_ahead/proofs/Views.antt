@@ -96,7 +96,7 @@ pub showing-level : (m : Overlap) (v : LookView) (k : ℕ) → IsShowing m v
 unfolding view_at_tick
 showing-level m v k is =
     let left = 8 - length (levels_of m) in
-    level-at m.delays m.levels (last_tick_made m) (last_tick_made m) k m.taken (state_ahead m) m.front v.front v.levels.ring v.levels.plans (replicate left None) is.look.ahead.levels
+    level-at m.delays m.levels (last_tick_made m) (last_tick_made m) k m.taken (state_ahead m) m.front v.front v.levels.ring v.levels.plans (replicate left None) is.look.outlook.ahead.levels
     (λ j. none-at left j)
     ∙ ap (λ (levels : List Ahead). get_or (map (λ a. Some (level_shown (last_tick_made m) a)) levels ++ replicate left None) k None) (sym is.levels)
 

@@ -6,7 +6,7 @@ use Rattle.st_rows.specs.Notes.{IsLogged}
 use Rattle.st_rows.specs.Ranges.{IsEntryInTime, IsTight, most_ticks_of_entry}
 use Rattle.st_rows.specs.Rows.{row_of_entry, tick_a, bus_a, tick_p}
 use Rattle.st_rows.specs.declared.front.Front.{Front}
-use Rattle.st_segment.specs.Entries.{entry}
+use Rattle.st_segment.specs.Entries.{entry, IsTable}
 use Rattle.st_segment.specs.Guesses.{guesses, table_behind}
 use Rattle.st_segment.specs.Alone.{RunAhead}
 use Rattle.st_ring.specs.Levels.{AreAhead, AreNotDone}
@@ -25,7 +25,7 @@ module _ (ds : List ℕ) (n : ℕ) where
   pub record IsGoing (now rest : ℕ) (t : Option ℕ) (s : Machine) (f : Front)
       (v : LookView) : Type 0 where
     pub machine : IsMachine s
-    pub indicator : IfSome t (λ i. i < 64)
+    pub indicator : IsTable t
     pub ahead : AreAhead ds n now t s f v.front v.levels
     pub prepared : All (λ level. level.p ≤ now) v.levels.ring
     pub not_done : AreNotDone now v.levels
@@ -80,7 +80,7 @@ module _ (ds : List ℕ) (n : ℕ) where
     pub run : RunAhead (count v) t s
     pub before : IsStateBefore now v.front.past v.levels.x s (guesses (count v) t s)
     pub is_next : IsNext ds n (table_behind (count v) t) (guesses (count v) t s) v.front v.next
-    pub indicator : IfSome (table_behind (count v) t) (λ i. i < 64)
+    pub indicator : IsTable (table_behind (count v) t)
     pub same : v.next.entry ≡ entry (table_behind (count v) t) (guesses (count v) t s)
     pub range : IsEntryInTime v.next.entry
     pub address : v.next.formed.a ≡ tick_a ds v.front v.next.entry

@@ -13,6 +13,7 @@ use Rattle.st_ahead.specs.Overlap.{Overlap, state_ahead, interrupt_due, last_tic
 use Rattle.st_ahead.specs.Look.{LookView, IsLook, IsOpened}
 use Rattle.st_ahead.specs.Shown.{word_before_change}
 use Rattle.st_ahead.specs.declared.events.LevelView.{LevelView}
+use Rattle.st_segment.specs.Entries.{IsTable}
 
 -- the last answers of the banks by the reads that are accepted before the tick
 abbrev pub answers_before : ℕ → LookView → LastAnswers
@@ -66,7 +67,7 @@ pub record IsInside (m : Overlap) (fresh : Bool) (v : LookView) : Type 0 where
   pub some : 1 ≤ m.levels
   pub few : m.levels ≤ 8
   pub looking : IsLooking m.ended m v
-  pub indicator : IfSome m.taken (λ i. i < 64)
+  pub indicator : IsTable m.taken
   pub in_time : IsInTime m.owed m.now
   pub fresh_owed : fresh ≡ true → m.owed ≡ true
   pub ended_owed : m.ended ≡ true → m.owed ≡ true
@@ -90,7 +91,6 @@ kept_shown tick level q = record {
 
 -- level k, counted from the oldest
 unfoldable pub kept_at : ℕ → List Level → List Plan → ℕ → Option LevelView
-kept_at tick [] plans k = None
-kept_at tick (level ∷ levels) [] k = None
 kept_at tick (level ∷ levels) (q ∷ qs) zero = Some (kept_shown tick level q)
 kept_at tick (level ∷ levels) (q ∷ qs) (suc k) = kept_at tick levels qs k
+kept_at tick _ _ k = None

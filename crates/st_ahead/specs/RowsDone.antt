@@ -1,5 +1,5 @@
 -- Rows of entries that are done, as they wait to be told.
-use Rattle.std.specs.Prelude.{ℕ, zero, suc, ◌+◌, ◌-◌, Bool, true, false, List, [], ◌∷◌, ◌++◌, length, take, Option, None, Some}
+use Rattle.std.specs.Prelude.{ℕ, zero, suc, ◌+◌, ◌-◌, if◌then◌else◌, List, [], ◌∷◌, ◌++◌, length, take, Option, None, Some}
 use Rattle.st_ahead.specs.Overlap.{Overlap}
 use Rattle.st_ahead.specs.Calls.{is_done, row_done, machine_after_tick, machine_after_settling}
 use Rattle.st_ahead.specs.declared.events.Row.{Row}
@@ -13,16 +13,11 @@ pub record Queue : Type 0 where
 abbrev pub queue_with : List Row → Queue → Queue
 queue_with rows q = record { rows = q.rows ++ take q.room rows; room = q.room - length rows }
 
--- a row, where an entry is done
-abbrev pub row_if : Bool → Row → List Row
-row_if true row = row ∷ []
-row_if false row = []
-
 -- the rows of the entries that are done in k ticks, each of them settled
 unfoldable pub rows_in_ticks : ℕ → Overlap → List Row
 rows_in_ticks zero m = []
 rows_in_ticks (suc k) m =
-    row_if (is_done m) (row_done m)
+    (if is_done m then row_done m ∷ [] else [])
     ++ rows_in_ticks k (machine_after_settling (machine_after_tick m))
 
 -- how many ticks are passed from `now` on: those before the tick at which the entry is done that it

@@ -13,6 +13,7 @@ use Rattle.st_ahead.specs.Ticked.{IsDoneAt}
 use Rattle.st_ahead.specs.Inside.{answers_before}
 use Rattle.st_ahead.specs.declared.look_run.Stop.{Stop}
 use Rattle.st_ahead.specs.declared.events.Settled.TheVariants.{Goes}
+use Rattle.st_segment.specs.Entries.{IsTable}
 
 -- no interrupt is due, and it is not at rest
 pub record IsAwake (t : Option ℕ) (s : Machine) : Type 0 where
@@ -56,7 +57,7 @@ module _ (ds : List ℕ) (n count last now : ℕ) where
     pub soon : tick ≤ last
     pub none_taken : k ≡ None
     pub machine : IsMachine state
-    pub indicator : IfSome table (λ i. i < 64)
+    pub indicator : IsTable table
     pub done_at : IsDoneAt ds n tick table state front ahead u v done
     pub banks : banks_at_its_end (machine_between_ticks ds n state table front tick)
         ≡ answers_before tick v

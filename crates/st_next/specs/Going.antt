@@ -17,7 +17,7 @@ use Rattle.st_rows.specs.declared.fetching.Fetching.{Fetching}
 use Rattle.st_rows.specs.declared.front.Front.{Front}
 use Rattle.st_rows.specs.declared.log.Made.{Made}
 use Rattle.st_segment.specs.Alone.{words_of_run}
-use Rattle.st_segment.specs.Entries.{entry, side_to_read, words_to_read, words_to_write}
+use Rattle.st_segment.specs.Entries.{entry, side_to_read, words_to_read, words_to_write, IsTable}
 use Rattle.st_next.specs.Known.{IsStateBefore}
 use Rattle.st_next.specs.Progress.{IsNext, Rests, reads_so_far}
 use Rattle.st_next.specs.declared.next.Next.{Next}
@@ -32,7 +32,7 @@ pub record IsFrontInTime (f : Front) : Type 0 where
 -- of the state
 pub record GoesOnTo (ds : List ℕ) (n now : ℕ) (f : Front) (x : List ℕ) (s : Machine)
     (before after : Next) (later : ℕ) : Type 0 where
-  pub each : (t : Option ℕ) (u : Machine) → IfSome t (λ i. i < 64) → IsStateBefore now f.past x s u
+  pub each : (t : Option ℕ) (u : Machine) → IsTable t → IsStateBefore now f.past x s u
       → IsNext ds n t u f before → IsNext ds n t u f after × Rests later t u f after
 
 -- the reads that are asked for it come behind the others, are made on its bus, and are noted
@@ -104,7 +104,7 @@ pub record IsPreparedBy (now : ℕ) (x : List ℕ) (s : Machine) (next : Next) :
 -- before it then
 abbrev pub IsPlanAtItsTick : List ℕ → Machine → Next → Prepared → Type 0
 IsPlanAtItsTick x s next p = (ds : List ℕ) (n now : ℕ) (f : Front) (t : Option ℕ) (u : Machine) →
-    IfSome t (λ i. i < 64) → IsStateBefore now f.past x s u → IsNext ds n t u f next →
+    IsTable t → IsStateBefore now f.past x s u → IsNext ds n t u f next →
     now ≡ next.formed.p → ((entry t u).serial ≡ true → u ≡ s) → p ≡ plan u t
 
 -- the reads so far are the first ones of the entry, and those that are left are wanted at a tick or

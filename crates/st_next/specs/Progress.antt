@@ -7,7 +7,7 @@ use Rattle.st_rows.specs.Rows.{wanted_from, tick_a, bus_a, tick_p}
 use Rattle.st_rows.specs.Asked.{Read, side_asked}
 use Rattle.st_rows.specs.declared.entry.WordRun.{WordRun}
 use Rattle.st_rows.specs.declared.front.Front.{Front}
-use Rattle.st_segment.specs.Entries.{entry as entry_of}
+use Rattle.st_segment.specs.Entries.{entry as entry_of, IsTable}
 use Rattle.st_next.specs.Known.{IsStateBefore}
 use Rattle.st_next.specs.Words.{AreFirstWords, words_so_far, asked_so_far}
 use Rattle.st_next.specs.declared.next.Next.{Next}
@@ -87,7 +87,7 @@ pub record IsKnown (ds : List ℕ) (n now : ℕ) (f : Front) (x : List ℕ) (s :
     (next : Next) : Type 0 where
   pub table : Option ℕ
   pub state : Machine
-  pub indicator : IfSome table (λ i. i < 64)
+  pub indicator : IsTable table
   pub before : IsStateBefore now f.past x s state
   pub is_next : IsNext ds n table state f next
 
@@ -99,6 +99,6 @@ pub record IsNextReady (x : List ℕ) (s : Machine) (next : Next) : Type 0 where
   pub front : Front
   pub table : Option ℕ
   pub state : Machine
-  pub indicator : IfSome table (λ i. i < 64)
+  pub indicator : IsTable table
   pub before : IsStateBefore tick front.past x s state
   pub is_next : IsNext delays levels table state front next

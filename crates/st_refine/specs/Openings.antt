@@ -12,9 +12,9 @@ use Rattle.st_rows.specs.Asked.{Read, reads_of_entry}
 use Rattle.st_rows.specs.declared.front.Front.{Front}
 use Rattle.st_segment.specs.Entries.{entry}
 use Rattle.st_segment.specs.Guesses.{table_behind}
-use Rattle.st_segment.specs.Ahead.{reads_to_end, banks_at_end, front_behind_end}
+use Rattle.st_segment.specs.Ahead.{next_ahead, reads_to_end, banks_at_end, front_behind_end}
 use Rattle.st_ahead.specs.Look.{asked_ahead}
-use Rattle.st_ahead.specs.Overlap.{Overlap, last_tick_made}
+use Rattle.st_ahead.specs.Overlap.{Overlap, last_tick_made, idle_banks}
 
 -- ---- changes from outside
 
@@ -53,11 +53,7 @@ pub record Opening : Type 0 where
 
 -- that of the first segment
 abbrev pub first_opening : Machine → Opening
-first_opening s = record {
-  state = s;
-  table = None;
-  front = opening_front (record { ticks = replicate BANKS 0 }) 0;
-}
+first_opening s = record { state = s; table = None; front = opening_front idle_banks 0 }
 
 -- the state after j steps from it, with changes from outside
 unfoldable pub state_after : Opening → List Outside → ℕ → Machine
@@ -85,11 +81,9 @@ module _ (ds : List ℕ) (n : ℕ) (o : Opening) (changes : List Outside) where
   -- before it is done
   unfoldable pub reads_of_segment : ℕ → List Read
   reads_of_segment j =
-      let s = state_after o changes j in
-      let t = table_behind j o.table in
       reads_after (suc j)
-      ++ asked_ahead ds n (suc n) None (guess t s)
-      (front_after_entry ds n (front_at j) (entry t s))
+      ++ asked_ahead ds n (suc n) None
+      (guess (table_behind j o.table) (state_after o changes j)) (front_at (suc j))
 
   -- the last answers of the banks where the segment ends at the completion of entry j, after j
   -- others: of all its reads, with those of the entries behind that one by the guess, those are
@@ -97,12 +91,9 @@ module _ (ds : List ℕ) (n : ℕ) (o : Opening) (changes : List Outside) where
   unfoldable pub banks_behind : ℕ → LastAnswers
   banks_behind zero = o.front.bus.banks
   banks_behind (suc j) =
-      let s = state_after o changes j in
-      let t = table_behind j o.table in
-      let f = front_at j in
-      let e = entry t s in
-      let c = (row_of_entry ds n f e).c in
-      banks_at_end ds c (reads_after j ++ reads_to_end ds n c t s f e) o.front.bus
+      let a = next_ahead ds n (table_behind j o.table) (state_after o changes j) (front_at j) in
+      banks_at_end ds a.row.c
+      (reads_after j ++ reads_to_end ds n a.row.c a.table a.state a.front a.entry) o.front.bus
 
 -- the opening of the next segment, where that one ends there and so many entries are dropped
 unfoldable pub opening_behind : List ℕ → ℕ → ℕ → Opening → List Outside → ℕ → Opening

@@ -17,28 +17,29 @@ use Rattle.st_ahead.specs.declared.events.LevelView.{LevelView}
 
 -- ---- what is shown of a level
 
--- the state before the step of entry k ahead
-abbrev pub state_before : ℕ → Overlap → Machine
-state_before k m = guesses k m.taken (state_ahead m)
+module _ (k : ℕ) (m : Overlap) where
+  -- the state before the step of entry k ahead
+  abbrev pub state_before : Machine
+  state_before = guesses k m.taken (state_ahead m)
 
--- the interrupt whose table instruction that entry is, if it is one
-abbrev pub table_before : ℕ → Overlap → Option ℕ
-table_before k m = table_behind k m.taken
+  -- the interrupt whose table instruction that entry is, if it is one
+  abbrev pub table_before : Option ℕ
+  table_before = table_behind k m.taken
 
--- the front that its row is computed from
-abbrev pub front_before : ℕ → Overlap → Front
-front_before k m = front_behind m.delays m.levels k m.taken (state_ahead m) m.front
+  -- the front that its row is computed from
+  abbrev pub front_before : Front
+  front_before = front_behind m.delays m.levels k m.taken (state_ahead m) m.front
 
--- its row
-abbrev pub row_of : ℕ → Overlap → EntryTicks
-row_of k m =
-    row_of_entry m.delays m.levels (front_before k m) (entry (table_before k m) (state_before k m))
+  -- its row
+  abbrev pub row_of : EntryTicks
+  row_of =
+      row_of_entry m.delays m.levels front_before (entry table_before state_before)
 
--- when its first two operand words above the registers are there: each when its read is answered
--- or, where it has none, when its latest writer is done
-abbrev pub fills_at : ℕ → Overlap → List ℕ
-fills_at k m = fills m.delays m.levels (front_before k m)
-    (entry (table_before k m) (state_before k m))
+  -- when its first two operand words above the registers are there: each when its read is answered
+  -- or, where it has none, when its latest writer is done
+  abbrev pub fills_at : List ℕ
+  fills_at = fills m.delays m.levels front_before
+      (entry table_before state_before)
 
 -- the index word that a change replaces, as it stands in the state before; 0 without a change
 abbrev pub word_before : Option IndexChange → Machine → ℕ

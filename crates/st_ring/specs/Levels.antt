@@ -47,11 +47,10 @@ module _ (ds : List ℕ) (n tick : ℕ) where
   -- them
   unfoldable pub AreLevels : Option ℕ → Machine → Front → Front → List Level → List Plan → Type 0
   AreLevels t s f last [] [] = last ≡ f
-  AreLevels t s f last [] (q ∷ qs) = ⊥
-  AreLevels t s f last (level ∷ levels) [] = ⊥
   AreLevels t s f last (level ∷ levels) (q ∷ qs) =
       IsLevel t s f level q
       × AreLevels None (guess t s) (front_after_entry ds n f (entry t s)) last levels qs
+  AreLevels t s f last _ _ = ⊥
 
   -- they have all operand words that are there at the tick
   unfoldable pub AreFull : Option ℕ → Machine → Front → List Level → Type 0

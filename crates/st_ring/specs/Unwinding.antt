@@ -1,5 +1,5 @@
 -- What levels make of the index words, and how that is undone.
-use Rattle.std.specs.Prelude.{◌≡◌, ℕ, List, [], ◌∷◌, slice_index, slice_set, Option, None, Some}
+use Rattle.std.specs.Prelude.{IfSome, ◌≡◌, ℕ, List, [], ◌∷◌, slice_index, slice_set, Option, None, Some}
 use Rattle.st_prep.specs.EarlyChange.{words_after}
 use Rattle.st_prep.specs.declared.entries.IndexChange.{IndexChange}
 use Rattle.st_ring.specs.declared.level.Level.{Level}
@@ -11,8 +11,7 @@ index_words_after x (level ∷ levels) = index_words_after (words_after x level.
 
 -- a change keeps the word that it replaces
 abbrev pub ChangeKeeps : List ℕ → Option IndexChange → Type 0
-ChangeKeeps x None = Unit {0}
-ChangeKeeps x (Some c) = slice_index x c.number ≡ c.kept
+ChangeKeeps x change = IfSome change (λ c. slice_index x c.number ≡ c.kept)
 
 -- each level keeps the word that it replaces of what the levels before it made
 unfoldable pub Kept : List ℕ → List Level → Type 0

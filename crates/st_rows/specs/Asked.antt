@@ -3,7 +3,7 @@ use Rattle.std.specs.Prelude.{ℕ, zero, suc, ◌+◌, max, Bool, true, false, n
 use Rattle.st_bits.specs.Storage.{words_of_storage}
 use Rattle.st_fetch.specs.Planned.{tick_of}
 use Rattle.st_rows.specs.BusTimes.{accept_at, bus_after_read, requested_if}
-use Rattle.st_rows.specs.Rows.{fetch_word, fetch_words, wanted_from, is_forwarded, request_inside, tick_a, tick_p, operands}
+use Rattle.st_rows.specs.Rows.{fetch_word, fetch_words, wanted_from, is_forwarded, request_inside, tick_a, tick_p, operands, nothing_fetched}
 use Rattle.st_rows.specs.declared.bus.Bus.{Bus}
 use Rattle.st_rows.specs.declared.entry.Entry.{Entry}
 use Rattle.st_rows.specs.declared.entry.WordRuns.{WordRuns}
@@ -69,10 +69,10 @@ module _ (ds : List ℕ) (f : Front) (e : Entry) where
   -- the instruction words of the entry e behind the front f
   unfoldable pub fetches_asked : List Read
   fetches_asked =
-      words_asked ds f.past (record { bus = f.bus; answered = 0; awaited = 0 })
+      words_asked ds f.past (nothing_fetched f.bus)
       (wanted_from f) e.own.first e.own.len
       ++ words_asked ds f.past
-      (fetch_words ds f.past (record { bus = f.bus; answered = 0; awaited = 0 })
+      (fetch_words ds f.past (nothing_fetched f.bus)
       (wanted_from f) e.own.first e.own.len)
       (max (wanted_from f) f.c) e.target.first e.target.len
 

@@ -14,8 +14,12 @@ unfoldable pub is_among : ℕ → WordRuns → Bool
 is_among w runs = is_in w runs.one || is_in w runs.two
 
 -- no words
+abbrev pub no_run : WordRun
+no_run = record { first = 0; len = 0 }
+
+-- in neither of two runs
 abbrev pub no_runs : WordRuns
-no_runs = record { one = record { first = 0; len = 0 }; two = record { first = 0; len = 0 } }
+no_runs = record { one = no_run; two = no_run }
 
 -- whether there is any word in two runs
 abbrev pub has_words : WordRuns → Bool

@@ -4,7 +4,7 @@ use Rattle.std.specs.List.{AllZip}
 use Rattle.st_fetch.specs.declared.fetched.AskedWord.{AskedWord}
 use Rattle.st_rows.specs.Entries.{is_among, no_runs}
 use Rattle.st_rows.specs.Ranges.{ArePastWithin}
-use Rattle.st_rows.specs.Rows.{row_of_entry, front_after_entry}
+use Rattle.st_rows.specs.Rows.{row_of_entry, front_after_entry, completion_of}
 use Rattle.st_rows.specs.declared.bus.Bus.{Bus}
 use Rattle.st_rows.specs.declared.entry.WordRun.{WordRun}
 use Rattle.st_rows.specs.declared.entry.WordRuns.{WordRuns}
@@ -51,8 +51,7 @@ pub record IsRowSooner (x y : EntryTicks) : Type 0 where
 pub record AreInOrder (f : Front) : Type 0 where
   pub done : ArePastWithin f.c f.past
   pub falls : (i j : ℕ) → i ≤ j →
-      (get_or f.past j (record { c = 0; writes = no_runs })).c
-      ≤ (get_or f.past i (record { c = 0; writes = no_runs })).c
+      completion_of f.past j ≤ completion_of f.past i
 
 -- none of these entries writes the word
 abbrev pub IsUnwritten : List WordRuns → ℕ → Type 0
@@ -91,4 +90,4 @@ front_of_last n f = record f { past = take n f.past }
 
 -- the entries that lie n or more back were done when the last one was prepared
 abbrev pub AreOlderDone : ℕ → Front → Type 0
-AreOlderDone n f = (j : ℕ) → n ≤ j → (get_or f.past j (record { c = 0; writes = no_runs })).c ≤ f.p
+AreOlderDone n f = (j : ℕ) → n ≤ j → completion_of f.past j ≤ f.p

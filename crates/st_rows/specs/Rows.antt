@@ -27,6 +27,10 @@ opening_front banks start = record {
 -- ---- instruction words: each is wanted once the words before it are answered and the entries are
 -- done that write them
 
+-- before the first word, on this bus
+abbrev pub nothing_fetched : Bus → Fetching
+nothing_fetched b = record { bus = b; answered = 0; awaited = 0 }
+
 module _ (ds : List ℕ) (past : List Past) where
   -- the word w, wanted from the tick `from` on
   unfoldable pub fetch_word : Fetching → ℕ → ℕ → Fetching
@@ -49,7 +53,7 @@ wanted_from f = if f.serial then max f.p f.c else f.p
 unfoldable pub words_tick : List ℕ → Front → Entry → Fetching
 words_tick ds f e =
     fetch_words ds f.past
-    (fetch_words ds f.past (record { bus = f.bus; answered = 0; awaited = 0 })
+    (fetch_words ds f.past (nothing_fetched f.bus)
     (wanted_from f) e.own.first e.own.len)
     (max (wanted_from f) f.c) e.target.first e.target.len
 
@@ -83,9 +87,13 @@ module _ (ds : List ℕ) (past : List Past) (b : Bus) where
 
 -- ---- preparation: one tick later, and later than the completion of the entry n before
 
--- the completion of the entry n before, whose level this entry takes over
+-- the completion of one of the entries before, 0 where there is none
+abbrev pub completion_of : List Past → ℕ → ℕ
+completion_of past j = (get_or past j (record { c = 0; writes = no_runs })).c
+
+-- that of the entry n before, whose level this entry takes over
 abbrev pub done_before : ℕ → List Past → ℕ
-done_before n past = (get_or past (n - 1) (record { c = 0; writes = no_runs })).c
+done_before n past = completion_of past (n - 1)
 
 -- the tick of preparation, by the ticks at which the address is formed and the index-side word is
 -- there

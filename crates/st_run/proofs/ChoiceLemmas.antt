@@ -12,12 +12,12 @@ use Rattle.st_rows.specs.declared.entry.Entry.{Entry}
 use Rattle.st_rows.specs.declared.front.Front.{Front}
 use Rattle.st_segment.specs.Entries.{entry}
 use Rattle.st_segment.proofs.EntryRanges.{entry-ranges}
-use Rattle.st_ahead.specs.Overlap.{Overlap, state_ahead, levels_of, interrupt_due, oldest_row}
+use Rattle.st_ahead.specs.Overlap.{Overlap, state_ahead, levels_of, interrupt_due, oldest_row, machine_between_ticks}
 use Rattle.st_ahead.specs.Calls.{machine_after_segment, run_ended, machine_after_settling as settled_of, settled_by, machine_after_pass, answer, answer_by}
 use Rattle.st_ahead.specs.declared.events.Settled.{Settled}
-use Rattle.st_run.specs.Moments.{Moment, next_scene, next_state, ends_segment, next_front, next_segment, has_card, has_waited}
+use Rattle.st_run.specs.Moments.{Moment, standing_at, next_scene, next_state, ends_segment, next_front, next_segment, has_card, has_waited}
 use Rattle.st_run.specs.Scenes.{IsScene}
-use Rattle.st_run.specs.Together.{Together, scene_of, moment_of, AreTexts, IsBehindEntry, IsBeforeEntry, RunGoesOn, RunStops}
+use Rattle.st_run.specs.Together.{Together, scene_of, moment_of, AreTexts, IsBehindEntry, IsBeforeEntry, RunGoesOn}
 use Rattle.st_run.specs.Between.{IsChoice, choice_of}
 use Rattle.st_run.specs.Leaving.{IsDecided, IsWay}
 use Rattle.st_run.specs.declared.turn.Turn.{Turn}
@@ -68,6 +68,16 @@ row-later ds n now f e is late = omega (arith, is.costs.0)
 abbrev going : Overlap → Machine → Option ℕ → Front → Overlap
 going o s t f = record o { state = s; taken = t; front = f; owed = false; ended = false; behind = None; closing = None; now = o.now + 1 }
 
+-- between two ticks, the interrupt taken that is pending
+abbrev between_by : Overlap → Overlap
+between_by m = machine_between_ticks m.delays m.levels m.state (interrupt m.state) m.front m.now
+
+going-between : (o : Overlap) (s : Machine) (t : Option ℕ) (f : Front) → o.stopped ≡ false → t ≡ interrupt s
+    → going o s t f ≡ between_by (going o s t f)
+going-between o s t f stands table =
+    ap (λ (k : Option ℕ). going o s k f) table
+    ∙ ap (λ b. record (going o s (interrupt s) f) { stopped = b }) stands
+
 going-before : (b n : Together) (s : Machine) (t : Option ℕ) (f : Front) → IsBehindEntry b → n.machine ≡ going b.machine s t f
     → IsScene (scene_of n) → t ≡ interrupt s → rests s ≡ false → b.machine.now ≤ f.c → IsBeforeEntry n
 unfolding oldest_row state_ahead
@@ -80,12 +90,7 @@ going-before b n s t f is same scene table awake late =
       delays = subst (λ (m : Overlap). AreDelaysUpTo 255 m.delays) (sym same) is.delays;
       scene = scene;
       ready = record {
-        settled = ap (λ (m : Overlap). m.owed) same;
-        going = ap (λ (m : Overlap). m.ended) same;
-        stands = ap (λ (m : Overlap). m.stopped) same ∙ is.stands;
-        guessed = ap (λ (m : Overlap). m.behind) same;
-        closed = ap (λ (m : Overlap). m.closing) same;
-        table = ap (λ (m : Overlap). m.taken) same ∙ table ∙ ap interrupt (sym state);
+        between = subst (λ (m : Overlap). m ≡ between_by m) (sym same) (going-between o s t f is.stands table);
         awake = ap rests state ∙ awake;
         early =
             subst (λ (m : Overlap). m.now ≤ (oldest_row m).c) (sym same)
@@ -184,8 +189,9 @@ module _ (b t : Together) (text : Option (List ℕ)) (over : Bool) (is : IsBehin
       record {
         before =
             going-before b n s (interrupt s) front is same (subst IsScene (sym scene) (settled-scene (scene_of b) is.scene)) refl goes front-late;
-        scene = scene;
-        front = ap (λ (x : Overlap). x.front) same ∙ front-is;
+        standing =
+            ap (λ (c : Scene). record { scene = c; tick = m.tick; front = n.machine.front }) scene
+            ∙ ap (λ (f : Front). record (standing_at m) { front = f }) (ap (λ (x : Overlap). x.front) same ∙ front-is);
         ends =
             end
             ∙ ap (λ x. is_some x || over || is_some (interrupt_due t.machine)) behind-is
@@ -195,14 +201,11 @@ module _ (b t : Together) (text : Option (List ℕ)) (over : Bool) (is : IsBehin
         now = ap (λ (x : Overlap). x.now) same;
       }
 
-  stops : (n : Together) → n ≡ record t { machine = n.machine } → n.machine ≡ run_ended t.machine → RunStops m n
+  stops : (n : Together) → n ≡ record t { machine = n.machine } → n.machine ≡ run_ended t.machine → (scene_of n ≡ next_scene m) × (levels_of n.machine ≡ [])
   stops n rest after =
       let same : n.machine ≡ record (opened b.machine s) { stopped = true } =
       after ∙ ap (λ (x : Overlap). record x { stopped = true }) (ended-since b t.machine over is came.since) in
-      record {
-        scene = scene-is n rest (ap (λ (x : Overlap). x.state) same);
-        none = ap levels_of same ∙ stopped-none b.machine s;
-      }
+      (scene-is n rest (ap (λ (x : Overlap). x.state) same), ap levels_of same ∙ stopped-none b.machine s)
 
   way-is : (turn : Turn) (left : ℕ) (d : Decided) (n : Together) → n ≡ record t { machine = n.machine }
       → IsChoice turn left over t.machine d n.machine → IsWay turn left m d n

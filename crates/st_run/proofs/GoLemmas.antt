@@ -17,7 +17,7 @@ use Rattle.st_run.specs.Telling.{AreInTime, IsShown, IsLeft}
 use Rattle.st_run.specs.Ticking.{AreMade, AreTicked, at_completion}
 use Rattle.st_run.proofs.Turns.{behind-done, behind-none}
 use Rattle.st_run.proofs.ToldLemmas.{once}
-use Rattle.st_run.proofs.TickLemmas.{row-same}
+use Rattle.st_run.proofs.TickLemmas.{ready-table, row-same}
 use Rattle.st_run.proofs.MomentLemmas.{moment-next, behind-next, row-before}
 use Rattle.st_run.proofs.LeftLemmas.{next-done, next-tick, oldest-in_time}
 use Rattle.st_refine.proofs.SplitLemmas.{plan-address}
@@ -134,7 +134,7 @@ module _ (left tick : ℕ) (snaps : List ℕ) (t new : Together) (before : IsBef
         let s = o.state in
         let rows : oldest_row o ≡ next_row o.delays o.levels p = row-before t tick before in
         let place : (plan s o.taken).place.address ≡ address s =
-        ap {A = Option ℕ} (λ k. (plan s k).place.address) before.ready.table ∙ plan-address s (interrupt s) in
+        ap {A = Option ℕ} (λ k. (plan s k).place.address) (ready-table o before.ready) ∙ plan-address s (interrupt s) in
         ap {A = FrontRow} (λ r. once (s.done + 1) (oldest_row o).c (Done (plan s o.taken).place.address r.p r.r (oldest_row o).c)) (row-same o (oldest_row o).c)
         ∙ ap {A = FrontRow} (λ r. once (s.done + 1) r.c (Done (plan s o.taken).place.address r.p r.r r.c)) rows
         ∙ ap {A = ℕ} (λ k. once (s.done + 1) (next_row o.delays o.levels p).c (Done k (next_row o.delays o.levels p).p

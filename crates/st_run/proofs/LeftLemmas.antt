@@ -11,11 +11,11 @@ use Rattle.st_exec.proofs.StepLemmas.{step-done}
 use Rattle.st_rows.specs.declared.front.Front.{Front}
 use Rattle.st_segment.specs.Ahead.{prepared_before}
 use Rattle.st_ahead.specs.Overlap.{state_ahead, oldest_row, levels_of}
-use Rattle.st_run.specs.Moments.{Moment, Standing, next_state, next_row, ends_segment, has_card, has_waited, next_front, standing_at, entries_at_moment, next_moment}
+use Rattle.st_run.specs.Moments.{Moment, Standing, next_scene, next_state, next_row, ends_segment, has_card, has_waited, next_front, standing_at, entries_at_moment, next_moment}
 use Rattle.st_run.specs.TimedRun.{events_between, completion, last_events, timed_from, timed_behind}
 use Rattle.st_run.specs.Order.{AreRising}
 use Rattle.st_run.specs.Told.{Done, Told, told_of, told_of_events}
-use Rattle.st_run.specs.Together.{Together, scene_of, IsBeforeEntry, standing_of, moment_of, RunGoesOn, RunStops, AreTexts}
+use Rattle.st_run.specs.Together.{Together, scene_of, IsBeforeEntry, standing_of, moment_of, RunGoesOn, AreTexts}
 use Rattle.st_run.specs.Telling.{Waiting, whats, at_once, told_at_end, rest_of, IsTurn, IsRun, AreInTime, IsLeft}
 use Rattle.st_run.specs.Leaving.{IsWay, IsDecided}
 use Rattle.st_run.specs.declared.leaving.Decided.{Decided}
@@ -59,15 +59,13 @@ module _ (ds : List ℕ) (n left tick : ℕ) (m : Moment) (snaps : List ℕ) (d 
       let p = standing_at m in
       let k = left - 1 in
       let rest = told_of_events (timed_behind ds n k p snaps) in
-      let state : s ≡ t.machine.state = ap {A = Scene} (λ c. c.machine) (sym g.scene) in
+      let state : s ≡ t.machine.state = ap {A = Standing} (λ q. q.scene.machine) (sym g.standing) in
       let waiting : waits (dropped_if (ends_segment m) m) printed (interrupt s) ≡ waits drops printed d.taken =
       ap {A = Bool} (λ b. waits (dropped_if b m) printed (interrupt s)) (sym g.ends)
       ∙ ap {A = List (ℕ × ℕ)} (λ xs. waits xs printed (interrupt s)) (sym dropped)
       ∙ ap {A = Option ℕ} (λ o. waits drops printed o) (sym g.taken) in
       let stand : p ≡ standing_of tick t =
-      ap {A = Scene} (λ c. record { scene = c; tick = m.tick; front = next_front m }) (sym g.scene)
-      ∙ ap {A = ℕ} (λ x. record { scene = scene_of t; tick = x; front = next_front m }) (sym tick_is)
-      ∙ ap {A = Front} (λ f. record { scene = scene_of t; tick = tick; front = f }) (sym g.front) in
+      sym g.standing ∙ ap {A = ℕ} (λ x. standing_of x t) (sym tick_is) in
       ap told_of_events (timed-goes_on ds n left m snaps some awake)
       ∙ told-append (events_between m) (timed_behind ds n k p snaps)
       ∙ ap {A = List Told} (λ xs. xs ++ rest) (told-between m printed text)
@@ -80,12 +78,12 @@ module _ (ds : List ℕ) (n left tick : ℕ) (m : Moment) (snaps : List ℕ) (d 
       ∙ ap {A = ℕ} (λ l. told_of_events (timed_behind t.machine.delays l k (standing_of tick t) snaps)) (sym levels))
 
   stops-told : (resting : Bool) → resting ≡ rests (next_state m) → (resting ≡ false → left ≡ 0) → d.ends ≡ true → d.taken ≡ None
-      → RunStops m t
+      → scene_of t ≡ next_scene m
       → told_of_events (timed_from ds n left m snaps) ≡ rest_of (turns.AtEnd resting) (left - 1) tick snaps (waits drops printed d.taken) t
   unfolding rest_of
   stops-told resting same none ends void g =
       let s = next_state m in
-      let state : s ≡ t.machine.state = ap {A = Scene} (λ c. c.machine) (sym g.scene) in
+      let state : s ≡ t.machine.state = ap {A = Scene} (λ c. c.machine) (sym g) in
       let waiting : waits (map dropped_at m.dropped) printed None ≡ waits drops printed d.taken =
       ap {A = Bool} (λ b. waits (dropped_if b m) printed None) (sym ends)
       ∙ ap {A = List (ℕ × ℕ)} (λ xs. waits xs printed None) (sym dropped)
@@ -123,14 +121,11 @@ module _ (ds : List ℕ) (n left tick : ℕ) (m : Moment) (snaps : List ℕ) (d 
   none-ahead : RunGoesOn m d.ends d.taken t → IsSome d.taken → levels_of t.machine ≡ []
   none-ahead g some =
       let o = t.machine in
-      let stand : standing_of m.tick t ≡ standing_at m =
-      ap {A = Scene} (λ c. record { scene = c; tick = m.tick; front = o.front }) g.scene
-      ∙ ap {A = Front} (λ f. record (standing_at m) { front = f }) g.front in
       let taken : is_some (interrupt (next_state m)) ≡ true = ap is_some (sym g.taken) ∙ some in
       ap levels_of (ready-still o g.before.ready)
       ∙ levels-still o.delays o.levels (scene_of t) o.front m.tick o.now
       ∙ ap {A = ℕ} (λ k. prepared_before k (entries_at_moment o.delays o.levels (standing_of m.tick t))) g.now
-      ∙ ap {A = Standing} (λ p. prepared_before (m.tick + 1) (entries_at_moment o.delays o.levels p)) stand
+      ∙ ap {A = Standing} (λ p. prepared_before (m.tick + 1) (entries_at_moment o.delays o.levels p)) g.standing
       ∙ nothing-ahead o.delays o.levels m m.tick (ends-taken taken) (omega arith)
 
   rising-on : (now : ℕ) (xs : List ℕ) → now ≡ tick + 1 → AreRising tick xs → AreRising (now - 1) xs
@@ -142,12 +137,12 @@ module _ (ds : List ℕ) (n left tick : ℕ) (m : Moment) (snaps : List ℕ) (d 
   way-stands turns.Before way rising =
       let g : RunGoesOn m d.ends d.taken t = way.2 in
       (g.before, rising-on t.machine.now snaps (g.now ∙ ap {A = ℕ} (λ x. x + 1) (sym tick_is)) rising)
-  way-stands (turns.AtEnd resting) way rising = let g : RunStops m t = way.4 in g.none
+  way-stands (turns.AtEnd resting) way rising = way.5
   way-stands turns.Over way rising = absurd way
 
   way-taken : (turn : Turn) → IsWay turn left m d t → IsSome d.taken → levels_of t.machine ≡ []
   way-taken turns.Before way some = none-ahead way.2 some
-  way-taken (turns.AtEnd resting) way some = let g : RunStops m t = way.4 in g.none
+  way-taken (turns.AtEnd resting) way some = way.5
   way-taken turns.Over way some = absurd way
 
 -- the answers to how a run is left

@@ -21,7 +21,6 @@ use Rattle.st_run.specs.Together.{Together, scene_of, IsBeforeEntry, IsBehindEnt
 use Rattle.st_run.specs.Ticking.{at_completion}
 use Rattle.st_run.proofs.SceneLemmas.{stepped-scene}
 use Rattle.st_run.proofs.GuessLemmas.{behind-right, behind-missed}
-use Rattle.st_run.proofs.TickLemmas.{ready-between}
 use Rattle.st_refine.proofs.Kept.{interrupt-below}
 
 -- a machine between two ticks, by what it keeps there
@@ -29,8 +28,7 @@ abbrev pub still : List ℕ → ℕ → Machine → Front → ℕ → Overlap
 still ds n s f now = machine_between_ticks ds n s (interrupt s) f now
 
 pub ready-still : (o : Overlap) → IsMachineReady o → o ≡ still o.delays o.levels o.state o.front o.now
-ready-still o h =
-    ready-between o h ∙ ap {A = Option ℕ} (λ t. machine_between_ticks o.delays o.levels o.state t o.front o.now) h.table
+ready-still o h = h.between
 
 module _ (ds : List ℕ) (n : ℕ) (c : Scene) (f : Front) (tick now : ℕ) where
   abbrev pub here : Standing

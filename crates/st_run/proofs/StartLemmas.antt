@@ -14,7 +14,7 @@ use Rattle.st_card.specs.declared.control_cards.Signal.{Signal}
 use Rattle.st_run.specs.Run.{Scene, with_due_signals, with_due_orders, with_order_at_rest, with_wait, interlude, interrupts_by, if_due, Transition, uneventful, and_then, with_reader, with_printer, with_device}
 use Rattle.st_rows.specs.Ranges.{AreDelaysUpTo}
 use Rattle.st_rows.specs.Rows.{opening_front}
-use Rattle.st_ahead.specs.Overlap.{Overlap, machine_at_start}
+use Rattle.st_ahead.specs.Overlap.{Overlap, machine_at_start, machine_between_ticks, idle_banks}
 use Rattle.st_run.specs.Events.{Timed}
 use Rattle.st_run.specs.Scenes.{IsScene}
 use Rattle.st_run.specs.Moments.{Standing, moment_at_start, answers_at_start, next_state, has_card, has_waited, ends_segment, next_segment, next_front, standing_at}
@@ -209,12 +209,9 @@ module _ (ds : List ℕ) (n : ℕ) (c : Scene) (idle : IsIdle c.machine) (is : I
     delays = are;
     scene = due-scene c.machine c.signals c.cards is.machine is.cards;
     ready = record {
-      settled = refl;
-      going = refl;
-      stands = refl;
-      guessed = refl;
-      closed = refl;
-      table = sym (idle-interrupt (due c idle).machine (due-idle c idle));
+      between =
+          ap {A = Option ℕ} (λ k. machine_between_ticks ds n (due c idle).machine k (opening_front idle_banks 0) 0)
+          (sym (idle-interrupt (due c idle).machine (due-idle c idle)));
       awake = idle-rests (due c idle).machine (due-idle c idle);
       early = omega arith;
     };

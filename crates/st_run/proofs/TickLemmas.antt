@@ -15,13 +15,13 @@ use Rattle.st_card.specs.declared.control_cards.Signal.{Signal}
 use Rattle.st_run.specs.Together.{Together, IsBeforeEntry, IsMachineReady}
 use Rattle.st_run.specs.Ticking.{at_completion, AreTicked, AreMade, last_for}
 
+-- the interrupt that is pending was taken
+pub ready-table : (o : Overlap) → IsMachineReady o → o.taken ≡ interrupt o.state
+ready-table o h = ap {A = Overlap} (λ x. x.taken) h.between
+
 pub ready-between : (o : Overlap) → IsMachineReady o → o ≡ machine_between_ticks o.delays o.levels o.state o.taken o.front o.now
 ready-between o h =
-    ap (λ x. record o { owed = x }) h.settled
-    ∙ ap (λ x. record o { owed = false; ended = x }) h.going
-    ∙ ap (λ x. record o { owed = false; ended = false; behind = x }) h.guessed
-    ∙ ap (λ x. record o { owed = false; ended = false; behind = None; stopped = x }) h.stands
-    ∙ ap (λ x. record o { owed = false; ended = false; behind = None; stopped = false; closing = x }) h.closed
+    h.between ∙ ap {A = Option ℕ} (λ k. machine_between_ticks o.delays o.levels o.state k o.front o.now) (sym (ready-table o h))
 
 -- the oldest row does not depend on the tick
 pub row-same : (o : Overlap) (at : ℕ) → oldest_row (record o { now = at }) ≡ oldest_row o
@@ -52,7 +52,7 @@ tick-passes o m at h same late =
     λ k. ap {A = Overlap} (λ q. record q { now = k }) (ready-between o h) in
     let is : m ≡ machine_between_ticks o.delays o.levels o.state o.taken o.front at = same ∙ between_at at in
     ap {A = Overlap} (λ q. machine_after_settling (machine_after_tick q)) is
-    ∙ between-passes o.delays o.levels o.state o.taken o.front at h.table h.awake (ap is_done (sym is) ∙ late)
+    ∙ between-passes o.delays o.levels o.state o.taken o.front at (ready-table o h) h.awake (ap is_done (sym is) ∙ late)
     ∙ sym (between_at (at + 1))
 
 -- the next entry is done later

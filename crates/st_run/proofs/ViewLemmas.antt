@@ -33,6 +33,7 @@ use Rattle.st_run.specs.declared.turn.Turn.{Turn}
 use Rattle.st_run.specs.declared.turn.Turn.TheVariants as turns
 use Rattle.st_run.specs.Together.{Together, IsBeforeEntry}
 use Rattle.st_refine.proofs.Kept.{interrupt-below}
+use Rattle.st_run.proofs.TickLemmas.{ready-table}
 
 -- ---- the word that an early change replaces
 
@@ -153,11 +154,11 @@ pub view-before : (t : Together) → IsBeforeEntry t → AreLevelsShown (view_at
 unfolding view_at_tick
 view-before t h =
     let o = t.machine in
-    let some : IfSome o.taken (λ i. i < 64) = subst {A = Option ℕ} (λ k. IfSome k (λ i. i < 64)) (sym h.ready.table) (interrupt-below o.state) in
+    let some : IfSome o.taken (λ i. i < 64) = subst {A = Option ℕ} (λ k. IfSome k (λ i. i < 64)) (sym (ready-table o h.ready)) (interrupt-below o.state) in
     record {
       views = map (level_shown (last_tick_made o)) (levels_of o);
       room = room-is (last_tick_made o) (levels_of o);
-      same = same-levels o h.scene.machine h.ready.going h.ready.guessed some;
+      same = same-levels o h.scene.machine (ap {A = Overlap} (λ x. x.ended) h.ready.between) (ap {A = Overlap} (λ x. x.behind) h.ready.between) some;
     }
 
 pub view-none : (o : Overlap) → levels_of o ≡ [] → AreLevelsShown (view_at_tick o).levels (ahead_of o)

@@ -1,9 +1,10 @@
 -- What was decided between two entries.
-use Rattle.std.specs.Prelude.{ℕ, ◌≡◌, ◌≢◌, true, false, None, option_map}
+use Rattle.std.specs.Prelude.{ℕ, ◌≡◌, ◌≢◌, true, false, [], None, option_map}
 use Rattle.st_exec.specs.Step.{rests}
+use Rattle.st_ahead.specs.Overlap.{levels_of}
 use Rattle.st_run.specs.Run.{interlude}
-use Rattle.st_run.specs.Moments.{Moment, next_state}
-use Rattle.st_run.specs.Together.{Together, AreTexts, RunGoesOn, RunStops}
+use Rattle.st_run.specs.Moments.{Moment, next_scene, next_state}
+use Rattle.st_run.specs.Together.{Together, AreTexts, RunGoesOn, scene_of}
 use Rattle.st_run.specs.declared.turn.Turn.{Turn}
 use Rattle.st_run.specs.declared.turn.Turn.TheVariants.{Before, AtEnd, Over}
 use Rattle.st_run.specs.declared.leaving.Decided.{Decided}
@@ -13,7 +14,7 @@ abbrev pub IsWay : Turn → ℕ → Moment → Decided → Together → Type 0
 IsWay Before left m d t = (left ≢ 0) × (rests (next_state m) ≡ false) × RunGoesOn m d.ends d.taken t
 IsWay (AtEnd resting) left m d t =
     (resting ≡ rests (next_state m)) × (resting ≡ false → left ≡ 0) × (d.ends ≡ true)
-    × (d.taken ≡ None) × RunStops m t
+    × (d.taken ≡ None) × (scene_of t ≡ next_scene m) × (levels_of t.machine ≡ [])
 IsWay Over left m d t = ⊥
 
 -- what was decided is what the moment gives: the text that is printed, and how the run goes on

@@ -51,41 +51,42 @@ moment_at_start c = record {
 
 -- ---- what comes between two entries
 
--- the scene before the next entry: signals, orders and waits are over
-abbrev pub next_scene : Moment → Scene
-next_scene m = (interlude m.scene).scene
+module _ (m : Moment) where
+  -- the scene before the next entry: signals, orders and waits are over
+  abbrev pub next_scene : Scene
+  next_scene = (interlude m.scene).scene
 
--- the state before the next entry
-abbrev pub next_state : Moment → Machine
-next_state m = (next_scene m).machine
+  -- the state before the next entry
+  abbrev pub next_state : Machine
+  next_state = next_scene.machine
 
--- the reader has put a card into storage
-abbrev pub has_card : Moment → Bool
-has_card m = nat_lt (length (next_scene m).cards) (length m.scene.cards)
+  -- the reader has put a card into storage
+  abbrev pub has_card : Bool
+  has_card = nat_lt (length next_scene.cards) (length m.scene.cards)
 
--- with the signals and the orders that are due, the machine rests: it waits for what comes next
-abbrev pub has_waited : Moment → Bool
-has_waited m =
-    rests (with_due_orders
-    (with_due_signals m.scene.machine m.scene.signals m.scene.cards)).scene.machine
+  -- with the signals and the orders that are due, the machine rests: it waits for what comes next
+  abbrev pub has_waited : Bool
+  has_waited =
+      rests (with_due_orders
+      (with_due_signals m.scene.machine m.scene.signals m.scene.cards)).scene.machine
 
--- where the run goes on, the segment ends here if a branch was missed, a card came, the machine
--- waited, or an interrupt is taken
-unfoldable pub ends_segment : Moment → Bool
-ends_segment m = m.missed || has_card m || has_waited m || is_some (interrupt (next_state m))
+  -- where the run goes on, the segment ends here if a branch was missed, a card came, the machine
+  -- waited, or an interrupt is taken
+  unfoldable pub ends_segment : Bool
+  ends_segment = m.missed || has_card || has_waited || is_some (interrupt next_state)
 
--- the front of the segment behind it, which starts one tick later and one more for each entry that
--- is dropped
-abbrev pub next_segment : Moment → Front
-next_segment m = front_behind_end m.banks m.tick (length m.dropped)
+  -- the front of the segment behind it, which starts one tick later and one more for each entry
+  -- that is dropped
+  abbrev pub next_segment : Front
+  next_segment = front_behind_end m.banks m.tick (length m.dropped)
 
--- the front of the next entry's row
-unfoldable pub next_front : Moment → Front
-next_front m = if ends_segment m then next_segment m else m.front
+  -- the front of the next entry's row
+  unfoldable pub next_front : Front
+  next_front = if ends_segment then next_segment else m.front
 
--- where the run stands then
-abbrev pub standing_at : Moment → Standing
-standing_at m = record { scene = next_scene m; tick = m.tick; front = next_front m }
+  -- where the run stands then
+  abbrev pub standing_at : Standing
+  standing_at = record { scene = next_scene; tick = m.tick; front = next_front }
 
 -- ---- the next entry
 

@@ -1,5 +1,5 @@
 -- A whole run, one instruction after the other: signals and orders take effect between two of them.
-use Rattle.std.specs.Prelude.{ℕ, zero, suc, Bool, nat_le, if◌then◌else◌, List, [], ◌∷◌, ◌++◌, Option, None, Some}
+use Rattle.std.specs.Prelude.{ℕ, zero, suc, Bool, nat_le, if◌then◌else◌, slice_get, drop, List, [], ◌∷◌, ◌++◌, Option, None, Some}
 use Rattle.st_card.specs.declared.control_cards.Signal.{Signal}
 use Rattle.st_state.specs.Machine.{Machine}
 use Rattle.st_state.specs.Interrupts.{state_with_signal}
@@ -38,13 +38,11 @@ with_due_signals s (x ∷ xs) cards =
 
 -- the next card of the reader
 abbrev pub first_card : List (List ℕ) → Option (List ℕ)
-first_card [] = None
-first_card (card ∷ cards) = Some card
+first_card cards = slice_get cards 0
 
 -- the cards behind it
 abbrev pub cards_after : List (List ℕ) → List (List ℕ)
-cards_after [] = []
-cards_after (card ∷ cards) = cards
+cards_after cards = drop 1 cards
 
 -- a scene where nothing happens
 abbrev pub uneventful : Scene → Transition

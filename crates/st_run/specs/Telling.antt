@@ -87,6 +87,15 @@ told_at_end rests tick snaps s =
     map (λ x. at_once tick s (Shown x s [])) (ticks_before (tick + 1) snaps)
     ++ at_once tick s (Ended rests s) ∷ []
 
+-- where the machine stands by the turn: an entry is to be done, or nothing is ahead any more
+abbrev pub IsTurn : Turn → List ℕ → Together → Type 0
+IsTurn turns.Before snaps t = IsBeforeEntry t × AreRising (t.machine.now - 1) snaps
+IsTurn _ snaps t = levels_of t.machine ≡ []
+
+-- all that is still to be told comes in time
+abbrev pub AreInTime : List Told → Type 0
+AreInTime = All (λ x. (x.tick < 2 ^ 63) × (x.done < 2 ^ 63))
+
 -- by the turn: before the next entry, behind which so many more may be done; at the end, or behind
 -- it
 abbrev pub rest_by : Turn → ℕ → ℕ → List ℕ → Together → List Told
@@ -95,10 +104,18 @@ rest_by turns.Before left tick snaps t =
 rest_by (turns.AtEnd rests) left tick snaps t = told_at_end rests tick snaps t.machine.state
 rest_by turns.Over left tick snaps t = []
 
--- what waits to be told, and then that
-unfoldable pub rest_of : Turn → ℕ → ℕ → List ℕ → Waiting → Together → List Told
-rest_of turn left tick snaps w t =
-    map (at_once tick t.machine.state) (whats w t.machine.state) ++ rest_by turn left tick snaps t
+module _ (turn : Turn) (left tick : ℕ) (snaps : List ℕ) (w : Waiting) (t : Together) where
+  -- what waits to be told, and then that
+  unfoldable pub rest_of : List Told
+  rest_of =
+      map (at_once tick t.machine.state) (whats w t.machine.state) ++ rest_by turn left tick snaps t
+
+  -- where an interrupt waits to be told nothing is ahead, so that the state is shown in which it is
+  -- taken
+  pub record IsRun : Type 0 where
+    pub stands : IsTurn turn snaps t
+    pub taken : IsSome w.taken → levels_of t.machine ≡ []
+    pub in_time : AreInTime rest_of
 
 -- ---- what is shown
 
@@ -132,23 +149,6 @@ pub record AreLevelsShown (shown : List (Option LevelView)) (levels : List Level
   pub same : AllZip IsLevelShown views levels
 
 -- ---- what a run keeps
-
--- where the machine stands by the turn: an entry is to be done, or nothing is ahead any more
-abbrev pub IsTurn : Turn → List ℕ → Together → Type 0
-IsTurn turns.Before snaps t = IsBeforeEntry t × AreRising (t.machine.now - 1) snaps
-IsTurn _ snaps t = levels_of t.machine ≡ []
-
--- all that is still to be told comes in time
-abbrev pub AreInTime : List Told → Type 0
-AreInTime = All (λ x. (x.tick < 2 ^ 63) × (x.done < 2 ^ 63))
-
--- where an interrupt waits to be told nothing is ahead, so that the state is shown in which it is
--- taken
-pub record IsRun (turn : Turn) (left tick : ℕ) (snaps : List ℕ) (w : Waiting)
-    (t : Together) : Type 0 where
-  pub stands : IsTurn turn snaps t
-  pub taken : IsSome w.taken → levels_of t.machine ≡ []
-  pub in_time : AreInTime (rest_of turn left tick snaps w t)
 
 -- ---- on the way from one thing that is told to the next
 

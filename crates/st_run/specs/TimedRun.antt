@@ -26,39 +26,40 @@ snapshots_from t (x ∷ xs) = if nat_lt x t then snapshots_from t xs else x ∷ 
 
 -- ---- events at the tick of a moment
 
--- what ran ahead is dropped, the youngest entry first
-unfoldable pub drops : Moment → List Timed
-drops m = map (λ a. event_at m.tick m.scene.machine (drop_of a)) (reverse m.dropped)
+module _ (m : Moment) where
+  -- what ran ahead is dropped, the youngest entry first
+  unfoldable pub drops : List Timed
+  drops = map (λ a. event_at m.tick m.scene.machine (drop_of a)) (reverse m.dropped)
 
--- that, where the segment ends here
-abbrev pub drops_if_ends : Moment → List Timed
-drops_if_ends m = if ends_segment m then drops m else []
+  -- that, where the segment ends here
+  abbrev pub drops_if_ends : List Timed
+  drops_if_ends = if ends_segment m then drops else []
 
--- what happens in the plain run
-abbrev pub happening_at : Moment → PlainEvent → Timed
-happening_at m happening = event_at m.tick m.scene.machine (Happens happening)
+  -- what happens in the plain run
+  abbrev pub happening_at : PlainEvent → Timed
+  happening_at happening = event_at m.tick m.scene.machine (Happens happening)
 
--- the run goes on: what is dropped, words that are printed, and the interrupt that is taken
-unfoldable pub events_between : Moment → List Timed
-events_between m =
-    drops_if_ends m
-    ++ map (happening_at m)
-    ((interlude m.scene).happened ++ interrupts_by (interrupt (next_state m)) (next_state m))
+  -- the run goes on: what is dropped, words that are printed, and the interrupt that is taken
+  unfoldable pub events_between : List Timed
+  events_between =
+      drops_if_ends
+      ++ map happening_at
+      ((interlude m.scene).happened ++ interrupts_by (interrupt (next_state m)) (next_state m))
 
--- ---- the end
+  -- ---- the end
 
--- the last state, of which nothing is ahead
-abbrev pub last_snapshot_at : Moment → ℕ → Timed
-last_snapshot_at m tick = event_at m.tick m.scene.machine (Shows tick (next_state m) [])
+  -- the last state, of which nothing is ahead
+  abbrev pub last_snapshot_at : ℕ → Timed
+  last_snapshot_at tick = event_at m.tick m.scene.machine (Shows tick (next_state m) [])
 
--- the run ends, and its last segment: what is dropped, words that are printed, the snapshots up to
--- this tick, and the end itself
-unfoldable pub last_events : Moment → List ℕ → List Timed
-last_events m snaps =
-    drops m
-    ++ map (happening_at m) (interlude m.scene).happened
-    ++ map (last_snapshot_at m) (ticks_before (m.tick + 1) snaps)
-    ++ happening_at m (Ends (next_state m) (rests (next_state m))) ∷ []
+  -- the run ends, and its last segment: what is dropped, words that are printed, the snapshots up
+  -- to this tick, and the end itself
+  unfoldable pub last_events : List ℕ → List Timed
+  last_events snaps =
+      drops
+      ++ map happening_at (interlude m.scene).happened
+      ++ map last_snapshot_at (ticks_before (m.tick + 1) snaps)
+      ++ happening_at (Ends (next_state m) (rests (next_state m))) ∷ []
 
 module _ (ds : List ℕ) (n : ℕ) where
   -- ---- events until the next entry is done

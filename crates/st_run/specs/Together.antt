@@ -6,9 +6,9 @@ use Rattle.st_prep.specs.BesideOrders.{AreAlikeBesideOrders}
 use Rattle.st_exec.specs.Step.{interrupt, rests}
 use Rattle.st_run.specs.Run.{Scene, PlainEvent}
 use Rattle.st_rows.specs.Ranges.{AreDelaysUpTo}
-use Rattle.st_ahead.specs.Overlap.{Overlap, oldest_row, levels_of}
+use Rattle.st_ahead.specs.Overlap.{Overlap, oldest_row, levels_of, machine_between_ticks}
 use Rattle.st_ahead.specs.Calls.{machine_after_segment, banks_left}
-use Rattle.st_run.specs.Moments.{Moment, Standing, next_scene, next_state, ends_segment, next_front}
+use Rattle.st_run.specs.Moments.{Moment, Standing, next_state, ends_segment, standing_at}
 use Rattle.st_run.specs.Scenes.{IsScene}
 use Rattle.st_run.specs.Told.{What, Printed, what_happens}
 
@@ -26,12 +26,8 @@ scene_of t = record { machine = t.machine.state; signals = t.signals; cards = t.
 
 -- nothing is owed, nothing comes between and no entry is late
 pub record IsMachineReady (o : Overlap) : Type 0 where
-  pub settled : o.owed ≡ false
-  pub going : o.ended ≡ false
-  pub stands : o.stopped ≡ false
-  pub guessed : o.behind ≡ None
-  pub closed : o.closing ≡ None
-  pub table : o.taken ≡ interrupt o.state
+  pub between : o
+      ≡ machine_between_ticks o.delays o.levels o.state (interrupt o.state) o.front o.now
   pub awake : rests o.state ≡ false
   pub early : o.now ≤ (oldest_row o).c
 
@@ -97,13 +93,7 @@ AreTexts text happened = text_told text ≡ map what_happens happened
 -- before the next entry
 pub record RunGoesOn (m : Moment) (over : Bool) (table : Option ℕ) (t : Together) : Type 0 where
   pub before : IsBeforeEntry t
-  pub scene : scene_of t ≡ next_scene m
-  pub front : t.machine.front ≡ next_front m
+  pub standing : standing_of m.tick t ≡ standing_at m
   pub ends : over ≡ ends_segment m
   pub taken : table ≡ interrupt (next_state m)
   pub now : t.machine.now ≡ m.tick + 1
-
--- at the end of the run
-pub record RunStops (m : Moment) (t : Together) : Type 0 where
-  pub scene : scene_of t ≡ next_scene m
-  pub none : levels_of t.machine ≡ []

@@ -1,5 +1,5 @@
 -- The next entry of a state, as the timetable sees it.
-use Rattle.std.specs.Prelude.{ℕ, ◌-◌, suc, Bool, ◌&&◌, nat_le, if◌then◌else◌, is_none, List, [], ◌∷◌, length, take, drop, Option, None, Some}
+use Rattle.std.specs.Prelude.{ℕ, ◌-◌, suc, Bool, ◌&&◌, nat_le, if◌then◌else◌, is_none, List, [], ◌∷◌, length, take, drop, Option, None, Some, IfSome, ◌<◌}
 use Rattle.st_bits.specs.declared.register.TheConstants.{FIRST_STORAGE_WORD}
 use Rattle.st_state.specs.Machine.{Machine, word}
 use Rattle.st_prep.specs.Fetch.{place_of, reading_of, words_fetched}
@@ -9,24 +9,11 @@ use Rattle.st_prep.specs.declared.entries.Words.{Words}
 use Rattle.st_rows.specs.declared.entry.WordRun.{WordRun}
 use Rattle.st_rows.specs.declared.entry.WordRuns.{WordRuns}
 use Rattle.st_rows.specs.declared.entry.Entry.{Entry}
-
--- ---- instruction words
-
--- how the next entry of a state is read, or its table instruction
-abbrev pub reading_at : Option ℕ → Machine → Reading
-reading_at table s = reading_of s (place_of s table)
-
--- its instruction words, in order
-unfoldable pub instruction_words : Option ℕ → Machine → List ℕ
-instruction_words table s = words_read (reading_at table s) (word s)
-
--- how many of them are its own, and not of the target of EX
-unfoldable pub own_count : Option ℕ → Machine → ℕ
-own_count table s = own_words (reading_at table s) (word s)
+use Rattle.st_rows.specs.Entries.{no_run}
 
 -- words that follow each other, as a run
 unfoldable pub run_of : List ℕ → WordRun
-run_of [] = record { first = 0; len = 0 }
+run_of [] = no_run
 run_of (w ∷ ws) = record { first = w; len = suc (length ws) }
 
 -- ---- the words of data
@@ -56,22 +43,41 @@ unfoldable pub side_to_read : Option ℕ → Option ℕ
 side_to_read None = None
 side_to_read (Some w) = if nat_le FIRST_STORAGE_WORD w then Some w else None
 
--- ---- the entry
+-- ---- instruction words
 
--- following words are asked for but by a table instruction, and where an instruction word may not
--- be fetched
-abbrev pub asks_for_following : Option ℕ → Machine → Bool
-asks_for_following table s = is_none table && is_none (words_fetched s (place_of s table)).fault
+-- the indicator by which an interrupt was taken, 0 to 63, where an entry is its table instruction
+abbrev pub IsTable : Option ℕ → Type 0
+IsTable table = IfSome table (λ i. i < 64)
 
--- the next entry of a state, or its table instruction
-unfoldable pub entry : Option ℕ → Machine → Entry
-entry table s = record {
-  own = run_of (take (own_count table s) (instruction_words table s));
-  target = run_of (drop (own_count table s) (instruction_words table s));
-  side = side_to_read (needs (sight s (place_of s table))).index_read;
-  reads = words_to_read (plan s table).reads;
-  writes = words_to_write (plan s table).writes;
-  cost = (plan s table).cost;
-  serial = (plan s table).serial;
-  follows = asks_for_following table s;
-}
+module _ (table : Option ℕ) (s : Machine) where
+  -- how the next entry of a state is read, or its table instruction
+  abbrev pub reading_at : Reading
+  reading_at = reading_of s (place_of s table)
+
+  -- its instruction words, in order
+  unfoldable pub instruction_words : List ℕ
+  instruction_words = words_read reading_at (word s)
+
+  -- how many of them are its own, and not of the target of EX
+  unfoldable pub own_count : ℕ
+  own_count = own_words reading_at (word s)
+
+  -- ---- the entry
+
+  -- following words are asked for but by a table instruction, and where an instruction word may not
+  -- be fetched
+  abbrev pub asks_for_following : Bool
+  asks_for_following = is_none table && is_none (words_fetched s (place_of s table)).fault
+
+  -- the next entry of a state, or its table instruction
+  unfoldable pub entry : Entry
+  entry = record {
+    own = run_of (take own_count instruction_words);
+    target = run_of (drop own_count instruction_words);
+    side = side_to_read (needs (sight s (place_of s table))).index_read;
+    reads = words_to_read (plan s table).reads;
+    writes = words_to_write (plan s table).writes;
+    cost = (plan s table).cost;
+    serial = (plan s table).serial;
+    follows = asks_for_following;
+  }

@@ -1,5 +1,6 @@
-use Rattle.std.proofs.Common.{◌≡◌, ◌-◌, ◌<◌, ◌^◌, false, None, sym, subst, arith}
+use Rattle.std.proofs.Common.{ap, ◌≡◌, ◌-◌, ◌<◌, ◌^◌, false, None, sym, subst, arith}
 use Rattle.st_ahead.specs.RowsDone.{queue_with, rows_in_ticks, ticks_passed}
+use Rattle.st_ahead.specs.Overlap.{Overlap}
 use Rattle.st_run.specs.Together.{Together}
 use Rattle.st_run.specs.Ticking.{last_for}
 use Rattle.st_run.proofs.LedLemmas.{run-led}
@@ -8,7 +9,7 @@ use Rattle.st_run.proofs.ticking.run_many.Goals as goal
 pub invariant_of-driven : goal.invariant_of-driven
 invariant_of-driven g c =
     run-led c.args.count (2 ^ 63 - 1) c.run_to.result c.driven.inside.machine c.run_to.new.self
-    (subst (λ (t : Together). t.machine.owed ≡ false) (sym c.driven.view_is) c.requires.before.ready.settled)
+    (subst (λ (t : Together). t.machine.owed ≡ false) (sym c.driven.view_is) (ap {A = Overlap} (λ o. o.owed) c.requires.before.ready.between))
     (subst (λ (t : Together). t.machine.state.done < 2 ^ 63) (sym c.driven.view_is) c.requires.few) c.requires.count (omega arith) c.run_to.ensures.runs c.driven.invariant
 
 pub returns-clause-rows : goal.returns-clause-rows

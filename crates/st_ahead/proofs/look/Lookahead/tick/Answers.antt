@@ -23,13 +23,13 @@ returns-then-is_due-clause-ticked g c = λ ds tick t f one most are h next.
     let inside : LookView = record { levels = c.self.inside.levels; front = c.self.inside.front; log = c.self.inside.log; next = c.self.inside.next } in
     let is : inside ≡ c.args.self.now = c.self.view_is in
     let look = subst (λ (w : LookView). IsLook ds n tick now t s f w) (sym is) h in
-    let oldest = due-row ds n tick now t s f inside.front inside.levels.ring inside.levels.plans look.ahead.levels
+    let oldest = due-row ds n tick now t s f inside.front inside.levels.ring inside.levels.plans look.outlook.ahead.levels
     (sym c.is_due.ensures.value ∙ c.if-is_due.true) in
     let due : (row_of_entry ds n f (entry t s)).c ≡ now = oldest.1 in
     let some : 1 ≤ count c.args.self.now = subst (λ (w : LookView). 1 ≤ count w) is oldest.0 in
     let all = c.complete-done.ensures ds tick now t f are (outlook-of ds n tick now t s f c.args.self.now h) due in
     let s' = guess t s in
-    let machine = guess-machine t s h.machine h.indicator in
+    let machine = guess-machine t s h.outlook.machine h.outlook.indicator in
     let late : now < (row_of_entry ds n (front_after_entry ds n f (entry t s)) (entry None s')).c =
     omega (arith, oldest.2, done-later ds n None s' (front_after_entry ds n f (entry t s)) machine tt) in
     let w = c.complete-done.new.self in
@@ -48,10 +48,10 @@ returns-then-len-gt0-clause-ticked g c = λ ds tick t f one most are h next.
     let look = subst (λ (w : LookView). IsLook ds n tick now t s f w) (sym is) h in
     let some : 1 ≤ count inside = omega (arith, c.len.ensures.value, c.if-len-gt0.true) in
     let soon = next (subst (λ (w : LookView). 1 ≤ count w) is some) in
-    let late = due-later ds n tick now t s f inside.front inside.levels.ring inside.levels.plans look.ahead.levels look.not_done
+    let late = due-later ds n tick now t s f inside.front inside.levels.ring inside.levels.plans look.outlook.ahead.levels look.outlook.not_done
     (sym c.is_due.ensures.value ∙ c.if-is_due.false) soon some in
     let v = c.args.self.now in
-    let waits = done-after ds n tick now t s f v.front v.levels.ring v.levels.plans h.machine h.indicator h.ahead.levels late in
+    let waits = done-after ds n tick now t s f v.front v.levels.ring v.levels.plans h.outlook.machine h.outlook.indicator h.outlook.ahead.levels late in
     let filled = c.fill-then-len-gt0.ensures.filled ds tick now t s f are (outlook-of ds n tick now t s f v h) (omega (arith, soon)) (omega arith) waits (λ w. refl) in
     record { state = refl; later = λ same. absurd (omega (arith, late, same)); look = filled.0 }
 
@@ -68,6 +68,6 @@ returns-else-len-gt0-clause-ticked g c = λ ds tick t f one most are h next.
     let none = looks_are_levels ds n now now t s f v one most are (omega arith) (omega (arith, empty)) look in
     record {
       state = refl;
-      later = unprepared ds n (count v) now t s f one empty are (entry-ranges t s h.machine h.indicator) h.oldest none;
+      later = unprepared ds n (count v) now t s f one empty are (entry-ranges t s h.outlook.machine h.outlook.indicator) h.outlook.oldest none;
       look = look;
     }

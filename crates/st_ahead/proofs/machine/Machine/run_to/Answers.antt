@@ -70,7 +70,7 @@ invariant_of-self g c =
     let awake = awake-inside i.stopped n i.delays.list i.present.state i.present.taken i.behind i.now i.owed i.ended i.fresh v c.self.invariant owes in
     let by = subst (λ (x : Option Stop). HasRunTo i.delays.list n c.args.count c.args.last i.now i.present.taken i.present.state f c.run_to-stop.new.present.taken c.run_to-stop.new.present.state w x) c.in_default.is
     (c.run_to-stop.ensures f i.now at.look (omega (arith, c.if-now-last.false)) awake).0 in
-    let front = levels_are_the_entries_ahead.oldest i.delays.list n c.args.last c.run_to-stop.new.present.taken c.run_to-stop.new.present.state by.front w.front w.levels by.look.ahead in
+    let front = levels_are_the_entries_ahead.oldest i.delays.list n c.args.last c.run_to-stop.new.present.taken c.run_to-stop.new.present.state by.front w.front w.levels by.look.outlook.ahead in
     let all = passed-machine i.stopped n i.delays.list i.present.state c.run_to-stop.new.present.state i.present.taken c.run_to-stop.new.present.taken i.behind i.now c.args.last c.args.count i.owed i.ended i.fresh v w
     c.self.invariant owes c.requires.last by front in
     all.0
@@ -87,7 +87,7 @@ returns-in_default-clause-runs g c =
     let awake = awake-inside i.stopped n i.delays.list i.present.state i.present.taken i.behind i.now i.owed i.ended i.fresh v c.self.invariant owes in
     let by = subst (λ (x : Option Stop). HasRunTo i.delays.list n c.args.count c.args.last i.now i.present.taken i.present.state f c.run_to-stop.new.present.taken c.run_to-stop.new.present.state w x) c.in_default.is
     (c.run_to-stop.ensures f i.now at.look (omega (arith, c.if-now-last.false)) awake).0 in
-    let front = levels_are_the_entries_ahead.oldest i.delays.list n c.args.last c.run_to-stop.new.present.taken c.run_to-stop.new.present.state by.front w.front w.levels by.look.ahead in
+    let front = levels_are_the_entries_ahead.oldest i.delays.list n c.args.last c.run_to-stop.new.present.taken c.run_to-stop.new.present.state by.front w.front w.levels by.look.outlook.ahead in
     let all = passed-machine i.stopped n i.delays.list i.present.state c.run_to-stop.new.present.state i.present.taken c.run_to-stop.new.present.taken i.behind i.now c.args.last c.args.count i.owed i.ended i.fresh v w
     c.self.invariant owes c.requires.last by front in
     subst (λ (m : Overlap). ArePassed c.args.count (c.args.last + 1 - m.now) m (overlap_of n i.delays.list c.run_to-stop.new.present.state c.run_to-stop.new.present.taken i.behind (c.args.last + 1) i.owed i.ended i.stopped i.fresh w))
@@ -108,7 +108,7 @@ invariant_of-self-2 g c =
     let stop = c.in-Some.stop in
     let told = by.done_at in
     let front = levels_are_the_entries_ahead.oldest i.delays.list n stop.tick None (guess by.table by.state) (front_after_entry i.delays.list n by.front (entry by.table by.state)) w.front w.levels
-    told.look.ahead in
+    told.look.outlook.ahead in
     let guessed = guess-seen by.table by.state c.run_to-stop.new.present.state (is_missed (plan by.state by.table) by.state) stop.done.missed refl told.state told.told.missed
     (steps_are_guesses.right by.table by.state by.machine by.indicator) (steps_are_guesses.missed by.table by.state by.machine by.indicator) in
     let counted = c.done_in-number.ensures ∙ ap (λ (m : Machine). m.done) told.state ∙ entries_count_as_one (plan by.state by.table) by.state in
@@ -131,7 +131,7 @@ returns-clause-runs g c =
     let stop = c.in-Some.stop in
     let told = by.done_at in
     let front = levels_are_the_entries_ahead.oldest i.delays.list n stop.tick None (guess by.table by.state) (front_after_entry i.delays.list n by.front (entry by.table by.state)) w.front w.levels
-    told.look.ahead in
+    told.look.outlook.ahead in
     let guessed = guess-seen by.table by.state c.run_to-stop.new.present.state (is_missed (plan by.state by.table) by.state) stop.done.missed refl told.state told.told.missed
     (steps_are_guesses.right by.table by.state by.machine by.indicator) (steps_are_guesses.missed by.table by.state by.machine by.indicator) in
     let counted = c.done_in-number.ensures ∙ ap (λ (m : Machine). m.done) told.state ∙ entries_count_as_one (plan by.state by.table) by.state in

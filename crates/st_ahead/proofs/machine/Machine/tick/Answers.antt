@@ -39,7 +39,7 @@ invariant_of-self g c =
     let by = subst (λ (x : Option Completed). IsTicked i.delays.list n i.now i.present.taken i.present.state f v u w x) c.in_default.is
     (c.tick-done.ensures.ticked i.delays.list (i.now - 1) i.present.taken f c.self.invariant.some c.self.invariant.few are at.look (not-first i.now v.levels.ring at.look.prepared)) in
     let all = passed-tick i.stopped n i.delays.list i.present.state u i.present.taken i.behind i.now i.owed i.ended i.fresh v w c.self.invariant owes early by
-    (levels_are_the_entries_ahead.oldest i.delays.list n i.now i.present.taken i.present.state f w.front w.levels by.look.ahead) in
+    (levels_are_the_entries_ahead.oldest i.delays.list n i.now i.present.taken i.present.state f w.front w.levels by.look.outlook.ahead) in
     all.0
 
 pub returns-in_default-clause-event : goal.returns-in_default-clause-event
@@ -57,7 +57,7 @@ returns-in_default-clause-event g c =
     let by = subst (λ (x : Option Completed). IsTicked i.delays.list n i.now i.present.taken i.present.state f v u w x) c.in_default.is
     (c.tick-done.ensures.ticked i.delays.list (i.now - 1) i.present.taken f c.self.invariant.some c.self.invariant.few are at.look (not-first i.now v.levels.ring at.look.prepared)) in
     let all = passed-tick i.stopped n i.delays.list i.present.state u i.present.taken i.behind i.now i.owed i.ended i.fresh v w c.self.invariant owes early by
-    (levels_are_the_entries_ahead.oldest i.delays.list n i.now i.present.taken i.present.state f w.front w.levels by.look.ahead) in
+    (levels_are_the_entries_ahead.oldest i.delays.list n i.now i.present.taken i.present.state f w.front w.levels by.look.outlook.ahead) in
     subst (λ (m : Overlap). is_done m ≡ false) c.self.view_is all.1
 
 pub returns-in_default-clause-after : goal.returns-in_default-clause-after
@@ -75,7 +75,7 @@ returns-in_default-clause-after g c =
     let by = subst (λ (x : Option Completed). IsTicked i.delays.list n i.now i.present.taken i.present.state f v u w x) c.in_default.is
     (c.tick-done.ensures.ticked i.delays.list (i.now - 1) i.present.taken f c.self.invariant.some c.self.invariant.few are at.look (not-first i.now v.levels.ring at.look.prepared)) in
     let all = passed-tick i.stopped n i.delays.list i.present.state u i.present.taken i.behind i.now i.owed i.ended i.fresh v w c.self.invariant owes early by
-    (levels_are_the_entries_ahead.oldest i.delays.list n i.now i.present.taken i.present.state f w.front w.levels by.look.ahead) in
+    (levels_are_the_entries_ahead.oldest i.delays.list n i.now i.present.taken i.present.state f w.front w.levels by.look.outlook.ahead) in
     subst (λ (m : Overlap). overlap_of n i.delays.list u i.present.taken i.behind i.now true i.ended i.stopped i.fresh w ≡ machine_after_tick m) c.self.view_is all.2
 
 pub invariant_of-self-2 : goal.invariant_of-self-2
@@ -93,8 +93,8 @@ invariant_of-self-2 g c =
     let by = subst (λ (x : Option Completed). IsTicked i.delays.list n i.now i.present.taken i.present.state f v u w x) c.in-Some.is
     (c.tick-done.ensures.ticked i.delays.list (i.now - 1) i.present.taken f c.self.invariant.some c.self.invariant.few are at.look (not-first i.now v.levels.ring at.look.prepared)) in
     let done = c.in-Some.done in
-    let m = at.look.machine in
-    let t = at.look.indicator in
+    let m = at.look.outlook.machine in
+    let t = at.look.outlook.indicator in
     let most : count v ≤ n = c.tick-done.ensures.few in
     let few : i.now ≤ i.now - 1 + 1 = omega arith in
     let levels = looks_are_levels i.delays.list n (i.now - 1) i.now i.present.taken i.present.state f v c.self.invariant.some c.self.invariant.few are few most at.look in
@@ -106,7 +106,7 @@ invariant_of-self-2 g c =
     let banks = banks-at i.stopped n i.delays.list i.present.state i.present.taken i.now v left.0 in
     let guessed = guess-seen i.present.taken i.present.state u (is_missed (plan i.present.state i.present.taken) i.present.state) done.missed refl by.state by.told.missed
     (steps_are_guesses.right i.present.taken i.present.state m t) (steps_are_guesses.missed i.present.taken i.present.state m t) in
-    let front = levels_are_the_entries_ahead.oldest i.delays.list n i.now None (guess i.present.taken i.present.state) (front_after_entry i.delays.list n f (entry i.present.taken i.present.state)) w.front w.levels by.look.ahead in
+    let front = levels_are_the_entries_ahead.oldest i.delays.list n i.now None (guess i.present.taken i.present.state) (front_after_entry i.delays.list n f (entry i.present.taken i.present.state)) w.front w.levels by.look.outlook.ahead in
     let all = done-tick i.stopped n i.delays.list i.present.state u i.present.taken i.behind i.now i.owed i.ended i.fresh v w done c.self.invariant owes early by front banks left.1 guessed in
     all.0
 
@@ -125,8 +125,8 @@ returns-clause-event g c =
     let by = subst (λ (x : Option Completed). IsTicked i.delays.list n i.now i.present.taken i.present.state f v u w x) c.in-Some.is
     (c.tick-done.ensures.ticked i.delays.list (i.now - 1) i.present.taken f c.self.invariant.some c.self.invariant.few are at.look (not-first i.now v.levels.ring at.look.prepared)) in
     let done = c.in-Some.done in
-    let m = at.look.machine in
-    let t = at.look.indicator in
+    let m = at.look.outlook.machine in
+    let t = at.look.outlook.indicator in
     let most : count v ≤ n = c.tick-done.ensures.few in
     let few : i.now ≤ i.now - 1 + 1 = omega arith in
     let levels = looks_are_levels i.delays.list n (i.now - 1) i.now i.present.taken i.present.state f v c.self.invariant.some c.self.invariant.few are few most at.look in
@@ -138,7 +138,7 @@ returns-clause-event g c =
     let banks = banks-at i.stopped n i.delays.list i.present.state i.present.taken i.now v left.0 in
     let guessed = guess-seen i.present.taken i.present.state u (is_missed (plan i.present.state i.present.taken) i.present.state) done.missed refl by.state by.told.missed
     (steps_are_guesses.right i.present.taken i.present.state m t) (steps_are_guesses.missed i.present.taken i.present.state m t) in
-    let front = levels_are_the_entries_ahead.oldest i.delays.list n i.now None (guess i.present.taken i.present.state) (front_after_entry i.delays.list n f (entry i.present.taken i.present.state)) w.front w.levels by.look.ahead in
+    let front = levels_are_the_entries_ahead.oldest i.delays.list n i.now None (guess i.present.taken i.present.state) (front_after_entry i.delays.list n f (entry i.present.taken i.present.state)) w.front w.levels by.look.outlook.ahead in
     let all = done-tick i.stopped n i.delays.list i.present.state u i.present.taken i.behind i.now i.owed i.ended i.fresh v w done c.self.invariant owes early by front banks left.1 guessed in
     let row = row-tick i.stopped n i.delays.list i.present.state u i.present.taken i.behind i.now i.owed i.ended i.fresh v w done c.self.invariant owes by
     (entries_count_as_one (plan i.present.state i.present.taken) i.present.state) in
@@ -159,8 +159,8 @@ returns-clause-after g c =
     let by = subst (λ (x : Option Completed). IsTicked i.delays.list n i.now i.present.taken i.present.state f v u w x) c.in-Some.is
     (c.tick-done.ensures.ticked i.delays.list (i.now - 1) i.present.taken f c.self.invariant.some c.self.invariant.few are at.look (not-first i.now v.levels.ring at.look.prepared)) in
     let done = c.in-Some.done in
-    let m = at.look.machine in
-    let t = at.look.indicator in
+    let m = at.look.outlook.machine in
+    let t = at.look.outlook.indicator in
     let most : count v ≤ n = c.tick-done.ensures.few in
     let few : i.now ≤ i.now - 1 + 1 = omega arith in
     let levels = looks_are_levels i.delays.list n (i.now - 1) i.now i.present.taken i.present.state f v c.self.invariant.some c.self.invariant.few are few most at.look in
@@ -172,6 +172,6 @@ returns-clause-after g c =
     let banks = banks-at i.stopped n i.delays.list i.present.state i.present.taken i.now v left.0 in
     let guessed = guess-seen i.present.taken i.present.state u (is_missed (plan i.present.state i.present.taken) i.present.state) done.missed refl by.state by.told.missed
     (steps_are_guesses.right i.present.taken i.present.state m t) (steps_are_guesses.missed i.present.taken i.present.state m t) in
-    let front = levels_are_the_entries_ahead.oldest i.delays.list n i.now None (guess i.present.taken i.present.state) (front_after_entry i.delays.list n f (entry i.present.taken i.present.state)) w.front w.levels by.look.ahead in
+    let front = levels_are_the_entries_ahead.oldest i.delays.list n i.now None (guess i.present.taken i.present.state) (front_after_entry i.delays.list n f (entry i.present.taken i.present.state)) w.front w.levels by.look.outlook.ahead in
     let all = done-tick i.stopped n i.delays.list i.present.state u i.present.taken i.behind i.now i.owed i.ended i.fresh v w done c.self.invariant owes early by front banks left.1 guessed in
     subst (λ (m : Overlap). overlap_of n i.delays.list u None done.missed i.now true i.ended i.stopped true w ≡ machine_after_tick m) c.self.view_is all.2
