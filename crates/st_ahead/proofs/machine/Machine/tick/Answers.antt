@@ -37,7 +37,7 @@ invariant_of-self g c =
     let u = c.tick-done.new.state in
     let are = delays-are i.delays in
     let by = subst (λ (x : Option Completed). IsTicked i.delays.list n i.now i.present.taken i.present.state f v u w x) c.in_default.is
-    (c.tick-done.ensures.ticked i.delays.list (i.now - 1) i.present.taken f c.self.invariant.some c.self.invariant.few are at.look (not-first i.now v.levels.ring at.look.prepared)) in
+    (c.tick-done.ensures.ticked i.delays.list (i.now - 1) i.present.taken f c.self.invariant.some c.self.invariant.few are at.look (not-first i.now v.levels.ring at.look.outlook.prepared)) in
     let all = passed-tick i.stopped n i.delays.list i.present.state u i.present.taken i.behind i.now i.owed i.ended i.fresh v w c.self.invariant owes early by
     (levels_are_the_entries_ahead.oldest i.delays.list n i.now i.present.taken i.present.state f w.front w.levels by.look.outlook.ahead) in
     all.0
@@ -55,7 +55,7 @@ returns-in_default-clause-event g c =
     let u = c.tick-done.new.state in
     let are = delays-are i.delays in
     let by = subst (λ (x : Option Completed). IsTicked i.delays.list n i.now i.present.taken i.present.state f v u w x) c.in_default.is
-    (c.tick-done.ensures.ticked i.delays.list (i.now - 1) i.present.taken f c.self.invariant.some c.self.invariant.few are at.look (not-first i.now v.levels.ring at.look.prepared)) in
+    (c.tick-done.ensures.ticked i.delays.list (i.now - 1) i.present.taken f c.self.invariant.some c.self.invariant.few are at.look (not-first i.now v.levels.ring at.look.outlook.prepared)) in
     let all = passed-tick i.stopped n i.delays.list i.present.state u i.present.taken i.behind i.now i.owed i.ended i.fresh v w c.self.invariant owes early by
     (levels_are_the_entries_ahead.oldest i.delays.list n i.now i.present.taken i.present.state f w.front w.levels by.look.outlook.ahead) in
     subst (λ (m : Overlap). is_done m ≡ false) c.self.view_is all.1
@@ -73,7 +73,7 @@ returns-in_default-clause-after g c =
     let u = c.tick-done.new.state in
     let are = delays-are i.delays in
     let by = subst (λ (x : Option Completed). IsTicked i.delays.list n i.now i.present.taken i.present.state f v u w x) c.in_default.is
-    (c.tick-done.ensures.ticked i.delays.list (i.now - 1) i.present.taken f c.self.invariant.some c.self.invariant.few are at.look (not-first i.now v.levels.ring at.look.prepared)) in
+    (c.tick-done.ensures.ticked i.delays.list (i.now - 1) i.present.taken f c.self.invariant.some c.self.invariant.few are at.look (not-first i.now v.levels.ring at.look.outlook.prepared)) in
     let all = passed-tick i.stopped n i.delays.list i.present.state u i.present.taken i.behind i.now i.owed i.ended i.fresh v w c.self.invariant owes early by
     (levels_are_the_entries_ahead.oldest i.delays.list n i.now i.present.taken i.present.state f w.front w.levels by.look.outlook.ahead) in
     subst (λ (m : Overlap). overlap_of n i.delays.list u i.present.taken i.behind i.now true i.ended i.stopped i.fresh w ≡ machine_after_tick m) c.self.view_is all.2
@@ -91,7 +91,7 @@ invariant_of-self-2 g c =
     let u = c.tick-done.new.state in
     let are = delays-are i.delays in
     let by = subst (λ (x : Option Completed). IsTicked i.delays.list n i.now i.present.taken i.present.state f v u w x) c.in-Some.is
-    (c.tick-done.ensures.ticked i.delays.list (i.now - 1) i.present.taken f c.self.invariant.some c.self.invariant.few are at.look (not-first i.now v.levels.ring at.look.prepared)) in
+    (c.tick-done.ensures.ticked i.delays.list (i.now - 1) i.present.taken f c.self.invariant.some c.self.invariant.few are at.look (not-first i.now v.levels.ring at.look.outlook.prepared)) in
     let done = c.in-Some.done in
     let m = at.look.outlook.machine in
     let t = at.look.outlook.indicator in
@@ -99,8 +99,8 @@ invariant_of-self-2 g c =
     let few : i.now ≤ i.now - 1 + 1 = omega arith in
     let levels = looks_are_levels i.delays.list n (i.now - 1) i.now i.present.taken i.present.state f v c.self.invariant.some c.self.invariant.few are few most at.look in
     let some = some-due (count v) (λ empty. unprepared i.delays.list n (count v) i.now i.present.taken i.present.state f c.self.invariant.some empty are
-    (entries_are_in_range.ranges i.present.taken i.present.state m t) at.look.oldest levels by.due) in
-    let next = not-first i.now v.levels.ring at.look.prepared some in
+    (entries_are_in_range.ranges i.present.taken i.present.state m t) at.look.outlook.oldest levels by.due) in
+    let next = not-first i.now v.levels.ring at.look.outlook.prepared some in
     let left = the_banks_are_left i.delays.list n (i.now - 1) i.now i.present.taken i.present.state f v
     c.self.invariant.some c.self.invariant.few are next most some (outlook-of i.delays.list n (i.now - 1) i.now i.present.taken i.present.state f v at.look) by.due in
     let banks = banks-at i.stopped n i.delays.list i.present.state i.present.taken i.now v left.0 in
@@ -123,7 +123,7 @@ returns-clause-event g c =
     let u = c.tick-done.new.state in
     let are = delays-are i.delays in
     let by = subst (λ (x : Option Completed). IsTicked i.delays.list n i.now i.present.taken i.present.state f v u w x) c.in-Some.is
-    (c.tick-done.ensures.ticked i.delays.list (i.now - 1) i.present.taken f c.self.invariant.some c.self.invariant.few are at.look (not-first i.now v.levels.ring at.look.prepared)) in
+    (c.tick-done.ensures.ticked i.delays.list (i.now - 1) i.present.taken f c.self.invariant.some c.self.invariant.few are at.look (not-first i.now v.levels.ring at.look.outlook.prepared)) in
     let done = c.in-Some.done in
     let m = at.look.outlook.machine in
     let t = at.look.outlook.indicator in
@@ -131,8 +131,8 @@ returns-clause-event g c =
     let few : i.now ≤ i.now - 1 + 1 = omega arith in
     let levels = looks_are_levels i.delays.list n (i.now - 1) i.now i.present.taken i.present.state f v c.self.invariant.some c.self.invariant.few are few most at.look in
     let some = some-due (count v) (λ empty. unprepared i.delays.list n (count v) i.now i.present.taken i.present.state f c.self.invariant.some empty are
-    (entries_are_in_range.ranges i.present.taken i.present.state m t) at.look.oldest levels by.due) in
-    let next = not-first i.now v.levels.ring at.look.prepared some in
+    (entries_are_in_range.ranges i.present.taken i.present.state m t) at.look.outlook.oldest levels by.due) in
+    let next = not-first i.now v.levels.ring at.look.outlook.prepared some in
     let left = the_banks_are_left i.delays.list n (i.now - 1) i.now i.present.taken i.present.state f v
     c.self.invariant.some c.self.invariant.few are next most some (outlook-of i.delays.list n (i.now - 1) i.now i.present.taken i.present.state f v at.look) by.due in
     let banks = banks-at i.stopped n i.delays.list i.present.state i.present.taken i.now v left.0 in
@@ -157,7 +157,7 @@ returns-clause-after g c =
     let u = c.tick-done.new.state in
     let are = delays-are i.delays in
     let by = subst (λ (x : Option Completed). IsTicked i.delays.list n i.now i.present.taken i.present.state f v u w x) c.in-Some.is
-    (c.tick-done.ensures.ticked i.delays.list (i.now - 1) i.present.taken f c.self.invariant.some c.self.invariant.few are at.look (not-first i.now v.levels.ring at.look.prepared)) in
+    (c.tick-done.ensures.ticked i.delays.list (i.now - 1) i.present.taken f c.self.invariant.some c.self.invariant.few are at.look (not-first i.now v.levels.ring at.look.outlook.prepared)) in
     let done = c.in-Some.done in
     let m = at.look.outlook.machine in
     let t = at.look.outlook.indicator in
@@ -165,8 +165,8 @@ returns-clause-after g c =
     let few : i.now ≤ i.now - 1 + 1 = omega arith in
     let levels = looks_are_levels i.delays.list n (i.now - 1) i.now i.present.taken i.present.state f v c.self.invariant.some c.self.invariant.few are few most at.look in
     let some = some-due (count v) (λ empty. unprepared i.delays.list n (count v) i.now i.present.taken i.present.state f c.self.invariant.some empty are
-    (entries_are_in_range.ranges i.present.taken i.present.state m t) at.look.oldest levels by.due) in
-    let next = not-first i.now v.levels.ring at.look.prepared some in
+    (entries_are_in_range.ranges i.present.taken i.present.state m t) at.look.outlook.oldest levels by.due) in
+    let next = not-first i.now v.levels.ring at.look.outlook.prepared some in
     let left = the_banks_are_left i.delays.list n (i.now - 1) i.now i.present.taken i.present.state f v
     c.self.invariant.some c.self.invariant.few are next most some (outlook-of i.delays.list n (i.now - 1) i.now i.present.taken i.present.state f v at.look) by.due in
     let banks = banks-at i.stopped n i.delays.list i.present.state i.present.taken i.now v left.0 in
