@@ -1,6 +1,6 @@
 -- What is decided between two entries.
 use Rattle.std.specs.Prelude.{IfSome, is_none, is_some, if◌then◌else◌, option_map}
-use Rattle.std.proofs.Common.{◌≡◌, ◌≢◌, ℕ, ◌+◌, ◌<◌, ◌≤◌, Bool, true, false, ◌||◌, List, Option, None, Some, refl, sym, subst, ◌∙◌, ap, arith}
+use Rattle.std.proofs.Common.{◌≡◌, ◌≢◌, ℕ, ◌+◌, ◌<◌, ◌≤◌, Bool, true, false, ◌||◌, List, [], Option, None, Some, refl, sym, subst, ◌∙◌, ap, arith}
 use Rattle.st_state.specs.Machine.{Machine, IsMachine}
 use Rattle.st_prep.proofs.Choices.{of_choice}
 use Rattle.st_exec.specs.Step.{rests, interrupt}
@@ -212,7 +212,7 @@ module _ (b t : Together) (text : Option (List ℕ)) (over : Bool) (is : IsBehin
   way-is Before left d n rest h =
       (h.0, sym (ap rests state-is) ∙ h.1, goes-on d n rest h.1 h.2 h.3 h.4)
   way-is (AtEnd resting) left d n rest h =
-      (h.0 ∙ ap rests state-is, h.1, h.2, h.3, stops n rest h.4)
+      let end = stops n rest h.4 in (h.0 ∙ ap rests state-is, h.1, h.2, h.3, end.0, end.1)
   way-is Over left d n rest h = h
 
   pub decided : (left : ℕ) (d : Decided) (n : Together) → n ≡ record t { machine = n.machine }

@@ -5,7 +5,7 @@ use Rattle.std.proofs.lemmas.List.Elements.{All-tail}
 use Rattle.st_prep.specs.Plan.{plan}
 use Rattle.st_exec.specs.Step.{interrupt, address}
 use Rattle.st_rows.specs.declared.front.EntryTicks.{EntryTicks as FrontRow}
-use Rattle.st_ahead.specs.Overlap.{Overlap, oldest_row}
+use Rattle.st_ahead.specs.Overlap.{Overlap, oldest_row, machine_between_ticks}
 use Rattle.st_ahead.specs.Calls.{machine_after_completion, row_done}
 use Rattle.st_ahead.specs.declared.events.Row.{Row}
 use Rattle.st_run.specs.Moments.{Moment, Standing, next_row, next_moment}
@@ -48,6 +48,9 @@ behind-completes ds n left p (x ∷ xs) late = behind-done ds n left p x xs late
 pub tick-before : (t : Together) (now : ℕ) → IsBeforeEntry t → now ≤ (oldest_row t.machine).c → IsBeforeEntry (at_tick now t)
 tick-before t now h early =
     let soon : now ≤ (oldest_row (at_tick now t).machine).c = omega (arith, early, ap {A = FrontRow} (λ r. r.c) (row-same t.machine now)) in
+    let o = t.machine in
+    let between : record o { now = now } ≡ machine_between_ticks o.delays o.levels o.state (interrupt o.state) o.front now =
+    ap {A = Overlap} (λ m. record m { now = now }) h.ready.between in
     assumption
 
 module _ (left tick : ℕ) (snaps : List ℕ) (t new : Together) (before : IsBeforeEntry t) (rising : AreRising (t.machine.now - 1) snaps)
