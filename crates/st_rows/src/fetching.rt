@@ -11,6 +11,18 @@ use crate::log::Log;
 use crate::past::LastEntries;
 use st_banks::Delays;
 
+/// From when on words are wanted, and what decides when they are there: the delays of storage, and
+/// the last entries, which may write them.
+#[derive(Clone, Copy)]
+pub struct Wanted<'a> {
+    /// The tick from which on they are wanted.
+    pub tick: u64,
+    /// The delays of reads.
+    pub delays: &'a Delays,
+    /// The last entries before.
+    pub past: &'a LastEntries,
+}
+
 /// How far the words of an entry are read: its instruction words, and behind them the others.
 #[derive(Clone, Copy, Debug, Default, PartialEq, Eq)]
 pub struct Fetching {
@@ -43,24 +55,26 @@ impl Fetching {
         self.awaited = 0;
     }
 
-    /// Fetches the next instruction word, which is wanted from `from` on; the read that is made for
-    /// it, where it was not held, is noted in the log.
+    /// Fetches the next instruction word; the read that is made for it, where it was not held, is
+    /// noted in the log.
     #[tactic(auto, unfolding(crate::specs::Rows::fetch_word))]
     #[inline(always)]
-    pub fn word(&mut self, log: &mut Log, delays: &Delays, past: &LastEntries, w: u32, from: u64)
+    pub fn word(&mut self, log: &mut Log, wanted: &Wanted<'_>, w: u32)
         requires room { IsFetchingWithin (2 ^ 64 - 512) self.old }
-        requires before { ArePastWithin (2 ^ 64 - 512) past.now }
-        requires early { from ≤ 2 ^ 64 - 512 }
+        requires before { ArePastWithin (2 ^ 64 - 512) wanted.now.past.now }
+        requires early { wanted.now.tick ≤ 2 ^ 64 - 512 }
         requires storage { 32 ≤ w }
 
-        ensures after { self.new ≡ fetch_word delays.now.list past.now self.old w from }
-        ensures log { log.new ≡ log_after_reads delays.now.list
+        ensures after { let x = wanted.now in
+            self.new ≡ fetch_word x.delays.now.list x.past.now self.old w x.tick }
+        ensures log { let x = wanted.now in log.new ≡ log_after_reads x.delays.now.list
             (word_asked (tick_of self.old.bus.held.words w) w
-            (max (max from self.old.answered) self.old.awaited)) self.old.bus log.old }
+            (max (max x.tick self.old.answered) self.old.awaited)) self.old.bus log.old }
     {
-        let want = from.max(self.answered).max(self.awaited);
-        let tick = self.bus.request(log, delays, w, want);
+        let want = wanted.tick.max(self.answered).max(self.awaited);
+        let tick = self.bus.request(log, wanted.delays, w, want);
         self.answered = self.answered.max(tick);
+        let past = wanted.past;
         self.awaited = self.awaited.max(past.latest_done(w));
     }
 }

@@ -9,9 +9,10 @@ ghost use Rattle.st_rows.specs.Ranges.{IsEntryInTime, IsTight, IsBusWithin, IsFe
 
 use crate::bus::Bus;
 use crate::entry::{Entry, WordRun};
-use crate::fetching::Fetching;
+use crate::fetching::{Fetching, Wanted};
 use crate::log::Log;
 use crate::past::{LastEntries, Past};
+use crate::timing::Timing;
 use st_banks::{Delays, LastAnswers};
 use st_bits::WORDS;
 
@@ -43,13 +44,21 @@ pub struct Front {
     pub past: LastEntries,
 }
 
-/// An entry whose address is formed.
+/// The ticks of an entry whose address is formed.
 #[derive(Clone, Copy, Debug, Default, PartialEq, Eq)]
 pub struct Formed {
     /// When its address is formed.
     pub a: u64,
     /// When it is prepared.
     pub p: u64,
+}
+
+/// An entry whose address is formed.
+#[derive(Clone, Copy)]
+pub struct FormedEntry<'a> {
+    pub entry: &'a Entry,
+    /// Its ticks so far.
+    pub formed: Formed,
 }
 
 /// An entry whose operands are there.
@@ -110,12 +119,11 @@ impl Front {
     }
 
     /// The address of the next entry is formed, whose instruction words are fetched, and its
-    /// index-side word is asked for behind them; `levels` are those of the machine, 1 to 8.
+    /// index-side word is asked for behind them.
     #[inline(always)]
     pub fn form(
         &self,
-        delays: &Delays,
-        levels: usize,
+        timing: &Timing<'_>,
         entry: &Entry,
         words: &mut Fetching,
         log: &mut Log,
@@ -123,19 +131,24 @@ impl Front {
         requires entry { IsEntryInTime entry.now }
         requires tight { IsTight MOST_DELAY self.now }
         requires early { self.now.c ≤ 2 ^ 63 + 2 ^ 20 }
-        requires levels { (1 ≤ levels) × (levels ≤ 8) }
-        requires words { words.old ≡ words_tick delays.now.list self.now entry.now }
+        requires words { words.old ≡ words_tick timing.now.delays.now.list self.now entry.now }
 
-        ensures address { result.a ≡ tick_a delays.now.list self.now entry.now }
-        ensures bus { words.new.bus ≡ bus_a delays.now.list self.now entry.now }
+        ensures address { result.a ≡ tick_a timing.now.delays.now.list self.now entry.now }
+        ensures bus { words.new.bus ≡ bus_a timing.now.delays.now.list self.now entry.now }
         ensures awaited { words.new.awaited ≡ words.old.awaited }
-        ensures tick { result.p ≡ tick_p delays.now.list levels self.now entry.now }
-        ensures log { log.new ≡ log_after_reads delays.now.list
+        ensures tick { let t = timing.now in
+            result.p ≡ tick_p t.delays.now.list t.levels self.now entry.now }
+        ensures log { log.new ≡ log_after_reads timing.now.delays.now.list
             (side_asked self.now.past entry.now.side result.a) words.old.bus log.old }
     {
         let a = self.address(entry, words);
-        let y = side(&mut words.bus, log, delays, &self.past, entry.side, a);
-        let p = prepared_at(levels, &self.past, a, y);
+        let wanted = Wanted {
+            tick: a,
+            delays: timing.delays,
+            past: &self.past,
+        };
+        let y = side(&mut words.bus, log, &wanted, entry.side);
+        let p = prepared_at(timing.levels, &self.past, a, y);
         Formed { a, p }
     }
 
@@ -144,33 +157,43 @@ impl Front {
     #[inline(always)]
     pub fn fill(
         &self,
-        delays: &Delays,
-        levels: usize,
-        entry: &Entry,
-        formed: Formed,
+        timing: &Timing<'_>,
+        next: &FormedEntry<'_>,
         words: &mut Fetching,
         log: &mut Log,
     ) -> Filled
-        requires entry { IsEntryInTime entry.now }
+        requires entry { IsEntryInTime next.now.entry.now }
         requires tight { IsTight MOST_DELAY self.now }
         requires early { self.now.c ≤ 2 ^ 63 + 2 ^ 20 }
-        requires levels { (1 ≤ levels) × (levels ≤ 8) }
-        requires address { formed.a ≡ tick_a delays.now.list self.now entry.now }
-        requires bus { words.old.bus ≡ bus_a delays.now.list self.now entry.now }
-        requires tick { formed.p ≡ tick_p delays.now.list levels self.now entry.now }
+        requires address { let t = timing.now in let e = next.now.entry.now in
+            next.now.formed.a ≡ tick_a t.delays.now.list self.now e }
+        requires bus { let t = timing.now in let e = next.now.entry.now in
+            words.old.bus ≡ bus_a t.delays.now.list self.now e }
+        requires tick { let t = timing.now in let e = next.now.entry.now in
+            next.now.formed.p ≡ tick_p t.delays.now.list t.levels self.now e }
 
-        ensures value { result.row ≡ row_of delays.now.list levels self.now entry.now }
-        ensures fills { result.fills ≡ fills_of_entry delays.now.list levels self.now entry.now }
-        ensures bus { words.new.bus ≡ (front_after_entry delays.now.list levels self.now entry.now).bus }
-        ensures log { log.new ≡ log_after_reads delays.now.list
-            (prepared_asked delays.now.list levels self.now entry.now) words.old.bus log.old }
+        ensures value { let t = timing.now in let e = next.now.entry.now in
+            result.row ≡ row_of t.delays.now.list t.levels self.now e }
+        ensures fills { let t = timing.now in let e = next.now.entry.now in
+            result.fills ≡ fills_of_entry t.delays.now.list t.levels self.now e }
+        ensures bus { let t = timing.now in let e = next.now.entry.now in
+            words.new.bus ≡ (front_after_entry t.delays.now.list t.levels self.now e).bus }
+        ensures log { let t = timing.now in let e = next.now.entry.now in
+            log.new ≡ log_after_reads t.delays.now.list
+            (prepared_asked t.delays.now.list t.levels self.now e) words.old.bus log.old }
     {
-        let Formed { a, p } = formed;
+        let entry = next.entry;
+        let Formed { a, p } = next.formed;
+        let wanted = Wanted {
+            tick: p,
+            delays: timing.delays,
+            past: &self.past,
+        };
         words.answered = p;
-        let fills = read_operands(words, log, delays, &self.past, entry, p);
+        let fills = read_operands(words, log, &wanted, entry);
         let r = words.answered;
         let c = self.c.max(r) + u64::from(entry.cost);
-        follow(&mut words.bus, log, delays, entry, p);
+        follow(&mut words.bus, log, timing.delays, entry, p);
         Filled {
             row: EntryTicks { a, p, r, c },
             fills,
@@ -194,35 +217,31 @@ impl Front {
     }
 }
 
-// Reads the index-side word, if there is one, of an entry whose address is formed at `a`, unless an
-// earlier entry writes it that is done later. The result is the tick at which it is there, 0 where
-// there is none.
+// Reads the index-side word, if there is one, of an entry, which is wanted when its address is
+// formed, unless an earlier entry writes it that is done later. The result is the tick at which it
+// is there, 0 where there is none.
 #[tactic(auto, unfolding(crate::specs::Rows::bus_sided, crate::specs::Rows::side_there, crate::specs::Asked::side_asked, crate::specs::Notes::log_after_reads))]
-fn side(
-    bus: &mut Bus,
-    log: &mut Log,
-    delays: &Delays,
-    past: &LastEntries,
-    word: Option<u32>,
-    a: u64,
-) -> u64
+fn side(bus: &mut Bus, log: &mut Log, wanted: &Wanted<'_>, word: Option<u32>) -> u64
     requires room { IsBusWithin (2 ^ 64 - 512) bus.old }
-    requires early { a ≤ 2 ^ 64 - 512 }
+    requires early { wanted.now.tick ≤ 2 ^ 64 - 512 }
     requires storage { IfSome word (λ w. 32 ≤ w) }
 
-    ensures value { result ≡ side_there delays.now.list past.now bus.old word a }
-    ensures after { bus.new ≡ bus_sided delays.now.list past.now bus.old word a }
-    ensures log { log.new
-        ≡ log_after_reads delays.now.list (side_asked past.now word a) bus.old log.old }
+    ensures value { let x = wanted.now in
+        result ≡ side_there x.delays.now.list x.past.now bus.old word x.tick }
+    ensures after { let x = wanted.now in
+        bus.new ≡ bus_sided x.delays.now.list x.past.now bus.old word x.tick }
+    ensures log { let x = wanted.now in log.new
+        ≡ log_after_reads x.delays.now.list (side_asked x.past.now word x.tick) bus.old log.old }
 {
     let Some(w) = word else {
         return 0;
     };
+    let past = wanted.past;
     let done = past.latest_done(w);
-    if done > a {
+    if done > wanted.tick {
         return done;
     }
-    bus.read(log, delays, w, a)
+    bus.read(log, wanted.delays, w, wanted.tick)
 }
 
 // The tick at which an entry is prepared.
@@ -239,33 +258,31 @@ fn prepared_at(levels: usize, past: &LastEntries, a: u64, y: u64) -> u64
     a.max(y).max(past.done_before(levels)) + 1
 }
 
-// The operand words are read of an entry that is prepared at `p`. The result says when the first
-// two of its first run are there, 0 where that has no such word.
+// The operand words of an entry are read, which are wanted when it is prepared. The result says
+// when the first two of its first run are there, 0 where that has no such word.
 #[tactic(auto, unfolding(crate::specs::Rows::operands_read))]
 #[inline(always)]
 fn read_operands(
     operands: &mut Fetching,
     log: &mut Log,
-    delays: &Delays,
-    past: &LastEntries,
+    wanted: &Wanted<'_>,
     entry: &Entry,
-    p: u64,
 ) -> [u64; 2]
     requires entry { IsEntryInTime entry.now }
-    requires before { ArePastWithin (2 ^ 64 - 2 ^ 17) past.now }
+    requires before { ArePastWithin (2 ^ 64 - 2 ^ 17) wanted.now.past.now }
     requires room { IsBusWithin (2 ^ 64 - 2 ^ 17) operands.old.bus }
-    requires early { p ≤ 2 ^ 64 - 2 ^ 17 }
-    requires start { operands.old.answered ≡ p }
+    requires early { wanted.now.tick ≤ 2 ^ 64 - 2 ^ 17 }
+    requires start { operands.old.answered ≡ wanted.now.tick }
 
-    ensures value { reading_of_fetch operands.new
-        ≡ operands_read delays.now.list past.now operands.old.bus entry.now.reads p }
-    ensures fills { result ≡ fills_of delays.now.list past.now operands.old.bus entry.now.reads.one p }
-    ensures log { log.new
-        ≡ log_after_reads delays.now.list
-        (runs_asked past.now entry.now.reads p) operands.old.bus log.old }
+    ensures value { let x = wanted.now in reading_of_fetch operands.new
+        ≡ operands_read x.delays.now.list x.past.now operands.old.bus entry.now.reads x.tick }
+    ensures fills { let x = wanted.now in result
+        ≡ fills_of x.delays.now.list x.past.now operands.old.bus entry.now.reads.one x.tick }
+    ensures log { let x = wanted.now in log.new ≡ log_after_reads x.delays.now.list
+        (runs_asked x.past.now entry.now.reads x.tick) operands.old.bus log.old }
 {
-    let fills = read_run(operands, log, delays, past, entry.reads.one, p);
-    operands.read_on(log, delays, past, entry.reads.two, p);
+    let fills = read_run(operands, log, wanted, entry.reads.one);
+    operands.read_on(log, wanted, entry.reads.two);
     fills
 }
 
@@ -273,41 +290,34 @@ fn read_operands(
 // there is no such word.
 #[tactic(auto, unfolding(crate::specs::Rows::fills_of))]
 #[inline(always)]
-fn read_run(
-    operands: &mut Fetching,
-    log: &mut Log,
-    delays: &Delays,
-    past: &LastEntries,
-    run: WordRun,
-    p: u64,
-) -> [u64; 2]
+fn read_run(operands: &mut Fetching, log: &mut Log, wanted: &Wanted<'_>, run: WordRun) -> [u64; 2]
     requires words { IsReadable run }
     requires few { run.len ≤ 16 }
-    requires before { ArePastWithin (2 ^ 64 - 2 ^ 17) past.now }
+    requires before { ArePastWithin (2 ^ 64 - 2 ^ 17) wanted.now.past.now }
     requires room { IsReadingWithin (2 ^ 64 - 2 ^ 17) (reading_of_fetch operands.old) }
-    requires early { p ≤ 2 ^ 64 - 2 ^ 17 }
-    requires start { operands.old.answered ≡ p }
+    requires early { wanted.now.tick ≤ 2 ^ 64 - 2 ^ 17 }
+    requires start { operands.old.answered ≡ wanted.now.tick }
 
-    ensures value { reading_of_fetch operands.new ≡
-        read_words delays.now.list past.now (reading_of_fetch operands.old) p run.first run.len }
-    ensures fills { result ≡ fills_of delays.now.list past.now operands.old.bus run p }
-    ensures log { log.new
-        ≡ log_after_reads delays.now.list
-        (operands_asked past.now p run.first run.len) operands.old.bus log.old }
+    ensures value { let x = wanted.now in reading_of_fetch operands.new ≡ read_words
+        x.delays.now.list x.past.now (reading_of_fetch operands.old) x.tick run.first run.len }
+    ensures fills { let x = wanted.now in
+        result ≡ fills_of x.delays.now.list x.past.now operands.old.bus run x.tick }
+    ensures log { let x = wanted.now in log.new ≡ log_after_reads x.delays.now.list
+        (operands_asked x.past.now x.tick run.first run.len) operands.old.bus log.old }
 {
     if run.len == 0 {
         return [0, 0];
     }
-    let first = operands.read(log, delays, past, run.first, p);
+    let first = operands.read(log, wanted, run.first);
     if run.len == 1 {
         return [first, 0];
     }
-    let second = operands.read(log, delays, past, run.first + 1, p);
+    let second = operands.read(log, wanted, run.first + 1);
     let behind = WordRun {
         first: run.first + 2,
         len: run.len - 2,
     };
-    operands.read_on(log, delays, past, behind, p);
+    operands.read_on(log, wanted, behind);
     [first, second]
 }
 

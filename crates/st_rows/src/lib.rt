@@ -9,10 +9,12 @@ mod front;
 mod log;
 mod past;
 mod reading;
+mod timing;
 
 pub use bus::Bus;
 pub use entry::{Entry, WordRun, WordRuns};
-pub use fetching::Fetching;
-pub use front::{EntryTicks, Filled, Formed, Front};
+pub use fetching::{Fetching, Wanted};
+pub use front::{EntryTicks, Filled, Formed, FormedEntry, Front};
 pub use log::{Log, Made};
 pub use past::{LastEntries, Past};
+pub use timing::Timing;

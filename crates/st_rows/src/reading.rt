@@ -6,39 +6,33 @@ ghost use Rattle.st_rows.specs.Rows.{reading_of_fetch, read_word, read_words, fi
 ghost use Rattle.st_rows.specs.Ranges.{IsReadingWithin, ArePastWithin, IsReadable};
 
 use crate::entry::WordRun;
-use crate::fetching::Fetching;
+use crate::fetching::{Fetching, Wanted};
 use crate::log::Log;
-use crate::past::LastEntries;
-use st_banks::Delays;
 
 impl Fetching {
-    // Reads the next operand word of an entry that is prepared at `p`, unless an earlier entry
-    // writes it that is done later. The result is the tick at which the word is there.
+    // Reads the next operand word of an entry, which is wanted when that is prepared, unless an
+    // earlier entry writes it that is done later. The result is the tick at which the word is
+    // there.
     #[tactic(auto, unfolding(crate::specs::Rows::read_word, crate::specs::Rows::fill_at, crate::specs::Notes::log_after_reads))]
-    pub(crate) fn read(
-        &mut self,
-        log: &mut Log,
-        delays: &Delays,
-        past: &LastEntries,
-        w: u32,
-        p: u64,
-    ) -> u64
+    pub(crate) fn read(&mut self, log: &mut Log, wanted: &Wanted<'_>, w: u32) -> u64
         requires room { IsReadingWithin (2 ^ 64 - 512) (reading_of_fetch self.old) }
-        requires before { ArePastWithin (2 ^ 64 - 512) past.now }
-        requires early { p ≤ 2 ^ 64 - 512 }
+        requires before { ArePastWithin (2 ^ 64 - 512) wanted.now.past.now }
+        requires early { wanted.now.tick ≤ 2 ^ 64 - 512 }
         requires storage { 32 ≤ w }
 
-        ensures value { result ≡ fill_at delays.now.list past.now self.old.bus w p }
-        ensures after { reading_of_fetch self.new ≡ read_word delays.now.list past.now
-            (reading_of_fetch self.old) w p }
-        ensures log { log.new ≡ log_after_reads delays.now.list
-            (data_asked past.now w p) self.old.bus log.old }
+        ensures value { let x = wanted.now in
+            result ≡ fill_at x.delays.now.list x.past.now self.old.bus w x.tick }
+        ensures after { let x = wanted.now in reading_of_fetch self.new
+            ≡ read_word x.delays.now.list x.past.now (reading_of_fetch self.old) w x.tick }
+        ensures log { let x = wanted.now in log.new ≡ log_after_reads x.delays.now.list
+            (data_asked x.past.now w x.tick) self.old.bus log.old }
     {
+        let past = wanted.past;
         let done = past.latest_done(w);
-        if done > p {
+        if done > wanted.tick {
             return done;
         }
-        let answer = self.bus.read(log, delays, w, p);
+        let answer = self.bus.read(log, wanted.delays, w, wanted.tick);
         self.answered = self.answered.max(answer);
         answer
     }
@@ -46,29 +40,22 @@ impl Fetching {
     // Reads the next operand words.
     #[tactic(auto, unfolding(crate::specs::Rows::read_words))]
     #[inline(always)]
-    pub(crate) fn read_on(
-        &mut self,
-        log: &mut Log,
-        delays: &Delays,
-        past: &LastEntries,
-        run: WordRun,
-        p: u64,
-    )
+    pub(crate) fn read_on(&mut self, log: &mut Log, wanted: &Wanted<'_>, run: WordRun)
         requires room { IsReadingWithin (2 ^ 64 - 2 ^ 16) (reading_of_fetch self.old) }
-        requires before { ArePastWithin (2 ^ 64 - 2 ^ 16) past.now }
-        requires early { p ≤ 2 ^ 64 - 2 ^ 16 }
+        requires before { ArePastWithin (2 ^ 64 - 2 ^ 16) wanted.now.past.now }
+        requires early { wanted.now.tick ≤ 2 ^ 64 - 2 ^ 16 }
         requires words { IsReadable run }
         requires few { run.len ≤ 16 }
 
-        ensures value { reading_of_fetch self.new
-            ≡ read_words delays.now.list past.now (reading_of_fetch self.old) p run.first run.len }
-        ensures log { log.new ≡ log_after_reads delays.now.list
-            (operands_asked past.now p run.first run.len) self.old.bus log.old }
+        ensures value { let x = wanted.now in reading_of_fetch self.new ≡ read_words
+            x.delays.now.list x.past.now (reading_of_fetch self.old) x.tick run.first run.len }
+        ensures log { let x = wanted.now in log.new ≡ log_after_reads x.delays.now.list
+            (operands_asked x.past.now x.tick run.first run.len) self.old.bus log.old }
     {
         let mut w = run.first;
         let mut left = run.len;
         'words: while left > 0 {
-            self.read(log, delays, past, w, p);
+            self.read(log, wanted, w);
             w += 1;
             left -= 1;
         }

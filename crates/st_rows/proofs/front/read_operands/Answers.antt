@@ -14,10 +14,10 @@ read_on-requires-clause-room c =
     let start : IsReadingWithin m (reading_of_fetch c.args.operands.now) = record { bus = c.requires.room; answered = omega (arith, c.requires.start, c.requires.early) } in
     subst (λ (s : Reading). IsReadingWithin (2 ^ 64 - 2 ^ 16) s) (sym c.read_run-fills.ensures.value)
     (reading-weaker (m + 16 * 256) (2 ^ 64 - 2 ^ 16) _ (omega arith)
-    (read_sixteen-within 255 c.args.delays.now.list (delays-are c.args.delays.now) c.args.past.now c.args.p
+    (read_sixteen-within 255 c.args.wanted.now.delays.now.list (delays-are c.args.wanted.now.delays.now) c.args.wanted.now.past.now c.args.wanted.now.tick
     c.args.entry.now.reads.one.first c.args.entry.now.reads.one.len m _ c.requires.entry.one_few start c.requires.early))
 
 pub returns-clause-log : goal.returns-clause-log
 returns-clause-log c =
-    runs-noted c.args.delays.now.list c.args.past.now c.args.p c.args.entry.now.reads (reading_of_fetch c.args.operands.now) (reading_of_fetch c.read_run-fills.new.operands) c.args.log.now
+    runs-noted c.args.wanted.now.delays.now.list c.args.wanted.now.past.now c.args.wanted.now.tick c.args.entry.now.reads (reading_of_fetch c.args.operands.now) (reading_of_fetch c.read_run-fills.new.operands) c.args.log.now
     c.read_run-fills.new.log c.read_on.new.log c.read_run-fills.ensures.value c.read_run-fills.ensures.log c.read_on.ensures.log

@@ -18,7 +18,7 @@ pub returns-then-run-eq1-clause-value : goal.returns-then-run-eq1-clause-value
 unfolding read_words
 returns-then-run-eq1-clause-value c =
     let one : c.args.run.len ≡ 1 = omega arith in
-    read-turn c.args.delays.now.list c.args.past.now c.args.run.first c.args.p (reading_of_fetch c.args.operands.now) (reading_of_fetch c.read-first.new.self) 1 c.read-first.ensures.after (omega arith)
+    read-turn c.args.wanted.now.delays.now.list c.args.wanted.now.past.now c.args.run.first c.args.wanted.now.tick (reading_of_fetch c.args.operands.now) (reading_of_fetch c.read-first.new.self) 1 c.read-first.ensures.after (omega arith)
     ∙ rw one refl
 
 pub read-first-requires-clause-storage : goal.read-first-requires-clause-storage
@@ -36,7 +36,7 @@ read-second-requires-clause-room c =
     let m = 2 ^ 64 - 2 ^ 17 in
     subst (λ (s : Reading). IsReadingWithin (2 ^ 64 - 512) s) (sym c.read-first.ensures.after)
     (reading-weaker (m + 256) (2 ^ 64 - 512) _ (omega arith)
-    (read_word-within 255 c.args.delays.now.list (delays-are c.args.delays.now) c.args.past.now _ c.args.run.first c.args.p m c.requires.room c.requires.early))
+    (read_word-within 255 c.args.wanted.now.delays.now.list (delays-are c.args.wanted.now.delays.now) c.args.wanted.now.past.now _ c.args.run.first c.args.wanted.now.tick m c.requires.room c.requires.early))
 
 pub overflow_add-behind : goal.overflow_add-behind
 overflow_add-behind c = omega (arith, words_of_storage_is, c.requires.words.inside (omega arith))
@@ -45,18 +45,18 @@ overflow_add-behind c = omega (arith, words_of_storage_is, c.requires.words.insi
 pub read_on-requires-clause-room : goal.read_on-requires-clause-room
 read_on-requires-clause-room c =
     let m = 2 ^ 64 - 2 ^ 17 in
-    let are = delays-are c.args.delays.now in
+    let are = delays-are c.args.wanted.now.delays.now in
     subst (λ (s : Reading). IsReadingWithin (2 ^ 64 - 2 ^ 16) s)
     (sym (c.read-second.ensures.after
-    ∙ ap (λ (s : Reading). read_word c.args.delays.now.list c.args.past.now s (c.args.run.first + 1) c.args.p) c.read-first.ensures.after))
+    ∙ ap (λ (s : Reading). read_word c.args.wanted.now.delays.now.list c.args.wanted.now.past.now s (c.args.run.first + 1) c.args.wanted.now.tick) c.read-first.ensures.after))
     (reading-weaker (m + 256 + 256) (2 ^ 64 - 2 ^ 16) _ (omega arith)
-    (read_word-within 255 c.args.delays.now.list are c.args.past.now _ (c.args.run.first + 1) c.args.p (m + 256)
-    (read_word-within 255 c.args.delays.now.list are c.args.past.now _ c.args.run.first c.args.p m c.requires.room c.requires.early) (omega arith)))
+    (read_word-within 255 c.args.wanted.now.delays.now.list are c.args.wanted.now.past.now _ (c.args.run.first + 1) c.args.wanted.now.tick (m + 256)
+    (read_word-within 255 c.args.wanted.now.delays.now.list are c.args.wanted.now.past.now _ c.args.run.first c.args.wanted.now.tick m c.requires.room c.requires.early) (omega arith)))
 
 pub returns-clause-value : goal.returns-clause-value
 returns-clause-value c =
     c.read_on.ensures.value
-    ∙ read-two c.args.delays.now.list c.args.past.now c.args.run.first c.args.p (reading_of_fetch c.args.operands.now) (reading_of_fetch c.read-first.new.self)
+    ∙ read-two c.args.wanted.now.delays.now.list c.args.wanted.now.past.now c.args.run.first c.args.wanted.now.tick (reading_of_fetch c.args.operands.now) (reading_of_fetch c.read-first.new.self)
     (reading_of_fetch c.read-second.new.self) c.args.run.len c.read-first.ensures.after c.read-second.ensures.after (omega arith)
 
 pub returns-then-run-eq0-clause-log : goal.returns-then-run-eq0-clause-log
@@ -65,12 +65,12 @@ returns-then-run-eq0-clause-log c = let none : c.args.run.len ≡ 0 = omega arit
 
 pub returns-then-run-eq1-clause-log : goal.returns-then-run-eq1-clause-log
 returns-then-run-eq1-clause-log c =
-    operand-one c.args.delays.now.list c.args.past.now c.args.p c.args.run.first (reading_of_fetch c.args.operands.now) (reading_of_fetch c.read-first.new.self) c.args.run.len c.args.log.now
+    operand-one c.args.wanted.now.delays.now.list c.args.wanted.now.past.now c.args.wanted.now.tick c.args.run.first (reading_of_fetch c.args.operands.now) (reading_of_fetch c.read-first.new.self) c.args.run.len c.args.log.now
     c.read-first.new.log c.read-first.ensures.after c.read-first.ensures.log (omega arith)
 
 pub returns-clause-log : goal.returns-clause-log
 returns-clause-log c =
     c.read_on.ensures.log
-    ∙ operands-two c.args.delays.now.list c.args.past.now c.args.p c.args.run.first (reading_of_fetch c.args.operands.now) (reading_of_fetch c.read-first.new.self)
+    ∙ operands-two c.args.wanted.now.delays.now.list c.args.wanted.now.past.now c.args.wanted.now.tick c.args.run.first (reading_of_fetch c.args.operands.now) (reading_of_fetch c.read-first.new.self)
     (reading_of_fetch c.read-second.new.self) c.args.run.len c.args.log.now c.read-first.new.log c.read-second.new.log c.read-first.ensures.after c.read-second.ensures.after
     c.read-first.ensures.log c.read-second.ensures.log (omega arith)

@@ -19,18 +19,18 @@ read-requires-clause-storage c = c.words.invariant.above (omega arith)
 pub words-preserved : goal.words-preserved
 words-preserved c =
     let m = 2 ^ 64 - 512 - 256 * c.words.left in
-    let are = delays-are c.args.delays.now in
-    let before = past-weaker (2 ^ 64 - 2 ^ 16) m c.args.past.now (omega (arith, c.words.invariant.few)) c.requires.before in
+    let are = delays-are c.args.wanted.now.delays.now in
+    let before = past-weaker (2 ^ 64 - 2 ^ 16) m c.args.wanted.now.past.now (omega (arith, c.words.invariant.few)) c.requires.before in
     record {
-      value = read-turn c.args.delays.now.list c.args.past.now c.words.w c.args.p (reading_of_fetch c.words.self) (reading_of_fetch c.read.new.self) c.words.left
+      value = read-turn c.args.wanted.now.delays.now.list c.args.wanted.now.past.now c.words.w c.args.wanted.now.tick (reading_of_fetch c.words.self) (reading_of_fetch c.read.new.self) c.words.left
           c.read.ensures.after (omega arith)
           ∙ c.words.invariant.value;
-      log = operand-turn c.args.delays.now.list c.args.past.now c.args.p c.words.w (reading_of_fetch c.words.self) (reading_of_fetch c.read.new.self) c.words.left c.words.log c.read.new.log
+      log = operand-turn c.args.wanted.now.delays.now.list c.args.wanted.now.past.now c.args.wanted.now.tick c.words.w (reading_of_fetch c.words.self) (reading_of_fetch c.read.new.self) c.words.left c.words.log c.read.new.log
           c.read.ensures.after c.read.ensures.log (omega arith)
           ∙ c.words.invariant.log;
       room = reading-weaker (m + 256) _ (reading_of_fetch c.read.new.self) (omega arith)
           (subst (λ (s : Reading). IsReadingWithin (m + 256) s) (sym c.read.ensures.after)
-          (read_word-within 255 c.args.delays.now.list are c.args.past.now (reading_of_fetch c.words.self) c.words.w c.args.p m c.words.invariant.room (omega arith)));
+          (read_word-within 255 c.args.wanted.now.delays.now.list are c.args.wanted.now.past.now (reading_of_fetch c.words.self) c.words.w c.args.wanted.now.tick m c.words.invariant.room (omega arith)));
       few = omega (arith, c.words.invariant.few);
       above = λ some. omega (arith, c.words.invariant.above (omega arith));
       inside = λ some. omega (arith, c.words.invariant.inside (omega arith));

@@ -9,10 +9,10 @@ use Rattle.st_rows.proofs.fetching.Fetching.read_on.Given as goal
 -- the words that are left make of it and of the log what all words make of what they were; there is time left for each
 abbrev pub invariant-words : goal.invariant-words
 invariant-words l = record {
-  value : read_words l.delays.list l.past (reading_of_fetch l.self) l.p l.w l.left
-      ≡ read_words l.delays.list l.past (reading_of_fetch l.initial.self) l.p l.fn.run.first l.fn.run.len;
-  log : log_after_reads l.delays.list (operands_asked l.past l.p l.w l.left) l.self.bus l.log
-      ≡ log_after_reads l.delays.list (operands_asked l.past l.p l.fn.run.first l.fn.run.len) l.initial.self.bus l.initial.log;
+  value : read_words l.wanted.delays.now.list l.wanted.past.now (reading_of_fetch l.self) l.wanted.tick l.w l.left
+      ≡ read_words l.wanted.delays.now.list l.wanted.past.now (reading_of_fetch l.initial.self) l.wanted.tick l.fn.run.first l.fn.run.len;
+  log : log_after_reads l.wanted.delays.now.list (operands_asked l.wanted.past.now l.wanted.tick l.w l.left) l.self.bus l.log
+      ≡ log_after_reads l.wanted.delays.now.list (operands_asked l.wanted.past.now l.wanted.tick l.fn.run.first l.fn.run.len) l.initial.self.bus l.initial.log;
   room : IsReadingWithin (2 ^ 64 - 512 - 256 * l.left) (reading_of_fetch l.self);
   few : l.left ≤ 16;
   above : 1 ≤ l.left → 32 ≤ l.w;

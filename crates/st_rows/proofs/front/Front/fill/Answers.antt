@@ -34,61 +34,61 @@ all-noted ds n f e b d p log one two bus then_bus tick one_is two_is =
 pub read_operands-fills-requires-clause-room : goal.read_operands-fills-requires-clause-room
 read_operands-fills-requires-clause-room c =
     let f = c.args.self.now in
-    let are = delays-are c.args.delays.now in
+    let are = delays-are c.args.timing.now.delays.now in
     rw c.requires.bus
     (bus-weaker (f.c + 8 * 255 + 8) (2 ^ 64 - 2 ^ 17) _ (omega arith)
-    (bus_a-within 255 c.args.delays.now.list are f c.args.entry.now c.requires.entry c.requires.tight))
+    (bus_a-within 255 c.args.timing.now.delays.now.list are f c.args.next.now.entry.now c.requires.entry c.requires.tight))
 
 pub read_operands-fills-requires-clause-early : goal.read_operands-fills-requires-clause-early
 read_operands-fills-requires-clause-early c =
-    let are = delays-are c.args.delays.now in
+    let are = delays-are c.args.timing.now.delays.now in
     rw c.requires.tick
-    (omega (arith, p-within 255 c.args.delays.now.list are c.args.self.now c.args.entry.now c.requires.entry c.requires.tight c.args.levels))
+    (omega (arith, p-within 255 c.args.timing.now.delays.now.list are c.args.self.now c.args.next.now.entry.now c.requires.entry c.requires.tight c.args.timing.now.levels))
 
 pub overflow_add-c : goal.overflow_add-c
 overflow_add-c c =
-    let reads = all-read c.args.delays.now.list c.args.levels c.args.self.now c.args.entry.now (reading_of_fetch c.read_operands-fills.new.operands)
-    c.args.words.now.bus c.args.formed.p c.read_operands-fills.ensures.value c.requires.bus c.requires.tick in
-    let are = delays-are c.args.delays.now in
+    let reads = all-read c.args.timing.now.delays.now.list c.args.timing.now.levels c.args.self.now c.args.next.now.entry.now (reading_of_fetch c.read_operands-fills.new.operands)
+    c.args.words.now.bus c.args.next.now.formed.p c.read_operands-fills.ensures.value c.requires.bus c.requires.tick in
+    let are = delays-are c.args.timing.now.delays.now in
     let read : IsReadingWithin (c.args.self.now.c + 40 * 255 + 41) (reading_of_fetch c.read_operands-fills.new.operands) =
     subst (λ (s : Reading). IsReadingWithin (c.args.self.now.c + 40 * 255 + 41) s) (sym reads)
-    (operands_of-within 255 c.args.delays.now.list are c.args.self.now c.args.entry.now c.requires.entry c.requires.tight c.args.levels) in
+    (operands_of-within 255 c.args.timing.now.delays.now.list are c.args.self.now c.args.next.now.entry.now c.requires.entry c.requires.tight c.args.timing.now.levels) in
     omega (arith, read.answered)
 
 pub follow-requires-clause-room : goal.follow-requires-clause-room
 follow-requires-clause-room c =
-    let reads = all-read c.args.delays.now.list c.args.levels c.args.self.now c.args.entry.now (reading_of_fetch c.read_operands-fills.new.operands)
-    c.args.words.now.bus c.args.formed.p c.read_operands-fills.ensures.value c.requires.bus c.requires.tick in
+    let reads = all-read c.args.timing.now.delays.now.list c.args.timing.now.levels c.args.self.now c.args.next.now.entry.now (reading_of_fetch c.read_operands-fills.new.operands)
+    c.args.words.now.bus c.args.next.now.formed.p c.read_operands-fills.ensures.value c.requires.bus c.requires.tick in
     let f = c.args.self.now in
-    let are = delays-are c.args.delays.now in
+    let are = delays-are c.args.timing.now.delays.now in
     rw (ap (λ (s : Reading). s.bus) reads)
     (bus-weaker (f.c + 40 * 255 + 41) (2 ^ 64 - 1024) _ (omega arith)
-    (operands_of-within 255 c.args.delays.now.list are f c.args.entry.now c.requires.entry c.requires.tight c.args.levels).bus)
+    (operands_of-within 255 c.args.timing.now.delays.now.list are f c.args.next.now.entry.now c.requires.entry c.requires.tight c.args.timing.now.levels).bus)
 
 pub follow-requires-clause-early : goal.follow-requires-clause-early
 follow-requires-clause-early c =
-    let are = delays-are c.args.delays.now in
+    let are = delays-are c.args.timing.now.delays.now in
     rw c.requires.tick
-    (omega (arith, p-within 255 c.args.delays.now.list are c.args.self.now c.args.entry.now c.requires.entry c.requires.tight c.args.levels))
+    (omega (arith, p-within 255 c.args.timing.now.delays.now.list are c.args.self.now c.args.next.now.entry.now c.requires.entry c.requires.tight c.args.timing.now.levels))
 
 pub returns-clause-value : goal.returns-clause-value
 unfolding row_of_entry operands tick_c
 returns-clause-value c =
-    let reads = all-read c.args.delays.now.list c.args.levels c.args.self.now c.args.entry.now (reading_of_fetch c.read_operands-fills.new.operands)
-    c.args.words.now.bus c.args.formed.p c.read_operands-fills.ensures.value c.requires.bus c.requires.tick in
+    let reads = all-read c.args.timing.now.delays.now.list c.args.timing.now.levels c.args.self.now c.args.next.now.entry.now (reading_of_fetch c.read_operands-fills.new.operands)
+    c.args.words.now.bus c.args.next.now.formed.p c.read_operands-fills.ensures.value c.requires.bus c.requires.tick in
     rw (c.max.ensures, c.from.ensures, ap (λ (s : Reading). s.answered) reads, c.requires.tick, c.requires.address) refl
 
 pub returns-clause-bus : goal.returns-clause-bus
 unfolding front_after_entry
 returns-clause-bus c =
-    let reads = all-read c.args.delays.now.list c.args.levels c.args.self.now c.args.entry.now (reading_of_fetch c.read_operands-fills.new.operands)
-    c.args.words.now.bus c.args.formed.p c.read_operands-fills.ensures.value c.requires.bus c.requires.tick in
+    let reads = all-read c.args.timing.now.delays.now.list c.args.timing.now.levels c.args.self.now c.args.next.now.entry.now (reading_of_fetch c.read_operands-fills.new.operands)
+    c.args.words.now.bus c.args.next.now.formed.p c.read_operands-fills.ensures.value c.requires.bus c.requires.tick in
     rw (c.follow.ensures.after, ap (λ (s : Reading). s.bus) reads, c.requires.tick) refl
 
 pub returns-clause-log : goal.returns-clause-log
 returns-clause-log c =
-    let reads = all-read c.args.delays.now.list c.args.levels c.args.self.now c.args.entry.now (reading_of_fetch c.read_operands-fills.new.operands)
-    c.args.words.now.bus c.args.formed.p c.read_operands-fills.ensures.value c.requires.bus c.requires.tick in
-    all-noted c.args.delays.now.list c.args.levels c.args.self.now c.args.entry.now c.args.words.now.bus c.read_operands-fills.new.operands.bus c.args.formed.p
+    let reads = all-read c.args.timing.now.delays.now.list c.args.timing.now.levels c.args.self.now c.args.next.now.entry.now (reading_of_fetch c.read_operands-fills.new.operands)
+    c.args.words.now.bus c.args.next.now.formed.p c.read_operands-fills.ensures.value c.requires.bus c.requires.tick in
+    all-noted c.args.timing.now.delays.now.list c.args.timing.now.levels c.args.self.now c.args.next.now.entry.now c.args.words.now.bus c.read_operands-fills.new.operands.bus c.args.next.now.formed.p
     c.args.log.now c.read_operands-fills.new.log c.follow.new.log c.requires.bus (ap (λ (s : Reading). s.bus) reads) c.requires.tick c.read_operands-fills.ensures.log
     c.follow.ensures.log

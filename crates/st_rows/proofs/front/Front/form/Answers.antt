@@ -8,17 +8,17 @@ use Rattle.st_rows.proofs.front.Front.form.Goals as goal
 
 pub address-a-requires-clause-room : goal.address-a-requires-clause-room
 address-a-requires-clause-room c =
-    let are = delays-are c.args.delays.now in
+    let are = delays-are c.args.timing.now.delays.now in
     rw c.requires.words
     (fetching-weaker (c.args.self.now.c + 7 * 255 + 6) (c.args.self.now.c + 1791) _ (omega arith)
-    (fetched-within 255 c.args.delays.now.list are c.args.self.now c.args.entry.now c.requires.entry c.requires.tight))
+    (fetched-within 255 c.args.timing.now.delays.now.list are c.args.self.now c.args.entry.now c.requires.entry c.requires.tight))
 
 pub side-y-requires-clause-room : goal.side-y-requires-clause-room
 side-y-requires-clause-room c =
-    let are = delays-are c.args.delays.now in
+    let are = delays-are c.args.timing.now.delays.now in
     rw c.requires.words
     (bus-weaker (c.args.self.now.c + 7 * 255 + 6) (2 ^ 64 - 512) _ (omega arith)
-    (fetched-within 255 c.args.delays.now.list are c.args.self.now c.args.entry.now c.requires.entry c.requires.tight).bus)
+    (fetched-within 255 c.args.timing.now.delays.now.list are c.args.self.now c.args.entry.now c.requires.entry c.requires.tight).bus)
 
 pub side-y-requires-clause-storage : goal.side-y-requires-clause-storage
 side-y-requires-clause-storage c = side-above c.args.entry.now.side _ c.requires.entry.side
@@ -27,11 +27,11 @@ pub prepared_at-p-requires-clause-side : goal.prepared_at-p-requires-clause-side
 prepared_at-p-requires-clause-side c =
     let f = c.args.self.now in
     let m = f.c + 1792 in
-    let are = delays-are c.args.delays.now in
+    let are = delays-are c.args.timing.now.delays.now in
     let room : IsBusWithin m c.args.words.now.bus = rw c.requires.words
     (bus-weaker (f.c + 7 * 255 + 6) m _ (omega arith)
-    (fetched-within 255 c.args.delays.now.list are f c.args.entry.now c.requires.entry c.requires.tight).bus) in
-    let late = side-within 255 c.args.delays.now.list are f.past c.args.words.now.bus c.args.entry.now.side c.address-a.result m
+    (fetched-within 255 c.args.timing.now.delays.now.list are f c.args.entry.now c.requires.entry c.requires.tight).bus) in
+    let late = side-within 255 c.args.timing.now.delays.now.list are f.past c.args.words.now.bus c.args.entry.now.side c.address-a.result m
     (past-weaker f.c m f.past (omega arith) c.requires.tight.done) room c.address-a.ensures.bound in
     rw c.side-y.ensures.value (omega arith)
 
