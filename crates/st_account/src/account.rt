@@ -175,21 +175,21 @@ impl Account {
 
         ensures state { self.new.state ≡ self.old.state }
         ensures found { looks ≡ true → self.new.behind.found.items
-            ≡ map (seen_ahead timing.now.delays timing.now.levels) (prepared_before
-            self.old.last.tick (ahead timing.now.delays timing.now.levels timing.now.levels None (guessing self.old.last.ic self.old.state)
+            ≡ map (seen_ahead timing.now.delays.list timing.now.levels) (prepared_before
+            self.old.last.tick (ahead timing.now.delays.list timing.now.levels timing.now.levels None (guessing self.old.last.ic self.old.state)
             self.old.last.front)) }
         ensures late { looks ≡ true → self.new.behind.late ∷ []
-            ≡ map (seen_ahead timing.now.delays timing.now.levels) (first_late
-            self.old.last.tick (ahead timing.now.delays timing.now.levels
+            ≡ map (seen_ahead timing.now.delays.list timing.now.levels) (first_late
+            self.old.last.tick (ahead timing.now.delays.list timing.now.levels
             (suc timing.now.levels) None (guessing self.old.last.ic self.old.state)
             self.old.last.front)) }
         ensures banks { (reads : List Read) (bus : BusOf) → looks ≡ true → HasReads
-            timing.now.delays self.old.last.tick reads bus self.old.last.front.bus self.old.log →
-            self.new.behind.banks ≡ (made_before timing.now.delays self.old.last.tick
-            (reads ++ reads_before timing.now.delays timing.now.levels self.old.last.tick
-            (ahead timing.now.delays timing.now.levels (suc timing.now.levels) None
+            timing.now.delays.list self.old.last.tick reads bus self.old.last.front.bus self.old.log →
+            self.new.behind.banks ≡ (made_before timing.now.delays.list self.old.last.tick
+            (reads ++ reads_before timing.now.delays.list timing.now.levels self.old.last.tick
+            (ahead timing.now.delays.list timing.now.levels (suc timing.now.levels) None
             (guessing self.old.last.ic self.old.state) self.old.last.front)) bus).banks }
-        ensures soon { (reads : List Read) (bus : BusOf) → HasReads timing.now.delays
+        ensures soon { (reads : List Read) (bus : BusOf) → HasReads timing.now.delays.list
             self.old.last.tick reads bus self.old.last.front.bus self.old.log →
             All (λ t. t ≤ self.old.last.tick + MOST_DELAY) self.new.behind.banks.ticks }
         ensures few { length self.new.behind.found.items ≤ 8 }
@@ -233,11 +233,11 @@ impl Account {
         requires passes { AllPass is_signal signals.now }
 
         ensures came { (b : Machine) (m : Moment) →
-            IsAt timing.now.delays timing.now.levels b m self.old signals.now cards.old →
-            IsBehindMoment timing.now.delays timing.now.levels left b m self.new result.now
+            IsAt timing.now.delays.list timing.now.levels b m self.old signals.now cards.old →
+            IsBehindMoment timing.now.delays.list timing.now.levels left b m self.new result.now
             cards.new }
         ensures soon { (b : Machine) (m : Moment) →
-            IsAt timing.now.delays timing.now.levels b m self.old signals.now cards.old →
+            IsAt timing.now.delays.list timing.now.levels b m self.old signals.now cards.old →
             All (λ t. t ≤ self.old.last.tick + MOST_DELAY) self.new.behind.banks.ticks }
         ensures few { length self.new.behind.found.items ≤ 8 }
         ensures passes { AllPass is_signal result.now }
@@ -471,24 +471,24 @@ impl Account {
 
         ensures lines { (p : Standing) (end : Option ℕ) → self.old.k ≢ 0 →
             IsStanding p self.old.state self.old.last → kept_lines self.new.k self.new.last end
-            ≡ lines_of_entry (origin_at self.old.origins) timing.now.delays timing.now.levels end
+            ≡ lines_of_entry (origin_at self.old.origins) timing.now.delays.list timing.now.levels end
             self.old.last.uses.items p }
         ensures uses { (p : Standing) → IsStanding p self.old.state self.old.last →
-            self.new.last.uses.items ≡ uses_at timing.now.delays timing.now.levels p }
+            self.new.last.uses.items ≡ uses_at timing.now.delays.list timing.now.levels p }
         ensures waiting { IsWaiting self.new.last self.new.waiting.totals }
         ensures stalled { (p : Standing) (r : Stage) (s : Stall) → self.old.k ≢ 0 →
             IsStanding p self.old.state self.old.last →
             kept_stalled r s self.new.k self.new.last
-            ≡ row_stalled r s (uses_at timing.now.delays timing.now.levels p)
-            self.old.last.uses.items (charges_at timing.now.delays timing.now.levels p) }
+            ≡ row_stalled r s (uses_at timing.now.delays.list timing.now.levels p)
+            self.old.last.uses.items (charges_at timing.now.delays.list timing.now.levels p) }
         ensures totals { self.new.waiting.totals ≡ self.old.waiting.totals }
         ensures state { self.new.state ≡ step_of self.old.state }
         ensures last { (p : Standing) → IsStanding p self.old.state self.old.last →
-            IsLast timing.now.delays timing.now.levels
-            (next_moment timing.now.delays timing.now.levels p) self.new.last self.new.log }
+            IsLast timing.now.delays.list timing.now.levels
+            (next_moment timing.now.delays.list timing.now.levels p) self.new.last self.new.log }
         ensures sums { (p : Standing) (s : Stage) → IsStanding p self.old.state self.old.last →
             sum_at s self.new.sums ≡ sum_at s self.old.sums
-            + ticks_for s (charges_at timing.now.delays timing.now.levels p) }
+            + ticks_for s (charges_at timing.now.delays.list timing.now.levels p) }
         ensures within { AreWithin self.new.last.tick self.new.sums }
         ensures enabled { self.new.last.enabled ≡ self.old.state.enabled }
         ensures guess { guessing self.new.last.ic self.new.state
@@ -499,7 +499,6 @@ impl Account {
         ensures origins { self.new.origins ≡ self.old.origins }
         ensures number { self.new.k ≡ self.old.k }
     {
-        timing.delays.shape();
         let taken = interrupt(&self.state);
         let before = self.last.tick;
         let start = self.last.front.c;

@@ -71,25 +71,24 @@ pub(crate) fn look_behind(
 
     ensures state { state.new ≡ state.old }
     ensures found { behind.new.found.items
-        ≡ map (seen_ahead timing.now.delays timing.now.levels) (prepared_before last.now.tick
-        (ahead timing.now.delays timing.now.levels timing.now.levels None
+        ≡ map (seen_ahead timing.now.delays.list timing.now.levels) (prepared_before last.now.tick
+        (ahead timing.now.delays.list timing.now.levels timing.now.levels None
         (guessing last.now.ic state.old) last.now.front)) }
     ensures late { behind.new.late ∷ []
-        ≡ map (seen_ahead timing.now.delays timing.now.levels) (first_late last.now.tick
-        (ahead timing.now.delays timing.now.levels (suc timing.now.levels) None
+        ≡ map (seen_ahead timing.now.delays.list timing.now.levels) (first_late last.now.tick
+        (ahead timing.now.delays.list timing.now.levels (suc timing.now.levels) None
         (guessing last.now.ic state.old) last.now.front)) }
     ensures banks { (reads : List Read) (bus : BusOf) →
-        HasReads timing.now.delays last.now.tick reads bus last.now.front.bus log.old →
-        behind.new.banks ≡ (made_before timing.now.delays last.now.tick
-        (reads ++ reads_before timing.now.delays timing.now.levels last.now.tick
-        (ahead timing.now.delays timing.now.levels (suc timing.now.levels) None
+        HasReads timing.now.delays.list last.now.tick reads bus last.now.front.bus log.old →
+        behind.new.banks ≡ (made_before timing.now.delays.list last.now.tick
+        (reads ++ reads_before timing.now.delays.list timing.now.levels last.now.tick
+        (ahead timing.now.delays.list timing.now.levels (suc timing.now.levels) None
         (guessing last.now.ic state.old) last.now.front)) bus).banks }
     ensures soon { (reads : List Read) (bus : BusOf) →
-        HasReads timing.now.delays last.now.tick reads bus last.now.front.bus log.old →
+        HasReads timing.now.delays.list last.now.tick reads bus last.now.front.bus log.old →
         All (λ t. t ≤ last.now.tick + MOST_DELAY) behind.new.banks.ticks }
     ensures few { length behind.new.found.items ≤ 8 }
 {
-    timing.delays.shape();
     let ic = state.ic;
     let tick = last.tick;
     let mut front = front_of(last);

@@ -86,7 +86,7 @@ fn refuse<K: Sink>(out: &mut K, card: u32, fault: Fault) -> Status
 fn delays(alloc: Global, controls: &Controls) -> Result<Delays, NoMemory>
     requires some { 1 ≤ length controls.now.delays }
     requires limits { IsWithinLimits controls.now }
-    ensures { IfOk result (λ delays. delays ≡ controls.now.delays) }
+    ensures { IfOk result (λ delays. delays.list ≡ controls.now.delays) }
 {
     match Delays::new(alloc, controls.delays.as_slice()) {
         Ok(delays) => Ok(delays),
@@ -131,7 +131,7 @@ fn prepare(
         ≡ origin_of (assembly_parts program)) }
     ensures reader { IfOk result (λ r. r.0.cards ≡ reader_cards job.now) }
     ensures cards { IfOk result (λ r. All IsCard r.0.cards) }
-    ensures delays { IfOk result (λ r. r.0.timing.delays ≡ program.controls.delays) }
+    ensures delays { IfOk result (λ r. r.0.timing.delays.list ≡ program.controls.delays) }
     ensures levels { IfOk result (λ r. r.0.timing.levels ≡ levels) }
     ensures asked { IfOk result (λ r. r.1 ≡ program.controls) }
 {

@@ -78,15 +78,15 @@ fn write_run<K: Sink>(
     requires size { length ready.words.items ≡ words_of_storage }
 
     ensures lines { WritesLines (K.output out.old) (K.output out.new)
-        (lines_from (origin_at ready.origins) ready.timing.delays ready.timing.levels
+        (lines_from (origin_at ready.origins) ready.timing.delays.list ready.timing.levels
         controls.now.budget 0 ready.state []
         (start_of (at_hand ready.state controls.now.signals ready.cards))) result }
     ensures sums { (s : Stage) → IsOk result → sum_at s sums.new
-        ≡ ticks_for s (all_charges ready.timing.delays ready.timing.levels
-        (entries_from ready.timing.delays ready.timing.levels controls.now.budget
+        ≡ ticks_for s (all_charges ready.timing.delays.list ready.timing.levels
+        (entries_from ready.timing.delays.list ready.timing.levels controls.now.budget
         (start_of (at_hand ready.state controls.now.signals ready.cards)))) }
     ensures waits { (r : Stage) (s : Stall) → is_parted r ≡ true → IsOk result →
-        waited_at r s waits.new ≡ stalled_from r s ready.timing.delays ready.timing.levels
+        waited_at r s waits.new ≡ stalled_from r s ready.timing.delays.list ready.timing.levels
         controls.now.budget [] (start_of (at_hand ready.state controls.now.signals ready.cards)) }
 {
     let Ready {
@@ -96,7 +96,6 @@ fn write_run<K: Sink>(
         mut cards,
         timing,
     } = ready;
-    timing.delays.shape();
     let mut account = Account::new(state, words, origins);
     let mut rest = signals(controls);
     let mut left = budget(controls);
@@ -121,13 +120,13 @@ pub fn write_ledger<K: Sink>(out: &mut K, ready: Ready, controls: &Controls) -> 
     requires fresh { ready.state.done ≡ 0 }
     requires cards { All IsCard ready.cards }
     requires levels { (1 ≤ ready.timing.levels) × (ready.timing.levels ≤ 8) }
-    requires delays { ready.timing.delays ≡ controls.now.delays }
+    requires delays { ready.timing.delays.list ≡ controls.now.delays }
     requires signals { AllPass is_signal controls.now.signals }
     requires limit { controls.now.budget ≤ MOST_INSTRUCTIONS }
     requires size { length ready.words.items ≡ words_of_storage }
 
     ensures { WritesLines (K.output out.old) (K.output out.new)
-        (ledger (origin_at ready.origins) ready.timing.delays ready.timing.levels
+        (ledger (origin_at ready.origins) ready.timing.delays.list ready.timing.levels
         controls.now.budget (at_hand ready.state controls.now.signals ready.cards)) result }
 {
     let mut sums = Totals::default();

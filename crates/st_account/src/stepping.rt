@@ -112,23 +112,23 @@ pub(crate) fn count_on(
 
     ensures plan { last.new.plan ≡ plan_of state.now taken }
     ensures prepared { IsPrepared last.new.plan }
-    ensures row { last.new.done.row.ticks ≡ row_of timing.now.delays timing.now.levels
+    ensures row { last.new.done.row.ticks ≡ row_of timing.now.delays.list timing.now.levels
         last.old.front (entry_of taken state.now) }
-    ensures wait { last.new.done.row.level_wait ≡ level_wait timing.now.delays timing.now.levels
+    ensures wait { last.new.done.row.level_wait ≡ level_wait timing.now.delays.list timing.now.levels
         last.old.front (entry_of taken state.now) }
     ensures known { last.new.done.known ≡ known_at taken state.now }
-    ensures uses { last.new.uses.items ≡ uses_of_entry timing.now.delays timing.now.levels
+    ensures uses { last.new.uses.items ≡ uses_of_entry timing.now.delays.list timing.now.levels
         last.old.front (entry_of taken state.now) (side_at taken state.now)
         (plan_of state.now taken).reads }
     ensures earlier { last.new.before.items ≡ last.old.uses.items }
     ensures because { last.new.because ≡ because_of last.old.front (entry_of taken state.now)
         last.new.done.row.ticks.a last.new.done.row.ticks.p last.new.done.row.level_wait
-        (formed_uses timing.now.delays last.old.front (entry_of taken state.now)
+        (formed_uses timing.now.delays.list last.old.front (entry_of taken state.now)
         (side_at taken state.now)) last.old.uses.items }
-    ensures front { last.new.front ≡ after_of timing.now.delays timing.now.levels last.old.front
+    ensures front { last.new.front ≡ after_of timing.now.delays.list timing.now.levels last.old.front
         (entry_of taken state.now) }
-    ensures log { log.new ≡ log_after_reads timing.now.delays
-        (asked_of timing.now.delays timing.now.levels last.old.front (entry_of taken state.now))
+    ensures log { log.new ≡ log_after_reads timing.now.delays.list
+        (asked_of timing.now.delays.list timing.now.levels last.old.front (entry_of taken state.now))
         last.old.front.bus [] }
     ensures past { last.new.past ≡ last.new.front.past }
     ensures tick { last.new.tick ≡ last.new.done.row.ticks.c }
