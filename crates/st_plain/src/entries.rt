@@ -2,7 +2,7 @@
 ghost use Rattle.std.specs.Prelude.{◌≡◌, ℕ, ◌+◌, ◌/◌, ◌<◌, ◌≤◌, ◌^◌, ◌∷◌, ◌&&◌, false, None, is_none, if◌then◌else◌, IfSome, length, take, drop};
 ghost use Rattle.st_format.specs.Formats.{decoded_entry, instruction_of, spelled_as};
 ghost use Rattle.st_state.specs.Boundary.{forbidden_by};
-ghost use Rattle.st_state.specs.Machine.{word};
+ghost use Rattle.st_state.specs.Machine.{IsMachine, word};
 ghost use Rattle.st_state.specs.declared.protection.Access.{Access as AccessOf};
 ghost use Rattle.st_prep.specs.Fetch.{index_words as index_words_of, reading_of, words_fetched as fetched_of};
 ghost use Rattle.st_prep.specs.Plan.{needs as needs_of, plan as plan_of, prepared_entry as prepared_of, sight_of, side_of};
@@ -533,6 +533,7 @@ pub fn plan_entry(table: Option<u8>, state: &State, p: &mut Prepared) -> Planned
     ensures ranges { IsPrepared p.new }
     ensures entry { result.entry ≡ entry_of table state.now }
     ensures in_time { IsEntryInTime result.entry }
+    ensures machine { IsMachine state.now }
     ensures known { result.known ≡ known_at table state.now }
 {
     p.place = place_of(state, table);

@@ -1,6 +1,7 @@
 //! The entries that run ahead of a state by guessed steps.
 ghost use Rattle.std.specs.Prelude.{◌≡◌, suc, ◌+◌, ◌-◌, ◌*◌, ◌≤◌, ◌<◌, ◌^◌, ◌∷◌, ◌++◌, [], map, length, None};
 ghost use Rattle.st_bits.specs.declared.limits.TheConstants.{MOST_DELAY};
+ghost use Rattle.st_state.specs.Machine.{IsMachine};
 ghost use Rattle.st_prep.specs.Ranges.{IsPrepared};
 ghost use Rattle.st_exec.specs.Completion.{guessed_state};
 ghost use Rattle.st_rows.specs.Asked.{bus_after_reads};
@@ -58,7 +59,7 @@ pub struct Reach<'a> {
     /// The delays and levels of the machine.
     pub timing: &'a Timing<'a>,
     /// How many entries are looked for, at most as many as there are levels.
-    pub more: u8,
+    pub more: usize,
     /// The tick before which they are prepared.
     pub tick: u64,
     pub ghost left: { more ≤ timing.now.levels },
@@ -96,6 +97,7 @@ pub fn look(
     requires past { reach.now.past.now ≡ front.old.past }
 
     ensures state { state.new ≡ state.old }
+    ensures machine { IsMachine state.new }
     ensures found { let r = reach.now in let t = r.timing.now in let ds = t.delays.now.list in
         ahead.new.found.items ≡ ahead.old.found.items
         ++ map (seen_ahead ds t.levels) (prepared_before r.tick

@@ -1,7 +1,7 @@
-use Rattle.std.proofs.Common.{◌≡◌, ◌<◌, length, None, ◌∙◌, ap, arith}
+use Rattle.std.proofs.Common.{◌≡◌, ◌<◌, length, None, sym, subst, ◌∙◌, ap, arith}
 use Rattle.std.proofs.lemmas.List.{length_push}
 use Rattle.st_exec.specs.Completion.{guessed_state}
-use Rattle.st_state.specs.Machine.{Machine}
+use Rattle.st_state.specs.Machine.{Machine, IsMachine}
 use Rattle.st_prep.specs.Plan.{plan}
 use Rattle.st_prep.specs.declared.entries.Prepared.{Prepared}
 use Rattle.st_rows.specs.Asked.{formed_asked, reads_of_entry}
@@ -140,6 +140,9 @@ pub returns-clause-state : goal.returns-clause-state
 returns-clause-state t c =
     let counted = guess-counted c.plan_entry-planned.new.p c.args.state.now in
     c.undo.ensures ∙ c.keep-kept.ensures.undone _ counted.ic (c.look.ensures.state ∙ c.guess.ensures ∙ counted.is)
+
+pub returns-clause-machine : goal.returns-clause-machine
+returns-clause-machine t c = subst IsMachine (sym (returns-clause-state t c)) c.plan_entry-planned.ensures.machine
 
 pub returns-clause-found : goal.returns-clause-found
 returns-clause-found t c =
