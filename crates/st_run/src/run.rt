@@ -89,10 +89,9 @@ impl<'a, const N: usize> Run<'a, N> {
         requires some_done { 1 ≤ budget }
         requires few_done { budget ≤ MOST_INSTRUCTIONS }
 
-        ensures { result.rest ≡ told_events (timed_run delays N budget
+        ensures { result.rest ≡ told_events (timed_run delays.list N budget
             (record { machine = state; signals = signals.now; cards = cards }) snaps.now) }
     {
-        delays.shape();
         let mut machine = Machine::new(state, delays);
         let rest = due_signals(&mut machine, signals);
         let coming = Coming::new(rest, cards);

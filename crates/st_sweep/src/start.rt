@@ -29,7 +29,7 @@ impl Model for Start {
 
     ghost Value = { Start };
 
-    ghost view = { λ s. record { machine = s.state; delays = s.delays } };
+    ghost view = { λ s. record { machine = s.state; delays = s.delays.list } };
 
     ghost invariant = { λ s. IsFreshStart s.state };
 }

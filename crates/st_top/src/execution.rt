@@ -136,7 +136,7 @@ fn snaps(controls: &Controls) -> &[u64]
 fn delays(alloc: Global, controls: &Controls) -> Result<Delays, NoMemory>
     requires some { 1 ≤ length controls.now.delays }
     requires limits { IsWithinLimits controls.now }
-    ensures { IfOk result (λ delays. delays ≡ controls.now.delays) }
+    ensures { IfOk result (λ delays. delays.list ≡ controls.now.delays) }
 {
     match Delays::new(alloc, controls.delays.as_slice()) {
         Ok(delays) => Ok(delays),

@@ -1,6 +1,6 @@
 use Rattle.std.proofs.Common.{◌-◌, sym, ◌∙◌, ap, subst, refl, [], inl}
 use Rattle.st_run.specs.Run.{Scene, with_due_signals}
-use Rattle.st_rows.proofs.Within.{AreDelays-list}
+use Rattle.st_rows.proofs.Within.{delays-are}
 use Rattle.st_ahead.specs.Overlap.{Overlap}
 use Rattle.st_ahead.specs.Calls.{MaySignal}
 use Rattle.st_run.specs.Scenes.{IsScene}
@@ -26,7 +26,7 @@ invariant_of-result g c =
     (with_due_signals m.state scene.signals scene.cards)) c.new-machine.ensures.value in
     let stands = subst {A = Waiting} (λ w. IsRun turns.Before (c.args.budget - 1) 0 c.args.snaps.now w (with_coming c.due_signals-rest.new.machine c.new-coming.result)) (sym c.new-waiting.ensures)
     (subst {A = Together} (λ t. IsRun turns.Before (c.args.budget - 1) 0 c.args.snaps.now none t) (sym same)
-    (start-run c.args.delays g.row.N scene idle is c.args.budget c.args.snaps.now r.some r.few (AreDelays-list c.args.delays c.shape.ensures)
+    (start-run c.args.delays.list g.row.N scene idle is c.args.budget c.args.snaps.now r.some r.few (delays-are c.args.delays)
     r.some_done r.few_done r.done r.snaps)) in
     (stands, ap (λ (q : Queue). q.room) c.new-2.ensures)
 
@@ -43,15 +43,15 @@ returns g c =
     ap {A = Queue} (λ q. rows_then q.rows (rest_of turns.Before (c.args.budget - 1) 0 c.args.snaps.now c.new-waiting.result (with_coming c.due_signals-rest.new.machine c.new-coming.result))) c.new-2.ensures
     ∙ ap {A = Waiting} (λ w. rest_of turns.Before (c.args.budget - 1) 0 c.args.snaps.now w (with_coming c.due_signals-rest.new.machine c.new-coming.result)) c.new-waiting.ensures
     ∙ ap {A = Together} (λ t. rest_of turns.Before (c.args.budget - 1) 0 c.args.snaps.now none t) same
-    ∙ start-told c.args.delays g.row.N scene idle is c.args.budget c.args.snaps.now r.some_done
+    ∙ start-told c.args.delays.list g.row.N scene idle is c.args.budget c.args.snaps.now r.some_done
 
 pub invariant_of-driven : goal.invariant_of-driven
 invariant_of-driven g c =
     let r = c.requires in
-    let can : CanStart c.args.delays g.row.N c.args.state = record {
+    let can : CanStart c.args.delays.list g.row.N c.args.state = record {
       some = r.some;
       few = r.few;
-      delays = AreDelays-list c.args.delays c.shape.ensures;
+      delays = delays-are c.args.delays;
       machine = c.new-machine.ensures.machine;
       enabled = r.enabled;
       waiting = r.waiting;
@@ -59,4 +59,4 @@ invariant_of-driven g c =
     let m = c.new-machine.result in
     subst {A = Overlap} IsLed (sym (c.due_signals-rest.ensures.machine ∙ sym (ap (λ (d : Scene). record m { state = d.machine }) (c.due_signals-rest.ensures.came []))))
     (due-led c.args.signals.now m [] r.signals
-    (subst {A = Overlap} MaySignal (sym c.new-machine.ensures.value) (inl (refl, refl), refl)) (start-led c.args.delays g.row.N c.args.state m can c.new-machine.ensures.value))
+    (subst {A = Overlap} MaySignal (sym c.new-machine.ensures.value) (inl (refl, refl), refl)) (start-led c.args.delays.list g.row.N c.args.state m can c.new-machine.ensures.value))
