@@ -5,7 +5,9 @@ ghost use Rattle.st_ring.specs.Levels.{due_of};
 
 use crate::look::Lookahead;
 use st_banks::Delays;
+use st_next::Basis;
 use st_prep::{Place, Prepared};
+use st_rows::{FormedEntry, Timing};
 use st_state::State;
 
 impl<const N: usize> Lookahead<N> {
@@ -74,7 +76,7 @@ impl<const N: usize> Lookahead<N> {
     // The next entry is planned, which it is as soon as its words are known; the oldest level is
     // done at the tick `due`.
     #[inline(always)]
-    fn plan_before(&mut self, due: u64, last: u64, state: &State, delays: &Delays)
+    fn plan_before<'a>(&mut self, due: u64, last: u64, state: &'a State, delays: &'a Delays)
         requires some { 1 ≤ N }
         requires few { N ≤ 8 }
         requires early { last < 2 ^ 63 }
@@ -90,15 +92,14 @@ impl<const N: usize> Lookahead<N> {
             return;
         }
         let _last = last;
-        self.next.plan_before(
-            due,
-            N,
-            &self.front,
-            self.levels.index(),
+        let timing = Timing { delays, levels: N };
+        let basis = Basis {
+            timing,
             state,
-            delays,
-            &mut self.log,
-        );
+            front: &self.front,
+            index: self.levels.index(),
+        };
+        self.next.plan_before(due, &basis, &mut self.log);
     }
 
     // The next entry becomes a level at the tick `now`, its P.
@@ -118,14 +119,14 @@ impl<const N: usize> Lookahead<N> {
         ensures few { count self.new ≤ N }
     {
         self.next.prepare(self.levels.index(), state);
-        let filled = self.front.fill(
-            delays,
-            N,
-            &self.next.entry,
-            self.next.formed,
-            &mut self.next.words,
-            &mut self.log,
-        );
+        let timing = Timing { delays, levels: N };
+        let next = FormedEntry {
+            entry: &self.next.entry,
+            formed: self.next.formed,
+        };
+        let filled = self
+            .front
+            .fill(&timing, &next, &mut self.next.words, &mut self.log);
         self.levels.push(&self.next.prepared, &self.front, &filled);
         self.front
             .pass(&self.next.entry, &filled.row, &self.next.words.bus);

@@ -13,6 +13,17 @@ use st_exec::{interrupt, is_at_rest};
 use st_ring::Completed;
 use st_state::{State, is_due};
 
+/// How a machine runs on by itself: by these delays of reads, until `count` instructions are done,
+/// 2^63 at most, and up to the tick `last`, below 2^63.
+#[derive(Clone, Copy)]
+pub struct Course<'a> {
+    pub delays: &'a Delays,
+    pub count: u64,
+    pub last: u64,
+    pub ghost most: { count ≤ 2 ^ 63 },
+    pub ghost early: { last < 2 ^ 63 },
+}
+
 /// An entry that is done, behind which something may come.
 #[derive(Clone, Copy, Debug, PartialEq, Eq)]
 pub struct Stop {
@@ -28,37 +39,39 @@ impl<const N: usize> Lookahead<N> {
     ghost use Rattle.st_ahead.specs.Running.{Starts, HasRunTo, ticks_run};
     ghost use Rattle.st_ahead.specs.RowsDone.{queue_with, rows_in_ticks};
 
-    /// Makes ticks and goes on behind each, up to the tick `last`, below 2^63, until an entry is
-    /// done behind which something may come: `count` instructions are done by then, an order is
-    /// due, or the next decision is not that it goes on. The result is what was done, with its
-    /// tick. The rows of those that are done before it wait, as far as there is room. `taken` is
-    /// the indicator whose table instruction comes next. Fewer than 2^63 instructions are done, and
-    /// `count` is 2^63 at most.
+    /// Makes ticks and goes on behind each, up to the last one of its course, until an entry is
+    /// done behind which something may come: as many instructions are done by then as the course
+    /// has, an order is due, or the next decision is not that it goes on. The result is what was
+    /// done, with its tick. The rows of those that are done before it wait, as far as there is
+    /// room. `taken` is the indicator whose table instruction comes next. Fewer than 2^63
+    /// instructions are done.
     #[inline(never)]
     pub fn run_to(
         &mut self,
-        count: u64,
-        last: u64,
+        course: &Course<'_>,
         taken: &mut Option<u8>,
         state: &mut State,
         rows: &mut RowQueue,
-        delays: &Delays,
     ) -> Option<Stop>
         requires some { 1 ≤ N }
         requires few { N ≤ 8 }
-        requires early { last < 2 ^ 63 }
-        requires count { count ≤ 2 ^ 63 }
         requires done { state.old.done < 2 ^ 63 }
-        requires starts { Starts delays.now.list N last taken.old state.old self.old }
+        requires starts { let x = course.now in
+            Starts x.delays.now.list N x.last taken.old state.old self.old }
 
-        ensures { (f : FrontOf) (now : ℕ) →
-            IsLook delays.now.list N (now - 1) now taken.old state.old f self.old → now ≤ last →
+        ensures { let x = course.now in let ds = x.delays.now.list in (f : FrontOf) (now : ℕ) →
+            IsLook ds N (now - 1) now taken.old state.old f self.old → now ≤ x.last →
             IsAwake taken.old state.old →
-            HasRunTo delays.now.list N count last now taken.old state.old f taken.new state.new
+            HasRunTo ds N x.count x.last now taken.old state.old f taken.new state.new
             self.new result
-            × (rows.new ≡ queue_with (rows_in_ticks (ticks_run last now result)
-            (machine_between_ticks delays.now.list N state.old taken.old f now)) rows.old) }
+            × (rows.new ≡ queue_with (rows_in_ticks (ticks_run x.last now result)
+            (machine_between_ticks ds N state.old taken.old f now)) rows.old) }
     {
+        let Course {
+            delays,
+            count,
+            last,
+        } = *course;
         'entries: loop {
             let Some(tick) = self.go_to(last, state, delays) else {
                 self.fill(state, last);

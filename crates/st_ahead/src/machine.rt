@@ -3,6 +3,7 @@ ghost use Rattle.std.specs.Prelude.{◌≡◌, ◌<◌, ◌≤◌, ◌^◌, true
 
 use crate::events::{Event, LevelView, Row, Settled, View};
 use crate::look::Lookahead;
+use crate::look_run::Course;
 use crate::row_queue::RowQueue;
 use st_banks::{Delays, LastAnswers};
 use st_exec::is_at_rest;
@@ -130,14 +131,14 @@ impl<const N: usize> Machine<N> {
         if now > last {
             return None;
         }
-        let stop = self.look.run_to(
+        let course = Course {
+            delays: &self.delays,
             count,
             last,
-            &mut self.taken,
-            &mut self.state,
-            rows,
-            &self.delays,
-        );
+        };
+        let stop = self
+            .look
+            .run_to(&course, &mut self.taken, &mut self.state, rows);
         let number = done_in(&self.state);
         let Some(stop) = stop else {
             self.now = last + 1;

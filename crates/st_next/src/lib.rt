@@ -4,4 +4,4 @@
 
 mod next;
 
-pub use next::Next;
+pub use next::{Basis, Next};

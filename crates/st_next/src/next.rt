@@ -24,7 +24,7 @@ use st_prep::{
     Fetched, Fetching as Given, Needs, Place, Prepared, Words, fetch_on, halves_known,
     is_execute_format, prepare_in, prepare_without_side, side_word,
 };
-use st_rows::{Bus, Entry, Fetching, Formed, Front, Log, WordRun, WordRuns};
+use st_rows::{Bus, Entry, Fetching, Formed, Front, Log, Timing, Wanted, WordRun, WordRuns};
 use st_state::State;
 
 /// The entry that is prepared next, as far as it is known.
@@ -52,6 +52,16 @@ pub struct Next {
     pub entry: Entry,
     /// When its address is formed and when it is prepared.
     pub formed: Formed,
+}
+
+/// What the next entry is planned by: the delays and levels of the machine, the state that stands
+/// now, and what runs ahead of that, the front before the entry and the index words.
+#[derive(Clone, Copy)]
+pub struct Basis<'a, 'b> {
+    pub timing: Timing<'a>,
+    pub state: &'a State,
+    pub front: &'b Front,
+    pub index: &'b [u64; 16],
 }
 
 // An instruction of which the half-words and the format are known.
@@ -163,24 +173,6 @@ impl Next {
         fetch_on(&self.place, x, &contents[..so_far], state)
     }
 
-    // Asks for an instruction word that is wanted from `from` on, unless it is held.
-    #[inline(always)]
-    fn ask(&mut self, w: u32, from: u64, front: &Front, delays: &Delays, log: &mut Log)
-        requires room { IsEarly front.now self.old.words }
-        requires early { from ≤ 2 ^ 64 - 512 }
-        requires storage { 32 ≤ w }
-        ensures words { self.new ≡ record self.old {
-          words =
-              fetch_word delays.now.list front.now.past self.old.words w from;
-        } }
-        ensures log { log.new ≡ log_after_reads delays.now.list (word_asked
-            (tick_of self.old.words.bus.held.words w) w
-            (max (max from self.old.words.answered) self.old.words.awaited))
-            self.old.words.bus log.old }
-    {
-        self.words.word(log, delays, &front.past, w, from);
-    }
-
     // Asks for a word of its own.
     #[inline(always)]
     fn ask_own(&mut self, w: u32, front: &Front, delays: &Delays, log: &mut Log)
@@ -196,7 +188,12 @@ impl Next {
             (max (max (wanted_from front.now) self.old.words.answered) self.old.words.awaited))
             self.old.words.bus log.old }
     {
-        self.ask(w, front.wanted_from(), front, delays, log);
+        let wanted = Wanted {
+            tick: front.wanted_from(),
+            delays,
+            past: &front.past,
+        };
+        self.words.word(log, &wanted, w);
         self.own = with_word(self.own, w);
     }
 
@@ -216,7 +213,12 @@ impl Next {
             (max (max (max (wanted_from front.now) front.now.c) self.old.words.answered)
             self.old.words.awaited)) self.old.words.bus log.old }
     {
-        self.ask(w, front.wanted_from().max(front.c), front, delays, log);
+        let wanted = Wanted {
+            tick: front.wanted_from().max(front.c),
+            delays,
+            past: &front.past,
+        };
+        self.words.word(log, &wanted, w);
         self.target = with_word(self.target, w);
     }
 
@@ -238,37 +240,30 @@ impl Next {
     /// the state before it is, what is known of it stays so; where it is not planned, nothing more
     /// of it can be known before that tick.
     #[inline(always)]
-    pub fn plan_before(
-        &mut self,
-        due: u64,
-        levels: usize,
-        front: &Front,
-        x: &[u64; 16],
-        state: &State,
-        delays: &Delays,
-        log: &mut Log,
-    ) -> bool
-        requires known { max self.old.words.awaited (if front.now.serial then front.now.c else 0)
-            < due →
-            IsKnown delays.now.list levels (due - 1) front.now x.now state.now self.old }
-        requires front { IsFrontInTime levels front.now }
+    pub fn plan_before(&mut self, due: u64, basis: &Basis<'_, '_>, log: &mut Log) -> bool
+        requires known { let b = basis.now in let t = b.timing in let f = b.front.now in
+            max self.old.words.awaited (if f.serial then f.c else 0) < due →
+            IsKnown t.delays.now.list t.levels (due - 1) f b.index.now b.state.now self.old }
+        requires front { IsFrontInTime basis.now.timing.levels basis.now.front.now }
         requires unplanned { self.old.planned ≡ false }
 
-        ensures next { GoesOnTo delays.now.list levels
-            (due - 1) front.now x.now state.now self.old self.new due }
-        ensures further { IsReadFurther delays.now.list front.now self.old self.new log.old log.new }
+        ensures next { let b = basis.now in let t = b.timing in GoesOnTo t.delays.now.list
+            t.levels (due - 1) b.front.now b.index.now b.state.now self.old self.new due }
+        ensures further { let b = basis.now in IsReadFurther
+            b.timing.delays.now.list b.front.now self.old self.new log.old log.new }
         ensures planned { result ≡ self.new.planned }
-        ensures still { due ≤ max self.old.words.awaited
-            (if front.now.serial then front.now.c else 0) →
+        ensures still { let f = basis.now.front.now in
+            due ≤ max self.old.words.awaited (if f.serial then f.c else 0) →
             (self.new ≡ self.old) × (log.new ≡ log.old) }
     {
+        let front = basis.front;
         if self.waits_for(front) >= due {
             return false;
         }
-        if !self.prepare_own_before(due, levels, front, x, state, delays, log) {
+        if !self.prepare_own_before(due, basis, log) {
             return false;
         }
-        self.formed = front.form(delays, levels, &self.entry, &mut self.words, log);
+        self.formed = front.form(&basis.timing, &self.entry, &mut self.words, log);
         self.planned = true;
         true
     }
@@ -276,63 +271,50 @@ impl Next {
     // Prepares it as far as it goes without its index-side word. Mostly nothing is asked for yet:
     // asking for the first word is straight code.
     #[inline(always)]
-    fn prepare_own_before(
-        &mut self,
-        due: u64,
-        levels: usize,
-        front: &Front,
-        x: &[u64; 16],
-        state: &State,
-        delays: &Delays,
-        log: &mut Log,
-    ) -> bool
-        requires known { IsKnown delays.now.list levels (due - 1) front.now x.now state.now self.old }
-        requires front { IsFrontInTime levels front.now }
+    fn prepare_own_before(&mut self, due: u64, basis: &Basis<'_, '_>, log: &mut Log) -> bool
+        requires known { let b = basis.now in let t = b.timing in IsKnown
+            t.delays.now.list t.levels (due - 1) b.front.now b.index.now b.state.now self.old }
+        requires front { IsFrontInTime basis.now.timing.levels basis.now.front.now }
         requires unplanned { self.old.planned ≡ false }
         requires soon { self.old.words.awaited < due }
 
-        ensures next { GoesOnTo delays.now.list levels
-            (due - 1) front.now x.now state.now self.old self.new
+        ensures next { let b = basis.now in let t = b.timing in GoesOnTo t.delays.now.list
+            t.levels (due - 1) b.front.now b.index.now b.state.now self.old self.new
             (if result then 0 else due) }
-        ensures further { IsReadFurther delays.now.list front.now self.old self.new log.old log.new }
+        ensures further { let b = basis.now in IsReadFurther
+            b.timing.delays.now.list b.front.now self.old self.new log.old log.new }
         ensures unplanned { self.new.planned ≡ false }
-        ensures prepared { result ≡ true → IsPreparedBy (due - 1) x.now state.now self.new }
+        ensures prepared { result ≡ true → IsPreparedBy (due - 1) basis.now.index.now
+            basis.now.state.now self.new }
     {
-        self.begin(due, levels, front, x, state, delays, log);
-        self.prepare_before(due, levels, front, x, state, delays, log)
+        self.begin(due, basis, log);
+        self.prepare_before(due, basis, log)
     }
 
     // Asks for its first word, where none is asked for yet and it is one of its own.
     #[inline(always)]
-    fn begin(
-        &mut self,
-        due: u64,
-        levels: usize,
-        front: &Front,
-        x: &[u64; 16],
-        state: &State,
-        delays: &Delays,
-        log: &mut Log,
-    )
-        requires known { IsKnown delays.now.list levels (due - 1) front.now x.now state.now self.old }
-        requires front { IsFrontInTime levels front.now }
+    fn begin(&mut self, due: u64, basis: &Basis<'_, '_>, log: &mut Log)
+        requires known { let b = basis.now in let t = b.timing in IsKnown
+            t.delays.now.list t.levels (due - 1) b.front.now b.index.now b.state.now self.old }
+        requires front { IsFrontInTime basis.now.timing.levels basis.now.front.now }
         requires unplanned { self.old.planned ≡ false }
         requires soon { self.old.words.awaited < due }
 
-        ensures next { GoesOnTo delays.now.list levels
-            (due - 1) front.now x.now state.now self.old self.new 0 }
-        ensures further { IsReadFurther delays.now.list front.now self.old self.new log.old log.new }
+        ensures next { let b = basis.now in let t = b.timing in GoesOnTo t.delays.now.list
+            t.levels (due - 1) b.front.now b.index.now b.state.now self.old self.new 0 }
+        ensures further { let b = basis.now in IsReadFurther
+            b.timing.delays.now.list b.front.now self.old self.new log.old log.new }
         ensures unplanned { self.new.planned ≡ false }
     {
-        let _ = (due, levels);
+        let _ = due;
         if self.own.len != 0 || self.target.len != 0 {
             return;
         }
-        match self.given(x, state) {
+        match self.given(basis.index, basis.state) {
             Given::Next {
                 word,
                 target: false,
-            } => self.ask_own(word, front, delays, log),
+            } => self.ask_own(word, basis.front, basis.timing.delays, log),
             _ => {}
         }
     }
@@ -340,27 +322,28 @@ impl Next {
     // Prepares it as far as it goes without its index-side word, however far its words are asked
     // for, and whatever they are. It stands once, and what it calls alone is inlined here.
     #[inline(never)]
-    fn prepare_before(
-        &mut self,
-        due: u64,
-        levels: usize,
-        front: &Front,
-        x: &[u64; 16],
-        state: &State,
-        delays: &Delays,
-        log: &mut Log,
-    ) -> bool
-        requires known { IsKnown delays.now.list levels (due - 1) front.now x.now state.now self.old }
-        requires front { IsFrontInTime levels front.now }
+    fn prepare_before(&mut self, due: u64, basis: &Basis<'_, '_>, log: &mut Log) -> bool
+        requires known { let b = basis.now in let t = b.timing in IsKnown
+            t.delays.now.list t.levels (due - 1) b.front.now b.index.now b.state.now self.old }
+        requires front { IsFrontInTime basis.now.timing.levels basis.now.front.now }
         requires unplanned { self.old.planned ≡ false }
 
-        ensures next { GoesOnTo delays.now.list levels
-            (due - 1) front.now x.now state.now self.old self.new
+        ensures next { let b = basis.now in let t = b.timing in GoesOnTo t.delays.now.list
+            t.levels (due - 1) b.front.now b.index.now b.state.now self.old self.new
             (if result then 0 else due) }
-        ensures further { IsReadFurther delays.now.list front.now self.old self.new log.old log.new }
+        ensures further { let b = basis.now in IsReadFurther
+            b.timing.delays.now.list b.front.now self.old self.new log.old log.new }
         ensures unplanned { self.new.planned ≡ false }
-        ensures prepared { result ≡ true → IsPreparedBy (due - 1) x.now state.now self.new }
+        ensures prepared { result ≡ true → IsPreparedBy (due - 1) basis.now.index.now
+            basis.now.state.now self.new }
     {
+        let Basis {
+            timing,
+            state,
+            front,
+            index: x,
+        } = *basis;
+        let delays = timing.delays;
         'words: loop {
             if self.words.awaited >= due {
                 return false;
@@ -369,7 +352,6 @@ impl Next {
                 self.prepare_spelled(spelled, x, state);
                 return true;
             }
-            let _ = levels;
             match self.given(x, state) {
                 Given::Next {
                     word,

@@ -79,7 +79,6 @@ fill-filled-requires g c =
       entry = subst (λ (e : Entry). IsEntryInTime e) (sym entry_is) becomes.range;
       tight = is.tight;
       early = omega (arith, becomes.early);
-      levels = (c.requires.some, c.requires.few);
       address = ap (λ (x : Formed). x.a) formed_is ∙ becomes.address ∙ ap (tick_a ds view.front) (sym entry_is);
       bus = ap (λ (x : Fetching). x.bus) words_are ∙ becomes.bus ∙ ap (bus_a ds view.front) (sym entry_is);
       tick = ap (λ (x : Formed). x.p) formed_is ∙ becomes.tick ∙ ap (tick_p ds n view.front) (sym entry_is);

@@ -30,7 +30,7 @@ use Rattle.st_ring.proofs.OrderLemmas.{after-c}
 pub entries-init : goal.entries-init
 entries-init g c = record {
   each = λ f now h soon awake.
-      noting-starts c.args.delays.now.list g.row.N c.args.count c.args.last now c.args.taken.now c.args.state.now f c.args.self.now c.args.rows.now h soon awake;
+      noting-starts c.args.course.now.delays.now.list g.row.N c.args.course.now.count c.args.course.now.last now c.args.taken.now c.args.state.now f c.args.self.now c.args.rows.now h soon awake;
   done = c.requires.done;
 }
 
@@ -44,7 +44,7 @@ go_to-requires g c =
         (
           c.requires.few,
           (
-            c.requires.early,
+            c.args.course.now.early,
             record {
               table = c.entries.taken;
               front = run.front;
@@ -65,12 +65,12 @@ complete-done-requires g c =
 
 pub returns-in_default : goal.returns-in_default
 returns-in_default g c = λ f now h soon awake.
-    let ds = c.args.delays.now.list in
+    let ds = c.args.course.now.delays.now.list in
     let n = g.row.N in
     let k = c.entries.taken in
     let u = c.entries.state in
-    let are = delays-are c.args.delays.now in
-    let last = c.args.last in
+    let are = delays-are c.args.course.now.delays.now in
+    let last = c.args.course.now.last in
     let noting = c.entries.invariant.each f now h soon awake in
     let run = noting.run in
     let out = c.in_default.ensures.goes k run.front run.tick (record { tick = run.tick; going = run.going; behind = omega arith; soon = run.soon }) in
@@ -78,18 +78,18 @@ returns-in_default g c = λ f now h soon awake.
     let w = c.fill.new.self in
     let late = oldest-late ds n last (last + 1) k u run.front w c.requires.some are (omega arith) filled
     (looks_are_levels ds n last (last + 1) k u run.front w c.requires.some c.requires.few are (omega arith) c.fill.ensures.few filled) in (
-      running-ends ds n c.args.count last now c.args.taken.now k c.args.state.now u f c.entries.self w run late filled,
+      running-ends ds n c.args.course.now.count last now c.args.taken.now k c.args.state.now u f c.entries.self w run late filled,
       noting.noted ∙ ap {A = List Row} (λ xs. queue_with xs c.args.rows.now)
-          (rows-idle ds n c.args.count last now (last + 1) c.args.taken.now k c.args.state.now u f c.entries.self run (omega (arith, run.soon)) (omega (arith, late))),
+          (rows-idle ds n c.args.course.now.count last now (last + 1) c.args.taken.now k c.args.state.now u f c.entries.self run (omega (arith, run.soon)) (omega (arith, late))),
     )
 
 pub entries-preserved : goal.entries-preserved
 entries-preserved g c =
-    let ds = c.args.delays.now.list in
+    let ds = c.args.course.now.delays.now.list in
     let n = g.row.N in
     let k = c.entries.taken in
     let u = c.entries.state in
-    let are = delays-are c.args.delays.now in
+    let are = delays-are c.args.course.now.delays.now in
     let starts = c.requires.starts in
     let run = (c.entries.invariant.each starts.front starts.now starts.look starts.soon starts.awake).run in
     let goes = c.is_stopped.ensures.goes c.if-is_stopped.false in
@@ -101,24 +101,24 @@ entries-preserved g c =
           let due = c.in-Some.tick in
           let all = c.complete-done.ensures ds (due - 1) due k run.front are at.look at.row_is in
           let counted = ap (λ (m : Machine). m.done) all.0 ∙ entries_count_as_one (plan u k) u in
-          noting-on ds n c.args.count c.args.last now due c.args.taken.now k c.args.state.now u c.complete-done.new.state f c.entries.self c.go_to.new.self
+          noting-on ds n c.args.course.now.count c.args.course.now.last now due c.args.taken.now k c.args.state.now u c.complete-done.new.state f c.entries.self c.go_to.new.self
           c.complete-done.new.self c.complete-done.result c.args.rows.now c.entries.rows noting at all.0 all.1 all.2 goes.0 goes.1 goes.2 goes.3
           (steps_are_guesses.right k u at.look.machine at.look.indicator) counted _ c.put.ensures c.row_of.ensures;
       done =
           omega (
             arith,
-            c.requires.count,
-            less-than c.args.count c.complete-done.new.state.done (or_parts (nat_le c.args.count c.complete-done.new.state.done) _ goes.0).0,
+            c.args.course.now.most,
+            less-than c.args.course.now.count c.complete-done.new.state.done (or_parts (nat_le c.args.course.now.count c.complete-done.new.state.done) _ goes.0).0,
           );
     }
 
 pub entries-smaller : goal.entries-smaller
 entries-smaller g c =
-    let ds = c.args.delays.now.list in
+    let ds = c.args.course.now.delays.now.list in
     let n = g.row.N in
     let k = c.entries.taken in
     let u = c.entries.state in
-    let are = delays-are c.args.delays.now in
+    let are = delays-are c.args.course.now.delays.now in
     let starts = c.requires.starts in
     let run = (c.entries.invariant.each starts.front starts.now starts.look starts.soon starts.awake).run in
     let at = c.in-Some.ensures.goes k run.front run.tick (record { tick = run.tick; going = run.going; behind = omega arith; soon = run.soon }) in
@@ -129,16 +129,16 @@ entries-smaller g c =
     omega (
       arith,
       counted,
-      less-than c.args.count c.complete-done.new.state.done (or_parts (nat_le c.args.count c.complete-done.new.state.done) _ goes.0).0,
+      less-than c.args.course.now.count c.complete-done.new.state.done (or_parts (nat_le c.args.course.now.count c.complete-done.new.state.done) _ goes.0).0,
     )
 
 pub returns-then-is_stopped : goal.returns-then-is_stopped
 returns-then-is_stopped g c = λ f now h soon awake.
-    let ds = c.args.delays.now.list in
+    let ds = c.args.course.now.delays.now.list in
     let n = g.row.N in
     let k = c.entries.taken in
     let u = c.entries.state in
-    let are = delays-are c.args.delays.now in
+    let are = delays-are c.args.course.now.delays.now in
     let noting = c.entries.invariant.each f now h soon awake in
     let run = noting.run in
     let at = c.in-Some.ensures.goes k run.front run.tick (record { tick = run.tick; going = run.going; behind = omega arith; soon = run.soon }) in
@@ -163,7 +163,7 @@ returns-then-is_stopped g c = λ f now h soon awake.
         state = u;
         front = run.front;
         ahead = w;
-        passed = running-idle ds n c.args.count c.args.last now due c.args.taken.now k c.args.state.now u f c.entries.self run at.later (omega (arith, at.row_is));
+        passed = running-idle ds n c.args.course.now.count c.args.course.now.last now due c.args.taken.now k c.args.state.now u f c.entries.self run at.later (omega (arith, at.row_is));
         soon = at.soon;
         none_taken = refl;
         machine = at.look.machine;
@@ -178,10 +178,10 @@ returns-then-is_stopped g c = λ f now h soon awake.
         };
         banks = banks-between ds n due k u run.front w left.0 ∙ sym same;
         near = subst (λ (x : LastAnswers). All (λ b. b ≤ due + 255) x.ticks) (sym same) left.1;
-        stops = stopped-comes ds n c.args.count due k u run.front at.row_is (λ nothing missed none awake.
-            c.is_stopped.ensures.stops c.if-is_stopped.true (ap (may_come_from_outside c.args.count) all.0 ∙ nothing) (all.1.missed ∙ missed)
+        stops = stopped-comes ds n c.args.course.now.count due k u run.front at.row_is (λ nothing missed none awake.
+            c.is_stopped.ensures.stops c.if-is_stopped.true (ap (may_come_from_outside c.args.course.now.count) all.0 ∙ nothing) (all.1.missed ∙ missed)
             (ap {A = Machine} interrupt all.0 ∙ none) (ap {A = Machine} rests all.0 ∙ awake));
       },
       noting.noted ∙ ap {A = List Row} (λ xs. queue_with xs c.args.rows.now)
-          (rows-idle ds n c.args.count c.args.last now due c.args.taken.now k c.args.state.now u f c.entries.self run at.later (omega (arith, at.row_is))),
+          (rows-idle ds n c.args.course.now.count c.args.course.now.last now due c.args.taken.now k c.args.state.now u f c.entries.self run at.later (omega (arith, at.row_is))),
     )

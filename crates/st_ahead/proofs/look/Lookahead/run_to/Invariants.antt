@@ -8,10 +8,10 @@ use Rattle.st_ahead.proofs.look.Lookahead.run_to.Given as goal
 -- ticks are passed so far
 abbrev pub invariant-entries : goal.invariant-entries
 invariant-entries g l = record {
-  each : (f : Front) (now : ℕ) → IsLook l.delays.list g.row.N (now - 1) now l.fn.taken l.fn.state f l.fn.self → now ≤ l.last → IsAwake l.fn.taken l.fn.state
-      → IsNoting l.delays.list g.row.N l.count l.last now l.fn.taken l.fn.state f l.taken l.state l.self l.fn.rows l.rows;
+  each : (f : Front) (now : ℕ) → IsLook l.course.delays.now.list g.row.N (now - 1) now l.fn.taken l.fn.state f l.fn.self → now ≤ l.course.last → IsAwake l.fn.taken l.fn.state
+      → IsNoting l.course.delays.now.list g.row.N l.course.count l.course.last now l.fn.taken l.fn.state f l.taken l.state l.self l.fn.rows l.rows;
   done : l.state.done < 2 ^ 63;
 }
 
 abbrev pub decreases-entries : goal.decreases-entries
-decreases-entries g l = l.count - l.state.done
+decreases-entries g l = l.course.count - l.state.done

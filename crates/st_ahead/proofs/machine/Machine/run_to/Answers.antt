@@ -45,20 +45,14 @@ run_to-stop-requires g c =
         (
           c.self.invariant.few,
           (
-            c.requires.last,
-            (
-              c.requires.count,
-              (
-                few,
-                record {
-                  front = oldest_front i.look.levels.plans i.look.front;
-                  now = i.now;
-                  look = at.look;
-                  soon = omega (arith, c.if-now-last.false);
-                  awake = awake-inside i.stopped n i.delays.list i.state i.taken i.behind i.now i.owed i.ended i.fresh i.look c.self.invariant owes;
-                },
-              ),
-            ),
+            few,
+            record {
+              front = oldest_front i.look.levels.plans i.look.front;
+              now = i.now;
+              look = at.look;
+              soon = omega (arith, c.if-now-last.false);
+              awake = awake-inside i.stopped n i.delays.list i.state i.taken i.behind i.now i.owed i.ended i.fresh i.look c.self.invariant owes;
+            },
           ),
         ),
       ),

@@ -13,7 +13,7 @@ given-requires-clause-place c = known-place _ _ _ _ _ _ _ c.requires.unplanned c
 
 pub ask_own-requires-clause-room : goal.ask_own-requires-clause-room
 ask_own-requires-clause-room c =
-    known-early _ _ _ _ _ _ _ c.requires.unplanned c.requires.known (delays-are c.args.delays.now) c.requires.front
+    known-early _ _ _ _ _ _ _ c.requires.unplanned c.requires.known (delays-are c.args.basis.now.timing.delays.now) c.requires.front
 
 pub ask_own-requires-clause-storage : goal.ask_own-requires-clause-storage
 ask_own-requires-clause-storage c =

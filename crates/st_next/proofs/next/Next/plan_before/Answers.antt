@@ -46,9 +46,9 @@ returns-clause-next c =
       needed = p.needed;
       ready = p.ready;
       entry = p.entry;
-      address = c.form-self.ensures.address ∙ ap (tick_a c.args.delays.now.list c.args.front.now) p.entry;
-      bus = c.form-self.ensures.bus ∙ ap (bus_a c.args.delays.now.list c.args.front.now) p.entry;
-      tick = c.form-self.ensures.tick ∙ ap (tick_p c.args.delays.now.list c.args.levels c.args.front.now) p.entry;
+      address = c.form-self.ensures.address ∙ ap (tick_a c.args.basis.now.timing.delays.now.list c.args.basis.now.front.now) p.entry;
+      bus = c.form-self.ensures.bus ∙ ap (bus_a c.args.basis.now.timing.delays.now.list c.args.basis.now.front.now) p.entry;
+      tick = c.form-self.ensures.tick ∙ ap (tick_p c.args.basis.now.timing.delays.now.list c.args.basis.now.timing.levels c.args.basis.now.front.now) p.entry;
     }))
 
 pub returns-clause-further : goal.returns-clause-further
@@ -65,7 +65,7 @@ returns-clause-further c =
       needed = p.needed;
       ready = p.ready;
       entry = p.entry;
-      address = c.form-self.ensures.address ∙ ap (tick_a c.args.delays.now.list c.args.front.now) p.entry;
-      bus = c.form-self.ensures.bus ∙ ap (bus_a c.args.delays.now.list c.args.front.now) p.entry;
-      tick = c.form-self.ensures.tick ∙ ap (tick_p c.args.delays.now.list c.args.levels c.args.front.now) p.entry;
+      address = c.form-self.ensures.address ∙ ap (tick_a c.args.basis.now.timing.delays.now.list c.args.basis.now.front.now) p.entry;
+      bus = c.form-self.ensures.bus ∙ ap (bus_a c.args.basis.now.timing.delays.now.list c.args.basis.now.front.now) p.entry;
+      tick = c.form-self.ensures.tick ∙ ap (tick_p c.args.basis.now.timing.delays.now.list c.args.basis.now.timing.levels c.args.basis.now.front.now) p.entry;
     }) c.form-self.ensures.log)

@@ -47,7 +47,7 @@ ask_target-requires-clause-words c = let are = known-words _ _ _ _ _ _ _ c.words
 
 pub ask_target-requires-clause-room : goal.ask_target-requires-clause-room
 ask_target-requires-clause-room c =
-    known-early _ _ _ _ _ _ _ c.words.invariant.unplanned (known-then _ _ _ _ _ _ _ _ _ c.requires.known c.words.invariant.goes) (delays-are c.args.delays.now) c.requires.front
+    known-early _ _ _ _ _ _ _ c.words.invariant.unplanned (known-then _ _ _ _ _ _ _ _ _ c.requires.known c.words.invariant.goes) (delays-are c.args.basis.now.timing.delays.now) c.requires.front
 
 pub ask_target-requires-clause-storage : goal.ask_target-requires-clause-storage
 ask_target-requires-clause-storage c =
@@ -58,7 +58,7 @@ ask_own-requires-clause-words c = let are = known-words _ _ _ _ _ _ _ c.words.in
 
 pub ask_own-requires-clause-room : goal.ask_own-requires-clause-room
 ask_own-requires-clause-room c =
-    known-early _ _ _ _ _ _ _ c.words.invariant.unplanned (known-then _ _ _ _ _ _ _ _ _ c.requires.known c.words.invariant.goes) (delays-are c.args.delays.now) c.requires.front
+    known-early _ _ _ _ _ _ _ c.words.invariant.unplanned (known-then _ _ _ _ _ _ _ _ _ c.requires.known c.words.invariant.goes) (delays-are c.args.basis.now.timing.delays.now) c.requires.front
 
 pub ask_own-requires-clause-storage : goal.ask_own-requires-clause-storage
 ask_own-requires-clause-storage c =

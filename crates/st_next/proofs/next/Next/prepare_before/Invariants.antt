@@ -5,8 +5,8 @@ use Rattle.st_next.proofs.next.Next.prepare_before.Given as goal
 -- what was known of it is still, and the reads so far are noted
 abbrev pub invariant-words : goal.invariant-words
 invariant-words l = record {
-  goes : GoesOnTo l.delays.list l.levels (l.due - 1) l.front l.x l.state l.fn.self l.self 0;
-  further : IsReadFurther l.delays.list l.front l.fn.self l.self l.fn.log l.log;
+  goes : GoesOnTo l.basis.timing.delays.now.list l.basis.timing.levels (l.due - 1) l.basis.front.now l.basis.index.now l.basis.state.now l.fn.self l.self 0;
+  further : IsReadFurther l.basis.timing.delays.now.list l.basis.front.now l.fn.self l.self l.fn.log l.log;
   unplanned : l.self.planned ≡ false;
 }
 
