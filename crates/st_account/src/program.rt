@@ -17,8 +17,8 @@ ghost use Rattle.st_state.specs.Machine.{opening_state};
 ghost use Rattle.st_account.specs.FirstCards.{origin_of};
 ghost use Rattle.st_account.specs.Answers.{levels_by, levels_asked, lines_by, status_by, ledger_lines_of, status_of, Writes, Did, IsAnswer};
 
-use crate::origins::first_cards;
 use crate::job::Job;
+use crate::origins::first_cards;
 use crate::running::{Ready, write_ledger};
 use crate::status::Status;
 use st_asm::{AsmError, Assembled, assemble_cards};

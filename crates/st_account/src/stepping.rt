@@ -156,13 +156,7 @@ pub(crate) fn count_on(
         last.before.as_slice(),
     );
     let level_wait = begun.level_wait;
-    let ticks = finish(
-        &mut last.front,
-        &next,
-        &mut begun,
-        log,
-        &mut last.uses,
-    );
+    let ticks = finish(&mut last.front, &next, &mut begun, log, &mut last.uses);
     put_past(
         &mut last.past,
         Past {
