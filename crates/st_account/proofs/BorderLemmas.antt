@@ -72,7 +72,7 @@ pub ends-by : (left : ℕ) (m : Moment) → ends_segment m ≡ true → segment_
 ends-by left m on = either-ends (run_ends left m) (ends_segment m) on
 
 pub border-of : (ds : List ℕ) (n left : ℕ) (b : Machine) (m : Moment) (a : Account) (xs : List Signal) (cards : List (List ℕ))
-    → IsBehindMoment ds n left b m a xs cards → IsBorder ds n m a.state a.last a.behind.found.items a.behind.banks a.behind.card a.behind.waited
+    → IsBehindMoment ds n left b m a xs cards → IsBorder ds n m a.state a.last a.behind.ahead.found.items a.behind.banks a.behind.card a.behind.waited
 border-of ds n left b m a xs cards h = record {
   tick = h.tick;
   front = h.front;
@@ -177,21 +177,21 @@ module _ (ds : List ℕ) (n left : ℕ) (b : Machine) (m : Moment) (a : Account)
     })
     (ends : x.ends ≡ (a.last.missed || a.behind.card || a.behind.waited || is_some (interrupt a.state)))
     (begins : x.begins ≡ (nat_eq a.k 0 || x.ends)) where
-  at : IsBorder ds n m a.state a.last a.behind.found.items a.behind.banks a.behind.card a.behind.waited
+  at : IsBorder ds n m a.state a.last a.behind.ahead.found.items a.behind.banks a.behind.card a.behind.waited
   at = border-of ds n left b m a xs cards is
 
   here : x.ends ≡ ends_segment m
-  here = ends-is ds n m a.state a.last a.behind.found.items a.behind.banks a.behind.card a.behind.waited at (interrupt a.state) x.ends refl ends
+  here = ends-is ds n m a.state a.last a.behind.ahead.found.items a.behind.banks a.behind.card a.behind.waited at (interrupt a.state) x.ends refl ends
 
   pub segment-is : o.k ≡ (if x.begins then a.k + 1 else a.k) → o.k ≡ segment_after a.k m
   segment-is is_number =
       is_number
-      ∙ after-is ds n m a.state a.last a.behind.found.items a.behind.banks a.behind.card a.behind.waited at (interrupt a.state) x.ends refl ends a.k x.begins begins
+      ∙ after-is ds n m a.state a.last a.behind.ahead.found.items a.behind.banks a.behind.card a.behind.waited at (interrupt a.state) x.ends refl ends a.k x.begins begins
 
-  pub front-after : o.last.front ≡ (if x.ends then opening_front a.behind.banks (a.last.tick + 1 + length a.behind.found.items) else a.last.front)
+  pub front-after : o.last.front ≡ (if x.ends then opening_front a.behind.banks (a.last.tick + 1 + length a.behind.ahead.found.items) else a.last.front)
       → o.last.front ≡ next_front m
   front-after is_front =
-      front-is ds n m a.state a.last a.behind.found.items a.behind.banks a.behind.card a.behind.waited at (interrupt a.state) x.ends refl ends o.last.front is_front
+      front-is ds n m a.state a.last a.behind.ahead.found.items a.behind.banks a.behind.card a.behind.waited at (interrupt a.state) x.ends refl ends o.last.front is_front
 
   module _ (last : o.last ≡ record a.last { front = o.last.front; past = o.last.past }) where
     -- the lines of the last entry
@@ -210,9 +210,9 @@ module _ (ds : List ℕ) (n left : ℕ) (b : Machine) (m : Moment) (a : Account)
           ∙ ap (kept_lines a.k a.last) until-same
 
     -- those of the border
-    pub crossed : (i : ℕ) (found : List Ahead) (printed : List (List ℕ)) → i ≡ o.state.done + 1 → found ≡ o.behind.found.items → printed ≡ o.behind.printed.items
+    pub crossed : (i : ℕ) (found : List Ahead) (printed : List (List ℕ)) → i ≡ o.state.done + 1 → found ≡ o.behind.ahead.found.items → printed ≡ o.behind.printed.items
         → o.last.front ≡ next_front m
-        → border_text o.origins x a.k o.last.tick i printed o.last.enabled o.words.items o.state found (o.behind.late ∷ []) ≡ segment_lines (origin_at a.origins) ds n a.k b m
+        → border_text o.origins x a.k o.last.tick i printed o.last.enabled o.words.items o.state found (o.behind.ahead.late ∷ []) ≡ segment_lines (origin_at a.origins) ds n a.k b m
     crossed i found printed is_i is_found is_printed front =
         let opening : Border = record {
           ends = x.ends;
@@ -223,12 +223,12 @@ module _ (ds : List ℕ) (n left : ℕ) (b : Machine) (m : Moment) (a : Account)
           taken = interrupt a.state;
           done = a.state.done;
         } in
-        ap (λ (y : Border). border_text o.origins y a.k o.last.tick i printed o.last.enabled o.words.items o.state found (o.behind.late ∷ [])) border
-        ∙ ap (λ (fs : List Ahead). border_text o.origins opening a.k o.last.tick i printed o.last.enabled o.words.items o.state fs (o.behind.late ∷ [])) is_found
-        ∙ ap (λ (l : Last). border_text o.origins opening a.k l.tick i printed l.enabled o.words.items o.state o.behind.found.items (o.behind.late ∷ [])) last
-        ∙ ap (λ (y : Account). border_text y.origins opening a.k a.last.tick i printed a.last.enabled y.words.items y.state y.behind.found.items (y.behind.late ∷ [])) opened
-        ∙ border-lines ds n m a.state a.last a.behind.found.items a.behind.banks a.behind.card a.behind.waited at (interrupt a.state) x.ends refl ends (origin_at a.origins) b a.last.enabled
-        a.words.items printed (a.behind.late ∷ []) is.was (is_printed ∙ ap (λ (y : Account). y.behind.printed.items) opened ∙ is.printed) a.k i o.last.front.c x.begins
+        ap (λ (y : Border). border_text o.origins y a.k o.last.tick i printed o.last.enabled o.words.items o.state found (o.behind.ahead.late ∷ [])) border
+        ∙ ap (λ (fs : List Ahead). border_text o.origins opening a.k o.last.tick i printed o.last.enabled o.words.items o.state fs (o.behind.ahead.late ∷ [])) is_found
+        ∙ ap (λ (l : Last). border_text o.origins opening a.k l.tick i printed l.enabled o.words.items o.state o.behind.ahead.found.items (o.behind.ahead.late ∷ [])) last
+        ∙ ap (λ (y : Account). border_text y.origins opening a.k a.last.tick i printed a.last.enabled y.words.items y.state y.behind.ahead.found.items (y.behind.ahead.late ∷ [])) opened
+        ∙ border-lines ds n m a.state a.last a.behind.ahead.found.items a.behind.banks a.behind.card a.behind.waited at (interrupt a.state) x.ends refl ends (origin_at a.origins) b a.last.enabled
+        a.words.items printed (a.behind.ahead.late ∷ []) is.was (is_printed ∙ ap (λ (y : Account). y.behind.printed.items) opened ∙ is.printed) a.k i o.last.front.c x.begins
         (if nat_eq a.k 0 then Run else why_by (interrupt a.state) a.last.missed) is.words (λ on some. is.late (ends-by left m on) some) begins
         (is_i ∙ ap (λ (y : Account). y.state.done + 1) opened) (ap (λ (f : Front). f.c) front) refl
 
@@ -269,11 +269,11 @@ module _ (ds : List ℕ) (n left : ℕ) (b : Machine) (m : Moment) (a : Account)
   last-row end is_end =
       ap (kept_lines a.k a.last) (is_end ∙ ap Some (sym is.tick) ∙ ap (λ (y : Bool). if y then Some m.tick else None) (sym ends-there))
 
-  pub last-lines : (i : ℕ) (found : List Ahead) (printed : List (List ℕ)) → i ≡ a.state.done + 1 → found ≡ a.behind.found.items → printed ≡ a.behind.printed.items
-      → ((segment_end_lines (origin_at a.origins a.state) a.k a.last.tick i found (a.behind.late ∷ []) ++ marks_lines printed a.k a.last.enabled a.words.items a.state)
+  pub last-lines : (i : ℕ) (found : List Ahead) (printed : List (List ℕ)) → i ≡ a.state.done + 1 → found ≡ a.behind.ahead.found.items → printed ≡ a.behind.printed.items
+      → ((segment_end_lines (origin_at a.origins a.state) a.k a.last.tick i found (a.behind.ahead.late ∷ []) ++ marks_lines printed a.k a.last.enabled a.words.items a.state)
       ++ run_end_line (rests a.state) ∷ done_line a.state.done ∷ ticks_line a.last.tick ∷ []) ≡ last_lines (origin_at a.origins) ds n a.k b m
   last-lines i found printed number is_found is_printed =
-      last-is (origin_at a.origins) ds n b a.last.enabled is.was m printed (is_printed ∙ is.printed) a.state a.k a.last.tick i found (a.behind.late ∷ []) is.tick
+      last-is (origin_at a.origins) ds n b a.last.enabled is.was m printed (is_printed ∙ is.printed) a.state a.k a.last.tick i found (a.behind.ahead.late ∷ []) is.tick
       (ap (λ (c : Scene). c.machine) is.scene) (is_found ∙ is.dropped ends-there) (is.late ends-there) number a.words.items is.words
 
 -- the words of the last entry, of which none count where a segment ends
@@ -284,7 +284,7 @@ words-left ds n left b m a xs cards is ends old us new is_ends same is_new =
     is_new
     ∙ ap (λ vs. if ends then [] else vs) same
     ∙ ap (λ y. if y then [] else old)
-    (ends-is ds n m a.state a.last a.behind.found.items a.behind.banks a.behind.card a.behind.waited (border-of ds n left b m a xs cards is) (interrupt a.state) ends refl is_ends)
+    (ends-is ds n m a.state a.last a.behind.ahead.found.items a.behind.banks a.behind.card a.behind.waited (border-of ds n left b m a xs cards is) (interrupt a.state) ends refl is_ends)
 
 -- the sums of waits do not count
 pub behind-same : (ds : List ℕ) (n left : ℕ) (b : Machine) (m : Moment) (a : Account) (xs : List Signal) (cards : List (List ℕ)) (w : Waiting)

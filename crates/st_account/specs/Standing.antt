@@ -134,8 +134,8 @@ pub record IsBehindMoment (ds : List ℕ) (n left : ℕ) (b : Machine) (m : Mome
   pub front : m.front ≡ a.last.front
   pub missed : m.missed ≡ a.last.missed
   pub was : b.enabled ≡ a.last.enabled
-  pub dropped : segment_ends left m ≡ true → a.behind.found.items ≡ map (seen_ahead ds n) m.dropped
-  pub late : segment_ends left m ≡ true → a.k ≢ 0 → a.behind.late ∷ [] ≡ late_at ds n b m
+  pub dropped : segment_ends left m ≡ true → a.behind.ahead.found.items ≡ map (seen_ahead ds n) m.dropped
+  pub late : segment_ends left m ≡ true → a.k ≢ 0 → a.behind.ahead.late ∷ [] ≡ late_at ds n b m
   pub banks : segment_ends left m ≡ true → a.behind.banks ≡ m.banks
   pub printed : a.behind.printed.items ≡ words_behind m
   pub card : a.behind.card ≡ has_card m

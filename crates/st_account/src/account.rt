@@ -36,7 +36,6 @@ use crate::stepping::{
     changeable, count_on, done_of, either, end_of, execute, is_end, is_end_near, is_still,
     next_number, row_number, why_of,
 };
-use crate::timing::Timing;
 use st_banks::LastAnswers;
 use st_exec::{interrupt, is_at_rest, next_address};
 use st_io::{Failed, Sink};
@@ -46,7 +45,7 @@ use st_lines::{
     is_enabled, write_border, write_done, write_end, write_marks, write_totals,
 };
 use st_reasons::{WaitTotals, Waits};
-use st_rows::Log;
+use st_rows::{Log, Timing};
 use st_run::Coming;
 use st_state::State;
 
@@ -161,42 +160,41 @@ impl Account {
     }
 
     // Looks at what ran ahead of the last entry, where it is asked for.
-    fn look_if(&mut self, timing: &Timing, looks: bool)
+    fn look_if(&mut self, timing: &Timing<'_>, looks: bool)
         requires few { self.old.state.done + 8 < 2 ^ 63 }
         requires tight { IsTight MOST_DELAY self.old.last.front }
         requires early { self.old.last.front.c ≤ 2 ^ 63 }
         requires late { self.old.last.tick ≤ self.old.last.front.c }
-        requires levels { (1 ≤ timing.now.levels) × (timing.now.levels ≤ 8) }
         requires past { self.old.last.past ≡ self.old.last.front.past }
         requires counter { self.old.last.ic < 2 ^ 19 }
 
         ensures state { self.new.state ≡ self.old.state }
-        ensures found { looks ≡ true → self.new.behind.found.items
-            ≡ map (seen_ahead timing.now.delays.list timing.now.levels) (prepared_before
-            self.old.last.tick (ahead timing.now.delays.list timing.now.levels timing.now.levels None (guessing self.old.last.ic self.old.state)
+        ensures found { looks ≡ true → self.new.behind.ahead.found.items
+            ≡ map (seen_ahead timing.now.delays.now.list timing.now.levels) (prepared_before
+            self.old.last.tick (ahead timing.now.delays.now.list timing.now.levels timing.now.levels None (guessing self.old.last.ic self.old.state)
             self.old.last.front)) }
-        ensures late { looks ≡ true → self.new.behind.late ∷ []
-            ≡ map (seen_ahead timing.now.delays.list timing.now.levels) (first_late
-            self.old.last.tick (ahead timing.now.delays.list timing.now.levels
+        ensures late { looks ≡ true → self.new.behind.ahead.late ∷ []
+            ≡ map (seen_ahead timing.now.delays.now.list timing.now.levels) (first_late
+            self.old.last.tick (ahead timing.now.delays.now.list timing.now.levels
             (suc timing.now.levels) None (guessing self.old.last.ic self.old.state)
             self.old.last.front)) }
         ensures banks { (reads : List Read) (bus : BusOf) → looks ≡ true → HasReads
-            timing.now.delays.list self.old.last.tick reads bus self.old.last.front.bus self.old.log →
-            self.new.behind.banks ≡ (made_before timing.now.delays.list self.old.last.tick
-            (reads ++ reads_before timing.now.delays.list timing.now.levels self.old.last.tick
-            (ahead timing.now.delays.list timing.now.levels (suc timing.now.levels) None
+            timing.now.delays.now.list self.old.last.tick reads bus self.old.last.front.bus self.old.log →
+            self.new.behind.banks ≡ (made_before timing.now.delays.now.list self.old.last.tick
+            (reads ++ reads_before timing.now.delays.now.list timing.now.levels self.old.last.tick
+            (ahead timing.now.delays.now.list timing.now.levels (suc timing.now.levels) None
             (guessing self.old.last.ic self.old.state) self.old.last.front)) bus).banks }
-        ensures soon { (reads : List Read) (bus : BusOf) → HasReads timing.now.delays.list
+        ensures soon { (reads : List Read) (bus : BusOf) → HasReads timing.now.delays.now.list
             self.old.last.tick reads bus self.old.last.front.bus self.old.log →
             All (λ t. t ≤ self.old.last.tick + MOST_DELAY) self.new.behind.banks.ticks }
-        ensures few { length self.new.behind.found.items ≤ 8 }
+        ensures few { length self.new.behind.ahead.found.items ≤ 8 }
         ensures rest { self.new ≡ record self.old {
           state = self.new.state;
           log = self.new.log;
           behind = self.new.behind;
         } }
     {
-        self.behind.found.clear();
+        self.behind.ahead.found.clear();
         self.behind.banks = LastAnswers::new();
         if !looks {
             return;
@@ -212,25 +210,24 @@ impl Account {
 
     /// What comes behind the last entry takes effect: of the signals and cards that are still to
     /// come what is due, and what ends a wait. So many entries may still be done.
-    pub fn pass(&mut self, timing: &Timing, left: u64, coming: &mut Coming<'_>)
+    pub fn pass(&mut self, timing: &Timing<'_>, left: u64, coming: &mut Coming<'_>)
         requires few { self.old.state.done + 8 < 2 ^ 63 }
         requires tight { IsTight MOST_DELAY self.old.last.front }
         requires early { self.old.last.front.c ≤ 2 ^ 63 }
         requires late { self.old.last.tick ≤ self.old.last.front.c }
-        requires levels { (1 ≤ timing.now.levels) × (timing.now.levels ≤ 8) }
         requires past { self.old.last.past ≡ self.old.last.front.past }
         requires counter { self.old.last.ic < 2 ^ 19 }
 
         ensures came { (b : Machine) (m : Moment) →
-            IsAt timing.now.delays.list timing.now.levels b m self.old coming.old.signals
+            IsAt timing.now.delays.now.list timing.now.levels b m self.old coming.old.signals
             coming.old.cards →
-            IsBehindMoment timing.now.delays.list timing.now.levels left b m self.new
+            IsBehindMoment timing.now.delays.now.list timing.now.levels left b m self.new
             coming.new.signals coming.new.cards }
         ensures soon { (b : Machine) (m : Moment) →
-            IsAt timing.now.delays.list timing.now.levels b m self.old coming.old.signals
+            IsAt timing.now.delays.now.list timing.now.levels b m self.old coming.old.signals
             coming.old.cards →
             All (λ t. t ≤ self.old.last.tick + MOST_DELAY) self.new.behind.banks.ticks }
-        ensures few { length self.new.behind.found.items ≤ 8 }
+        ensures few { length self.new.behind.ahead.found.items ≤ 8 }
         ensures rest { self.new ≡ record self.old {
           state = self.new.state;
           log = self.new.log;
@@ -257,7 +254,7 @@ impl Account {
     fn open(&mut self) -> Border
         requires number { self.old.k ≤ MOST_INSTRUCTIONS }
         requires early { self.old.last.tick ≤ 2 ^ 62 }
-        requires dropped { length self.old.behind.found.items ≤ 8 }
+        requires dropped { length self.old.behind.ahead.found.items ≤ 8 }
         requires soon { All (λ t. t ≤ self.old.last.tick + MOST_DELAY) self.old.behind.banks.ticks }
         requires past { self.old.last.past ≡ self.old.last.front.past }
         requires tight { IsTight MOST_DELAY self.old.last.front }
@@ -278,7 +275,7 @@ impl Account {
         ensures begins { result.begins ≡ (nat_eq self.old.k 0 || result.ends) }
 
         ensures front { self.new.last.front ≡ (if result.ends then opening_front
-            self.old.behind.banks (self.old.last.tick + 1 + length self.old.behind.found.items)
+            self.old.behind.banks (self.old.last.tick + 1 + length self.old.behind.ahead.found.items)
             else self.old.last.front) }
         ensures past { self.new.last.past ≡ self.new.last.front.past }
         ensures tight { IsTight MOST_DELAY self.new.last.front }
@@ -300,7 +297,7 @@ impl Account {
             ends,
             &mut self.last,
             self.behind.banks,
-            self.behind.found.len() as u64,
+            self.behind.ahead.found.len() as u64,
         );
         self.k = next_number(begins, k);
         Border {
@@ -320,7 +317,7 @@ impl Account {
         requires few { self.old.state.done ≤ MOST_INSTRUCTIONS }
         requires number { self.old.k ≤ MOST_INSTRUCTIONS }
         requires early { self.old.last.tick ≤ 2 ^ 62 }
-        requires dropped { length self.old.behind.found.items ≤ 8 }
+        requires dropped { length self.old.behind.ahead.found.items ≤ 8 }
         requires soon { All (λ t. t ≤ self.old.last.tick + MOST_DELAY) self.old.behind.banks.ticks }
         requires past { self.old.last.past ≡ self.old.last.front.past }
         requires tight { IsTight MOST_DELAY self.old.last.front }
@@ -372,8 +369,8 @@ impl Account {
             dropped: Dropped {
                 tick: self.last.tick,
                 n: row_number(&self.state),
-                found: self.behind.found.as_slice(),
-                late: &self.behind.late,
+                found: self.behind.ahead.found.as_slice(),
+                late: &self.behind.ahead.late,
                 origins: &self.origins,
             },
             printed: self.behind.printed.as_slice(),
@@ -386,7 +383,7 @@ impl Account {
     /// Writes the lines of the last entry, of what came behind it, and of the end of the run.
     pub fn finish<K: Sink>(&mut self, out: &mut K) -> Result<(), Failed>
         requires few { self.old.state.done ≤ MOST_INSTRUCTIONS }
-        requires dropped { length self.old.behind.found.items ≤ 8 }
+        requires dropped { length self.old.behind.ahead.found.items ≤ 8 }
         requires size { length self.old.words.items ≡ words_of_storage }
         requires left { self.old.k ≢ 0 → (v : ℕ) → v < WORDS → IsLeft v self.old.behind.may →
             slice_index self.old.words.items v ≡ word self.old.state v }
@@ -410,7 +407,7 @@ impl Account {
     // Writes what came behind the last entry, and the end of the run.
     fn write_last<K: Sink>(&mut self, out: &mut K) -> Result<(), Failed>
         requires few { self.old.state.done ≤ MOST_INSTRUCTIONS }
-        requires dropped { length self.old.behind.found.items ≤ 8 }
+        requires dropped { length self.old.behind.ahead.found.items ≤ 8 }
         requires size { length self.old.words.items ≡ words_of_storage }
         requires left { self.old.k ≢ 0 → (v : ℕ) → v < WORDS → IsLeft v self.old.behind.may →
             slice_index self.old.words.items v ≡ word self.old.state v }
@@ -428,8 +425,8 @@ impl Account {
             dropped: Dropped {
                 tick: self.last.tick,
                 n: row_number(&self.state),
-                found: self.behind.found.as_slice(),
-                late: &self.behind.late,
+                found: self.behind.ahead.found.as_slice(),
+                late: &self.behind.ahead.late,
                 origins: &self.origins,
             },
             printed: self.behind.printed.as_slice(),
@@ -447,9 +444,8 @@ impl Account {
     }
 
     /// The next entry is executed; its lines are then to be written.
-    pub fn step(&mut self, timing: &Timing)
+    pub fn step(&mut self, timing: &Timing<'_>)
         requires few { self.old.state.done < MOST_INSTRUCTIONS }
-        requires levels { (1 ≤ timing.now.levels) × (timing.now.levels ≤ 8) }
         requires tight { IsTight MOST_DELAY self.old.last.front }
         requires early { self.old.last.front.c ≤ 2 ^ 63 }
         requires order { self.old.last.tick ≤ self.old.last.front.c }
@@ -460,24 +456,24 @@ impl Account {
 
         ensures lines { (p : Standing) (end : Option ℕ) → self.old.k ≢ 0 →
             IsStanding p self.old.state self.old.last → kept_lines self.new.k self.new.last end
-            ≡ lines_of_entry (origin_at self.old.origins) timing.now.delays.list timing.now.levels end
+            ≡ lines_of_entry (origin_at self.old.origins) timing.now.delays.now.list timing.now.levels end
             self.old.last.uses.items p }
         ensures uses { (p : Standing) → IsStanding p self.old.state self.old.last →
-            self.new.last.uses.items ≡ uses_at timing.now.delays.list timing.now.levels p }
+            self.new.last.uses.items ≡ uses_at timing.now.delays.now.list timing.now.levels p }
         ensures waiting { IsWaiting self.new.last self.new.waiting.totals }
         ensures stalled { (p : Standing) (r : Stage) (s : Stall) → self.old.k ≢ 0 →
             IsStanding p self.old.state self.old.last →
             kept_stalled r s self.new.k self.new.last
-            ≡ row_stalled r s (uses_at timing.now.delays.list timing.now.levels p)
-            self.old.last.uses.items (charges_at timing.now.delays.list timing.now.levels p) }
+            ≡ row_stalled r s (uses_at timing.now.delays.now.list timing.now.levels p)
+            self.old.last.uses.items (charges_at timing.now.delays.now.list timing.now.levels p) }
         ensures totals { self.new.waiting.totals ≡ self.old.waiting.totals }
         ensures state { self.new.state ≡ step_of self.old.state }
         ensures last { (p : Standing) → IsStanding p self.old.state self.old.last →
-            IsLast timing.now.delays.list timing.now.levels
-            (next_moment timing.now.delays.list timing.now.levels p) self.new.last self.new.log }
+            IsLast timing.now.delays.now.list timing.now.levels
+            (next_moment timing.now.delays.now.list timing.now.levels p) self.new.last self.new.log }
         ensures sums { (p : Standing) (s : Stage) → IsStanding p self.old.state self.old.last →
             sum_at s self.new.sums ≡ sum_at s self.old.sums
-            + ticks_for s (charges_at timing.now.delays.list timing.now.levels p) }
+            + ticks_for s (charges_at timing.now.delays.now.list timing.now.levels p) }
         ensures within { AreWithin self.new.last.tick self.new.sums }
         ensures enabled { self.new.last.enabled ≡ self.old.state.enabled }
         ensures guess { guessing self.new.last.ic self.new.state

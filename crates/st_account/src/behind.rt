@@ -9,20 +9,18 @@ ghost use Rattle.st_plain.specs.Looking.{seen_ahead, first_late};
 ghost use Rattle.st_account.specs.Standing.{guessing, HasReads};
 
 use crate::last::{Last, front_of};
-use crate::timing::Timing;
 use st_banks::LastAnswers;
 use st_lines::{Changeable, Printed};
-use st_plain::{Ahead, Aheads, look};
-use st_rows::Log;
+use st_plain::{FoundAhead, Reach, look};
+use st_rows::{Log, Timing};
 use st_state::State;
 
 /// What comes behind an entry that has been done, and what ran ahead of it.
 #[derive(Drop)]
 pub(crate) struct Behind {
-    /// The entries that were prepared before it was done, the oldest first, where its segment ends.
-    pub found: Aheads,
-    /// The one behind them.
-    pub late: Ahead,
+    /// The entries that were prepared before it was done, and the one behind them, where its segment
+    /// ends.
+    pub ahead: FoundAhead,
     /// The last answers of the banks, where its segment ends.
     pub banks: LastAnswers,
     /// What is printed.
@@ -37,11 +35,10 @@ pub(crate) struct Behind {
 
 /// Nothing has come.
 pub(crate) fn nothing_came() -> Behind
-    ensures { length result.found.items ≡ 0 }
+    ensures { length result.ahead.found.items ≡ 0 }
 {
     Behind {
-        found: Aheads::new(),
-        late: Ahead::default(),
+        ahead: FoundAhead::default(),
         banks: LastAnswers::new(),
         printed: Printed::new(),
         card: false,
@@ -56,7 +53,7 @@ pub(crate) fn nothing_came() -> Behind
 pub(crate) fn look_behind(
     state: &mut State,
     last: &Last,
-    timing: &Timing,
+    timing: &Timing<'_>,
     log: &mut Log,
     behind: &mut Behind,
 )
@@ -64,48 +61,41 @@ pub(crate) fn look_behind(
     requires tight { IsTight MOST_DELAY last.now.front }
     requires early { last.now.front.c ≤ 2 ^ 63 }
     requires late { last.now.tick ≤ last.now.front.c }
-    requires levels { (1 ≤ timing.now.levels) × (timing.now.levels ≤ 8) }
     requires past { last.now.past ≡ last.now.front.past }
     requires counter { last.now.ic < 2 ^ 19 }
-    requires none { length behind.old.found.items ≡ 0 }
+    requires none { length behind.old.ahead.found.items ≡ 0 }
 
     ensures state { state.new ≡ state.old }
-    ensures found { behind.new.found.items
-        ≡ map (seen_ahead timing.now.delays.list timing.now.levels) (prepared_before last.now.tick
-        (ahead timing.now.delays.list timing.now.levels timing.now.levels None
+    ensures found { behind.new.ahead.found.items
+        ≡ map (seen_ahead timing.now.delays.now.list timing.now.levels) (prepared_before last.now.tick
+        (ahead timing.now.delays.now.list timing.now.levels timing.now.levels None
         (guessing last.now.ic state.old) last.now.front)) }
-    ensures late { behind.new.late ∷ []
-        ≡ map (seen_ahead timing.now.delays.list timing.now.levels) (first_late last.now.tick
-        (ahead timing.now.delays.list timing.now.levels (suc timing.now.levels) None
+    ensures late { behind.new.ahead.late ∷ []
+        ≡ map (seen_ahead timing.now.delays.now.list timing.now.levels) (first_late last.now.tick
+        (ahead timing.now.delays.now.list timing.now.levels (suc timing.now.levels) None
         (guessing last.now.ic state.old) last.now.front)) }
     ensures banks { (reads : List Read) (bus : BusOf) →
-        HasReads timing.now.delays.list last.now.tick reads bus last.now.front.bus log.old →
-        behind.new.banks ≡ (made_before timing.now.delays.list last.now.tick
-        (reads ++ reads_before timing.now.delays.list timing.now.levels last.now.tick
-        (ahead timing.now.delays.list timing.now.levels (suc timing.now.levels) None
+        HasReads timing.now.delays.now.list last.now.tick reads bus last.now.front.bus log.old →
+        behind.new.banks ≡ (made_before timing.now.delays.now.list last.now.tick
+        (reads ++ reads_before timing.now.delays.now.list timing.now.levels last.now.tick
+        (ahead timing.now.delays.now.list timing.now.levels (suc timing.now.levels) None
         (guessing last.now.ic state.old) last.now.front)) bus).banks }
     ensures soon { (reads : List Read) (bus : BusOf) →
-        HasReads timing.now.delays.list last.now.tick reads bus last.now.front.bus log.old →
+        HasReads timing.now.delays.now.list last.now.tick reads bus last.now.front.bus log.old →
         All (λ t. t ≤ last.now.tick + MOST_DELAY) behind.new.banks.ticks }
-    ensures few { length behind.new.found.items ≤ 8 }
+    ensures few { length behind.new.ahead.found.items ≤ 8 }
 {
     let ic = state.ic;
     let tick = last.tick;
     let mut front = front_of(last);
     state.ic = last.ic;
-    state.shape();
-    look(
-        state,
-        &mut front,
-        &last.past,
-        &timing.delays,
-        timing.levels as usize,
-        timing.levels,
+    let reach = Reach {
+        past: &last.past,
+        timing,
+        more: timing.levels,
         tick,
-        log,
-        &mut behind.found,
-        &mut behind.late,
-    );
+    };
+    look(state, &mut front, &reach, log, &mut behind.ahead);
     state.ic = ic;
     let mut banks = front.bus.banks;
     log.undo(&mut banks, tick);

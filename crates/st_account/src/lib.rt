@@ -3,6 +3,7 @@
 
 mod account;
 mod behind;
+mod job;
 mod last;
 mod origins;
 mod program;
@@ -10,9 +11,7 @@ mod running;
 mod settling;
 mod status;
 mod stepping;
-mod timing;
 
 pub use program::ledger;
 pub use running::{Ready, write_ledger};
 pub use status::Status;
-pub use timing::Timing;

@@ -17,10 +17,10 @@ ghost use Rattle.st_state.specs.Machine.{opening_state};
 ghost use Rattle.st_account.specs.FirstCards.{origin_of};
 ghost use Rattle.st_account.specs.Answers.{levels_by, levels_asked, lines_by, status_by, ledger_lines_of, status_of, Writes, Did, IsAnswer};
 
+use crate::job::Job;
 use crate::origins::first_cards;
 use crate::running::{Ready, write_ledger};
 use crate::status::Status;
-use crate::timing::Timing;
 use st_asm::{AsmError, Assembled, assemble_cards};
 use st_banks::Delays;
 use st_bits::NoMemory;
@@ -117,22 +117,20 @@ fn words(alloc: Global, image: &[u64]) -> Result<Vec<u64>, NoMemory>
 fn prepare(
     alloc: Global,
     levels: u8,
-    job: &[u8],
-    cards: &[Card],
+    job: &Job<'_>,
     program: Assembled,
 ) -> Result<(Ready, Controls), NoMemory>
-    requires cards { cards.now ≡ cards_of job.now }
-    requires sound { IsAssemblySound (length (cards_of job.now)) (assembly_parts program) }
+    requires sound { IsAssemblySound (length (cards_of job.now.text.now)) (assembly_parts program) }
 
     ensures state { IfOk result (λ r. r.0.state ≡ opening_state program.image.items
         program.start) }
     ensures words { IfOk result (λ r. length r.0.words.items ≡ words_of_storage) }
     ensures origins { IfOk result (λ r. origin_at r.0.origins
         ≡ origin_of (assembly_parts program)) }
-    ensures reader { IfOk result (λ r. r.0.cards ≡ reader_cards job.now) }
+    ensures reader { IfOk result (λ r. r.0.cards ≡ reader_cards job.now.text.now) }
     ensures cards { IfOk result (λ r. All IsCard r.0.cards) }
-    ensures delays { IfOk result (λ r. r.0.timing.delays.list ≡ program.controls.delays) }
-    ensures levels { IfOk result (λ r. r.0.timing.levels ≡ levels) }
+    ensures delays { IfOk result (λ r. r.0.delays.list ≡ program.controls.delays) }
+    ensures levels { IfOk result (λ r. r.0.levels ≡ levels) }
     ensures asked { IfOk result (λ r. r.1 ≡ program.controls) }
 {
     let Assembled {
@@ -145,7 +143,7 @@ fn prepare(
     let state = State::new(alloc, image.as_slice(), start)?;
     let words = words(alloc, image.as_slice())?;
     let table = first_cards(alloc, listing.as_slice())?;
-    let reader = reader(alloc, job, cards)?;
+    let reader = reader(alloc, job.text, job.cards)?;
     let delays = delays(alloc, &controls)?;
     let ready = Ready {
         state,
@@ -155,7 +153,8 @@ fn prepare(
             image,
         },
         cards: reader,
-        timing: Timing { delays, levels },
+        delays,
+        levels,
     };
     Ok((ready, controls))
 }
@@ -164,18 +163,16 @@ fn prepare(
 fn run_program<K: Sink>(
     alloc: Global,
     n: u8,
-    job: &[u8],
-    cards: &[Card],
+    job: &Job<'_>,
     program: Assembled,
     out: &mut K,
 ) -> Status
     requires levels { (1 ≤ n) × (n ≤ 8) }
-    requires cards { cards.now ≡ cards_of job.now }
-    requires sound { IsAssemblySound (length (cards_of job.now)) (assembly_parts program) }
+    requires sound { IsAssemblySound (length (cards_of job.now.text.now)) (assembly_parts program) }
     ensures { Writes result (K.output out.old) (K.output out.new)
-        (lines_by n job.now (Ok (assembly_parts program))) Status.Done }
+        (lines_by n job.now.text.now (Ok (assembly_parts program))) Status.Done }
 {
-    let Ok((ready, controls)) = prepare(alloc, n, job, cards, program) else {
+    let Ok((ready, controls)) = prepare(alloc, n, job, program) else {
         return Status::NoMemory;
     };
     match write_ledger(out, ready, &controls) {
@@ -195,9 +192,12 @@ fn run_job<K: Sink>(alloc: Global, n: u8, job: &[u8], out: &mut K) -> Status
     let Ok(cards) = split(alloc, job) else {
         return Status::NoMemory;
     };
-    let deck = cards.as_slice();
-    match assemble_cards(alloc, job, deck) {
-        Ok(program) => run_program(alloc, n, job, deck, program, out),
+    let job = Job {
+        text: job,
+        cards: cards.as_slice(),
+    };
+    match assemble_cards(alloc, job.text, job.cards) {
+        Ok(program) => run_program(alloc, n, &job, program, out),
         Err(AsmError::Refused { card, fault }) => refuse(out, card, fault),
         Err(AsmError::NoMemory) => Status::NoMemory,
     }

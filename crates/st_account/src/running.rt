@@ -18,13 +18,14 @@ ghost use Rattle.st_reasons.specs.declared.waits.Stall.{Stall};
 ghost use Rattle.st_account.specs.Text.{lines_from, stalled_from, ledger};
 
 use crate::account::Account;
-use crate::timing::Timing;
+use st_banks::Delays;
 use st_card::{Controls, Signal};
 use st_exch::Hopper;
 use st_io::{Failed, Sink};
 use st_ledger::{Totals, write_sums};
 use st_lines::{Origins, write_machine, write_wait_sums};
 use st_reasons::WaitTotals;
+use st_rows::Timing;
 use st_run::Coming;
 use st_state::State;
 
@@ -38,7 +39,10 @@ pub struct Ready {
     pub origins: Origins,
     /// The cards of the reader.
     pub cards: Hopper,
-    pub timing: Timing,
+    /// The delays of storage.
+    pub delays: Delays,
+    /// How many levels the machine has, 1 to 8.
+    pub levels: u8,
 }
 
 // The signals that are asked for.
@@ -73,21 +77,21 @@ fn write_run<K: Sink>(
 ) -> Result<(), Failed>
     requires fresh { ready.state.done ≡ 0 }
     requires cards { All IsCard ready.cards }
-    requires levels { (1 ≤ ready.timing.levels) × (ready.timing.levels ≤ 8) }
+    requires levels { (1 ≤ ready.levels) × (ready.levels ≤ 8) }
     requires signals { AllPass is_signal controls.now.signals }
     requires limit { controls.now.budget ≤ MOST_INSTRUCTIONS }
     requires size { length ready.words.items ≡ words_of_storage }
 
     ensures lines { WritesLines (K.output out.old) (K.output out.new)
-        (lines_from (origin_at ready.origins) ready.timing.delays.list ready.timing.levels
+        (lines_from (origin_at ready.origins) ready.delays.list ready.levels
         controls.now.budget 0 ready.state []
         (start_of (at_hand ready.state controls.now.signals ready.cards))) result }
     ensures sums { (s : Stage) → IsOk result → sum_at s sums.new
-        ≡ ticks_for s (all_charges ready.timing.delays.list ready.timing.levels
-        (entries_from ready.timing.delays.list ready.timing.levels controls.now.budget
+        ≡ ticks_for s (all_charges ready.delays.list ready.levels
+        (entries_from ready.delays.list ready.levels controls.now.budget
         (start_of (at_hand ready.state controls.now.signals ready.cards)))) }
     ensures waits { (r : Stage) (s : Stall) → is_parted r ≡ true → IsOk result →
-        waited_at r s waits.new ≡ stalled_from r s ready.timing.delays.list ready.timing.levels
+        waited_at r s waits.new ≡ stalled_from r s ready.delays.list ready.levels
         controls.now.budget [] (start_of (at_hand ready.state controls.now.signals ready.cards)) }
 {
     let Ready {
@@ -95,8 +99,13 @@ fn write_run<K: Sink>(
         words,
         origins,
         cards,
-        timing,
+        delays,
+        levels,
     } = ready;
+    let timing = Timing {
+        delays: &delays,
+        levels: levels as usize,
+    };
     let mut account = Account::new(state, words, origins);
     let mut coming = Coming::new(signals(controls), cards);
     let mut left = budget(controls);
@@ -120,19 +129,19 @@ fn write_run<K: Sink>(
 pub fn write_ledger<K: Sink>(out: &mut K, ready: Ready, controls: &Controls) -> Result<(), Failed>
     requires fresh { ready.state.done ≡ 0 }
     requires cards { All IsCard ready.cards }
-    requires levels { (1 ≤ ready.timing.levels) × (ready.timing.levels ≤ 8) }
-    requires delays { ready.timing.delays.list ≡ controls.now.delays }
+    requires levels { (1 ≤ ready.levels) × (ready.levels ≤ 8) }
+    requires delays { ready.delays.list ≡ controls.now.delays }
     requires signals { AllPass is_signal controls.now.signals }
     requires limit { controls.now.budget ≤ MOST_INSTRUCTIONS }
     requires size { length ready.words.items ≡ words_of_storage }
 
     ensures { WritesLines (K.output out.old) (K.output out.new)
-        (ledger (origin_at ready.origins) ready.timing.delays.list ready.timing.levels
+        (ledger (origin_at ready.origins) ready.delays.list ready.levels
         controls.now.budget (at_hand ready.state controls.now.signals ready.cards)) result }
 {
     let mut sums = Totals::default();
     let mut waits = WaitTotals::default();
-    write_machine(out, ready.timing.levels, list(controls))?;
+    write_machine(out, ready.levels, list(controls))?;
     write_run(out, ready, controls, &mut sums, &mut waits)?;
     write_sums(out, &sums)?;
     write_wait_sums(out, &waits)

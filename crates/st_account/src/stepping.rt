@@ -18,14 +18,13 @@ ghost use Rattle.st_lines.specs.declared.lines.Why.TheVariants.{Run as RunBegins
 ghost use Rattle.st_state.specs.Machine.{IsMachine};
 
 use crate::last::Last;
-use crate::timing::Timing;
 use st_card::Signal;
 use st_exec::{complete_in, interrupt, is_missed};
 use st_lines::{Changeable, Why, is_enabled};
-use st_plain::{Begun, Row, begin, finish, plan_entry, put_past};
+use st_plain::{Begun, NextEntry, Row, begin, finish, plan_entry, put_past};
 use st_prep::Prepared;
 use st_reasons::find_reason;
-use st_rows::{Log, Past};
+use st_rows::{Log, Past, Timing};
 use st_run::plain::{printer_is_free, reader_is_free};
 use st_state::State;
 
@@ -100,35 +99,34 @@ pub(crate) fn is_end_near(left: u64, still: bool) -> bool
 pub(crate) fn count_on(
     state: &State,
     taken: Option<u8>,
-    timing: &Timing,
+    timing: &Timing<'_>,
     last: &mut Last,
     log: &mut Log,
 )
     requires indicator { IfSome taken (λ i. i < 64) }
-    requires levels { (1 ≤ timing.now.levels) × (timing.now.levels ≤ 8) }
     requires tight { IsTight MOST_DELAY last.old.front }
     requires early { last.old.front.c ≤ 2 ^ 63 }
     requires past { last.old.past ≡ last.old.front.past }
 
     ensures plan { last.new.plan ≡ plan_of state.now taken }
     ensures prepared { IsPrepared last.new.plan }
-    ensures row { last.new.done.row.ticks ≡ row_of timing.now.delays.list timing.now.levels
+    ensures row { last.new.done.row.ticks ≡ row_of timing.now.delays.now.list timing.now.levels
         last.old.front (entry_of taken state.now) }
-    ensures wait { last.new.done.row.level_wait ≡ level_wait timing.now.delays.list timing.now.levels
+    ensures wait { last.new.done.row.level_wait ≡ level_wait timing.now.delays.now.list timing.now.levels
         last.old.front (entry_of taken state.now) }
     ensures known { last.new.done.known ≡ known_at taken state.now }
-    ensures uses { last.new.uses.items ≡ uses_of_entry timing.now.delays.list timing.now.levels
+    ensures uses { last.new.uses.items ≡ uses_of_entry timing.now.delays.now.list timing.now.levels
         last.old.front (entry_of taken state.now) (side_at taken state.now)
         (plan_of state.now taken).reads }
     ensures earlier { last.new.before.items ≡ last.old.uses.items }
     ensures because { last.new.because ≡ because_of last.old.front (entry_of taken state.now)
         last.new.done.row.ticks.a last.new.done.row.ticks.p last.new.done.row.level_wait
-        (formed_uses timing.now.delays.list last.old.front (entry_of taken state.now)
+        (formed_uses timing.now.delays.now.list last.old.front (entry_of taken state.now)
         (side_at taken state.now)) last.old.uses.items }
-    ensures front { last.new.front ≡ after_of timing.now.delays.list timing.now.levels last.old.front
+    ensures front { last.new.front ≡ after_of timing.now.delays.now.list timing.now.levels last.old.front
         (entry_of taken state.now) }
-    ensures log { log.new ≡ log_after_reads timing.now.delays.list
-        (asked_of timing.now.delays.list timing.now.levels last.old.front (entry_of taken state.now))
+    ensures log { log.new ≡ log_after_reads timing.now.delays.now.list
+        (asked_of timing.now.delays.now.list timing.now.levels last.old.front (entry_of taken state.now))
         last.old.front.bus [] }
     ensures past { last.new.past ≡ last.new.front.past }
     ensures tick { last.new.tick ≡ last.new.done.row.ticks.c }
@@ -138,47 +136,32 @@ pub(crate) fn count_on(
     ensures before { last.new.done.before ≡ last.old.done.before }
     ensures start { last.new.done.start ≡ last.old.done.start }
 {
-    state.shape();
     let planned = plan_entry(taken, state, &mut last.plan);
-    let entry = &planned.entry;
     log.clear();
     last.before.copy(&last.uses);
     last.uses.clear();
     let mut begun = Begun::default();
-    begin(
-        &mut begun,
-        &last.front,
-        &last.past,
-        &timing.delays,
-        timing.levels as usize,
-        &planned,
-        log,
-        &mut last.uses,
-    );
+    let next = NextEntry {
+        plan: &last.plan,
+        planned: &planned,
+        past: &last.past,
+        timing,
+    };
+    begin(&mut begun, &last.front, &next, log, &mut last.uses);
     last.because = find_reason(
         &last.front,
-        entry,
+        &planned.entry,
         &begun,
         last.uses.as_slice(),
         last.before.as_slice(),
     );
     let level_wait = begun.level_wait;
-    let ticks = finish(
-        &mut last.front,
-        &last.past,
-        &timing.delays,
-        timing.levels as usize,
-        entry,
-        last.plan.reads,
-        &mut begun,
-        log,
-        &mut last.uses,
-    );
+    let ticks = finish(&mut last.front, &next, &mut begun, log, &mut last.uses);
     put_past(
         &mut last.past,
         Past {
             c: ticks.c,
-            writes: entry.writes,
+            writes: planned.entry.writes,
         },
     );
     last.tick = ticks.c;

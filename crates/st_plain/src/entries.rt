@@ -2,13 +2,14 @@
 ghost use Rattle.std.specs.Prelude.{◌≡◌, ℕ, ◌+◌, ◌/◌, ◌<◌, ◌≤◌, ◌^◌, ◌∷◌, ◌&&◌, false, None, is_none, if◌then◌else◌, IfSome, length, take, drop};
 ghost use Rattle.st_format.specs.Formats.{decoded_entry, instruction_of, spelled_as};
 ghost use Rattle.st_state.specs.Boundary.{forbidden_by};
-ghost use Rattle.st_state.specs.Machine.{word};
+ghost use Rattle.st_state.specs.Machine.{IsMachine, word};
 ghost use Rattle.st_state.specs.declared.protection.Access.{Access as AccessOf};
 ghost use Rattle.st_prep.specs.Fetch.{index_words as index_words_of, reading_of, words_fetched as fetched_of};
 ghost use Rattle.st_prep.specs.Plan.{needs as needs_of, plan as plan_of, prepared_entry as prepared_of, sight_of, side_of};
 ghost use Rattle.st_prep.specs.Ranges.{HasFields, IsPlace, IsFetched, IsNeeds, IsPrepared};
 ghost use Rattle.st_prep.specs.Reading.{Use, words_read, own_words, half_of as half_by, with_second as with_second_of, with_first as with_first_of, instruction_at, is_execute as is_execute_of, fetched_plain, allowed_found};
-ghost use Rattle.st_plain.specs.Looking.{code_found as code_found_of, known_at};
+ghost use Rattle.st_plain.specs.Looking.{known_at};
+ghost use Rattle.st_rows.specs.Ranges.{IsEntryInTime};
 ghost use Rattle.st_plain.specs.Straight.{IsReadOver, if_more, entry_shown, IsEntryPlanned};
 ghost use Rattle.st_segment.specs.Entries.{run_of as run_by, above_registers as above_registers_of, words_to_read as words_to_read_of, words_to_write as words_to_write_of, side_to_read as side_to_read_of, entry as entry_of};
 
@@ -332,72 +333,75 @@ fn is_execute(instr: &Instr) -> bool
     matches!(*instr, Instr::Half { op: HalfOp::Ex, .. })
 }
 
-// What is known of an entry.
+// What is known of an entry that is found and prepared; `table` has the indicator of its interrupt.
 #[inline(always)]
 #[tactic(auto, unfolding(crate::specs::Straight::entry_shown))]
-fn show(
-    own: WordRun,
-    target: WordRun,
-    needs: Needs,
-    p: &Prepared,
-    follows: bool,
-    execute: bool,
-    code: Option<Code>,
-) -> Planned
-    ensures entry { result.entry ≡ entry_shown own target needs p.now follows }
+fn show(found: &Found, table: Option<u8>, code: Option<Code>, needs: Needs, p: &Prepared) -> Planned
+    ensures entry { result.entry ≡ entry_shown found.now.own found.now.target needs p.now
+        (is_none table && is_none found.now.fetched.fault) }
     ensures known { result.known ≡ record {
       side = needs.index_read;
-      execute = execute;
+      execute = is_execute_of found.now.fetched.instr.instr;
       code = code;
     } }
 {
     Planned {
         entry: Entry {
-            own,
-            target,
+            own: found.own,
+            target: found.target,
             side: side_to_read(needs.index_read),
             reads: words_to_read(p.reads),
             writes: words_to_write(p.writes),
             cost: p.cost,
             serial: p.serial,
-            follows,
+            follows: asks_for_following(table, found.fetched.fault),
         },
         known: Known {
             side: needs.index_read,
-            execute,
+            execute: is_execute(&found.fetched.instr.instr),
             code,
         },
     }
+}
+
+// The half-words of an entry's own instruction, which is not EX, and its words.
+#[derive(Clone, Copy, Debug, PartialEq, Eq)]
+struct OwnHalves {
+    first: u32,
+    second: u32,
+    words: WordRun,
 }
 
 // Plans the entry at `p.place`, an own instruction that is not EX and whose words may be fetched,
 // with its half-words.
 #[inline(always)]
 fn plan_own(
-    own: Decoded,
-    code: Option<Code>,
-    words: WordRun,
+    instr: Decoded,
+    halves: OwnHalves,
     x: &[u64; 16],
     state: &State,
     p: &mut Prepared,
 ) -> Planned
     requires place { IsPlace p.old.place }
-    requires fields { HasFields own.instr }
-    requires code { code ≡ code_found_of (fetched_plain own) }
-    ensures planned { IsEntryPlanned state.now x.now p.old.place (fetched_plain own) words
+    requires decoded { instr ≡ decoded_entry halves.first halves.second }
+    requires fields { HasFields instr.instr }
+    ensures planned { IsEntryPlanned state.now x.now p.old.place (fetched_plain instr) halves.words
         (record { first = 0; len = 0 }) p.new result }
     ensures ranges { IsPrepared p.new }
 {
-    let fetched = Fetched {
-        instr: own,
-        target: None,
-        fault: None,
+    let found = Found {
+        fetched: Fetched {
+            instr,
+            target: None,
+            fault: None,
+        },
+        own: halves.words,
+        target: WordRun::default(),
     };
+    let code = code_in(halves.first, halves.second);
     let table = p.place.table;
-    let needs = prepare_found(p, &fetched, x, state);
-    let follows = asks_for_following(table, None);
-    let execute = is_execute(&fetched.instr.instr);
-    show(words, WordRun::default(), needs, p, follows, execute, code)
+    let needs = prepare_found(p, &found.fetched, x, state);
+    show(&found, table, code, needs, p)
 }
 
 // The same of half-words whose format is known. Each format that is told apart has a copy of its
@@ -406,41 +410,41 @@ fn plan_own(
 #[inline(always)]
 fn plan_as<const KIND: u8>(
     format: Format,
-    halves: (u32, u32),
-    words: WordRun,
+    halves: OwnHalves,
     x: &[u64; 16],
     state: &State,
     p: &mut Prepared,
 ) -> Planned
     requires place { IsPlace p.old.place }
-    requires format { spelled_as format halves.0 halves.1 ≡ instruction_of halves.0 halves.1 }
+    requires format { spelled_as format halves.first halves.second
+        ≡ instruction_of halves.first halves.second }
     ensures planned { IsEntryPlanned state.now x.now p.old.place
-        (fetched_plain (decoded_entry halves.0 halves.1)) words (record { first = 0; len = 0 })
-        p.new result }
+        (fetched_plain (decoded_entry halves.first halves.second)) halves.words
+        (record { first = 0; len = 0 }) p.new result }
     ensures ranges { IsPrepared p.new }
 {
-    let own = decode_as(format, halves.0, halves.1);
-    plan_own(own, code_in(halves.0, halves.1), words, x, state, p)
+    let instr = decode_as(format, halves.first, halves.second);
+    plan_own(instr, halves, x, state, p)
 }
 
 // The same of a format that is not frequent.
 #[inline(never)]
 fn plan_cold(
     format: Format,
-    halves: (u32, u32),
-    words: WordRun,
+    halves: OwnHalves,
     x: &[u64; 16],
     state: &State,
     p: &mut Prepared,
 ) -> Planned
     requires place { IsPlace p.old.place }
-    requires format { spelled_as format halves.0 halves.1 ≡ instruction_of halves.0 halves.1 }
+    requires format { spelled_as format halves.first halves.second
+        ≡ instruction_of halves.first halves.second }
     ensures planned { IsEntryPlanned state.now x.now p.old.place
-        (fetched_plain (decoded_entry halves.0 halves.1)) words (record { first = 0; len = 0 })
-        p.new result }
+        (fetched_plain (decoded_entry halves.first halves.second)) halves.words
+        (record { first = 0; len = 0 }) p.new result }
     ensures ranges { IsPrepared p.new }
 {
-    plan_as::<3>(format, halves, words, x, state, p)
+    plan_as::<3>(format, halves, x, state, p)
 }
 
 // The same of any format. What follows knows the format of a frequent instruction, so that it is
@@ -448,27 +452,27 @@ fn plan_cold(
 #[inline(always)]
 fn plan_known(
     format: Format,
-    halves: (u32, u32),
-    words: WordRun,
+    halves: OwnHalves,
     x: &[u64; 16],
     state: &State,
     p: &mut Prepared,
 ) -> Planned
     requires place { IsPlace p.old.place }
-    requires format { spelled_as format halves.0 halves.1 ≡ instruction_of halves.0 halves.1 }
+    requires format { spelled_as format halves.first halves.second
+        ≡ instruction_of halves.first halves.second }
     ensures planned { IsEntryPlanned state.now x.now p.old.place
-        (fetched_plain (decoded_entry halves.0 halves.1)) words (record { first = 0; len = 0 })
-        p.new result }
+        (fetched_plain (decoded_entry halves.first halves.second)) halves.words
+        (record { first = 0; len = 0 }) p.new result }
     ensures ranges { IsPrepared p.new }
 {
     match format {
-        Format::Index(op) => plan_as::<0>(Format::Index(op), halves, words, x, state, p),
-        Format::Branch(op) => plan_as::<1>(Format::Branch(op), halves, words, x, state, p),
+        Format::Index(op) => plan_as::<0>(Format::Index(op), halves, x, state, p),
+        Format::Branch(op) => plan_as::<1>(Format::Branch(op), halves, x, state, p),
         Format::Whole(FullOp::Variable(op)) => {
             let format = Format::Whole(FullOp::Variable(op));
-            plan_as::<2>(format, halves, words, x, state, p)
+            plan_as::<2>(format, halves, x, state, p)
         }
-        _ => plan_cold(format, halves, words, x, state, p),
+        _ => plan_cold(format, halves, x, state, p),
     }
 }
 
@@ -487,10 +491,8 @@ fn plan_other(x: &[u64; 16], state: &State, p: &mut Prepared) -> Planned
     let table = p.place.table;
     let found = find(&p.place, x, state);
     let needs = prepare_found(p, &found.fetched, x, state);
-    let follows = asks_for_following(table, found.fetched.fault);
-    let execute = is_execute(&found.fetched.instr.instr);
     let code = code_found(&found.fetched);
-    show(found.own, found.target, needs, p, follows, execute, code)
+    show(&found, table, code, needs, p)
 }
 
 // Plans the entry at `p.place`, of which these are the half-words.
@@ -513,8 +515,12 @@ fn plan_spelled(spelled: Spelled, x: &[u64; 16], state: &State, p: &mut Prepared
     if is_execute_format(format) {
         plan_other(x, state, p)
     } else {
-        let words = words_at(p.place.address, spelled.more);
-        plan_known(format, (spelled.first, spelled.second), words, x, state, p)
+        let halves = OwnHalves {
+            first: spelled.first,
+            second: spelled.second,
+            words: words_at(p.place.address, spelled.more),
+        };
+        plan_known(format, halves, x, state, p)
     }
 }
 
@@ -526,6 +532,8 @@ pub fn plan_entry(table: Option<u8>, state: &State, p: &mut Prepared) -> Planned
     ensures plan { p.new ≡ plan_of state.now table }
     ensures ranges { IsPrepared p.new }
     ensures entry { result.entry ≡ entry_of table state.now }
+    ensures in_time { IsEntryInTime result.entry }
+    ensures machine { IsMachine state.now }
     ensures known { result.known ≡ known_at table state.now }
 {
     p.place = place_of(state, table);

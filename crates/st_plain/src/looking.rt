@@ -1,6 +1,7 @@
 //! The entries that run ahead of a state by guessed steps.
 ghost use Rattle.std.specs.Prelude.{◌≡◌, suc, ◌+◌, ◌-◌, ◌*◌, ◌≤◌, ◌<◌, ◌^◌, ◌∷◌, ◌++◌, [], map, length, None};
 ghost use Rattle.st_bits.specs.declared.limits.TheConstants.{MOST_DELAY};
+ghost use Rattle.st_state.specs.Machine.{IsMachine};
 ghost use Rattle.st_prep.specs.Ranges.{IsPrepared};
 ghost use Rattle.st_exec.specs.Completion.{guessed_state};
 ghost use Rattle.st_rows.specs.Asked.{bus_after_reads};
@@ -12,14 +13,13 @@ ghost use Rattle.st_plain.specs.Looking.{seen_ahead, first_late, reads_up_to};
 
 use crate::entries::plan_entry;
 use crate::known::Known;
-use crate::rows::{Begun, begin, finish, put_past};
+use crate::rows::{Begun, NextEntry, begin, finish, put_past};
 use crate::uses::Uses;
 use arrayvec::ArrayVec;
 use st_back::{keep, undo};
-use st_banks::Delays;
 use st_exec::complete_in;
 use st_prep::Prepared;
-use st_rows::{EntryTicks, Front, Log, Past};
+use st_rows::{EntryTicks, Front, Log, Past, Timing};
 use st_state::State;
 
 /// An entry that runs ahead.
@@ -51,72 +51,83 @@ pub fn guess(p: &Prepared, state: &mut State)
     }
 }
 
+/// Up to where one looks at the entries that run ahead of a state behind a front.
+#[derive(Clone, Copy)]
+pub struct Reach<'a> {
+    /// The last entries of the front, the newest one first.
+    pub past: &'a [Past; 8],
+    /// The delays and levels of the machine.
+    pub timing: &'a Timing<'a>,
+    /// How many entries are looked for, at most as many as there are levels.
+    pub more: usize,
+    /// The tick before which they are prepared.
+    pub tick: u64,
+    pub ghost left: { more ≤ timing.now.levels },
+}
+
+/// What is found of the entries that run ahead.
+#[derive(Debug, Default, Drop)]
+pub struct FoundAhead {
+    /// Those that are prepared in time, the oldest first.
+    pub found: Aheads,
+    /// The one behind them, with the ticks that it would have.
+    pub late: Ahead,
+}
+
 /// Looks at the entries that run ahead of a state behind a front, by guessed steps: the first
-/// `more` of them that are prepared before the tick `tick` are added to `found`. Their reads are
-/// made on the front's bus and noted, and those of the one behind them up to its address; `late` is
-/// that one, with the ticks that it would have. The last entry before them is done at that tick or
-/// later, and where some were found already, so is the first of those, which is the last one that
-/// may be as many before as there are levels; `past` are the last entries of the front. The state
-/// is then as it was; of the front the bus alone is of use.
+/// `reach.more` of them that are prepared before the tick are added to those that are found. Their
+/// reads are made on the front's bus and noted, and those of the one behind them up to its address.
+/// The last entry before them is done at that tick or later, and where some were found already, so
+/// is the first of those, which is the last one that may be as many before as there are levels. The
+/// state is then as it was; of the front the bus alone is of use.
 pub fn look(
     state: &mut State,
     front: &mut Front,
-    past: &[Past; 8],
-    delays: &Delays,
-    levels: usize,
-    more: u8,
-    tick: u64,
+    reach: &Reach<'_>,
     log: &mut Log,
-    found: &mut Aheads,
-    late: &mut Ahead,
+    ahead: &mut FoundAhead,
 )
-    requires few { state.old.done + more < 2 ^ 63 }
+    requires few { state.old.done + reach.now.more < 2 ^ 63 }
     requires tight { IsTight MOST_DELAY front.old }
-    requires early { front.old.c + most_ticks_of_entry * more ≤ 2 ^ 63 + 2 ^ 20 }
-    requires levels { (1 ≤ levels) × (levels ≤ 8) }
-    requires left { more ≤ levels }
-    requires late { tick ≤ front.old.c }
-    requires first { more < levels → tick ≤ done_before (levels - more) front.old.past }
-    requires space { length found.old.items + more ≤ 8 }
-    requires past { past.now ≡ front.old.past }
+    requires early { front.old.c + most_ticks_of_entry * reach.now.more ≤ 2 ^ 63 + 2 ^ 20 }
+    requires late { reach.now.tick ≤ front.old.c }
+    requires first { let n = reach.now.timing.now.levels in reach.now.more < n →
+        reach.now.tick ≤ done_before (n - reach.now.more) front.old.past }
+    requires space { length ahead.old.found.items + reach.now.more ≤ 8 }
+    requires past { reach.now.past.now ≡ front.old.past }
 
     ensures state { state.new ≡ state.old }
-    ensures found { found.new.items ≡ found.old.items
-        ++ map (seen_ahead delays.now.list levels) (prepared_before tick
-        (ahead_of delays.now.list levels more None state.old front.old)) }
-    ensures late { late.new ∷ [] ≡ map (seen_ahead delays.now.list levels) (first_late tick
-        (ahead_of delays.now.list levels (suc more) None state.old front.old)) }
-    ensures log { log.new ≡ log_after_reads delays.now.list
-        (reads_up_to delays.now.list levels tick (ahead_of delays.now.list levels (suc more) None state.old
-        front.old)) front.old.bus log.old }
-    ensures bus { front.new.bus ≡ bus_after_reads delays.now.list
-        (reads_up_to delays.now.list levels tick (ahead_of delays.now.list levels (suc more) None state.old
-        front.old)) front.old.bus }
+    ensures machine { IsMachine state.new }
+    ensures found { let r = reach.now in let t = r.timing.now in let ds = t.delays.now.list in
+        ahead.new.found.items ≡ ahead.old.found.items
+        ++ map (seen_ahead ds t.levels) (prepared_before r.tick
+        (ahead_of ds t.levels r.more None state.old front.old)) }
+    ensures late { let r = reach.now in let t = r.timing.now in let ds = t.delays.now.list in
+        ahead.new.late ∷ [] ≡ map (seen_ahead ds t.levels) (first_late r.tick
+        (ahead_of ds t.levels (suc r.more) None state.old front.old)) }
+    ensures log { let r = reach.now in let t = r.timing.now in let ds = t.delays.now.list in
+        log.new ≡ log_after_reads ds (reads_up_to ds t.levels r.tick
+        (ahead_of ds t.levels (suc r.more) None state.old front.old)) front.old.bus log.old }
+    ensures bus { let r = reach.now in let t = r.timing.now in let ds = t.delays.now.list in
+        front.new.bus ≡ bus_after_reads ds (reads_up_to ds t.levels r.tick
+        (ahead_of ds t.levels (suc r.more) None state.old front.old)) front.old.bus }
 {
-    state.shape();
     let mut p = Prepared::default();
     let planned = plan_entry(None, state, &mut p);
-    let entry = &planned.entry;
+    let next = NextEntry {
+        plan: &p,
+        planned: &planned,
+        past: reach.past,
+        timing: reach.timing,
+    };
     let mut uses = Uses::new();
     let mut begun = Begun::default();
-    begin(
-        &mut begun, front, past, delays, levels, &planned, log, &mut uses,
-    );
-    if begun.formed.p >= tick {
+    begin(&mut begun, front, &next, log, &mut uses);
+    if begun.formed.p >= reach.tick {
         let mut scratch = Log::new();
         let bus = begun.words.bus;
-        let ticks = finish(
-            front,
-            past,
-            delays,
-            levels,
-            entry,
-            p.reads,
-            &mut begun,
-            &mut scratch,
-            &mut uses,
-        );
-        *late = Ahead {
+        let ticks = finish(front, &next, &mut begun, &mut scratch, &mut uses);
+        ahead.late = Ahead {
             plan: p,
             row: ticks,
             known: planned.known,
@@ -125,36 +136,29 @@ pub fn look(
         front.bus = bus;
         return;
     }
-    let row = finish(
-        front, past, delays, levels, entry, p.reads, &mut begun, log, &mut uses,
-    );
-    found.push(Ahead {
+    let row = finish(front, &next, &mut begun, log, &mut uses);
+    ahead.found.push(Ahead {
         plan: p,
         row,
         known: planned.known,
         uses,
     });
-    let mut behind = *past;
+    let mut behind = *reach.past;
     put_past(
         &mut behind,
         Past {
             c: row.c,
-            writes: entry.writes,
+            writes: planned.entry.writes,
         },
     );
+    let further = Reach {
+        past: &behind,
+        timing: reach.timing,
+        more: reach.more - 1,
+        tick: reach.tick,
+    };
     let kept = keep(&p, state);
     guess(&p, state);
-    look(
-        state,
-        front,
-        &behind,
-        delays,
-        levels,
-        more - 1,
-        tick,
-        log,
-        found,
-        late,
-    );
+    look(state, front, &further, log, ahead);
     undo(&kept, state);
 }

@@ -14,10 +14,13 @@ ghost use Rattle.st_prep.specs.Ranges.{IsRuns};
 ghost use Rattle.st_plain.specs.Uses.{instruction_uses, fetch_uses, formed_uses, prepared_uses};
 
 use crate::entries::Planned;
-use crate::uses::{Role, Uses, Wanted, fetch_supply, note, use_data, use_following, use_side};
-use st_banks::{BANKS, Delays, LastAnswers};
-use st_prep::Words;
-use st_rows::{Bus, Entry, EntryTicks, Fetching, Formed, Front, LastEntries, Log, Past, WordRun};
+use crate::uses::{Role, Uses, WantedFrom, fetch_supply, note, use_data, use_following, use_side};
+use st_banks::{BANKS, LastAnswers};
+use st_prep::Prepared;
+use st_rows::{
+    Bus, Entry, EntryTicks, Fetching, Formed, Front, LastEntries, Log, Past, Timing, Wanted,
+    WordRun,
+};
 
 /// One more entry is kept, and the oldest one given up.
 pub fn put_past(past: &mut [Past; 8], newest: Past)
@@ -37,39 +40,50 @@ pub fn put_past(past: &mut [Past; 8], newest: Past)
 #[inline(always)]
 fn fetch_run(
     words: &mut Fetching,
-    delays: &Delays,
-    past: &LastEntries,
+    wanted: &Wanted<'_>,
     run: WordRun,
-    from: u64,
     log: &mut Log,
     uses: &mut Uses,
 )
     requires room { IsFetchingWithin (2 ^ 64 - 2 ^ 16) words.old }
-    requires before { ArePastWithin (2 ^ 64 - 2 ^ 16) past.now }
-    requires early { from ≤ 2 ^ 64 - 2 ^ 16 }
+    requires before { ArePastWithin (2 ^ 64 - 2 ^ 16) wanted.now.past.now }
+    requires early { wanted.now.tick ≤ 2 ^ 64 - 2 ^ 16 }
     requires words { IsReadable run }
     requires few { run.len ≤ 16 }
     requires space { length uses.old.items + run.len ≤ 48 }
 
-    ensures words { words.new ≡ fetch_words delays.now.list past.now words.old from run.first run.len }
-    ensures log { log.new
-        ≡ log_after_reads delays.now.list
-        (words_asked delays.now.list past.now words.old from run.first run.len)
+    ensures words { let x = wanted.now in words.new
+        ≡ fetch_words x.delays.now.list x.past.now words.old x.tick run.first run.len }
+    ensures log { let x = wanted.now in log.new ≡ log_after_reads x.delays.now.list
+        (words_asked x.delays.now.list x.past.now words.old x.tick run.first run.len)
         words.old.bus log.old }
-    ensures uses { uses.new.items ≡ uses.old.items
-        ++ instruction_uses delays.now.list past.now words.old from run.first run.len }
+    ensures uses { let x = wanted.now in uses.new.items ≡ uses.old.items
+        ++ instruction_uses x.delays.now.list x.past.now words.old x.tick run.first run.len }
     ensures noted { length uses.new.items ≤ length uses.old.items + run.len }
 {
     let mut w = run.first;
     let mut left = run.len;
     'words: while left > 0 {
-        let want = from.max(words.answered).max(words.awaited);
-        let supply = fetch_supply(&words.bus, delays, w, want);
+        let want = wanted.tick.max(words.answered).max(words.awaited);
+        let supply = fetch_supply(&words.bus, wanted.delays, w, want);
         note(uses, Role::Instruction, w, supply);
-        words.word(log, delays, past, w, from);
+        words.word(log, wanted, w);
         w += 1;
         left -= 1;
     }
+}
+
+/// The next entry as it is planned, and what its row depends on besides the front before it.
+#[derive(Clone, Copy)]
+pub struct NextEntry<'a> {
+    /// How it is prepared.
+    pub plan: &'a Prepared,
+    /// What the timetable sees of it.
+    pub planned: &'a Planned,
+    /// The last entries of the front before it, the newest one first.
+    pub past: &'a [Past; 8],
+    /// The delays and levels of the machine.
+    pub timing: &'a Timing<'a>,
 }
 
 // All instruction words of the next entry are fetched, and noted.
@@ -78,31 +92,42 @@ fn fetch_run(
 fn fetch_all(
     words: &mut Fetching,
     front: &Front,
-    delays: &Delays,
-    entry: &Entry,
+    next: &NextEntry<'_>,
     log: &mut Log,
     uses: &mut Uses,
 )
     requires start { words.old ≡ record { bus = front.now.bus; answered = 0; awaited = 0 } }
-    requires entry { IsEntryInTime entry.now }
+    requires entry { IsEntryInTime next.now.planned.now.entry }
     requires tight { IsTight MOST_DELAY front.now }
     requires early { front.now.c ≤ 2 ^ 63 + 2 ^ 20 }
     requires space { length uses.old.items + 4 ≤ 48 }
 
     // The words fetched, the log of their reads, and their uses.
-    ensures words { words.new ≡ words_tick delays.now.list front.now entry.now }
-    ensures log { log.new
-        ≡ log_after_reads delays.now.list
-        (fetches_asked delays.now.list front.now entry.now) front.now.bus log.old }
-    ensures uses { uses.new.items
-        ≡ uses.old.items ++ fetch_uses delays.now.list front.now entry.now }
+    ensures words { let t = next.now.timing.now in let e = next.now.planned.now.entry in
+        words.new ≡ words_tick t.delays.now.list front.now e }
+    ensures log { let t = next.now.timing.now in let e = next.now.planned.now.entry in
+        log.new ≡ log_after_reads t.delays.now.list
+        (fetches_asked t.delays.now.list front.now e) front.now.bus log.old }
+    ensures uses { let t = next.now.timing.now in let e = next.now.planned.now.entry in
+        uses.new.items ≡ uses.old.items ++ fetch_uses t.delays.now.list front.now e }
     ensures noted { length uses.new.items ≤ length uses.old.items + 4 }
 {
-    let past = &front.past;
+    let timing = next.timing;
+    let planned = next.planned;
     let from = front.wanted_from();
-    fetch_run(words, delays, past, entry.own, from, log, uses);
+    let own = Wanted {
+        tick: from,
+        delays: timing.delays,
+        past: &front.past,
+    };
+    fetch_run(words, &own, planned.entry.own, log, uses);
     let late = from.max(front.c);
-    fetch_run(words, delays, past, entry.target, late, log, uses);
+    let target = Wanted {
+        tick: late,
+        delays: timing.delays,
+        past: &front.past,
+    };
+    fetch_run(words, &target, planned.entry.target, log, uses);
 }
 
 // The last answer of the bank that the word `w` is in, by those of all banks.
@@ -134,14 +159,13 @@ fn side_there(past: &LastEntries, side: Option<u32>, a: u64, bus: &Bus) -> u64
 // For how many ticks an entry waits for a level, whose address is formed at `a`. The bus is that
 // behind its index-side word.
 #[tactic(auto, unfolding(crate::specs::Looking::level_wait, st_rows::specs::Rows::tick_y, st_rows::specs::Rows::bus_a))]
-fn level_wait(front: &Front, levels: usize, entry: &Entry, a: u64, bus: &Bus) -> u64
+fn level_wait(front: &Front, timing: &Timing<'_>, entry: &Entry, a: u64, bus: &Bus) -> u64
     requires entry { IsEntryInTime entry.now }
-    requires levels { (1 ≤ levels) × (levels ≤ 8) }
     ensures { (ds : List ℕ) → a ≡ tick_a ds front.now entry.now →
         bus.now ≡ bus_a ds front.now entry.now →
-        result ≡ level_wait_of ds levels front.now entry.now }
+        result ≡ level_wait_of ds timing.now.levels front.now entry.now }
 {
-    let done = front.past.done_before(levels);
+    let done = front.past.done_before(timing.levels);
     if done <= a {
         return 0;
     }
@@ -160,37 +184,33 @@ pub struct Begun {
     pub level_wait: u64,
 }
 
-/// Forms the address of the next entry behind a front, whose last entries are `past`, and notes the
-/// words that it uses until then. What is begun is that entry, whatever it was.
-pub fn begin(
-    begun: &mut Begun,
-    front: &Front,
-    past: &[Past; 8],
-    delays: &Delays,
-    levels: usize,
-    planned: &Planned,
-    log: &mut Log,
-    uses: &mut Uses,
-)
-    requires entry { IsEntryInTime planned.now.entry }
+/// Forms the address of the next entry behind a front, and notes the words that it uses until then.
+/// What is begun is that entry, whatever it was.
+pub fn begin(begun: &mut Begun, front: &Front, next: &NextEntry<'_>, log: &mut Log, uses: &mut Uses)
+    requires entry { IsEntryInTime next.now.planned.now.entry }
     requires tight { IsTight MOST_DELAY front.now }
     requires early { front.now.c ≤ 2 ^ 63 + 2 ^ 20 }
-    requires levels { (1 ≤ levels) × (levels ≤ 8) }
-    requires past { past.now ≡ front.now.past }
+    requires past { next.now.past.now ≡ front.now.past }
     requires space { length uses.old.items + 5 ≤ 48 }
 
-    ensures address { begun.new.formed.a ≡ tick_a delays.now.list front.now planned.now.entry }
-    ensures tick { begun.new.formed.p ≡ tick_p delays.now.list levels front.now planned.now.entry }
-    ensures bus { begun.new.words.bus ≡ bus_a delays.now.list front.now planned.now.entry }
-    ensures wait { begun.new.level_wait
-        ≡ level_wait_of delays.now.list levels front.now planned.now.entry }
-    ensures log { log.new
-        ≡ log_after_reads delays.now.list
-        (formed_asked delays.now.list front.now planned.now.entry) front.now.bus log.old }
-    ensures uses { uses.new.items ≡ uses.old.items
-        ++ formed_uses delays.now.list front.now planned.now.entry planned.now.known.side }
+    ensures address { let t = next.now.timing.now in let e = next.now.planned.now.entry in
+        begun.new.formed.a ≡ tick_a t.delays.now.list front.now e }
+    ensures tick { let t = next.now.timing.now in let e = next.now.planned.now.entry in
+        begun.new.formed.p ≡ tick_p t.delays.now.list t.levels front.now e }
+    ensures bus { let t = next.now.timing.now in let e = next.now.planned.now.entry in
+        begun.new.words.bus ≡ bus_a t.delays.now.list front.now e }
+    ensures wait { let t = next.now.timing.now in let e = next.now.planned.now.entry in
+        begun.new.level_wait ≡ level_wait_of t.delays.now.list t.levels front.now e }
+    ensures log { let t = next.now.timing.now in let e = next.now.planned.now.entry in
+        log.new ≡ log_after_reads t.delays.now.list
+        (formed_asked t.delays.now.list front.now e) front.now.bus log.old }
+    ensures uses { let t = next.now.timing.now in let e = next.now.planned.now.entry in
+        uses.new.items ≡ uses.old.items
+        ++ formed_uses t.delays.now.list front.now e next.now.planned.now.known.side }
     ensures noted { length uses.new.items ≤ length uses.old.items + 5 }
 {
+    let timing = next.timing;
+    let planned = next.planned;
     let entry = &planned.entry;
     let side = planned.known.side;
     begun.words = Fetching {
@@ -199,22 +219,22 @@ pub fn begin(
         awaited: 0,
     };
     let words = &mut begun.words;
-    fetch_all(words, front, delays, entry, log, uses);
+    fetch_all(words, front, next, log, uses);
     let formed;
     if side.is_none() {
-        formed = front.form(delays, levels, entry, words, log);
+        formed = front.form(timing, entry, words, log);
     } else {
         let bus = words.bus;
-        formed = front.form(delays, levels, entry, words, log);
-        let wanted = Wanted {
+        formed = front.form(timing, entry, words, log);
+        let wanted = WantedFrom {
             tick: formed.a,
-            delays,
+            delays: timing.delays,
             last: &front.past,
-            past,
+            past: next.past,
         };
         use_side(uses, &bus, &wanted, side);
     }
-    begun.level_wait = level_wait(front, levels, entry, formed.a, &words.bus);
+    begun.level_wait = level_wait(front, timing, entry, formed.a, &words.bus);
     begun.formed = formed;
 }
 
@@ -222,47 +242,52 @@ pub fn begin(
 /// the words that it uses from its preparation on. What is begun is used up.
 pub fn finish(
     front: &mut Front,
-    past: &[Past; 8],
-    delays: &Delays,
-    levels: usize,
-    entry: &Entry,
-    reads: Words,
+    next: &NextEntry<'_>,
     begun: &mut Begun,
     log: &mut Log,
     uses: &mut Uses,
 ) -> EntryTicks
-    requires entry { IsEntryInTime entry.now }
+    requires entry { IsEntryInTime next.now.planned.now.entry }
     requires tight { IsTight MOST_DELAY front.old }
     requires early { front.old.c ≤ 2 ^ 63 + 2 ^ 20 }
-    requires levels { (1 ≤ levels) × (levels ≤ 8) }
-    requires address { begun.old.formed.a ≡ tick_a delays.now.list front.old entry.now }
-    requires tick { begun.old.formed.p ≡ tick_p delays.now.list levels front.old entry.now }
-    requires bus { begun.old.words.bus ≡ bus_a delays.now.list front.old entry.now }
-    requires past { past.now ≡ front.old.past }
-    requires runs { IsRuns reads }
+    requires address { let t = next.now.timing.now in let e = next.now.planned.now.entry in
+        begun.old.formed.a ≡ tick_a t.delays.now.list front.old e }
+    requires tick { let t = next.now.timing.now in let e = next.now.planned.now.entry in
+        begun.old.formed.p ≡ tick_p t.delays.now.list t.levels front.old e }
+    requires bus { let t = next.now.timing.now in let e = next.now.planned.now.entry in
+        begun.old.words.bus ≡ bus_a t.delays.now.list front.old e }
+    requires past { next.now.past.now ≡ front.old.past }
+    requires runs { IsRuns next.now.plan.now.reads }
     requires space { length uses.old.items + 34 ≤ 48 }
 
-    ensures value { result ≡ row_of delays.now.list levels front.old entry.now }
-    ensures after { front.new ≡ after_of delays.now.list levels front.old entry.now }
-    ensures log { (before : List Made) → log.old ≡ log_after_reads delays.now.list
-        (formed_asked delays.now.list front.old entry.now) front.old.bus before →
-        log.new ≡ log_after_reads delays.now.list
-        (asked_of delays.now.list levels front.old entry.now) front.old.bus before }
-    ensures uses { uses.new.items ≡ uses.old.items
-        ++ prepared_uses delays.now.list levels front.old entry.now reads }
+    ensures value { let t = next.now.timing.now in let e = next.now.planned.now.entry in
+        result ≡ row_of t.delays.now.list t.levels front.old e }
+    ensures after { let t = next.now.timing.now in let e = next.now.planned.now.entry in
+        front.new ≡ after_of t.delays.now.list t.levels front.old e }
+    ensures log { let t = next.now.timing.now in let e = next.now.planned.now.entry in
+        (before : List Made) → log.old ≡ log_after_reads t.delays.now.list
+        (formed_asked t.delays.now.list front.old e) front.old.bus before →
+        log.new ≡ log_after_reads t.delays.now.list
+        (asked_of t.delays.now.list t.levels front.old e) front.old.bus before }
+    ensures uses { let t = next.now.timing.now in let e = next.now.planned.now.entry in
+        uses.new.items ≡ uses.old.items
+        ++ prepared_uses t.delays.now.list t.levels front.old e next.now.plan.now.reads }
     ensures tight { IsTight MOST_DELAY front.new }
     ensures bound { front.new.c ≤ front.old.c + most_ticks_of_entry }
 {
+    let timing = next.timing;
+    let planned = next.planned;
+    let entry = &planned.entry;
     let Formed { a, p } = begun.formed;
-    let wanted = Wanted {
+    let wanted = WantedFrom {
         tick: p,
-        delays,
+        delays: timing.delays,
         last: &front.past,
-        past,
+        past: next.past,
     };
     let words = &mut begun.words;
     words.answered = p;
-    use_data(uses, words, log, &wanted, entry, reads);
+    use_data(uses, words, log, &wanted, next);
     let r = words.answered;
     let c = front.c.max(r) + u64::from(entry.cost);
     use_following(uses, &mut words.bus, log, &wanted, entry);

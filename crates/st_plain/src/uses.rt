@@ -11,10 +11,10 @@ ghost use Rattle.st_rows.specs.Rows.{reading_of_fetch, read_word, read_words, op
 ghost use Rattle.st_plain.specs.declared.uses.Role.TheVariants.{Operand};
 ghost use Rattle.st_plain.specs.Uses.{read_ticks as read_ticks_of, fetch_supply as fetch_supply_of, writer_back as back_of, storage_supply as storage_supply_of, side_supply as side_supply_of, side_uses, register_uses, operand_uses, run_uses, data_uses, inside_uses, following_uses};
 
+use crate::rows::NextEntry;
 use st_banks::Delays;
 use st_bits::WORDS;
 use st_bits::register::FIRST_STORAGE_WORD;
-use st_prep::Words;
 use st_rows::{Bus, Entry, Fetching, LastEntries, Log, Past, WordRun};
 use std::marker::Model;
 
@@ -249,7 +249,7 @@ fn writer_back(past: &[Past; 8], w: u32) -> u8
 /// When words are wanted, and where they come from besides a bus: storage with its delays, and the
 /// last entries of a front, as that keeps them and the newest one first.
 #[derive(Clone, Copy)]
-pub(crate) struct Wanted<'a> {
+pub(crate) struct WantedFrom<'a> {
     pub tick: u64,
     pub delays: &'a Delays,
     pub last: &'a LastEntries,
@@ -259,7 +259,7 @@ pub(crate) struct Wanted<'a> {
 
 // Where a word of storage comes from that is wanted at a tick.
 #[inline(always)]
-fn storage_supply(bus: &Bus, wanted: &Wanted<'_>, w: u32) -> Supply
+fn storage_supply(bus: &Bus, wanted: &WantedFrom<'_>, w: u32) -> Supply
     requires room { IsBusWithin (2 ^ 64 - 512) bus.now }
     requires early { wanted.now.tick ≤ 2 ^ 64 - 512 }
     requires storage { 32 ≤ w }
@@ -278,7 +278,7 @@ fn storage_supply(bus: &Bus, wanted: &Wanted<'_>, w: u32) -> Supply
 }
 
 // Where an index-side word comes from, which is wanted at the tick at which the address is formed.
-fn side_supply(bus: &Bus, wanted: &Wanted<'_>, w: u32) -> Supply
+fn side_supply(bus: &Bus, wanted: &WantedFrom<'_>, w: u32) -> Supply
     requires room { IsBusWithin (2 ^ 64 - 512) bus.now }
     requires early { wanted.now.tick ≤ 2 ^ 64 - 512 }
     ensures { let x = wanted.now in
@@ -293,7 +293,7 @@ fn side_supply(bus: &Bus, wanted: &Wanted<'_>, w: u32) -> Supply
 /// Notes the index-side word, if there is one, of an entry whose address is formed at `a`.
 #[inline(always)]
 #[tactic(auto, unfolding(crate::specs::Uses::side_uses))]
-pub(crate) fn use_side(uses: &mut Uses, bus: &Bus, wanted: &Wanted<'_>, side: Option<u32>)
+pub(crate) fn use_side(uses: &mut Uses, bus: &Bus, wanted: &WantedFrom<'_>, side: Option<u32>)
     requires space { length uses.old.items < 48 }
     requires room { IsBusWithin (2 ^ 64 - 512) bus.now }
     requires early { wanted.now.tick ≤ 2 ^ 64 - 512 }
@@ -328,7 +328,13 @@ fn use_registers(uses: &mut Uses, first: u32, count: u8)
 // Notes an operand word that is no register, and reads it, unless it is forwarded.
 #[inline(always)]
 #[tactic(auto, unfolding(st_rows::specs::Rows::read_word, st_rows::specs::Notes::log_after_reads))]
-fn use_operand(uses: &mut Uses, words: &mut Fetching, log: &mut Log, wanted: &Wanted<'_>, w: u32)
+fn use_operand(
+    uses: &mut Uses,
+    words: &mut Fetching,
+    log: &mut Log,
+    wanted: &WantedFrom<'_>,
+    w: u32,
+)
     requires space { length uses.old.items < 48 }
     requires room { IsReadingWithin (2 ^ 64 - 512) (reading_of_fetch words.old) }
     requires early { wanted.now.tick ≤ 2 ^ 64 - 512 }
@@ -370,7 +376,7 @@ fn use_operands(
     uses: &mut Uses,
     words: &mut Fetching,
     log: &mut Log,
-    wanted: &Wanted<'_>,
+    wanted: &WantedFrom<'_>,
     run: WordRun,
 )
     requires space { length uses.old.items + run.len ≤ 48 }
@@ -398,83 +404,99 @@ fn use_operands(
     }
 }
 
-// Notes the operand words of a run, of which `run` has those that are no registers, and reads
-// these.
+// A run of operand words, and those of them that are no registers, which are read.
+#[derive(Clone, Copy, Debug, PartialEq, Eq)]
+struct OperandRun {
+    all: WordRun,
+    read: WordRun,
+}
+
+// Notes the operand words of a run, and reads those that are no registers.
 #[inline(always)]
 fn use_run(
     uses: &mut Uses,
     words: &mut Fetching,
     log: &mut Log,
-    wanted: &Wanted<'_>,
-    all: WordRun,
-    run: WordRun,
+    wanted: &WantedFrom<'_>,
+    run: OperandRun,
 )
     requires space { length uses.old.items + 16 ≤ 48 }
-    requires start { all.first < 2 ^ 18 }
-    requires all { all.len ≤ 16 }
+    requires start { run.all.first < 2 ^ 18 }
+    requires all { run.all.len ≤ 16 }
     requires room { IsReadingWithin (2 ^ 64 - 2 ^ 16) (reading_of_fetch words.old) }
     requires early { wanted.now.tick ≤ 2 ^ 64 - 2 ^ 16 }
-    requires words { IsReadable run }
-    requires few { run.len ≤ 16 }
+    requires words { IsReadable run.read }
+    requires few { run.read.len ≤ 16 }
 
     ensures after { let x = wanted.now in reading_of_fetch words.new
-        ≡ read_words x.delays.now.list x.last.now (reading_of_fetch words.old) x.tick run.first
-        run.len }
+        ≡ read_words x.delays.now.list x.last.now (reading_of_fetch words.old) x.tick
+        run.read.first run.read.len }
     ensures log { let x = wanted.now in log.new ≡ log_after_reads x.delays.now.list
-        (operands_asked x.last.now x.tick run.first run.len) words.old.bus log.old }
+        (operands_asked x.last.now x.tick run.read.first run.read.len) words.old.bus log.old }
     ensures items { let x = wanted.now in uses.new.items ≡ uses.old.items
         ++ run_uses x.delays.now.list x.last.now (reading_of_fetch words.old) x.tick
-        all.first all.len run }
+        run.all.first run.all.len run.read }
     ensures room { length uses.new.items ≤ length uses.old.items + 16 }
 {
-    use_registers(uses, all.first, all.len.saturating_sub(run.len));
-    use_operands(uses, words, log, wanted, run);
+    let OperandRun { all, read } = run;
+    use_registers(uses, all.first, all.len.saturating_sub(read.len));
+    use_operands(uses, words, log, wanted, read);
 }
 
-/// Notes the operand words of an entry that is prepared at the tick, and reads those that are no
-/// registers.
+/// Notes the operand words of the next entry, which is prepared at the tick, and reads those that
+/// are no registers.
 #[inline(always)]
 #[tactic(auto, unfolding(crate::specs::Uses::data_uses, st_rows::specs::Rows::operands_read))]
 pub(crate) fn use_data(
     uses: &mut Uses,
     words: &mut Fetching,
     log: &mut Log,
-    wanted: &Wanted<'_>,
-    entry: &Entry,
-    reads: Words,
+    wanted: &WantedFrom<'_>,
+    next: &NextEntry<'_>,
 )
     requires space { length uses.old.items + 32 ≤ 48 }
-    requires runs { IsRuns reads }
-    requires entry { IsEntryInTime entry.now }
+    requires runs { IsRuns next.now.plan.now.reads }
+    requires entry { IsEntryInTime next.now.planned.now.entry }
     requires room { IsBusWithin (2 ^ 64 - 2 ^ 17) words.old.bus }
     requires early { wanted.now.tick ≤ 2 ^ 64 - 2 ^ 17 }
     requires start { words.old.answered ≡ wanted.now.tick }
 
     ensures after { let x = wanted.now in reading_of_fetch words.new
-        ≡ operands_read x.delays.now.list x.last.now words.old.bus entry.now.reads x.tick }
+        ≡ operands_read x.delays.now.list x.last.now words.old.bus
+        next.now.planned.now.entry.reads x.tick }
     ensures log { let x = wanted.now in log.new ≡ log_after_reads x.delays.now.list
-        (runs_asked x.last.now entry.now.reads x.tick) words.old.bus log.old }
+        (runs_asked x.last.now next.now.planned.now.entry.reads x.tick) words.old.bus log.old }
     ensures items { let x = wanted.now in uses.new.items ≡ uses.old.items
-        ++ data_uses x.delays.now.list x.last.now words.old.bus x.tick reads entry.now.reads }
+        ++ data_uses x.delays.now.list x.last.now words.old.bus x.tick
+        next.now.plan.now.reads next.now.planned.now.entry.reads }
     ensures room { length uses.new.items ≤ length uses.old.items + 32 }
 {
-    let one = WordRun {
-        first: reads.first,
-        len: reads.len,
+    let plan = next.plan;
+    let all = plan.reads;
+    let planned = next.planned;
+    let read = planned.entry.reads;
+    let one = OperandRun {
+        all: WordRun {
+            first: all.first,
+            len: all.len,
+        },
+        read: read.one,
     };
-    let two = WordRun {
-        first: reads.first2,
-        len: reads.len2,
+    let two = OperandRun {
+        all: WordRun {
+            first: all.first2,
+            len: all.len2,
+        },
+        read: read.two,
     };
-    let reads = entry.reads;
-    use_run(uses, words, log, wanted, one, reads.one);
-    use_run(uses, words, log, wanted, two, reads.two);
+    use_run(uses, words, log, wanted, one);
+    use_run(uses, words, log, wanted, two);
 }
 
 // Notes a following word, and asks for it, if it is a word of storage.
 #[inline(always)]
 #[tactic(auto, unfolding(crate::specs::Uses::inside_uses, st_rows::specs::BusTimes::bus_after_read, st_rows::specs::BusTimes::bus_after_request, st_rows::specs::Notes::log_after_reads), using(st_bits::specs::Storage::words_of_storage_is))]
-fn use_inside(uses: &mut Uses, bus: &mut Bus, log: &mut Log, wanted: &Wanted<'_>, w: u32)
+fn use_inside(uses: &mut Uses, bus: &mut Bus, log: &mut Log, wanted: &WantedFrom<'_>, w: u32)
     requires space { length uses.old.items < 48 }
     requires room { IsBusWithin (2 ^ 64 - 512) bus.old }
     requires early { wanted.now.tick ≤ 2 ^ 64 - 512 }
@@ -508,7 +530,7 @@ pub(crate) fn use_following(
     uses: &mut Uses,
     bus: &mut Bus,
     log: &mut Log,
-    wanted: &Wanted<'_>,
+    wanted: &WantedFrom<'_>,
     entry: &Entry,
 )
     requires space { length uses.old.items + 2 ≤ 48 }

@@ -55,13 +55,21 @@ pub struct Accepted {
 /// The waits of a charge, the last one first.
 pub type Waits = ArrayVec<Wait, 514>;
 
-// Adds the ticks behind one, up to another, where there are any.
+// The ticks behind `from`, up to and with `to`: those of a charge, or of a part of it.
+#[derive(Clone, Copy, Debug, PartialEq, Eq)]
+struct Span {
+    from: u64,
+    to: u64,
+}
+
+// Adds the ticks of a span, where there are any.
 #[inline(always)]
-fn add_piece(waits: &mut Waits, from: u64, to: u64, why: Stall, word: u32, read: u32)
+fn add_piece(waits: &mut Waits, span: Span, why: Stall, word: u32, read: u32)
     requires { length waits.old.items < 514 }
-    ensures items { waits.new.items ≡ waits.old.items ++ piece from to why word read }
+    ensures items { waits.new.items ≡ waits.old.items ++ piece span.from span.to why word read }
     ensures room { length waits.new.items ≤ length waits.old.items + 1 }
 {
+    let Span { from, to } = span;
     if to <= from {
         return;
     }
@@ -118,8 +126,16 @@ fn add_turns(waits: &mut Waits, from: u64, word: u32, next: Accepted, uses: &[Us
     if is_between(from, next.tick, &last.supply) {
         let read = acceptance(last);
         let behind = tick_behind(read.tick, next.tick);
-        add_piece(waits, behind, next.tick, Stall::Bank, word, next.word);
-        add_piece(waits, read.tick, behind, Stall::Turn, word, last.word);
+        let at_bank = Span {
+            from: behind,
+            to: next.tick,
+        };
+        add_piece(waits, at_bank, Stall::Bank, word, next.word);
+        let on_bus = Span {
+            from: read.tick,
+            to: behind,
+        };
+        add_piece(waits, on_bus, Stall::Turn, word, last.word);
         return add_turns(waits, from, word, read, earlier);
     }
     add_turns(waits, from, word, next, earlier)
@@ -136,44 +152,51 @@ fn add_all_turns(waits: &mut Waits, from: u64, read: Accepted, earlier: &[Use], 
 {
     let here = add_turns(waits, from, read.word, read, earlier);
     let there = add_turns(waits, from, read.word, here, before);
-    add_piece(waits, from, there.tick, Stall::Bank, read.word, there.word);
+    let at_bank = Span {
+        from,
+        to: there.tick,
+    };
+    add_piece(waits, at_bank, Stall::Bank, read.word, there.word);
 }
 
-// Adds the waits of a word that is read, behind the tick `from` up to that of its answer.
-fn add_read(waits: &mut Waits, from: u64, t: u64, one: &Use, earlier: &[Use], before: &[Use])
+// Adds the waits of a word that is read, which is answered at the end of the span.
+fn add_read(waits: &mut Waits, span: Span, one: &Use, earlier: &[Use], before: &[Use])
     requires room { length waits.old.items + 2 * (length earlier.now + length before.now) + 2
         ≤ 514 }
     ensures items { waits.new.items ≡ waits.old.items
-        ++ read_waits from t one.now (reverse earlier.now ++ reverse before.now) }
+        ++ read_waits span.from span.to one.now (reverse earlier.now ++ reverse before.now) }
     ensures room { length waits.new.items
         ≤ length waits.old.items + 2 * (length earlier.now + length before.now) + 2 }
 {
     let ticks = read_of(&one.supply);
-    let start = from.max(ticks.accept);
-    add_piece(waits, start, t, Stall::Storage, one.word, one.word);
+    let on_its_way = Span {
+        from: span.from.max(ticks.accept),
+        to: span.to,
+    };
+    add_piece(waits, on_its_way, Stall::Storage, one.word, one.word);
     add_all_turns(
         waits,
-        from.max(ticks.want),
+        span.from.max(ticks.want),
         acceptance(one),
         earlier,
         before,
     );
 }
 
-// Adds the waits of the first word of a role that is answered at the tick `t`.
-fn add_data(waits: &mut Waits, role: Role, from: u64, t: u64, uses: &[Use], before: &[Use])
+// Adds the waits of the first word of a role that is answered at the end of the span.
+fn add_data(waits: &mut Waits, role: Role, span: Span, uses: &[Use], before: &[Use])
     requires room { length waits.old.items + 2 * (length uses.now + length before.now) + 2 ≤ 514 }
     ensures items { waits.new.items ≡ waits.old.items
-        ++ data_waits role from t (reverse before.now) (reverse uses.now) }
+        ++ data_waits role span.from span.to (reverse before.now) (reverse uses.now) }
 {
     let Some((last, earlier)) = last_use(uses) else {
         return;
     };
-    if decides(role, t, last, earlier) {
-        add_read(waits, from, t, last, earlier, before);
+    if decides(role, span.to, last, earlier) {
+        add_read(waits, span, last, earlier, before);
         return;
     }
-    add_data(waits, role, from, t, earlier, before);
+    add_data(waits, role, span, earlier, before);
 }
 
 // Whether a word is read of which this is the address, and answered at the tick.
@@ -185,68 +208,79 @@ fn is_read_at(word: u32, t: u64, one: &Use) -> bool
     is_read(&one.supply) && one.word == word && read_of(&one.supply).answer == t
 }
 
-// Adds the waits of an instruction word that is held and answered at the tick `t`, by the words of
-// the row before.
-fn add_held(waits: &mut Waits, from: u64, t: u64, word: u32, before: &[Use])
+// Adds the waits of an instruction word that is held and answered at the end of the span, by the
+// words of the row before.
+fn add_held(waits: &mut Waits, span: Span, word: u32, before: &[Use])
     requires room { length waits.old.items + 2 * length before.now + 2 ≤ 514 }
     ensures items { waits.new.items ≡ waits.old.items
-        ++ held_waits from t word (reverse before.now) }
+        ++ held_waits span.from span.to word (reverse before.now) }
     ensures room { length waits.new.items ≤ length waits.old.items + 2 * length before.now + 2 }
 {
     let Some((last, earlier)) = last_use(before) else {
-        add_piece(waits, from, t, Stall::Storage, word, word);
+        add_piece(waits, span, Stall::Storage, word, word);
         return;
     };
-    if is_read_at(word, t, last) {
-        add_read(waits, from, t, last, &[], earlier);
+    if is_read_at(word, span.to, last) {
+        add_read(waits, span, last, &[], earlier);
         return;
     }
-    add_held(waits, from, t, word, earlier);
+    add_held(waits, span, word, earlier);
 }
 
 // Adds what stands before the acceptance of the last read of the row before, where that is at the
-// tick `t`.
-fn add_bus(waits: &mut Waits, from: u64, t: u64, before: &[Use])
+// end of the span.
+fn add_bus(waits: &mut Waits, span: Span, before: &[Use])
     requires room { length waits.old.items + 2 * length before.now + 2 ≤ 514 }
-    ensures items { waits.new.items ≡ waits.old.items ++ bus_waits from t (reverse before.now) }
+    ensures items { waits.new.items ≡ waits.old.items 
+        ++ bus_waits span.from span.to (reverse before.now) }
     ensures room { length waits.new.items ≤ length waits.old.items + 2 * length before.now + 2 }
 {
     let Some((last, earlier)) = last_use(before) else {
         return;
     };
     if !is_read(&last.supply) {
-        add_bus(waits, from, t, earlier);
+        add_bus(waits, span, earlier);
         return;
     }
     let ticks = read_of(&last.supply);
-    if ticks.accept == t {
-        add_all_turns(waits, from.max(ticks.want), acceptance(last), &[], earlier);
+    if ticks.accept == span.to {
+        add_all_turns(
+            waits,
+            span.from.max(ticks.want),
+            acceptance(last),
+            &[],
+            earlier,
+        );
     }
 }
 
-// Adds the waits of instruction words: of the first one that is answered at the tick `t`, and from
-// its want on of those before it.
-fn add_fetches(waits: &mut Waits, from: u64, t: u64, words: &[Use], before: &[Use])
+// Adds the waits of instruction words: of the first one that is answered at the end of the span,
+// and from its want on of those before it.
+fn add_fetches(waits: &mut Waits, span: Span, words: &[Use], before: &[Use])
     requires words { length words.now ≤ 4 }
     requires before { length before.now ≤ 48 }
     requires room { length waits.old.items + 104 * length words.now + 98 ≤ 514 }
     ensures items { waits.new.items ≡ waits.old.items
-        ++ fetch_waits from t (reverse before.now) (reverse words.now) }
+        ++ fetch_waits span.from span.to (reverse before.now) (reverse words.now) }
 {
     let Some((last, earlier)) = last_use(words) else {
-        add_bus(waits, from, t, before);
+        add_bus(waits, span, before);
         return;
     };
-    if !decides(Role::Instruction, t, last, earlier) {
-        add_fetches(waits, from, t, earlier, before);
+    if !decides(Role::Instruction, span.to, last, earlier) {
+        add_fetches(waits, span, earlier, before);
         return;
     }
     if !is_read(&last.supply) {
-        add_held(waits, from, t, last.word, before);
+        add_held(waits, span, last.word, before);
         return;
     }
-    add_read(waits, from, t, last, earlier, before);
-    add_fetches(waits, from, read_of(&last.supply).want, earlier, before);
+    add_read(waits, span, last, earlier, before);
+    let until_wanted = Span {
+        from: span.from,
+        to: read_of(&last.supply).want,
+    };
+    add_fetches(waits, until_wanted, earlier, before);
 }
 
 // The first four of some words.
@@ -266,11 +300,14 @@ pub fn fill_waits(waits: &mut Waits, charge: Charge, uses: &[Use], before: &[Use
     ensures { waits.new.items ≡ charge_waits charge uses.now before.now }
 {
     waits.clear();
-    let (from, t) = (charge.from, charge.to);
+    let span = Span {
+        from: charge.from,
+        to: charge.to,
+    };
     match charge.stage {
-        Stage::Instruction => add_fetches(waits, from, t, first_four(uses), before),
-        Stage::Index => add_data(waits, Role::Index, from, t, uses, before),
-        Stage::Operand => add_data(waits, Role::Operand, from, t, uses, before),
+        Stage::Instruction => add_fetches(waits, span, first_four(uses), before),
+        Stage::Index => add_data(waits, Role::Index, span, uses, before),
+        Stage::Operand => add_data(waits, Role::Operand, span, uses, before),
         Stage::Restart | Stage::Address | Stage::Preparing | Stage::Executing => {}
     }
 }

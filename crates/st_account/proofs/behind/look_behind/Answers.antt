@@ -1,6 +1,6 @@
-use Rattle.std.proofs.Common.{sym, ◌∙◌, ap}
+use Rattle.std.proofs.Common.{sym, subst, ◌∙◌, ap}
 use Rattle.st_rows.specs.declared.front.Front.{Front}
-use Rattle.st_state.specs.Machine.{Machine}
+use Rattle.st_state.specs.Machine.{Machine, IsMachine}
 use Rattle.st_rows.proofs.Within.{delays-are}
 use Rattle.st_account.specs.Standing.{guessing}
 use Rattle.st_account.proofs.LastLemmas.{few-found}
@@ -10,21 +10,21 @@ use Rattle.st_account.proofs.behind.look_behind.Goals as goal
 pub returns-clause-banks : goal.returns-clause-banks
 returns-clause-banks c reads start has =
     let l = c.args.last.now in
-    banks-behind c.args.timing.now.delays.list (delays-are c.args.timing.now.delays) c.args.timing.now.levels l.tick (guessing l.ic c.args.state.now) _ l.front
-    c.front_of-front.result c.shape.ensures c.requires.tight (ap (λ (s : Machine). record s { ic = l.ic }) c.state.view_is) c.front_of-front.ensures
+    banks-behind c.args.timing.now.delays.now.list (delays-are c.args.timing.now.delays.now) c.args.timing.now.levels l.tick (guessing l.ic c.args.state.now) _ l.front
+    c.front_of-front.result (subst IsMachine c.look.ensures.state c.look.ensures.machine) c.requires.tight (ap (λ (s : Machine). record s { ic = l.ic }) c.state.view_is) c.front_of-front.ensures
     reads start c.args.log.now c.look.new.log c.look.new.front.bus c.undo.new.banks has c.look.ensures.log c.look.ensures.bus c.undo.ensures
 
 pub returns-clause-soon : goal.returns-clause-soon
 returns-clause-soon c reads start has =
     let l = c.args.last.now in
-    soon-behind c.args.timing.now.delays.list (delays-are c.args.timing.now.delays) c.args.timing.now.levels l.tick (guessing l.ic c.args.state.now) _ l.front
-    c.front_of-front.result c.shape.ensures c.requires.tight (ap (λ (s : Machine). record s { ic = l.ic }) c.state.view_is) c.front_of-front.ensures
+    soon-behind c.args.timing.now.delays.now.list (delays-are c.args.timing.now.delays.now) c.args.timing.now.levels l.tick (guessing l.ic c.args.state.now) _ l.front
+    c.front_of-front.result (subst IsMachine c.look.ensures.state c.look.ensures.machine) c.requires.tight (ap (λ (s : Machine). record s { ic = l.ic }) c.state.view_is) c.front_of-front.ensures
     reads start c.args.log.now c.look.new.log c.look.new.front.bus c.undo.new.banks has c.look.ensures.log c.look.ensures.bus c.undo.ensures
 
 pub returns-clause-few : goal.returns-clause-few
 returns-clause-few c =
-    few-found c.args.timing.now.delays.list c.args.timing.now.levels c.args.last.now.tick c.args.timing.now.levels _ _ c.args.behind.now.found.items c.look.new.found.items c.requires.none
-    c.requires.levels.1 c.look.ensures.found
+    few-found c.args.timing.now.delays.now.list c.args.timing.now.levels c.args.last.now.tick c.args.timing.now.levels _ _ c.args.behind.now.ahead.found.items c.look.new.ahead.found.items c.requires.none
+    c.args.timing.now.few c.look.ensures.found
 
 pub look-requires-clause-past : goal.look-requires-clause-past
 look-requires-clause-past c = c.requires.past ∙ ap (λ (f : Front). f.past) (sym c.front_of-front.ensures)

@@ -9,8 +9,8 @@ use Rattle.st_account.proofs.running.write_run.Goals as goal
 pub entries-init : goal.entries-init
 entries-init g c =
     run-taken _ _ _ _ _ _ _ _ _ _ _ _ _ _ c.new-coming.ensures c.signals.ensures c.budget-left.ensures
-    (run-starts _ c.args.ready.timing.delays.list c.args.ready.timing.levels c.args.controls.now.budget c.args.ready.state c.args.controls.now.signals c.args.ready.cards
-    c.args.ready.origins c.new-account.result (ap length c.new-account.ensures.words ∙ c.requires.size) (delays-are c.args.ready.timing.delays) c.requires.levels.1 c.new-account.ensures.machine c.requires.cards
+    (run-starts _ c.args.ready.delays.list c.args.ready.levels c.args.controls.now.budget c.args.ready.state c.args.controls.now.signals c.args.ready.cards
+    c.args.ready.origins c.new-account.result (ap length c.new-account.ensures.words ∙ c.requires.size) (delays-are c.args.ready.delays) c.requires.levels.1 c.new-account.ensures.machine c.requires.cards
     c.requires.fresh c.requires.limit c.new-account.ensures.none c.new-account.ensures.state c.new-account.ensures.origins c.new-account.ensures.number
     c.new-account.ensures.tick c.new-account.ensures.front c.new-account.ensures.past c.new-account.ensures.missed c.new-account.ensures.counter
     c.new-account.ensures.enabled c.new-account.ensures.below c.new-account.ensures.log c.new-account.ensures.tight c.new-account.ensures.unused c.new-account.ensures.waiting
@@ -78,7 +78,7 @@ entries-preserved g c =
     (c.in_ok-cross.ensures.front _ _ c.entries.left _ _ _ _ (c.pass.ensures.came c.entries.invariant.b c.entries.invariant.m c.entries.invariant.at) (sym (over-is _ _ _ _ _ _ _ _ _ _ _ c.entries.invariant c.pass.new.self c.pass.new.coming.signals c.pass.new.coming.cards c.pass.ensures.rest (c.pass.ensures.came c.entries.invariant.b c.entries.invariant.m c.entries.invariant.at) c.is_over.result c.is_over.ensures) ∙ c.if-is_over.false)) c.in_ok-cross.ensures.tick c.in_ok-cross.ensures.state c.in_ok-cross.ensures.origins
     _ _ c.step.new.self (c.in_ok-cross.ensures.lines _ _ c.entries.left _ _ _ _ (c.pass.ensures.came c.entries.invariant.b c.entries.invariant.m c.entries.invariant.at) (sym (over-is _ _ _ _ _ _ _ _ _ _ _ c.entries.invariant c.pass.new.self c.pass.new.coming.signals c.pass.new.coming.cards c.pass.ensures.rest (c.pass.ensures.came c.entries.invariant.b c.entries.invariant.m c.entries.invariant.at) c.is_over.result c.is_over.ensures) ∙ c.if-is_over.false))
     (c.in_ok-cross.ensures.words refl) c.in_ok-cross.ensures.sums (c.in_ok-cross.ensures.size refl)
-    (delays-are c.args.ready.timing.delays) c.requires.levels.1
+    (delays-are c.args.ready.delays) c.requires.levels.1
     c.step.ensures.lines c.step.ensures.state c.step.ensures.last c.step.ensures.sums c.step.ensures.within c.step.ensures.enabled c.step.ensures.guess
     c.step.ensures.left c.step.ensures.words c.step.ensures.origins c.step.ensures.number
     (c.in_ok-cross.ensures.earlier _ _ c.entries.left _ _ _ _ (c.pass.ensures.came c.entries.invariant.b c.entries.invariant.m c.entries.invariant.at) refl)

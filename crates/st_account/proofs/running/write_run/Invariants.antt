@@ -11,10 +11,10 @@ use Rattle.st_account.proofs.running.write_run.Given as goal
 abbrev pub invariant-entries : goal.invariant-entries
 invariant-entries g l =
     let c = moment_at_start (at_hand l.fn.ready.state l.controls.signals l.fn.ready.cards) in
-    IsRunning (g.K.Sink.output l.fn.out) (g.K.Sink.output l.out) (lines_from (origin_at l.fn.ready.origins) l.timing.delays.list l.timing.levels l.controls.budget 0 l.fn.ready.state [] c)
-    l.timing.delays.list l.timing.levels
-    (λ x. ticks_for x (all_charges l.timing.delays.list l.timing.levels (entries_from l.timing.delays.list l.timing.levels l.controls.budget c)))
-    (λ r s. stalled_from r s l.timing.delays.list l.timing.levels l.controls.budget [] c)
+    IsRunning (g.K.Sink.output l.fn.out) (g.K.Sink.output l.out) (lines_from (origin_at l.fn.ready.origins) l.fn.ready.delays.list l.fn.ready.levels l.controls.budget 0 l.fn.ready.state [] c)
+    l.fn.ready.delays.list l.fn.ready.levels
+    (λ x. ticks_for x (all_charges l.fn.ready.delays.list l.fn.ready.levels (entries_from l.fn.ready.delays.list l.fn.ready.levels l.controls.budget c)))
+    (λ r s. stalled_from r s l.fn.ready.delays.list l.fn.ready.levels l.controls.budget [] c)
     l.account l.coming.signals l.coming.cards l.left
 
 abbrev pub decreases-entries : goal.decreases-entries

@@ -1,3 +1,4 @@
+use Rattle.st_segment.proofs.EntryRanges.{entry-ranges}
 use Rattle.st_plain.proofs.PlanLemmas.{plan-planned, known-planned, entry-planned}
 use Rattle.st_plain.proofs.entries.plan_entry.Goals as goal
 
@@ -30,3 +31,13 @@ pub returns-in-None-clause-known : goal.returns-in-None-clause-known
 returns-in-None-clause-known c =
     known-planned c.args.state.now c.args.table c.place_of-p.result c.index_words-x.result _ c.plan_other.result c.place_of-p.ensures.value
     c.index_words-x.ensures c.plan_other.ensures.planned
+
+pub returns-in-Some-clause-in_time : goal.returns-in-Some-clause-in_time
+returns-in-Some-clause-in_time c =
+    rw (returns-in-Some-clause-entry c)
+    (entry-ranges c.args.table c.args.state.now c.place_of-p.ensures.machine c.requires.indicator)
+
+pub returns-in-None-clause-in_time : goal.returns-in-None-clause-in_time
+returns-in-None-clause-in_time c =
+    rw (returns-in-None-clause-entry c)
+    (entry-ranges c.args.table c.args.state.now c.place_of-p.ensures.machine c.requires.indicator)

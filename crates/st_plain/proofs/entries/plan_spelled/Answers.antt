@@ -9,5 +9,5 @@ returns-else-is_execute_format-clause-planned c =
     ap is_execute (sym c.format_of-format.ensures)
     ∙ sym (c.is_execute_format.ensures c.args.spelled.first c.args.spelled.second)
     ∙ c.if-is_execute_format.false in
-    planned-spelled c.args.state.now c.args.x.now c.args.p.now.place c.args.spelled.first c.args.spelled.second _ c.words_at-words.result _ _ _
-    c.requires.spelled other c.words_at-words.ensures none-run c.plan_known.ensures.planned
+    planned-spelled c.args.state.now c.args.x.now c.args.p.now.place c.args.spelled.first c.args.spelled.second _ c.words_at.result _ _ _
+    c.requires.spelled other c.words_at.ensures none-run c.plan_known.ensures.planned

@@ -1,7 +1,7 @@
-use Rattle.std.proofs.Common.{◌≡◌, ◌<◌, length, None, ◌∙◌, ap, arith}
+use Rattle.std.proofs.Common.{◌≡◌, ◌<◌, length, None, sym, subst, ◌∙◌, ap, arith}
 use Rattle.std.proofs.lemmas.List.{length_push}
 use Rattle.st_exec.specs.Completion.{guessed_state}
-use Rattle.st_state.specs.Machine.{Machine}
+use Rattle.st_state.specs.Machine.{Machine, IsMachine}
 use Rattle.st_prep.specs.Plan.{plan}
 use Rattle.st_prep.specs.declared.entries.Prepared.{Prepared}
 use Rattle.st_rows.specs.Asked.{formed_asked, reads_of_entry}
@@ -14,7 +14,6 @@ use Rattle.st_rows.specs.declared.front.EntryTicks.{EntryTicks}
 use Rattle.st_rows.proofs.Tight.{later-c}
 use Rattle.st_rows.proofs.Within.{delays-are}
 use Rattle.st_segment.specs.Entries.{entry}
-use Rattle.st_segment.proofs.EntryRanges.{entry-ranges}
 use Rattle.arrayvec.specs.ArrayVec.{ArrayVec}
 use Rattle.st_plain.specs.Looking.{side_at, known_at}
 use Rattle.st_plain.specs.Uses.{uses_of_entry}
@@ -28,21 +27,12 @@ use Rattle.st_plain.proofs.looking.+look.Goals as goal
 abbrev Uses : Type 0
 Uses = ArrayVec Use
 
-pub begin-requires-clause-entry : goal.begin-requires-clause-entry
-begin-requires-clause-entry t c = rw c.plan_entry-planned.ensures.entry (entry-ranges None c.args.state.now c.shape.ensures tt)
-
-pub finish-row-requires-clause-entry : goal.finish-row-requires-clause-entry
-finish-row-requires-clause-entry t c = rw c.plan_entry-planned.ensures.entry (entry-ranges None c.args.state.now c.shape.ensures tt)
-
 -- the next entry is not prepared in time
 
-pub finish-ticks-requires-clause-entry : goal.finish-ticks-requires-clause-entry
-finish-ticks-requires-clause-entry t c = rw c.plan_entry-planned.ensures.entry (entry-ranges None c.args.state.now c.shape.ensures tt)
-
-pub returns-then-begun-tick-clause-late : goal.returns-then-begun-tick-clause-late
-returns-then-begun-tick-clause-late t c =
-    let ds = c.args.delays.now.list in
-    let n = c.args.levels in
+pub returns-then-begun-reach-clause-late : goal.returns-then-begun-reach-clause-late
+returns-then-begun-reach-clause-late t c =
+    let ds = c.args.reach.now.timing.now.delays.now.list in
+    let n = c.args.reach.now.timing.now.levels in
     let f = c.args.front.now in
     let s = c.args.state.now in
     let p = ap (tick_p ds n f) c.plan_entry-planned.ensures.entry in
@@ -53,75 +43,75 @@ returns-then-begun-tick-clause-late t c =
     let uses_are : c.finish-ticks.new.uses.items ≡ uses_of_entry ds n f (entry None s) (side_at None s) (plan s None).reads =
     all-used ds n f _ _ _ _ _ _ _ _ _ c.plan_entry-planned.ensures.entry (ap (λ (k : Known). k.side) known_is) (ap (λ (q : Prepared). q.reads) plan_is)
     c.new-uses.ensures c.begin.ensures.uses c.finish-ticks.ensures.uses in
-    begun-here ds n c.args.tick s f c.args.more _ (omega (arith, row-p ds n f (entry None s), p, c.begin.ensures.tick, c.if-begun-tick.true))
+    begun-here ds n c.args.reach.now.tick s f c.args.reach.now.more _ (omega (arith, row-p ds n f (entry None s), p, c.begin.ensures.tick, c.if-begun-reach.true))
     (ap (λ q. at q c.finish-ticks.result c.plan_entry-planned.result.known c.finish-ticks.new.uses) plan_is
     ∙ ap (λ r. at (plan s None) r c.plan_entry-planned.result.known c.finish-ticks.new.uses) is
     ∙ ap (λ known. at (plan s None) (row_of_entry ds n f (entry None s)) known c.finish-ticks.new.uses) known_is
     ∙ ap (λ xs. at (plan s None) (row_of_entry ds n f (entry None s)) (known_at None s) (record { items = xs })) uses_are)
 
-pub returns-then-begun-tick-clause-found : goal.returns-then-begun-tick-clause-found
-returns-then-begun-tick-clause-found t c =
-    let ds = c.args.delays.now.list in
-    let n = c.args.levels in
+pub returns-then-begun-reach-clause-found : goal.returns-then-begun-reach-clause-found
+returns-then-begun-reach-clause-found t c =
+    let ds = c.args.reach.now.timing.now.delays.now.list in
+    let n = c.args.reach.now.timing.now.levels in
     let f = c.args.front.now in
     let s = c.args.state.now in
     let p = ap (tick_p ds n f) c.plan_entry-planned.ensures.entry in
-    found-same ds n c.args.found.now.items _
-    (found-late ds n c.args.tick s f c.args.more (omega (arith, row-p ds n f (entry None s), p, c.begin.ensures.tick, c.if-begun-tick.true)))
+    found-same ds n c.args.ahead.now.found.items _
+    (found-late ds n c.args.reach.now.tick s f c.args.reach.now.more (omega (arith, row-p ds n f (entry None s), p, c.begin.ensures.tick, c.if-begun-reach.true)))
 
-pub returns-then-begun-tick-clause-log : goal.returns-then-begun-tick-clause-log
-returns-then-begun-tick-clause-log t c =
-    let ds = c.args.delays.now.list in
-    let n = c.args.levels in
+pub returns-then-begun-reach-clause-log : goal.returns-then-begun-reach-clause-log
+returns-then-begun-reach-clause-log t c =
+    let ds = c.args.reach.now.timing.now.delays.now.list in
+    let n = c.args.reach.now.timing.now.levels in
     let f = c.args.front.now in
     let s = c.args.state.now in
     let p = ap (tick_p ds n f) c.plan_entry-planned.ensures.entry in
-    log-late ds n c.args.tick s f c.args.more c.args.log.now c.begin.new.log
-    (omega (arith, row-p ds n f (entry None s), p, c.begin.ensures.tick, c.if-begun-tick.true))
+    log-late ds n c.args.reach.now.tick s f c.args.reach.now.more c.args.log.now c.begin.new.log
+    (omega (arith, row-p ds n f (entry None s), p, c.begin.ensures.tick, c.if-begun-reach.true))
     (c.begin.ensures.log ∙ ap (λ (e : Entry). log_after_reads ds (formed_asked ds f e) f.bus c.args.log.now) c.plan_entry-planned.ensures.entry)
 
-pub returns-then-begun-tick-clause-bus : goal.returns-then-begun-tick-clause-bus
-returns-then-begun-tick-clause-bus t c =
-    let ds = c.args.delays.now.list in
-    let n = c.args.levels in
+pub returns-then-begun-reach-clause-bus : goal.returns-then-begun-reach-clause-bus
+returns-then-begun-reach-clause-bus t c =
+    let ds = c.args.reach.now.timing.now.delays.now.list in
+    let n = c.args.reach.now.timing.now.levels in
     let f = c.args.front.now in
     let s = c.args.state.now in
     let p = ap (tick_p ds n f) c.plan_entry-planned.ensures.entry in
-    bus-late ds n c.args.tick s f c.args.more c.begin.new.begun.words.bus
-    (omega (arith, row-p ds n f (entry None s), p, c.begin.ensures.tick, c.if-begun-tick.true))
+    bus-late ds n c.args.reach.now.tick s f c.args.reach.now.more c.begin.new.begun.words.bus
+    (omega (arith, row-p ds n f (entry None s), p, c.begin.ensures.tick, c.if-begun-reach.true))
     (c.begin.ensures.bus ∙ ap (bus_a ds f) c.plan_entry-planned.ensures.entry)
 
 -- it is
 
 pub push-requires : goal.push-requires
 push-requires t c =
-    let some = some-more c.args.delays.now.list c.args.levels c.args.more c.args.tick c.args.front.now c.plan_entry-planned.result.entry c.requires.levels.0 c.requires.first
-    (omega (arith, c.begin.ensures.tick, c.if-begun-tick.false)) in
-    let room : length c.args.found.now.items < 8 = omega (arith, c.requires.space, some) in
+    let some = some-more c.args.reach.now.timing.now.delays.now.list c.args.reach.now.timing.now.levels c.args.reach.now.more c.args.reach.now.tick c.args.front.now c.plan_entry-planned.result.entry c.args.reach.now.timing.now.some c.requires.first
+    (omega (arith, c.begin.ensures.tick, c.if-begun-reach.false)) in
+    let room : length c.args.ahead.now.found.items < 8 = omega (arith, c.requires.space, some) in
     (omega arith, room)
 
-pub overflow_sub-more : goal.overflow_sub-more
-overflow_sub-more t c =
-    some-more c.args.delays.now.list c.args.levels c.args.more c.args.tick c.args.front.now c.plan_entry-planned.result.entry c.requires.levels.0 c.requires.first
-    (omega (arith, c.begin.ensures.tick, c.if-begun-tick.false))
+pub overflow_sub-further : goal.overflow_sub-further
+overflow_sub-further t c =
+    some-more c.args.reach.now.timing.now.delays.now.list c.args.reach.now.timing.now.levels c.args.reach.now.more c.args.reach.now.tick c.args.front.now c.plan_entry-planned.result.entry c.args.reach.now.timing.now.some c.requires.first
+    (omega (arith, c.begin.ensures.tick, c.if-begun-reach.false))
 
 pub look-requires : goal.look-requires
 look-requires t c =
-    let ds = c.args.delays.now.list in
-    let n = c.args.levels in
+    let ds = c.args.reach.now.timing.now.delays.now.list in
+    let n = c.args.reach.now.timing.now.levels in
     let f = c.args.front.now in
     let e = c.plan_entry-planned.result.entry in
-    let some = some-more ds n c.args.more c.args.tick f e c.requires.levels.0 c.requires.first
-    (omega (arith, c.begin.ensures.tick, c.if-begun-tick.false)) in
+    let some = some-more ds n c.args.reach.now.more c.args.reach.now.tick f e c.args.reach.now.timing.now.some c.requires.first
+    (omega (arith, c.begin.ensures.tick, c.if-begun-reach.false)) in
     let done = ap (λ (s : Machine). s.done) c.guess.ensures ∙ guess-done c.plan_entry-planned.new.p c.args.state.now in
-    let more = ap length c.push.ensures.items ∙ length_push c.args.found.now.items _ in
-    let range : IsEntryInTime e = rw c.plan_entry-planned.ensures.entry (entry-ranges None c.args.state.now c.shape.ensures tt) in
+    let more = ap length c.push.ensures.items ∙ length_push c.args.ahead.now.found.items _ in
+    let range : IsEntryInTime e = c.plan_entry-planned.ensures.in_time in
     let rises : f.c < c.finish-row.new.front.c =
     omega (
       arith,
       ap (λ (g : Front). g.c) c.finish-row.ensures.after,
       after-c ds n f e,
-      (later-c 255 ds (delays-are c.args.delays.now) n f e range c.requires.tight).0,
+      (later-c 255 ds (delays-are c.args.reach.now.timing.now.delays.now) n f e range c.requires.tight).0,
     ) in (
       omega (arith, c.decreases, some),
       (
@@ -131,19 +121,13 @@ look-requires t c =
           (
             omega (arith, c.finish-row.ensures.bound, c.requires.early, some),
             (
-              c.requires.levels,
+              omega (arith, c.requires.late, rises),
               (
-                omega (arith, c.requires.left),
+                first-next ds n n c.args.reach.now.more c.args.reach.now.tick f c.finish-row.new.front e c.args.reach.now.timing.now.few some
+                    c.args.reach.now.left c.requires.late rises c.requires.first c.finish-row.ensures.after,
                 (
-                  omega (arith, c.requires.late, rises),
-                  (
-                    first-next ds n n c.args.more c.args.tick f c.finish-row.new.front e c.requires.levels.1 some c.requires.left c.requires.late rises
-                        c.requires.first c.finish-row.ensures.after,
-                    (
-                      omega (arith, more, c.requires.space, some),
-                      past-kept ds n f e c.finish-row.result _ _ _ c.requires.past c.finish-row.ensures.value c.put_past.ensures c.finish-row.ensures.after,
-                    ),
-                  ),
+                  omega (arith, more, c.requires.space, some),
+                  past-kept ds n f e c.finish-row.result _ _ _ c.requires.past c.finish-row.ensures.value c.put_past.ensures c.finish-row.ensures.after,
                 ),
               ),
             ),
@@ -157,14 +141,17 @@ returns-clause-state t c =
     let counted = guess-counted c.plan_entry-planned.new.p c.args.state.now in
     c.undo.ensures ∙ c.keep-kept.ensures.undone _ counted.ic (c.look.ensures.state ∙ c.guess.ensures ∙ counted.is)
 
+pub returns-clause-machine : goal.returns-clause-machine
+returns-clause-machine t c = subst IsMachine (sym (returns-clause-state t c)) c.plan_entry-planned.ensures.machine
+
 pub returns-clause-found : goal.returns-clause-found
 returns-clause-found t c =
-    let ds = c.args.delays.now.list in
-    let n = c.args.levels in
+    let ds = c.args.reach.now.timing.now.delays.now.list in
+    let n = c.args.reach.now.timing.now.levels in
     let f = c.args.front.now in
     let s = c.args.state.now in
-    let some = some-more ds n c.args.more c.args.tick f c.plan_entry-planned.result.entry c.requires.levels.0 c.requires.first
-    (omega (arith, c.begin.ensures.tick, c.if-begun-tick.false)) in
+    let some = some-more ds n c.args.reach.now.more c.args.reach.now.tick f c.plan_entry-planned.result.entry c.args.reach.now.timing.now.some c.requires.first
+    (omega (arith, c.begin.ensures.tick, c.if-begun-reach.false)) in
     let p = ap (tick_p ds n f) c.plan_entry-planned.ensures.entry in
     let is = c.finish-row.ensures.value ∙ ap (row_of_entry ds n f) c.plan_entry-planned.ensures.entry in
     let at : Prepared → EntryTicks → Known → Uses → Seen = λ q r known uses. record { plan = q; row = r; known = known; uses = uses } in
@@ -173,8 +160,8 @@ returns-clause-found t c =
     let uses_are : c.finish-row.new.uses.items ≡ uses_of_entry ds n f (entry None s) (side_at None s) (plan s None).reads =
     all-used ds n f _ _ _ _ _ _ _ _ _ c.plan_entry-planned.ensures.entry (ap (λ (k : Known). k.side) known_is) (ap (λ (q : Prepared). q.reads) plan_is)
     c.new-uses.ensures c.begin.ensures.uses c.finish-row.ensures.uses in
-    found-look ds n c.args.tick s f _ _ c.args.more _ _ _ _ some
-    (omega (arith, row-p ds n f (entry None s), p, c.begin.ensures.tick, c.if-begun-tick.false))
+    found-look ds n c.args.reach.now.tick s f _ _ c.args.reach.now.more _ _ _ _ some
+    (omega (arith, row-p ds n f (entry None s), p, c.begin.ensures.tick, c.if-begun-reach.false))
     (ap (λ q. at q c.finish-row.result c.plan_entry-planned.result.known c.finish-row.new.uses) plan_is
     ∙ ap (λ r. at (plan s None) r c.plan_entry-planned.result.known c.finish-row.new.uses) is
     ∙ ap (λ known. at (plan s None) (row_of_entry ds n f (entry None s)) known c.finish-row.new.uses) known_is
@@ -185,30 +172,30 @@ returns-clause-found t c =
 
 pub returns-clause-late : goal.returns-clause-late
 returns-clause-late t c =
-    let ds = c.args.delays.now.list in
-    let n = c.args.levels in
+    let ds = c.args.reach.now.timing.now.delays.now.list in
+    let n = c.args.reach.now.timing.now.levels in
     let f = c.args.front.now in
     let s = c.args.state.now in
-    let some = some-more ds n c.args.more c.args.tick f c.plan_entry-planned.result.entry c.requires.levels.0 c.requires.first
-    (omega (arith, c.begin.ensures.tick, c.if-begun-tick.false)) in
+    let some = some-more ds n c.args.reach.now.more c.args.reach.now.tick f c.plan_entry-planned.result.entry c.args.reach.now.timing.now.some c.requires.first
+    (omega (arith, c.begin.ensures.tick, c.if-begun-reach.false)) in
     let p = ap (tick_p ds n f) c.plan_entry-planned.ensures.entry in
-    begun-behind ds n c.args.tick s f _ _ c.args.more _ some
-    (omega (arith, row-p ds n f (entry None s), p, c.begin.ensures.tick, c.if-begun-tick.false))
+    begun-behind ds n c.args.reach.now.tick s f _ _ c.args.reach.now.more _ some
+    (omega (arith, row-p ds n f (entry None s), p, c.begin.ensures.tick, c.if-begun-reach.false))
     (c.guess.ensures ∙ ap (λ q. guessed_state q s) c.plan_entry-planned.ensures.plan)
     (c.finish-row.ensures.after ∙ ap (front_after_entry ds n f) c.plan_entry-planned.ensures.entry)
     c.look.ensures.late
 
 pub returns-clause-log : goal.returns-clause-log
 returns-clause-log t c =
-    let ds = c.args.delays.now.list in
-    let n = c.args.levels in
+    let ds = c.args.reach.now.timing.now.delays.now.list in
+    let n = c.args.reach.now.timing.now.levels in
     let f = c.args.front.now in
     let s = c.args.state.now in
-    let some = some-more ds n c.args.more c.args.tick f c.plan_entry-planned.result.entry c.requires.levels.0 c.requires.first
-    (omega (arith, c.begin.ensures.tick, c.if-begun-tick.false)) in
+    let some = some-more ds n c.args.reach.now.more c.args.reach.now.tick f c.plan_entry-planned.result.entry c.args.reach.now.timing.now.some c.requires.first
+    (omega (arith, c.begin.ensures.tick, c.if-begun-reach.false)) in
     let p = ap (tick_p ds n f) c.plan_entry-planned.ensures.entry in
-    log-look ds n c.args.tick s f c.guess.new.state c.finish-row.new.front c.args.more some
-    (omega (arith, row-p ds n f (entry None s), p, c.begin.ensures.tick, c.if-begun-tick.false))
+    log-look ds n c.args.reach.now.tick s f c.guess.new.state c.finish-row.new.front c.args.reach.now.more some
+    (omega (arith, row-p ds n f (entry None s), p, c.begin.ensures.tick, c.if-begun-reach.false))
     (c.guess.ensures ∙ ap (λ q. guessed_state q s) c.plan_entry-planned.ensures.plan)
     (c.finish-row.ensures.after ∙ ap (front_after_entry ds n f) c.plan_entry-planned.ensures.entry) c.args.log.now c.finish-row.new.log c.look.new.log
     (c.finish-row.ensures.log c.args.log.now c.begin.ensures.log ∙ ap (λ (e : Entry). log_after_reads ds (reads_of_entry ds n f e) f.bus c.args.log.now) c.plan_entry-planned.ensures.entry)
@@ -216,14 +203,14 @@ returns-clause-log t c =
 
 pub returns-clause-bus : goal.returns-clause-bus
 returns-clause-bus t c =
-    let ds = c.args.delays.now.list in
-    let n = c.args.levels in
+    let ds = c.args.reach.now.timing.now.delays.now.list in
+    let n = c.args.reach.now.timing.now.levels in
     let f = c.args.front.now in
     let s = c.args.state.now in
-    let some = some-more ds n c.args.more c.args.tick f c.plan_entry-planned.result.entry c.requires.levels.0 c.requires.first
-    (omega (arith, c.begin.ensures.tick, c.if-begun-tick.false)) in
+    let some = some-more ds n c.args.reach.now.more c.args.reach.now.tick f c.plan_entry-planned.result.entry c.args.reach.now.timing.now.some c.requires.first
+    (omega (arith, c.begin.ensures.tick, c.if-begun-reach.false)) in
     let p = ap (tick_p ds n f) c.plan_entry-planned.ensures.entry in
-    bus-look ds n c.args.tick s f c.guess.new.state c.finish-row.new.front c.args.more some
-    (omega (arith, row-p ds n f (entry None s), p, c.begin.ensures.tick, c.if-begun-tick.false))
+    bus-look ds n c.args.reach.now.tick s f c.guess.new.state c.finish-row.new.front c.args.reach.now.more some
+    (omega (arith, row-p ds n f (entry None s), p, c.begin.ensures.tick, c.if-begun-reach.false))
     (c.guess.ensures ∙ ap (λ q. guessed_state q s) c.plan_entry-planned.ensures.plan)
     (c.finish-row.ensures.after ∙ ap (front_after_entry ds n f) c.plan_entry-planned.ensures.entry) c.look.new.front.bus c.look.ensures.bus

@@ -8,9 +8,9 @@ use Rattle.st_plain.proofs.rows.begin.Goals as goal
 
 pub returns-clause-log : goal.returns-clause-log
 returns-clause-log c =
-    let ds = c.args.delays.now.list in
+    let ds = c.args.next.now.timing.now.delays.now.list in
     let f = c.args.front.now in
-    let e = c.args.planned.now.entry in
+    let e = c.args.next.now.planned.now.entry in
     elim c.if-is_none.branch [
       | then-is_none w ↦
           w.log-is ∙ noted-formed ds f e c.fetch_all.new.words w.form-formed.result.a c.args.log.now c.fetch_all.new.log w.form-formed.new.log
@@ -26,24 +26,24 @@ use_side-requires-clause-room c =
     let f = c.args.front.now in
     rw c.fetch_all.ensures.words
     (bus-weaker (f.c + 7 * 255 + 6) (2 ^ 64 - 512) _ (omega arith)
-    (fetched-within 255 c.args.delays.now.list (delays-are c.args.delays.now) f c.args.planned.now.entry c.requires.entry c.requires.tight).bus)
+    (fetched-within 255 c.args.next.now.timing.now.delays.now.list (delays-are c.args.next.now.timing.now.delays.now) f c.args.next.now.planned.now.entry c.requires.entry c.requires.tight).bus)
 
 pub use_side-requires-clause-early : goal.use_side-requires-clause-early
 use_side-requires-clause-early c =
     rw c.form-formed-else-is_none.ensures.address
-    (omega (arith, a-within 255 c.args.delays.now.list (delays-are c.args.delays.now) c.args.front.now c.args.planned.now.entry c.requires.entry c.requires.tight))
+    (omega (arith, a-within 255 c.args.next.now.timing.now.delays.now.list (delays-are c.args.next.now.timing.now.delays.now) c.args.front.now c.args.next.now.planned.now.entry c.requires.entry c.requires.tight))
 
 pub returns-clause-uses : goal.returns-clause-uses
 returns-clause-uses c =
-    let ds = c.args.delays.now.list in
+    let ds = c.args.next.now.timing.now.delays.now.list in
     let f = c.args.front.now in
-    let e = c.args.planned.now.entry in
+    let e = c.args.next.now.planned.now.entry in
     elim c.if-is_none.branch [
       | then-is_none w ↦
-          ap (λ us. us.items) w.uses-is ∙ formed-bare ds f e c.args.planned.now.known.side c.is_none.result c.args.uses.now.items c.fetch_all.new.uses.items c.is_none.ensures w.if-is_none.true
+          ap (λ us. us.items) w.uses-is ∙ formed-bare ds f e c.args.next.now.planned.now.known.side c.is_none.result c.args.uses.now.items c.fetch_all.new.uses.items c.is_none.ensures w.if-is_none.true
           c.fetch_all.ensures.uses
       | else-is_none w ↦
-          ap (λ us. us.items) w.uses-is ∙ formed-used ds f e c.args.planned.now.known.side c.fetch_all.new.words w.form-formed-else-is_none.result.a c.args.uses.now.items
+          ap (λ us. us.items) w.uses-is ∙ formed-used ds f e c.args.next.now.planned.now.known.side c.fetch_all.new.words w.form-formed-else-is_none.result.a c.args.uses.now.items
           c.fetch_all.new.uses.items w.use_side.new.uses.items c.fetch_all.ensures.words w.form-formed-else-is_none.ensures.address
           c.fetch_all.ensures.uses w.use_side.ensures.items
     ]

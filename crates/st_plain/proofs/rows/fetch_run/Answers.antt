@@ -14,21 +14,21 @@ word-requires-clause-storage c = c.words.invariant.above (omega arith)
 pub words-preserved : goal.words-preserved
 words-preserved c =
     let m = 2 ^ 64 - 512 - 256 * c.words.left in
-    let are = delays-are c.args.delays.now in
-    let before = past-weaker (2 ^ 64 - 2 ^ 16) m c.args.past.now (omega (arith, c.words.invariant.few)) c.requires.before in
+    let are = delays-are c.args.wanted.now.delays.now in
+    let before = past-weaker (2 ^ 64 - 2 ^ 16) m c.args.wanted.now.past.now (omega (arith, c.words.invariant.few)) c.requires.before in
     record {
-      value = fetch-turn c.args.delays.now.list c.args.past.now c.args.from c.words.w c.words.words c.word.new.self c.words.left c.word.ensures.after (omega arith)
+      value = fetch-turn c.args.wanted.now.delays.now.list c.args.wanted.now.past.now c.args.wanted.now.tick c.words.w c.words.words c.word.new.self c.words.left c.word.ensures.after (omega arith)
           ∙ c.words.invariant.value;
-      log = noted-turn c.args.delays.now.list c.args.past.now c.args.from c.words.w c.words.words c.word.new.self c.words.left c.words.log c.word.new.log
+      log = noted-turn c.args.wanted.now.delays.now.list c.args.wanted.now.past.now c.args.wanted.now.tick c.words.w c.words.words c.word.new.self c.words.left c.words.log c.word.new.log
           c.word.ensures.after c.word.ensures.log (omega arith)
           ∙ c.words.invariant.log;
-      uses = instruction-turn c.args.delays.now.list c.args.past.now c.args.from c.words.w c.words.words c.word.new.self c.words.left c.words.uses.items c.note.new.uses.items _
+      uses = instruction-turn c.args.wanted.now.delays.now.list c.args.wanted.now.past.now c.args.wanted.now.tick c.words.w c.words.words c.word.new.self c.words.left c.words.uses.items c.note.new.uses.items _
           c.word.ensures.after (rw (c.max-want.ensures, c.max.ensures) at c.fetch_supply-supply.ensures) c.note.ensures.items (omega arith)
           ∙ c.words.invariant.uses;
       space = omega (arith, c.note.ensures.room, c.words.invariant.space);
       room = fetching-weaker (m + 256) _ c.word.new.self (omega arith)
           (rw c.word.ensures.after
-          (fetch_word-within 255 c.args.delays.now.list are m (m + 256) (omega arith) c.args.past.now c.words.words c.words.w c.args.from before
+          (fetch_word-within 255 c.args.wanted.now.delays.now.list are m (m + 256) (omega arith) c.args.wanted.now.past.now c.words.words c.words.w c.args.wanted.now.tick before
           c.words.invariant.room (omega arith)));
       few = omega (arith, c.words.invariant.few);
       above = λ some. omega (arith, c.words.invariant.above (omega arith));
@@ -37,14 +37,14 @@ words-preserved c =
 
 pub returns-clause-words : goal.returns-clause-words
 returns-clause-words c =
-    fetch-end c.args.delays.now.list c.args.past.now c.args.from c.words.w c.words.words _ c.words.left (omega (arith, c.words-test.false)) c.words.invariant.value
+    fetch-end c.args.wanted.now.delays.now.list c.args.wanted.now.past.now c.args.wanted.now.tick c.words.w c.words.words _ c.words.left (omega (arith, c.words-test.false)) c.words.invariant.value
 
 pub returns-clause-log : goal.returns-clause-log
 returns-clause-log c =
-    noted-end c.args.delays.now.list c.args.past.now c.args.from c.words.w c.words.words c.words.left c.words.log _ (omega (arith, c.words-test.false))
+    noted-end c.args.wanted.now.delays.now.list c.args.wanted.now.past.now c.args.wanted.now.tick c.words.w c.words.words c.words.left c.words.log _ (omega (arith, c.words-test.false))
     c.words.invariant.log
 
 pub returns-clause-uses : goal.returns-clause-uses
 returns-clause-uses c =
-    instruction-end c.args.delays.now.list c.args.past.now c.args.from c.words.w c.words.words c.words.left c.words.uses.items _ (omega (arith, c.words-test.false))
+    instruction-end c.args.wanted.now.delays.now.list c.args.wanted.now.past.now c.args.wanted.now.tick c.words.w c.words.words c.words.left c.words.uses.items _ (omega (arith, c.words-test.false))
     c.words.invariant.uses

@@ -10,12 +10,12 @@ use Rattle.st_plain.proofs.rows.fetch_run.Given as goal
 -- the words that are left make of it, of the log and of the uses what all words make of what they were; there is time and room left for each
 abbrev pub invariant-words : goal.invariant-words
 invariant-words l = record {
-  value : fetch_words l.delays.list l.past l.words l.from l.w l.left
-      ≡ fetch_words l.delays.list l.past l.fn.words l.from l.fn.run.first l.fn.run.len;
-  log : log_after_reads l.delays.list (words_asked l.delays.list l.past l.words l.from l.w l.left) l.words.bus l.log
-      ≡ log_after_reads l.delays.list (words_asked l.delays.list l.past l.fn.words l.from l.fn.run.first l.fn.run.len) l.fn.words.bus l.fn.log;
-  uses : l.uses.items ++ instruction_uses l.delays.list l.past l.words l.from l.w l.left
-      ≡ l.fn.uses.items ++ instruction_uses l.delays.list l.past l.fn.words l.from l.fn.run.first l.fn.run.len;
+  value : fetch_words l.wanted.delays.now.list l.wanted.past.now l.words l.wanted.tick l.w l.left
+      ≡ fetch_words l.wanted.delays.now.list l.wanted.past.now l.fn.words l.wanted.tick l.fn.run.first l.fn.run.len;
+  log : log_after_reads l.wanted.delays.now.list (words_asked l.wanted.delays.now.list l.wanted.past.now l.words l.wanted.tick l.w l.left) l.words.bus l.log
+      ≡ log_after_reads l.wanted.delays.now.list (words_asked l.wanted.delays.now.list l.wanted.past.now l.fn.words l.wanted.tick l.fn.run.first l.fn.run.len) l.fn.words.bus l.fn.log;
+  uses : l.uses.items ++ instruction_uses l.wanted.delays.now.list l.wanted.past.now l.words l.wanted.tick l.w l.left
+      ≡ l.fn.uses.items ++ instruction_uses l.wanted.delays.now.list l.wanted.past.now l.fn.words l.wanted.tick l.fn.run.first l.fn.run.len;
   space : length l.uses.items + l.left ≤ length l.fn.uses.items + l.fn.run.len;
   room : IsFetchingWithin (2 ^ 64 - 512 - 256 * l.left) l.words;
   few : l.left ≤ 16;

@@ -14,80 +14,80 @@ use_data-requires-clause-room c =
     let f = c.args.front.now in
     rw c.requires.bus
     (bus-weaker (f.c + 8 * 255 + 8) (2 ^ 64 - 2 ^ 17) _ (omega arith)
-    (bus_a-within 255 c.args.delays.now.list (delays-are c.args.delays.now) f c.args.entry.now c.requires.entry c.requires.tight))
+    (bus_a-within 255 c.args.next.now.timing.now.delays.now.list (delays-are c.args.next.now.timing.now.delays.now) f c.args.next.now.planned.now.entry c.requires.entry c.requires.tight))
 
 pub use_data-requires-clause-early : goal.use_data-requires-clause-early
 use_data-requires-clause-early c =
     rw c.requires.tick
-    (omega (arith, p-within 255 c.args.delays.now.list (delays-are c.args.delays.now) c.args.front.now c.args.entry.now c.requires.entry c.requires.tight c.args.levels))
+    (omega (arith, p-within 255 c.args.next.now.timing.now.delays.now.list (delays-are c.args.next.now.timing.now.delays.now) c.args.front.now c.args.next.now.planned.now.entry c.requires.entry c.requires.tight c.args.next.now.timing.now.levels))
 
 pub overflow_add-c : goal.overflow_add-c
 overflow_add-c c =
     let f = c.args.front.now in
-    let reads = operands-read c.args.delays.now.list f c.args.entry.now c.args.levels (reading_of_fetch c.use_data.new.words) c.args.begun.now.words.bus
+    let reads = operands-read c.args.next.now.timing.now.delays.now.list f c.args.next.now.planned.now.entry c.args.next.now.timing.now.levels (reading_of_fetch c.use_data.new.words) c.args.begun.now.words.bus
     c.args.begun.now.formed.p c.use_data.ensures.after c.requires.bus c.requires.tick in
     let read : IsReadingWithin (f.c + 40 * 255 + 41) (reading_of_fetch c.use_data.new.words) =
     subst (λ (s : Reading). IsReadingWithin (f.c + 40 * 255 + 41) s) (sym reads)
-    (operands_of-within 255 c.args.delays.now.list (delays-are c.args.delays.now) f c.args.entry.now c.requires.entry c.requires.tight c.args.levels) in
+    (operands_of-within 255 c.args.next.now.timing.now.delays.now.list (delays-are c.args.next.now.timing.now.delays.now) f c.args.next.now.planned.now.entry c.requires.entry c.requires.tight c.args.next.now.timing.now.levels) in
     omega (arith, read.answered)
 
 pub use_following-requires-clause-room : goal.use_following-requires-clause-room
 use_following-requires-clause-room c =
     let f = c.args.front.now in
-    let reads = operands-read c.args.delays.now.list f c.args.entry.now c.args.levels (reading_of_fetch c.use_data.new.words) c.args.begun.now.words.bus
+    let reads = operands-read c.args.next.now.timing.now.delays.now.list f c.args.next.now.planned.now.entry c.args.next.now.timing.now.levels (reading_of_fetch c.use_data.new.words) c.args.begun.now.words.bus
     c.args.begun.now.formed.p c.use_data.ensures.after c.requires.bus c.requires.tick in
     rw (ap (λ (s : Reading). s.bus) reads)
     (bus-weaker (f.c + 40 * 255 + 41) (2 ^ 64 - 1024) _ (omega arith)
-    (operands_of-within 255 c.args.delays.now.list (delays-are c.args.delays.now) f c.args.entry.now c.requires.entry c.requires.tight c.args.levels).bus)
+    (operands_of-within 255 c.args.next.now.timing.now.delays.now.list (delays-are c.args.next.now.timing.now.delays.now) f c.args.next.now.planned.now.entry c.requires.entry c.requires.tight c.args.next.now.timing.now.levels).bus)
 
 pub use_following-requires-clause-early : goal.use_following-requires-clause-early
 use_following-requires-clause-early c =
     rw c.requires.tick
-    (omega (arith, p-within 255 c.args.delays.now.list (delays-are c.args.delays.now) c.args.front.now c.args.entry.now c.requires.entry c.requires.tight c.args.levels))
+    (omega (arith, p-within 255 c.args.next.now.timing.now.delays.now.list (delays-are c.args.next.now.timing.now.delays.now) c.args.front.now c.args.next.now.planned.now.entry c.requires.entry c.requires.tight c.args.next.now.timing.now.levels))
 
 pub returns-clause-value : goal.returns-clause-value
 unfolding row_of_entry operands tick_c
 returns-clause-value c =
-    let reads = operands-read c.args.delays.now.list c.args.front.now c.args.entry.now c.args.levels (reading_of_fetch c.use_data.new.words) c.args.begun.now.words.bus
+    let reads = operands-read c.args.next.now.timing.now.delays.now.list c.args.front.now c.args.next.now.planned.now.entry c.args.next.now.timing.now.levels (reading_of_fetch c.use_data.new.words) c.args.begun.now.words.bus
     c.args.begun.now.formed.p c.use_data.ensures.after c.requires.bus c.requires.tick in
     rw (c.max.ensures, c.from.ensures, ap (λ (s : Reading). s.answered) reads, c.requires.tick, c.requires.address) refl
 
 pub returns-clause-after : goal.returns-clause-after
 unfolding front_after_entry
 returns-clause-after c =
-    let reads = operands-read c.args.delays.now.list c.args.front.now c.args.entry.now c.args.levels (reading_of_fetch c.use_data.new.words) c.args.begun.now.words.bus
+    let reads = operands-read c.args.next.now.timing.now.delays.now.list c.args.front.now c.args.next.now.planned.now.entry c.args.next.now.timing.now.levels (reading_of_fetch c.use_data.new.words) c.args.begun.now.words.bus
     c.args.begun.now.formed.p c.use_data.ensures.after c.requires.bus c.requires.tick in
-    c.pass.ensures c.args.delays.now.list c.args.levels (returns-clause-value c)
+    c.pass.ensures c.args.next.now.timing.now.delays.now.list c.args.next.now.timing.now.levels (returns-clause-value c)
     (rw (c.use_following.ensures.after, ap (λ (s : Reading). s.bus) reads, c.requires.tick) refl)
 
 pub returns-clause-log : goal.returns-clause-log
 returns-clause-log c before made =
-    let reads = operands-read c.args.delays.now.list c.args.front.now c.args.entry.now c.args.levels (reading_of_fetch c.use_data.new.words) c.args.begun.now.words.bus
+    let reads = operands-read c.args.next.now.timing.now.delays.now.list c.args.front.now c.args.next.now.planned.now.entry c.args.next.now.timing.now.levels (reading_of_fetch c.use_data.new.words) c.args.begun.now.words.bus
     c.args.begun.now.formed.p c.use_data.ensures.after c.requires.bus c.requires.tick in
-    noted-asked c.args.delays.now.list c.args.front.now c.args.entry.now c.args.levels c.args.begun.now.words.bus before c.args.log.now c.use_following.new.log
+    noted-asked c.args.next.now.timing.now.delays.now.list c.args.front.now c.args.next.now.planned.now.entry c.args.next.now.timing.now.levels c.args.begun.now.words.bus before c.args.log.now c.use_following.new.log
     c.requires.bus made
-    (noted-prepared c.args.delays.now.list c.args.front.now c.args.entry.now c.args.levels c.args.begun.now.words.bus c.use_data.new.words.bus c.args.begun.now.formed.p
+    (noted-prepared c.args.next.now.timing.now.delays.now.list c.args.front.now c.args.next.now.planned.now.entry c.args.next.now.timing.now.levels c.args.begun.now.words.bus c.use_data.new.words.bus c.args.begun.now.formed.p
     c.args.log.now c.use_data.new.log c.use_following.new.log c.requires.bus (ap (λ (s : Reading). s.bus) reads) c.requires.tick c.use_data.ensures.log
     c.use_following.ensures.log)
 
 pub returns-clause-uses : goal.returns-clause-uses
 returns-clause-uses c =
     let f = c.args.front.now in
-    let reads = operands-read c.args.delays.now.list f c.args.entry.now c.args.levels (reading_of_fetch c.use_data.new.words) c.args.begun.now.words.bus
+    let reads = operands-read c.args.next.now.timing.now.delays.now.list f c.args.next.now.planned.now.entry c.args.next.now.timing.now.levels (reading_of_fetch c.use_data.new.words) c.args.begun.now.words.bus
     c.args.begun.now.formed.p c.use_data.ensures.after c.requires.bus c.requires.tick in
-    prepared-used c.args.delays.now.list f c.args.entry.now c.args.levels c.args.reads c.args.begun.now.words.bus (reading_of_fetch c.use_data.new.words)
+    prepared-used c.args.next.now.timing.now.delays.now.list f c.args.next.now.planned.now.entry c.args.next.now.timing.now.levels c.args.next.now.plan.now.reads c.args.begun.now.words.bus (reading_of_fetch c.use_data.new.words)
     c.args.begun.now.formed.p c.args.uses.now.items c.use_data.new.uses.items c.use_following.new.uses.items c.requires.bus c.requires.tick reads
     c.use_data.ensures.items c.use_following.ensures.items
 
 pub returns-clause-tight : goal.returns-clause-tight
 returns-clause-tight c =
-    let are = delays-are c.args.delays.now in
+    let are = delays-are c.args.next.now.timing.now.delays.now in
     rw (returns-clause-after c)
-    (tight-after 255 c.args.delays.now.list are c.args.levels c.args.front.now c.args.entry.now c.requires.entry c.requires.tight)
+    (tight-after 255 c.args.next.now.timing.now.delays.now.list are c.args.next.now.timing.now.levels c.args.front.now c.args.next.now.planned.now.entry c.requires.entry c.requires.tight)
 
 pub returns-clause-bound : goal.returns-clause-bound
 unfolding front_after_entry
 returns-clause-bound c =
-    let are = delays-are c.args.delays.now in
+    let are = delays-are c.args.next.now.timing.now.delays.now in
     rw (returns-clause-after c)
-    (omega (arith, c-within 255 c.args.delays.now.list are c.args.front.now c.args.entry.now c.requires.entry c.requires.tight c.args.levels))
+    (omega (arith, c-within 255 c.args.next.now.timing.now.delays.now.list are c.args.front.now c.args.next.now.planned.now.entry c.requires.entry c.requires.tight c.args.next.now.timing.now.levels))

@@ -7,7 +7,7 @@ use Rattle.st_account.proofs.account.Account.pass.Goals as goal
 
 pub returns-clause-came : goal.returns-clause-came
 returns-clause-came c b m at =
-    let ds = c.args.timing.now.delays.list in
+    let ds = c.args.timing.now.delays.now.list in
     let n = c.args.timing.now.levels in
     let a = c.args.self.now in
     let still = c.is_still-still.ensures ∙ ap (still_by a.state a.last.missed) c.signals.ensures in

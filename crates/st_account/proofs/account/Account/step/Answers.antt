@@ -23,7 +23,7 @@ pub returns-clause-lines : goal.returns-clause-lines
 returns-clause-lines c p end some is =
     let rest = c.execute.ensures.rest in
     kept-some _ _ end some
-    ∙ entry-lines (origin_at c.args.self.now.origins) c.args.timing.now.delays.list c.args.timing.now.levels p end c.args.self.now.state c.args.self.now.last
+    ∙ entry-lines (origin_at c.args.self.now.origins) c.args.timing.now.delays.now.list c.args.timing.now.levels p end c.args.self.now.state c.args.self.now.last
     c.interrupt-taken.result _ _ _ _ _ _ _ _ _ _ _ _ _ is
     c.interrupt-taken.ensures.value
     (ap (λ (l : Last). l.done.address) rest ∙ c.count_on.ensures.address ∙ c.next_address-address.ensures.value)
@@ -45,18 +45,18 @@ returns-clause-lines c p end some is =
     ∙ c.count_on.ensures.because
     ∙ ap (λ us. because c.args.self.now.last.front (entry c.interrupt-taken.result c.args.self.now.state) c.count_on.new.last.done.row.ticks.a
     c.count_on.new.last.done.row.ticks.p c.count_on.new.last.done.row.level_wait
-    (formed_uses c.args.timing.now.delays.list c.args.self.now.last.front (entry c.interrupt-taken.result c.args.self.now.state)
+    (formed_uses c.args.timing.now.delays.now.list c.args.self.now.last.front (entry c.interrupt-taken.result c.args.self.now.state)
     (side_at c.interrupt-taken.result c.args.self.now.state)) us)
     (sym c.count_on.ensures.earlier)
     ∙ ap (λ (l : Last). because c.args.self.now.last.front (entry c.interrupt-taken.result c.args.self.now.state) l.done.row.ticks.a l.done.row.ticks.p
     l.done.row.level_wait
-    (formed_uses c.args.timing.now.delays.list c.args.self.now.last.front (entry c.interrupt-taken.result c.args.self.now.state)
+    (formed_uses c.args.timing.now.delays.now.list c.args.self.now.last.front (entry c.interrupt-taken.result c.args.self.now.state)
     (side_at c.interrupt-taken.result c.args.self.now.state)) l.before.items) (sym rest))
-    ∙ ap (λ us. lines_of_entry (origin_at c.args.self.now.origins) c.args.timing.now.delays.list c.args.timing.now.levels end us p) (ap (λ (l : Last). l.before.items) rest ∙ c.count_on.ensures.earlier)
+    ∙ ap (λ us. lines_of_entry (origin_at c.args.self.now.origins) c.args.timing.now.delays.now.list c.args.timing.now.levels end us p) (ap (λ (l : Last). l.before.items) rest ∙ c.count_on.ensures.earlier)
 
 pub returns-clause-uses : goal.returns-clause-uses
 returns-clause-uses c p is =
-    uses-is c.args.timing.now.delays.list c.args.timing.now.levels p c.args.self.now.state c.args.self.now.last c.interrupt-taken.result _ is
+    uses-is c.args.timing.now.delays.now.list c.args.timing.now.levels p c.args.self.now.state c.args.self.now.last c.interrupt-taken.result _ is
     c.interrupt-taken.ensures.value (ap (λ (l : Last). l.uses.items) c.execute.ensures.rest ∙ c.count_on.ensures.uses)
 
 pub returns-clause-waiting : goal.returns-clause-waiting
@@ -65,7 +65,7 @@ returns-clause-waiting c =
     record {
       uses = subst (All IsReadInTime) (sym (ap (λ (l : Last). l.uses.items) rest ∙ c.count_on.ensures.uses)) (reads_of_an_entry_are_in_time _ _ _ _ _ _);
       before = subst (All IsReadInTime) (sym (ap (λ (l : Last). l.before.items) rest ∙ c.count_on.ensures.earlier)) c.requires.read;
-      reach = row-reach c.args.timing.now.delays.list c.args.timing.now.levels c.args.self.now.state c.args.self.now.last _ _ _ c.interrupt-taken.result _
+      reach = row-reach c.args.timing.now.delays.now.list c.args.timing.now.levels c.args.self.now.state c.args.self.now.last _ _ _ c.interrupt-taken.result _
           c.requires.order
           (ap (λ (l : Last). l.done.before) rest ∙ c.count_on.ensures.before)
           (ap (λ (l : Last). l.done.start) rest ∙ c.count_on.ensures.start)
@@ -78,7 +78,7 @@ pub returns-clause-stalled : goal.returns-clause-stalled
 returns-clause-stalled c p r s some is =
     let rest = c.execute.ensures.rest in
     kept-stalled-some r s _ _ some
-    ∙ row-stalled c.args.timing.now.delays.list c.args.timing.now.levels p c.args.self.now.state c.args.self.now.last c.interrupt-taken.result _ _ _ _ _ _ r s is
+    ∙ row-stalled c.args.timing.now.delays.now.list c.args.timing.now.levels p c.args.self.now.state c.args.self.now.last c.interrupt-taken.result _ _ _ _ _ _ r s is
     c.interrupt-taken.ensures.value
     (ap (λ (l : Last). l.done.row.ticks) rest ∙ c.count_on.ensures.row)
     (ap (λ (l : Last). l.done.before) rest ∙ c.count_on.ensures.before)
@@ -91,7 +91,7 @@ returns-clause-state c = entry-step c.args.self.now.state _ c.interrupt-taken.re
 
 pub returns-clause-last : goal.returns-clause-last
 returns-clause-last c p is =
-    entry-last c.args.timing.now.delays.list (delays-are c.args.timing.now.delays) c.args.timing.now.levels p c.args.self.now.state
+    entry-last c.args.timing.now.delays.now.list (delays-are c.args.timing.now.delays.now) c.args.timing.now.levels p c.args.self.now.state
     c.execute.new.state c.args.self.now.last
     c.count_on.new.last c.execute.new.last c.count_on.new.log c.interrupt-taken.result c.count_on.new.last.done.row.ticks is c.requires.tight c.interrupt-taken.ensures.value
     (entry-ranges c.interrupt-taken.result c.args.self.now.state c.row_number-self.ensures.machine c.interrupt-taken.ensures.bound) c.execute.ensures.state c.execute.ensures.guess
@@ -100,13 +100,13 @@ returns-clause-last c p is =
 
 pub returns-clause-sums : goal.returns-clause-sums
 returns-clause-sums c p s is =
-    entry-sums c.args.timing.now.delays.list c.args.timing.now.levels p c.args.self.now.state c.args.self.now.last c.interrupt-taken.result
+    entry-sums c.args.timing.now.delays.now.list c.args.timing.now.levels p c.args.self.now.state c.args.self.now.last c.interrupt-taken.result
     c.count_on.new.last.done.row.ticks s _ _ is
     c.interrupt-taken.ensures.value c.count_on.ensures.row (c.add_row.ensures.sums s)
 
 pub returns-clause-within : goal.returns-clause-within
 returns-clause-within c =
-    entry-within c.args.timing.now.delays.list c.args.timing.now.levels c.args.self.now.state c.args.self.now.last c.execute.new.last.tick c.interrupt-taken.result
+    entry-within c.args.timing.now.delays.now.list c.args.timing.now.levels c.args.self.now.state c.args.self.now.last c.execute.new.last.tick c.interrupt-taken.result
     c.count_on.new.last.done.row.ticks _
     c.requires.order c.count_on.ensures.row (ap (λ (l : Last). l.tick) c.execute.ensures.rest ∙ c.count_on.ensures.tick) c.add_row.ensures.within
 
