@@ -97,7 +97,8 @@ impl<'a, const N: usize> Run<'a, N> {
         requires some_done { 1 ≤ controls.now.budget }
         requires few_done { controls.now.budget ≤ MOST_INSTRUCTIONS }
 
-        ensures { let k = controls.now in result.rest ≡ told_events (timed_run delays.list N k.budget
+        ensures { let k = controls.now in result.rest
+            ≡ told_events (timed_run delays.list N k.budget
             (record { machine = state; signals = k.signals.now; cards = cards }) k.snaps.now) }
     {
         let RunControls {
