@@ -171,7 +171,8 @@ impl Account {
         ensures state { self.new.state ≡ self.old.state }
         ensures found { looks ≡ true → self.new.behind.ahead.found.items
             ≡ map (seen_ahead timing.now.delays.now.list timing.now.levels) (prepared_before
-            self.old.last.tick (ahead timing.now.delays.now.list timing.now.levels timing.now.levels None (guessing self.old.last.ic self.old.state)
+            self.old.last.tick (ahead timing.now.delays.now.list timing.now.levels
+            timing.now.levels None (guessing self.old.last.ic self.old.state)
             self.old.last.front)) }
         ensures late { looks ≡ true → self.new.behind.ahead.late ∷ []
             ≡ map (seen_ahead timing.now.delays.now.list timing.now.levels) (first_late
@@ -179,7 +180,8 @@ impl Account {
             (suc timing.now.levels) None (guessing self.old.last.ic self.old.state)
             self.old.last.front)) }
         ensures banks { (reads : List Read) (bus : BusOf) → looks ≡ true → HasReads
-            timing.now.delays.now.list self.old.last.tick reads bus self.old.last.front.bus self.old.log →
+            timing.now.delays.now.list self.old.last.tick reads bus self.old.last.front.bus
+            self.old.log →
             self.new.behind.banks ≡ (made_before timing.now.delays.now.list self.old.last.tick
             (reads ++ reads_before timing.now.delays.now.list timing.now.levels self.old.last.tick
             (ahead timing.now.delays.now.list timing.now.levels (suc timing.now.levels) None
@@ -275,7 +277,8 @@ impl Account {
         ensures begins { result.begins ≡ (nat_eq self.old.k 0 || result.ends) }
 
         ensures front { self.new.last.front ≡ (if result.ends then opening_front
-            self.old.behind.banks (self.old.last.tick + 1 + length self.old.behind.ahead.found.items)
+            self.old.behind.banks
+            (self.old.last.tick + 1 + length self.old.behind.ahead.found.items)
             else self.old.last.front) }
         ensures past { self.new.last.past ≡ self.new.last.front.past }
         ensures tight { IsTight MOST_DELAY self.new.last.front }
@@ -456,8 +459,8 @@ impl Account {
 
         ensures lines { (p : Standing) (end : Option ℕ) → self.old.k ≢ 0 →
             IsStanding p self.old.state self.old.last → kept_lines self.new.k self.new.last end
-            ≡ lines_of_entry (origin_at self.old.origins) timing.now.delays.now.list timing.now.levels end
-            self.old.last.uses.items p }
+            ≡ lines_of_entry (origin_at self.old.origins) timing.now.delays.now.list
+            timing.now.levels end self.old.last.uses.items p }
         ensures uses { (p : Standing) → IsStanding p self.old.state self.old.last →
             self.new.last.uses.items ≡ uses_at timing.now.delays.now.list timing.now.levels p }
         ensures waiting { IsWaiting self.new.last self.new.waiting.totals }
@@ -470,7 +473,8 @@ impl Account {
         ensures state { self.new.state ≡ step_of self.old.state }
         ensures last { (p : Standing) → IsStanding p self.old.state self.old.last →
             IsLast timing.now.delays.now.list timing.now.levels
-            (next_moment timing.now.delays.now.list timing.now.levels p) self.new.last self.new.log }
+            (next_moment timing.now.delays.now.list timing.now.levels p) self.new.last
+            self.new.log }
         ensures sums { (p : Standing) (s : Stage) → IsStanding p self.old.state self.old.last →
             sum_at s self.new.sums ≡ sum_at s self.old.sums
             + ticks_for s (charges_at timing.now.delays.now.list timing.now.levels p) }

@@ -18,8 +18,8 @@ use st_state::State;
 /// What comes behind an entry that has been done, and what ran ahead of it.
 #[derive(Drop)]
 pub(crate) struct Behind {
-    /// The entries that were prepared before it was done, and the one behind them, where its segment
-    /// ends.
+    /// The entries that were prepared before it was done, and the one behind them, where its
+    /// segment ends.
     pub ahead: FoundAhead,
     /// The last answers of the banks, where its segment ends.
     pub banks: LastAnswers,
@@ -67,8 +67,8 @@ pub(crate) fn look_behind(
 
     ensures state { state.new ≡ state.old }
     ensures found { behind.new.ahead.found.items
-        ≡ map (seen_ahead timing.now.delays.now.list timing.now.levels) (prepared_before last.now.tick
-        (ahead timing.now.delays.now.list timing.now.levels timing.now.levels None
+        ≡ map (seen_ahead timing.now.delays.now.list timing.now.levels) (prepared_before
+        last.now.tick (ahead timing.now.delays.now.list timing.now.levels timing.now.levels None
         (guessing last.now.ic state.old) last.now.front)) }
     ensures late { behind.new.ahead.late ∷ []
         ≡ map (seen_ahead timing.now.delays.now.list timing.now.levels) (first_late last.now.tick

@@ -112,8 +112,9 @@ pub(crate) fn count_on(
     ensures prepared { IsPrepared last.new.plan }
     ensures row { last.new.done.row.ticks ≡ row_of timing.now.delays.now.list timing.now.levels
         last.old.front (entry_of taken state.now) }
-    ensures wait { last.new.done.row.level_wait ≡ level_wait timing.now.delays.now.list timing.now.levels
-        last.old.front (entry_of taken state.now) }
+    ensures wait { last.new.done.row.level_wait
+        ≡ level_wait timing.now.delays.now.list timing.now.levels last.old.front
+        (entry_of taken state.now) }
     ensures known { last.new.done.known ≡ known_at taken state.now }
     ensures uses { last.new.uses.items ≡ uses_of_entry timing.now.delays.now.list timing.now.levels
         last.old.front (entry_of taken state.now) (side_at taken state.now)
@@ -123,11 +124,11 @@ pub(crate) fn count_on(
         last.new.done.row.ticks.a last.new.done.row.ticks.p last.new.done.row.level_wait
         (formed_uses timing.now.delays.now.list last.old.front (entry_of taken state.now)
         (side_at taken state.now)) last.old.uses.items }
-    ensures front { last.new.front ≡ after_of timing.now.delays.now.list timing.now.levels last.old.front
-        (entry_of taken state.now) }
+    ensures front { last.new.front ≡ after_of timing.now.delays.now.list timing.now.levels
+        last.old.front (entry_of taken state.now) }
     ensures log { log.new ≡ log_after_reads timing.now.delays.now.list
-        (asked_of timing.now.delays.now.list timing.now.levels last.old.front (entry_of taken state.now))
-        last.old.front.bus [] }
+        (asked_of timing.now.delays.now.list timing.now.levels last.old.front
+        (entry_of taken state.now)) last.old.front.bus [] }
     ensures past { last.new.past ≡ last.new.front.past }
     ensures tick { last.new.tick ≡ last.new.done.row.ticks.c }
     ensures number { last.new.done.n ≡ last.old.done.n }

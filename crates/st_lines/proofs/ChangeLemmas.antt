@@ -46,44 +46,44 @@ same-change old now m w same = rw same refl
 -- ---- some words
 
 -- the words from w on and below c did not change; c is at most the first word behind the registers
-pub record AreSame (old now : List ℕ) (w c : ℕ) : Type 0 where
+pub record AreSame (old : List ℕ) (m : Machine) (w c : ℕ) : Type 0 where
   pub least : w ≤ c
   pub most : c ≤ 32
-  pub between : (v : ℕ) → w ≤ v → v < c → slice_index old v ≡ slice_index now v
+  pub between : (v : ℕ) → w ≤ v → v < c → slice_index old v ≡ word m v
 
-pub same-starts : (old now : List ℕ) (w : ℕ) → w ≤ 32 → AreSame old now w w
-same-starts old now w few = record { least = omega arith; most = few; between = λ v low below. absurd (omega (arith, low, below)) }
+pub same-starts : (old : List ℕ) (m : Machine) (w : ℕ) → w ≤ 32 → AreSame old m w w
+same-starts old m w few = record { least = omega arith; most = few; between = λ v low below. absurd (omega (arith, low, below)) }
 
-pub same-turn : (old now : List ℕ) (w c : ℕ) → AreSame old now w c → c < 32 → slice_index old c ≡ slice_index now c → AreSame old now w (c + 1)
-same-turn old now w c h few same = record {
+pub same-turn : (old : List ℕ) (m : Machine) (w c : ℕ) → AreSame old m w c → c < 32 → slice_index old c ≡ word m c → AreSame old m w (c + 1)
+same-turn old m w c h few same = record {
   least = omega (arith, h.least);
   most = omega arith;
   between = λ v low below.
       elim (eqb_tells v c) [
-        | inl e ↦ subst (λ k. slice_index old k ≡ slice_index now k) (sym e.1) same
+        | inl e ↦ subst (λ k. slice_index old k ≡ word m k) (sym e.1) same
         | inr e ↦ h.between v low (omega (arith, e.1, below))
       ];
 }
 
 -- some words, and as many behind them
-pub same-twice : (old now : List ℕ) (w n k : ℕ) → k ≡ n + n → ((v : ℕ) → w ≤ v → v < w + n → slice_index old v ≡ slice_index now v)
-    → ((v : ℕ) → w + n ≤ v → v < w + n + n → slice_index old v ≡ slice_index now v) → (v : ℕ) → w ≤ v → v < w + k → slice_index old v ≡ slice_index now v
-same-twice old now w n k twice first second v low below =
+pub same-twice : (old : List ℕ) (m : Machine) (w n k : ℕ) → k ≡ n + n → ((v : ℕ) → w ≤ v → v < w + n → slice_index old v ≡ word m v)
+    → ((v : ℕ) → w + n ≤ v → v < w + n + n → slice_index old v ≡ word m v) → (v : ℕ) → w ≤ v → v < w + k → slice_index old v ≡ word m v
+same-twice old m w n k twice first second v low below =
     elim (leb_tells (w + n) v) [
       | inl p ↦ second v p.1 (omega (arith, below, twice))
       | inr p ↦ first v low (omega (arith, p.1))
     ]
 
-pub same-two : (old now : List ℕ) (w : ℕ) → slice_index old w ≡ slice_index now w → slice_index old (w + 1) ≡ slice_index now (w + 1)
-    → (v : ℕ) → w ≤ v → v < w + 2 → slice_index old v ≡ slice_index now v
-same-two old now w first second =
-    same-twice old now w 1 2 refl
-    (λ v low below. subst (λ k. slice_index old k ≡ slice_index now k) (let same : w ≡ v = omega (arith, low, below) in same) first)
-    (λ v low below. subst (λ k. slice_index old k ≡ slice_index now k) (let same : w + 1 ≡ v = omega (arith, low, below) in same) second)
+pub same-two : (old : List ℕ) (m : Machine) (w : ℕ) → slice_index old w ≡ word m w → slice_index old (w + 1) ≡ word m (w + 1)
+    → (v : ℕ) → w ≤ v → v < w + 2 → slice_index old v ≡ word m v
+same-two old m w first second =
+    same-twice old m w 1 2 refl
+    (λ v low below. subst (λ k. slice_index old k ≡ word m k) (let same : w ≡ v = omega (arith, low, below) in same) first)
+    (λ v low below. subst (λ k. slice_index old k ≡ word m k) (let same : w + 1 ≡ v = omega (arith, low, below) in same) second)
 
-pub same-more : (old now : List ℕ) (w c n : ℕ) → AreSame old now w c → c + n ≤ 32
-    → ((v : ℕ) → c ≤ v → v < c + n → slice_index old v ≡ slice_index now v) → AreSame old now w (c + n)
-same-more old now w c n h few more = record {
+pub same-more : (old : List ℕ) (m : Machine) (w c n : ℕ) → AreSame old m w c → c + n ≤ 32
+    → ((v : ℕ) → c ≤ v → v < c + n → slice_index old v ≡ word m v) → AreSame old m w (c + n)
+same-more old m w c n h few more = record {
   least = omega (arith, h.least);
   most = few;
   between = λ v low below.

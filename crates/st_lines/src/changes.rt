@@ -83,51 +83,48 @@ fn next_word(may: &Changeable, w: u32) -> u32
 // Whether two registers from `w` on are as they were.
 #[inline(always)]
 #[tactic(auto, using(st_bits::specs::Storage::words_of_storage_is))]
-fn are_two(old: &Vec<u64>, words: &[u64], w: u32) -> bool
-    requires old { length old.now.items ≡ words_of_storage }
-    requires size { length words.now ≡ words_of_storage }
+fn are_two(old: &Vec<u64>, state: &State, w: u32) -> bool
+    requires size { length old.now.items ≡ words_of_storage }
     requires inside { w + 2 ≤ 32 }
     ensures { result ≡ true → (v : ℕ) → w ≤ v → v < w + 2 →
-        slice_index old.now.items v ≡ slice_index words.now v }
+        slice_index old.now.items v ≡ word_of state.now v }
 {
-    if old[w as usize] != words[w as usize] {
+    if old[w as usize] != state.word(w) {
         return false;
     }
-    old[w as usize + 1] == words[w as usize + 1]
+    old[w as usize + 1] == state.word(w + 1)
 }
 
 // Whether four registers from `w` on are as they were.
 #[inline(always)]
-fn are_four(old: &Vec<u64>, words: &[u64], w: u32) -> bool
-    requires old { length old.now.items ≡ words_of_storage }
-    requires size { length words.now ≡ words_of_storage }
+fn are_four(old: &Vec<u64>, state: &State, w: u32) -> bool
+    requires size { length old.now.items ≡ words_of_storage }
     requires inside { w + 4 ≤ 32 }
     ensures { result ≡ true → (v : ℕ) → w ≤ v → v < w + 4 →
-        slice_index old.now.items v ≡ slice_index words.now v }
+        slice_index old.now.items v ≡ word_of state.now v }
 {
-    if !are_two(old, words, w) {
+    if !are_two(old, state, w) {
         return false;
     }
-    are_two(old, words, w + 2)
+    are_two(old, state, w + 2)
 }
 
 // The first register from `w` on that changed, or else the first word behind them. Those that did
 // not are passed over four at a time.
 #[tactic(auto, using(st_bits::specs::Storage::words_of_storage_is))]
-fn next_register(old: &Vec<u64>, words: &[u64], w: u32) -> u32
-    requires old { length old.now.items ≡ words_of_storage }
-    requires size { length words.now ≡ words_of_storage }
+fn next_register(old: &Vec<u64>, state: &State, w: u32) -> u32
+    requires size { length old.now.items ≡ words_of_storage }
     requires most { w ≤ 32 }
     ensures least { w ≤ result }
     ensures most { result ≤ 32 }
     ensures between { (v : ℕ) → w ≤ v → v < result →
-        slice_index old.now.items v ≡ slice_index words.now v }
+        slice_index old.now.items v ≡ word_of state.now v }
 {
     let mut r = w;
     'registers: while r < FIRST_STORAGE_WORD {
-        if r <= 28 && are_four(old, words, r) {
+        if r <= 28 && are_four(old, state, r) {
             r += 4;
-        } else if old[r as usize] == words[r as usize] {
+        } else if old[r as usize] == state.word(r) {
             r += 1;
         } else {
             return r;
@@ -138,23 +135,22 @@ fn next_register(old: &Vec<u64>, words: &[u64], w: u32) -> u32
 
 // The first word from `w` on that may have changed, at most `WORDS`.
 #[inline(always)]
-fn next_changed(old: &Vec<u64>, words: &[u64], may: &Changeable, w: u32) -> u32
-    requires old { length old.now.items ≡ words_of_storage }
-    requires size { length words.now ≡ words_of_storage }
+fn next_changed(old: &Vec<u64>, state: &State, may: &Changeable, w: u32) -> u32
+    requires size { length old.now.items ≡ words_of_storage }
     requires most { w ≤ WORDS }
     requires left { (v : ℕ) → w ≤ v → v < WORDS → IsLeft v may.now →
-        slice_index old.now.items v ≡ slice_index words.now v }
+        slice_index old.now.items v ≡ word_of state.now v }
 
     // No word before it may have changed.
     ensures least { w ≤ result }
     ensures most { result ≤ WORDS }
     ensures between { (v : ℕ) → w ≤ v → v < result →
-        slice_index old.now.items v ≡ slice_index words.now v }
+        slice_index old.now.items v ≡ word_of state.now v }
 {
     if w >= FIRST_STORAGE_WORD {
         return next_word(may, w);
     }
-    let r = next_register(old, words, w);
+    let r = next_register(old, state, w);
     if r < FIRST_STORAGE_WORD {
         return r;
     }
@@ -201,12 +197,12 @@ pub(crate) fn write_changed<K: Sink>(
         (lines_for (change_lines old.old.items state.now) WORDS 0) result }
     ensures words { IsOk result → old.new.items ≡ state.now.words }
 {
-    let storage = state.words();
-    let first = next_changed(old, storage, may, 0);
+    state.shape();
+    let first = next_changed(old, state, may, 0);
     let mut w = first;
     'words: while w < WORDS {
         write_change(out, old, state, w)?;
-        let next = next_changed(old, storage, may, w + 1);
+        let next = next_changed(old, state, may, w + 1);
         w = next;
     }
     Ok(())

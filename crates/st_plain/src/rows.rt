@@ -115,19 +115,15 @@ fn fetch_all(
     let timing = next.timing;
     let planned = next.planned;
     let from = front.wanted_from();
-    let own = Wanted {
+    let mut wanted = Wanted {
         tick: from,
         delays: timing.delays,
         past: &front.past,
     };
-    fetch_run(words, &own, planned.entry.own, log, uses);
+    fetch_run(words, &wanted, planned.entry.own, log, uses);
     let late = from.max(front.c);
-    let target = Wanted {
-        tick: late,
-        delays: timing.delays,
-        past: &front.past,
-    };
-    fetch_run(words, &target, planned.entry.target, log, uses);
+    wanted.tick = late;
+    fetch_run(words, &wanted, planned.entry.target, log, uses);
 }
 
 // The last answer of the bank that the word `w` is in, by those of all banks.

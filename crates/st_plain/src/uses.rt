@@ -504,7 +504,8 @@ fn use_inside(uses: &mut Uses, bus: &mut Bus, log: &mut Log, wanted: &WantedFrom
     ensures after { let x = wanted.now in
         bus.new ≡ request_inside_of x.delays.now.list bus.old w x.tick }
     ensures log { let x = wanted.now in
-        log.new ≡ log_after_reads x.delays.now.list (inside_asked bus.old w x.tick) bus.old log.old }
+        log.new ≡ log_after_reads x.delays.now.list (inside_asked bus.old w x.tick) bus.old
+        log.old }
     ensures items { let x = wanted.now in
         uses.new.items ≡ uses.old.items ++ inside_uses x.delays.now.list bus.old w x.tick }
     ensures room { length uses.new.items ≤ length uses.old.items + 1 }
