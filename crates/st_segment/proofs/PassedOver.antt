@@ -3,7 +3,7 @@ use Rattle.std.proofs.Common.{◌≡◌, ◌≢◌, ℕ, zero, suc, ◌+◌, fal
 use Rattle.std.specs.List.{AllZip}
 use Rattle.std.proofs.lemmas.List.{length-set}
 use Rattle.st_bits.specs.Registers.{register_word}
-use Rattle.st_state.specs.Machine.{Machine, IsMachine, word, with_word, state_with_store}
+use Rattle.st_state.specs.Machine.{Machine, IsMachine, with_word, state_with_store}
 use Rattle.st_prep.specs.BesideOrders.{AreAlikeBesideOrders}
 use Rattle.st_prep.specs.declared.entries.IndexChange.{IndexChange}
 use Rattle.st_prep.specs.declared.entries.Prepared.{Prepared}
