@@ -179,21 +179,21 @@ module _ (x : List ℕ) (s : Machine) (next : Next) (done : next.planned ≡ tru
   pub ready-none : next.needs.index_read ≡ None → IsPrepared next.prepared
   ready-none none =
       subst IsPrepared
-      (sym (none-plan k.delays k.levels k.tick k.front x s next done k.table k.state k.indicator k.before k.is_next none))
-      (plan-fits k.delays k.levels k.tick k.front x s next done k.table k.state k.indicator k.before k.is_next)
+      (sym (none-plan k.delays k.levels k.tick k.front x s next done k.known.table k.known.state k.known.indicator k.known.before k.known.is_next none))
+      (plan-fits k.delays k.levels k.tick k.front x s next done k.known.table k.known.state k.known.indicator k.known.before k.known.is_next)
 
   pub ready-inside : IfSome next.needs.index_read (λ w. w < words_of_storage)
-  ready-inside = side-inside k.delays k.levels k.tick k.front x s next done k.table k.state k.indicator k.before k.is_next
+  ready-inside = side-inside k.delays k.levels k.tick k.front x s next done k.known.table k.known.state k.known.indicator k.known.before k.known.is_next
 
   pub ready-table : IfSome next.place.table (λ i. i < 64)
-  ready-table = table-fits k.delays k.levels k.tick k.front x s next done k.table k.state k.indicator k.before k.is_next
+  ready-table = table-fits k.delays k.levels k.tick k.front x s next done k.known.table k.known.state k.known.indicator k.known.before k.known.is_next
 
   pub ready-place : IsPlace next.place
-  ready-place = place-fits k.delays k.levels k.tick k.front x s next done k.table k.state k.indicator k.before k.is_next
+  ready-place = place-fits k.delays k.levels k.tick k.front x s next done k.known.table k.known.state k.known.indicator k.known.before k.known.is_next
 
   pub ready-fetched : IsFetched next.fetched
-  ready-fetched = fetched-fits k.delays k.levels k.tick k.front x s next done k.table k.state k.indicator k.before k.is_next
+  ready-fetched = fetched-fits k.delays k.levels k.tick k.front x s next done k.known.table k.known.state k.known.indicator k.known.before k.known.is_next
 
   pub ready-asked : is_some (side_word next.place.table s next.needs.index_read) ≡ asks (sight_of next.place next.fetched x s)
   ready-asked =
-      asked-same k.delays k.levels k.tick k.front x s next done k.table k.state k.indicator k.before k.is_next next.needs.index_read refl
+      asked-same k.delays k.levels k.tick k.front x s next done k.known.table k.known.state k.known.indicator k.known.before k.known.is_next next.needs.index_read refl

@@ -1,5 +1,5 @@
 -- How far the entry that is prepared next is known.
-use Rattle.std.specs.Prelude.{ℕ, ◌≡◌, ◌≤◌, ◌<◌, ◌==◌, max, Bool, true, false, if◌then◌else◌, List, [], ◌++◌, Option, IfSome, option_map}
+use Rattle.std.specs.Prelude.{ℕ, ◌≡◌, ◌≤◌, ◌==◌, max, Bool, true, false, if◌then◌else◌, List, [], ◌++◌, Option, option_map}
 use Rattle.st_state.specs.Machine.{Machine}
 use Rattle.st_prep.specs.Fetch.{place_of, words_fetched as fetched_at}
 use Rattle.st_prep.specs.Plan.{needs as needs_of, sight, prepared_entry as prepared_of}
@@ -97,8 +97,4 @@ pub record IsNextReady (x : List ℕ) (s : Machine) (next : Next) : Type 0 where
   pub levels : ℕ
   pub tick : ℕ
   pub front : Front
-  pub table : Option ℕ
-  pub state : Machine
-  pub indicator : IsTable table
-  pub before : IsStateBefore tick front.past x s state
-  pub is_next : IsNext delays levels table state front next
+  pub known : IsKnown delays levels tick front x s next

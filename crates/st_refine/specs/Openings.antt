@@ -1,13 +1,12 @@
 -- The opening of a segment, and a machine that stands at it.
-use Rattle.std.specs.Prelude.{ℕ, zero, suc, ◌≡◌, ◌≤◌, ◌==◌, false, if◌then◌else◌, List, [], ◌∷◌, ◌++◌, All, replicate, Option, None, IfSome}
+use Rattle.std.specs.Prelude.{ℕ, zero, suc, ◌≡◌, ◌≤◌, ◌==◌, false, if◌then◌else◌, List, [], ◌∷◌, ◌++◌, All, Option, None, IfSome}
 use Rattle.st_state.specs.Machine.{Machine}
 use Rattle.st_state.specs.Interrupts.{state_with_signal}
 use Rattle.st_exec.specs.Completion.{guess}
 use Rattle.st_exec.specs.Step.{step}
 use Rattle.st_exec.specs.Transfer.{read_in, printed_out}
 use Rattle.st_banks.specs.declared.answers.LastAnswers.{LastAnswers}
-use Rattle.st_banks.specs.declared.answers.TheConstants.{BANKS}
-use Rattle.st_rows.specs.Rows.{opening_front, row_of_entry, front_after_entry}
+use Rattle.st_rows.specs.Rows.{opening_front, front_after_entry}
 use Rattle.st_rows.specs.Asked.{Read, reads_of_entry}
 use Rattle.st_rows.specs.declared.front.Front.{Front}
 use Rattle.st_segment.specs.Entries.{entry}

@@ -5,7 +5,7 @@ use Rattle.std.proofs.lemmas.Bool.{ltb-true, lt-ltb}
 use Rattle.st_rows.specs.BusTimes.{Reading, accept_at, bus_after_read, answer_at}
 use Rattle.st_rows.specs.Entries.{latest_done}
 use Rattle.st_rows.specs.Ranges.{AreDelaysUpTo, ArePastWithin, IsTight}
-use Rattle.st_rows.specs.Rows.{is_forwarded, read_word, read_words, operands_read, fill_at, fill_if, fills_of, fills, tick_p, bus_a, operands}
+use Rattle.st_rows.specs.Rows.{is_forwarded, read_word, read_words, operands_read, fill_at, fills_of, fills, tick_p, bus_a, operands}
 use Rattle.st_rows.specs.declared.bus.Bus.{Bus}
 use Rattle.st_rows.specs.declared.entry.WordRun.{WordRun}
 use Rattle.st_rows.specs.declared.entry.Entry.{Entry}
@@ -47,13 +47,13 @@ module _ (ds : List ℕ) (past : List Past) (p c : ℕ) (before : ArePastWithin 
   unfolding fill_at read_word
   fill-early s w = fill-early_if (is_forwarded past w p) s w
 
-  first-early : (s : Reading) (w n : ℕ) → fill_if (nat_lt 0 n) ds past s.bus w p ≤ max (read_words ds past s p w n).answered c
+  first-early : (s : Reading) (w n : ℕ) → (if nat_lt 0 n then fill_at ds past s.bus w p else 0) ≤ max (read_words ds past s p w n).answered c
   unfolding read_words
   first-early s w zero = omega arith
   first-early s w (suc n) = rw (lt-ltb 0 (suc n) (omega arith)) (omega (arith, fill-early s w, ready-later ds past p (read_word ds past s w p) (w + 1) n))
 
   second-early : (s : Reading) (w n : ℕ)
-      → fill_if (nat_lt 1 n) ds past (read_word ds past s w p).bus (w + 1) p ≤ max (read_words ds past s p w n).answered c
+      → (if nat_lt 1 n then fill_at ds past (read_word ds past s w p).bus (w + 1) p else 0) ≤ max (read_words ds past s p w n).answered c
   unfolding read_words
   second-early s w zero = omega arith
   second-early s w (suc zero) = omega arith
@@ -83,7 +83,7 @@ module _ (ds : List ℕ) (past : List Past) (p c : ℕ) (before : ArePastWithin 
 
   few-decide : (s : Reading) (w n : ℕ) → n ≤ 2
       → max (read_words ds past s p w n).answered c
-      ≡ max (max s.answered c) (max (fill_if (nat_lt 0 n) ds past s.bus w p) (fill_if (nat_lt 1 n) ds past (read_word ds past s w p).bus (w + 1) p))
+      ≡ max (max s.answered c) (max ((if nat_lt 0 n then fill_at ds past s.bus w p else 0)) ((if nat_lt 1 n then fill_at ds past (read_word ds past s w p).bus (w + 1) p else 0)))
   unfolding read_words
   few-decide s w zero few = omega arith
   few-decide s w (suc zero) few = omega (arith, fill-step s w)

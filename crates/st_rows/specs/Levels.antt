@@ -1,8 +1,8 @@
 -- When the ticks of one machine are nowhere later than those of another.
-use Rattle.std.specs.Prelude.{ℕ, ◌≡◌, ◌+◌, ◌≤◌, ◌<◌, false, List, [], ◌∷◌, length, get_or, All, IfSome, take}
+use Rattle.std.specs.Prelude.{ℕ, ◌≡◌, ◌+◌, ◌≤◌, ◌<◌, false, List, [], ◌∷◌, length, All, IfSome, take}
 use Rattle.std.specs.List.{AllZip}
 use Rattle.st_fetch.specs.declared.fetched.AskedWord.{AskedWord}
-use Rattle.st_rows.specs.Entries.{is_among, no_runs}
+use Rattle.st_rows.specs.Entries.{is_among}
 use Rattle.st_rows.specs.Ranges.{ArePastWithin}
 use Rattle.st_rows.specs.Rows.{row_of_entry, front_after_entry, completion_of}
 use Rattle.st_rows.specs.declared.bus.Bus.{Bus}

@@ -133,16 +133,12 @@ module _ (ds : List ℕ) (past : List Past) where
   unfoldable pub fill_at : Bus → ℕ → ℕ → ℕ
   fill_at b w p = if is_forwarded past w p then latest_done past w else answer_at ds b w p
 
--- the same where there is such a word, and else 0
-abbrev pub fill_if : Bool → List ℕ → List Past → Bus → ℕ → ℕ → ℕ
-fill_if there ds past b w p = if there then fill_at ds past b w p else 0
-
 -- when the first two words of its first run of operands are there, 0 where the run has no such word
 unfoldable pub fills_of : List ℕ → List Past → Bus → WordRun → ℕ → List ℕ
 fills_of ds past b run p =
-    fill_if (nat_lt 0 run.len) ds past b run.first p
-    ∷ fill_if (nat_lt 1 run.len) ds past
-    (read_word ds past (record { bus = b; answered = p }) run.first p).bus (run.first + 1) p
+    (if nat_lt 0 run.len then fill_at ds past b run.first p else 0)
+    ∷ (if nat_lt 1 run.len then fill_at ds past
+    (read_word ds past (record { bus = b; answered = p }) run.first p).bus (run.first + 1) p else 0)
     ∷ []
 
 -- ---- completion

@@ -11,7 +11,7 @@ use Rattle.st_exec.proofs.StepLemmas.{step-done}
 use Rattle.st_rows.specs.declared.front.Front.{Front}
 use Rattle.st_segment.specs.Ahead.{prepared_before}
 use Rattle.st_ahead.specs.Overlap.{state_ahead, oldest_row, levels_of}
-use Rattle.st_run.specs.Moments.{Moment, Standing, next_scene, next_state, next_row, ends_segment, has_card, has_waited, next_front, standing_at, entries_at_moment, next_moment}
+use Rattle.st_run.specs.Moments.{Moment, Standing, next_scene, next_state, next_row, ends_segment, has_card, has_waited, standing_at, entries_at_moment, next_moment}
 use Rattle.st_run.specs.TimedRun.{events_between, completion, last_events, timed_from, timed_behind}
 use Rattle.st_run.specs.Order.{AreRising}
 use Rattle.st_run.specs.Told.{Done, Told, told_of, told_of_events}

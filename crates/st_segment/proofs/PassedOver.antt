@@ -3,7 +3,7 @@ use Rattle.std.proofs.Common.{◌≡◌, ◌≢◌, ℕ, zero, suc, ◌+◌, fal
 use Rattle.std.specs.List.{AllZip}
 use Rattle.std.proofs.lemmas.List.{length-set}
 use Rattle.st_bits.specs.Registers.{register_word}
-use Rattle.st_state.specs.Machine.{Machine, IsMachine, word, with_word, state_with_store}
+use Rattle.st_state.specs.Machine.{Machine, IsMachine, with_word, state_with_store}
 use Rattle.st_prep.specs.BesideOrders.{AreAlikeBesideOrders}
 use Rattle.st_prep.specs.declared.entries.IndexChange.{IndexChange}
 use Rattle.st_prep.specs.declared.entries.Prepared.{Prepared}
@@ -16,6 +16,7 @@ use Rattle.st_exec.proofs.AlikeStates.{same-set}
 use Rattle.st_exec.proofs.BesideEntries.{guessed-beside}
 use Rattle.st_exec.proofs.UnwrittenLemmas.{guessed-machine}
 use Rattle.st_rows.specs.Rows.{row_of_entry, front_after_entry}
+use Rattle.st_rows.specs.declared.entry.Entry.{Entry}
 use Rattle.st_rows.specs.declared.front.Front.{Front}
 use Rattle.st_segment.specs.Entries.{instruction_words, own_count, entry}
 use Rattle.st_segment.specs.Guesses.{guesses, table_behind, after_early_change, split_words}
@@ -144,7 +145,10 @@ next-same : (ds : List ℕ) (n : ℕ) (s u : Machine) (f : Front) → AreAlikeBe
     → IsSameAhead (next_ahead ds n None s f) (next_ahead ds n None u f)
 next-same ds n s u f h =
     let same = entry-same None s u h in
-    record { state = h; table = refl; front = refl; entry = same; row = ap (row_of_entry ds n f) same }
+    record {
+      state = h;
+      rest = ap {A = Entry} (λ e. record { state = u; table = None; front = f; entry = e; row = row_of_entry ds n f e }) same;
+    }
 
 pub rows-same : (ds : List ℕ) (n k : ℕ) (s u : Machine) (f : Front) → IsMachine s → AreAlikeBesideOrders s u
     → RunAhead k None s → AllZip IsSameAhead (ahead ds n (suc k) None s f) (ahead ds n (suc k) None u f)

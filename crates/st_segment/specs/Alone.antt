@@ -33,7 +33,4 @@ words_of_run run = word_list_from run.first run.len
 -- and beside the orders
 pub record IsSameAhead (a b : Ahead) : Type 0 where
   pub state : AreAlikeBesideOrders a.state b.state
-  pub table : b.table ≡ a.table
-  pub front : b.front ≡ a.front
-  pub entry : b.entry ≡ a.entry
-  pub row : b.row ≡ a.row
+  pub rest : b ≡ record a { state = b.state }

@@ -1,5 +1,5 @@
 -- What holds of the entries ahead, whatever is executed.
-use Rattle.std.specs.Prelude.{◌≡◌, ℕ, suc, ◌+◌, ◌<◌, ◌≤◌, true, false, ◌++◌, [], ◌∷◌, List, Option, None, IfSome}
+use Rattle.std.specs.Prelude.{◌≡◌, ℕ, suc, ◌<◌, ◌≤◌, true, false, ◌++◌, [], ◌∷◌, List, Option, None, IfSome}
 use Rattle.std.specs.List.{AllZip}
 use Rattle.st_state.specs.Machine.{Machine, IsMachine, word}
 use Rattle.st_prep.specs.declared.entries.Place.{Place}

@@ -50,11 +50,13 @@ prepare-requires-clause-ready g c =
       levels = n;
       tick = now;
       front = view.front;
-      table = table_behind (count view) t;
-      state = u;
-      indicator = becomes.indicator;
-      before = subst (λ (words : List ℕ). IsStateBefore now view.front.past words s u) (sym c.index.ensures.words) becomes.before;
-      is_next = becomes.is_next;
+      known = record {
+        table = table_behind (count view) t;
+        state = u;
+        indicator = becomes.indicator;
+        before = subst (λ (words : List ℕ). IsStateBefore now view.front.past words s u) (sym c.index.ensures.words) becomes.before;
+        is_next = becomes.is_next;
+      };
     }
 
 -- the front before it is that of the planned entry still, and preparing leaves the entry and its ticks
