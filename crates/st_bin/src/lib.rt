@@ -6,5 +6,5 @@ mod base;
 mod conversion;
 mod operations;
 
-pub use operations::binary;
+pub use operations::{Registers, binary};
 pub use st_field::{Acc, Done, Field, Shape, digits_value, read_field, to_digits, write_field};
