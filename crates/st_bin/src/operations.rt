@@ -20,7 +20,6 @@ pub struct Registers {
 
 /// What a binary operation makes of the registers and of a field with the bits `bits`, below
 /// 2^length. The shape is that of a binary instruction.
-#[tactic(auto, unfolding(crate::specs::BinaryResult::result))]
 pub fn binary(op: VflOp, registers: &Registers, bits: u64, shape: &Shape) -> Done
     requires shape { IsBinaryShape shape.now }
     requires fits { bits < 2 ^ shape.now.length }
