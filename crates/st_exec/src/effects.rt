@@ -149,7 +149,6 @@ fn order_effect(write: bool, e: u32, count: u32, done: u64) -> Effect
 /// What an instruction with the effective address `e` does, which stores `value` where it is an
 /// index store or SIC. The operands are the words that it reads; a register among them is read
 /// anew.
-#[tactic(auto, unfolding(crate::specs::Effect::effect_of))]
 pub fn effect_by(instr: &Instr, e: u32, value: u64, operands: &[u64; 2], state: &State) -> Effect
     requires fields { HasFields instr.now }
     requires address { e < 2 ^ 24 }

@@ -110,7 +110,6 @@ fn result_by(is_decimal: bool, op: VflOp, registers: &Registers, bits: u64, shap
 }
 
 /// An operation on a field.
-#[tactic(auto, unfolding(crate::specs::Outcome::operation_outcome), using(st_bits::specs::Storage::words_of_storage_is))]
 pub fn operate(is_decimal: bool, op: VflOp, shape: &Shape, at: &Addressed<'_>) -> Done
     requires shape { IsBinaryShape shape.now }
     requires decimal { is_decimal ≡ true → IsDecimalShape shape.now }
@@ -131,7 +130,6 @@ pub fn operate(is_decimal: bool, op: VflOp, shape: &Shape, at: &Addressed<'_>) -
 }
 
 /// A connective of the accumulator and a field.
-#[tactic(auto, unfolding(crate::specs::Outcome::connects))]
 pub fn connect_field(shape: &ConnShape, at: &Addressed<'_>) -> Done
     requires table { shape.now.table < 16 }
     requires offset { shape.now.offset ≤ 127 }
