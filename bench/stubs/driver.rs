@@ -2,7 +2,7 @@
 //! the last state. All eight machines are in it, as in the program that is proved: what they share has eight callers.
 use crate::st_banks::Delays;
 use crate::st_exch::Hopper;
-use crate::st_run::{Run, RunEvent};
+use crate::st_run::{Run, RunControls, RunEvent};
 use crate::st_state::State;
 use crate::stubs::Global;
 
@@ -40,7 +40,8 @@ pub fn main() {
 
 #[inline(never)]
 fn tell<const N: usize>(state: State, delays: Delays, budget: u64) {
-    let mut run: Run<N> = Run::new(state, delays, &[], Hopper::empty(), &[], budget);
+    let controls = RunControls { signals: &[], snaps: &[], budget };
+    let mut run: Run<N> = Run::new(state, delays, Hopper::empty(), &controls);
     let (mut told, mut tick, mut rows, mut last, mut done) = (0u64, 0, 0u64, 0u64, 0);
     loop {
         if let Some(counted) = run.pass_entries() {

@@ -8,39 +8,55 @@ use crate::pieces::ended;
 use crate::{EntryLine, Line};
 use st_text::{begun, push_decimal, push_flag, push_half_address, push_hex, push_short_decimal};
 
+/// A row of the timetable: an instruction that is done.
+#[derive(Clone, Copy)]
+pub struct EntryRow {
+    /// The number of instructions done with it.
+    pub number: u64,
+    /// Its half-word address.
+    pub address: u32,
+    /// The tick at which it was prepared.
+    pub p: u64,
+    /// The tick at which its result was ready.
+    pub r: u64,
+    /// The tick at which it was complete.
+    pub c: u64,
+}
+
 /// `ROW n a P p R r C c`: the n-th instruction done, its half-word address, and the ticks at
 /// which it was prepared, its result was ready, and it was complete.
-pub fn line_row(n: u64, address: u32, p: u64, r: u64, c: u64) -> Line
-    ensures { result.bytes ≡ row_line n address p r c }
+pub fn line_row(row: &EntryRow) -> Line
+    ensures { result.bytes ≡ row_line row.now.number row.now.address row.now.p row.now.r row.now.c }
 {
     let mut line = begun("ROW ");
-    push_decimal(&mut line, n);
+    push_decimal(&mut line, row.number);
     line.push_str(" ");
-    push_half_address(&mut line, address);
+    push_half_address(&mut line, row.address);
     line.push_str(" P ");
-    push_decimal(&mut line, p);
+    push_decimal(&mut line, row.p);
     line.push_str(" R ");
-    push_decimal(&mut line, r);
+    push_decimal(&mut line, row.r);
     line.push_str(" C ");
-    push_decimal(&mut line, c);
+    push_decimal(&mut line, row.c);
     ended(line)
 }
 
 /// The same, filled into a line; what the line had is gone.
-pub fn fill_row(line: &mut EntryLine, n: u64, address: u32, p: u64, r: u64, c: u64)
-    ensures { line.new.bytes ≡ row_line n address p r c }
+pub fn fill_row(line: &mut EntryLine, row: &EntryRow)
+    ensures { line.new.bytes
+        ≡ row_line row.now.number row.now.address row.now.p row.now.r row.now.c }
 {
     line.bytes.clear();
     line.bytes.put_word(*b"\n");
-    line.bytes.put_near(c, &mut line.c);
+    line.bytes.put_near(row.c, &mut line.c);
     line.bytes.put_word(*b" C ");
-    line.bytes.put_near(r, &mut line.r);
+    line.bytes.put_near(row.r, &mut line.r);
     line.bytes.put_word(*b" R ");
-    line.bytes.put_near(p, &mut line.p);
+    line.bytes.put_near(row.p, &mut line.p);
     line.bytes.put_word(*b" P ");
-    line.bytes.put_half_address(address);
+    line.bytes.put_half_address(row.address);
     line.bytes.put_word(*b" ");
-    line.bytes.put_near(n, &mut line.number);
+    line.bytes.put_near(row.number, &mut line.number);
     line.bytes.put_word(*b"ROW ");
 }
 

@@ -19,7 +19,7 @@ pub use entry_line::EntryLine;
 pub use from_end::LineFromEnd;
 pub use job::{line_fault, line_soak};
 pub use kept::KeptDigits;
-pub use levels::{fill_row, line_drop, line_lev, line_row, line_snap};
+pub use levels::{EntryRow, fill_row, line_drop, line_lev, line_row, line_snap};
 pub use run::{
     fill_trc, line_back, line_done, line_end, line_int, line_prt, line_ticks, line_time, line_trc,
 };

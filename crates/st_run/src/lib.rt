@@ -19,6 +19,6 @@ mod waiting;
 
 pub use coming::Coming;
 pub use outside::Outside;
-pub use run::Run;
+pub use run::{Run, RunControls};
 pub use seen::Seen;
 pub use told::{RunEvent, TimedRunEvent};

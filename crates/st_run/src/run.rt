@@ -25,6 +25,17 @@ use st_exch::Hopper;
 use st_state::State;
 use std::marker::Model;
 
+/// What control cards ask of a run.
+#[derive(Clone, Copy)]
+pub struct RunControls<'a> {
+    /// The signals that come to it, in their order.
+    pub signals: &'a [Signal],
+    /// The ticks of the snapshots, which only grow.
+    pub snaps: &'a [u64],
+    /// How many instructions may be done, 1 to 10,000,000.
+    pub budget: u64,
+}
+
 /// A run on a machine with N levels, 1 to 8. It tells one thing after another: entries that are
 /// done or dropped, texts that are printed, interrupts, snapshots, and its end. No call takes
 /// memory. `docs/timetable.md` has the rules.
@@ -65,16 +76,13 @@ impl<'a, const N: usize> Run<'a, N> {
     ghost use Rattle.st_run.specs.Telling.{what_told, row_told, AreLeftOut, AreLevelsShown};
     ghost use Rattle.st_run.specs.Protocol.{ShowsLed, IsViewOfLed};
 
-    /// A run from a state that nothing has happened in, with the signals and the reader's cards
-    /// that come to it, the ticks of the snapshots, and how many instructions may be done, at most
-    /// 10,000,000.
+    /// A run from a state that nothing has happened in, with the reader's cards that come to it,
+    /// and what control cards ask of it.
     pub fn new(
         state: State,
         delays: Delays,
-        signals: &'a [Signal],
         cards: Hopper,
-        snaps: &'a [u64],
-        budget: u64,
+        controls: &RunControls<'a>,
     ) -> Run<'a, N>
         requires some { 1 ≤ N }
         requires few { N ≤ 8 }
@@ -84,14 +92,20 @@ impl<'a, const N: usize> Run<'a, N> {
         requires reader { state.reader ≡ None }
         requires printer { state.printer ≡ None }
         requires cards { All IsCard cards }
-        requires signals { AllPass is_signal signals.now }
-        requires snaps { IsStrictlyIncreasing snaps.now }
-        requires some_done { 1 ≤ budget }
-        requires few_done { budget ≤ MOST_INSTRUCTIONS }
+        requires signals { AllPass is_signal controls.now.signals.now }
+        requires snaps { IsStrictlyIncreasing controls.now.snaps.now }
+        requires some_done { 1 ≤ controls.now.budget }
+        requires few_done { controls.now.budget ≤ MOST_INSTRUCTIONS }
 
-        ensures { result.rest ≡ told_events (timed_run delays.list N budget
-            (record { machine = state; signals = signals.now; cards = cards }) snaps.now) }
+        ensures { let k = controls.now in result.rest
+            ≡ told_events (timed_run delays.list N k.budget
+            (record { machine = state; signals = k.signals.now; cards = cards }) k.snaps.now) }
     {
+        let RunControls {
+            signals,
+            snaps,
+            budget,
+        } = *controls;
         let mut machine = Machine::new(state, delays);
         let rest = due_signals(&mut machine, signals);
         let coming = Coming::new(rest, cards);

@@ -1,6 +1,6 @@
 -- The ticks of a hazard-free run do not rise with the number of levels.
 use Rattle.std.specs.Prelude.{IfOk, Result, Ok, Err}
-use Rattle.std.proofs.Common.{◌≡◌, ℕ, zero, suc, ◌+◌, ◌≤◌, ◌<◌, true, List, [], ◌∷◌, length, slice_index, refl, sym, ◌∙◌, ap, subst, arith}
+use Rattle.std.proofs.Common.{◌≡◌, ℕ, zero, suc, ◌+◌, ◌≤◌, ◌<◌, true, List, [], ◌∷◌, length, slice_index, sym, ◌∙◌, ap, subst, arith}
 use Rattle.st_run.specs.Run.{Scene}
 use Rattle.st_sweep.specs.HazardFree.{is_hazard_free}
 use Rattle.st_sweep.specs.Sweep.{ticks}

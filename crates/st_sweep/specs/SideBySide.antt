@@ -1,10 +1,8 @@
 -- What a sweep tells of a run.
-use Rattle.std.specs.Prelude.{ℕ, ◌≡◌, ◌≤◌, ◌<◌, false, List, [], ◌∷◌, map, length, slice_index, None}
-use Rattle.st_state.specs.Machine.{Machine}
-use Rattle.st_card.specs.declared.control_cards.Signal.{Signal}
+use Rattle.std.specs.Prelude.{ℕ, ◌≤◌, ◌<◌, List, [], ◌∷◌, map, length, slice_index}
 use Rattle.st_run.specs.Run.{Scene, run}
 use Rattle.st_sweep.specs.HazardFree.{is_hazard_free}
-use Rattle.st_sweep.specs.Sweep.{without_cards, ticks}
+use Rattle.st_sweep.specs.Sweep.{ticks}
 use Rattle.st_sweep.specs.Starts.{Start}
 use Rattle.st_sweep.specs.declared.start.Four.{Four}
 use Rattle.st_sweep.specs.declared.sweeping.Swept.{Swept}

@@ -7,4 +7,4 @@ mod start;
 mod sweeping;
 mod written;
 
-pub use sweeping::{Swept, sweep};
+pub use sweeping::{Swept, SweptJob, sweep};

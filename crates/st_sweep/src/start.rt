@@ -12,7 +12,7 @@ use st_banks::Delays;
 use st_bits::NoMemory;
 use st_card::Signal;
 use st_exch::Hopper;
-use st_run::Run;
+use st_run::{Run, RunControls};
 use st_state::State;
 use std::alloc::Global;
 use std::marker::Model;
@@ -80,7 +80,12 @@ fn ticks<const N: usize>(start: Start, signals: &[Signal], budget: u64) -> u64
     ensures { result ≡ ticks_from start N budget signals.now }
 {
     let Start { state, delays } = start;
-    let mut run = Run::<N>::new(state, delays, signals, Hopper::empty(), &[], budget);
+    let controls = RunControls {
+        signals,
+        snaps: &[],
+        budget,
+    };
+    let mut run = Run::<N>::new(state, delays, Hopper::empty(), &controls);
     let mut tick = 0;
     'run: while let Some(next) = next_tick(&mut run) {
         tick = next;

@@ -17,6 +17,21 @@ use st_card::Signal;
 use st_state::State;
 use std::alloc::Global;
 
+/// A job that is swept. Its reader is empty.
+#[derive(Clone, Copy)]
+pub struct SweptJob<'a> {
+    /// The image of storage.
+    pub image: &'a [u64],
+    /// The half-word address of its start.
+    pub start: u32,
+    /// The delays of reads, 1 to 4,096 of them, each from 1 to 255 ticks.
+    pub delays: &'a [u8],
+    /// The signals that come to it, in their order.
+    pub signals: &'a [Signal],
+    /// How many instructions may be done, 1 to 10,000,000.
+    pub budget: u64,
+}
+
 /// A run on machines of one to eight levels.
 #[derive(Clone, Copy, Debug, PartialEq, Eq)]
 pub struct Swept {
@@ -32,27 +47,27 @@ pub struct Swept {
 }
 
 // Takes all memory, and then runs the job on one machine after the other.
-fn run_all(
-    alloc: Global,
-    image: &[u64],
-    start: u32,
-    delays: &[u8],
-    signals: &[Signal],
-    budget: u64,
-) -> Result<Swept, NoMemory>
-    requires whole { length image.now ≡ words_of_storage }
-    requires registers { (w : ℕ) → w < FIRST_STORAGE_WORD → slice_index image.now w ≡ 0 }
-    requires counter { start < 2 ^ 19 }
-    requires some_delays { 1 ≤ length delays.now }
-    requires few_delays { length delays.now ≤ LONGEST_LIST }
-    requires signals { AllPass is_signal signals.now }
-    requires some_done { 1 ≤ budget }
-    requires few_done { budget ≤ MOST_INSTRUCTIONS }
+fn run_all(alloc: Global, job: &SweptJob<'_>) -> Result<Swept, NoMemory>
+    requires whole { length job.now.image.now ≡ words_of_storage }
+    requires registers { (w : ℕ) → w < FIRST_STORAGE_WORD → slice_index job.now.image.now w ≡ 0 }
+    requires counter { job.now.start < 2 ^ 19 }
+    requires some_delays { 1 ≤ length job.now.delays.now }
+    requires few_delays { length job.now.delays.now ≤ LONGEST_LIST }
+    requires signals { AllPass is_signal job.now.signals.now }
+    requires some_done { 1 ≤ job.now.budget }
+    requires few_done { job.now.budget ≤ MOST_INSTRUCTIONS }
 
     ensures { IfOk result (λ r. r
-        ≡ side_by_side delays.now budget
-        (without_cards (opening_state image.now start) signals.now)) }
+        ≡ side_by_side job.now.delays.now job.now.budget
+        (without_cards (opening_state job.now.image.now job.now.start) job.now.signals.now)) }
 {
+    let SweptJob {
+        image,
+        start,
+        delays,
+        signals,
+        budget,
+    } = *job;
     let few = Four::new(alloc, image, start, delays)?;
     let many = Four::new(alloc, image, start, delays)?;
     let mut state = State::new(alloc, image, start)?;
@@ -67,32 +82,23 @@ fn run_all(
     })
 }
 
-/// Runs a job with an empty reader on machines of one to eight levels, one after the other: from
-/// its image and the half-word address of its start, with 1 to 4,096 delays, each from 1 to 255
-/// ticks, its signals, and up to 10,000,000 instructions. The one error is that memory ran out; all
-/// of it is taken before the first instruction. `docs/timetable.md` has the rules.
-pub fn sweep(
-    alloc: Global,
-    image: &[u64],
-    start: u32,
-    delays: &[u8],
-    signals: &[Signal],
-    budget: u64,
-) -> Result<Swept, NoMemory>
-    requires whole { length image.now ≡ words_of_storage }
-    requires registers { (w : ℕ) → w < FIRST_STORAGE_WORD → slice_index image.now w ≡ 0 }
-    requires counter { start < 2 ^ 19 }
-    requires some_delays { 1 ≤ length delays.now }
-    requires few_delays { length delays.now ≤ LONGEST_LIST }
-    requires delays { All (λ d. 1 ≤ d) delays.now }
-    requires signals { AllPass is_signal signals.now }
-    requires some_done { 1 ≤ budget }
-    requires few_done { budget ≤ MOST_INSTRUCTIONS }
+/// Runs a job on machines of one to eight levels, one after the other. The one error is that memory
+/// ran out; all of it is taken before the first instruction. `docs/timetable.md` has the rules.
+pub fn sweep(alloc: Global, job: &SweptJob<'_>) -> Result<Swept, NoMemory>
+    requires whole { length job.now.image.now ≡ words_of_storage }
+    requires registers { (w : ℕ) → w < FIRST_STORAGE_WORD → slice_index job.now.image.now w ≡ 0 }
+    requires counter { job.now.start < 2 ^ 19 }
+    requires some_delays { 1 ≤ length job.now.delays.now }
+    requires few_delays { length job.now.delays.now ≤ LONGEST_LIST }
+    requires delays { All (λ d. 1 ≤ d) job.now.delays.now }
+    requires signals { AllPass is_signal job.now.signals.now }
+    requires some_done { 1 ≤ job.now.budget }
+    requires few_done { job.now.budget ≤ MOST_INSTRUCTIONS }
 
     ensures value { IfOk result (λ r. r
-        ≡ side_by_side delays.now budget
-        (without_cards (opening_state image.now start) signals.now)) }
+        ≡ side_by_side job.now.delays.now job.now.budget
+        (without_cards (opening_state job.now.image.now job.now.start) job.now.signals.now)) }
     ensures levels { IfOk result (λ r. r.hazard_free ≡ true → AreNotRising r.ticks) }
 {
-    run_all(alloc, image, start, delays, signals, budget)
+    run_all(alloc, job)
 }

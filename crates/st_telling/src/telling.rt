@@ -176,14 +176,14 @@ fn write_interrupt<K: Sink>(
     write_state(out, seen, controls)
 }
 
-// Writes the line of a snapshot.
-fn write_snap<K: Sink>(out: &mut K, at: u64, done: u64, view: &View) -> Result<(), Failed>
+// Writes the line of a snapshot, which is of this moment.
+fn write_snap<K: Sink>(out: &mut K, moment: Moment, view: &View) -> Result<(), Failed>
     ensures { WritesLines (K.output out.old) (K.output out.new)
-        (snap_line_of at done (levels_standing view.now.levels) ∷ []) result }
+        (snap_line_of moment.tick moment.done (levels_standing view.now.levels) ∷ []) result }
 {
     let view = View {
-        tick: at,
-        done,
+        tick: moment.tick,
+        done: moment.done,
         ..*view
     };
     put(out, &snap_line(&view))
@@ -214,11 +214,10 @@ fn write_levels<K: Sink>(out: &mut K, levels: &[Option<LevelView>]) -> Result<()
     write_levels(out, more)
 }
 
-// Writes the lines of a snapshot at a tick.
+// Writes the lines of a snapshot, which is of this moment.
 fn write_snapshot<K: Sink>(
     out: &mut K,
-    at: u64,
-    done: u64,
+    moment: Moment,
     seen: &Seen<'_>,
     view: &View,
     controls: &Controls,
@@ -226,9 +225,9 @@ fn write_snapshot<K: Sink>(
     requires { AllPass is_part controls.now.dumps }
     ensures { (ahead : List Level) → AreLevelsShown view.now.levels ahead
         → WritesLines (K.output out.old) (K.output out.new)
-        (snapshot_lines controls.now done at seen.now ahead) result }
+        (snapshot_lines controls.now moment.done moment.tick seen.now ahead) result }
 {
-    write_snap(out, at, done, view)?;
+    write_snap(out, moment, view)?;
     write_state(out, seen, controls)?;
     write_levels(out, &view.levels)
 }
@@ -239,15 +238,14 @@ fn write_snapshot<K: Sink>(
 fn write_shown<K: Sink, const N: usize>(
     out: &mut K,
     run: &Run<'_, N>,
-    at: u64,
-    done: u64,
+    moment: Moment,
     controls: &Controls,
 ) -> Result<(), Failed>
     requires { AllPass is_part controls.now.dumps }
     ensures { WritesLines (K.output out.old) (K.output out.new)
-        (snapshot_lines controls.now done at run.now.seen run.now.ahead) result }
+        (snapshot_lines controls.now moment.done moment.tick run.now.seen run.now.ahead) result }
 {
-    write_snapshot(out, at, done, &run.seen(), &run.view(), controls)
+    write_snapshot(out, moment, &run.seen(), &run.view(), controls)
 }
 
 // Writes the line that says how the run ended.
@@ -321,18 +319,19 @@ fn write_told<K: Sink, const N: usize>(
     out: &mut K,
     line: &mut EntryLine,
     run: &Run<'_, N>,
-    moment: Moment,
-    what: RunEvent,
+    told: TimedRunEvent,
     controls: &Controls,
 ) -> Result<(), Failed>
     requires { AllPass is_part controls.now.dumps }
     ensures { WritesLines (K.output out.old) (K.output out.new)
         (lines_told controls.now (record {
-          done = moment.done;
-          tick = moment.tick;
-          what = what_told what moment.tick run.now.seen run.now.ahead run.now.text;
+          done = told.done;
+          tick = told.tick;
+          what = what_told told.what told.tick run.now.seen run.now.ahead run.now.text;
         })) result }
 {
+    let TimedRunEvent { done, tick, what } = told;
+    let moment = Moment { done, tick };
     // Of an entry that is only counted nothing is written.
     if let RunEvent::Done { .. } = what {
         if !is_traced(controls) {
@@ -344,18 +343,18 @@ fn write_told<K: Sink, const N: usize>(
     match what {
         RunEvent::Done { address, p, r } => {
             let row = Row {
-                number: moment.done,
+                number: done,
                 address,
                 p,
                 r,
-                c: moment.tick,
+                c: tick,
             };
             write_done(out, line, row, controls)
         }
         RunEvent::Dropped { address, p } => write_dropped(out, address, p, controls),
         RunEvent::Printed => write_printed(out, run.printed()),
         RunEvent::Interrupted(i) => write_interrupt(out, moment, i, &run.seen(), controls),
-        RunEvent::Shown(at) => write_shown(out, run, at, moment.done, controls),
+        RunEvent::Shown(at) => write_shown(out, run, Moment { tick: at, ..moment }, controls),
         RunEvent::Ended(rests) => write_end(out, moment, rests, &run.seen(), controls),
     }
 }
@@ -430,7 +429,7 @@ fn write_rest<K: Sink, const N: usize>(
             return Ok(());
         };
         *moment = moment_of(&told);
-        write_told(out, &mut line, run, *moment, told.what, controls)?;
+        write_told(out, &mut line, run, told, controls)?;
     }
 }
 

@@ -7,13 +7,33 @@ ghost use Rattle.st_report.specs.Line.{row_line, drop_line as drop_line_of, snap
 ghost use Rattle.st_time.specs.Shown.{levels_standing, change_shown};
 
 use st_ahead::{LevelView, Row, View};
-use st_report::{EntryLine, Line, fill_row, line_drop, line_lev, line_row, line_snap};
+use st_report::{EntryLine, EntryRow, Line, fill_row, line_drop, line_lev, line_row, line_snap};
+
+// A row as its line takes it.
+#[inline(always)]
+fn entry_row(row: &Row) -> EntryRow
+    ensures { result ≡ record {
+      number = row.now.number;
+      address = row.now.address;
+      p = row.now.p;
+      r = row.now.r;
+      c = row.now.c;
+    } }
+{
+    EntryRow {
+        number: row.number,
+        address: row.address,
+        p: row.p,
+        r: row.r,
+        c: row.c,
+    }
+}
 
 /// `ROW n a P p R r C c`: an entry that is done.
 pub fn chart(row: &Row) -> Line
     ensures { result.bytes ≡ row_line row.now.number row.now.address row.now.p row.now.r row.now.c }
 {
-    line_row(row.number, row.address, row.p, row.r, row.c)
+    line_row(&entry_row(row))
 }
 
 /// The same, filled into a line; what the line had is gone.
@@ -22,7 +42,7 @@ pub fn fill_chart(line: &mut EntryLine, row: &Row)
     ensures { line.new.bytes
         ≡ row_line row.now.number row.now.address row.now.p row.now.r row.now.c }
 {
-    fill_row(line, row.number, row.address, row.p, row.r, row.c);
+    fill_row(line, &entry_row(row));
 }
 
 /// `DROP a P p`: a level that is dropped.

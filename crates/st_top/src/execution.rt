@@ -52,7 +52,7 @@ use st_card::{Card, Controls, Signal};
 use st_exch::Hopper;
 use st_io::{Failed, Sink};
 use st_object::Image;
-use st_run::Run;
+use st_run::{Run, RunControls};
 use st_state::State;
 use st_telling::Moment;
 use std::alloc::Global;
@@ -211,14 +211,12 @@ fn prepare<'a>(
     let hopper = reader(alloc, job.text, job.cards)?;
     let delays = delays(alloc, controls)?;
     let past = beside(alloc, job, image, start, controls)?;
-    let run = Run::new(
-        state,
-        delays,
-        signals(controls),
-        hopper,
-        snaps(controls),
-        budget(controls),
-    );
+    let asked = RunControls {
+        signals: signals(controls),
+        snaps: snaps(controls),
+        budget: budget(controls),
+    };
+    let run = Run::new(state, delays, hopper, &asked);
     Ok(RunWithPast { run, past })
 }
 

@@ -20,7 +20,7 @@ use st_bits::NoMemory;
 use st_card::Controls;
 use st_io::{Failed, Sink};
 use st_report::{line_calm, line_levels};
-use st_sweep::{Swept, sweep};
+use st_sweep::{Swept, SweptJob, sweep};
 use st_telling::put;
 use std::alloc::Global;
 
@@ -107,14 +107,14 @@ fn sweep_image(
     ensures value { IfOk result (λ swept. swept ≡ sweep_of image.now start controls.now) }
     ensures scene { IsScene (sweep_start image.now start controls.now) }
 {
-    sweep(
-        alloc,
+    let job = SweptJob {
         image,
         start,
-        delays(controls),
-        signals(controls),
-        budget(controls),
-    )
+        delays: delays(controls),
+        signals: signals(controls),
+        budget: budget(controls),
+    };
+    sweep(alloc, &job)
 }
 
 /// Runs a job that is assembled on machines of one to eight levels, and writes the lines of the

@@ -1,6 +1,6 @@
 use Rattle.std.proofs.Common.{sym, ◌∙◌, ap}
 use Rattle.st_sweep.specs.Starts.{last_told}
-use Rattle.st_sweep.proofs.ToldTicks.{last_told-next, last_told-left_out, left_out-fewer}
+use Rattle.st_sweep.proofs.ToldTicks.{last_told-next, last_told-left_out}
 use Rattle.st_sweep.proofs.start.next_tick.Goals as goal
 
 pub returns-in-Some-clause-told : goal.returns-in-Some-clause-told

@@ -1,4 +1,4 @@
-use Rattle.std.proofs.Common.{ℕ, ap, refl, subst}
+use Rattle.std.proofs.Common.{refl, sym, subst}
 use Rattle.std.specs.Prelude.{Ok, Err}
 use Rattle.st_io.specs.Lines.{WritesLines}
 use Rattle.st_run.specs.Telling.{what_told}
@@ -25,24 +25,22 @@ returns-in_err-write_done g c =
 pub telling-preserved : goal.telling-preserved
 telling-preserved g c =
     let run = c.next_told.new.run in
-    let n = c.moment_of.result in
-    let tick = ap (λ (m : Moment). m.tick) c.moment_of.ensures in
     let begun = told_skips _ _ c.args.controls.now _ _ _ _ _ _ (none_skips c.args.controls.now _ _ _ c.in_default.ensures) c.telling.invariant in
-    let lines = subst {A = ℕ} (λ k. WritesLines (g.K.Sink.output c.telling.out) (g.K.Sink.output c.write_told.new.out)
-    (lines_at c.args.controls.now n.done n.tick (what_told c.in-Some-next_told.told.what k run.seen run.ahead run.text))
-    (Ok c.in_ok-write_told.field-0)) tick c.in_ok-write_told.ensures in
+    let told = c.in-Some-next_told.told in
+    let lines = subst {A = Moment} (λ m. WritesLines (g.K.Sink.output c.telling.out) (g.K.Sink.output c.write_told.new.out)
+    (lines_at c.args.controls.now m.done m.tick (what_told told.what told.tick run.seen run.ahead run.text))
+    (Ok c.in_ok-write_told.field-0)) (sym c.moment_of.ensures) c.in_ok-write_told.ensures in
     told_more _ _ _ c.args.controls.now _ _ _ _ _ _ _ _ refl c.moment_of.ensures
     (told_skips _ _ c.args.controls.now _ _ _ _ _ _ c.in-Some-next_told.ensures begun) lines
 
 pub returns-in_err-write_told : goal.returns-in_err-write_told
 returns-in_err-write_told g c =
     let run = c.next_told.new.run in
-    let n = c.moment_of.result in
-    let tick = ap (λ (m : Moment). m.tick) c.moment_of.ensures in
     let begun = told_skips _ _ c.args.controls.now _ _ _ _ _ _ (none_skips c.args.controls.now _ _ _ c.in_default.ensures) c.telling.invariant in
-    let lines = subst {A = ℕ} (λ k. WritesLines (g.K.Sink.output c.telling.out) (g.K.Sink.output c.write_told.new.out)
-    (lines_at c.args.controls.now n.done n.tick (what_told c.in-Some-next_told.told.what k run.seen run.ahead run.text))
-    (Err c.in_err-write_told.field-0.0)) tick c.in_err-write_told.ensures in
+    let told = c.in-Some-next_told.told in
+    let lines = subst {A = Moment} (λ m. WritesLines (g.K.Sink.output c.telling.out) (g.K.Sink.output c.write_told.new.out)
+    (lines_at c.args.controls.now m.done m.tick (what_told told.what told.tick run.seen run.ahead run.text))
+    (Err c.in_err-write_told.field-0.0)) (sym c.moment_of.ensures) c.in_err-write_told.ensures in
     told_stops _ _ _ c.args.controls.now _ _ _ _ _ _ _ _ _ c.from_residual-in_err-write_told.ensures.0 refl c.moment_of.ensures
     (told_skips _ _ c.args.controls.now _ _ _ _ _ _ c.in-Some-next_told.ensures begun) lines
 

@@ -17,33 +17,33 @@ use Rattle.st_run.proofs.run.Run.new.Goals as goal
 pub invariant_of-result : goal.invariant_of-result
 invariant_of-result g c =
     let r = c.requires in
-    let scene : Scene = record { machine = c.args.state; signals = c.args.signals.now; cards = c.args.cards } in
+    let scene : Scene = record { machine = c.args.state; signals = c.args.controls.now.signals.now; cards = c.args.cards } in
     let idle : IsIdle c.args.state = record { enabled = r.enabled; waiting = r.waiting; reader = r.reader; printer = r.printer } in
     let is : IsScene scene = record { machine = c.new-machine.ensures.machine; cards = r.cards } in
-    let same = started c.new-machine.result c.due_signals-rest.new.machine c.args.signals.now c.due_signals-rest.result.now c.args.cards _
+    let same = started c.new-machine.result c.due_signals-rest.new.machine c.args.controls.now.signals.now c.due_signals-rest.result.now c.args.cards _
     c.due_signals-rest.ensures.came c.due_signals-rest.ensures.machine c.new-coming.ensures
     ∙ ap {A = Overlap} (λ m. with_scene (record { machine = m; signals = scene.signals; cards = scene.cards })
     (with_due_signals m.state scene.signals scene.cards)) c.new-machine.ensures.value in
-    let stands = subst {A = Waiting} (λ w. IsRun turns.Before (c.args.budget - 1) 0 c.args.snaps.now w (with_coming c.due_signals-rest.new.machine c.new-coming.result)) (sym c.new-waiting.ensures)
-    (subst {A = Together} (λ t. IsRun turns.Before (c.args.budget - 1) 0 c.args.snaps.now none t) (sym same)
-    (start-run c.args.delays.list g.row.N scene idle is c.args.budget c.args.snaps.now r.some r.few (delays-are c.args.delays)
+    let stands = subst {A = Waiting} (λ w. IsRun turns.Before (c.args.controls.now.budget - 1) 0 c.args.controls.now.snaps.now w (with_coming c.due_signals-rest.new.machine c.new-coming.result)) (sym c.new-waiting.ensures)
+    (subst {A = Together} (λ t. IsRun turns.Before (c.args.controls.now.budget - 1) 0 c.args.controls.now.snaps.now none t) (sym same)
+    (start-run c.args.delays.list g.row.N scene idle is c.args.controls.now.budget c.args.controls.now.snaps.now r.some r.few (delays-are c.args.delays)
     r.some_done r.few_done r.done r.snaps)) in
     (stands, ap (λ (q : Queue). q.room) c.new-2.ensures)
 
 pub returns : goal.returns
 returns g c =
     let r = c.requires in
-    let scene : Scene = record { machine = c.args.state; signals = c.args.signals.now; cards = c.args.cards } in
+    let scene : Scene = record { machine = c.args.state; signals = c.args.controls.now.signals.now; cards = c.args.cards } in
     let idle : IsIdle c.args.state = record { enabled = r.enabled; waiting = r.waiting; reader = r.reader; printer = r.printer } in
     let is : IsScene scene = record { machine = c.new-machine.ensures.machine; cards = r.cards } in
-    let same = started c.new-machine.result c.due_signals-rest.new.machine c.args.signals.now c.due_signals-rest.result.now c.args.cards _
+    let same = started c.new-machine.result c.due_signals-rest.new.machine c.args.controls.now.signals.now c.due_signals-rest.result.now c.args.cards _
     c.due_signals-rest.ensures.came c.due_signals-rest.ensures.machine c.new-coming.ensures
     ∙ ap {A = Overlap} (λ m. with_scene (record { machine = m; signals = scene.signals; cards = scene.cards })
     (with_due_signals m.state scene.signals scene.cards)) c.new-machine.ensures.value in
-    ap {A = Queue} (λ q. rows_then q.rows (rest_of turns.Before (c.args.budget - 1) 0 c.args.snaps.now c.new-waiting.result (with_coming c.due_signals-rest.new.machine c.new-coming.result))) c.new-2.ensures
-    ∙ ap {A = Waiting} (λ w. rest_of turns.Before (c.args.budget - 1) 0 c.args.snaps.now w (with_coming c.due_signals-rest.new.machine c.new-coming.result)) c.new-waiting.ensures
-    ∙ ap {A = Together} (λ t. rest_of turns.Before (c.args.budget - 1) 0 c.args.snaps.now none t) same
-    ∙ start-told c.args.delays.list g.row.N scene idle is c.args.budget c.args.snaps.now r.some_done
+    ap {A = Queue} (λ q. rows_then q.rows (rest_of turns.Before (c.args.controls.now.budget - 1) 0 c.args.controls.now.snaps.now c.new-waiting.result (with_coming c.due_signals-rest.new.machine c.new-coming.result))) c.new-2.ensures
+    ∙ ap {A = Waiting} (λ w. rest_of turns.Before (c.args.controls.now.budget - 1) 0 c.args.controls.now.snaps.now w (with_coming c.due_signals-rest.new.machine c.new-coming.result)) c.new-waiting.ensures
+    ∙ ap {A = Together} (λ t. rest_of turns.Before (c.args.controls.now.budget - 1) 0 c.args.controls.now.snaps.now none t) same
+    ∙ start-told c.args.delays.list g.row.N scene idle is c.args.controls.now.budget c.args.controls.now.snaps.now r.some_done
 
 pub invariant_of-driven : goal.invariant_of-driven
 invariant_of-driven g c =
@@ -58,5 +58,5 @@ invariant_of-driven g c =
     } in
     let m = c.new-machine.result in
     subst {A = Overlap} IsLed (sym (c.due_signals-rest.ensures.machine ∙ sym (ap (λ (d : Scene). record m { state = d.machine }) (c.due_signals-rest.ensures.came []))))
-    (due-led c.args.signals.now m [] r.signals
+    (due-led c.args.controls.now.signals.now m [] r.signals
     (subst {A = Overlap} MaySignal (sym c.new-machine.ensures.value) (inl (refl, refl), refl)) (start-led c.args.delays.list g.row.N c.args.state m can c.new-machine.ensures.value))
