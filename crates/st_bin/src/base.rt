@@ -98,7 +98,6 @@ impl Base for Two {
         }
     }
 
-    #[tactic(auto, unfolding(crate::specs::BinaryResult::product))]
     fn multiply(taken: &Taken) -> Done {
         let factor = taken.acc.mag >> taken.shape.offset;
         let mag = u128::from(low_bits(factor, 64)) * u128::from(taken.field.mag);
@@ -106,7 +105,6 @@ impl Base for Two {
         multiplied(taken, mag, on)
     }
 
-    #[tactic(auto, unfolding(crate::specs::BinaryResult::product_added))]
     fn multiply_and_add(taken: &Taken, ft: u64) -> Done {
         let Taken { acc, field, shape } = taken;
         let product = shift(u128::from(ft) * u128::from(field.mag), shape.offset);
@@ -118,7 +116,6 @@ impl Base for Two {
         in_accumulator(with_number(acc, sum.number), sum.number.mag, on)
     }
 
-    #[tactic(auto, unfolding(crate::specs::BinaryResult::quotient_result))]
     fn divide(taken: &Taken) -> Done {
         if taken.field.mag == 0 {
             let ind = Ind {
@@ -136,7 +133,6 @@ impl Base for Two {
         }
     }
 
-    #[tactic(auto, unfolding(crate::specs::BinaryResult::conversion_result))]
     fn convert(taken: &Taken) -> Done {
         let (mag, is_lost) = place_digits(taken.field.mag, taken.shape.offset / 4);
         load(Aligned {

@@ -1,10 +1,10 @@
 //! Binary operations on fields: what each makes of the accumulator, the field, the registers and
 //! the indicators. `docs/variable-fields.md` has the rules.
-#![tactic(auto)]
+#![tactic(auto, unfolding(crate::specs::BinaryResult::conversion_result, crate::specs::BinaryResult::product, crate::specs::BinaryResult::product_added, crate::specs::BinaryResult::quotient_result, crate::specs::BinaryResult::result))]
 
 mod base;
 mod conversion;
 mod operations;
 
-pub use operations::binary;
+pub use operations::{Registers, binary};
 pub use st_field::{Acc, Done, Field, Shape, digits_value, read_field, to_digits, write_field};

@@ -7,15 +7,26 @@ use crate::base::Two;
 use st_bits::VflOp;
 use st_field::{Acc, Done, Shape, operate, take};
 
-/// What a binary operation makes of the accumulator, of a field with the bits `bits`, below
-/// 2^length, of the factor register `ft` and of the indicators `ind`. The shape is that of a binary
-/// instruction.
-#[tactic(auto, unfolding(crate::specs::BinaryResult::result))]
-pub fn binary(op: VflOp, acc: &Acc, bits: u64, shape: &Shape, ft: u64, ind: u64) -> Done
+/// The registers that an operation on a field takes.
+#[derive(Clone, Copy)]
+pub struct Registers {
+    /// The accumulator with its sign byte.
+    pub acc: Acc,
+    /// The factor register.
+    pub ft: u64,
+    /// The indicators.
+    pub ind: u64,
+}
+
+/// What a binary operation makes of the registers and of a field with the bits `bits`, below
+/// 2^length. The shape is that of a binary instruction.
+pub fn binary(op: VflOp, registers: &Registers, bits: u64, shape: &Shape) -> Done
     requires shape { IsBinaryShape shape.now }
     requires fits { bits < 2 ^ shape.now.length }
-    ensures done { result ≡ binary_result op acc.now bits shape.now ft ind }
+    ensures done { let r = registers.now in
+        result ≡ binary_result op r.acc bits shape.now r.ft r.ind }
     ensures field { IfSome result.field (λ x. x < 2 ^ shape.now.length) }
 {
-    operate::<Two>(op, &take(acc, bits, shape), ft, ind)
+    let taken = take(&registers.acc, bits, shape);
+    operate::<Two>(op, &taken, registers.ft, registers.ind)
 }

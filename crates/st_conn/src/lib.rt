@@ -6,6 +6,6 @@ mod connections;
 mod logic;
 mod placement;
 
-pub use connections::connective;
+pub use connections::{ConnShape, connective};
 pub use logic::{Conn, connect};
 pub use placement::put_acc;

@@ -64,7 +64,6 @@ fn put_accumulator(acc: &Acc, state: &mut State)
 }
 
 // Writes the registers.
-#[tactic(auto, unfolding(crate::specs::Outcome::with_registers))]
 fn put_registers(left: &Done, state: &mut State)
     ensures { state.new ≡ with_registers left.now state.old }
 {
@@ -86,7 +85,6 @@ fn put_field(field: Option<u64>, a: u32, n: u8, state: &mut State)
 }
 
 // Leaves what an operation on a field makes: registers and indicators first, and then the field.
-#[tactic(auto, unfolding(crate::specs::Outcome::with_result))]
 fn leave(left: &Done, a: u32, n: u8, state: &mut State)
     requires { IfSome left.now.field (IsField a n) }
     ensures { state.new ≡ with_result left.now a n state.old }
@@ -97,7 +95,6 @@ fn leave(left: &Done, a: u32, n: u8, state: &mut State)
 }
 
 /// Does a effect.
-#[tactic(auto, unfolding(crate::specs::Effect::carried_out))]
 pub fn carry_out(effect: &Effect, state: &mut State)
     requires { CanBeDone effect.now }
     ensures { state.new ≡ carried_out effect.now state.old }

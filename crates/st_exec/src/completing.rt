@@ -17,7 +17,6 @@ use st_prep::{Prepared, Words};
 use st_state::State;
 
 // Whether a branch on a bit or on an indicator is taken.
-#[tactic(auto, unfolding(crate::specs::Completion::is_taken), using(st_bits::specs::Storage::words_of_storage_is))]
 fn is_taken(instr: &Instr, e: u32, operands: &[u64; 2], state: &State) -> bool
     requires inside { AreInside (reads instr.now e) }
     requires read { AreRead (reads instr.now e) operands.now state.now }
@@ -35,7 +34,6 @@ fn is_taken(instr: &Instr, e: u32, operands: &[u64; 2], state: &State) -> bool
 }
 
 // Where it branches to; another instruction goes on at `following`.
-#[tactic(auto, unfolding(crate::specs::Completion::target))]
 fn target(instr: &Instr, following: u32) -> u32
     requires fields { HasFields instr.now }
     requires following { following < 2 ^ 19 }
@@ -74,7 +72,6 @@ fn count(state: &mut State, h: u32)
 }
 
 // Does what an entry does once its operands are there.
-#[tactic(auto, unfolding(crate::specs::Completion::state_after_effect))]
 fn finish(p: &Prepared, operands: &[u64; 2], state: &mut State)
     requires prepared { IsPrepared p.now }
     requires read { AreRead p.now.reads operands.now state.old }
@@ -94,7 +91,6 @@ fn finish(p: &Prepared, operands: &[u64; 2], state: &mut State)
 /// Completes an entry that is prepared, of which the first two operands are given: its early
 /// change, then what it does, then the counter.
 #[inline(never)]
-#[tactic(auto, unfolding(crate::specs::Completion::state_after_completion))]
 pub fn complete_with(p: &Prepared, operands: &[u64; 2], state: &mut State)
     requires prepared { IsPrepared p.now }
     requires operands { AreFirstOperands p.now.reads operands.now state.old }

@@ -35,7 +35,6 @@ fn change_index(index: Option<IndexChange>, state: &mut State)
 }
 
 /// Makes the early change of an entry.
-#[tactic(auto, unfolding(crate::specs::Completion::state_with_early_changes))]
 pub fn change_early(p: &Prepared, state: &mut State)
     requires { IsPrepared p.now }
     ensures { state.new ≡ early_of p.now state.old }

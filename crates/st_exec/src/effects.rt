@@ -7,9 +7,10 @@ ghost use Rattle.st_prep.specs.Ranges.{HasFields, AreInside, FitsPart, IsStored,
 ghost use Rattle.st_exec.specs.Operand.{AreRead};
 ghost use Rattle.st_exec.specs.Effect.{index_effect as index_effect_of, branch_effect as branch_effect_of, move_effect as move_effect_of, bit_effect as bit_effect_of, indicator_effect as indicator_effect_of, order_effect as order_effect_of, effect_of, AreRuns, CanBeDone};
 
-use crate::fields::{connect_field, operate};
+use crate::fields::{Addressed, connect_field, operate};
 use crate::operands::operand_field;
 use st_bits::{BranchOp, HalfOp};
+use st_conn::ConnShape;
 use st_field::{Done, Shape};
 use st_format::Instr;
 use st_state::{Order, State};
@@ -148,7 +149,6 @@ fn order_effect(write: bool, e: u32, count: u32, done: u64) -> Effect
 /// What an instruction with the effective address `e` does, which stores `value` where it is an
 /// index store or SIC. The operands are the words that it reads; a register among them is read
 /// anew.
-#[tactic(auto, unfolding(crate::specs::Effect::effect_of))]
 pub fn effect_by(instr: &Instr, e: u32, value: u64, operands: &[u64; 2], state: &State) -> Effect
     requires fields { HasFields instr.now }
     requires address { e < 2 ^ 24 }
@@ -183,7 +183,13 @@ pub fn effect_by(instr: &Instr, e: u32, value: u64, operands: &[u64; 2], state: 
                 negated,
                 offset,
             };
-            let left = operate(decimal, op, &shape, p, e, operands, state);
+            let at = Addressed {
+                p,
+                e,
+                operands,
+                state,
+            };
+            let left = operate(decimal, op, &shape, &at);
             Effect::Leave {
                 left,
                 at: e,
@@ -198,7 +204,19 @@ pub fn effect_by(instr: &Instr, e: u32, value: u64, operands: &[u64; 2], state: 
             offset,
             ..
         } => {
-            let left = connect_field(kind, table, p, e, offset, length, operands, state);
+            let shape = ConnShape {
+                kind,
+                table,
+                length,
+                offset,
+            };
+            let at = Addressed {
+                p,
+                e,
+                operands,
+                state,
+            };
+            let left = connect_field(&shape, &at);
             Effect::Leave {
                 left,
                 at: e,

@@ -4,6 +4,7 @@ ghost use Rattle.st_field.specs.Fields.{IsBinaryShape};
 ghost use Rattle.st_dec.specs.DecimalOperand.{IsDecimalShape};
 ghost use Rattle.st_format.specs.Operations.{writes_field};
 ghost use Rattle.st_format.specs.declared.operations.FullOp.{FullOp};
+ghost use Rattle.st_state.specs.Machine.{word};
 ghost use Rattle.st_prep.specs.Entry.{no_words, field_words, operand_words};
 ghost use Rattle.st_prep.specs.Ranges.{AreInside};
 ghost use Rattle.st_exec.specs.Operand.{AreRead, taken_words, operand_bits as operand_of, accumulator as accumulator_of};
@@ -11,31 +12,44 @@ ghost use Rattle.st_exec.specs.Outcome.{bits_taken as taken_of, result_by as res
 ghost use Rattle.st_exec.specs.Effect.{IsField};
 
 use crate::operands::operand_field;
-use st_bin::binary;
+use st_bin::{Registers, binary};
 use st_bits::register::{FACTOR, INDICATORS, LEFT_HALF, RIGHT_HALF, SIGN_BYTE};
-use st_bits::{ConnKind, VflOp, part};
-use st_conn::connective;
+use st_bits::{VflOp, part};
+use st_conn::{ConnShape, connective};
 use st_dec::decimal;
 use st_field::{Acc, Done, Shape};
 use st_prep::reads_field;
 use st_state::State;
 
-// The operand of `n` bits at the bit address `e`. In form 1 it is the first `n` of the 24 bits of
-// `e` itself.
-fn operand(p: u8, e: u32, n: u8, operands: &[u64; 2], state: &State) -> u64
+/// A field that an instruction addresses.
+#[derive(Clone, Copy)]
+pub struct Addressed<'a> {
+    /// The form of the instruction: in form 1 the field is the first bits of the address itself.
+    pub p: u8,
+    /// The bit address, of 24 bits.
+    pub e: u32,
+    /// The words that were read of the field.
+    pub operands: &'a [u64; 2],
+    /// The state, of whose registers the field is read anew.
+    pub state: &'a State,
+}
+
+// The operand of `n` bits. In form 1 it is the first `n` of the 24 bits of the address itself.
+fn operand(at: &Addressed<'_>, n: u8) -> u64
     requires some { 1 ≤ n }
     requires few { n ≤ 64 }
-    requires short { p ≡ 1 → n ≤ 24 }
-    requires inside { AreInside (operand_words p e n) }
-    requires read { AreRead (operand_words p e n) operands.now state.now }
+    requires short { at.now.p ≡ 1 → n ≤ 24 }
+    requires inside { AreInside (operand_words at.now.p at.now.e n) }
+    requires read { AreRead (operand_words at.now.p at.now.e n)
+        at.now.operands.now at.now.state.now }
 
-    ensures value { result ≡ operand_of p e n state.now }
+    ensures value { result ≡ operand_of at.now.p at.now.e n at.now.state.now }
     ensures bound { result < 2 ^ n }
 {
-    if p == 1 {
-        part(u64::from(e), 40, u32::from(n))
+    if at.p == 1 {
+        part(u64::from(at.e), 40, u32::from(n))
     } else {
-        operand_field(operands, e, n, state)
+        operand_field(at.operands, at.e, n, at.state)
     }
 }
 
@@ -49,101 +63,90 @@ fn accumulator(state: &State) -> Acc
     }
 }
 
+// The registers that an operation takes.
+fn registers(state: &State) -> Registers
+    ensures { result ≡ record {
+      acc = accumulator_of state.now;
+      ft = word state.now 14;
+      ind = word state.now 11;
+    } }
+{
+    Registers {
+        acc: accumulator(state),
+        ft: state.word(FACTOR),
+        ind: state.word(INDICATORS),
+    }
+}
+
 // What an operation reads of its field: nothing where it is ST.
-fn taken(op: VflOp, p: u8, e: u32, n: u8, operands: &[u64; 2], state: &State) -> u64
+fn taken(op: VflOp, at: &Addressed<'_>, n: u8) -> u64
     requires some { 1 ≤ n }
     requires few { n ≤ 64 }
-    requires short { p ≡ 1 → n ≤ 24 }
-    requires inside { AreInside (taken_words op p e n) }
-    requires read { AreRead (taken_words op p e n) operands.now state.now }
+    requires short { at.now.p ≡ 1 → n ≤ 24 }
+    requires inside { AreInside (taken_words op at.now.p at.now.e n) }
+    requires read { AreRead (taken_words op at.now.p at.now.e n)
+        at.now.operands.now at.now.state.now }
 
-    ensures value { result ≡ taken_of op p e n state.now }
+    ensures value { result ≡ taken_of op at.now.p at.now.e n at.now.state.now }
     ensures bound { result < 2 ^ n }
 {
-    if reads_field(op) {
-        operand(p, e, n, operands, state)
-    } else {
-        0
-    }
+    if reads_field(op) { operand(at, n) } else { 0 }
 }
 
 // The result of an operation on a field with the bits `bits`, decimal or binary.
-fn result_by(
-    is_decimal: bool,
-    op: VflOp,
-    acc: &Acc,
-    bits: u64,
-    shape: &Shape,
-    ft: u64,
-    ind: u64,
-) -> Done
+fn result_by(is_decimal: bool, op: VflOp, registers: &Registers, bits: u64, shape: &Shape) -> Done
     requires shape { IsBinaryShape shape.now }
     requires decimal { is_decimal ≡ true → IsDecimalShape shape.now }
     requires fits { bits < 2 ^ shape.now.length }
-    ensures value { result ≡ result_by_of is_decimal op acc.now bits shape.now ft ind }
+    ensures value { let r = registers.now in
+        result ≡ result_by_of is_decimal op r.acc bits shape.now r.ft r.ind }
     ensures field { IfSome result.field (λ v. v < 2 ^ shape.now.length) }
 {
     if is_decimal {
-        decimal(op, acc, bits, shape, ind)
+        decimal(op, &registers.acc, bits, shape, registers.ind)
     } else {
-        binary(op, acc, bits, shape, ft, ind)
+        binary(op, registers, bits, shape)
     }
 }
 
-/// An operation on a field at the bit address `e`.
-#[tactic(auto, unfolding(crate::specs::Outcome::operation_outcome), using(st_bits::specs::Storage::words_of_storage_is))]
-pub fn operate(
-    is_decimal: bool,
-    op: VflOp,
-    shape: &Shape,
-    p: u8,
-    e: u32,
-    operands: &[u64; 2],
-    state: &State,
-) -> Done
+/// An operation on a field.
+pub fn operate(is_decimal: bool, op: VflOp, shape: &Shape, at: &Addressed<'_>) -> Done
     requires shape { IsBinaryShape shape.now }
     requires decimal { is_decimal ≡ true → IsDecimalShape shape.now }
-    requires short { p ≡ 1 → shape.now.length ≤ 24 }
-    requires inside { AreInside (taken_words op p e shape.now.length) }
-    requires read { AreRead (taken_words op p e shape.now.length) operands.now state.now }
+    requires short { at.now.p ≡ 1 → shape.now.length ≤ 24 }
+    requires inside { AreInside (taken_words op at.now.p at.now.e shape.now.length) }
+    requires read { AreRead (taken_words op at.now.p at.now.e shape.now.length)
+        at.now.operands.now at.now.state.now }
     requires written { AreInside (if writes_field (FullOp.Variable op)
-        then field_words e shape.now.length else no_words) }
+        then field_words at.now.e shape.now.length else no_words) }
 
-    ensures value { result ≡ operation_outcome is_decimal op shape.now p e state.now }
-    ensures field { IfSome result.field (IsField e shape.now.length) }
+    ensures value { result
+        ≡ operation_outcome is_decimal op shape.now at.now.p at.now.e at.now.state.now }
+    ensures field { IfSome result.field (IsField at.now.e shape.now.length) }
 {
-    let bits = taken(op, p, e, shape.length, operands, state);
-    let acc = accumulator(state);
-    let (ft, ind) = (state.word(FACTOR), state.word(INDICATORS));
-    result_by(is_decimal, op, &acc, bits, shape, ft, ind)
+    let bits = taken(op, at, shape.length);
+    let registers = registers(at.state);
+    result_by(is_decimal, op, &registers, bits, shape)
 }
 
-/// A connective of the accumulator and the field of `n` bits at the bit address `e`.
-#[tactic(auto, unfolding(crate::specs::Outcome::connects))]
-pub fn connect_field(
-    kind: ConnKind,
-    table: u8,
-    p: u8,
-    e: u32,
-    offset: u8,
-    n: u8,
-    operands: &[u64; 2],
-    state: &State,
-) -> Done
-    requires table { table < 16 }
-    requires offset { offset ≤ 127 }
-    requires some { 1 ≤ n }
-    requires few { n ≤ 64 }
-    requires short { p ≡ 1 → n ≤ 24 }
-    requires inside { AreInside (operand_words p e n) }
-    requires read { AreRead (operand_words p e n) operands.now state.now }
-    requires written { AreInside (if writes_field (FullOp.Connective kind)
-        then field_words e n else no_words) }
+/// A connective of the accumulator and a field.
+pub fn connect_field(shape: &ConnShape, at: &Addressed<'_>) -> Done
+    requires table { shape.now.table < 16 }
+    requires offset { shape.now.offset ≤ 127 }
+    requires some { 1 ≤ shape.now.length }
+    requires few { shape.now.length ≤ 64 }
+    requires short { at.now.p ≡ 1 → shape.now.length ≤ 24 }
+    requires inside { AreInside (operand_words at.now.p at.now.e shape.now.length) }
+    requires read { AreRead (operand_words at.now.p at.now.e shape.now.length)
+        at.now.operands.now at.now.state.now }
+    requires written { AreInside (if writes_field (FullOp.Connective shape.now.kind)
+        then field_words at.now.e shape.now.length else no_words) }
 
-    ensures value { result ≡ connects kind table p e offset n state.now }
-    ensures field { IfSome result.field (IsField e n) }
+    ensures value { let h = shape.now in result
+        ≡ connects h.kind h.table at.now.p at.now.e h.offset h.length at.now.state.now }
+    ensures field { IfSome result.field (IsField at.now.e shape.now.length) }
 {
-    let acc = accumulator(state);
-    let bits = operand(p, e, n, operands, state);
-    connective(kind, table, &acc, offset, bits, n)
+    let acc = accumulator(at.state);
+    let bits = operand(at, shape.length);
+    connective(shape, &acc, bits)
 }

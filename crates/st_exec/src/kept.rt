@@ -78,7 +78,6 @@ fn trail_of(side: Option<u32>, p: &Prepared, state: &State) -> Trail
 
 /// Makes the next step as `one` does, under the same condition, and keeps in `trail` what is needed
 /// to undo it. Where it answers `Waits`, nothing was done and `trail` is as it was.
-#[tactic(auto, unfolding(crate::specs::Step::step))]
 pub fn one_kept(state: &mut State, trail: &mut Trail) -> Step
     requires { state.old.done < 2 ^ 63 }
     ensures step { IsStep state.old state.new result }

@@ -19,7 +19,6 @@ fn turned(indicators: u64, on: u64, off: u64) -> u64
 
 /// Whether the guess of an entry that is prepared of this state is wrong: it is of a branch on an
 /// indicator that is taken, wherever it leads to.
-#[tactic(auto, unfolding(crate::specs::Completion::is_missed, crate::specs::Completion::is_taken), using(st_bits::specs::Storage::words_of_storage_is))]
 pub fn is_missed(p: &Prepared, state: &State) -> bool
     requires { IsPrepared p.now }
     ensures { result ≡ is_missed_of p.now state.now }

@@ -28,7 +28,6 @@ pub fn interrupt(state: &State) -> Option<u8>
 
 /// The half-word address of the instruction that the next step executes: the counter, or the left
 /// half of the word of the interrupt table.
-#[tactic(auto, unfolding(crate::specs::Step::address, st_prep::specs::Fetch::place_of))]
 pub fn next_address(state: &State) -> u32
     ensures value { result ≡ address_of state.now }
     ensures bound { result < 2 ^ 19 }
@@ -46,7 +45,6 @@ pub fn is_at_rest(state: &State) -> bool
 /// Makes the next step: an interrupt where one is due, else the instruction at the counter. It is
 /// counted as one instruction. `Waits` changes nothing. Fewer than 2^63 instructions are done.
 /// `docs/machine.md` has the rules.
-#[tactic(auto, unfolding(crate::specs::Step::step))]
 pub fn one(state: &mut State) -> Step
     requires { state.old.done < 2 ^ 63 }
     ensures { IsStep state.old state.new result }

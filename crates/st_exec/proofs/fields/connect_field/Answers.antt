@@ -6,6 +6,7 @@ use Rattle.st_exec.proofs.fields.connect_field.Goals as goal
 
 pub returns-clause-field : goal.returns-clause-field
 returns-clause-field c =
-    let b = writes_field (Connective c.args.kind) in
-    is_field-left c.connective.result.field b c.args.e c.args.n c.requires.some c.requires.few c.connective.ensures.field
-    (subst (OnlyIf b) (sym c.connective.ensures.done) (connection-field c.args.kind _ _ _ _ _)) c.requires.written
+    let h = c.args.shape.now in
+    let b = writes_field (Connective h.kind) in
+    is_field-left c.connective.result.field b c.args.at.now.e h.length c.requires.some c.requires.few c.connective.ensures.field
+    (subst (OnlyIf b) (sym c.connective.ensures.done) (connection-field h.kind _ _ _ _ _)) c.requires.written
