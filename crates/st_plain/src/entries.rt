@@ -333,32 +333,34 @@ fn is_execute(instr: &Instr) -> bool
     matches!(*instr, Instr::Half { op: HalfOp::Ex, .. })
 }
 
-// The instruction words of an entry, its own and those of the target of EX.
-#[derive(Clone, Copy, Debug, PartialEq, Eq)]
-struct EntryWords {
-    own: WordRun,
-    target: WordRun,
-}
-
-// What is known of an entry, of which it is known by itself what `known` says.
+// What is known of an entry that is found and prepared; `table` has the indicator of its interrupt.
 #[inline(always)]
 #[tactic(auto, unfolding(crate::specs::Straight::entry_shown))]
-fn show(words: EntryWords, known: Known, needs: Needs, follows: bool, p: &Prepared) -> Planned
-    ensures entry { result.entry ≡ entry_shown words.own words.target needs p.now follows }
-    ensures known { result.known ≡ known }
+fn show(found: &Found, table: Option<u8>, code: Option<Code>, needs: Needs, p: &Prepared) -> Planned
+    ensures entry { result.entry ≡ entry_shown found.now.own found.now.target needs p.now
+        (is_none table && is_none found.now.fetched.fault) }
+    ensures known { result.known ≡ record {
+      side = needs.index_read;
+      execute = is_execute_of found.now.fetched.instr.instr;
+      code = code;
+    } }
 {
     Planned {
         entry: Entry {
-            own: words.own,
-            target: words.target,
+            own: found.own,
+            target: found.target,
             side: side_to_read(needs.index_read),
             reads: words_to_read(p.reads),
             writes: words_to_write(p.writes),
             cost: p.cost,
             serial: p.serial,
-            follows,
+            follows: asks_for_following(table, found.fetched.fault),
         },
-        known,
+        known: Known {
+            side: needs.index_read,
+            execute: is_execute(&found.fetched.instr.instr),
+            code,
+        },
     }
 }
 
@@ -387,24 +389,19 @@ fn plan_own(
         (record { first = 0; len = 0 }) p.new result }
     ensures ranges { IsPrepared p.new }
 {
-    let fetched = Fetched {
-        instr,
-        target: None,
-        fault: None,
-    };
-    let code = code_in(halves.first, halves.second);
-    let table = p.place.table;
-    let needs = prepare_found(p, &fetched, x, state);
-    let words = EntryWords {
+    let found = Found {
+        fetched: Fetched {
+            instr,
+            target: None,
+            fault: None,
+        },
         own: halves.words,
         target: WordRun::default(),
     };
-    let known = Known {
-        side: needs.index_read,
-        execute: is_execute(&fetched.instr.instr),
-        code,
-    };
-    show(words, known, needs, asks_for_following(table, None), p)
+    let code = code_in(halves.first, halves.second);
+    let table = p.place.table;
+    let needs = prepare_found(p, &found.fetched, x, state);
+    show(&found, table, code, needs, p)
 }
 
 // The same of half-words whose format is known. Each format that is told apart has a copy of its
@@ -494,17 +491,8 @@ fn plan_other(x: &[u64; 16], state: &State, p: &mut Prepared) -> Planned
     let table = p.place.table;
     let found = find(&p.place, x, state);
     let needs = prepare_found(p, &found.fetched, x, state);
-    let words = EntryWords {
-        own: found.own,
-        target: found.target,
-    };
-    let known = Known {
-        side: needs.index_read,
-        execute: is_execute(&found.fetched.instr.instr),
-        code: code_found(&found.fetched),
-    };
-    let follows = asks_for_following(table, found.fetched.fault);
-    show(words, known, needs, follows, p)
+    let code = code_found(&found.fetched);
+    show(&found, table, code, needs, p)
 }
 
 // Plans the entry at `p.place`, of which these are the half-words.
