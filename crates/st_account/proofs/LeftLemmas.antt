@@ -21,7 +21,7 @@ use Rattle.st_exec.specs.Transfer.{all_stored, read_in}
 use Rattle.st_exec.proofs.Laws.{entries_leave_what_they_do_not_write}
 use Rattle.st_run.specs.Reached.{IsCard}
 use Rattle.st_run.specs.Run.{Scene, with_due_signals, with_signals_at_rest, with_reader, with_printer, if_due, with_due_orders, with_device, with_order_at_rest, with_wait, interlude, uneventful}
-use Rattle.st_lines.specs.Changes.{IsBeside}
+use Rattle.st_lines.specs.Changes.{IsOutsideArea}
 
 -- ---- an entry
 
@@ -40,15 +40,15 @@ area o = option_map (λ (order : Order). order.word) o
 
 -- a state is left so by another, and the reader keeps its order or has none
 record IsLeftBy (s t : Machine) : Type 0 where
-  words : (w : ℕ) → 32 ≤ w → IsBeside w (area s.reader) → word t w ≡ word s w
+  words : (w : ℕ) → 32 ≤ w → IsOutsideArea w (area s.reader) → word t w ≡ word s w
   reader : (t.reader ≡ s.reader) ⊎ (t.reader ≡ None)
 
 left-same : (s : Machine) → IsLeftBy s s
 left-same s = record { words = λ w above beside. refl; reader = inl refl }
 
-still-beside : (w : ℕ) (o p : Option Order) → (p ≡ o) ⊎ (p ≡ None) → IsBeside w (area o) → IsBeside w (area p)
-still-beside w o p (inl same) beside = subst (λ r. IsBeside w (area r)) (sym same) beside
-still-beside w o p (inr none) beside = subst (λ r. IsBeside w (area r)) (sym none) tt
+still-beside : (w : ℕ) (o p : Option Order) → (p ≡ o) ⊎ (p ≡ None) → IsOutsideArea w (area o) → IsOutsideArea w (area p)
+still-beside w o p (inl same) beside = subst (λ r. IsOutsideArea w (area r)) (sym same) beside
+still-beside w o p (inr none) beside = subst (λ r. IsOutsideArea w (area r)) (sym none) tt
 
 order-then : (o p q : Option Order) → (p ≡ o) ⊎ (p ≡ None) → (q ≡ p) ⊎ (q ≡ None) → (q ≡ o) ⊎ (q ≡ None)
 order-then o p q (inl same) (inl again) = inl (again ∙ same)
@@ -128,7 +128,7 @@ card-left s order card is eight =
       words = λ w above beside.
           get_or-set_other t.words 11 w _ 0 (omega arith)
           ∙ stored-other (record s { reader = None }) order.word w card
-          (whole w (length card) eight (subst (λ o. IsBeside w (area o)) is beside));
+          (whole w (length card) eight (subst (λ o. IsOutsideArea w (area o)) is beside));
       reader = inr (stored-reader (record s { reader = None }) order.word card);
     }
   where
@@ -187,7 +187,7 @@ wait-left c each =
     let both = scene-then c d e (order_at_rest-left c each) (order_at_rest-left d) in
     left-then c.machine e.machine _ both.machine (rest-left e.machine e.signals e.cards)
 
-pub between-left : (c : Scene) → All IsCard c.cards → (w : ℕ) → 32 ≤ w → IsBeside w (area c.machine.reader) → word (interlude c).scene.machine w ≡ word c.machine w
+pub between-left : (c : Scene) → All IsCard c.cards → (w : ℕ) → 32 ≤ w → IsOutsideArea w (area c.machine.reader) → word (interlude c).scene.machine w ≡ word c.machine w
 unfolding interlude
 between-left c each w above beside =
     let d = with_due_signals c.machine c.signals c.cards in

@@ -12,7 +12,7 @@ use Rattle.st_segment.specs.Ahead.{ahead, prepared_before, reads_before}
 use Rattle.st_run.specs.Run.{Scene, interlude, with_due_signals, with_due_orders}
 use Rattle.st_run.specs.Reached.{IsCard}
 use Rattle.st_run.specs.Moments.{Moment, next_scene, has_card, has_waited}
-use Rattle.st_lines.specs.Changes.{IsLeft}
+use Rattle.st_lines.specs.Changes.{IsUntouched}
 use Rattle.st_lines.specs.declared.changes.Changeable.{Changeable}
 use Rattle.st_plain.specs.Looking.{seen_ahead, first_late}
 use Rattle.st_plain.specs.declared.looking.Ahead.{Ahead as Seen}
@@ -58,10 +58,10 @@ module _ (ds : List ℕ) (n : ℕ) (b : Machine) (m : Moment) (a : Account) (xs 
         ∙ ap (λ (c : Scene). rests (with_due_orders (with_due_signals c.machine c.signals c.cards)).scene.machine) (sym h.scene)
 
     -- a word that nothing may have changed
-    pub left-is : (may : Changeable) → may ≡ record { writes = a.last.plan.writes; card = area mid.reader } → a.k ≢ 0 → (v : ℕ) → v < WORDS → IsLeft v may
+    pub left-is : (may : Changeable) → may ≡ record { writes = a.last.plan.writes; card = area mid.reader } → a.k ≢ 0 → (v : ℕ) → v < WORDS → IsUntouched v may
         → slice_index a.words.items v ≡ word state v
     left-is may is some v inside left =
-        let l : IsLeft v (record { writes = a.last.plan.writes; card = area mid.reader }) = subst (IsLeft v) is left in
+        let l : IsUntouched v (record { writes = a.last.plan.writes; card = area mid.reader }) = subst (IsUntouched v) is left in
         let each : All IsCard cards = subst (λ (c : Scene). All IsCard c.cards) h.scene h.each in
         ap (λ (xs : List ℕ). slice_index xs v) (h.words some)
         ∙ sym (h.unwritten some v l.above l.unwritten)

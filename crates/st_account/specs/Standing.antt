@@ -22,7 +22,7 @@ use Rattle.st_reasons.specs.Sums.{AreWaitsWithin, is_parted, waited_at, row_stal
 use Rattle.st_reasons.specs.Words.{IsReadInTime}
 use Rattle.st_reasons.specs.declared.sums.WaitTotals.{WaitTotals}
 use Rattle.st_reasons.specs.declared.waits.Stall.{Stall}
-use Rattle.st_lines.specs.Changes.{IsLeft}
+use Rattle.st_lines.specs.Changes.{IsUntouched}
 use Rattle.st_lines.specs.EntryLines.{done_entry_lines}
 use Rattle.st_plain.specs.Looking.{seen_ahead}
 use Rattle.st_account.specs.declared.account.Account.{Account}
@@ -134,14 +134,15 @@ pub record IsBehindMoment (ds : List ℕ) (n left : ℕ) (b : Machine) (m : Mome
   pub front : m.front ≡ a.last.front
   pub missed : m.missed ≡ a.last.missed
   pub was : b.enabled ≡ a.last.enabled
-  pub dropped : segment_ends left m ≡ true → a.behind.ahead.found.items ≡ map (seen_ahead ds n) m.dropped
+  pub dropped : segment_ends left m ≡ true →
+      a.behind.ahead.found.items ≡ map (seen_ahead ds n) m.dropped
   pub late : segment_ends left m ≡ true → a.k ≢ 0 → a.behind.ahead.late ∷ [] ≡ late_at ds n b m
   pub banks : segment_ends left m ≡ true → a.behind.banks ≡ m.banks
   pub printed : a.behind.printed.items ≡ words_behind m
   pub card : a.behind.card ≡ has_card m
   pub waited : a.behind.waited ≡ has_waited m
   pub words : a.k ≢ 0 → a.words.items ≡ b.words
-  pub unchanged : a.k ≢ 0 → (v : ℕ) → v < WORDS → IsLeft v a.behind.may →
+  pub unchanged : a.k ≢ 0 → (v : ℕ) → v < WORDS → IsUntouched v a.behind.may →
       slice_index a.words.items v ≡ word a.state v
 
 -- a signal is due

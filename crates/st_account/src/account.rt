@@ -12,7 +12,7 @@ ghost use Rattle.st_ledger.specs.Charges.{ticks_for};
 ghost use Rattle.st_ledger.specs.Ledger.{charges_at};
 ghost use Rattle.st_ledger.specs.Totals.{sum_at, AreWithin};
 ghost use Rattle.st_ledger.specs.declared.charges.Stage.{Stage};
-ghost use Rattle.st_lines.specs.Changes.{IsLeft};
+ghost use Rattle.st_lines.specs.Changes.{IsUntouched};
 ghost use Rattle.st_lines.specs.Origins.{origin_at};
 ghost use Rattle.st_lines.specs.declared.lines.Why.TheVariants.{Run as RunBegins};
 ghost use Rattle.st_plain.specs.Looking.{seen_ahead, first_late};
@@ -326,7 +326,7 @@ impl Account {
         requires tight { IsTight MOST_DELAY self.old.last.front }
         requires done { self.old.last.front.c ≡ self.old.last.tick }
         requires size { length self.old.words.items ≡ words_of_storage }
-        requires left { self.old.k ≢ 0 → (v : ℕ) → v < WORDS → IsLeft v self.old.behind.may →
+        requires left { self.old.k ≢ 0 → (v : ℕ) → v < WORDS → IsUntouched v self.old.behind.may →
             slice_index self.old.words.items v ≡ word self.old.state v }
         requires waiting { IsWaiting self.old.last self.old.waiting.totals }
 
@@ -388,7 +388,7 @@ impl Account {
         requires few { self.old.state.done ≤ MOST_INSTRUCTIONS }
         requires dropped { length self.old.behind.ahead.found.items ≤ 8 }
         requires size { length self.old.words.items ≡ words_of_storage }
-        requires left { self.old.k ≢ 0 → (v : ℕ) → v < WORDS → IsLeft v self.old.behind.may →
+        requires left { self.old.k ≢ 0 → (v : ℕ) → v < WORDS → IsUntouched v self.old.behind.may →
             slice_index self.old.words.items v ≡ word self.old.state v }
         requires waiting { IsWaiting self.old.last self.old.waiting.totals }
 
@@ -412,7 +412,7 @@ impl Account {
         requires few { self.old.state.done ≤ MOST_INSTRUCTIONS }
         requires dropped { length self.old.behind.ahead.found.items ≤ 8 }
         requires size { length self.old.words.items ≡ words_of_storage }
-        requires left { self.old.k ≢ 0 → (v : ℕ) → v < WORDS → IsLeft v self.old.behind.may →
+        requires left { self.old.k ≢ 0 → (v : ℕ) → v < WORDS → IsUntouched v self.old.behind.may →
             slice_index self.old.words.items v ≡ word self.old.state v }
 
         ensures lines { (ds : List ℕ) (n left : ℕ) (b : Machine) (m : Moment)

@@ -13,7 +13,8 @@ use st_state::State;
 /// Signals and orders come that are due, and what ends a wait. `printed` is then what is printed,
 /// whatever it was.
 pub(crate) fn settle(state: &mut State, coming: &mut Coming<'_>, printed: &mut Printed) -> Interlude
-    ensures came { scene_at state.new coming.new ≡ (interlude (scene_at state.old coming.old)).scene }
+    ensures came { scene_at state.new coming.new
+        ≡ (interlude (scene_at state.old coming.old)).scene }
     ensures printed { printed.new.items
         ≡ words_printed (interlude (scene_at state.old coming.old)).happened }
     ensures card { result.card ≡ nat_lt (length coming.new.cards) (length coming.old.cards) }

@@ -65,9 +65,12 @@ element_text (Box class x y width height) = element_front (codes "<rect") class 
     ++ size width height ++ codes "/>\n"
 element_text (Bar class x y width height title) =
     element_front (codes "<rect") class ++ corner x y ++ size width height ++ box_title title
-element_text (Line class x y x' y') = element_front (codes "<line") class ++ ends x y x' y' ++ codes "/>\n"
-element_text (Text class x y text) = element_front (codes "<text") class ++ corner x y ++ content text
-element_text (Card x y text) = element_front (codes "<text") (codes "c") ++ corner x y ++ card_content text
+element_text (Line class x y x' y') =
+    element_front (codes "<line") class ++ ends x y x' y' ++ codes "/>\n"
+element_text (Text class x y text) =
+    element_front (codes "<text") class ++ corner x y ++ content text
+element_text (Card x y text) =
+    element_front (codes "<text") (codes "c") ++ corner x y ++ card_content text
 
 -- the bytes of elements, one after another
 unfoldable pub elements_text : List Element → List ℕ

@@ -4,7 +4,7 @@ use Rattle.std.specs.Prelude.{ℕ, zero, suc, ◌+◌, if◌then◌else◌, List
 use Rattle.st_exec.specs.Step.{rests, address}
 use Rattle.st_rows.specs.declared.front.EntryTicks.{EntryTicks}
 use Rattle.st_run.specs.Run.{Scene}
-use Rattle.st_run.specs.Events.{Event, Timed, Completes, Drops, Shows, Happens}
+use Rattle.st_run.specs.Events.{TimetableEvent, Timed, Completes, Drops, Shows, Happens}
 use Rattle.st_run.specs.Moments.{Moment, Standing, moment_at_start, next_state, standing_at, entry_of_moment, next_row, next_moment}
 use Rattle.st_ledger.specs.declared.charges.Charge.{Charge}
 use Rattle.st_ledger.specs.Charges.{charges}
@@ -48,13 +48,13 @@ abbrev pub row_at : List ℕ → ℕ → Standing → DoneRow
 row_at ds n p = record { address = address p.scene.machine; row = next_row ds n p }
 
 -- what an event tells of a row
-abbrev pub row_told : Event → List DoneRow
-row_told (Completes s a r) = record { address = a; row = r } ∷ []
-row_told (Drops a p) = []
-row_told (Shows tick s levels) = []
-row_told (Happens happening) = []
+abbrev pub row_done : TimetableEvent → List DoneRow
+row_done (Completes s a r) = record { address = a; row = r } ∷ []
+row_done (Drops a p) = []
+row_done (Shows tick s levels) = []
+row_done (Happens happening) = []
 
 -- what the events of a run tell
 unfoldable pub rows_told : List Timed → List DoneRow
 rows_told [] = []
-rows_told (x ∷ xs) = row_told x.event ++ rows_told xs
+rows_told (x ∷ xs) = row_done x.event ++ rows_told xs

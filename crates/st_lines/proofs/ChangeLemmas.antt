@@ -10,8 +10,8 @@ use Rattle.st_io.specs.declared.Failed.{Failed}
 use Rattle.st_io.specs.Lines.{WritesLines, lines_for}
 use Rattle.st_io.proofs.Progress.{LinesSoFar, lines_none, lines_more, lines_failed, lines_for_next, lines_for_whole}
 use Rattle.st_state.specs.Machine.{Machine, word}
-use Rattle.st_lines.specs.BorderLines.{change_lines}
-use Rattle.st_lines.specs.Changes.{IsLeft}
+use Rattle.st_lines.specs.BorderLines.{word_change_lines}
+use Rattle.st_lines.specs.Changes.{IsUntouched}
 use Rattle.st_lines.specs.declared.changes.Changeable.{Changeable}
 
 -- ---- lines of numbers that have none are passed over
@@ -32,15 +32,15 @@ passed f n i c low high none = pass f (c - i) (n - c) (n - i) i c (omega (arith,
 
 -- ---- one word
 
-none-change : (old : List ℕ) (m : Machine) (w : ℕ) → slice_index old w ≡ word m w → change_lines old m w ≡ []
-unfolding change_lines
+none-change : (old : List ℕ) (m : Machine) (w : ℕ) → slice_index old w ≡ word m w → word_change_lines old m w ≡ []
+unfolding word_change_lines
 none-change old m w same = rw same (alike (word m w) _)
   where
     alike : (n : ℕ) (xs : List (List ℕ)) → (if nat_eq n n then [] else xs) ≡ []
     alike n xs = let yes : nat_eq n n ≡ true = grind (arith, nat_tests) in rw yes refl
 
-same-change : (old now : List ℕ) (m : Machine) (w : ℕ) → slice_index now w ≡ slice_index old w → change_lines now m w ≡ change_lines old m w
-unfolding change_lines
+same-change : (old now : List ℕ) (m : Machine) (w : ℕ) → slice_index now w ≡ slice_index old w → word_change_lines now m w ≡ word_change_lines old m w
+unfolding word_change_lines
 same-change old now m w same = rw same refl
 
 -- ---- some words
@@ -97,7 +97,7 @@ same-more old m w c n h few more = record {
 
 -- So far the changes of the words below w are written, and these words are as the machine has them.
 pub record IsChanging (s t : OutputState) (old now : List ℕ) (m : Machine) (w : ℕ) : Type 0 where
-  pub so_far : LinesSoFar s t (lines_for (change_lines old m) WORDS 0) (lines_for (change_lines old m) (WORDS - w) w)
+  pub so_far : LinesSoFar s t (lines_for (word_change_lines old m) WORDS 0) (lines_for (word_change_lines old m) (WORDS - w) w)
   pub most : w ≤ WORDS
   pub size : length now ≡ words_of_storage
   pub kept : (v : ℕ) → v < w → slice_index now v ≡ word m v
@@ -105,7 +105,7 @@ pub record IsChanging (s t : OutputState) (old now : List ℕ) (m : Machine) (w 
 
 pub change-starts : (s : OutputState) (old : List ℕ) (m : Machine) → length old ≡ words_of_storage → IsChanging s s old old m 0
 change-starts s old m size = record {
-  so_far = lines_none s (lines_for (change_lines old m) WORDS 0);
+  so_far = lines_none s (lines_for (word_change_lines old m) WORDS 0);
   most = omega arith;
   size = size;
   kept = λ v below. absurd (omega arith);
@@ -116,8 +116,8 @@ change-starts s old m size = record {
 pub change-passes : (s t : OutputState) (old now : List ℕ) (m : Machine) (w c : ℕ) → IsChanging s t old now m w → w ≤ c → c ≤ WORDS
     → ((v : ℕ) → w ≤ v → v < c → slice_index now v ≡ word m v) → IsChanging s t old now m c
 change-passes s t old now m w c h from most between = record {
-  so_far = subst (LinesSoFar s t (lines_for (change_lines old m) WORDS 0))
-      (passed (change_lines old m) WORDS w c from most (λ v low below. none-change old m v (sym (h.left v low) ∙ between v low below))) h.so_far;
+  so_far = subst (LinesSoFar s t (lines_for (word_change_lines old m) WORDS 0))
+      (passed (word_change_lines old m) WORDS w c from most (λ v low below. none-change old m v (sym (h.left v low) ∙ between v low below))) h.so_far;
   most = most;
   size = h.size;
   kept = λ v below.
@@ -129,24 +129,24 @@ change-passes s t old now m w c h from most between = record {
 }
 
 module _ (s t : OutputState) (old now : List ℕ) (m : Machine) (w : ℕ) (h : IsChanging s t old now m w) (some : w < WORDS) where
-  next : LinesSoFar s t (lines_for (change_lines old m) WORDS 0) (change_lines old m w ++ lines_for (change_lines old m) (WORDS - (w + 1)) (w + 1))
-  next = lines_for_next s t (lines_for (change_lines old m) WORDS 0) (change_lines old m) WORDS w some h.so_far
+  next : LinesSoFar s t (lines_for (word_change_lines old m) WORDS 0) (word_change_lines old m w ++ lines_for (word_change_lines old m) (WORDS - (w + 1)) (w + 1))
+  next = lines_for_next s t (lines_for (word_change_lines old m) WORDS 0) (word_change_lines old m) WORDS w some h.so_far
 
-  here : change_lines now m w ≡ change_lines old m w
+  here : word_change_lines now m w ≡ word_change_lines old m w
   here = same-change old now m w (h.left w (omega arith))
 
-  pub change-fails : (u : OutputState) (e : Failed) (r : Result (Unit {0}) Failed) → IsErr r → WritesLines t u (change_lines now m w) (Err e)
-      → WritesLines s u (lines_for (change_lines old m) WORDS 0) r
+  pub change-fails : (u : OutputState) (e : Failed) (r : Result (Unit {0}) Failed) → IsErr r → WritesLines t u (word_change_lines now m w) (Err e)
+      → WritesLines s u (lines_for (word_change_lines old m) WORDS 0) r
   change-fails u e r f wrote =
       let failed = subst (λ ls. WritesLines t u ls (Err e)) here wrote in
-      lines_failed s t u (lines_for (change_lines old m) WORDS 0) (change_lines old m w) (lines_for (change_lines old m) (WORDS - (w + 1)) (w + 1)) r f
+      lines_failed s t u (lines_for (word_change_lines old m) WORDS 0) (word_change_lines old m w) (lines_for (word_change_lines old m) (WORDS - (w + 1)) (w + 1)) r f
       next failed.err
 
-  module _ (u : OutputState) (new : List ℕ) (x : Unit {0}) (wrote : WritesLines t u (change_lines now m w) (Ok x)) (is : new ≡ slice_set now w (word m w)) where
-    made : LinesSoFar s u (lines_for (change_lines old m) WORDS 0) (lines_for (change_lines old m) (WORDS - (w + 1)) (w + 1))
+  module _ (u : OutputState) (new : List ℕ) (x : Unit {0}) (wrote : WritesLines t u (word_change_lines now m w) (Ok x)) (is : new ≡ slice_set now w (word m w)) where
+    made : LinesSoFar s u (lines_for (word_change_lines old m) WORDS 0) (lines_for (word_change_lines old m) (WORDS - (w + 1)) (w + 1))
     made =
         let done = subst (λ ls. WritesLines t u ls (Ok x)) here wrote in
-        lines_more s t u (lines_for (change_lines old m) WORDS 0) (change_lines old m w) (lines_for (change_lines old m) (WORDS - (w + 1)) (w + 1)) next done.ok
+        lines_more s t u (lines_for (word_change_lines old m) WORDS 0) (word_change_lines old m w) (lines_for (word_change_lines old m) (WORDS - (w + 1)) (w + 1)) next done.ok
 
     inside : w < length now
     inside = omega (arith, h.size, words_of_storage_is)
@@ -177,15 +177,15 @@ module _ (s t : OutputState) (old now : List ℕ) (m : Machine) (w : ℕ) (h : I
     pub change-size : length new ≡ words_of_storage
     change-size = change-made.size
 
-    pub change-left : (may : Changeable) → ((v : ℕ) → v < WORDS → IsLeft v may → slice_index old v ≡ word m v)
-        → (v : ℕ) → w + 1 ≤ v → v < WORDS → IsLeft v may → slice_index new v ≡ word m v
+    pub change-left : (may : Changeable) → ((v : ℕ) → v < WORDS → IsUntouched v may → slice_index old v ≡ word m v)
+        → (v : ℕ) → w + 1 ≤ v → v < WORDS → IsUntouched v may → slice_index new v ≡ word m v
     change-left may same v low below left = change-made.left v low ∙ same v below left
 
 -- at the end
 module _ (s t : OutputState) (old now : List ℕ) (m : Machine) (w : ℕ) (h : IsChanging s t old now m w) (end : WORDS ≤ w) where
-  pub change-ends : (x : Unit {0}) → WritesLines s t (lines_for (change_lines old m) WORDS 0) (Ok x)
+  pub change-ends : (x : Unit {0}) → WritesLines s t (lines_for (word_change_lines old m) WORDS 0) (Ok x)
   change-ends x = record {
-    ok = lines_for_whole s t (lines_for (change_lines old m) WORDS 0) (change_lines old m) WORDS w end h.so_far;
+    ok = lines_for_whole s t (lines_for (word_change_lines old m) WORDS 0) (word_change_lines old m) WORDS w end h.so_far;
     err = tt;
   }
 

@@ -62,8 +62,8 @@ unfoldable pub nonzero_word_lines : Machine → ℕ → List (List ℕ)
 nonzero_word_lines s w = if nat_eq (word s w) 0 then [] else word_line w (word s w) ∷ []
 
 -- a word that is no longer what it was; these are all words before
-unfoldable pub change_lines : List ℕ → Machine → ℕ → List (List ℕ)
-change_lines old s w =
+unfoldable pub word_change_lines : List ℕ → Machine → ℕ → List (List ℕ)
+word_change_lines old s w =
     if nat_eq (slice_index old w) (word s w) then []
     else changed_line w (slice_index old w) (word s w) ∷ []
 
@@ -71,7 +71,7 @@ change_lines old s w =
 unfoldable pub words_lines : ℕ → List ℕ → Machine → List (List ℕ)
 words_lines k old s =
     if nat_eq k 0 then lines_for (nonzero_word_lines s) WORDS 0
-    else lines_for (change_lines old s) WORDS 0
+    else lines_for (word_change_lines old s) WORDS 0
 
 -- what was printed, the counter, whether interrupts are enabled, and the words; before the entry
 -- interrupts were enabled or not, and these were the words

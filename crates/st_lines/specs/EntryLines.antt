@@ -12,7 +12,7 @@ use Rattle.st_plain.specs.declared.uses.Use.{Use}
 use Rattle.st_ledger.specs.Charges.{parts_of_row, charges_behind}
 use Rattle.st_ledger.specs.Lines.{row_stage_line}
 use Rattle.st_ledger.specs.declared.charges.Charge.{Charge}
-use Rattle.st_lines.specs.Lines.{missed_line, alone_line, suppressed_line, laid_line, code_line, writes_line, index_line, level_line}
+use Rattle.st_lines.specs.Lines.{missed_line, alone_line, suppressed_line, laid_line, code_line, writes_line, index_line, level_wait_line}
 use Rattle.st_lines.specs.UseLines.{use_lines}
 use Rattle.st_lines.specs.WaitLines.{charged_lines, because_lines}
 use Rattle.st_lines.specs.declared.facts.EntryDone.{EntryDone}
@@ -88,7 +88,7 @@ missed_lines false = []
 
 -- for how many ticks it waited for a level, where it did
 unfoldable pub level_lines : ℕ → List (List ℕ)
-level_lines d = if nat_eq d 0 then [] else level_line d ∷ []
+level_lines d = if nat_eq d 0 then [] else level_wait_line d ∷ []
 
 -- what its ticks are charged to
 abbrev pub charges_of_entry : EntryDone → List Charge

@@ -108,14 +108,14 @@ begun_line n address row =
     ++ lf
 
 -- the second half-word of a full word
-abbrev pub second_text : Option ℕ → List ℕ
-second_text None = []
-second_text (Some half) = codes " " ++ hex_text 8 half
+abbrev pub second_half_text : Option ℕ → List ℕ
+second_half_text None = []
+second_half_text (Some half) = codes " " ++ hex_text 8 half
 
 -- the half-words that an entry executes
 abbrev pub code_line : Code → List ℕ
-code_line code = codes "CODE " ++ hex_text 8 code.first ++ second_text code.second ++ lf
+code_line code = codes "CODE " ++ hex_text 8 code.first ++ second_half_text code.second ++ lf
 
 -- it waited so many ticks for a level
-abbrev pub level_line : ℕ → List ℕ
-level_line d = codes "LEVEL " ++ decimal d ++ lf
+abbrev pub level_wait_line : ℕ → List ℕ
+level_wait_line d = codes "LEVEL " ++ decimal d ++ lf

@@ -4,8 +4,8 @@ ghost use Rattle.st_bits.specs.Storage.{words_of_storage};
 ghost use Rattle.st_bits.specs.declared.limits.TheConstants.{WORDS};
 ghost use Rattle.st_io.specs.Lines.{WritesLines, lines_for};
 ghost use Rattle.st_state.specs.Machine.{word as word_of};
-ghost use Rattle.st_lines.specs.BorderLines.{change_lines};
-ghost use Rattle.st_lines.specs.Changes.{IsBeside, IsLeft};
+ghost use Rattle.st_lines.specs.BorderLines.{word_change_lines};
+ghost use Rattle.st_lines.specs.Changes.{IsOutsideArea, IsUntouched};
 
 use crate::digits::fill_changed;
 use st_bits::WORDS;
@@ -43,7 +43,7 @@ fn next_of_card(card: Option<u32>, w: u32) -> u32
     requires { w ≤ WORDS }
     ensures least { w ≤ result }
     ensures most { result ≤ WORDS }
-    ensures between { (v : ℕ) → w ≤ v → v < result → IsBeside v card }
+    ensures between { (v : ℕ) → w ≤ v → v < result → IsOutsideArea v card }
 {
     match card {
         Some(area) => next_in(area, 8, w),
@@ -54,7 +54,7 @@ fn next_of_card(card: Option<u32>, w: u32) -> u32
 // Whether no words may have changed but registers.
 #[inline(always)]
 fn are_left(may: &Changeable) -> bool
-    ensures { result ≡ true → (v : ℕ) → 32 ≤ v → IsLeft v may.now }
+    ensures { result ≡ true → (v : ℕ) → 32 ≤ v → IsUntouched v may.now }
 {
     if may.writes.len != 0 || may.writes.len2 != 0 {
         return false;
@@ -68,7 +68,7 @@ fn next_word(may: &Changeable, w: u32) -> u32
     requires most { w ≤ WORDS }
     ensures least { w ≤ result }
     ensures most { result ≤ WORDS }
-    ensures between { (v : ℕ) → w ≤ v → v < result → IsLeft v may.now }
+    ensures between { (v : ℕ) → w ≤ v → v < result → IsUntouched v may.now }
 {
     if are_left(may) {
         return WORDS;
@@ -138,7 +138,7 @@ fn next_register(old: &Vec<u64>, state: &State, w: u32) -> u32
 fn next_changed(old: &Vec<u64>, state: &State, may: &Changeable, w: u32) -> u32
     requires size { length old.now.items ≡ words_of_storage }
     requires most { w ≤ WORDS }
-    requires left { (v : ℕ) → w ≤ v → v < WORDS → IsLeft v may.now →
+    requires left { (v : ℕ) → w ≤ v → v < WORDS → IsUntouched v may.now →
         slice_index old.now.items v ≡ word_of state.now v }
 
     // No word before it may have changed.
@@ -158,7 +158,7 @@ fn next_changed(old: &Vec<u64>, state: &State, may: &Changeable, w: u32) -> u32
 }
 
 // Writes word `w`, where it changed, and keeps what it is now.
-#[tactic(auto, unfolding(crate::specs::BorderLines::change_lines), using(st_io::proofs::Progress::wrote_nothing, st_bits::specs::Storage::words_of_storage_is))]
+#[tactic(auto, unfolding(crate::specs::BorderLines::word_change_lines), using(st_io::proofs::Progress::wrote_nothing, st_bits::specs::Storage::words_of_storage_is))]
 fn write_change<K: Sink>(
     out: &mut K,
     old: &mut Vec<u64>,
@@ -168,7 +168,7 @@ fn write_change<K: Sink>(
     requires inside { w < WORDS }
     requires size { length old.old.items ≡ words_of_storage }
     ensures lines { WritesLines (K.output out.old) (K.output out.new)
-        (change_lines old.old.items state.now w) result }
+        (word_change_lines old.old.items state.now w) result }
     ensures kept { old.new.items ≡ slice_set old.old.items w (word_of state.now w) }
 {
     let was = old[w as usize];
@@ -191,10 +191,10 @@ pub(crate) fn write_changed<K: Sink>(
     may: &Changeable,
 ) -> Result<(), Failed>
     requires size { length old.old.items ≡ words_of_storage }
-    requires left { (v : ℕ) → v < WORDS → IsLeft v may.now →
+    requires left { (v : ℕ) → v < WORDS → IsUntouched v may.now →
         slice_index old.old.items v ≡ word_of state.now v }
     ensures lines { WritesLines (K.output out.old) (K.output out.new)
-        (lines_for (change_lines old.old.items state.now) WORDS 0) result }
+        (lines_for (word_change_lines old.old.items state.now) WORDS 0) result }
     ensures words { IsOk result → old.new.items ≡ state.now.words }
 {
     state.shape();

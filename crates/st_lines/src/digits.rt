@@ -2,7 +2,7 @@
 ghost use Rattle.std.specs.Prelude.{◌≡◌, ◌+◌, ◌%◌, ◌<◌, ◌≤◌, ◌++◌, length};
 ghost use Rattle.st_text.specs.Numerals.{hex_text, hex_word};
 ghost use Rattle.st_report.specs.Line.{ic_line};
-ghost use Rattle.st_lines.specs.Lines.{changed_line, index_line, second_text, code_line, writes_line};
+ghost use Rattle.st_lines.specs.Lines.{changed_line, index_line, second_half_text, code_line, writes_line};
 
 use st_plain::Code;
 use st_prep::IndexChange;
@@ -84,7 +84,7 @@ pub fn fill_index(line: &mut LineFromEnd, change: &IndexChange)
 #[inline(always)]
 fn put_second(line: &mut LineFromEnd, half: Option<u32>)
     requires { length line.old + 9 ≤ 128 }
-    ensures bytes { line.new ≡ second_text half ++ line.old }
+    ensures bytes { line.new ≡ second_half_text half ++ line.old }
     ensures room { length line.new ≤ length line.old + 9 }
 {
     match half {

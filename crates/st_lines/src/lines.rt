@@ -3,7 +3,7 @@
 ghost use Rattle.std.specs.Prelude.{◌≡◌, ◌+◌, ◌*◌, ◌<◌, ◌≤◌, ◌++◌, ◌∷◌, [], length, codes, decimal, MatchOption, IfSome};
 ghost use Rattle.arrayvec.specs.ArrayString.{array_string_len};
 ghost use Rattle.st_text.specs.Bytes.{lf};
-ghost use Rattle.st_lines.specs.Lines.{ledger_levels_line, numbers_text, delays_line, why_text, start_line, segment_end_line, word_line, missed_line, alone_text, alone_line, suppressed_line, dropped_line, begun_line, level_line};
+ghost use Rattle.st_lines.specs.Lines.{ledger_levels_line, numbers_text, delays_line, why_text, start_line, segment_end_line, word_line, missed_line, alone_text, alone_line, suppressed_line, dropped_line, begun_line, level_wait_line};
 
 use st_rows::EntryTicks;
 use st_text::{
@@ -233,7 +233,7 @@ pub fn line_late(n: u32, address: u32, row: &EntryTicks) -> Line
 
 /// `LEVEL d`: an entry waited so many ticks for a level.
 pub fn line_level(d: u64) -> Line
-    ensures { result.bytes ≡ level_line d }
+    ensures { result.bytes ≡ level_wait_line d }
 {
     let mut line = begun("LEVEL ");
     push_decimal(&mut line, d);

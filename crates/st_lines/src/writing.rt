@@ -8,9 +8,9 @@ ghost use Rattle.st_exch.specs.Printer.{line_of_words as printed_of};
 ghost use Rattle.st_report.specs.Line.{prt_line, ic_line, en_line, end_line as run_end_line, done_line, ticks_line};
 ghost use Rattle.st_lines.specs.Lines.{ledger_levels_line, delays_line, delays_by, start_line, segment_end_line, dropped_line, begun_line};
 ghost use Rattle.st_lines.specs.EntryLines.{facts_lines};
-ghost use Rattle.st_lines.specs.Changes.{IsLeft};
+ghost use Rattle.st_lines.specs.Changes.{IsUntouched};
 ghost use Rattle.st_lines.specs.Origins.{origin_at};
-ghost use Rattle.st_lines.specs.BorderLines.{drop_lines, late_lines, segment_end_lines, differs, en_lines, prints_lines, nonzero_word_lines, change_lines, words_lines, marks_lines, taken_by, state_lines, machine_lines};
+ghost use Rattle.st_lines.specs.BorderLines.{drop_lines, late_lines, segment_end_lines, differs, en_lines, prints_lines, nonzero_word_lines, word_change_lines, words_lines, marks_lines, taken_by, state_lines, machine_lines};
 
 use crate::changes::{Changeable, keep_words, write_changed};
 use crate::digits::fill_counter;
@@ -364,11 +364,11 @@ fn write_words<K: Sink>(
     may: &Changeable,
 ) -> Result<(), Failed>
     requires size { length old.old.items ≡ words_of_storage }
-    requires left { starts ≡ false → (v : ℕ) → v < WORDS → IsLeft v may.now →
+    requires left { starts ≡ false → (v : ℕ) → v < WORDS → IsUntouched v may.now →
         slice_index old.old.items v ≡ word state.now v }
     ensures lines { WritesLines (K.output out.old) (K.output out.new)
         (if starts then lines_for (nonzero_word_lines state.now) WORDS 0
-        else lines_for (change_lines old.old.items state.now) WORDS 0) result }
+        else lines_for (word_change_lines old.old.items state.now) WORDS 0) result }
     ensures words { IsOk result → old.new.items ≡ state.now.words }
 {
     if !starts {
@@ -401,7 +401,7 @@ fn write_standing<K: Sink>(
     state: &State,
 ) -> Result<(), Failed>
     requires size { length old.old.items ≡ words_of_storage }
-    requires left { between.now.k ≢ 0 → (v : ℕ) → v < WORDS → IsLeft v between.now.may.now →
+    requires left { between.now.k ≢ 0 → (v : ℕ) → v < WORDS → IsUntouched v between.now.may.now →
         slice_index old.old.items v ≡ word state.now v }
     ensures lines { WritesLines (K.output out.old) (K.output out.new)
         (ic_line state.now.ic ∷ en_lines between.now.k between.now.was state.now.enabled
@@ -424,7 +424,7 @@ pub fn write_marks<K: Sink>(
     state: &State,
 ) -> Result<(), Failed>
     requires size { length old.old.items ≡ words_of_storage }
-    requires left { between.now.k ≢ 0 → (v : ℕ) → v < WORDS → IsLeft v between.now.may.now →
+    requires left { between.now.k ≢ 0 → (v : ℕ) → v < WORDS → IsUntouched v between.now.may.now →
         slice_index old.old.items v ≡ word state.now v }
     ensures lines { WritesLines (K.output out.old) (K.output out.new)
         (marks_lines between.now.printed.now between.now.k between.now.was old.old.items
@@ -501,7 +501,7 @@ fn write_state<K: Sink>(
     state: &State,
 ) -> Result<(), Failed>
     requires size { length old.old.items ≡ words_of_storage }
-    requires left { between.now.k ≢ 0 → (v : ℕ) → v < WORDS → IsLeft v between.now.may.now →
+    requires left { between.now.k ≢ 0 → (v : ℕ) → v < WORDS → IsUntouched v between.now.may.now →
         slice_index old.old.items v ≡ word state.now v }
     ensures lines { WritesLines (K.output out.old) (K.output out.new)
         (state_lines between.now.printed.now between.now.k between.now.was old.old.items state.now
@@ -535,7 +535,7 @@ pub fn write_border<K: Sink>(
 ) -> Result<(), Failed>
     requires number { between.now.k + 1 < 2 ^ 32 }
     requires size { length old.old.items ≡ words_of_storage }
-    requires left { between.now.k ≢ 0 → (v : ℕ) → v < WORDS → IsLeft v between.now.may.now →
+    requires left { between.now.k ≢ 0 → (v : ℕ) → v < WORDS → IsUntouched v between.now.may.now →
         slice_index old.old.items v ≡ word state.now v }
 
     ensures lines { let b = between.now in

@@ -6,7 +6,7 @@ use Rattle.std.proofs.lemmas.List.{append-nil}
 use Rattle.std.proofs.lemmas.Bool.{ltb-true, ltb-false, le-leb, lt-leb}
 use Rattle.st_bits.specs.Storage.{words_of_storage}
 use Rattle.st_fetch.specs.Planned.{tick_of}
-use Rattle.st_rows.specs.BusTimes.{Reading, accept_at, answer_at, bus_after_read, bus_after_request, requested_if, answer_if, answer_tick_on}
+use Rattle.st_rows.specs.BusTimes.{OperandReading, accept_at, answer_at, bus_after_read, bus_after_request, requested_if, answer_if, answer_tick_on}
 use Rattle.st_rows.specs.Entries.{latest_done}
 use Rattle.st_rows.specs.Rows.{fetch_word, fetch_words, wanted_from, words_tick, address_tick, is_forwarded, bus_sided, read_word, read_words, operands_read, operands, request_inside, tick_a, bus_a, tick_p}
 use Rattle.st_rows.specs.declared.bus.Bus.{Bus}
@@ -109,7 +109,7 @@ module _ (ds : List ℕ) where
     registers-in-turn w zero v t rest are = are
     registers-in-turn w (suc n) v t rest are = (tt, registers-in-turn (w + 1) n v t rest are)
 
-    operand-if : (late : Bool) (s : Reading) (w p v t : ℕ) (us : List Use) → v ≤ p → t ≤ s.bus.free
+    operand-if : (late : Bool) (s : OperandReading) (w p v t : ℕ) (us : List Use) → v ≤ p → t ≤ s.bus.free
         → ((x y : ℕ) → x ≤ p
         → y ≤ (if late then s else record { bus = bus_after_read ds s.bus w p; answered = max s.answered (answer_at ds s.bus w p) }).bus.free
         → AreInTurn x y us)
@@ -120,7 +120,7 @@ module _ (ds : List ℕ) where
     operand-if true s w p v t us low less rest = (tt, rest v t low less)
     operand-if false s w p v t us low less rest = (one-read s.bus w p v t low less, rest p (accept_at s.bus w p + 1) (omega arith) (omega arith))
 
-    operands-in-turn : (s : Reading) (p w n v t : ℕ) (rest : List Use) → v ≤ p → t ≤ s.bus.free
+    operands-in-turn : (s : OperandReading) (p w n v t : ℕ) (rest : List Use) → v ≤ p → t ≤ s.bus.free
         → AreInTurn p (read_words ds past s p w n).bus.free rest → AreInTurn v t (operand_uses ds past s p w n ++ rest)
     unfolding operand_uses read_words read_word AreInTurn
     operands-in-turn s p w zero v t rest low less are = sooner p v s.bus.free t rest low less are
@@ -178,7 +178,7 @@ reads_of_an_entry_come_in_turn ds n f e side reads side_is =
     let own = fetch_words ds past start (wanted_from f) e.own.first e.own.len in
     let words = fetch_words ds past own late e.target.first e.target.len in
     let sided = bus_a ds f e in
-    let begun : Reading = record { bus = sided; answered = p } in
+    let begun : OperandReading = record { bus = sided; answered = p } in
     let one = read_words ds past begun p e.reads.one.first e.reads.one.len in
     let two = read_words ds past one p e.reads.two.first e.reads.two.len in
     let follow = following_uses ds two.bus e p in

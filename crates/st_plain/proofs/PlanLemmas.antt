@@ -8,7 +8,7 @@ use Rattle.st_prep.specs.Reading.{words_read, own_words}
 use Rattle.st_prep.specs.declared.entries.Place.{Place}
 use Rattle.st_prep.specs.declared.entries.Prepared.{Prepared}
 use Rattle.st_segment.specs.Entries.{run_of, instruction_words, own_count, entry}
-use Rattle.st_plain.specs.Looking.{side_at, executes_at, code_at, known_at}
+use Rattle.st_plain.specs.Looking.{side_at, executes_at, executed_code, known_at}
 use Rattle.st_plain.specs.Straight.{entry_shown, IsEntryPlanned}
 use Rattle.st_plain.specs.declared.entries.Planned.{Planned}
 
@@ -29,7 +29,7 @@ module _ (s : Machine) (table : Option ℕ) (q : Place) (x : List ℕ) (p : Prep
   plan-planned = there.plan
 
   pub known-planned : e.known ≡ known_at table s
-  unfolding side_at executes_at code_at sight
+  unfolding side_at executes_at executed_code sight
   known-planned = there.known
 
   pub entry-planned : e.entry ≡ entry table s

@@ -5,7 +5,7 @@ use Rattle.std.proofs.lemmas.Bool.{le-ltb}
 use Rattle.std.proofs.lemmas.List.{append-nil}
 use Rattle.st_bits.specs.Storage.{words_of_storage}
 use Rattle.st_fetch.specs.Planned.{tick_of}
-use Rattle.st_rows.specs.BusTimes.{Reading}
+use Rattle.st_rows.specs.BusTimes.{OperandReading}
 use Rattle.st_rows.specs.Rows.{fetch_word, fetch_words, wanted_from, words_tick, read_word, operands_read, tick_a, bus_a, tick_p, operands}
 use Rattle.st_rows.specs.declared.bus.Bus.{Bus}
 use Rattle.st_rows.specs.declared.entry.Entry.{Entry}
@@ -44,7 +44,7 @@ module _ (ds : List ℕ) (past : List Past) (from w : ℕ) where
   instruction-end s (suc n) us all none h = let no : ⊥ = omega arith in absurd no
 
 module _ (ds : List ℕ) (past : List Past) (p w : ℕ) where
-  pub operand-turn : (s t : Reading) (n : ℕ) (us vs : List Use) → t ≡ read_word ds past s w p
+  pub operand-turn : (s t : OperandReading) (n : ℕ) (us vs : List Use) → t ≡ read_word ds past s w p
       → vs ≡ us ++ record { role = Operand; word = w; supply = storage_supply ds past s.bus w p } ∷ [] → 1 ≤ n
       → vs ++ operand_uses ds past t p (w + 1) (n - 1) ≡ us ++ operand_uses ds past s p w n
   unfolding operand_uses
@@ -53,7 +53,7 @@ module _ (ds : List ℕ) (past : List Past) (p w : ℕ) where
       let e : suc n - 1 ≡ n = omega arith in
       turned us vs _ _ _ one (rw (e, is) refl)
 
-  pub operand-end : (s : Reading) (n : ℕ) (us all : List Use) → n ≡ 0 → us ++ operand_uses ds past s p w n ≡ all → us ≡ all
+  pub operand-end : (s : OperandReading) (n : ℕ) (us all : List Use) → n ≡ 0 → us ++ operand_uses ds past s p w n ≡ all → us ≡ all
   unfolding operand_uses
   operand-end s zero us all none h = ended us [] all refl h
   operand-end s (suc n) us all none h = let no : ⊥ = omega arith in absurd no
@@ -108,12 +108,12 @@ module _ (ds : List ℕ) (f : Front) (e : Entry) where
 
   module _ (n : ℕ) where
     -- what is read behind the index-side word from preparation on are the operands
-    pub operands-read : (s : Reading) (b : Bus) (p : ℕ) → s ≡ operands_read ds f.past b e.reads p → b ≡ bus_a ds f e → p ≡ tick_p ds n f e
+    pub operands-read : (s : OperandReading) (b : Bus) (p : ℕ) → s ≡ operands_read ds f.past b e.reads p → b ≡ bus_a ds f e → p ≡ tick_p ds n f e
         → s ≡ operands ds n f e
     unfolding operands
     operands-read s b p is bus tick = is ∙ rw (bus, tick) refl
 
-    pub prepared-used : (reads : Words) (b : Bus) (s : Reading) (p : ℕ) (us vs ws : List Use) → b ≡ bus_a ds f e → p ≡ tick_p ds n f e
+    pub prepared-used : (reads : Words) (b : Bus) (s : OperandReading) (p : ℕ) (us vs ws : List Use) → b ≡ bus_a ds f e → p ≡ tick_p ds n f e
         → s ≡ operands ds n f e → vs ≡ us ++ data_uses ds f.past b p reads e.reads → ws ≡ vs ++ following_uses ds s.bus e p
         → ws ≡ us ++ prepared_uses ds n f e reads
     prepared-used reads b s p us vs ws is tick behind one two =

@@ -35,15 +35,15 @@ abbrev pub code_found : Fetched → Option Code
 code_found f = if is_some f.fault then None else Some (code_of (effective_instr f))
 
 -- those that the next entry executes
-unfoldable pub code_at : Option ℕ → Machine → Option Code
-code_at table s = code_found (words_fetched s (place_of s table))
+unfoldable pub executed_code : Option ℕ → Machine → Option Code
+executed_code table s = code_found (words_fetched s (place_of s table))
 
 -- what is known of it besides how it is prepared
 abbrev pub known_at : Option ℕ → Machine → Known
 known_at table s = record {
   side = side_at table s;
   execute = executes_at table s;
-  code = code_at table s;
+  code = executed_code table s;
 }
 
 -- an entry ahead: how it is prepared, its row, what else is known of it, and the words that it

@@ -45,8 +45,8 @@ entry_shown own target n p follows = record {
 
 -- the entry at a place of a state is planned, by what is fetched there, by its runs of instruction
 -- words and by the index words
-pub record IsEntryPlanned (s : Machine) (x : List ℕ) (q : Place) (f : Fetched) (own target : WordRun)
-    (p : Prepared) (e : Planned) : Type 0 where
+pub record IsEntryPlanned (s : Machine) (x : List ℕ) (q : Place) (f : Fetched)
+    (own target : WordRun) (p : Prepared) (e : Planned) : Type 0 where
   pub plan : let v = sight_of q f x s in p ≡ prepared_entry v (side_of s v)
   pub entry : e.entry ≡ entry_shown own target (needs (sight_of q f x s)) p
       (is_none q.table && is_none f.fault)

@@ -7,7 +7,7 @@ use Rattle.st_bits.specs.Storage.{words_of_storage}
 use Rattle.st_bits.specs.declared.register.TheConstants.{FIRST_STORAGE_WORD}
 use Rattle.st_fetch.specs.Planned.{tick_of}
 use Rattle.st_prep.specs.declared.entries.Words.{Words}
-use Rattle.st_rows.specs.BusTimes.{Reading}
+use Rattle.st_rows.specs.BusTimes.{OperandReading}
 use Rattle.st_rows.specs.Entries.{latest_done}
 use Rattle.st_rows.specs.Rows.{fetch_word, fetch_words, is_forwarded, read_word, read_words, request_inside, wanted_from, words_tick, tick_a, tick_p, bus_a, operands}
 use Rattle.st_rows.specs.declared.bus.Bus.{Bus}
@@ -78,14 +78,14 @@ unfolding register_uses
 registers zero w = All-nil IsReadInTime
 registers (suc n) w = All-cons IsReadInTime _ (register_uses (w + 1) n) (register Operand w) (registers n (w + 1))
 
-operands-read : (n : ℕ) (ds : List ℕ) (past : List Past) (s : Reading) (p w : ℕ) → All IsReadInTime (operand_uses ds past s p w n)
+operands-read : (n : ℕ) (ds : List ℕ) (past : List Past) (s : OperandReading) (p w : ℕ) → All IsReadInTime (operand_uses ds past s p w n)
 unfolding operand_uses
 operands-read zero ds past s p w = All-nil IsReadInTime
 operands-read (suc n) ds past s p w =
     All-cons IsReadInTime _ (operand_uses ds past (read_word ds past s w p) p (w + 1) n) (stored Operand ds past s.bus w p)
     (operands-read n ds past (read_word ds past s w p) p (w + 1))
 
-run : (ds : List ℕ) (past : List Past) (s : Reading) (p w n : ℕ) (r : WordRun) → All IsReadInTime (run_uses ds past s p w n r)
+run : (ds : List ℕ) (past : List Past) (s : OperandReading) (p w n : ℕ) (r : WordRun) → All IsReadInTime (run_uses ds past s p w n r)
 run ds past s p w n r = All-append IsReadInTime _ _ (registers (n - r.len) w) (operands-read r.len ds past s p r.first)
 
 data-read : (ds : List ℕ) (past : List Past) (b : Bus) (p : ℕ) (reads : Words) (runs : WordRuns) → All IsReadInTime (data_uses ds past b p reads runs)

@@ -14,8 +14,8 @@ use Rattle.st_reasons.specs.declared.waits.Accepted.{Accepted}
 use Rattle.st_reasons.specs.declared.waits.Stall.{Stall}
 use Rattle.st_reasons.specs.declared.waits.Stall.TheVariants.{Turn, Bank, Storage}
 use Rattle.st_reasons.specs.declared.waits.Wait.{Wait}
-use Rattle.st_reasons.specs.Words.{IsReadInTime, is_read, read_of, is_answered, is_due, decides}
-use Rattle.st_reasons.specs.Waits.{piece, accepted, is_between, turns, read_waits, data_waits, held_waits, bus_waits, fetch_waits}
+use Rattle.st_reasons.specs.Words.{IsReadInTime, is_read, read_of, is_answered, is_answered_at, decides}
+use Rattle.st_reasons.specs.Waits.{wait_piece, acceptance_of, is_accepted_between, turns, read_waits, data_waits, held_waits, bus_waits, fetch_waits}
 use Rattle.st_reasons.specs.Sums.{all_stalled}
 use Rattle.st_reasons.proofs.Stands.{is_between-parts}
 
@@ -26,8 +26,8 @@ unfolding all_stalled
 all-append [] ys = omega arith
 all-append (x ∷ xs) ys = omega (arith, all-append xs ys)
 
-piece-ticks : (from to : ℕ) (why : Stall) (w v : ℕ) → all_stalled (piece from to why w v) ≡ to - from
-unfolding piece all_stalled
+piece-ticks : (from to : ℕ) (why : Stall) (w v : ℕ) → all_stalled (wait_piece from to why w v) ≡ to - from
+unfolding wait_piece all_stalled
 piece-ticks from to why w v = grind (arith, nat_tests)
 
 -- ---- a read
@@ -36,35 +36,35 @@ turns-ticks : (from w : ℕ) (next : Accepted) (older : List Use) → all_stalle
 unfolding turns
 turns-ticks from w next [] = piece-ticks from next.tick Bank w next.word
 turns-ticks from w next (u ∷ older) =
-    cond_both (is_between from next.tick u.supply) _ _ (λ xs. all_stalled xs ≡ next.tick - from)
+    cond_both (is_accepted_between from next.tick u.supply) _ _ (λ xs. all_stalled xs ≡ next.tick - from)
     (λ is.
     let ends = is_between-parts from next.tick u is in
     omega (
       arith,
       ends.0,
       ends.1,
-      all-append (piece ((accepted u).tick + 1) next.tick Bank w next.word)
-          (piece (accepted u).tick ((accepted u).tick + 1) Turn w u.word ++ turns from w (accepted u) older),
-      all-append (piece (accepted u).tick ((accepted u).tick + 1) Turn w u.word) (turns from w (accepted u) older),
-      piece-ticks ((accepted u).tick + 1) next.tick Bank w next.word,
-      piece-ticks (accepted u).tick ((accepted u).tick + 1) Turn w u.word,
-      turns-ticks from w (accepted u) older,
+      all-append (wait_piece ((acceptance_of u).tick + 1) next.tick Bank w next.word)
+          (wait_piece (acceptance_of u).tick ((acceptance_of u).tick + 1) Turn w u.word ++ turns from w (acceptance_of u) older),
+      all-append (wait_piece (acceptance_of u).tick ((acceptance_of u).tick + 1) Turn w u.word) (turns from w (acceptance_of u) older),
+      piece-ticks ((acceptance_of u).tick + 1) next.tick Bank w next.word,
+      piece-ticks (acceptance_of u).tick ((acceptance_of u).tick + 1) Turn w u.word,
+      turns-ticks from w (acceptance_of u) older,
     ))
     (λ is_not. turns-ticks from w next older)
 
 -- from its answer back to its want
 read-ticks : (from t : ℕ) (u : Use) (older : List Use) → IsReadInTime u → (read_of u.supply).accept ≤ t
     → all_stalled (read_waits from t u older) ≡ t - max from (read_of u.supply).want
-unfolding read_waits accepted
+unfolding read_waits acceptance_of
 read-ticks from t u older is early =
     omega (
       arith,
       is.wanted,
       early,
-      all-append (piece (max from (read_of u.supply).accept) t Storage u.word u.word)
-          (turns (max from (read_of u.supply).want) u.word (accepted u) older),
+      all-append (wait_piece (max from (read_of u.supply).accept) t Storage u.word u.word)
+          (turns (max from (read_of u.supply).want) u.word (acceptance_of u) older),
       piece-ticks (max from (read_of u.supply).accept) t Storage u.word u.word,
-      turns-ticks (max from (read_of u.supply).want) u.word (accepted u) older,
+      turns-ticks (max from (read_of u.supply).want) u.word (acceptance_of u) older,
     )
 
 -- a word that is answered at a tick is accepted by then
@@ -77,7 +77,7 @@ answered-by t Register order is = omega arith
 
 decided-by : (role : Role) (t : ℕ) (u : Use) (earlier : List Use) → IsReadInTime u → decides role t u earlier ≡ true
     → (read_of u.supply).accept ≤ t
-unfolding is_due
+unfolding is_answered_at
 decided-by role t u earlier is due = answered-by t u.supply is.answered (and_parts _ _ (and_parts _ _ due).0).1
 
 -- ---- what a row waits for
@@ -105,9 +105,9 @@ held-ticks from t w (u ∷ older) all =
     (λ no_read. held-ticks from t w older (All-tail IsReadInTime u older all))
 
 accepted-ticks : (from t : ℕ) (u : Use) (older : List Use) → (read_of u.supply).accept ≡ t
-    → all_stalled (turns (max from (read_of u.supply).want) u.word (accepted u) older) ≤ t - from
-unfolding accepted
-accepted-ticks from t u older at = omega (arith, at, turns-ticks (max from (read_of u.supply).want) u.word (accepted u) older)
+    → all_stalled (turns (max from (read_of u.supply).want) u.word (acceptance_of u) older) ≤ t - from
+unfolding acceptance_of
+accepted-ticks from t u older at = omega (arith, at, turns-ticks (max from (read_of u.supply).want) u.word (acceptance_of u) older)
 
 bus-ticks : (from t : ℕ) (before : List Use) → all_stalled (bus_waits from t before) ≤ t - from
 unfolding bus_waits all_stalled

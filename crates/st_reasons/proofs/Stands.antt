@@ -7,11 +7,11 @@ use Rattle.st_plain.specs.declared.uses.Use.{Use}
 use Rattle.st_reasons.specs.declared.waits.Accepted.{Accepted}
 use Rattle.st_reasons.specs.declared.waits.Stall.TheVariants.{Turn, Bank}
 use Rattle.st_reasons.specs.declared.waits.Wait.{Wait}
-use Rattle.st_reasons.specs.Waits.{piece, accepted, is_between, turns}
+use Rattle.st_reasons.specs.Waits.{wait_piece, acceptance_of, is_accepted_between, turns}
 
-pub is_between-parts : (from before : ℕ) (u : Use) → is_between from before u.supply ≡ true
-    → (from ≤ (accepted u).tick) × ((accepted u).tick < before)
-unfolding is_between accepted
+pub is_between-parts : (from before : ℕ) (u : Use) → is_accepted_between from before u.supply ≡ true
+    → (from ≤ (acceptance_of u).tick) × ((acceptance_of u).tick < before)
+unfolding is_accepted_between acceptance_of
 is_between-parts from before u is =
     let both = and_parts _ _ is in
     let ends = and_parts _ _ both.1 in
@@ -26,19 +26,19 @@ turns_none from w next all older ws is = ap (λ us. ws ++ turns from w next (us 
 by_word : ℕ → ℕ → Accepted → Use → List Use → Bool → List Wait
 by_word from w next u older b =
     if b
-    then piece ((accepted u).tick + 1) next.tick Bank w next.word
-    ++ (piece (accepted u).tick ((accepted u).tick + 1) Turn w u.word
-    ++ turns from w (accepted u) older)
+    then wait_piece ((acceptance_of u).tick + 1) next.tick Bank w next.word
+    ++ (wait_piece (acceptance_of u).tick ((acceptance_of u).tick + 1) Turn w u.word
+    ++ turns from w (acceptance_of u) older)
     else turns from w next older
 
 word_first : (from w : ℕ) (next : Accepted) (u : Use) (all rest older : List Use) (b : Bool) → all ≡ u ∷ rest
-    → is_between from next.tick u.supply ≡ b → turns from w next (all ++ older) ≡ by_word from w next u (rest ++ older) b
+    → is_accepted_between from next.tick u.supply ≡ b → turns from w next (all ++ older) ≡ by_word from w next u (rest ++ older) b
 unfolding turns by_word
 word_first from w next u all rest older b is same =
     ap (λ us. turns from w next (us ++ older)) is ∙ ap (λ c. by_word from w next u (rest ++ older) c) same
 
 pub turns_past : (from w : ℕ) (next behind : Accepted) (u : Use) (all rest older : List Use) (ws now : List Wait) → all ≡ u ∷ rest
-    → is_between from next.tick u.supply ≡ false
+    → is_accepted_between from next.tick u.supply ≡ false
     → now ++ turns from w behind older ≡ ws ++ turns from w next (rest ++ older)
     → now ++ turns from w behind older ≡ ws ++ turns from w next (all ++ older)
 unfolding by_word
@@ -46,10 +46,10 @@ turns_past from w next behind u all rest older ws now is no_one h =
     h ∙ ap (λ xs. ws ++ xs) (sym (word_first from w next u all rest older false is no_one))
 
 one_here : (from w : ℕ) (next behind : Accepted) (u : Use) (all rest older : List Use) (ws one two now : List Wait) → all ≡ u ∷ rest
-    → is_between from next.tick u.supply ≡ true
-    → one ≡ ws ++ piece ((accepted u).tick + 1) next.tick Bank w next.word
-    → two ≡ one ++ piece (accepted u).tick ((accepted u).tick + 1) Turn w u.word
-    → now ++ turns from w behind older ≡ two ++ turns from w (accepted u) (rest ++ older)
+    → is_accepted_between from next.tick u.supply ≡ true
+    → one ≡ ws ++ wait_piece ((acceptance_of u).tick + 1) next.tick Bank w next.word
+    → two ≡ one ++ wait_piece (acceptance_of u).tick ((acceptance_of u).tick + 1) Turn w u.word
+    → now ++ turns from w behind older ≡ two ++ turns from w (acceptance_of u) (rest ++ older)
     → now ++ turns from w behind older ≡ ws ++ turns from w next (all ++ older)
 unfolding by_word
 one_here from w next behind u all rest older ws one two now is is_one h k l =
@@ -57,22 +57,22 @@ one_here from w next behind u all rest older ws one two now is is_one h k l =
     l ∙ rw (k, h) (simp append_assoc refl) ∙ ap (λ xs. ws ++ xs) (sym here)
 
 pub turns_one : (from w tick : ℕ) (next behind read : Accepted) (u : Use) (all rest older : List Use) (ws one two now : List Wait) → all ≡ u ∷ rest
-    → is_between from next.tick u.supply ≡ true → read ≡ accepted u → tick ≡ read.tick + 1
-    → one ≡ ws ++ piece tick next.tick Bank w next.word
-    → two ≡ one ++ piece read.tick tick Turn w u.word
+    → is_accepted_between from next.tick u.supply ≡ true → read ≡ acceptance_of u → tick ≡ read.tick + 1
+    → one ≡ ws ++ wait_piece tick next.tick Bank w next.word
+    → two ≡ one ++ wait_piece read.tick tick Turn w u.word
     → now ++ turns from w behind older ≡ two ++ turns from w read (rest ++ older)
     → now ++ turns from w behind older ≡ ws ++ turns from w next (all ++ older)
 turns_one from w tick next behind read u all rest older ws one two now is is_one same is_tick h k l =
     one_here from w next behind u all rest older ws one two now is is_one
-    (h ∙ ap (λ n. ws ++ piece n next.tick Bank w next.word) is_tick ∙ ap (λ r. ws ++ piece (r.tick + 1) next.tick Bank w next.word) same)
-    (k ∙ ap (λ n. one ++ piece read.tick n Turn w u.word) is_tick ∙ ap (λ r. one ++ piece r.tick (r.tick + 1) Turn w u.word) same)
+    (h ∙ ap (λ n. ws ++ wait_piece n next.tick Bank w next.word) is_tick ∙ ap (λ r. ws ++ wait_piece (r.tick + 1) next.tick Bank w next.word) same)
+    (k ∙ ap (λ n. one ++ wait_piece read.tick n Turn w u.word) is_tick ∙ ap (λ r. one ++ wait_piece r.tick (r.tick + 1) Turn w u.word) same)
     (l ∙ ap (λ r. two ++ turns from w r (rest ++ older)) same)
 
 -- the words of the row, and then those of the row before
 pub turns_all : (from w : ℕ) (next here there : Accepted) (earlier before : List Use) (ws one two now : List Wait)
     → one ++ turns from w here (before ++ []) ≡ ws ++ turns from w next (earlier ++ (before ++ []))
     → two ++ turns from w there [] ≡ one ++ turns from w here (before ++ [])
-    → now ≡ two ++ piece from there.tick Bank w there.word
+    → now ≡ two ++ wait_piece from there.tick Bank w there.word
     → now ≡ ws ++ turns from w next (earlier ++ before)
 unfolding turns
 turns_all from w next here there earlier before ws one two now h k l =

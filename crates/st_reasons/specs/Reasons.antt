@@ -98,16 +98,16 @@ reason_of_address f e t before words =
 -- ---- the row
 
 -- the writer of a word that is forwarded
-unfoldable pub writer_of : Supply → Option Writer
-writer_of (Read r) = None
-writer_of (Held answer) = None
-writer_of (Forwarded w) = Some w
-writer_of Register = None
+unfoldable pub writer_of_supply : Supply → Option Writer
+writer_of_supply (Read r) = None
+writer_of_supply (Held answer) = None
+writer_of_supply (Forwarded w) = Some w
+writer_of_supply Register = None
 
 -- that of the index-side word, if it is
 unfoldable pub side_writer : List Use → Option Writer
 side_writer [] = None
-side_writer (u ∷ uses) = if is_index u.role then writer_of u.supply else side_writer uses
+side_writer (u ∷ uses) = if is_index u.role then writer_of_supply u.supply else side_writer uses
 
 abbrev pub reason_of_side : Option Writer → ℕ → Because → Because
 reason_of_side (Some w) a other = row_reason Forwarding w.back w.done (w.done - a)

@@ -17,38 +17,38 @@ use Rattle.st_reasons.specs.declared.waits.Wait.{Wait}
 
 -- the ticks behind one, up to another, where there are any, in which the word w waited so for the
 -- read of the word v
-unfoldable pub piece : ℕ → ℕ → Stall → ℕ → ℕ → List Wait
-piece from to why w v =
+unfoldable pub wait_piece : ℕ → ℕ → Stall → ℕ → ℕ → List Wait
+wait_piece from to why w v =
     if nat_lt from to then record { from = from; to = to; why = why; word = w; read = v } ∷ []
     else []
 
 -- ---- a read
 
 -- it was accepted at a tick
-unfoldable pub accepted : Use → Accepted
-accepted u = record { word = u.word; tick = (read_of u.supply).accept }
+unfoldable pub acceptance_of : Use → Accepted
+acceptance_of u = record { word = u.word; tick = (read_of u.supply).accept }
 
 -- at one from the tick `from` on that lies before another
-unfoldable pub is_between : ℕ → ℕ → Supply → Bool
-is_between from before s =
+unfoldable pub is_accepted_between : ℕ → ℕ → Supply → Bool
+is_accepted_between from before s =
     is_read s && (nat_le from (read_of s).accept && nat_lt (read_of s).accept before)
 
 -- the word w waits for its acceptance from the tick `from` on: each read before it that is accepted
 -- meanwhile has one tick of the bus, and in the others the read that is next waits for its bank
 unfoldable pub turns : ℕ → ℕ → Accepted → List Use → List Wait
-turns from w next [] = piece from next.tick Bank w next.word
+turns from w next [] = wait_piece from next.tick Bank w next.word
 turns from w next (u ∷ older) =
-    if is_between from next.tick u.supply
-    then piece ((accepted u).tick + 1) next.tick Bank w next.word
-    ++ (piece (accepted u).tick ((accepted u).tick + 1) Turn w u.word
-    ++ turns from w (accepted u) older)
+    if is_accepted_between from next.tick u.supply
+    then wait_piece ((acceptance_of u).tick + 1) next.tick Bank w next.word
+    ++ (wait_piece (acceptance_of u).tick ((acceptance_of u).tick + 1) Turn w u.word
+    ++ turns from w (acceptance_of u) older)
     else turns from w next older
 
 -- a word is waited for behind the tick `from` up to t, at which it is answered
 unfoldable pub read_waits : ℕ → ℕ → Use → List Use → List Wait
 read_waits from t u older =
-    piece (max from (read_of u.supply).accept) t Storage u.word u.word
-    ++ turns (max from (read_of u.supply).want) u.word (accepted u) older
+    wait_piece (max from (read_of u.supply).accept) t Storage u.word u.word
+    ++ turns (max from (read_of u.supply).want) u.word (acceptance_of u) older
 
 -- ---- what a row waits for
 
@@ -62,7 +62,7 @@ data_waits role from t before (u ∷ earlier) =
 -- an instruction word that is held: its read, where it is one of the row before, or else that it
 -- was on its way
 unfoldable pub held_waits : ℕ → ℕ → ℕ → List Use → List Wait
-held_waits from t w [] = piece from t Storage w w
+held_waits from t w [] = wait_piece from t Storage w w
 held_waits from t w (u ∷ older) =
     if is_read u.supply && (nat_eq u.word w && nat_eq (read_of u.supply).answer t)
     then read_waits from t u older
@@ -74,7 +74,7 @@ bus_waits from t [] = []
 bus_waits from t (u ∷ older) =
     if is_read u.supply
     then if nat_eq (read_of u.supply).accept t
-    then turns (max from (read_of u.supply).want) u.word (accepted u) older
+    then turns (max from (read_of u.supply).want) u.word (acceptance_of u) older
     else []
     else bus_waits from t older
 

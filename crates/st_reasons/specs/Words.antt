@@ -61,12 +61,12 @@ is_answered t (Forwarded w) = false
 is_answered t Register = false
 
 -- a word of this role that is answered at the tick t
-unfoldable pub is_due : Role → ℕ → Use → Bool
-is_due role t u = is_role role u.role && is_answered t u.supply
+unfoldable pub is_answered_at : Role → ℕ → Use → Bool
+is_answered_at role t u = is_role role u.role && is_answered t u.supply
 
 -- it is the first one that is, where these are the words before it
 abbrev pub decides : Role → ℕ → Use → List Use → Bool
-decides role t u earlier = is_due role t u && not (list_any (is_due role t) earlier)
+decides role t u earlier = is_answered_at role t u && not (list_any (is_answered_at role t) earlier)
 
 -- ---- what holds of words
 

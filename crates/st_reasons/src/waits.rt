@@ -2,7 +2,7 @@
 ghost use Rattle.std.specs.Prelude.{◌≡◌, ◌+◌, ◌*◌, ◌≤◌, ◌<◌, ◌++◌, ◌∷◌, [], List, length, take, reverse, max, if◌then◌else◌, nat_eq, ◌&&◌};
 ghost use Rattle.st_plain.specs.declared.uses.Use.{Use as UseOf};
 ghost use Rattle.st_reasons.specs.Words.{is_read as is_read_of, read_of as read_by};
-ghost use Rattle.st_reasons.specs.Waits.{piece, accepted as accepted_of, is_between as is_between_of, turns, read_waits, data_waits, held_waits, bus_waits, fetch_waits, stage_waits, charge_waits};
+ghost use Rattle.st_reasons.specs.Waits.{wait_piece, acceptance_of as accepted_of, is_accepted_between as is_between_of, turns, read_waits, data_waits, held_waits, bus_waits, fetch_waits, stage_waits, charge_waits};
 
 use crate::uses::{decides, is_read, last_use, read_of};
 use arrayvec::ArrayVec;
@@ -66,7 +66,8 @@ struct Span {
 #[inline(always)]
 fn add_piece(waits: &mut Waits, span: Span, why: Stall, word: u32, read: u32)
     requires { length waits.old.items < 514 }
-    ensures items { waits.new.items ≡ waits.old.items ++ piece span.from span.to why word read }
+    ensures items { waits.new.items
+        ≡ waits.old.items ++ wait_piece span.from span.to why word read }
     ensures room { length waits.new.items ≤ length waits.old.items + 1 }
 {
     let Span { from, to } = span;

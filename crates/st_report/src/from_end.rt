@@ -128,8 +128,8 @@ impl LineFromEnd {
         self.put_end(*digits, start);
     }
 
-    // Puts a number below 100 before the line: its two digits, without the first one where that is a
-    // zero before its own.
+    // Puts a number below 100 before the line: its two digits, without the first one where that is
+    // a zero before its own.
     #[inline(always)]
     fn put_few(&mut self, n: u64)
         requires few { n < 100 }

@@ -1,7 +1,7 @@
 -- The writers of all instruction words of an entry are awaited.
 use Rattle.std.proofs.Common.{◌≡◌, ℕ, zero, suc, true, false, ◌+◌, ◌<◌, ◌≤◌, max, List, refl, arith}
 use Rattle.std.specs.Prelude.{Bool, if◌then◌else◌}
-use Rattle.st_rows.specs.BusTimes.{Reading, bus_after_read, answer_at}
+use Rattle.st_rows.specs.BusTimes.{OperandReading, bus_after_read, answer_at}
 use Rattle.st_rows.specs.Entries.{latest_done}
 use Rattle.st_rows.specs.Rows.{fetch_word, fetch_words, wanted_from, words_tick, is_forwarded, read_word, read_words, operands_read, tick_p, bus_a, operands}
 use Rattle.st_rows.specs.declared.past.Past.{Past}
@@ -39,12 +39,12 @@ module _ (ds : List ℕ) (f : Front) (e : Entry) (i : ℕ) where
 
 -- answers only come later
 module _ (ds : List ℕ) (past : List Past) (p : ℕ) where
-  ready-later_if : (late : Bool) (s : Reading) (w : ℕ)
+  ready-later_if : (late : Bool) (s : OperandReading) (w : ℕ)
       → s.answered ≤ (if late then s else record { bus = bus_after_read ds s.bus w p; answered = max s.answered (answer_at ds s.bus w p) }).answered
   ready-later_if true s w = omega arith
   ready-later_if false s w = omega arith
 
-  pub ready-later : (s : Reading) (w n : ℕ) → s.answered ≤ (read_words ds past s p w n).answered
+  pub ready-later : (s : OperandReading) (w n : ℕ) → s.answered ≤ (read_words ds past s p w n).answered
   unfolding read_word read_words
   ready-later s w zero = omega arith
   ready-later s w (suc n) =
@@ -55,7 +55,7 @@ pub ready-after : (ds : List ℕ) (n : ℕ) (f : Front) (e : Entry) → tick_p d
 unfolding operands operands_read
 ready-after ds n f e =
     let p = tick_p ds n f e in
-    let start : Reading = record { bus = bus_a ds f e; answered = p } in
+    let start : OperandReading = record { bus = bus_a ds f e; answered = p } in
     omega (
       arith,
       ready-later ds f.past p start e.reads.one.first e.reads.one.len,

@@ -2,7 +2,7 @@
 use Rattle.std.specs.Prelude.{if◌then◌else◌, nat_lt, Bool}
 use Rattle.std.proofs.Common.{◌≡◌, ℕ, zero, suc, ◌+◌, ◌<◌, ◌≤◌, max, true, false, List, get_or, refl, ap, ◌∙◌, arith}
 use Rattle.std.proofs.lemmas.Bool.{ltb-true, lt-ltb}
-use Rattle.st_rows.specs.BusTimes.{Reading, accept_at, bus_after_read, answer_at}
+use Rattle.st_rows.specs.BusTimes.{OperandReading, accept_at, bus_after_read, answer_at}
 use Rattle.st_rows.specs.Entries.{latest_done}
 use Rattle.st_rows.specs.Ranges.{AreDelaysUpTo, ArePastWithin, IsTight}
 use Rattle.st_rows.specs.Rows.{is_forwarded, read_word, read_words, operands_read, fill_at, fills_of, fills, tick_p, bus_a, operands}
@@ -37,22 +37,22 @@ module _ (most : ℕ) (ds : List ℕ) (are : AreDelaysUpTo most ds) (past : List
 -- ---- not after the operands and the last completion
 
 module _ (ds : List ℕ) (past : List Past) (p c : ℕ) (before : ArePastWithin c past) where
-  fill-early_if : (late : Bool) (s : Reading) (w : ℕ)
+  fill-early_if : (late : Bool) (s : OperandReading) (w : ℕ)
       → (if late then latest_done past w else answer_at ds s.bus w p)
       ≤ max (if late then s else record { bus = bus_after_read ds s.bus w p; answered = max s.answered (answer_at ds s.bus w p) }).answered c
   fill-early_if true s w = omega (arith, latest-within c past w before)
   fill-early_if false s w = omega arith
 
-  fill-early : (s : Reading) (w : ℕ) → fill_at ds past s.bus w p ≤ max (read_word ds past s w p).answered c
+  fill-early : (s : OperandReading) (w : ℕ) → fill_at ds past s.bus w p ≤ max (read_word ds past s w p).answered c
   unfolding fill_at read_word
   fill-early s w = fill-early_if (is_forwarded past w p) s w
 
-  first-early : (s : Reading) (w n : ℕ) → (if nat_lt 0 n then fill_at ds past s.bus w p else 0) ≤ max (read_words ds past s p w n).answered c
+  first-early : (s : OperandReading) (w n : ℕ) → (if nat_lt 0 n then fill_at ds past s.bus w p else 0) ≤ max (read_words ds past s p w n).answered c
   unfolding read_words
   first-early s w zero = omega arith
   first-early s w (suc n) = rw (lt-ltb 0 (suc n) (omega arith)) (omega (arith, fill-early s w, ready-later ds past p (read_word ds past s w p) (w + 1) n))
 
-  second-early : (s : Reading) (w n : ℕ)
+  second-early : (s : OperandReading) (w n : ℕ)
       → (if nat_lt 1 n then fill_at ds past (read_word ds past s w p).bus (w + 1) p else 0) ≤ max (read_words ds past s p w n).answered c
   unfolding read_words
   second-early s w zero = omega arith
@@ -71,17 +71,17 @@ module _ (ds : List ℕ) (past : List Past) (p c : ℕ) (before : ArePastWithin 
 -- ---- the latest of two decides, where there are no more
 
 module _ (ds : List ℕ) (past : List Past) (p c : ℕ) (before : ArePastWithin c past) where
-  fill-step_if : (late : Bool) (s : Reading) (w : ℕ)
+  fill-step_if : (late : Bool) (s : OperandReading) (w : ℕ)
       → max (if late then s else record { bus = bus_after_read ds s.bus w p; answered = max s.answered (answer_at ds s.bus w p) }).answered c
       ≡ max (max s.answered c) (if late then latest_done past w else answer_at ds s.bus w p)
   fill-step_if true s w = omega (arith, latest-within c past w before)
   fill-step_if false s w = omega arith
 
-  fill-step : (s : Reading) (w : ℕ) → max (read_word ds past s w p).answered c ≡ max (max s.answered c) (fill_at ds past s.bus w p)
+  fill-step : (s : OperandReading) (w : ℕ) → max (read_word ds past s w p).answered c ≡ max (max s.answered c) (fill_at ds past s.bus w p)
   unfolding fill_at read_word
   fill-step s w = fill-step_if (is_forwarded past w p) s w
 
-  few-decide : (s : Reading) (w n : ℕ) → n ≤ 2
+  few-decide : (s : OperandReading) (w n : ℕ) → n ≤ 2
       → max (read_words ds past s p w n).answered c
       ≡ max (max s.answered c) (max ((if nat_lt 0 n then fill_at ds past s.bus w p else 0)) ((if nat_lt 1 n then fill_at ds past (read_word ds past s w p).bus (w + 1) p else 0)))
   unfolding read_words
@@ -96,7 +96,7 @@ module _ (ds : List ℕ) (past : List Past) (p c : ℕ) (before : ArePastWithin 
   unfolding fills_of
   two-decide b run few = few-decide (record { bus = b; answered = p }) run.first run.len few
 
-no-more : (ds : List ℕ) (past : List Past) (s : Reading) (p w n : ℕ) → n ≡ 0 → read_words ds past s p w n ≡ s
+no-more : (ds : List ℕ) (past : List Past) (s : OperandReading) (p w n : ℕ) → n ≡ 0 → read_words ds past s p w n ≡ s
 unfolding read_words
 no-more ds past s p w n none = rw none refl
 
@@ -104,7 +104,7 @@ pub fills-decide : (most n : ℕ) (ds : List ℕ) (f : Front) (e : Entry) → Is
     → max (operands ds n f e).answered f.c ≡ max (max (tick_p ds n f e) f.c) (max (get_or (fills ds n f e) 0 0) (get_or (fills ds n f e) 1 0))
 unfolding operands operands_read
 fills-decide most n ds f e tight few none =
-    ap (λ (s : Reading). max s.answered f.c) (no-more ds f.past _ (tick_p ds n f e) e.reads.two.first e.reads.two.len none)
+    ap (λ (s : OperandReading). max s.answered f.c) (no-more ds f.past _ (tick_p ds n f e) e.reads.two.first e.reads.two.len none)
     ∙ two-decide ds f.past (tick_p ds n f e) f.c tight.done (bus_a ds f e) e.reads.one few
 
 pub fills-ready : (most n i : ℕ) (ds : List ℕ) (f : Front) (e : Entry) → IsTight most f → get_or (fills ds n f e) i 0 ≤ max (operands ds n f e).answered f.c

@@ -4,7 +4,7 @@ use Rattle.std.proofs.Common.{◌≡◌, ℕ, zero, suc, ◌+◌, ◌-◌, ◌<�
 use Rattle.std.proofs.lemmas.Bool.{cases_Bool, cases_lt, ltb-true}
 use Rattle.std.proofs.lemmas.List.{get_or-take}
 use Rattle.std.proofs.lemmas.List.Elements.{All-from_get_or}
-use Rattle.st_rows.specs.BusTimes.{Reading, bus_after_read, answer_at, bus_after_request, answer_tick_on}
+use Rattle.st_rows.specs.BusTimes.{OperandReading, bus_after_read, answer_at, bus_after_request, answer_tick_on}
 use Rattle.st_rows.specs.Entries.{is_among, latest_done, no_runs}
 use Rattle.st_rows.specs.Levels.{AreInOrder, AreOlderDone, front_of_last}
 use Rattle.st_rows.specs.Rows.{fetch_word, fetch_words, wanted_from, words_tick, address_tick, bus_sided, side_there, done_before, preparation_tick, read_word, read_words, operands_read, tick_a, bus_a, tick_y, tick_p, operands, tick_c, row_of_entry, front_after_entry}
@@ -103,24 +103,24 @@ module _ (ds : List ℕ) (p : ℕ) (few past : List Past) (alike : (w : ℕ) →
   same-there b None a late = refl
   same-there b (Some w) a late = same-there_if w a (latest_done few w) (latest_done past w) b late (alike w)
 
-  same-read_if : (s : Reading) (w q x y : ℕ) → p < q → AreAlike p x y
+  same-read_if : (s : OperandReading) (w q x y : ℕ) → p < q → AreAlike p x y
       → (if nat_lt q x then s else record { bus = bus_after_read ds s.bus w q; answered = max s.answered (answer_at ds s.bus w q) })
       ≡ (if nat_lt q y then s else record { bus = bus_after_read ds s.bus w q; answered = max s.answered (answer_at ds s.bus w q) })
   same-read_if s w q x y late (inl same) = rw same refl
   same-read_if s w q x y late (inr old) = rw (not-later q x (omega (arith, old.0)), not-later q y (omega (arith, old.1))) refl
 
-  same-reads : (q : ℕ) (s : Reading) (w n : ℕ) → p < q → read_words ds few s q w n ≡ read_words ds past s q w n
+  same-reads : (q : ℕ) (s : OperandReading) (w n : ℕ) → p < q → read_words ds few s q w n ≡ read_words ds past s q w n
   unfolding read_words read_word
   same-reads q s w zero late = refl
   same-reads q s w (suc n) late =
-      ap (λ (t : Reading). read_words ds few t q (w + 1) n) (same-read_if s w q (latest_done few w) (latest_done past w) late (alike w))
+      ap (λ (t : OperandReading). read_words ds few t q (w + 1) n) (same-read_if s w q (latest_done few w) (latest_done past w) late (alike w))
       ∙ same-reads q (read_word ds past s w q) (w + 1) n late
 
   same-operands : (b : Bus) (reads : WordRuns) (q : ℕ) → p < q → operands_read ds few b reads q ≡ operands_read ds past b reads q
   unfolding operands_read
   same-operands b reads q late =
-      let start : Reading = record { bus = b; answered = q } in
-      ap (λ (t : Reading). read_words ds few t q reads.two.first reads.two.len) (same-reads q start reads.one.first reads.one.len late)
+      let start : OperandReading = record { bus = b; answered = q } in
+      ap (λ (t : OperandReading). read_words ds few t q reads.two.first reads.two.len) (same-reads q start reads.one.first reads.one.len late)
       ∙ same-reads q (read_words ds past start q reads.one.first reads.one.len) reads.two.first reads.two.len late
 
 -- ---- the whole

@@ -5,7 +5,7 @@ use Rattle.std.proofs.lemmas.Bool.{cases_Bool, ltb-true}
 use Rattle.st_bits.specs.Storage.{words_of_storage}
 use Rattle.st_fetch.specs.Planned.{tick_of}
 use Rattle.st_rows.specs.Asked.{Read, word_asked, words_asked, data_asked, side_asked, operands_asked, inside_asked, runs_asked, following_asked, fetches_asked, reads_of_entry, after_one, bus_after_reads, made_before, side_count, own_reads}
-use Rattle.st_rows.specs.BusTimes.{Reading, accept_at, answer_at, bus_after_read, requested_if, bus_after_request}
+use Rattle.st_rows.specs.BusTimes.{OperandReading, accept_at, answer_at, bus_after_read, requested_if, bus_after_request}
 use Rattle.st_rows.specs.Ranges.{AreDelaysUpTo, IsNear}
 use Rattle.st_rows.specs.Rows.{fetch_word, fetch_words, wanted_from, words_tick, is_forwarded, bus_sided, read_word, read_words, operands_read, request_inside, bus_followed, tick_a, bus_a, tick_p, operands, front_after_entry}
 use Rattle.st_rows.specs.declared.bus.Bus.{Bus}
@@ -45,14 +45,14 @@ module _ (ds : List ℕ) where
   data_if true w tick b = refl
   data_if false w tick b = refl
 
-  bus_if : (late : Bool) (s : Reading) (w p : ℕ)
+  bus_if : (late : Bool) (s : OperandReading) (w p : ℕ)
       → (if late then s.bus else bus_after_read ds s.bus w p)
       ≡ (if late then s else record { bus = bus_after_read ds s.bus w p; answered = max s.answered (answer_at ds s.bus w p) }).bus
   bus_if true s w p = refl
   bus_if false s w p = refl
 
   -- an operand word
-  pub served-data : (past : List Past) (w p : ℕ) (s : Reading) → bus_after_reads ds (data_asked past w p) s.bus ≡ (read_word ds past s w p).bus
+  pub served-data : (past : List Past) (w p : ℕ) (s : OperandReading) → bus_after_reads ds (data_asked past w p) s.bus ≡ (read_word ds past s w p).bus
   unfolding read_word
   served-data past w p s = data_if (is_forwarded past w p) w p s.bus ∙ bus_if (is_forwarded past w p) s w p
 
@@ -61,7 +61,7 @@ module _ (ds : List ℕ) where
   served-side past None a b = served-none b
   served-side past (Some w) a b = data_if (is_forwarded past w a) w a b
 
-  pub served-operands : (past : List Past) (p : ℕ) (s : Reading) (w n : ℕ)
+  pub served-operands : (past : List Past) (p : ℕ) (s : OperandReading) (w n : ℕ)
       → bus_after_reads ds (operands_asked past p w n) s.bus ≡ (read_words ds past s p w n).bus
   unfolding operands_asked read_words read_word
   served-operands past p s w zero = served-none s.bus
@@ -104,7 +104,7 @@ module _ (ds : List ℕ) where
   unfolding operands operands_read
   served-runs n f e =
       let p = tick_p ds n f e in
-      let start : Reading = record { bus = bus_a ds f e; answered = p } in
+      let start : OperandReading = record { bus = bus_a ds f e; answered = p } in
       let one = operands_asked f.past p e.reads.one.first e.reads.one.len in
       let two = operands_asked f.past p e.reads.two.first e.reads.two.len in
       served-append one two (bus_a ds f e)
@@ -124,7 +124,7 @@ module _ (ds : List ℕ) where
       let two = operands_asked f.past p e.reads.two.first e.reads.two.len in
       let side = side_asked f.past e.side (tick_a ds f e) in
       let next = following_asked ds (operands ds n f e).bus e p in
-      let start : Reading = record { bus = bus_a ds f e; answered = p } in
+      let start : OperandReading = record { bus = bus_a ds f e; answered = p } in
       let first = read_words ds f.past start p e.reads.one.first e.reads.one.len in
       let all = fetches_asked ds f e in
       served-append (all ++ side ++ one ++ two) next f.bus

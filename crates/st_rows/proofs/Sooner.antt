@@ -13,7 +13,7 @@ use Rattle.st_banks.specs.Bank.{bank_of, last_of}
 use Rattle.st_banks.specs.Delay.{delay}
 use Rattle.st_fetch.specs.Planned.{tick_of}
 use Rattle.st_fetch.specs.declared.fetched.AskedWord.{AskedWord}
-use Rattle.st_rows.specs.BusTimes.{Reading, accept_at, answer_at, bus_after_read, requested_if, answer_if, bus_after_request, answer_tick_on}
+use Rattle.st_rows.specs.BusTimes.{OperandReading, accept_at, answer_at, bus_after_read, requested_if, answer_if, bus_after_request, answer_tick_on}
 use Rattle.st_rows.specs.Entries.{is_in, is_among, latest_done, no_runs}
 use Rattle.st_rows.specs.Levels.{AreEqual, IsHeldSooner, IsBusSooner, IsPastSooner, IsFrontSooner, IsRowSooner, AreInOrder, IsUnwritten, IsHazardFree, AreHazardFree, AreCovered, rows_of_entries}
 use Rattle.st_rows.specs.Rows.{fetch_word, fetch_words, wanted_from, words_tick, address_tick, is_forwarded, bus_sided, side_there, preparation_tick, read_word, read_words, operands_read, request_inside, bus_followed, tick_a, bus_a, tick_y, tick_p, operands, tick_c, opening_front, row_of_entry, front_after_entry}
@@ -177,11 +177,11 @@ module _ (d : ℕ) (ds : List ℕ) (are : AreEqual d ds) where
 
     -- ---- operands that no entry writes
 
-    record IsReadingSooner (s t : Reading) : Type 0 where
+    record IsReadingSooner (s t : OperandReading) : Type 0 where
       bus : IsBusSooner s.bus t.bus
       answered : s.answered ≤ t.answered
 
-    read_word-sooner : (p q : ℕ) (s t : Reading) (w : ℕ) → p ≤ q → All (λ entry. is_among w entry.writes ≡ false) past → IsReadingSooner s t
+    read_word-sooner : (p q : ℕ) (s t : OperandReading) (w : ℕ) → p ≤ q → All (λ entry. is_among w entry.writes ≡ false) past → IsReadingSooner s t
         → IsReadingSooner (read_word ds past s w p) (read_word ds late t w q)
     unfolding read_word
     read_word-sooner p q s t w low none is =
@@ -190,7 +190,7 @@ module _ (d : ℕ) (ds : List ℕ) (are : AreEqual d ds) where
           answered = omega (arith, is.answered, answer-sooner s.bus t.bus w p q is.bus low);
         })
 
-    read_words-sooner : (p q : ℕ) (s t : Reading) (w n : ℕ) → p ≤ q
+    read_words-sooner : (p q : ℕ) (s t : OperandReading) (w n : ℕ) → p ≤ q
         → ((v : ℕ) → w ≤ v → v < w + n → All (λ entry. is_among v entry.writes ≡ false) past) → IsReadingSooner s t
         → IsReadingSooner (read_words ds past s p w n) (read_words ds late t q w n)
     unfolding read_words

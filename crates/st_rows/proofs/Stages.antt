@@ -4,7 +4,7 @@ use Rattle.std.specs.Prelude.{IfSome, ◌||◌, if◌then◌else◌}
 use Rattle.std.proofs.Math.Nat.{max-le, mul-le-mul_right}
 use Rattle.std.proofs.lemmas.List.Elements.{All-head, All-tail, All-weaker}
 use Rattle.st_fetch.specs.declared.fetched.AskedWord.{AskedWord}
-use Rattle.st_rows.specs.BusTimes.{Reading, answer_at, bus_after_read}
+use Rattle.st_rows.specs.BusTimes.{OperandReading, answer_at, bus_after_read}
 use Rattle.st_rows.specs.Entries.{latest_done, no_runs}
 use Rattle.st_rows.specs.Ranges.{AreDelaysUpTo, IsBusWithin, IsFetchingWithin, IsReadingWithin, ArePastWithin, IsTight, IsEntryInTime}
 use Rattle.st_rows.specs.Rows.{fetch_words, wanted_from, words_tick, address_tick, is_forwarded, bus_sided, side_there, preparation_tick, read_words, operands_read, tick_a, bus_a, tick_y, tick_p, operands, tick_c}
@@ -69,7 +69,7 @@ module _ (most : ℕ) (ds : List ℕ) (are : AreDelaysUpTo most ds) where
   side-within past b (Some w) a m before is early = side_if-within (is_forwarded past w a) past b w a m before is early
 
   -- the operands
-  pub read_sixteen-within : (past : List Past) (p w n m : ℕ) (s : Reading) → n ≤ 16 → IsReadingWithin m s → p ≤ m
+  pub read_sixteen-within : (past : List Past) (p w n m : ℕ) (s : OperandReading) → n ≤ 16 → IsReadingWithin m s → p ≤ m
       → IsReadingWithin (m + 16 * (most + 1)) (read_words ds past s p w n)
   read_sixteen-within past p w n m s few is early =
       let less : n * (most + 1) ≤ 16 * (most + 1) = mul-le-mul_right (most + 1) few in

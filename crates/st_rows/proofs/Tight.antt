@@ -7,7 +7,7 @@ use Rattle.st_bits.specs.Storage.{words_of_storage}
 use Rattle.st_banks.specs.Bank.{bank_of}
 use Rattle.st_fetch.specs.Planned.{tick_of}
 use Rattle.st_fetch.specs.declared.fetched.AskedWord.{AskedWord}
-use Rattle.st_rows.specs.BusTimes.{Reading, accept_at, answer_at, bus_after_read, requested_if, answer_if, bus_after_request, answer_tick_on}
+use Rattle.st_rows.specs.BusTimes.{OperandReading, accept_at, answer_at, bus_after_read, requested_if, answer_if, bus_after_request, answer_tick_on}
 use Rattle.st_rows.specs.Entries.{latest_done}
 use Rattle.st_rows.specs.Ranges.{AreDelaysUpTo, IsNear, IsTight, IsEntryInTime}
 use Rattle.st_rows.specs.Rows.{fetch_word, fetch_words, wanted_from, words_tick, address_tick, is_forwarded, bus_sided, side_there, preparation_tick, read_word, read_words, operands_read, request_inside, bus_followed, tick_a, bus_a, tick_y, tick_p, operands, tick_c, front_after_entry}
@@ -102,35 +102,35 @@ module _ (most : ℕ) (ds : List ℕ) (are : AreDelaysUpTo most ds) where
 
   -- ---- operands
 
-  near-read_if : (late : Bool) (past : List Past) (s : Reading) (w p : ℕ) → IsNear most s.bus
+  near-read_if : (late : Bool) (past : List Past) (s : OperandReading) (w p : ℕ) → IsNear most s.bus
       → IsNear most (if late then s else record { bus = bus_after_read ds s.bus w p; answered = max s.answered (answer_at ds s.bus w p) }).bus
   near-read_if true past s w p is = is
   near-read_if false past s w p is = near-read s.bus w p is
 
-  free-read_if : (late : Bool) (past : List Past) (s : Reading) (w p : ℕ) → s.bus.free ≤ s.answered
+  free-read_if : (late : Bool) (past : List Past) (s : OperandReading) (w p : ℕ) → s.bus.free ≤ s.answered
       → (if late then s else record { bus = bus_after_read ds s.bus w p; answered = max s.answered (answer_at ds s.bus w p) }).bus.free
       ≤ (if late then s else record { bus = bus_after_read ds s.bus w p; answered = max s.answered (answer_at ds s.bus w p) }).answered
   free-read_if true past s w p is = is
   free-read_if false past s w p is = omega (arith, free-answer s.bus w p)
 
-  later-read_if : (late : Bool) (past : List Past) (s : Reading) (w p : ℕ)
+  later-read_if : (late : Bool) (past : List Past) (s : OperandReading) (w p : ℕ)
       → s.answered ≤ (if late then s else record { bus = bus_after_read ds s.bus w p; answered = max s.answered (answer_at ds s.bus w p) }).answered
   later-read_if true past s w p = omega arith
   later-read_if false past s w p = omega arith
 
   module _ (past : List Past) (p : ℕ) where
-    pub near-reads : (s : Reading) (w n : ℕ) → IsNear most s.bus → IsNear most (read_words ds past s p w n).bus
+    pub near-reads : (s : OperandReading) (w n : ℕ) → IsNear most s.bus → IsNear most (read_words ds past s p w n).bus
     unfolding read_word read_words
     near-reads s w zero is = is
     near-reads s w (suc n) is = near-reads (read_word ds past s w p) (w + 1) n (near-read_if (is_forwarded past w p) past s w p is)
 
-    pub free-reads : (s : Reading) (w n : ℕ) → s.bus.free ≤ s.answered
+    pub free-reads : (s : OperandReading) (w n : ℕ) → s.bus.free ≤ s.answered
         → (read_words ds past s p w n).bus.free ≤ (read_words ds past s p w n).answered
     unfolding read_word read_words
     free-reads s w zero is = is
     free-reads s w (suc n) is = free-reads (read_word ds past s w p) (w + 1) n (free-read_if (is_forwarded past w p) past s w p is)
 
-    pub later-reads : (s : Reading) (w n : ℕ) → s.answered ≤ (read_words ds past s p w n).answered
+    pub later-reads : (s : OperandReading) (w n : ℕ) → s.answered ≤ (read_words ds past s p w n).answered
     unfolding read_word read_words
     later-reads s w zero = omega arith
     later-reads s w (suc n) =

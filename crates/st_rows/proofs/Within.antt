@@ -10,7 +10,7 @@ use Rattle.st_banks.specs.Delay.{delay}
 use Rattle.st_banks.specs.declared.delays.Delays.{Delays}
 use Rattle.st_fetch.specs.Planned.{tick_of}
 use Rattle.st_fetch.specs.declared.fetched.AskedWord.{AskedWord}
-use Rattle.st_rows.specs.BusTimes.{Reading, accept_at, answer_at, bus_after_read, requested_if, answer_if, bus_after_request, answer_tick_on}
+use Rattle.st_rows.specs.BusTimes.{OperandReading, accept_at, answer_at, bus_after_read, requested_if, answer_if, bus_after_request, answer_tick_on}
 use Rattle.st_rows.specs.Entries.{is_among, latest_done}
 use Rattle.st_rows.specs.Ranges.{AreDelaysUpTo, IsBusWithin, IsFetchingWithin, IsReadingWithin, ArePastWithin}
 use Rattle.st_rows.specs.Rows.{fetch_word, fetch_words, request_inside, is_forwarded, read_word, read_words}
@@ -74,7 +74,7 @@ fetching-weaker m n s more is = record {
   awaited = omega (arith, is.awaited);
 }
 
-pub reading-weaker : (m n : ℕ) (s : Reading) → m ≤ n → IsReadingWithin m s → IsReadingWithin n s
+pub reading-weaker : (m n : ℕ) (s : OperandReading) → m ≤ n → IsReadingWithin m s → IsReadingWithin n s
 reading-weaker m n s more is = record {
   bus = bus-weaker m n s.bus more is.bus;
   answered = omega (arith, is.answered);
@@ -153,7 +153,7 @@ module _ (most : ℕ) (ds : List ℕ) (are : AreDelaysUpTo most ds) (past : List
       let rest = fetch_words-within from (fetch_word ds past s w from) (w + 1) n k (past-weaker m k past (omega arith) before) first (omega arith) in
       fetching-weaker (k + n * (most + 1)) (m + suc n * (most + 1)) _ (one-more m n (most + 1)) rest
 
-  read_word_if-within : (late : Bool) (s : Reading) (w p m : ℕ) → IsReadingWithin m s → p ≤ m
+  read_word_if-within : (late : Bool) (s : OperandReading) (w p m : ℕ) → IsReadingWithin m s → p ≤ m
       → IsReadingWithin (m + (most + 1)) (if late then s else record { bus = bus_after_read ds s.bus w p; answered = max s.answered (answer_at ds s.bus w p) })
   read_word_if-within true s w p m is early = reading-weaker m (m + (most + 1)) s (omega arith) is
   read_word_if-within false s w p m is early = record {
@@ -161,12 +161,12 @@ module _ (most : ℕ) (ds : List ℕ) (are : AreDelaysUpTo most ds) (past : List
     answered = max-le (omega (arith, is.answered)) (answer-within most ds are m (m + (most + 1)) (omega arith) s.bus w p is.bus early);
   }
 
-  pub read_word-within : (s : Reading) (w p m : ℕ) → IsReadingWithin m s → p ≤ m
+  pub read_word-within : (s : OperandReading) (w p m : ℕ) → IsReadingWithin m s → p ≤ m
       → IsReadingWithin (m + (most + 1)) (read_word ds past s w p)
   unfolding read_word
   read_word-within s w p m is early = read_word_if-within (is_forwarded past w p) s w p m is early
 
-  pub read_words-within : (p : ℕ) (s : Reading) (w n m : ℕ) → IsReadingWithin m s → p ≤ m
+  pub read_words-within : (p : ℕ) (s : OperandReading) (w n m : ℕ) → IsReadingWithin m s → p ≤ m
       → IsReadingWithin (m + n * (most + 1)) (read_words ds past s p w n)
   unfolding read_words
   read_words-within p s w zero m is early = reading-weaker m (m + 0 * (most + 1)) s (omega arith) is

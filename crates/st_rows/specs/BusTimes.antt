@@ -8,7 +8,7 @@ use Rattle.st_rows.specs.declared.bus.Bus.{Bus}
 
 -- how far the operand words of an entry are read: the bus after the words so far, and the latest of
 -- their answers and of the tick at which the entry was prepared
-pub record Reading : Type 0 where
+pub record OperandReading : Type 0 where
   pub bus : Bus
   pub answered : ℕ
 

@@ -3,7 +3,7 @@
 use Rattle.std.specs.Prelude.{ℕ, zero, suc, ◌+◌, ◌-◌, max, Bool, false, ◌||◌, nat_lt, if◌then◌else◌, List, [], ◌∷◌, get_or, take, replicate, Option, None, Some}
 use Rattle.st_bits.specs.Storage.{words_of_storage}
 use Rattle.st_banks.specs.declared.answers.LastAnswers.{LastAnswers}
-use Rattle.st_rows.specs.BusTimes.{Reading, no_reads, bus_after_read, answer_at, bus_after_request, answer_tick_on}
+use Rattle.st_rows.specs.BusTimes.{OperandReading, no_reads, bus_after_read, answer_at, bus_after_request, answer_tick_on}
 use Rattle.st_rows.specs.Entries.{no_runs, latest_done}
 use Rattle.st_rows.specs.declared.bus.Bus.{Bus}
 use Rattle.st_rows.specs.declared.entry.WordRun.{WordRun}
@@ -103,12 +103,12 @@ preparation_tick n past a y = max (max a y) (done_before n past) + 1
 -- ---- operands: each is read, or comes from its latest writer at that one's completion
 
 -- what is read behind the instruction words goes on with their bus
-abbrev pub reading_of_fetch : Fetching → Reading
+abbrev pub reading_of_fetch : Fetching → OperandReading
 reading_of_fetch s = record { bus = s.bus; answered = s.answered }
 
 module _ (ds : List ℕ) (past : List Past) where
   -- the word w, wanted at preparation
-  unfoldable pub read_word : Reading → ℕ → ℕ → Reading
+  unfoldable pub read_word : OperandReading → ℕ → ℕ → OperandReading
   read_word s w p =
       if is_forwarded past w p then s
       else record {
@@ -117,12 +117,12 @@ module _ (ds : List ℕ) (past : List Past) where
       }
 
   -- n words from the word w on
-  unfoldable pub read_words : Reading → ℕ → ℕ → ℕ → Reading
+  unfoldable pub read_words : OperandReading → ℕ → ℕ → ℕ → OperandReading
   read_words s p w zero = s
   read_words s p w (suc n) = read_words (read_word s w p) p (w + 1) n
 
   -- the words of both runs
-  unfoldable pub operands_read : Bus → WordRuns → ℕ → Reading
+  unfoldable pub operands_read : Bus → WordRuns → ℕ → OperandReading
   operands_read b reads p =
       read_words
       (read_words (record { bus = b; answered = p }) p reads.one.first reads.one.len)
@@ -182,7 +182,7 @@ module _ (ds : List ℕ) (n : ℕ) (f : Front) (e : Entry) where
   tick_p = preparation_tick n f.past (tick_a ds f e) (tick_y ds f e)
 
   -- its operands
-  unfoldable pub operands : Reading
+  unfoldable pub operands : OperandReading
   operands = operands_read ds f.past (bus_a ds f e) e.reads tick_p
 
   -- when it is done

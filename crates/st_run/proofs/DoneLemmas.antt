@@ -9,7 +9,7 @@ use Rattle.st_state.specs.declared.devices.Device.TheVariants.{Reader, Printer}
 use Rattle.st_exec.specs.Step.{rests}
 use Rattle.st_exec.specs.Transfer.{read_in}
 use Rattle.st_card.specs.declared.control_cards.Signal.{Signal}
-use Rattle.st_run.specs.Run.{Scene, first_card, with_due_signals, with_signals_at_rest, with_reader, with_printer, if_due, with_due_orders, with_device, with_order_at_rest, with_wait, interlude, uneventful}
+use Rattle.st_run.specs.Run.{Scene, next_card, with_due_signals, with_signals_at_rest, with_reader, with_printer, if_due, with_due_orders, with_device, with_order_at_rest, with_wait, interlude, uneventful}
 use Rattle.st_refine.proofs.InTime.{all_stored-done}
 
 either : {A : Type 0} (f : A → ℕ) (n : ℕ) (b : Bool) (x y : A) → f x ≡ n → f y ≡ n → f (if b then x else y) ≡ n
@@ -30,7 +30,7 @@ read_in-done m w (Some card) = all_stored-done (record m { reader = None }) w ca
 
 reader-done : (o : Option Order) (c : Scene) → (with_reader o c).scene.machine.done ≡ c.machine.done
 reader-done None c = refl
-reader-done (Some order) c = read_in-done c.machine order.word (first_card c.cards)
+reader-done (Some order) c = read_in-done c.machine order.word (next_card c.cards)
 
 printer-done : (o : Option Order) (c : Scene) → (with_printer o c).scene.machine.done ≡ c.machine.done
 printer-done None c = refl

@@ -10,7 +10,7 @@ use Rattle.st_prep.proofs.Choices.{of_choice}
 use Rattle.st_exec.specs.Step.{rests}
 use Rattle.st_exec.specs.Transfer.{all_stored, read_in}
 use Rattle.st_card.specs.declared.control_cards.Signal.{Signal}
-use Rattle.st_run.specs.Run.{Scene, Transition, first_card, with_due_signals, with_signals_at_rest, with_reader, with_printer, if_due, with_due_orders, with_device, with_order_at_rest, with_wait, interlude, uneventful, and_then}
+use Rattle.st_run.specs.Run.{Scene, Transition, next_card, with_due_signals, with_signals_at_rest, with_reader, with_printer, if_due, with_due_orders, with_device, with_order_at_rest, with_wait, interlude, uneventful, and_then}
 
 -- how many orders the printer has
 orders : Option Order → ℕ
@@ -52,7 +52,7 @@ read-printer m w (Some card) = stored-printer (record m { reader = None }) w car
 reader-prints : (o : Option Order) (c : Scene) → PrintsWithin c (with_reader o c)
 reader-prints None c = record { few = omega arith }
 reader-prints (Some order) c =
-    let same = ap orders (read-printer c.machine order.word (first_card c.cards)) in
+    let same = ap orders (read-printer c.machine order.word (next_card c.cards)) in
     record { few = omega (arith, same) }
 
 -- ---- the printer

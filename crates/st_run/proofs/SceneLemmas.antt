@@ -14,7 +14,7 @@ use Rattle.st_prep.proofs.Choices.{of_choice}
 use Rattle.st_prep.proofs.PlanLemmas.{plan-prepared}
 use Rattle.st_exec.specs.Step.{rests, interrupt, step}
 use Rattle.st_card.specs.declared.control_cards.Signal.{Signal}
-use Rattle.st_run.specs.Run.{Scene, first_card, cards_after, with_due_signals, with_signals_at_rest, with_reader, with_printer, if_due, with_due_orders, with_device, with_order_at_rest, with_wait, interlude, scene_after_step, uneventful}
+use Rattle.st_run.specs.Run.{Scene, next_card, cards_after, with_due_signals, with_signals_at_rest, with_reader, with_printer, if_due, with_due_orders, with_device, with_order_at_rest, with_wait, interlude, scene_after_step, uneventful}
 use Rattle.st_exec.proofs.MachineKept.{kept-completed}
 use Rattle.st_refine.specs.Reached.{IsCard}
 use Rattle.st_run.specs.Scenes.{IsScene}
@@ -23,7 +23,7 @@ use Rattle.st_refine.proofs.StateLemmas.{signalled-machine, read-machine, printe
 
 -- ---- states
 
-first-is : (cards : List (List ℕ)) → All IsCard cards → IfSome (first_card cards) IsCard
+first-is : (cards : List (List ℕ)) → All IsCard cards → IfSome (next_card cards) IsCard
 first-is [] are = tt
 first-is (card ∷ cards) are = All-head IsCard card cards are
 
@@ -54,7 +54,7 @@ rest-scene s (x ∷ xs) cards m are =
 reader-scene : (o : Option Order) (c : Scene) → IsScene c → HasArea o → IsScene (with_reader o c).scene
 reader-scene None c is area = is
 reader-scene (Some order) c is area = record {
-  machine = read-machine c.machine order.word (first_card c.cards) is.machine area.1 (first-is c.cards is.cards);
+  machine = read-machine c.machine order.word (next_card c.cards) is.machine area.1 (first-is c.cards is.cards);
   cards = rest-cards c.cards is.cards;
 }
 

@@ -29,18 +29,18 @@ pub record Level : Type 0 where
 -- dropped, with its address and the tick at which it was prepared; at a tick a state and the
 -- entries ahead of it are shown, oldest first; and what else happens in the plain run: words are
 -- printed, an interrupt is taken, the run ends
-pub data Event : Type 0 where
-  Completes : Machine → ℕ → EntryTicks → Event
-  Drops : ℕ → ℕ → Event
-  Shows : ℕ → Machine → List Level → Event
-  Happens : PlainEvent → Event
+pub data TimetableEvent : Type 0 where
+  Completes : Machine → ℕ → EntryTicks → TimetableEvent
+  Drops : ℕ → ℕ → TimetableEvent
+  Shows : ℕ → Machine → List Level → TimetableEvent
+  Happens : PlainEvent → TimetableEvent
 
 -- an event, with the number of entries that are done by then and the tick at which the last of them
 -- was, 0 before the first
 pub record Timed : Type 0 where
   pub done : ℕ
   pub tick : ℕ
-  pub event : Event
+  pub event : TimetableEvent
 
 -- ---- entries ahead
 
@@ -49,7 +49,7 @@ abbrev pub address_ahead : Ahead → ℕ
 address_ahead a = (plan_of a).place.address
 
 -- it is dropped
-abbrev pub drop_of : Ahead → Event
+abbrev pub drop_of : Ahead → TimetableEvent
 drop_of a = Drops (address_ahead a) a.row.p
 
 -- the index word that it changes early, and what that is in the state before its step
@@ -72,7 +72,7 @@ with_index_words xs s =
 
 -- the state with these entries ahead of it, shown at a tick; the first of them is the table
 -- instruction of an interrupt where one was taken
-unfoldable pub snapshot : ℕ → Option ℕ → Machine → List Ahead → Event
+unfoldable pub snapshot : ℕ → Option ℕ → Machine → List Ahead → TimetableEvent
 snapshot tick taken s levels =
     Shows tick (with_index_words (split_words (length levels) taken s) s)
     (map (level_at tick) levels)
@@ -80,7 +80,7 @@ snapshot tick taken s levels =
 -- ---- what is left without the timetable
 
 -- what an event is in the plain run
-abbrev pub plain_events_of : Event → List PlainEvent
+abbrev pub plain_events_of : TimetableEvent → List PlainEvent
 plain_events_of (Completes s address row) = Executes s address ∷ []
 plain_events_of (Happens happening) = happening ∷ []
 plain_events_of _ = []

@@ -1,10 +1,10 @@
 -- The order of events.
 use Rattle.std.specs.Prelude.{ℕ, ◌+◌, ◌≤◌, List, [], ◌∷◌, ◌++◌}
-use Rattle.st_run.specs.Events.{Event, Timed, Shows}
+use Rattle.st_run.specs.Events.{TimetableEvent, Timed, Shows}
 
 -- the tick at which an event is told: a snapshot at the one that was asked for, else that at which
 -- the last entry was done
-abbrev pub told_at : ℕ → Event → ℕ
+abbrev pub told_at : ℕ → TimetableEvent → ℕ
 told_at tick (Shows asked s levels) = asked
 told_at tick _ = tick
 
@@ -22,7 +22,7 @@ AreRising t (x ∷ xs) = (t ≤ x) × AreRising (x + 1) xs
 -- ---- snapshots, and the last tick
 
 -- a snapshot's tick
-abbrev pub asked_by : Event → List ℕ
+abbrev pub asked_by : TimetableEvent → List ℕ
 asked_by (Shows asked s levels) = asked ∷ []
 asked_by _ = []
 

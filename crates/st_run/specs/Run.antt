@@ -37,8 +37,8 @@ with_due_signals s (x ∷ xs) cards =
     else record { machine = s; signals = x ∷ xs; cards = cards }
 
 -- the next card of the reader
-abbrev pub first_card : List (List ℕ) → Option (List ℕ)
-first_card cards = slice_get cards 0
+abbrev pub next_card : List (List ℕ) → Option (List ℕ)
+next_card cards = slice_get cards 0
 
 -- the cards behind it
 abbrev pub cards_after : List (List ℕ) → List (List ℕ)
@@ -53,7 +53,7 @@ abbrev pub with_reader : Option Order → Scene → Transition
 with_reader None c = uneventful c
 with_reader (Some order) c = record {
   scene = record c {
-    machine = read_in c.machine order.word (first_card c.cards);
+    machine = read_in c.machine order.word (next_card c.cards);
     cards = cards_after c.cards;
   };
   happened = [];

@@ -5,11 +5,11 @@ use Rattle.st_state.specs.Machine.{Machine}
 use Rattle.st_exec.specs.Step.{rests, address, interrupt}
 use Rattle.st_run.specs.Run.{Scene, PlainEvent, Ends, interlude, interrupts_by}
 use Rattle.st_segment.specs.Ahead.{prepared_before}
-use Rattle.st_run.specs.Events.{Event, Timed, Completes, Shows, Happens, drop_of, snapshot}
+use Rattle.st_run.specs.Events.{TimetableEvent, Timed, Completes, Shows, Happens, drop_of, snapshot}
 use Rattle.st_run.specs.Moments.{Moment, Standing, moment_at_start, next_state, ends_segment, standing_at, interrupt_of_moment, next_row, entries_at_moment, next_moment}
 
 -- an event by which the last entry was done at the tick, and left the state
-abbrev pub event_at : ℕ → Machine → Event → Timed
+abbrev pub event_at : ℕ → Machine → TimetableEvent → Timed
 event_at tick s event = record { done = s.done; tick = tick; event = event }
 
 -- ---- when snapshots are shown

@@ -3,7 +3,7 @@ use Rattle.std.specs.Prelude.{ℕ, Bool, List, [], ◌∷◌}
 use Rattle.st_state.specs.Machine.{Machine}
 use Rattle.st_exch.specs.Printer.{line_of_words}
 use Rattle.st_run.specs.Run.{PlainEvent, Prints, Interrupts, Executes, Ends}
-use Rattle.st_run.specs.Events.{Event, Level, Timed, Completes, Drops, Shows, Happens}
+use Rattle.st_run.specs.Events.{TimetableEvent, Level, Timed, Completes, Drops, Shows, Happens}
 
 -- an entry is done, with its address and the ticks at which it was prepared, ready and done; one
 -- that ran ahead is dropped, with its address and the tick at which it was prepared; a text is
@@ -31,7 +31,7 @@ what_happens (Executes s address) = Done address 0 0 0
 what_happens (Ends s rests) = Ended rests s
 
 -- what is told of an event
-abbrev pub what_of : Event → What
+abbrev pub what_of : TimetableEvent → What
 what_of (Completes s address row) = Done address row.p row.r row.c
 what_of (Drops address p) = Dropped address p
 what_of (Shows tick s levels) = Shown tick s levels

@@ -28,7 +28,7 @@ impl<'a> Coming<'a> {
     ghost use Rattle.std.specs.Prelude.{◌≤◌, IfSome, is_some, length, nat_lt};
     ghost use Rattle.std.specs.List.{AllPass};
     ghost use Rattle.st_card.specs.Limits.{is_signal};
-    ghost use Rattle.st_run.specs.Run.{first_card, cards_after};
+    ghost use Rattle.st_run.specs.Run.{next_card, cards_after};
     ghost use Rattle.st_run.specs.Outside.{due_signal, first_signal, signals_after};
 
     /// These signals and cards.
@@ -92,7 +92,7 @@ impl<'a> Coming<'a> {
 
     /// Takes the next card.
     pub fn next_card(&mut self) -> Option<[u64; 8]>
-        ensures card { result ≡ first_card self.old.cards }
+        ensures card { result ≡ next_card self.old.cards }
         ensures left { self.new ≡ record self.old { cards = cards_after self.old.cards } }
         ensures came { is_some result ≡ nat_lt (length self.new.cards) (length self.old.cards) }
         ensures fewer { length self.new.cards ≤ length self.old.cards }

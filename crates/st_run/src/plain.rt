@@ -1,5 +1,5 @@
-//! A machine that executes one instruction after the other, as what something comes to from outside,
-//! and whether its devices have orders.
+//! A machine that executes one instruction after the other, to which something may come from
+//! outside, and whether its devices have orders.
 ghost use Rattle.std.specs.Prelude.{◌≡◌, is_none};
 ghost use Rattle.st_state.specs.Orders.{is_due as is_due_of};
 ghost use Rattle.st_run.specs.Run.{order_of};

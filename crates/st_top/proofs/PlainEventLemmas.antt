@@ -12,7 +12,7 @@ use Rattle.st_exch.specs.Printer.{line_of_words}
 use Rattle.st_exec.specs.Step.{rests, interrupt}
 use Rattle.st_run.specs.Run.{Scene, PlainEvent, Prints, Interrupts, Executes, Ends, interlude, with_due_signals, with_due_orders, with_reader, with_printer, if_due, with_device, with_order_at_rest, with_wait, interrupts_by, uneventful}
 use Rattle.st_report.specs.Line.{prt_line, trc_line, row_line, drop_line, int_line, time_line, end_line, done_line, ticks_line}
-use Rattle.st_run.specs.Events.{Event, Timed, Completes, Drops, Shows, Happens, plain_events_of as plain_event, plain_run, drop_of, snapshot}
+use Rattle.st_run.specs.Events.{TimetableEvent, Timed, Completes, Drops, Shows, Happens, plain_events_of as plain_event, plain_run, drop_of, snapshot}
 use Rattle.st_run.specs.Moments.{Moment, Standing, next_state, standing_at, next_moment, ends_segment}
 use Rattle.st_run.specs.TimedRun.{event_at, ticks_before, snapshots_from, drops, drops_if_ends, happening_at, events_between, snapshot_at, completion, until_done, last_snapshot_at, last_events, timed_from}
 use Rattle.st_run.specs.Told.{told_of_events, told_of, what_of}
@@ -74,7 +74,7 @@ HappensAt done (Interrupts s i) = done ≡ s.done
 HappensAt done (Executes s address) = done ≡ s.done
 HappensAt done (Ends s rests) = done ≡ s.done
 
-pub ComesAt : ℕ → Event → Type 0
+pub ComesAt : ℕ → TimetableEvent → Type 0
 ComesAt done (Completes s address row) = done ≡ s.done
 ComesAt done (Drops address p) = Unit {0}
 ComesAt done (Shows tick s levels) = Unit {0}
@@ -99,7 +99,7 @@ happens-lines asked done tick (Ends s rests) is =
     unmarked-between (end_line rests ∷ done_line done ∷ []) (line_if asked.time (ticks_line tick)) (block asked.dumps s)
     ∙ ap (λ (d : ℕ). end_line rests ∷ done_line d ∷ block asked.dumps s) is
 
-event-lines : (asked : Asked) (done tick : ℕ) (e : Event) → ComesAt done e
+event-lines : (asked : Asked) (done tick : ℕ) (e : TimetableEvent) → ComesAt done e
     → lines_unmarked (marked_lines asked (record { done = done; tick = tick; what = what_of e }))
     ≡ flat_map (happening_lines asked.trace asked.dumps) (plain_event e)
 unfolding ComesAt happening_lines

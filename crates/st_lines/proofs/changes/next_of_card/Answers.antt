@@ -1,6 +1,6 @@
 use Rattle.std.proofs.Common.{sym, subst}
-use Rattle.st_lines.specs.Changes.{IsBeside}
+use Rattle.st_lines.specs.Changes.{IsOutsideArea}
 use Rattle.st_lines.proofs.changes.next_of_card.Goals as goal
 
 pub returns-in-Some-clause-between : goal.returns-in-Some-clause-between
-returns-in-Some-clause-between c v low below = subst (IsBeside v) (sym c.in-Some.is) (c.next_in.ensures.between v low below)
+returns-in-Some-clause-between c v low below = subst (IsOutsideArea v) (sym c.in-Some.is) (c.next_in.ensures.between v low below)

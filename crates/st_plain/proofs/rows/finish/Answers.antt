@@ -1,5 +1,5 @@
 use Rattle.std.proofs.Common.{◌+◌, ◌-◌, ◌*◌, ◌^◌, refl, sym, subst, ap, arith}
-use Rattle.st_rows.specs.BusTimes.{Reading}
+use Rattle.st_rows.specs.BusTimes.{OperandReading}
 use Rattle.st_rows.specs.Ranges.{IsReadingWithin}
 use Rattle.st_rows.specs.Rows.{reading_of_fetch, operands, tick_c, row_of_entry, front_after_entry}
 use Rattle.st_rows.proofs.Within.{delays-are, bus-weaker}
@@ -27,7 +27,7 @@ overflow_add-c c =
     let reads = operands-read c.args.next.now.timing.now.delays.now.list f c.args.next.now.planned.now.entry c.args.next.now.timing.now.levels (reading_of_fetch c.use_data.new.words) c.args.begun.now.words.bus
     c.args.begun.now.formed.p c.use_data.ensures.after c.requires.bus c.requires.tick in
     let read : IsReadingWithin (f.c + 40 * 255 + 41) (reading_of_fetch c.use_data.new.words) =
-    subst (λ (s : Reading). IsReadingWithin (f.c + 40 * 255 + 41) s) (sym reads)
+    subst (λ (s : OperandReading). IsReadingWithin (f.c + 40 * 255 + 41) s) (sym reads)
     (operands_of-within 255 c.args.next.now.timing.now.delays.now.list (delays-are c.args.next.now.timing.now.delays.now) f c.args.next.now.planned.now.entry c.requires.entry c.requires.tight c.args.next.now.timing.now.levels) in
     omega (arith, read.answered)
 
@@ -36,7 +36,7 @@ use_following-requires-clause-room c =
     let f = c.args.front.now in
     let reads = operands-read c.args.next.now.timing.now.delays.now.list f c.args.next.now.planned.now.entry c.args.next.now.timing.now.levels (reading_of_fetch c.use_data.new.words) c.args.begun.now.words.bus
     c.args.begun.now.formed.p c.use_data.ensures.after c.requires.bus c.requires.tick in
-    rw (ap (λ (s : Reading). s.bus) reads)
+    rw (ap (λ (s : OperandReading). s.bus) reads)
     (bus-weaker (f.c + 40 * 255 + 41) (2 ^ 64 - 1024) _ (omega arith)
     (operands_of-within 255 c.args.next.now.timing.now.delays.now.list (delays-are c.args.next.now.timing.now.delays.now) f c.args.next.now.planned.now.entry c.requires.entry c.requires.tight c.args.next.now.timing.now.levels).bus)
 
@@ -50,7 +50,7 @@ unfolding row_of_entry operands tick_c
 returns-clause-value c =
     let reads = operands-read c.args.next.now.timing.now.delays.now.list c.args.front.now c.args.next.now.planned.now.entry c.args.next.now.timing.now.levels (reading_of_fetch c.use_data.new.words) c.args.begun.now.words.bus
     c.args.begun.now.formed.p c.use_data.ensures.after c.requires.bus c.requires.tick in
-    rw (c.max.ensures, c.from.ensures, ap (λ (s : Reading). s.answered) reads, c.requires.tick, c.requires.address) refl
+    rw (c.max.ensures, c.from.ensures, ap (λ (s : OperandReading). s.answered) reads, c.requires.tick, c.requires.address) refl
 
 pub returns-clause-after : goal.returns-clause-after
 unfolding front_after_entry
@@ -58,7 +58,7 @@ returns-clause-after c =
     let reads = operands-read c.args.next.now.timing.now.delays.now.list c.args.front.now c.args.next.now.planned.now.entry c.args.next.now.timing.now.levels (reading_of_fetch c.use_data.new.words) c.args.begun.now.words.bus
     c.args.begun.now.formed.p c.use_data.ensures.after c.requires.bus c.requires.tick in
     c.pass.ensures c.args.next.now.timing.now.delays.now.list c.args.next.now.timing.now.levels (returns-clause-value c)
-    (rw (c.use_following.ensures.after, ap (λ (s : Reading). s.bus) reads, c.requires.tick) refl)
+    (rw (c.use_following.ensures.after, ap (λ (s : OperandReading). s.bus) reads, c.requires.tick) refl)
 
 pub returns-clause-log : goal.returns-clause-log
 returns-clause-log c before made =
@@ -67,7 +67,7 @@ returns-clause-log c before made =
     noted-asked c.args.next.now.timing.now.delays.now.list c.args.front.now c.args.next.now.planned.now.entry c.args.next.now.timing.now.levels c.args.begun.now.words.bus before c.args.log.now c.use_following.new.log
     c.requires.bus made
     (noted-prepared c.args.next.now.timing.now.delays.now.list c.args.front.now c.args.next.now.planned.now.entry c.args.next.now.timing.now.levels c.args.begun.now.words.bus c.use_data.new.words.bus c.args.begun.now.formed.p
-    c.args.log.now c.use_data.new.log c.use_following.new.log c.requires.bus (ap (λ (s : Reading). s.bus) reads) c.requires.tick c.use_data.ensures.log
+    c.args.log.now c.use_data.new.log c.use_following.new.log c.requires.bus (ap (λ (s : OperandReading). s.bus) reads) c.requires.tick c.use_data.ensures.log
     c.use_following.ensures.log)
 
 pub returns-clause-uses : goal.returns-clause-uses

@@ -1,5 +1,5 @@
 use Rattle.std.proofs.Common.{◌+◌, ◌-◌, ◌*◌, ◌^◌, sym, subst, arith}
-use Rattle.st_rows.specs.BusTimes.{Reading}
+use Rattle.st_rows.specs.BusTimes.{OperandReading}
 use Rattle.st_rows.specs.Ranges.{IsReadingWithin}
 use Rattle.st_rows.specs.Rows.{reading_of_fetch}
 use Rattle.st_rows.proofs.Noted.{runs-noted}
@@ -12,7 +12,7 @@ pub use_run-requires-2-clause-room : goal.use_run-requires-2-clause-room
 use_run-requires-2-clause-room c =
     let m = 2 ^ 64 - 2 ^ 17 in
     let start : IsReadingWithin m (reading_of_fetch c.args.words.now) = record { bus = c.requires.room; answered = omega (arith, c.requires.start, c.requires.early) } in
-    subst (λ (s : Reading). IsReadingWithin (2 ^ 64 - 2 ^ 16) s) (sym c.use_run.ensures.after)
+    subst (λ (s : OperandReading). IsReadingWithin (2 ^ 64 - 2 ^ 16) s) (sym c.use_run.ensures.after)
     (reading-weaker (m + 16 * 256) (2 ^ 64 - 2 ^ 16) _ (omega arith)
     (read_sixteen-within 255 c.args.wanted.now.delays.now.list (delays-are c.args.wanted.now.delays.now) c.args.wanted.now.last.now c.args.wanted.now.tick
     c.args.next.now.planned.now.entry.reads.one.first c.args.next.now.planned.now.entry.reads.one.len m _ c.requires.entry.one_few start c.requires.early))

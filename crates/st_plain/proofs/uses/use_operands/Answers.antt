@@ -1,6 +1,6 @@
 use Rattle.std.proofs.Common.{◌≡◌, ◌+◌, ◌-◌, ◌*◌, ◌^◌, ◌∙◌, sym, subst, arith}
 use Rattle.st_bits.specs.Storage.{words_of_storage_is}
-use Rattle.st_rows.specs.BusTimes.{Reading}
+use Rattle.st_rows.specs.BusTimes.{OperandReading}
 use Rattle.st_rows.specs.Ranges.{IsReadingWithin}
 use Rattle.st_rows.specs.Rows.{reading_of_fetch}
 use Rattle.st_rows.specs.Asked.{operands_asked}
@@ -34,7 +34,7 @@ words-preserved c =
           ∙ c.words.invariant.log;
       space = omega (arith, c.use_operand.ensures.room, c.words.invariant.space);
       room = reading-weaker (m + 256) _ t (omega arith)
-          (subst (λ (r : Reading). IsReadingWithin (m + 256) r) (sym c.use_operand.ensures.after)
+          (subst (λ (r : OperandReading). IsReadingWithin (m + 256) r) (sym c.use_operand.ensures.after)
           (read_word-within 255 c.args.wanted.now.delays.now.list are c.args.wanted.now.last.now s c.words.w c.args.wanted.now.tick m c.words.invariant.room (omega arith)));
       few = omega (arith, c.words.invariant.few);
       above = λ some. omega (arith, c.words.invariant.above (omega arith));

@@ -1,5 +1,5 @@
 use Rattle.std.proofs.Common.{◌+◌, ◌-◌, ◌*◌, ◌^◌, sym, subst, arith}
-use Rattle.st_rows.specs.BusTimes.{Reading}
+use Rattle.st_rows.specs.BusTimes.{OperandReading}
 use Rattle.st_rows.specs.Ranges.{IsReadingWithin}
 use Rattle.st_rows.specs.Rows.{reading_of_fetch}
 use Rattle.st_rows.proofs.Noted.{runs-noted}
@@ -12,7 +12,7 @@ pub read_on-requires-clause-room : goal.read_on-requires-clause-room
 read_on-requires-clause-room c =
     let m = 2 ^ 64 - 2 ^ 17 in
     let start : IsReadingWithin m (reading_of_fetch c.args.operands.now) = record { bus = c.requires.room; answered = omega (arith, c.requires.start, c.requires.early) } in
-    subst (λ (s : Reading). IsReadingWithin (2 ^ 64 - 2 ^ 16) s) (sym c.read_run-fills.ensures.value)
+    subst (λ (s : OperandReading). IsReadingWithin (2 ^ 64 - 2 ^ 16) s) (sym c.read_run-fills.ensures.value)
     (reading-weaker (m + 16 * 256) (2 ^ 64 - 2 ^ 16) _ (omega arith)
     (read_sixteen-within 255 c.args.wanted.now.delays.now.list (delays-are c.args.wanted.now.delays.now) c.args.wanted.now.past.now c.args.wanted.now.tick
     c.args.entry.now.reads.one.first c.args.entry.now.reads.one.len m _ c.requires.entry.one_few start c.requires.early))

@@ -1,7 +1,7 @@
 use Rattle.std.proofs.Common.{◌≡◌, ◌+◌, ◌-◌, ◌^◌, ◌∙◌, ap, sym, subst, refl, arith}
 use Rattle.st_bits.specs.Storage.{words_of_storage_is}
 use Rattle.st_rows.specs.Asked.{operands_asked}
-use Rattle.st_rows.specs.BusTimes.{Reading}
+use Rattle.st_rows.specs.BusTimes.{OperandReading}
 use Rattle.st_rows.specs.Notes.{log_after_reads}
 use Rattle.st_rows.specs.Ranges.{IsReadingWithin}
 use Rattle.st_rows.specs.Rows.{reading_of_fetch, read_word, read_words}
@@ -34,7 +34,7 @@ overflow_add-run c = omega (arith, words_of_storage_is, c.requires.words.inside 
 pub read-second-requires-clause-room : goal.read-second-requires-clause-room
 read-second-requires-clause-room c =
     let m = 2 ^ 64 - 2 ^ 17 in
-    subst (λ (s : Reading). IsReadingWithin (2 ^ 64 - 512) s) (sym c.read-first.ensures.after)
+    subst (λ (s : OperandReading). IsReadingWithin (2 ^ 64 - 512) s) (sym c.read-first.ensures.after)
     (reading-weaker (m + 256) (2 ^ 64 - 512) _ (omega arith)
     (read_word-within 255 c.args.wanted.now.delays.now.list (delays-are c.args.wanted.now.delays.now) c.args.wanted.now.past.now _ c.args.run.first c.args.wanted.now.tick m c.requires.room c.requires.early))
 
@@ -46,9 +46,9 @@ pub read_on-requires-clause-room : goal.read_on-requires-clause-room
 read_on-requires-clause-room c =
     let m = 2 ^ 64 - 2 ^ 17 in
     let are = delays-are c.args.wanted.now.delays.now in
-    subst (λ (s : Reading). IsReadingWithin (2 ^ 64 - 2 ^ 16) s)
+    subst (λ (s : OperandReading). IsReadingWithin (2 ^ 64 - 2 ^ 16) s)
     (sym (c.read-second.ensures.after
-    ∙ ap (λ (s : Reading). read_word c.args.wanted.now.delays.now.list c.args.wanted.now.past.now s (c.args.run.first + 1) c.args.wanted.now.tick) c.read-first.ensures.after))
+    ∙ ap (λ (s : OperandReading). read_word c.args.wanted.now.delays.now.list c.args.wanted.now.past.now s (c.args.run.first + 1) c.args.wanted.now.tick) c.read-first.ensures.after))
     (reading-weaker (m + 256 + 256) (2 ^ 64 - 2 ^ 16) _ (omega arith)
     (read_word-within 255 c.args.wanted.now.delays.now.list are c.args.wanted.now.past.now _ (c.args.run.first + 1) c.args.wanted.now.tick (m + 256)
     (read_word-within 255 c.args.wanted.now.delays.now.list are c.args.wanted.now.past.now _ c.args.run.first c.args.wanted.now.tick m c.requires.room c.requires.early) (omega arith)))

@@ -1,7 +1,7 @@
 use Rattle.std.proofs.Common.{◌≡◌, ◌+◌, ◌-◌, ◌*◌, ◌^◌, ◌∙◌, sym, subst, arith}
 use Rattle.st_bits.specs.Storage.{words_of_storage_is}
 use Rattle.st_rows.specs.Asked.{operands_asked}
-use Rattle.st_rows.specs.BusTimes.{Reading}
+use Rattle.st_rows.specs.BusTimes.{OperandReading}
 use Rattle.st_rows.specs.Notes.{log_after_reads}
 use Rattle.st_rows.specs.Ranges.{IsReadingWithin}
 use Rattle.st_rows.specs.Rows.{reading_of_fetch}
@@ -29,7 +29,7 @@ words-preserved c =
           c.read.ensures.after c.read.ensures.log (omega arith)
           ∙ c.words.invariant.log;
       room = reading-weaker (m + 256) _ (reading_of_fetch c.read.new.self) (omega arith)
-          (subst (λ (s : Reading). IsReadingWithin (m + 256) s) (sym c.read.ensures.after)
+          (subst (λ (s : OperandReading). IsReadingWithin (m + 256) s) (sym c.read.ensures.after)
           (read_word-within 255 c.args.wanted.now.delays.now.list are c.args.wanted.now.past.now (reading_of_fetch c.words.self) c.words.w c.args.wanted.now.tick m c.words.invariant.room (omega arith)));
       few = omega (arith, c.words.invariant.few);
       above = λ some. omega (arith, c.words.invariant.above (omega arith));
