@@ -25,7 +25,8 @@ use Rattle.st_rows.specs.declared.past.Past.{Past}
 use Rattle.st_segment.specs.Entries.{entry}
 use Rattle.st_segment.specs.Ahead.{Ahead, ahead, prepared_before}
 use Rattle.st_run.specs.Run.{Scene}
-use Rattle.st_run.specs.Moments.{Standing, moment_at_start, answers_at_start, next_row, next_moment}
+use Rattle.st_ahead.specs.Overlap.{idle_banks}
+use Rattle.st_run.specs.Moments.{Standing, moment_at_start, next_row, next_moment}
 use Rattle.std.proofs.lemmas.List.{length-append, length-map}
 use Rattle.st_prep.proofs.Choices.{of_choice}
 use Rattle.st_plain.specs.Looking.{seen_ahead}
@@ -85,7 +86,7 @@ no-reads : (ds : List ℕ) (b : Bus) → bus_after_reads ds [] b ≡ b
 unfolding bus_after_reads
 no-reads ds b = refl
 
-pub start-last : (ds : List ℕ) (n : ℕ) (c : Scene) (l : Last) (log : List Made) → l.tick ≡ 0 → l.front ≡ opening_front answers_at_start 0 → l.past ≡ l.front.past → l.missed ≡ false
+pub start-last : (ds : List ℕ) (n : ℕ) (c : Scene) (l : Last) (log : List Made) → l.tick ≡ 0 → l.front ≡ opening_front idle_banks 0 → l.past ≡ l.front.past → l.missed ≡ false
     → l.ic ≡ c.machine.ic → l.ic < 2 ^ 19 → log ≡ [] → IsTight 255 l.front → IsLast ds n (moment_at_start c) l log
 start-last ds n c l log tick front past missed ic counter none tight = record {
   tick = sym tick;

@@ -20,7 +20,7 @@ use Rattle.st_exec.specs.Step.{rests}
 use Rattle.st_exec.specs.Transfer.{all_stored, read_in}
 use Rattle.st_exec.proofs.Laws.{entries_leave_what_they_do_not_write}
 use Rattle.st_run.specs.Reached.{IsCard}
-use Rattle.st_run.specs.Run.{Scene, with_due_signals, with_signals_at_rest, with_reader, with_printer, if_due, with_due_orders, with_device, with_order_at_rest, with_wait, interlude, uneventful}
+use Rattle.st_run.specs.Run.{Scene, with_due_signals, with_signals_at_rest, if_due, with_due_orders, with_device, with_order_at_rest, with_wait, interlude, uneventful, with_order}
 use Rattle.st_lines.specs.Changes.{IsOutsideArea}
 
 -- ---- an entry
@@ -140,7 +140,7 @@ none-left : (s : Machine) (w : ℕ) → IsLeftBy s (read_in s w None)
 none-left s w = record { words = λ v above beside. get_or-set_other s.words 11 v _ 0 (omega arith); reader = inr refl }
 
 reader-left : (o : Option Order) (s : Machine) (xs : List Signal) (cards : List (List ℕ)) → (o ≡ s.reader) ⊎ (o ≡ None) → All IsCard cards
-    → IsSceneLeftBy (record { machine = s; signals = xs; cards = cards }) (with_reader o (record { machine = s; signals = xs; cards = cards })).scene
+    → IsSceneLeftBy (record { machine = s; signals = xs; cards = cards }) (with_order Reader o (record { machine = s; signals = xs; cards = cards })).scene
 reader-left None s xs cards is each = scene-same _ each
 reader-left (Some order) s xs cards (inr none) each = absurd (cc)
 reader-left (Some order) s xs [] (inl is) each = record { machine = none-left s order.word; cards = each }
@@ -148,7 +148,7 @@ reader-left (Some order) s xs (card ∷ cards) (inl is) each =
     let one : IsCard card = All-head IsCard card cards each in
     record { machine = card-left s order card (sym is) one.size; cards = All-tail IsCard card cards each }
 
-printer-left : (o : Option Order) (c : Scene) → All IsCard c.cards → IsSceneLeftBy c (with_printer o c).scene
+printer-left : (o : Option Order) (c : Scene) → All IsCard c.cards → IsSceneLeftBy c (with_order Printer o c).scene
 printer-left None c each = scene-same c each
 printer-left (Some order) c each = record {
   machine = record { words = λ w above beside. get_or-set_other c.machine.words 11 w _ 0 (omega arith); reader = inl refl };
@@ -165,7 +165,7 @@ if-due done o = go (is_due done o)
 due_orders-left : (c : Scene) → All IsCard c.cards → IsSceneLeftBy c (with_due_orders c).scene
 unfolding with_due_orders
 due_orders-left c each =
-    let d = (with_reader (if_due c.machine.done c.machine.reader) c).scene in
+    let d = (with_order Reader (if_due c.machine.done c.machine.reader) c).scene in
     scene-then c d _ (reader-left (if_due c.machine.done c.machine.reader) c.machine c.signals c.cards (if-due c.machine.done c.machine.reader) each)
     (λ more. printer-left (if_due d.machine.done d.machine.printer) d more)
 

@@ -7,7 +7,10 @@ use Rattle.st_bits.specs.declared.limits.TheConstants.{MOST_INSTRUCTIONS}
 use Rattle.st_state.specs.Machine.{Machine}
 use Rattle.st_exec.specs.Step.{rests, step, interrupt}
 use Rattle.st_card.specs.declared.control_cards.Signal.{Signal}
-use Rattle.st_run.specs.Run.{interlude, scene_after_step, with_due_signals, with_due_orders, with_order_at_rest, with_signals_at_rest, with_wait, and_then, with_reader, with_printer, if_due}
+use Rattle.st_run.specs.Run.{Transition, uneventful, interlude, scene_after_step, with_due_signals, with_due_orders}
+use Rattle.st_state.specs.Orders.{is_due}
+use Rattle.st_run.specs.Between.{signal_due}
+use Rattle.st_run.proofs.QuietLemmas.{none-due, none-comes}
 use Rattle.st_run.specs.Moments.{Moment, Standing, next_scene, next_state, standing_at, next_row, next_moment, has_card, has_waited, ends_segment}
 use Rattle.st_run.proofs.Bounds.{HasTime}
 use Rattle.st_run.proofs.DoneLemmas.{settled-done}
@@ -21,30 +24,15 @@ use Rattle.st_reasons.specs.Sums.{row_stalled}
 use Rattle.st_reasons.specs.declared.waits.Stall.{Stall}
 use Rattle.st_lines.specs.declared.origins.Origin.{Origin}
 use Rattle.st_account.specs.Settling.{at_hand}
-use Rattle.st_account.specs.Standing.{has_due, still_by}
+use Rattle.st_account.specs.Standing.{still_by}
 use Rattle.st_account.specs.Text.{segment_ends, segment_end_at, segment_lines, segment_after, uses_at, words_before, lines_of_entry, last_lines, lines_from, stalled_from}
 
 none-is : {A : Type 0} (o : Option A) → is_none o ≡ true → o ≡ None
 none-is None h = refl
 none-is (Some x) h = cc
 
-orders-none : (s : Machine) (xs : List Signal) (cards : List (List ℕ)) → s.reader ≡ None → s.printer ≡ None
-    → (with_due_orders (at_hand s xs cards)).scene ≡ at_hand s xs cards
-unfolding with_due_orders
-orders-none s xs cards reader printer =
-    ap (λ o. (and_then (with_reader (if_due s.done o) (at_hand s xs cards)) (λ d. with_printer (if_due d.machine.done d.machine.printer) d)).scene) reader
-    ∙ ap (λ o. (with_printer (if_due s.done o) (at_hand s xs cards)).scene) printer
-
-not-less : (n : ℕ) → nat_lt n n ≡ false
+pub not-less : (n : ℕ) → nat_lt n n ≡ false
 not-less n = grind (arith, nat_tests)
-
-due-none : (s : Machine) (xs : List Signal) (cards : List (List ℕ)) → has_due xs s.done ≡ false → with_due_signals s xs cards ≡ at_hand s xs cards
-due-none s [] cards none = refl
-due-none s (x ∷ xs) cards none = rw none refl
-
-rest-none : (s : Machine) (xs : List Signal) (cards : List (List ℕ)) → rests s ≡ false → with_signals_at_rest s xs cards ≡ at_hand s xs cards
-rest-none s [] cards awake = refl
-rest-none s (x ∷ xs) cards awake = rw awake refl
 
 module _ (ds : List ℕ) (n : ℕ) where
   -- ---- the lines
@@ -127,7 +115,7 @@ module _ (m : Moment) (s t : Machine) (xs ys : List Signal) (ps qs : List (List 
 module _ (s : Machine) (missed : Bool) (xs : List Signal) (still : still_by s missed xs ≡ true) where
   record Parts : Type 0 where
     right : missed ≡ false
-    no_signal : has_due xs s.done ≡ false
+    no_signal : signal_due s.done xs ≡ false
     reader_free : s.reader ≡ None
     printer_free : s.printer ≡ None
     no_waiting : s.waiting ≡ false
@@ -142,46 +130,43 @@ module _ (s : Machine) (missed : Bool) (xs : List Signal) (still : still_by s mi
       let e = and_parts _ _ d.0 in
       record {
         right = not-true missed e.0;
-        no_signal = not-true (has_due xs s.done) e.1;
+        no_signal = not-true (signal_due s.done xs) e.1;
         reader_free = none-is s.reader d.1;
         printer_free = none-is s.printer c.1;
         no_waiting = not-true s.waiting b.1;
         none_taken = none-is (interrupt s) a.1;
       }
 
-  signals-still : (cards : List (List ℕ)) → with_due_signals s xs cards ≡ at_hand s xs cards
-  signals-still cards = due-none s xs cards parts.no_signal
+  module _ (cards : List (List ℕ)) where
+    reader : is_due s.done s.reader ≡ false
+    reader = ap (is_due s.done) parts.reader_free
 
-  orders-still : (cards : List (List ℕ)) → (with_due_orders (at_hand s xs cards)).scene ≡ at_hand s xs cards
-  orders-still cards = orders-none s xs cards parts.reader_free parts.printer_free
+    printer : is_due s.done s.printer ≡ false
+    printer = ap (is_due s.done) parts.printer_free
 
-  awake : rests s ≡ false
-  awake = rw parts.no_waiting refl
+    awake : rests s ≡ false
+    awake = rw parts.no_waiting refl
 
-  wait-still : (cards : List (List ℕ)) → (with_wait (at_hand s xs cards)).scene ≡ at_hand s xs cards
-  unfolding with_wait with_order_at_rest
-  wait-still cards = rw (awake, awake) (rest-none s xs cards awake)
+    pub due-still : with_due_orders (with_due_signals s xs cards) ≡ uneventful (at_hand s xs cards)
+    due-still = none-due (at_hand s xs cards) parts.no_signal reader printer awake
 
-  interlude-still : (cards : List (List ℕ)) → (interlude (at_hand s xs cards)).scene ≡ at_hand s xs cards
-  unfolding interlude
-  interlude-still cards =
-      ap (λ c. (with_wait (with_due_orders c).scene).scene) (signals-still cards)
-      ∙ ap (λ c. (with_wait c).scene) (orders-still cards)
-      ∙ wait-still cards
+    pub waited-still : false ≡ rests (with_due_orders (with_due_signals s xs cards)).scene.machine
+    waited-still = sym (ap (λ (r : Transition). rests r.scene.machine) due-still ∙ awake)
+
+    pub interlude-still : interlude (at_hand s xs cards) ≡ uneventful (at_hand s xs cards)
+    interlude-still = none-comes (at_hand s xs cards) parts.no_signal reader printer awake
 
   module _ (m : Moment) (cards : List (List ℕ)) (scene : m.scene ≡ at_hand s xs cards) (guessed : m.missed ≡ missed) where
     same : next_scene m ≡ at_hand s xs cards
-    same = ap (λ c. (interlude c).scene) scene ∙ interlude-still cards
+    same = ap (λ c. (interlude c).scene) scene ∙ ap (λ (r : Transition). r.scene) (interlude-still cards)
 
     pub going-still : rests (next_state m) ≡ false
-    going-still = ap (λ c. rests c.machine) same ∙ awake
+    going-still = ap (λ c. rests c.machine) same ∙ awake cards
 
     no_wait : has_waited m ≡ false
     no_wait =
         ap (λ c. rests (with_due_orders (with_due_signals c.machine c.signals c.cards)).scene.machine) scene
-        ∙ ap (λ c. rests (with_due_orders c).scene.machine) (signals-still cards)
-        ∙ ap (λ c. rests c.machine) (orders-still cards)
-        ∙ awake
+        ∙ sym (waited-still cards)
 
     no_card : has_card m ≡ false
     no_card =

@@ -18,7 +18,8 @@ use Rattle.st_rows.specs.declared.front.Front.{Front}
 use Rattle.st_run.specs.Run.{Scene}
 use Rattle.st_run.specs.Reached.{IsCard}
 use Rattle.st_run.specs.Outside.{Coming}
-use Rattle.st_run.specs.Moments.{Moment, Standing, moment_at_start, answers_at_start, next_state, next_front, standing_at, next_moment}
+use Rattle.st_ahead.specs.Overlap.{idle_banks}
+use Rattle.st_run.specs.Moments.{Moment, Standing, moment_at_start, next_state, next_front, standing_at, next_moment}
 use Rattle.st_exec.proofs.StepLemmas.{step-done}
 use Rattle.st_run.proofs.DoneLemmas.{settled-done}
 use Rattle.st_run.proofs.Bounds.{IsMoment, HasTime, start-is, next-is, next-time}
@@ -69,7 +70,7 @@ next-done ds n m = step-done (next_state m) ∙ ap (λ d. d + 1) (settled-done m
 
 pub run-starts : (s : OutputState) (ds : List ℕ) (n budget : ℕ) (state : Machine) (signals : List Signal) (cards : List (List ℕ)) (table : Origins) (a : Account)
     → length a.words.items ≡ words_of_storage → AreDelaysUpTo 255 ds → n ≤ 8 → IsMachine state → All IsCard cards → state.done ≡ 0 → budget ≤ MOST_INSTRUCTIONS
-    → AreWithin 0 a.sums → a.state ≡ state → a.origins ≡ table → a.k ≡ 0 → a.last.tick ≡ 0 → a.last.front ≡ opening_front answers_at_start 0
+    → AreWithin 0 a.sums → a.state ≡ state → a.origins ≡ table → a.k ≡ 0 → a.last.tick ≡ 0 → a.last.front ≡ opening_front idle_banks 0
     → a.last.past ≡ a.last.front.past → a.last.missed ≡ false → a.last.ic ≡ state.ic → a.last.enabled ≡ state.enabled → a.last.ic < 2 ^ 19 → a.log ≡ []
     → IsTight 255 a.last.front → a.last.uses.items ≡ [] → IsWaiting a.last a.waiting.totals → AreWaitsWithin 0 a.waiting.totals
     → IsRunning s s (lines_from (origin_at table) ds n budget 0 state [] (moment_at_start (at_hand state signals cards))) ds n

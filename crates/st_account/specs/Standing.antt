@@ -13,6 +13,7 @@ use Rattle.st_rows.specs.declared.log.Made.{Made}
 use Rattle.st_segment.specs.Ahead.{ahead, prepared_before, reads_before}
 use Rattle.st_exec.specs.Step.{interrupt}
 use Rattle.st_card.specs.declared.control_cards.Signal.{Signal}
+use Rattle.st_run.specs.Between.{signal_due}
 use Rattle.st_run.specs.Moments.{Moment, Standing, next_scene, has_card, has_waited}
 use Rattle.st_run.specs.Reached.{IsCard}
 use Rattle.st_ledger.specs.Charges.{parts_of_row, charges_behind, all_ticks}
@@ -145,14 +146,9 @@ pub record IsBehindMoment (ds : List ℕ) (n left : ℕ) (b : Machine) (m : Mome
   pub unchanged : a.k ≢ 0 → (v : ℕ) → v < WORDS → IsUntouched v a.behind.may →
       slice_index a.words.items v ≡ word a.state v
 
--- a signal is due
-abbrev pub has_due : List Signal → ℕ → Bool
-has_due [] done = false
-has_due (x ∷ xs) done = nat_le x.count done
-
 -- the guess was right, and nothing comes: no signal is due, no device has an order, the machine
 -- does not wait, and no interrupt is taken
 abbrev pub still_by : Machine → Bool → List Signal → Bool
 still_by s missed xs =
-    not missed && not (has_due xs s.done) && is_none s.reader && is_none s.printer && not s.waiting
+    not missed && not (signal_due s.done xs) && is_none s.reader && is_none s.printer && not s.waiting
     && is_none (interrupt s)

@@ -239,7 +239,7 @@ impl Account {
         let still = is_still(&self.state, self.last.missed, coming.signals());
         self.look_if(timing, is_end_near(left, still));
         self.behind.may = changeable(&self.last.plan, &self.state);
-        let came = settle(&mut self.state, coming, &mut self.behind.printed);
+        let came = settle(still, &mut self.state, coming, &mut self.behind.printed);
         self.behind.card = came.card;
         self.behind.waited = came.waited;
     }

@@ -1,18 +1,27 @@
 //! What comes between two entries.
-ghost use Rattle.std.specs.Prelude.{◌≡◌, nat_lt, length};
+ghost use Rattle.std.specs.Prelude.{◌≡◌, Bool, true, nat_lt, length};
 ghost use Rattle.st_exec.specs.Step.{rests};
 ghost use Rattle.st_run.specs.Outside.{scene_at};
 ghost use Rattle.st_run.specs.Run.{with_due_signals, with_due_orders, interlude};
 ghost use Rattle.st_account.specs.Settling.{words_printed};
+ghost use Rattle.st_account.specs.Standing.{still_by};
 
 use st_lines::Printed;
 use st_run::Coming;
 use st_run::between::{Interlude, between};
 use st_state::State;
 
-/// Signals and orders come that are due, and what ends a wait. `printed` is then what is printed,
-/// whatever it was.
-pub(crate) fn settle(state: &mut State, coming: &mut Coming<'_>, printed: &mut Printed) -> Interlude
+/// Signals and orders come that are due, and what ends a wait; nothing, where it is said to be
+/// still. `printed` is then what is printed, whatever it was.
+pub(crate) fn settle(
+    still: bool,
+    state: &mut State,
+    coming: &mut Coming<'_>,
+    printed: &mut Printed,
+) -> Interlude
+    requires { still ≡ true →
+        (missed : Bool) × (still_by state.old missed coming.old.signals ≡ true) }
+
     ensures came { scene_at state.new coming.new
         ≡ (interlude (scene_at state.old coming.old)).scene }
     ensures printed { printed.new.items
@@ -21,8 +30,15 @@ pub(crate) fn settle(state: &mut State, coming: &mut Coming<'_>, printed: &mut P
     ensures waited { result.waited ≡ rests (with_due_orders (with_due_signals state.old
         coming.old.signals coming.old.cards)).scene.machine }
 {
-    let came = between(state, coming);
     printed.clear();
+    if still {
+        return Interlude {
+            card: false,
+            waited: false,
+            words: None,
+        };
+    }
+    let came = between(state, coming);
     if let Some(words) = came.words {
         printed.push(words);
     }

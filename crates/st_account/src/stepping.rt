@@ -13,7 +13,8 @@ ghost use Rattle.st_rows.specs.Ranges.{IsTight};
 ghost use Rattle.st_rows.specs.Rows.{row_of_entry as row_of, front_after_entry as after_of};
 ghost use Rattle.st_segment.specs.Entries.{entry as entry_of};
 ghost use Rattle.st_account.specs.Text.{why_by};
-ghost use Rattle.st_account.specs.Standing.{guessing, has_due, still_by};
+ghost use Rattle.st_run.specs.Between.{signal_due};
+ghost use Rattle.st_account.specs.Standing.{guessing, still_by};
 ghost use Rattle.st_lines.specs.declared.lines.Why.TheVariants.{Run as RunBegins};
 ghost use Rattle.st_state.specs.Machine.{IsMachine};
 
@@ -65,7 +66,7 @@ pub(crate) fn end_of(ends: bool, tick: u64) -> Option<u64>
 
 // Whether a signal is due.
 fn is_signal_due(signals: &[Signal], done: u64) -> bool
-    ensures { result ≡ has_due signals.now done }
+    ensures { result ≡ signal_due done signals.now }
 {
     match signals {
         [first, ..] => first.count <= done,

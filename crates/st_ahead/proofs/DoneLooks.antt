@@ -152,7 +152,7 @@ opened-at ds n now u f next closed alone late place = (
       words = λ unread. closed.3 ∙ sym (so-far ds f next.own next.target closed.1 closed.2);
       awaited = ap (λ (s : Fetching). s.awaited) (closed.3 ∙ sym (so-far ds f next.own next.target closed.1 closed.2));
     };
-    planned = rw closed.0 tt;
+    planned = λ planned. absurd (cc (planned, closed.0));
   },
   Waits closed.0 (omega (arith, late, wanted-alone f alone)),
 )

@@ -24,7 +24,7 @@ use Rattle.st_ring.specs.Levels.{AreLevels}
 use Rattle.st_ring.specs.declared.plans.Plan.{Plan}
 use Rattle.st_next.specs.Known.{IsStateBefore}
 use Rattle.st_next.specs.Words.{asked_so_far}
-use Rattle.st_next.specs.Progress.{IsPlanned, IsPlannedIf, reads_so_far}
+use Rattle.st_next.specs.Progress.{IsPlanned, reads_so_far}
 use Rattle.st_next.specs.declared.next.Next.{Next}
 use Rattle.st_ahead.specs.Look.{LookView, IsNextIf, count, is_open}
 use Rattle.st_ahead.specs.Going.{IsGoing, BecomesLevel}
@@ -128,7 +128,7 @@ becomes-level ds n now t s f v some most are few early is planned due run before
     let e = entry k u in
     let opened : is_open v ≡ true = planned-open (is_open v) ds n (now + 1) t s v is.next planned in
     let next = (next-known ds n now (now + 1) t s f v is opened).0 in
-    let all : IsPlanned ds n k u v.front v.next = subst (λ (b : Bool). IsPlannedIf b ds n k u v.front v.next) planned next.planned in
+    let all : IsPlanned ds n k u v.front v.next = next.planned planned in
     let indicator = behind-indicator (count v) t is.indicator in
     let range : IsEntryInTime e = entry-ranges k u before.machine indicator in
     let p : tick_p ds n v.front e ≡ now = sym all.tick ∙ due in

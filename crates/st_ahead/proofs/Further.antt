@@ -29,7 +29,6 @@ use Rattle.st_next.specs.Progress.{IsNext, IsPlanned, IsKnown, Rests, Planned, W
 use Rattle.st_next.specs.declared.next.Next.{Next}
 use Rattle.st_next.proofs.Resting.{address-late}
 use Rattle.st_next.proofs.Starting.{new-reads}
-use Rattle.st_next.proofs.Steps.{planned-is}
 use Rattle.st_next.proofs.Whole.{served-so-far}
 use Rattle.st_ahead.specs.Look.{LookView, IsNextIf, count, is_open, asked_ahead, reads_ahead}
 use Rattle.st_ahead.specs.Going.{IsGoing}
@@ -184,7 +183,7 @@ known-further ds n now later t s f v next log opened un before goes more is =
           subst (λ (b : Bool). IsNextIf b ds n later t s (record { levels = v.levels; front = v.front; log = log; next = next }))
           (sym opened) new;
       late = λ planned.
-          let all : IsPlanned ds n k u v.front next = planned-is next.planned ds n k u v.front next planned new.0.planned in
+          let all : IsPlanned ds n k u v.front next = new.0.planned planned in
           omega (arith, a, a-p ds n v.front (entry k u), all.tick);
       logged =
           logged-more ds f.bus.free (asked_ahead ds n (count v) t s f) (reads_so_far ds v.front v.next) (reads_so_far ds v.front next) more.added

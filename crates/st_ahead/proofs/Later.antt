@@ -33,7 +33,6 @@ use Rattle.st_next.specs.Words.{asked_so_far}
 use Rattle.st_next.specs.Progress.{IsNext, IsPlanned, Rests, reads_so_far}
 use Rattle.st_next.specs.declared.next.Next.{Next}
 use Rattle.st_next.proofs.Resting.{address-late, rest-left}
-use Rattle.st_next.proofs.Steps.{planned-is}
 use Rattle.st_ahead.specs.Look.{LookView, IsOutlook, IsNextIf, count, is_open, asked_ahead}
 use Rattle.st_ahead.proofs.Further.{bus-ahead, some-by}
 
@@ -118,7 +117,7 @@ module _ (ds : List ℕ) (n now : ℕ) (ordered : AreOrdered ds n) where
   next-later t u f next is rests late = by-planned next.planned refl
     where
       by-planned : (b : Bool) → next.planned ≡ b → IsLater ds n now f (entry t u) next
-      by-planned true e = planned-later t u f next (planned-is next.planned ds n t u f next e is.planned) e (late e)
+      by-planned true e = planned-later t u f next (is.planned e) e (late e)
       by-planned false e = unplanned-later t u f next is e rests
 
   -- ---- behind a level that is done alone

@@ -11,7 +11,6 @@ use Rattle.st_segment.specs.Guesses.{guesses, table_behind}
 use Rattle.st_segment.proofs.EntryRanges.{entry-ranges}
 use Rattle.st_segment.proofs.GuessLemmas.{behind-indicator, guesses-machine}
 use Rattle.st_next.proofs.Contents.{words-entry, contents-same}
-use Rattle.st_next.proofs.Steps.{planned-is}
 use Rattle.st_ahead.proofs.Further.{next-known}
 use Rattle.st_ahead.proofs.Settling.{look-goes}
 use Rattle.st_ahead.proofs.Openings.{opening-looks}
@@ -69,7 +68,7 @@ instruction_words_are_those_of_the_run = record {
   fetched = λ ds n tick now t s f v look planned.
       let opened = planned-open (is_open v) ds n now t s v look.outlook.next planned in
       let next = (subst (λ (b : Bool). IsNextIf b ds n now t s v) opened look.outlook.next).0 in
-      (planned-is v.next.planned ds n (table_behind (count v) t) (guesses (count v) t s) v.front v.next planned next.planned).all.found;
+      (next.planned planned).all.found;
 }
 
 pub openings_look : OpeningsLook

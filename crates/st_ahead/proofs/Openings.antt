@@ -114,7 +114,7 @@ next-none ds n now t s f next place no_own no_target unplanned words late alone 
       words = λ unread. words ∙ sym (so-far ds f next.own next.target no_own no_target);
       awaited = ap (λ (s : Fetching). s.awaited) (words ∙ sym (so-far ds f next.own next.target no_own no_target));
     };
-    planned = rw unplanned tt;
+    planned = λ planned. absurd (cc (planned, unplanned));
   },
   Waits unplanned (omega (arith, late, wanted_if f.serial alone)),
 )

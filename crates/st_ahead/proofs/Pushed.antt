@@ -19,7 +19,7 @@ use Rattle.st_ring.specs.declared.level.Level.{Level}
 use Rattle.st_segment.specs.Entries.{entry}
 use Rattle.st_segment.specs.Guesses.{guesses, table_behind}
 use Rattle.st_ring.specs.Levels.{AreAhead, AreNotDone}
-use Rattle.st_next.specs.Progress.{IsPlanned, IsPlannedIf, reads_so_far}
+use Rattle.st_next.specs.Progress.{IsPlanned, reads_so_far}
 use Rattle.st_next.proofs.Starting.{new-next, new-rests, new-reads}
 use Rattle.st_ahead.specs.Look.{LookView, IsNextIf, count, is_open, asked_ahead, reads_ahead}
 use Rattle.st_ahead.specs.Going.{IsGoing, BecomesLevel}
@@ -84,7 +84,7 @@ module _ (ds : List ℕ) (n now : ℕ) (t : Option ℕ) (s : Machine) (f : Front
   logged-pushed is becomes planned counted none kept =
       let x = v.next.entry in
       let so_far = asked_ahead ds n (count v) t s f in
-      let all : IsPlanned ds n k u v.front v.next = subst (λ (b : Bool). IsPlannedIf b ds n k u v.front v.next) planned becomes.is_next.planned in
+      let all : IsPlanned ds n k u v.front v.next = becomes.is_next.planned planned in
       let added = prepared_asked ds n v.front x in
       let formed : reads_so_far ds v.front v.next ≡ formed_asked ds v.front x =
       reads-formed ds n k u v.front v.next all planned ∙ ap (formed_asked ds v.front) (sym becomes.same) in

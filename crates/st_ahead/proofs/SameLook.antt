@@ -23,7 +23,7 @@ use Rattle.st_ring.specs.declared.plans.Plan.{Plan}
 use Rattle.st_ring.proofs.AloneLemmas.{AwaitsLast, behind-ahead}
 use Rattle.st_ring.proofs.PassLemmas.{ahead-same, full-same}
 use Rattle.st_next.specs.Words.{AreFirstWords}
-use Rattle.st_next.specs.Progress.{IsNext, IsFoundNext, IsPlannedIf, Rests, Planned, Waits, Target, reads_so_far}
+use Rattle.st_next.specs.Progress.{IsNext, IsFoundNext, IsPlanned, Rests, Planned, Waits, Target, reads_so_far}
 use Rattle.st_next.specs.declared.next.Next.{Next}
 use Rattle.st_ahead.specs.Look.{LookView, IsLook, IsOpened, IsNextIf, asked_ahead, count, is_open}
 
@@ -59,10 +59,9 @@ module _ (ds : List ℕ) (n : ℕ) where
         found = is.found ∙ ap (λ v. v.fetched) (sym (same-sight s u t beside));
       }
 
-  planned-same : (b : Bool) (t : Option ℕ) (s u : Machine) (f : Front) (next : Next) → AreAlikeBesideOrders s u
-      → IsPlannedIf b ds n t s f next → IsPlannedIf b ds n t u f next
-  planned-same false t s u f next beside is = tt
-  planned-same true t s u f next beside is =
+  planned-same : (t : Option ℕ) (s u : Machine) (f : Front) (next : Next) → AreAlikeBesideOrders s u
+      → IsPlanned ds n t s f next → IsPlanned ds n t u f next
+  planned-same t s u f next beside is =
       let same : entry t s ≡ entry t u = sym (entry-same t s u beside) in
       let seen : sight s (place_of s t) ≡ sight u (place_of u t) = sym (same-sight s u t beside) in
       record {
@@ -84,7 +83,7 @@ module _ (ds : List ℕ) (n : ℕ) where
       words = is.read_on.words;
       awaited = is.read_on.awaited;
     };
-    planned = planned-same next.planned t s u f next beside is.planned;
+    planned = λ done. planned-same t s u f next beside (is.planned done);
   }
 
   rests-same : (now : ℕ) (t : Option ℕ) (s u : Machine) (f : Front) (next : Next) → AreAlikeBesideOrders s u

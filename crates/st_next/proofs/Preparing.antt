@@ -22,7 +22,7 @@ use Rattle.st_segment.specs.Entries.{entry, side_to_read}
 use Rattle.st_next.specs.Known.{IsStateBefore}
 use Rattle.st_next.specs.Progress.{IsPlanned, IsNext, IsNextReady}
 use Rattle.st_next.specs.declared.next.Next.{Next}
-use Rattle.st_next.proofs.Steps.{planned-is, sight-same}
+use Rattle.st_next.proofs.Steps.{sight-same}
 
 -- ---- the writers of the index-side word are done
 
@@ -88,7 +88,7 @@ module _ (ds : List ℕ) (n now : ℕ) (f : Front) (x : List ℕ) (s : Machine) 
   now_seen = sight_of next.place next.fetched x s
 
   planned : IsPlanned ds n t u f next
-  planned = planned-is next.planned ds n t u f next done is.planned
+  planned = is.planned done
 
   same : now_seen ≡ v
   same = sight-same now f x s u t next.place next.fetched before is.read_on.place planned.all.found

@@ -21,7 +21,7 @@ use Rattle.st_segment.proofs.EntryRanges.{entry-ranges}
 use Rattle.st_segment.proofs.KnownEarly.{known-early}
 use Rattle.st_next.specs.Words.{run_with_word, words_so_far}
 use Rattle.st_next.specs.Known.{IsStateBefore}
-use Rattle.st_next.specs.Progress.{IsReadOn, IsPlanned, IsPlannedIf, Rests, Planned, Waits, Target}
+use Rattle.st_next.specs.Progress.{IsReadOn, IsPlanned, Rests, Planned, Waits, Target}
 use Rattle.st_next.specs.Going.{GoesOnTo, IsPreparedBy, entry_seen, prepared_as}
 use Rattle.st_next.specs.declared.next.Next.{Next}
 use Rattle.st_next.proofs.Starts.{IsNextOwn, own-more, IsNextTarget, target-more, word-behind, IsAll}
@@ -30,17 +30,8 @@ use Rattle.st_next.proofs.Contents.{words-entry, contents-same, reading-same, gi
 use Rattle.st_next.proofs.WordByWord.{own-fetched, target-fetched}
 use Rattle.st_next.proofs.Late.{waits-some}
 
-pub planned-none : (b : Bool) (ds : List ℕ) (n : ℕ) (t : Option ℕ) (u : Machine) (f : Front) (next : Next) → b ≡ false → IsPlannedIf b ds n t u f next
-planned-none false ds n t u f next e = tt
-planned-none true ds n t u f next e = absurd (cc)
-
-planned-some : (b : Bool) (ds : List ℕ) (n : ℕ) (t : Option ℕ) (u : Machine) (f : Front) (next : Next) → b ≡ true → IsPlanned ds n t u f next → IsPlannedIf b ds n t u f next
-planned-some false ds n t u f next e is = tt
-planned-some true ds n t u f next e is = is
-
-pub planned-is : (b : Bool) (ds : List ℕ) (n : ℕ) (t : Option ℕ) (u : Machine) (f : Front) (next : Next) → b ≡ true → IsPlannedIf b ds n t u f next → IsPlanned ds n t u f next
-planned-is false ds n t u f next e is = absurd (cc)
-planned-is true ds n t u f next e is = is
+pub planned-none : (b : Bool) (ds : List ℕ) (n : ℕ) (t : Option ℕ) (u : Machine) (f : Front) (next : Next) → b ≡ false → b ≡ true → IsPlanned ds n t u f next
+planned-none b ds n t u f next un is = absurd (cc)
 
 abbrev sight_with : Place → Fetched → List ℕ → ℕ → Bool → Sight
 sight_with p fd x b on = record { place = p; fetched = fd; x = x; bounds = b; enabled = on }
@@ -206,9 +197,7 @@ module _ (ds : List ℕ) (n now : ℕ) (f : Front) (x : List ℕ) (s : Machine) 
   prepared-by fd after e same = subst (IsPreparedBy now x s) (sym same) (record {
     found = ap (λ (words : List ℕ). fetching_of (left_after (reading_at_place x (word s 3) s.enabled before.place) words)) (sym contents) ∙ e;
     done = due;
-    needed = refl;
-    ready = refl;
-    entry = refl;
+    prepared = refl;
   })
 
   -- ---- the plan
@@ -229,7 +218,7 @@ module _ (ds : List ℕ) (n now : ℕ) (f : Front) (x : List ℕ) (s : Machine) 
                   made.awaited ∙ next.read_on.awaited ∙ ap (λ r. (words_so_far ds f r before.target).awaited) (sym made.own)
                   ∙ ap (λ r. (words_so_far ds f after.own r).awaited) (sym made.target);
             };
-            planned = planned-some after.planned ds n t u f after made.planned (record {
+            planned = λ done. record {
               all = record { own = made.own ∙ it.0.own_all; target = made.target ∙ it.0.target_all; found = made.found ∙ it.1 };
               needs = made.needed ∙ ap needs same;
               prepared = made.ready ∙ ap (λ v. prepared_entry v (option_map (λ w. 0) (needs v).index_read)) same;
@@ -237,7 +226,7 @@ module _ (ds : List ℕ) (n now : ℕ) (f : Front) (x : List ℕ) (s : Machine) 
               address = made.address ∙ ap (tick_a ds f) whole;
               bus = made.bus ∙ ap (bus_a ds f) whole;
               tick = made.tick ∙ ap (tick_p ds n f) whole;
-            });
+            };
           },
           Planned made.planned,
         );

@@ -20,7 +20,6 @@ use Rattle.st_next.specs.declared.next.Next.{Next}
 use Rattle.st_next.proofs.Late.{IsLate}
 use Rattle.st_next.proofs.Resting.{address-late, rest-left}
 use Rattle.st_next.proofs.Asking.{reads-none, reads-planned, side-late}
-use Rattle.st_next.proofs.Steps.{planned-is}
 
 -- all of the data is wanted when the address is formed or later
 data-late : (ds : List ℕ) (n m : ℕ) (f : Front) (e : Entry) → m ≤ tick_a ds f e → All (IsLate m) (data_of ds n f e)
@@ -59,7 +58,7 @@ module _ (ds : List ℕ) (n : ℕ) (t : Option ℕ) (u : Machine) (f : Front) (n
   e = entry t u
 
   planned : IsPlanned ds n t u f next
-  planned = planned-is next.planned ds n t u f next done is.planned
+  planned = is.planned done
 
   planned-reads : reads_so_far ds f next ≡ fetches_asked ds f e ++ side_asked f.past e.side (tick_a ds f e)
   planned-reads =

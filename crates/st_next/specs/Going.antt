@@ -94,11 +94,7 @@ pub record IsPreparedBy (now : ℕ) (x : List ℕ) (s : Machine) (next : Next) :
   pub found : fetching_of (left_after (reading_at_place x (word s 3) s.enabled next.place)
       (map (word s) (words_of_run next.own ++ words_of_run next.target))) ≡ FoundAll next.fetched
   pub done : next.words.awaited ≤ now
-  pub needed : next.needs ≡ needs (sight_of next.place next.fetched x s)
-  pub ready : next.prepared
-      ≡ prepared_entry (sight_of next.place next.fetched x s)
-      (option_map (λ w. 0) (needs (sight_of next.place next.fetched x s)).index_read)
-  pub entry : next.entry ≡ entry_seen next.own next.target (sight_of next.place next.fetched x s)
+  pub prepared : next ≡ prepared_as next.fetched x s next
 
 -- what an entry that is planned is prepared to at its tick: the next entry of whatever state stands
 -- before it then

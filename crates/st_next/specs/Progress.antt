@@ -42,16 +42,11 @@ pub record IsPlanned (ds : List ℕ) (n : ℕ) (t : Option ℕ) (u : Machine) (f
   pub bus : next.words.bus ≡ bus_a ds f (entry_of t u)
   pub tick : next.formed.p ≡ tick_p ds n f (entry_of t u)
 
--- the entry is planned, where the mark says so
-abbrev pub IsPlannedIf : Bool → List ℕ → ℕ → Option ℕ → Machine → Front → Next → Type 0
-IsPlannedIf false ds n t u f next = Unit {0}
-IsPlannedIf true ds n t u f next = IsPlanned ds n t u f next
-
 -- it is read as far as its words tell, and planned where its mark says so
 pub record IsNext (ds : List ℕ) (n : ℕ) (t : Option ℕ) (u : Machine) (f : Front)
     (next : Next) : Type 0 where
   pub read_on : IsReadOn ds t u f next
-  pub planned : IsPlannedIf next.planned ds n t u f next
+  pub planned : next.planned ≡ true → IsPlanned ds n t u f next
 
 -- the reads that are asked for it so far
 abbrev pub reads_so_far : List ℕ → Front → Next → List Read

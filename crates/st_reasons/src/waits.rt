@@ -232,7 +232,7 @@ fn add_held(waits: &mut Waits, span: Span, word: u32, before: &[Use])
 // end of the span.
 fn add_bus(waits: &mut Waits, span: Span, before: &[Use])
     requires room { length waits.old.items + 2 * length before.now + 2 ≤ 514 }
-    ensures items { waits.new.items ≡ waits.old.items 
+    ensures items { waits.new.items ≡ waits.old.items
         ++ bus_waits span.from span.to (reverse before.now) }
     ensures room { length waits.new.items ≤ length waits.old.items + 2 * length before.now + 2 }
 {

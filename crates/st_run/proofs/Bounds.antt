@@ -20,7 +20,8 @@ use Rattle.st_segment.specs.Ahead.{Ahead, ahead, prepared_before, reads_to_end}
 use Rattle.st_segment.proofs.EntryRanges.{entry-ranges}
 use Rattle.st_run.specs.Events.{Timed}
 use Rattle.st_run.specs.Scenes.{IsScene}
-use Rattle.st_run.specs.Moments.{Moment, Standing, moment_at_start, answers_at_start, next_scene, next_state, ends_segment, next_segment, next_front, standing_at, interrupt_of_moment, next_row, front_after, entries_behind, entry_of_moment, next_moment}
+use Rattle.st_ahead.specs.Overlap.{idle_banks}
+use Rattle.st_run.specs.Moments.{Moment, Standing, moment_at_start, next_scene, next_state, ends_segment, next_segment, next_front, standing_at, interrupt_of_moment, next_row, front_after, entries_behind, entry_of_moment, next_moment}
 use Rattle.st_run.specs.TimedRun.{timed_from}
 use Rattle.st_run.proofs.SceneLemmas.{settled-scene, stepped-scene}
 use Rattle.st_run.proofs.EachEvent.{timed-each, next-more}
@@ -131,7 +132,7 @@ module _ (most n : ℕ) (ds : List ℕ) (are : AreDelaysUpTo most ds) (levels : 
   pub start-is : (c : Scene) → IsScene c → IsMoment most n (moment_at_start c)
   start-is c is = record {
     scene = is;
-    tight = opening-tight most 0 answers_at_start (All-replicate (λ t. t ≤ 0 + most) BANKS 0 (omega arith));
+    tight = opening-tight most 0 idle_banks (All-replicate (λ t. t ≤ 0 + most) BANKS 0 (omega arith));
     last = omega arith;
     few = omega arith;
     banks = All-replicate (λ t. t ≤ 0 + most) BANKS 0 (omega arith);

@@ -9,7 +9,7 @@ use Rattle.st_state.specs.declared.devices.Device.TheVariants.{Reader, Printer}
 use Rattle.st_exec.specs.Step.{rests}
 use Rattle.st_exec.specs.Transfer.{read_in}
 use Rattle.st_card.specs.declared.control_cards.Signal.{Signal}
-use Rattle.st_run.specs.Run.{Scene, next_card, with_due_signals, with_signals_at_rest, with_reader, with_printer, if_due, with_due_orders, with_device, with_order_at_rest, with_wait, interlude, uneventful}
+use Rattle.st_run.specs.Run.{Scene, next_card, with_due_signals, with_signals_at_rest, if_due, with_due_orders, with_device, with_order_at_rest, with_wait, interlude, uneventful, with_order}
 use Rattle.st_refine.proofs.InTime.{all_stored-done}
 
 either : {A : Type 0} (f : A → ℕ) (n : ℕ) (b : Bool) (x y : A) → f x ≡ n → f y ≡ n → f (if b then x else y) ≡ n
@@ -28,11 +28,11 @@ read_in-done : (m : Machine) (w : ℕ) (card : Option (List ℕ)) → (read_in m
 read_in-done m w None = refl
 read_in-done m w (Some card) = all_stored-done (record m { reader = None }) w card
 
-reader-done : (o : Option Order) (c : Scene) → (with_reader o c).scene.machine.done ≡ c.machine.done
+reader-done : (o : Option Order) (c : Scene) → (with_order Reader o c).scene.machine.done ≡ c.machine.done
 reader-done None c = refl
 reader-done (Some order) c = read_in-done c.machine order.word (next_card c.cards)
 
-printer-done : (o : Option Order) (c : Scene) → (with_printer o c).scene.machine.done ≡ c.machine.done
+printer-done : (o : Option Order) (c : Scene) → (with_order Printer o c).scene.machine.done ≡ c.machine.done
 printer-done None c = refl
 printer-done (Some order) c = refl
 
@@ -44,7 +44,7 @@ device-done (Some Printer) c = printer-done c.machine.printer c
 due_orders-done : (c : Scene) → (with_due_orders c).scene.machine.done ≡ c.machine.done
 unfolding with_due_orders
 due_orders-done c =
-    let d = (with_reader (if_due c.machine.done c.machine.reader) c).scene in
+    let d = (with_order Reader (if_due c.machine.done c.machine.reader) c).scene in
     printer-done (if_due d.machine.done d.machine.printer) d ∙ reader-done (if_due c.machine.done c.machine.reader) c
 
 order_at_rest-done : (c : Scene) → (with_order_at_rest c).scene.machine.done ≡ c.machine.done

@@ -10,7 +10,7 @@ use Rattle.st_prep.proofs.Choices.{of_choice}
 use Rattle.st_exec.specs.Step.{rests}
 use Rattle.st_exec.specs.Transfer.{all_stored, read_in}
 use Rattle.st_card.specs.declared.control_cards.Signal.{Signal}
-use Rattle.st_run.specs.Run.{Scene, Transition, next_card, with_due_signals, with_signals_at_rest, with_reader, with_printer, if_due, with_due_orders, with_device, with_order_at_rest, with_wait, interlude, uneventful, and_then}
+use Rattle.st_run.specs.Run.{Scene, Transition, next_card, with_due_signals, with_signals_at_rest, if_due, with_due_orders, with_device, with_order_at_rest, with_wait, interlude, uneventful, and_then, with_order}
 
 -- how many orders the printer has
 orders : Option Order → ℕ
@@ -49,7 +49,7 @@ read-printer : (m : Machine) (w : ℕ) (card : Option (List ℕ)) → (read_in m
 read-printer m w None = refl
 read-printer m w (Some card) = stored-printer (record m { reader = None }) w card
 
-reader-prints : (o : Option Order) (c : Scene) → PrintsWithin c (with_reader o c)
+reader-prints : (o : Option Order) (c : Scene) → PrintsWithin c (with_order Reader o c)
 reader-prints None c = record { few = omega arith }
 reader-prints (Some order) c =
     let same = ap orders (read-printer c.machine order.word (next_card c.cards)) in
@@ -57,7 +57,7 @@ reader-prints (Some order) c =
 
 -- ---- the printer
 
-printer-prints : (o : Option Order) (c : Scene) → orders o ≤ orders c.machine.printer → PrintsWithin c (with_printer o c)
+printer-prints : (o : Option Order) (c : Scene) → orders o ≤ orders c.machine.printer → PrintsWithin c (with_order Printer o c)
 unfolding orders
 printer-prints None c few = record { few = omega arith }
 printer-prints (Some order) c few = record { few = few }
@@ -76,9 +76,9 @@ then-prints c r f first second =
 due_orders-prints : (c : Scene) → PrintsWithin c (with_due_orders c)
 unfolding with_due_orders
 due_orders-prints c =
-    let r = with_reader (if_due c.machine.done c.machine.reader) c in
+    let r = with_order Reader (if_due c.machine.done c.machine.reader) c in
     let d = r.scene in
-    then-prints c r (λ e. with_printer (if_due e.machine.done e.machine.printer) e)
+    then-prints c r (λ e. with_order Printer (if_due e.machine.done e.machine.printer) e)
     (reader-prints (if_due c.machine.done c.machine.reader) c)
     (printer-prints (if_due d.machine.done d.machine.printer) d (if_due-few d.machine.done d.machine.printer))
 

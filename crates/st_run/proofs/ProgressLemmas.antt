@@ -18,7 +18,9 @@ use Rattle.st_run.specs.TimedRun.{ticks_before, snapshot_at, timed_behind}
 use Rattle.st_run.specs.Order.{AreRising}
 use Rattle.st_run.specs.Told.{What, Dropped, Interrupted, Shown, Ended, Told, told_of, told_of_events}
 use Rattle.st_run.specs.Together.{Together, scene_of, IsBeforeEntry, standing_of, text_told}
-use Rattle.st_run.specs.Telling.{Waiting, taken_told, whats, at_once, told_at_end, rest_of, rest_by, state_told, ahead_of, IsRun, AreInTime, IsShown}
+use Rattle.st_run.specs.Told.{what_happens}
+use Rattle.st_run.specs.Run.{interrupts_by}
+use Rattle.st_run.specs.Telling.{Waiting, whats, at_once, told_at_end, rest_of, rest_by, state_told, ahead_of, IsRun, AreInTime, IsShown}
 use Rattle.st_run.specs.declared.turn.Turn.{Turn}
 use Rattle.st_run.specs.declared.turn.Turn.TheVariants as turns
 use Rattle.st_run.proofs.Turns.{behind-snapshot, same-words}
@@ -34,7 +36,7 @@ not-end : (xs : List What) (x : What) → xs ++ x ∷ [] ≡ [] → ⊥
 not-end [] x none = cc
 not-end (y ∷ ys) x none = cc
 
-quiet-by : (o : Option ℕ) (xs : List What) (s : Machine) → xs ++ taken_told o s ≡ [] → o ≡ None
+quiet-by : (o : Option ℕ) (xs : List What) (s : Machine) → xs ++ map what_happens (interrupts_by o s) ≡ [] → o ≡ None
 quiet-by None xs s none = refl
 quiet-by (Some i) xs s none = absurd (not-end xs (Interrupted i s) none)
 

@@ -40,11 +40,11 @@ by-orders c reader printer first second a b = rw (first ∙ a, second ∙ b) ref
 -- nothing comes
 module _ (c : Scene) (signals : signal_due c.machine.done c.signals ≡ false) (reader : is_due c.machine.done c.machine.reader ≡ false)
     (printer : is_due c.machine.done c.machine.printer ≡ false) (awake : rests c.machine ≡ false) where
-  none-due : with_due_orders (with_due_signals c.machine c.signals c.cards) ≡ uneventful c
+  pub none-due : with_due_orders (with_due_signals c.machine c.signals c.cards) ≡ uneventful c
   none-due =
       ap with_due_orders (sym (by-signal c.machine c.signals c.cards signals)) ∙ sym (by-orders c false false reader printer refl refl)
 
-  none-comes : interlude c ≡ uneventful c
+  pub none-comes : interlude c ≡ uneventful c
   unfolding interlude
   none-comes = ap (λ r. and_then r with_wait) none-due ∙ wait-none c awake
 

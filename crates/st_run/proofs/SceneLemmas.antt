@@ -14,7 +14,7 @@ use Rattle.st_prep.proofs.Choices.{of_choice}
 use Rattle.st_prep.proofs.PlanLemmas.{plan-prepared}
 use Rattle.st_exec.specs.Step.{rests, interrupt, step}
 use Rattle.st_card.specs.declared.control_cards.Signal.{Signal}
-use Rattle.st_run.specs.Run.{Scene, next_card, cards_after, with_due_signals, with_signals_at_rest, with_reader, with_printer, if_due, with_due_orders, with_device, with_order_at_rest, with_wait, interlude, scene_after_step, uneventful}
+use Rattle.st_run.specs.Run.{Scene, next_card, cards_after, with_due_signals, with_signals_at_rest, if_due, with_due_orders, with_device, with_order_at_rest, with_wait, interlude, scene_after_step, uneventful, with_order}
 use Rattle.st_exec.proofs.MachineKept.{kept-completed}
 use Rattle.st_refine.specs.Reached.{IsCard}
 use Rattle.st_run.specs.Scenes.{IsScene}
@@ -51,14 +51,14 @@ rest-scene s (x ∷ xs) cards m are =
     (rest-scene (state_with_signal s x.indicator) xs cards (signalled-machine s x.indicator m) are)
     (record { machine = m; cards = are })
 
-reader-scene : (o : Option Order) (c : Scene) → IsScene c → HasArea o → IsScene (with_reader o c).scene
+reader-scene : (o : Option Order) (c : Scene) → IsScene c → HasArea o → IsScene (with_order Reader o c).scene
 reader-scene None c is area = is
 reader-scene (Some order) c is area = record {
   machine = read-machine c.machine order.word (next_card c.cards) is.machine area.1 (first-is c.cards is.cards);
   cards = rest-cards c.cards is.cards;
 }
 
-printer-scene : (o : Option Order) (c : Scene) → IsScene c → IsScene (with_printer o c).scene
+printer-scene : (o : Option Order) (c : Scene) → IsScene c → IsScene (with_order Printer o c).scene
 printer-scene None c is = is
 printer-scene (Some order) c is = record {
   machine = printed-machine c.machine is.machine;
@@ -72,7 +72,7 @@ due_orders-scene : (c : Scene) → IsScene c → IsScene (with_due_orders c).sce
 unfolding with_due_orders
 due_orders-scene c is =
     let s = c.machine in
-    let d = (with_reader (if_due s.done s.reader) c).scene in
+    let d = (with_order Reader (if_due s.done s.reader) c).scene in
     printer-scene (if_due d.machine.done d.machine.printer) d
     (reader-scene (if_due s.done s.reader) c is (area-if_due s.done s.reader is.machine.reader_area))
 

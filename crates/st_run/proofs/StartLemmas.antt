@@ -11,13 +11,14 @@ use Rattle.st_state.specs.declared.devices.Order.{Order}
 use Rattle.st_prep.proofs.Choices.{of_choice}
 use Rattle.st_exec.specs.Step.{interrupt, rests}
 use Rattle.st_card.specs.declared.control_cards.Signal.{Signal}
-use Rattle.st_run.specs.Run.{Scene, with_due_signals, with_due_orders, with_order_at_rest, with_wait, interlude, interrupts_by, if_due, Transition, uneventful, and_then, with_reader, with_printer, with_device}
+use Rattle.st_run.specs.Run.{Scene, with_due_signals, with_due_orders, with_order_at_rest, with_wait, interlude, interrupts_by, if_due, Transition, uneventful, and_then, with_device, with_order}
+use Rattle.st_state.specs.declared.devices.Device.TheVariants.{Reader, Printer}
 use Rattle.st_rows.specs.Ranges.{AreDelaysUpTo}
 use Rattle.st_rows.specs.Rows.{opening_front}
 use Rattle.st_ahead.specs.Overlap.{Overlap, machine_at_start, machine_between_ticks, idle_banks}
 use Rattle.st_run.specs.Events.{Timed}
 use Rattle.st_run.specs.Scenes.{IsScene}
-use Rattle.st_run.specs.Moments.{Standing, moment_at_start, answers_at_start, next_state, has_card, has_waited, ends_segment, next_segment, next_front, standing_at}
+use Rattle.st_run.specs.Moments.{Standing, moment_at_start, next_state, has_card, has_waited, ends_segment, next_segment, next_front, standing_at}
 use Rattle.st_run.specs.TimedRun.{drops, happening_at, events_between, timed_behind, timed_run}
 use Rattle.st_run.specs.Order.{AreRising}
 use Rattle.st_run.specs.Told.{Told, told_of, told_of_events}
@@ -83,9 +84,9 @@ idle-interrupt s is = rw is.enabled refl
 orders-idle : (c : Scene) → IsIdle c.machine → with_due_orders c ≡ uneventful c
 unfolding with_due_orders
 orders-idle c is =
-    ap {A = Option Order} (λ o. and_then (with_reader (if_due c.machine.done o) c)
-    (λ e. with_printer (if_due e.machine.done e.machine.printer) e)) is.reader
-    ∙ ap {A = Option Order} (λ o. and_then (uneventful c) (λ e. with_printer (if_due c.machine.done o) c)) is.printer
+    ap {A = Option Order} (λ o. and_then (with_order Reader (if_due c.machine.done o) c)
+    (λ e. with_order Printer (if_due e.machine.done e.machine.printer) e)) is.reader
+    ∙ ap {A = Option Order} (λ o. and_then (uneventful c) (λ e. with_order Printer (if_due c.machine.done o) c)) is.printer
 
 order-idle : (c : Scene) → rests c.machine ≡ false → with_order_at_rest c ≡ uneventful c
 unfolding with_order_at_rest
@@ -129,13 +130,13 @@ module _ (c : Scene) (is : IsIdle c.machine) where
       ∙ ap {A = Bool} (λ b. false || false || false || b) no-interrupt
 
   abbrev pub first : Standing
-  first = record { scene = due; tick = 0; front = opening_front answers_at_start 0 }
+  first = record { scene = due; tick = 0; front = opening_front idle_banks 0 }
 
   standing-idle : standing_at (moment_at_start c) ≡ first
   unfolding next_front
   standing-idle =
       ap {A = Transition} (λ r. record (standing_at (moment_at_start c)) { scene = r.scene }) settled-idle
-      ∙ ap {A = Bool} (λ b. record { scene = due; tick = 0; front = if b then next_segment (moment_at_start c) else opening_front answers_at_start 0 }) no-end
+      ∙ ap {A = Bool} (λ b. record { scene = due; tick = 0; front = if b then next_segment (moment_at_start c) else opening_front idle_banks 0 }) no-end
 
   between-idle : events_between (moment_at_start c) ≡ []
   unfolding events_between

@@ -14,7 +14,7 @@ use Rattle.st_run.specs.Moments.{Moment, Standing, next_state, ends_segment, nex
 use Rattle.st_run.specs.TimedRun.{event_at, ticks_before, snapshots_from, last_snapshot_at, snapshot_at, drops, drops_if_ends, happening_at, events_between, completion, until_done, last_events, timed_from, timed_behind}
 use Rattle.st_run.specs.Told.{What, Dropped, Shown, Ended, Told, what_happens, told_of, told_of_events}
 use Rattle.st_run.specs.Together.{text_told, AreTexts}
-use Rattle.st_run.specs.Telling.{taken_told, whats, at_once, told_at_end}
+use Rattle.st_run.specs.Telling.{whats, at_once, told_at_end}
 use Rattle.st_run.proofs.DoneLemmas.{settled-done}
 
 -- told so many done, at a tick
@@ -74,10 +74,6 @@ module _ (m : Moment) where
   tell-drops_by true = tell-drops
   tell-drops_by false = refl
 
-  tell-taken : (o : Option ℕ) (s : Machine) → map what_happens (interrupts_by o s) ≡ taken_told o s
-  tell-taken None s = refl
-  tell-taken (Some i) s = refl
-
   tell-between : (text : Option (List ℕ)) → AreTexts text (interlude m.scene).happened
       → told_of_events (events_between m)
       ≡ map tell (whats (record { drops = drops_by (ends_segment m); text = text; taken = interrupt (next_state m) }) (next_state m))
@@ -93,8 +89,7 @@ module _ (m : Moment) where
       ∙ ap (map tell) (map-append what_happens hs is))
       ∙ sym (map-append tell ds (map what_happens hs ++ map what_happens is))
       ∙ ap (map tell) (sym (append_assoc ds (map what_happens hs) (map what_happens is))
-      ∙ ap (λ (xs : List What). ds ++ xs ++ map what_happens is) (sym same)
-      ∙ ap (λ (xs : List What). ds ++ text_told text ++ xs) (tell-taken (interrupt s) s))
+      ∙ ap (λ (xs : List What). ds ++ xs ++ map what_happens is) (sym same))
 
   -- where the state behind it has as many done
   pub told-between : (text : Option (List ℕ)) → AreTexts text (interlude m.scene).happened

@@ -1,5 +1,6 @@
 -- What happens in a run with its timetable, and what is shown of it.
 use Rattle.std.specs.Prelude.{ℕ, ◌+◌, Bool, nat_le, List, [], ◌∷◌, ◌++◌, map, length, take, drop, Option, option_map}
+use Rattle.std.specs.List.{flat_map}
 use Rattle.st_bits.specs.declared.register.TheConstants.{FIRST_INDEX_WORD, FIRST_STORAGE_WORD}
 use Rattle.st_state.specs.Machine.{Machine, word}
 use Rattle.st_prep.specs.declared.entries.IndexChange.{IndexChange}
@@ -87,5 +88,4 @@ plain_events_of _ = []
 
 -- what a list of events is there
 unfoldable pub plain_run : List Timed → List PlainEvent
-plain_run [] = []
-plain_run (x ∷ xs) = plain_events_of x.event ++ plain_run xs
+plain_run = flat_map (λ x. plain_events_of x.event)

@@ -5,6 +5,7 @@ use Rattle.st_state.specs.Machine.{Machine}
 use Rattle.st_prep.specs.Plan.{plan}
 use Rattle.st_exec.specs.Completion.{guess, is_missed}
 use Rattle.st_exec.specs.Step.{interrupt, rests}
+use Rattle.st_ahead.specs.Overlap.{idle_banks}
 use Rattle.st_run.specs.Run.{Scene, with_due_signals, with_due_orders, interlude, scene_after_step}
 use Rattle.st_banks.specs.declared.answers.LastAnswers.{LastAnswers}
 use Rattle.st_banks.specs.declared.answers.TheConstants.{BANKS}
@@ -34,19 +35,15 @@ pub record Standing : Type 0 where
   pub tick : ℕ
   pub front : Front
 
--- banks before their first read
-abbrev pub answers_at_start : LastAnswers
-answers_at_start = record { ticks = replicate BANKS 0 }
-
 -- the start of a run, at tick 0
 abbrev pub moment_at_start : Scene → Moment
 moment_at_start c = record {
   scene = c;
   tick = 0;
-  front = opening_front answers_at_start 0;
+  front = opening_front idle_banks 0;
   missed = false;
   dropped = [];
-  banks = answers_at_start;
+  banks = idle_banks;
 }
 
 -- ---- what comes between two entries

@@ -1,5 +1,6 @@
 -- The order of events.
 use Rattle.std.specs.Prelude.{ℕ, ◌+◌, ◌≤◌, List, [], ◌∷◌, ◌++◌}
+use Rattle.std.specs.List.{flat_map}
 use Rattle.st_run.specs.Events.{TimetableEvent, Timed, Shows}
 
 -- the tick at which an event is told: a snapshot at the one that was asked for, else that at which
@@ -28,8 +29,7 @@ asked_by _ = []
 
 -- the ticks at which snapshots are shown
 unfoldable pub shown_ticks : List Timed → List ℕ
-shown_ticks [] = []
-shown_ticks (x ∷ xs) = asked_by x.event ++ shown_ticks xs
+shown_ticks = flat_map (λ x. asked_by x.event)
 
 -- the tick at which the last entry was done by the end of a list of events, t before it
 unfoldable pub last_completion : ℕ → List Timed → ℕ

@@ -1,6 +1,6 @@
 -- What comes to a machine from outside between two steps, whatever the machine has beside its plain
 -- state.
-use Rattle.std.specs.Prelude.{ℕ, ◌≡◌, ◌≤◌, ◌||◌, Bool, false, nat_lt, nat_le, if◌then◌else◌, List, [], ◌∷◌, length, Option, None, Some}
+use Rattle.std.specs.Prelude.{ℕ, ◌≡◌, ◌≤◌, ◌||◌, Bool, false, nat_lt, nat_le, if◌then◌else◌, List, [], ◌∷◌, length, drop, Option, None, Some}
 use Rattle.std.specs.Option.{option_or}
 use Rattle.st_card.specs.declared.control_cards.Signal.{Signal}
 use Rattle.st_state.specs.Machine.{Machine}
@@ -28,8 +28,7 @@ first_signal (x ∷ xs) = Some x.indicator
 -- the signals that are left once one was taken, or none
 abbrev pub signals_after : Option ℕ → List Signal → List Signal
 signals_after None xs = xs
-signals_after (Some i) [] = []
-signals_after (Some i) (x ∷ xs) = xs
+signals_after _ xs = drop 1 xs
 
 -- ---- what came
 

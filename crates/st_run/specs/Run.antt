@@ -48,25 +48,6 @@ cards_after cards = drop 1 cards
 abbrev pub uneventful : Scene → Transition
 uneventful c = record { scene = c; happened = [] }
 
--- an order of the reader takes effect
-abbrev pub with_reader : Option Order → Scene → Transition
-with_reader None c = uneventful c
-with_reader (Some order) c = record {
-  scene = record c {
-    machine = read_in c.machine order.word (next_card c.cards);
-    cards = cards_after c.cards;
-  };
-  happened = [];
-}
-
--- an order of the printer takes effect: eight words are printed, and EOP is turned on
-abbrev pub with_printer : Option Order → Scene → Transition
-with_printer None c = uneventful c
-with_printer (Some order) c = record {
-  scene = record c { machine = printed_out c.machine };
-  happened = Prints c.machine (words_from c.machine order.word 8) ∷ [];
-}
-
 -- one thing after another
 abbrev pub and_then : Transition → (Scene → Transition) → Transition
 and_then r f = let q = f r.scene in record { scene = q.scene; happened = r.happened ++ q.happened }
@@ -80,10 +61,21 @@ abbrev pub order_of : Device → Machine → Option Order
 order_of Reader s = s.reader
 order_of Printer s = s.printer
 
--- an order of a device takes effect
+-- an order of a device takes effect: the reader's brings its next card, if there is one; by the
+-- printer's eight words are printed, and EOP is turned on
 abbrev pub with_order : Device → Option Order → Scene → Transition
-with_order Reader order c = with_reader order c
-with_order Printer order c = with_printer order c
+with_order _ None c = uneventful c
+with_order Reader (Some order) c = record {
+  scene = record c {
+    machine = read_in c.machine order.word (next_card c.cards);
+    cards = cards_after c.cards;
+  };
+  happened = [];
+}
+with_order Printer (Some order) c = record {
+  scene = record c { machine = printed_out c.machine };
+  happened = Prints c.machine (words_from c.machine order.word 8) ∷ [];
+}
 
 -- the order of a device takes effect, where it is due
 abbrev pub with_due_order : Device → Scene → Transition

@@ -11,7 +11,8 @@ use Rattle.st_ahead.specs.declared.events.Row.{Row}
 use Rattle.st_run.specs.Events.{Level, level_at, with_index_words}
 use Rattle.st_run.specs.TimedRun.{ticks_before, timed_from, timed_behind}
 use Rattle.st_run.specs.Order.{AreRising}
-use Rattle.st_run.specs.Told.{What, Done, Dropped, Printed, Interrupted, Shown, Ended, Told, told_of_events}
+use Rattle.st_run.specs.Run.{interrupts_by}
+use Rattle.st_run.specs.Told.{What, what_happens, Done, Dropped, Printed, Interrupted, Shown, Ended, Told, told_of_events}
 use Rattle.st_run.specs.Together.{Together, IsBeforeEntry, IsBehindEntry, standing_of, moment_of, text_told}
 use Rattle.st_run.specs.declared.told.TimedRunEvent.{TimedRunEvent as ToldNext}
 use Rattle.st_run.specs.declared.told.RunEvent.{RunEvent as WhatTold}
@@ -28,14 +29,16 @@ pub record Telling : Type 0 where
 
 -- ---- what is told next
 
--- what an answer tells at a tick, where this state, these levels and this text are shown
-abbrev pub what_told : WhatTold → ℕ → Machine → List Level → List ℕ → What
-what_told (tells.Done address p r) tick s levels text = Done address p r tick
-what_told (tells.Dropped address p) tick s levels text = Dropped address p
-what_told tells.Printed tick s levels text = Printed text
-what_told (tells.Interrupted i) tick s levels text = Interrupted i s
-what_told (tells.Shown at) tick s levels text = Shown at s levels
-what_told (tells.Ended rests) tick s levels text = Ended rests s
+-- at a tick, where this state, these levels and this text are shown
+module _ (tick : ℕ) (s : Machine) (levels : List Level) (text : List ℕ) where
+  -- what an answer tells
+  abbrev pub what_told : WhatTold → What
+  what_told (tells.Done address p r) = Done address p r tick
+  what_told (tells.Dropped address p) = Dropped address p
+  what_told tells.Printed = Printed text
+  what_told (tells.Interrupted i) = Interrupted i s
+  what_told (tells.Shown at) = Shown at s levels
+  what_told (tells.Ended rests) = Ended rests s
 
 -- a row as it is told
 abbrev pub row_told : Row → Told
@@ -66,14 +69,10 @@ pub record Waiting : Type 0 where
   pub text : Option (List ℕ)
   pub taken : Option ℕ
 
--- the interrupt that is taken
-abbrev pub taken_told : Option ℕ → Machine → List What
-taken_told None s = []
-taken_told (Some i) s = Interrupted i s ∷ []
-
 -- all of this in its order
 unfoldable pub whats : Waiting → Machine → List What
-whats w s = map (λ d. Dropped d.0 d.1) (reverse w.drops) ++ text_told w.text ++ taken_told w.taken s
+whats w s = map (λ d. Dropped d.0 d.1) (reverse w.drops) ++ text_told w.text
+    ++ map what_happens (interrupts_by w.taken s)
 
 -- told in a state whose last entry was done at a tick
 abbrev pub at_once : ℕ → Machine → What → Told
@@ -133,7 +132,7 @@ told_with t m text =
     record {
       done = t.done;
       tick = t.tick;
-      what = what_told t.what t.tick (state_told m) (ahead_of m) text;
+      what = what_told t.tick (state_told m) (ahead_of m) text t.what;
     }
 
 -- a level as the machine shows it

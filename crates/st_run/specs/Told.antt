@@ -1,5 +1,5 @@
 -- What is told of a run, one thing after another.
-use Rattle.std.specs.Prelude.{ℕ, Bool, List, [], ◌∷◌}
+use Rattle.std.specs.Prelude.{ℕ, Bool, List, [], ◌∷◌, map}
 use Rattle.st_state.specs.Machine.{Machine}
 use Rattle.st_exch.specs.Printer.{line_of_words}
 use Rattle.st_run.specs.Run.{PlainEvent, Prints, Interrupts, Executes, Ends}
@@ -43,5 +43,4 @@ told_of x = record { done = x.done; tick = x.tick; what = what_of x.event }
 
 -- what is told of events
 unfoldable pub told_of_events : List Timed → List Told
-told_of_events [] = []
-told_of_events (x ∷ xs) = told_of x ∷ told_of_events xs
+told_of_events = map told_of

@@ -133,7 +133,7 @@ impl<'a, const N: usize> Run<'a, N> {
         ensures { MatchOption result (self.old.rest ≡ []) (λ t. self.old.rest ≡ record {
           done = t.done;
           tick = t.tick;
-          what = what_told t.what t.tick self.new.seen self.new.ahead self.new.text;
+          what = what_told t.tick self.new.seen self.new.ahead self.new.text t.what;
         } ∷ self.new.rest) }
     {
         next_of(&mut self.teller)
@@ -146,7 +146,7 @@ impl<'a, const N: usize> Run<'a, N> {
         ensures { MatchOption result (self.new.rest ≡ self.old.rest) (λ t. AreLeftOut (record {
           done = t.done;
           tick = t.tick;
-          what = what_told t.what t.tick self.new.seen self.new.ahead self.new.text;
+          what = what_told t.tick self.new.seen self.new.ahead self.new.text t.what;
         }) self.old.rest self.new.rest) }
     {
         pass_over(&mut self.teller)

@@ -65,12 +65,12 @@ impl Waiting {
     /// is then the one that was printed last, or the interrupt.
     pub fn next(&mut self, printed: &mut ArrayString<64>) -> Option<RunEvent>
         ensures told { (s : Machine) → MatchOption result (whats_of self.old s ≡ [])
-            (λ what. whats_of self.old s ≡ what_told what 0 s [] printed.new.bytes
+            (λ what. whats_of self.old s ≡ what_told 0 s [] printed.new.bytes what
             ∷ whats_of self.new s) }
         ensures shown { (s t : Machine) (tick : ℕ) (levels : List Level) (text : List ℕ) →
             (IsSome self.old.taken → s ≡ t)
-            → IfSome result (λ what. what_told what 0 s [] text
-            ≡ what_told what tick t levels text) }
+            → IfSome result (λ what. what_told 0 s [] text what
+            ≡ what_told tick t levels text what) }
         ensures taken { IsSome self.new.taken → IsSome self.old.taken }
         ensures none { IfNone result (self.new ≡ self.old) }
     {

@@ -11,7 +11,8 @@ use Rattle.st_rows.specs.declared.front.Front.{Front}
 use Rattle.st_rows.proofs.Sooner.{row-sooner, after-sooner, order-after, covered-after, hazard_free-behind, opening-sooner, opening-order, opening-covered}
 use Rattle.st_segment.specs.Ahead.{Ahead}
 use Rattle.st_segment.specs.Entries.{entry}
-use Rattle.st_run.specs.Moments.{Moment, answers_at_start, next_state, ends_segment, next_front, standing_at, next_row, next_moment}
+use Rattle.st_ahead.specs.Overlap.{idle_banks}
+use Rattle.st_run.specs.Moments.{Moment, next_state, ends_segment, next_front, standing_at, next_row, next_moment}
 use Rattle.st_run.specs.TimedRun.{events_between, completion, timed_from, timed_behind}
 use Rattle.st_run.specs.Order.{last_completion}
 use Rattle.st_run.proofs.ShownLemmas.{last-append, last_events-tick}
@@ -97,6 +98,6 @@ unfolding ticks
 hazard_free-ticks ds m n left c some more hazard_free =
     let parts = and_parts (are_equal ds) (is_hazard_free_behind [] left c) hazard_free in
     let same = same-delays ds some parts.0 in
-    let front = opening_front answers_at_start 0 in
-    hazard_free-sooner same.delay ds same.each m n more left c [] 0 0 front front [] [] answers_at_start answers_at_start (omega arith) (opening-sooner answers_at_start 0)
-    (opening-order answers_at_start 0) (opening-covered answers_at_start 0) parts.1 0 0
+    let front = opening_front idle_banks 0 in
+    hazard_free-sooner same.delay ds same.each m n more left c [] 0 0 front front [] [] idle_banks idle_banks (omega arith) (opening-sooner idle_banks 0)
+    (opening-order idle_banks 0) (opening-covered idle_banks 0) parts.1 0 0

@@ -327,7 +327,7 @@ fn write_told<K: Sink, const N: usize>(
         (lines_told controls.now (record {
           done = told.done;
           tick = told.tick;
-          what = what_told told.what told.tick run.now.seen run.now.ahead run.now.text;
+          what = what_told told.tick run.now.seen run.now.ahead run.now.text told.what;
         })) result }
 {
     let TimedRunEvent { done, tick, what } = told;
@@ -397,7 +397,7 @@ fn next_told<const N: usize>(
         (λ t. WritesNothing controls.now moment.old run.old.rest moment.new (record {
           done = t.done;
           tick = t.tick;
-          what = what_told t.what t.tick run.new.seen run.new.ahead run.new.text;
+          what = what_told t.tick run.new.seen run.new.ahead run.new.text t.what;
         } ∷ run.new.rest)) }
 {
     pass_counted(run, moment, controls);

@@ -10,7 +10,7 @@ use Rattle.st_state.specs.declared.devices.Device.{Device}
 use Rattle.st_state.specs.declared.devices.Device.TheVariants.{Reader, Printer}
 use Rattle.st_exch.specs.Printer.{line_of_words}
 use Rattle.st_exec.specs.Step.{rests, interrupt}
-use Rattle.st_run.specs.Run.{Scene, PlainEvent, Prints, Interrupts, Executes, Ends, interlude, with_due_signals, with_due_orders, with_reader, with_printer, if_due, with_device, with_order_at_rest, with_wait, interrupts_by, uneventful}
+use Rattle.st_run.specs.Run.{Scene, PlainEvent, Prints, Interrupts, Executes, Ends, interlude, with_due_signals, with_due_orders, if_due, with_device, with_order_at_rest, with_wait, interrupts_by, uneventful, with_order}
 use Rattle.st_report.specs.Line.{prt_line, trc_line, row_line, drop_line, int_line, time_line, end_line, done_line, ticks_line}
 use Rattle.st_run.specs.Events.{TimetableEvent, Timed, Completes, Drops, Shows, Happens, plain_events_of as plain_event, plain_run, drop_of, snapshot}
 use Rattle.st_run.specs.Moments.{Moment, Standing, next_state, standing_at, next_moment, ends_segment}
@@ -140,12 +140,12 @@ prints-append (Interrupts s i ∷ xs) ys p q = absurd p
 prints-append (Executes s address ∷ xs) ys p q = absurd p
 prints-append (Ends s rests ∷ xs) ys p q = absurd p
 
-reader-prints : (o : Option Order) (c : Scene) → ArePrints (with_reader o c).happened
+reader-prints : (o : Option Order) (c : Scene) → ArePrints (with_order Reader o c).happened
 unfolding ArePrints
 reader-prints None c = tt
 reader-prints (Some order) c = tt
 
-printer-prints : (o : Option Order) (c : Scene) → ArePrints (with_printer o c).happened
+printer-prints : (o : Option Order) (c : Scene) → ArePrints (with_order Printer o c).happened
 unfolding ArePrints
 printer-prints None c = tt
 printer-prints (Some order) c = tt
@@ -159,9 +159,9 @@ device-prints (Some Printer) c = printer-prints c.machine.printer c
 due-prints : (c : Scene) → ArePrints (with_due_orders c).happened
 unfolding with_due_orders
 due-prints c =
-    let d = (with_reader (if_due c.machine.done c.machine.reader) c).scene in
-    prints-append (with_reader (if_due c.machine.done c.machine.reader) c).happened
-    (with_printer (if_due d.machine.done d.machine.printer) d).happened
+    let d = (with_order Reader (if_due c.machine.done c.machine.reader) c).scene in
+    prints-append (with_order Reader (if_due c.machine.done c.machine.reader) c).happened
+    (with_order Printer (if_due d.machine.done d.machine.printer) d).happened
     (reader-prints (if_due c.machine.done c.machine.reader) c)
     (printer-prints (if_due d.machine.done d.machine.printer) d)
 

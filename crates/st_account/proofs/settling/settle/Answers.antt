@@ -1,7 +1,8 @@
-use Rattle.std.proofs.Common.{◌∙◌, ap, subst, ◌++◌, [], ◌∷◌}
+use Rattle.std.proofs.Common.{◌∙◌, ap, sym, subst, ◌++◌, [], ◌∷◌, length}
 use Rattle.st_run.specs.Outside.{ArePrinted, scene_at}
-use Rattle.st_run.specs.Run.{interlude}
+use Rattle.st_run.specs.Run.{Transition, interlude}
 use Rattle.st_run.proofs.PrintLemmas.{settled-one}
+use Rattle.st_account.proofs.RunLemmas.{not-less, interlude-still, waited-still}
 use Rattle.st_account.proofs.PrintLemmas.{none-printed, some-printed}
 use Rattle.st_account.proofs.settling.settle.Goals as goal
 
@@ -18,3 +19,24 @@ returns-in_default-clause-printed c =
     c.clear.ensures
     ∙ none-printed (interlude before).happened
     (subst (λ ws. ArePrinted ws (interlude before).happened) c.in_default.is (c.between-came.ensures.told (settled-one before)))
+
+-- ---- where nothing comes
+
+pub returns-then-still-clause-came : goal.returns-then-still-clause-came
+returns-then-still-clause-came c =
+    let still = c.requires c.if-still.true in
+    ap (λ (r : Transition). r.scene) (sym (interlude-still c.args.state.now still.0 c.args.coming.now.signals still.1 c.args.coming.now.cards))
+
+pub returns-then-still-clause-printed : goal.returns-then-still-clause-printed
+returns-then-still-clause-printed c =
+    let still = c.requires c.if-still.true in
+    c.clear.ensures
+    ∙ none-printed _ (ap (λ (r : Transition). r.happened) (interlude-still c.args.state.now still.0 c.args.coming.now.signals still.1 c.args.coming.now.cards))
+
+pub returns-then-still-clause-card : goal.returns-then-still-clause-card
+returns-then-still-clause-card c = sym (not-less (length c.args.coming.now.cards))
+
+pub returns-then-still-clause-waited : goal.returns-then-still-clause-waited
+returns-then-still-clause-waited c =
+    let still = c.requires c.if-still.true in
+    waited-still c.args.state.now still.0 c.args.coming.now.signals still.1 c.args.coming.now.cards

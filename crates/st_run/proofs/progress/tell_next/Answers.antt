@@ -11,7 +11,7 @@ returns-in-Some-clause-kept g c =
     let run = c.args.run.now in
     let m = run.driven.machine in
     next-keeps run.turn run.left run.tick run.snaps.now run.waiting c.next.new.self run.driven _
-    (what_told c.in-Some.what run.tick (state_told m) (ahead_of m) c.next.new.printed.bytes) (c.in-Some.ensures.told m.state)
+    (what_told run.tick (state_told m) (ahead_of m) c.next.new.printed.bytes c.in-Some.what) (c.in-Some.ensures.told m.state)
     (c.in-Some.ensures.shown m.state (state_told m) run.tick (ahead_of m) c.next.new.printed.bytes (λ some. sym (seen-none m (c.requires.run.taken some))))
     c.requires.run c.in-Some.ensures.taken
 
@@ -20,7 +20,7 @@ returns-in-Some-clause-told g c =
     let run = c.args.run.now in
     let m = run.driven.machine in
     next-tells run.turn run.left run.tick run.snaps.now run.waiting c.next.new.self run.driven _
-    (what_told c.in-Some.what run.tick (state_told m) (ahead_of m) c.next.new.printed.bytes) (c.in-Some.ensures.told m.state)
+    (what_told run.tick (state_told m) (ahead_of m) c.next.new.printed.bytes c.in-Some.what) (c.in-Some.ensures.told m.state)
     (c.in-Some.ensures.shown m.state (state_told m) run.tick (ahead_of m) c.next.new.printed.bytes (λ some. sym (seen-none m (c.requires.run.taken some))))
     ∙ ap {A = TimedRunEvent} (λ t. told_with t m c.next.new.printed.bytes ∷ rest_of run.turn run.left run.tick run.snaps.now c.next.new.self run.driven) (sym c.at_once.ensures)
 

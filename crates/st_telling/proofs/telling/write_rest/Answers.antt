@@ -28,7 +28,7 @@ telling-preserved g c =
     let begun = told_skips _ _ c.args.controls.now _ _ _ _ _ _ (none_skips c.args.controls.now _ _ _ c.in_default.ensures) c.telling.invariant in
     let told = c.in-Some-next_told.told in
     let lines = subst {A = Moment} (λ m. WritesLines (g.K.Sink.output c.telling.out) (g.K.Sink.output c.write_told.new.out)
-    (lines_at c.args.controls.now m.done m.tick (what_told told.what told.tick run.seen run.ahead run.text))
+    (lines_at c.args.controls.now m.done m.tick (what_told told.tick run.seen run.ahead run.text told.what))
     (Ok c.in_ok-write_told.field-0)) (sym c.moment_of.ensures) c.in_ok-write_told.ensures in
     told_more _ _ _ c.args.controls.now _ _ _ _ _ _ _ _ refl c.moment_of.ensures
     (told_skips _ _ c.args.controls.now _ _ _ _ _ _ c.in-Some-next_told.ensures begun) lines
@@ -39,7 +39,7 @@ returns-in_err-write_told g c =
     let begun = told_skips _ _ c.args.controls.now _ _ _ _ _ _ (none_skips c.args.controls.now _ _ _ c.in_default.ensures) c.telling.invariant in
     let told = c.in-Some-next_told.told in
     let lines = subst {A = Moment} (λ m. WritesLines (g.K.Sink.output c.telling.out) (g.K.Sink.output c.write_told.new.out)
-    (lines_at c.args.controls.now m.done m.tick (what_told told.what told.tick run.seen run.ahead run.text))
+    (lines_at c.args.controls.now m.done m.tick (what_told told.tick run.seen run.ahead run.text told.what))
     (Err c.in_err-write_told.field-0.0)) (sym c.moment_of.ensures) c.in_err-write_told.ensures in
     told_stops _ _ _ c.args.controls.now _ _ _ _ _ _ _ _ _ c.from_residual-in_err-write_told.ensures.0 refl c.moment_of.ensures
     (told_skips _ _ c.args.controls.now _ _ _ _ _ _ c.in-Some-next_told.ensures begun) lines

@@ -42,3 +42,11 @@ returns-clause-came c b m at =
           c.look_if.ensures.state (sym c.settle-came.ensures.came) _ (may-is _ c.look_if.new.self.last a.last c.look_if.new.self.state c.changeable-self.ensures last)
           (λ none. some (segment ∙ none)) v inside left;
     }
+
+pub settle-came-requires : goal.settle-came-requires
+settle-came-requires c still =
+    let last = c.args.self.now.last.missed in (
+      last,
+      ap (λ u. still_by u last c.args.coming.now.signals) c.look_if.ensures.state
+          ∙ sym (c.is_still-still.ensures ∙ ap (still_by c.args.self.now.state last) c.signals.ensures) ∙ still,
+    )
