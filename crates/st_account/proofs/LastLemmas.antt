@@ -54,19 +54,6 @@ eight-put (a ∷ b ∷ c ∷ d ∷ e ∷ f ∷ []) ys x eight = absurd (omega ar
 eight-put (a ∷ b ∷ c ∷ d ∷ e ∷ f ∷ g ∷ []) ys x eight = absurd (omega arith)
 eight-put (a ∷ b ∷ c ∷ d ∷ e ∷ f ∷ g ∷ h ∷ i ∷ xs) ys x eight = absurd (omega arith)
 
-pub seven-kept : (xs : List Past) (d : Past) → length xs ≡ 8
-    → get_or xs 0 d ∷ get_or xs 1 d ∷ get_or xs 2 d ∷ get_or xs 3 d ∷ get_or xs 4 d ∷ get_or xs 5 d ∷ get_or xs 6 d ∷ [] ≡ take 7 xs
-seven-kept (a ∷ b ∷ c ∷ d ∷ e ∷ f ∷ g ∷ h ∷ []) x eight = refl
-seven-kept [] x eight = absurd (omega arith)
-seven-kept (a ∷ []) x eight = absurd (omega arith)
-seven-kept (a ∷ b ∷ []) x eight = absurd (omega arith)
-seven-kept (a ∷ b ∷ c ∷ []) x eight = absurd (omega arith)
-seven-kept (a ∷ b ∷ c ∷ d ∷ []) x eight = absurd (omega arith)
-seven-kept (a ∷ b ∷ c ∷ d ∷ e ∷ []) x eight = absurd (omega arith)
-seven-kept (a ∷ b ∷ c ∷ d ∷ e ∷ f ∷ []) x eight = absurd (omega arith)
-seven-kept (a ∷ b ∷ c ∷ d ∷ e ∷ f ∷ g ∷ []) x eight = absurd (omega arith)
-seven-kept (a ∷ b ∷ c ∷ d ∷ e ∷ f ∷ g ∷ h ∷ i ∷ xs) x eight = absurd (omega arith)
-
 -- ---- the start
 
 not-before : (t : ℕ) → nat_lt t 0 ≡ false

@@ -101,12 +101,6 @@ module _ (ds : List ℕ) (n : ℕ) where
 
 module _ (m : Moment) (s t : Machine) (xs ys : List Signal) (ps qs : List (List ℕ)) (scene : m.scene ≡ at_hand s xs ps)
     (came : (interlude (at_hand s xs ps)).scene ≡ at_hand t ys qs) where
-  pub next-scene : next_scene m ≡ at_hand t ys qs
-  next-scene = ap (λ c. (interlude c).scene) scene ∙ came
-
-  pub next-machine : next_state m ≡ t
-  next-machine = ap (λ c. c.machine) next-scene
-
   pub same-done : t.done ≡ s.done
   same-done = ap (λ c. c.machine.done) (sym came) ∙ settled-done (at_hand s xs ps)
 

@@ -129,18 +129,6 @@ module _ (s t : OutputState) (all : List (List ℕ)) (ds : List ℕ) (n : ℕ) (
   done : h.m.scene.machine.done ≡ a.state.done
   done = ap (λ (c : Scene). c.machine.done) h.at.scene
 
-  pub tight-is : IsTight 255 a.last.front
-  tight-is = subst (IsTight 255) h.at.hand.front h.bounds.tight
-
-  pub at-is : a.last.front.c ≡ a.last.tick
-  at-is = ap (λ (f : Front). f.c) (sym h.at.hand.front) ∙ h.meets ∙ h.at.hand.tick
-
-  pub few-is : a.state.done + left ≤ MOST_INSTRUCTIONS
-  few-is = omega (arith, h.few, done)
-
-  pub early-is : a.last.tick ≤ 2 ^ 40
-  early-is = early-tick h.m a.last.tick a.state.done h.at.hand.tick h.time done (omega (arith, few-is))
-
   -- ---- what comes is over
 
   module _ (a' : Account) (ys : List Signal) (cards' : List (List ℕ)) (same : a' ≡ record a { state = a'.state; log = a'.log; behind = a'.behind })

@@ -78,26 +78,3 @@ less-than a b test = grind (arith, nat_tests)
 -- where no instruction may be done, something always may
 pub zero-comes : (m : Overlap) → may_come 0 m ≡ false → ⊥
 zero-comes m none = let less = less-than 0 m.state.done (or_parts (nat_le 0 m.state.done) _ none).0 in omega (arith, less)
-
--- a tick at which no entry is done leaves the state
-idle-step : (m : Overlap) → IsPassed 0 m → machine_after_settling (machine_after_tick m) ≡ machine_after_pass m
-idle-step m is = idle-by (is_done m) refl
-  where
-    idle-by : (b : Bool) → is_done m ≡ b → machine_after_settling (machine_after_tick m) ≡ machine_after_pass m
-    idle-by true done = absurd (zero-comes (machine_after_tick m) (is.nothing done))
-    idle-by false late = goes-passed (machine_after_tick m) is.goes ∙ ap {A = Overlap} machine_after_pass (late-ticked m late)
-
--- no settle is owed, and the state stays
-pub idle-kept : (k : ℕ) (m new : Overlap) → m.owed ≡ false → ArePassed 0 k m new
-    → (new.owed ≡ false) × (new.now ≡ m.now + k) × (new.state ≡ m.state)
-unfolding after_ticks
-idle-kept zero m new owes idle =
-    (ap (λ (x : Overlap). x.owed) idle.after ∙ owes, omega (arith, ap (λ (x : Overlap). x.now) idle.after), ap (λ (x : Overlap). x.state) idle.after)
-idle-kept (suc k) m new owes idle =
-    let next : machine_after_settling (machine_after_tick m) ≡ machine_after_pass m = idle-step m (idle.each 0 (omega arith)) in
-    let rest = idle-kept k (machine_after_settling (machine_after_tick m)) new (ap (λ (x : Overlap). x.owed) next)
-    (record { each = λ i before. idle.each (suc i) (omega (arith, before)); after = idle.after }) in (
-      rest.0,
-      omega (arith, rest.1, ap (λ (x : Overlap). x.now) next),
-      rest.2 ∙ ap (λ (x : Overlap). x.state) next,
-    )

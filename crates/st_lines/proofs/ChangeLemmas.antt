@@ -54,45 +54,6 @@ pub record AreSame (old : List ℕ) (m : Machine) (w c : ℕ) : Type 0 where
 pub same-starts : (old : List ℕ) (m : Machine) (w : ℕ) → w ≤ 32 → AreSame old m w w
 same-starts old m w few = record { least = omega arith; most = few; between = λ v low below. absurd (omega (arith, low, below)) }
 
-pub same-turn : (old : List ℕ) (m : Machine) (w c : ℕ) → AreSame old m w c → c < 32 → slice_index old c ≡ word m c → AreSame old m w (c + 1)
-same-turn old m w c h few same = record {
-  least = omega (arith, h.least);
-  most = omega arith;
-  between = λ v low below.
-      elim (eqb_tells v c) [
-        | inl e ↦ subst (λ k. slice_index old k ≡ word m k) (sym e.1) same
-        | inr e ↦ h.between v low (omega (arith, e.1, below))
-      ];
-}
-
--- some words, and as many behind them
-pub same-twice : (old : List ℕ) (m : Machine) (w n k : ℕ) → k ≡ n + n → ((v : ℕ) → w ≤ v → v < w + n → slice_index old v ≡ word m v)
-    → ((v : ℕ) → w + n ≤ v → v < w + n + n → slice_index old v ≡ word m v) → (v : ℕ) → w ≤ v → v < w + k → slice_index old v ≡ word m v
-same-twice old m w n k twice first second v low below =
-    elim (leb_tells (w + n) v) [
-      | inl p ↦ second v p.1 (omega (arith, below, twice))
-      | inr p ↦ first v low (omega (arith, p.1))
-    ]
-
-pub same-two : (old : List ℕ) (m : Machine) (w : ℕ) → slice_index old w ≡ word m w → slice_index old (w + 1) ≡ word m (w + 1)
-    → (v : ℕ) → w ≤ v → v < w + 2 → slice_index old v ≡ word m v
-same-two old m w first second =
-    same-twice old m w 1 2 refl
-    (λ v low below. subst (λ k. slice_index old k ≡ word m k) (let same : w ≡ v = omega (arith, low, below) in same) first)
-    (λ v low below. subst (λ k. slice_index old k ≡ word m k) (let same : w + 1 ≡ v = omega (arith, low, below) in same) second)
-
-pub same-more : (old : List ℕ) (m : Machine) (w c n : ℕ) → AreSame old m w c → c + n ≤ 32
-    → ((v : ℕ) → c ≤ v → v < c + n → slice_index old v ≡ word m v) → AreSame old m w (c + n)
-same-more old m w c n h few more = record {
-  least = omega (arith, h.least);
-  most = few;
-  between = λ v low below.
-      elim (leb_tells c v) [
-        | inl p ↦ more v p.1 below
-        | inr p ↦ h.between v low (omega (arith, p.1))
-      ];
-}
-
 -- ---- all of them
 
 -- So far the changes of the words below w are written, and these words are as the machine has them.

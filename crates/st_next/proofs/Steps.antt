@@ -193,13 +193,6 @@ module _ (ds : List ℕ) (n now : ℕ) (f : Front) (x : List ℕ) (s : Machine) 
     );
   })
 
-  pub prepared-by : (fd : Fetched) (after : Next) → what ≡ GivenAll fd → after ≡ prepared_as fd x s before → IsPreparedBy now x s after
-  prepared-by fd after e same = subst (IsPreparedBy now x s) (sym same) (record {
-    found = ap (λ (words : List ℕ). fetching_of (left_after (reading_at_place x (word s 3) s.enabled before.place) words)) (sym contents) ∙ e;
-    done = due;
-    prepared = refl;
-  })
-
   -- ---- the plan
 
   pub plan-goes : (fd : Fetched) (after : Next) (later : ℕ) → what ≡ GivenAll fd → IsPlannedAs ds n f (sight_of before.place fd x s) before after → GoesOnTo ds n now f x s before after later

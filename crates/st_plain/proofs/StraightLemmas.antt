@@ -28,19 +28,9 @@ lead-read : (c : ℕ → ℕ) (w : ℕ) (r : ℕ → Reading) (q : Reading) (ws 
 unfolding outcome words_read
 lead-read c w r q ws h = record { found = h.found; read = ap (λ x. w ∷ x) h.read; own = own-more c w r q ws h.own }
 
-chosen-first : (c : ℕ → ℕ) (b : Bool) (r q : Reading) → b ≡ true → IsReadOver c (if b then r else q) r []
-chosen-first c true r q e = lead-none c r
-chosen-first c false r q e = cc
-
 chosen-other : (c : ℕ → ℕ) (b : Bool) (r q p : Reading) (ws : List ℕ) → b ≡ false → IsReadOver c q p ws → IsReadOver c (if b then r else q) p ws
 chosen-other c true r q p ws e h = cc
 chosen-other c false r q p ws e h = h
-
--- the second half-word stands in the word of the first one
-pub lead-same : (c : ℕ → ℕ) (f : Option ℕ) (first h v content : ℕ) (k : Use) → f ≡ None → (h / 2 == v) ≡ true
-    → IsReadOver c (with_second f false first h v content k) (k (allowed_found first (half_of content h))) []
-lead-same c None first h v content k e same = chosen-first c (h / 2 == v) _ _ same
-lead-same c (Some i) first h v content k e same = cc
 
 -- it stands in the next word, which may be fetched
 pub lead-next : (c : ℕ → ℕ) (f : Option ℕ) (first h v content x half : ℕ) (k : Use) → f ≡ None → (h / 2 == v) ≡ false → x ≡ c (h / 2)

@@ -17,11 +17,6 @@ is_between-parts from before u is =
     let ends = and_parts _ _ both.1 in
     (leb-true _ _ ends.0, ltb-true _ _ ends.1)
 
--- no word more
-pub turns_none : (from w : ℕ) (next : Accepted) (all older : List Use) (ws : List Wait) → all ≡ []
-    → ws ++ turns from w next older ≡ ws ++ turns from w next (all ++ older)
-turns_none from w next all older ws is = ap (λ us. ws ++ turns from w next (us ++ older)) (sym is)
-
 -- the next word, which stands before the acceptance or not
 by_word : ℕ → ℕ → Accepted → Use → List Use → Bool → List Wait
 by_word from w next u older b =

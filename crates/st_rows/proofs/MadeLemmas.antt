@@ -27,22 +27,6 @@ module _ (ds : List ℕ) where
   free-served [] b = omega arith
   free-served (r ∷ xs) b = omega (arith, free-one b r, free-served xs (after_one ds b r))
 
-  pub free-made : (t : ℕ) (xs : List Read) (b : Bus) → b.free ≤ (made_before ds t xs b).free
-  unfolding made_before
-  free-made t [] b = omega arith
-  free-made t (r ∷ xs) b = elim (before-cases (accept_at b r.w r.want) t) [
-    | inl y ↦ rw y.0 (omega (arith, free-one b r, free-made t xs (after_one ds b r)))
-    | inr n ↦ rw n.0 (omega arith)
-  ]
-
-  pub free-at : (t : ℕ) (xs : List Read) (b : Bus) → b.free ≤ t → (made_before ds t xs b).free ≤ t
-  unfolding made_before
-  free-at t [] b low = low
-  free-at t (r ∷ xs) b low = elim (before-cases (accept_at b r.w r.want) t) [
-    | inl y ↦ rw y.0 (free-at t xs (after_one ds b r) (omega (arith, y.1, free-one b r)))
-    | inr n ↦ rw n.0 low
-  ]
-
   -- ---- all of them
 
   pub all-made : (t : ℕ) (xs : List Read) (b : Bus) → (bus_after_reads ds xs b).free ≤ t → made_before ds t xs b ≡ bus_after_reads ds xs b

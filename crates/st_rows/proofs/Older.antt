@@ -200,10 +200,6 @@ module _ (ds : List ℕ) (n : ℕ) (f : Front) (e : Entry) (some : 1 ≤ n) (old
   unfolding row_of_entry
   row-kept = rw (same-a, same-p, same-operands_of, same-c) refl
 
-  same-follow : (front_after_entry ds n (front_of_last n f) e).bus ≡ (front_after_entry ds n f e).bus
-  unfolding front_after_entry
-  same-follow = rw (same-operands_of, same-p) refl
-
   pub after-kept : front_of_last n (front_after_entry ds n (front_of_last n f) e) ≡ front_of_last n (front_after_entry ds n f e)
   unfolding front_after_entry
   after-kept =

@@ -33,10 +33,6 @@ module _ (most : ℕ) (ds : List ℕ) (are : AreDelaysUpTo most ds) where
   unfolding bus_after_read
   free-answer b w want = omega (arith, delay-bounds most ds (accept_at b w want) are)
 
-  pub free-later : (b : Bus) (w want : ℕ) → b.free < (bus_after_read ds b w want).free
-  unfolding bus_after_read
-  free-later b w want = omega arith
-
   pub near-read : (b : Bus) (w want : ℕ) → IsNear most b → IsNear most (bus_after_read ds b w want)
   unfolding bus_after_read
   near-read b w want is =

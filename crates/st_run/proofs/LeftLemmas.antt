@@ -171,11 +171,6 @@ module _ (left tick : ℕ) (snaps : List ℕ) (old t : Together) (d : Decided) (
 
 -- ---- an entry is done
 
-by-place : (o : Option ℕ) (place : Place) (a : Aim) (x : List ℕ) (read : Option ℕ) → (prepared_by o place a x read).place ≡ place
-unfolding suppressed_entry entry_of
-by-place None place a x read = refl
-by-place (Some i) place a x read = refl
-
 module _ (left tick : ℕ) (snaps : List ℕ) (t : Together) (before : IsBeforeEntry t)
     (in_time : AreInTime (told_of_events (timed_behind t.machine.delays t.machine.levels left (standing_of tick t) snaps))) where
   abbrev p : Standing
@@ -183,12 +178,6 @@ module _ (left tick : ℕ) (snaps : List ℕ) (t : Together) (before : IsBeforeE
 
   abbrev next : Moment
   next = next_moment t.machine.delays t.machine.levels p
-
-  completion-told : told_of (completion t.machine.delays t.machine.levels p)
-      ≡ once next.scene.machine.done next.tick
-      (Done (address t.machine.state) (next_row t.machine.delays t.machine.levels p).p
-      (next_row t.machine.delays t.machine.levels p).r (next_row t.machine.delays t.machine.levels p).c)
-  completion-told = refl
 
   pub next-done : next.scene.machine.done ≡ t.machine.state.done + 1
   unfolding next_moment

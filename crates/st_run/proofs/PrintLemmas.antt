@@ -28,12 +28,6 @@ record PrintsWithin (c : Scene) (r : Transition) : Type 0 where
 
 -- ---- signals and the reader print nothing
 
-due-printer : (m : Machine) (xs : List Signal) (cards : List (List ℕ)) → (with_due_signals m xs cards).machine.printer ≡ m.printer
-due-printer m [] cards = refl
-due-printer m (x ∷ xs) cards =
-    of_choice (λ c. c.machine.printer ≡ m.printer) (nat_le x.count m.done) (with_due_signals (state_with_signal m x.indicator) xs cards) _
-    (due-printer (state_with_signal m x.indicator) xs cards) refl
-
 rest-printer : (m : Machine) (xs : List Signal) (cards : List (List ℕ)) → (with_signals_at_rest m xs cards).machine.printer ≡ m.printer
 rest-printer m [] cards = refl
 rest-printer m (x ∷ xs) cards =

@@ -88,10 +88,6 @@ orders-idle c is =
     (λ e. with_order Printer (if_due e.machine.done e.machine.printer) e)) is.reader
     ∙ ap {A = Option Order} (λ o. and_then (uneventful c) (λ e. with_order Printer (if_due c.machine.done o) c)) is.printer
 
-order-idle : (c : Scene) → rests c.machine ≡ false → with_order_at_rest c ≡ uneventful c
-unfolding with_order_at_rest
-order-idle c awake = ap {A = Bool} (λ b. if b then with_device (next_device c.machine) c else uneventful c) awake
-
 module _ (c : Scene) (is : IsIdle c.machine) where
   abbrev pub due : Scene
   due = with_due_signals c.machine c.signals c.cards

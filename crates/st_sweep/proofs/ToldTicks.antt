@@ -36,9 +36,6 @@ rows-fewer : (rows new : List Told) (last : Told) → length new < length (rows 
 rows-fewer [] new last = omega arith
 rows-fewer (x ∷ rows) new last = let fewer = rows-fewer rows new last in omega (arith, fewer)
 
-pub left_out-fewer : (last : Told) (old new : List Told) → AreLeftOut last old new → length new < length old
-left_out-fewer last old new is = subst (λ xs. length new < length xs) (sym is.rest) (rows-fewer is.rows new last)
-
 -- what a whole run tells
 pub told-whole : (ds : List ℕ) (n left : ℕ) (s : Machine) (xs : List Signal) (cards : List (List ℕ)) (rest : List Told)
     → rest ≡ told_of_events (timed_run ds n left (record { machine = s; signals = xs; cards = cards }) []) → cards ≡ []
