@@ -26,7 +26,7 @@ use Rattle.st_plain.specs.Looking.{known_at, level_wait, side_at}
 use Rattle.st_plain.specs.Uses.{formed_uses, uses_of_entry}
 use Rattle.st_plain.specs.declared.uses.Use.{Use}
 use Rattle.st_plain.specs.declared.known.Known.{Known}
-use Rattle.st_plain.specs.declared.rows.Row.{Row}
+use Rattle.st_plain.specs.declared.rows.WaitedRow.{WaitedRow}
 use Rattle.st_account.specs.declared.last.Last.{Last}
 use Rattle.st_account.specs.Standing.{guessing, kept_lines, IsLast, IsStanding}
 use Rattle.st_lines.specs.EntryLines.{done_entry_lines}
@@ -120,7 +120,7 @@ formed-is ds p s l taken us is is_taken is_uses =
 abbrev why_of : Front → Entry → EntryTicks → ℕ → List Use → List Use → Because
 why_of f e ticks wait words earlier = because f e ticks.a ticks.p wait words earlier
 
-because-is : (ds : List ℕ) (n : ℕ) (p : Standing) (s : Machine) (l : Last) (taken : Option ℕ) (r : Row) (us bs : List Use) (why : Because) → IsStanding p s l
+because-is : (ds : List ℕ) (n : ℕ) (p : Standing) (s : Machine) (l : Last) (taken : Option ℕ) (r : WaitedRow) (us bs : List Use) (why : Because) → IsStanding p s l
     → taken ≡ interrupt s
     → r.ticks ≡ row_of_entry ds n l.front (entry taken s) → r.level_wait ≡ level_wait ds n l.front (entry taken s)
     → us ≡ formed_uses ds l.front (entry taken s) (side_at taken s)
@@ -140,7 +140,7 @@ because-is ds n p s l taken r us bs why is is_taken is_row is_wait is_uses is_wh
     (level_wait ds n p.front (entry (interrupt p.scene.machine) p.scene.machine)) (formed_at ds p) bs) (sym is.front)
 
 pub entry-lines : (o : Machine → ℕ → Option Origin) (ds : List ℕ) (n : ℕ) (p : Standing) (end : Option ℕ) (s : Machine) (l : Last) (taken : Option ℕ) (a : ℕ)
-    (origin : Option Origin) (r : Row) (i : ℕ)
+    (origin : Option Origin) (r : WaitedRow) (i : ℕ)
     (missed : Bool) (q : Prepared) (known : Known) (t start : ℕ) (why : Because) (us ws bs : List Use) → IsStanding p s l → taken ≡ interrupt s → a ≡ address s
     → origin ≡ o s (address s)
     → r.ticks ≡ row_of_entry ds n l.front (entry taken s) → r.level_wait ≡ level_wait ds n l.front (entry taken s) → i ≡ s.done + 1

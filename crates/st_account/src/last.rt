@@ -7,7 +7,7 @@ ghost use Rattle.st_rows.specs.Rows.{opening_front};
 
 use st_banks::LastAnswers;
 use st_lines::Origin;
-use st_plain::{Known, Row, Uses};
+use st_plain::{Known, Uses, WaitedRow};
 use st_prep::Prepared;
 use st_reasons::Because;
 use st_rows::{Front, LastEntries, Past};
@@ -21,7 +21,7 @@ pub(crate) struct DoneEntry {
     pub address: u32,
     /// Where its half-words come from.
     pub origin: Option<Origin>,
-    pub row: Row,
+    pub row: WaitedRow,
     /// What is known of it by itself.
     pub known: Known,
     /// The tick at which the entry before it was done.

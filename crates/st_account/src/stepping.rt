@@ -22,7 +22,7 @@ use crate::last::Last;
 use st_card::Signal;
 use st_exec::{complete_in, interrupt, is_missed};
 use st_lines::{Changeable, Why, is_enabled};
-use st_plain::{Begun, NextEntry, Row, begin, finish, plan_entry, put_past};
+use st_plain::{Begun, NextEntry, WaitedRow, begin, finish, plan_entry, put_past};
 use st_prep::Prepared;
 use st_reasons::find_reason;
 use st_rows::{Log, Past, Timing};
@@ -167,7 +167,7 @@ pub(crate) fn count_on(
         },
     );
     last.tick = ticks.c;
-    last.done.row = Row { ticks, level_wait };
+    last.done.row = WaitedRow { ticks, level_wait };
     last.done.known = planned.known;
 }
 

@@ -31,7 +31,7 @@ const STYLES: &[u8; 489] =
 
 // An entry, and the upper edge of its row.
 #[derive(Clone, Copy)]
-struct Row {
+struct DrawnRow {
     y: u128,
     entry: Entry,
 }
@@ -191,13 +191,18 @@ fn bar(y: u128, least: u128, from: u128, to: u128) -> Area
 
 // Appends what stands in the row of an entry: a bar for each of its phases, or its lines.
 #[tactic(auto, unfolding(crate::specs::Drawing::bars, crate::specs::Element::elements_text))]
-fn push_bars(alloc: Global, out: &mut Vec<u8>, sheet: &Sheet, row: Row) -> Result<(), AllocError>
+fn push_bars(
+    alloc: Global,
+    out: &mut Vec<u8>,
+    sheet: &Sheet,
+    row: DrawnRow,
+) -> Result<(), AllocError>
     requires sheet { IsSheet sheet.now }
     requires low { row.y < 2 ^ 70 }
     ensures { IfOk result (λ _. out.new.items ≡ out.old.items
         ++ elements_text (spec.bars sheet.now row.y row.entry)) }
 {
-    let Row { y, entry } = row;
+    let DrawnRow { y, entry } = row;
     let title = title(alloc, entry)?;
     let title = title.as_slice();
     match entry {
@@ -251,7 +256,7 @@ fn push_row(
     out: &mut Vec<u8>,
     sheet: &Sheet,
     report: &[u8],
-    row: Row,
+    row: DrawnRow,
 ) -> Result<(), AllocError>
     requires sheet { IsSheet sheet.now }
     requires low { row.y < 2 ^ 70 }
@@ -277,7 +282,7 @@ fn push_rows(
     let mut y = 36;
     let mut rest = entries;
     'entries: while let [entry, after @ ..] = rest {
-        push_row(alloc, out, sheet, report, Row { y, entry: *entry })?;
+        push_row(alloc, out, sheet, report, DrawnRow { y, entry: *entry })?;
         y += 16;
         rest = after;
     }

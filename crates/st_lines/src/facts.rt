@@ -18,7 +18,7 @@ use st_bits::indicator;
 use st_bits::register::FIRST_STORAGE_WORD;
 use st_io::{Failed, Sink, write_line};
 use st_ledger::write_row;
-use st_plain::{Code, Known, Row, Use};
+use st_plain::{Code, Known, Use, WaitedRow};
 use st_prep::{IndexChange, Prepared, Words};
 use st_reasons::Because;
 use st_report::LineFromEnd;
@@ -287,7 +287,7 @@ pub struct EntryDone {
     /// Where its half-words come from.
     pub origin: Option<Origin>,
     /// Its row.
-    pub row: Row,
+    pub row: WaitedRow,
     /// It is a branch that was guessed wrongly.
     pub missed: bool,
     /// The tick at which the last one before it was done.

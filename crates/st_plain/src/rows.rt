@@ -292,9 +292,9 @@ pub fn finish(
     row
 }
 
-/// The row of an entry.
+/// The row of an entry, with its wait for a level.
 #[derive(Clone, Copy, Debug, Default, PartialEq, Eq)]
-pub struct Row {
+pub struct WaitedRow {
     /// Its ticks.
     pub ticks: EntryTicks,
     /// For how many ticks it waited for a level before it was prepared.
