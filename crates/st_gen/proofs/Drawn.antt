@@ -1,8 +1,8 @@
 -- What holds of each kind of statement holds of those that are drawn.
 use Rattle.std.proofs.Common.{◌++◌, ℕ, List, codes}
 use Rattle.st_gen.specs.Deck.{index, word_statement, bit_statement, small_value, field_length, byte_field_length, field_operands, statement, form_after}
-use Rattle.st_gen.specs.declared.form.Form.{Form}
-use Rattle.st_gen.specs.declared.form.Form.TheVariants.{LoadValue, AddValue, LoadWord, Add, Store, AddOne, Connect, Multiply}
+use Rattle.st_gen.specs.declared.form.StatementForm.{StatementForm}
+use Rattle.st_gen.specs.declared.form.StatementForm.TheVariants.{LoadValue, AddValue, LoadWord, Add, Store, AddOne, Connect, Multiply}
 
 -- it holds of the eight kinds of statement, whatever the letters are drawn after
 pub record HoldsOfEach (P : List ℕ → Type 0) : Type 0 where
@@ -15,7 +15,7 @@ pub record HoldsOfEach (P : List ℕ → Type 0) : Type 0 where
   pub connect : (x : ℕ) → P (codes "C0110" ++ field_operands x)
   pub multiply : (x : ℕ) → P (codes "*(BU," ++ field_length 1 x ++ codes ")(V+I),0.32($X" ++ index 2 x ++ codes ")")
 
-by_form : (P : List ℕ → Type 0) → HoldsOfEach P → (form : Form) (x : ℕ) → P (statement form x)
+by_form : (P : List ℕ → Type 0) → HoldsOfEach P → (form : StatementForm) (x : ℕ) → P (statement form x)
 by_form P each LoadValue x = each.load_value x
 by_form P each AddValue x = each.add_value x
 by_form P each LoadWord x = each.load_word x

@@ -4,8 +4,8 @@ use Rattle.std.proofs.lemmas.Fmt.{length-decimal-le}
 use Rattle.std.specs.Prelude.{replicate}
 use Rattle.st_text.specs.Bytes.{blank, lf}
 use Rattle.st_gen.specs.Deck.{next_number, number_after, draw, below, index, word_statement, bit_statement, offset, field_length, byte_field_length, field_operands, statement, form_after, card, control, drawn_card, after_cards, drawn_cards, delay_card, delay_cards, closing_cards, made_deck}
-use Rattle.st_gen.specs.declared.form.Form.{Form}
-use Rattle.st_gen.specs.declared.form.Form.TheVariants.{LoadValue, AddValue, LoadWord, Add, Store, AddOne, Connect, Multiply}
+use Rattle.st_gen.specs.declared.form.StatementForm.{StatementForm}
+use Rattle.st_gen.specs.declared.form.StatementForm.TheVariants.{LoadValue, AddValue, LoadWord, Add, Store, AddOne, Connect, Multiply}
 
 -- one text behind another
 joined : (a b : List ℕ) (m n : ℕ) → length a ≤ m → length b ≤ n → length (a ++ b) ≤ m + n
@@ -28,7 +28,7 @@ field_operands-short x =
     let bit_is = held (codes "(BU," ++ field_length 1 x ++ codes ")," ++ word_statement 2 x ++ codes ".") (codes ",") 15 1 (draw 3 64 x) word_is (omega arith) (omega arith) in
     joined (codes "(BU," ++ field_length 1 x ++ codes ")," ++ word_statement 2 x ++ codes "." ++ bit_statement 3 x ++ codes ",") (offset 4 x) 20 4 bit_is (four (draw 4 64 x) (omega arith))
 
-pub statement-short : (form : Form) (x : ℕ) → length (statement form x) ≤ 30
+pub statement-short : (form : StatementForm) (x : ℕ) → length (statement form x) ≤ 30
 statement-short LoadValue x =
     let index_is = held (codes "LVI,$X") (codes ",") 6 1 (1 + draw 1 7 x) (omega arith) (omega arith) (omega arith) in
     let all = held (codes "LVI,$X" ++ index 1 x ++ codes ",") (codes ".0") 11 2 (4096 + draw 2 256 x) index_is (omega arith) (omega arith) in

@@ -1,8 +1,9 @@
 -- The made deck: which cards a seed and a number of cards give.
 use Rattle.std.specs.Prelude.{ℕ, suc, zero, ◌+◌, ◌*◌, ◌/◌, ◌%◌, ◌^◌, List, [], ◌∷◌, ◌++◌, replicate, slice_index_or, codes, decimal}
 use Rattle.st_text.specs.Bytes.{blank, lf}
-use Rattle.st_gen.specs.declared.form.Form.{Form}
-use Rattle.st_gen.specs.declared.form.Form.TheVariants.{LoadValue, AddValue, LoadWord, Add, Store, AddOne, Connect, Multiply}
+use Rattle.st_gen.specs.declared.statement.TheConstants.{FIRST_DRAWN_WORD, DRAWN_WORDS}
+use Rattle.st_gen.specs.declared.form.StatementForm.{StatementForm}
+use Rattle.st_gen.specs.declared.form.StatementForm.TheVariants.{LoadValue, AddValue, LoadWord, Add, Store, AddOne, Connect, Multiply}
 
 -- the generator's next number
 unfoldable pub next_number : ℕ → ℕ
@@ -27,7 +28,7 @@ index n x = decimal (1 + draw n 7 x)
 
 -- as a word
 abbrev pub word_statement : ℕ → ℕ → List ℕ
-word_statement n x = decimal (4096 + draw n 256 x)
+word_statement n x = decimal (FIRST_DRAWN_WORD + draw n DRAWN_WORDS x)
 
 -- as a bit
 abbrev pub bit_statement : ℕ → ℕ → List ℕ
@@ -57,7 +58,7 @@ field_operands x =
     ++ codes "," ++ offset 4 x
 
 -- a form's statement, its letters drawn after x
-abbrev pub statement : Form → ℕ → List ℕ
+abbrev pub statement : StatementForm → ℕ → List ℕ
 statement LoadValue x = codes "LVI,$X" ++ index 1 x ++ codes "," ++ word_statement 2 x ++ codes ".0"
 statement AddValue x = codes "V+I,$X" ++ index 1 x ++ codes "," ++ small_value 2 x ++ codes ".0"
 statement LoadWord x = codes "L(BU,64)," ++ word_statement 1 x ++ codes ".0"
@@ -71,7 +72,7 @@ statement Multiply x =
     codes "*(BU," ++ field_length 1 x ++ codes ")(V+I),0.32($X" ++ index 2 x ++ codes ")"
 
 -- how many letters its statement has
-abbrev pub letters : Form → ℕ
+abbrev pub letters : StatementForm → ℕ
 letters LoadValue = 2
 letters AddValue = 2
 letters LoadWord = 1
@@ -82,15 +83,15 @@ letters Connect = 4
 letters Multiply = 2
 
 -- the forms in the order of their numbers
-abbrev pub deck_forms : List Form
+abbrev pub deck_forms : List StatementForm
 deck_forms = LoadValue ∷ AddValue ∷ LoadWord ∷ Add ∷ Store ∷ AddOne ∷ Connect ∷ Multiply ∷ []
 
 -- the form with this number
-abbrev pub form_of : ℕ → Form
+abbrev pub form_of : ℕ → StatementForm
 form_of number = slice_index_or deck_forms number Multiply
 
 -- the form that is drawn first for a card
-abbrev pub form_after : ℕ → Form
+abbrev pub form_after : ℕ → StatementForm
 form_after x = form_of (draw 1 8 x)
 
 -- a statement card: the statement stands from column 10 on

@@ -5,7 +5,7 @@ ghost use Rattle.st_gen.specs.Deck.{form_of};
 
 // What a drawn card does.
 #[derive(Clone, Copy)]
-pub(crate) enum Form {
+pub(crate) enum StatementForm {
     LoadValue,
     AddValue,
     LoadWord,
@@ -17,17 +17,17 @@ pub(crate) enum Form {
 }
 
 // The form with this number, below 8.
-pub(crate) fn form_of(number: u32) -> Form
+pub(crate) fn form_of(number: u32) -> StatementForm
     ensures { result ≡ form_of number }
 {
     match number {
-        0 => Form::LoadValue,
-        1 => Form::AddValue,
-        2 => Form::LoadWord,
-        3 => Form::Add,
-        4 => Form::Store,
-        5 => Form::AddOne,
-        6 => Form::Connect,
-        _ => Form::Multiply,
+        0 => StatementForm::LoadValue,
+        1 => StatementForm::AddValue,
+        2 => StatementForm::LoadWord,
+        3 => StatementForm::Add,
+        4 => StatementForm::Store,
+        5 => StatementForm::AddOne,
+        6 => StatementForm::Connect,
+        _ => StatementForm::Multiply,
     }
 }

@@ -2,11 +2,16 @@
 
 ghost use Rattle.std.specs.Prelude.{◌≡◌, ◌≤◌, ◌++◌, length};
 ghost use Rattle.st_gen.specs.Deck.{number_after, field_operands, statement, letters};
-ghost use Rattle.st_gen.specs.declared.form.Form.TheVariants.{LoadValue, AddValue, LoadWord, AddOne, Multiply};
+ghost use Rattle.st_gen.specs.declared.form.StatementForm.TheVariants.{LoadValue, AddValue, LoadWord, AddOne, Multiply};
 
-use crate::form::Form;
+use crate::form::StatementForm;
 use crate::generator::Generator;
 use st_text::{Line, begun, push_short_decimal};
+
+/// The first of the words that drawn statements speak of.
+pub const FIRST_DRAWN_WORD: u32 = 4_096;
+/// How many these words are.
+pub const DRAWN_WORDS: u32 = 256;
 
 fn load_value(generator: &mut Generator) -> Line
     ensures drawn { generator.new.x ≡ number_after 2 generator.old.x }
@@ -15,7 +20,7 @@ fn load_value(generator: &mut Generator) -> Line
     let mut text = begun("LVI,$X");
     push_short_decimal(&mut text, 1 + generator.draw(7));
     text.push_str(",");
-    push_short_decimal(&mut text, 4096 + generator.draw(256));
+    push_short_decimal(&mut text, FIRST_DRAWN_WORD + generator.draw(DRAWN_WORDS));
     text.push_str(".0");
     text
 }
@@ -37,7 +42,7 @@ fn load_word(generator: &mut Generator) -> Line
     ensures text { result.bytes ≡ statement LoadWord generator.old.x }
 {
     let mut text = begun("L(BU,64),");
-    push_short_decimal(&mut text, 4096 + generator.draw(256));
+    push_short_decimal(&mut text, FIRST_DRAWN_WORD + generator.draw(DRAWN_WORDS));
     text.push_str(".0");
     text
 }
@@ -52,7 +57,7 @@ fn field_operation(operation: &str, generator: &mut Generator) -> Line
     text.push_str("(BU,");
     push_short_decimal(&mut text, 1 + generator.draw(64));
     text.push_str("),");
-    push_short_decimal(&mut text, 4096 + generator.draw(256));
+    push_short_decimal(&mut text, FIRST_DRAWN_WORD + generator.draw(DRAWN_WORDS));
     text.push_str(".");
     push_short_decimal(&mut text, generator.draw(64));
     text.push_str(",");
@@ -67,7 +72,7 @@ fn add_one(generator: &mut Generator) -> Line
     let mut text = begun("M+1(B,");
     push_short_decimal(&mut text, 8 + generator.draw(57));
     text.push_str(",8),");
-    push_short_decimal(&mut text, 4096 + generator.draw(256));
+    push_short_decimal(&mut text, FIRST_DRAWN_WORD + generator.draw(DRAWN_WORDS));
     text.push_str(".");
     push_short_decimal(&mut text, generator.draw(64));
     text
@@ -86,18 +91,18 @@ fn multiply(generator: &mut Generator) -> Line
 }
 
 // The statement of this form, with its letters drawn.
-pub(crate) fn draw_statement(form: Form, generator: &mut Generator) -> Line
+pub(crate) fn draw_statement(form: StatementForm, generator: &mut Generator) -> Line
     ensures drawn { generator.new.x ≡ number_after (letters form) generator.old.x }
     ensures text { result.bytes ≡ statement form generator.old.x }
 {
     match form {
-        Form::LoadValue => load_value(generator),
-        Form::AddValue => add_value(generator),
-        Form::LoadWord => load_word(generator),
-        Form::Add => field_operation("+", generator),
-        Form::Store => field_operation("ST", generator),
-        Form::AddOne => add_one(generator),
-        Form::Connect => field_operation("C0110", generator),
-        Form::Multiply => multiply(generator),
+        StatementForm::LoadValue => load_value(generator),
+        StatementForm::AddValue => add_value(generator),
+        StatementForm::LoadWord => load_word(generator),
+        StatementForm::Add => field_operation("+", generator),
+        StatementForm::Store => field_operation("ST", generator),
+        StatementForm::AddOne => add_one(generator),
+        StatementForm::Connect => field_operation("C0110", generator),
+        StatementForm::Multiply => multiply(generator),
     }
 }
