@@ -4,7 +4,7 @@ use Rattle.std.proofs.lemmas.List.{append-nil}
 use Rattle.st_draw.specs.Drawing.{mark, grid, row_elements, rows_elements}
 use Rattle.st_draw.specs.Element.{Element, element_text, elements_text}
 use Rattle.st_draw.specs.declared.drawing.Sheet.{Sheet}
-use Rattle.st_entries.specs.declared.timetable.Entry.{Entry}
+use Rattle.st_entries.specs.declared.timetable.DrawnEntry.{DrawnEntry}
 
 pub elements_append : (a b : List Element) → elements_text (a ++ b) ≡ elements_text a ++ elements_text b
 unfolding elements_text
@@ -43,7 +43,7 @@ unfolding grid
 grid_end s sheet = elements_none s
 
 -- the row of an entry and those after it, behind bytes
-pub rows_more : (s : List ℕ) (sheet : Sheet) (report : List ℕ) (y : ℕ) (e : Entry) (es : List Entry)
+pub rows_more : (s : List ℕ) (sheet : Sheet) (report : List ℕ) (y : ℕ) (e : DrawnEntry) (es : List DrawnEntry)
     → s ++ elements_text (rows_elements sheet report y (e ∷ es))
     ≡ (s ++ elements_text (row_elements sheet report y e)) ++ elements_text (rows_elements sheet report (y + 16) es)
 unfolding rows_elements
@@ -68,7 +68,7 @@ grid_done mid total [] sheet none so_far = sym (grid_end mid sheet) ∙ so_far
 grid_done mid total (t ∷ ts) sheet none so_far = let no : ⊥ = omega arith in absurd no
 
 -- one more row is drawn
-pub rows_step : (mid new total : List ℕ) (rest es : List Entry) (sheet : Sheet) (report : List ℕ) (y : ℕ) (e : Entry)
+pub rows_step : (mid new total : List ℕ) (rest es : List DrawnEntry) (sheet : Sheet) (report : List ℕ) (y : ℕ) (e : DrawnEntry)
     → rest ≡ e ∷ es → new ≡ mid ++ elements_text (row_elements sheet report y e)
     → mid ++ elements_text (rows_elements sheet report y rest) ≡ total
     → new ++ elements_text (rows_elements sheet report (y + 16) es) ≡ total
@@ -76,7 +76,7 @@ rows_step mid new total rest es sheet report y e parts drawn so_far =
     rw (drawn, sym (rows_more mid sheet report y e es), sym parts) so_far
 
 -- all rows are drawn
-pub rows_done : (mid total : List ℕ) (rest : List Entry) (sheet : Sheet) (report : List ℕ) (y : ℕ) → length rest < 1
+pub rows_done : (mid total : List ℕ) (rest : List DrawnEntry) (sheet : Sheet) (report : List ℕ) (y : ℕ) → length rest < 1
     → mid ++ elements_text (rows_elements sheet report y rest) ≡ total → mid ≡ total
 rows_done mid total [] sheet report y none so_far = sym (rows_end mid sheet report y) ∙ so_far
 rows_done mid total (e ∷ es) sheet report y none so_far = let no : ⊥ = omega arith in absurd no

@@ -3,20 +3,20 @@ use Rattle.std.proofs.Common.{◌≡◌, ◌<◌, ◌∙◌, sym, ap, arith, len
 use Rattle.std.proofs.lemmas.List.{append-nil}
 use Rattle.st_draw.specs.Terminal.{entry_line, entry_lines, line_with_tick, scale}
 use Rattle.st_draw.specs.declared.terminal.Page.{Page}
-use Rattle.st_entries.specs.declared.timetable.Entry.{Entry}
+use Rattle.st_entries.specs.declared.timetable.DrawnEntry.{DrawnEntry}
 
 -- one more line is written
-pub lines_step : (mid new total : List ℕ) (rest es : List Entry) (page : Page) (report : List ℕ) (e : Entry)
+pub lines_step : (mid new total : List ℕ) (rest es : List DrawnEntry) (page : Page) (report : List ℕ) (e : DrawnEntry)
     → rest ≡ e ∷ es → new ≡ mid ++ entry_line page report e → mid ++ entry_lines page report rest ≡ total
     → new ++ entry_lines page report es ≡ total
 unfolding entry_lines
 lines_step mid new total rest es page report e parts drawn so_far =
     let whole : mid ++ (entry_line page report e ++ entry_lines page report es) ≡ total =
-    ap (λ (s : List Entry). mid ++ entry_lines page report s) (sym parts) ∙ so_far in
+    ap (λ (s : List DrawnEntry). mid ++ entry_lines page report s) (sym parts) ∙ so_far in
     rw (drawn, append_assoc) whole
 
 -- all lines are written
-pub lines_done : (mid total : List ℕ) (rest : List Entry) (page : Page) (report : List ℕ) → length rest < 1
+pub lines_done : (mid total : List ℕ) (rest : List DrawnEntry) (page : Page) (report : List ℕ) → length rest < 1
     → mid ++ entry_lines page report rest ≡ total → mid ≡ total
 unfolding entry_lines
 lines_done mid total [] page report none so_far = sym (append-nil mid) ∙ so_far

@@ -9,18 +9,18 @@ use Rattle.st_draw.specs.Terminal.{page_text}
 use Rattle.st_entries.specs.Timetable.{timetable}
 use Rattle.st_draw.specs.declared.status.Status.{Status}
 use Rattle.st_draw.specs.declared.status.Status.TheVariants.{Done, NoRows, Usage, ReportTooLong, ReadFault, WriteFault, NoMemory}
-use Rattle.st_entries.specs.declared.timetable.Entry.{Entry}
-use Rattle.st_entries.specs.declared.timetable.Entry.TheVariants.{Done as DoneEntry, Dropped, Taken, Shown}
+use Rattle.st_entries.specs.declared.timetable.DrawnEntry.{DrawnEntry}
+use Rattle.st_entries.specs.declared.timetable.DrawnEntry.TheVariants.{Done as DoneEntry, Dropped, Taken, Shown}
 use Rattle.st_draw.specs.declared.words.Choice.{Choice}
-use Rattle.st_draw.specs.declared.words.Kind.{Kind}
-use Rattle.st_draw.specs.declared.words.Kind.TheVariants.{Svg, Text, Kanata}
+use Rattle.st_draw.specs.declared.words.PictureKind.{PictureKind}
+use Rattle.st_draw.specs.declared.words.PictureKind.TheVariants.{Svg, Text, Kanata}
 
 -- the longest report, in bytes
 abbrev pub report_limit : ℕ
 report_limit = 16000000
 
 -- how many of the entries are rows
-abbrev pub rows_in : List Entry → ℕ
+abbrev pub rows_in : List DrawnEntry → ℕ
 rows_in [] = 0
 rows_in (DoneEntry n a p r t c ∷ es) = 1 + rows_in es
 rows_in (Dropped a p end ∷ es) = rows_in es
@@ -28,22 +28,22 @@ rows_in (Taken i t ∷ es) = rows_in es
 rows_in (Shown t ∷ es) = rows_in es
 
 -- what is drawn of the entries: nothing, where none of them is a row
-abbrev pub visible_entries : ℕ → List Entry → List Entry
+abbrev pub visible_entries : ℕ → List DrawnEntry → List DrawnEntry
 visible_entries shown entries = if nat_eq shown 0 then [] else entries
 
 -- the bytes of a kind of picture
-abbrev pub picture_of : Kind → List ℕ → List Entry → ℕ → ℕ → List ℕ
+abbrev pub picture_of : PictureKind → List ℕ → List DrawnEntry → ℕ → ℕ → List ℕ
 picture_of Svg report entries shown later = svg report entries shown later
 picture_of Text report entries shown later = page_text report entries shown later
 picture_of Kanata report entries shown later = log report entries
 
 -- the bytes of a picture of these entries, of which some are rows or none
-abbrev pub picture_bytes : Kind → List ℕ → List Entry → ℕ → List ℕ
+abbrev pub picture_bytes : PictureKind → List ℕ → List DrawnEntry → ℕ → List ℕ
 picture_bytes kind report entries later = picture_of kind report
     (visible_entries (rows_in entries) entries) (rows_in entries) later
 
 -- the entries of a report that are asked for
-abbrev pub entries_asked : Choice → List ℕ → List Entry
+abbrev pub entries_asked : Choice → List ℕ → List DrawnEntry
 entries_asked choice report = (timetable choice.part report).entries
 
 -- the picture of a report that is asked for

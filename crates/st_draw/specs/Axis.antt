@@ -3,23 +3,23 @@ use Rattle.std.specs.Prelude.{ℕ, suc, zero, ◌+◌, ◌-◌, ◌*◌, ◌/◌
 use Rattle.st_draw.specs.declared.axis.Axis.{Axis}
 use Rattle.st_draw.specs.declared.axis.Room.{Room}
 use Rattle.st_entries.specs.Phases.{first_tick}
-use Rattle.st_entries.specs.declared.timetable.Entry.{Entry}
-use Rattle.st_entries.specs.declared.timetable.Entry.TheVariants.{Done, Dropped, Taken, Shown}
+use Rattle.st_entries.specs.declared.timetable.DrawnEntry.{DrawnEntry}
+use Rattle.st_entries.specs.declared.timetable.DrawnEntry.TheVariants.{Done, Dropped, Taken, Shown}
 
 -- the last tick of an entry
-abbrev pub last_tick_of : Entry → ℕ
+abbrev pub last_tick_of : DrawnEntry → ℕ
 last_tick_of (Done n a p r t c) = c
 last_tick_of (Dropped a p end) = end
 last_tick_of (Taken i t) = t
 last_tick_of (Shown t) = t
 
 -- the first tick of entries; the largest number, where there are none
-abbrev pub lowest_tick : List Entry → ℕ
+abbrev pub lowest_tick : List DrawnEntry → ℕ
 lowest_tick [] = 2 ^ 64 - 1
 lowest_tick (e ∷ es) = min (first_tick e) (lowest_tick es)
 
 -- the last tick of entries
-abbrev pub highest_tick : List Entry → ℕ
+abbrev pub highest_tick : List DrawnEntry → ℕ
 highest_tick [] = 0
 highest_tick (e ∷ es) = max (last_tick_of e) (highest_tick es)
 
@@ -50,7 +50,7 @@ axis_over low high least =
     record { start = start; last = high; step = step; span = max least (high - start) }
 
 -- the axis of entries
-unfoldable pub axis : List Entry → ℕ → Axis
+unfoldable pub axis : List DrawnEntry → ℕ → Axis
 axis entries least = axis_over (lowest_tick entries) (highest_tick entries) least
 
 -- where a tick stands: within the room, in proportion

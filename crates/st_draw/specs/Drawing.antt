@@ -6,15 +6,15 @@ use Rattle.st_draw.specs.Element.{Element, Box, Bar, Line, Text, Card, elements_
 use Rattle.st_entries.specs.Phases.{Phase, WaitsForOperands, WaitsForTurn, Executes, IsDropped, Span, spans, least_width}
 use Rattle.st_draw.specs.declared.axis.Room.{Room}
 use Rattle.st_draw.specs.declared.drawing.Sheet.{Sheet}
-use Rattle.st_entries.specs.declared.timetable.Entry.{Entry}
-use Rattle.st_entries.specs.declared.timetable.Entry.TheVariants.{Done, Dropped, Taken, Shown}
+use Rattle.st_entries.specs.declared.timetable.DrawnEntry.{DrawnEntry}
+use Rattle.st_entries.specs.declared.timetable.DrawnEntry.TheVariants.{Done, Dropped, Taken, Shown}
 
 -- the room of the axis, behind cards of so many characters
 abbrev pub room_behind : ℕ → Room
 room_behind characters = record { left = 124 + 7 * characters; width = 504 - 7 * characters }
 
 -- the sheet of entries: its axis, where that stands, and the lower end of the rows
-unfoldable pub sheet : List ℕ → List Entry → Sheet
+unfoldable pub sheet : List ℕ → List DrawnEntry → Sheet
 sheet report entries = record {
   room = room_behind (widest report entries);
   axis = axis entries 1;
@@ -61,29 +61,29 @@ bar sheet y text s =
     (max (least_width s.phase) (x_of sheet s.to - x_of sheet s.from)) 10 text
 
 -- the lines of an entry that is a tick of its own
-abbrev pub uprights : Sheet → ℕ → Entry → List Element
+abbrev pub uprights : Sheet → ℕ → DrawnEntry → List Element
 uprights sheet y (Done n a p r t c) = []
 uprights sheet y (Dropped a p end) = []
 uprights sheet y (Taken i t) = upright (codes "i") sheet y t
 uprights sheet y (Shown t) = upright (codes "s") sheet y t
 
 -- what stands in the row of an entry at y: a bar for each of its phases, or its lines
-unfoldable pub bars : Sheet → ℕ → Entry → List Element
+unfoldable pub bars : Sheet → ℕ → DrawnEntry → List Element
 bars sheet y entry = map (λ s. bar sheet y (title entry) s) (spans entry) ++ uprights sheet y entry
 
 -- what stands in front of an entry's bars
-unfoldable pub caption : List ℕ → ℕ → Entry → List Element
+unfoldable pub caption : List ℕ → ℕ → DrawnEntry → List Element
 caption report y entry =
     Text (codes "n") 48 (y + 12) (caption_number entry)
     ∷ Text (codes "n") 110 (y + 12) (second_text entry)
     ∷ Card 120 (y + 12) (third_text report entry) ∷ []
 
 -- the row of an entry at y
-unfoldable pub row_elements : Sheet → List ℕ → ℕ → Entry → List Element
+unfoldable pub row_elements : Sheet → List ℕ → ℕ → DrawnEntry → List Element
 row_elements sheet report y entry = caption report y entry ++ bars sheet y entry
 
 -- the rows of entries, one below the other from y on
-unfoldable pub rows_elements : Sheet → List ℕ → ℕ → List Entry → List Element
+unfoldable pub rows_elements : Sheet → List ℕ → ℕ → List DrawnEntry → List Element
 rows_elements sheet report y [] = []
 rows_elements sheet report y (e ∷ es) = row_elements sheet report y e
     ++ rows_elements sheet report (y + 16) es
@@ -123,7 +123,7 @@ remark shown later = decimal shown ++ codes " rows, " ++ decimal later ++ codes 
 
 -- what is said above the rows, beside the axis that begins at so many units: what its numbers are,
 -- or that there is no entry
-unfoldable pub notice : ℕ → List Entry → List Element
+unfoldable pub notice : ℕ → List DrawnEntry → List Element
 notice left [] = Text (codes "c") 12 20 (codes "no rows") ∷ []
 notice left (e ∷ es) = Text (codes "m") (left - 48) 22 (codes "ticks") ∷ []
 
@@ -132,20 +132,20 @@ unfoldable pub foot : ℕ → List ℕ → List Element
 foot bottom text = legend (bottom + 8) ++ Text (codes "c") 12 (bottom + 54) text ∷ []
 
 -- what stands under and above the rows: the ground of the picture, and what is said beside the axis
-unfoldable pub ground : Sheet → List Entry → List Element
+unfoldable pub ground : Sheet → List DrawnEntry → List Element
 ground sheet entries = Box (codes "p") 0 0 640 (sheet.bottom + 60) ∷ notice sheet.room.left entries
 
 -- the axis and the rows
-unfoldable pub chart : Sheet → List ℕ → List Entry → List Element
+unfoldable pub chart : Sheet → List ℕ → List DrawnEntry → List Element
 chart sheet report entries = grid sheet (marks sheet.axis) ++ rows_elements sheet report 36 entries
 
 -- the elements on a sheet
-abbrev pub drawing_on : Sheet → List ℕ → List Entry → ℕ → ℕ → List Element
+abbrev pub drawing_on : Sheet → List ℕ → List DrawnEntry → ℕ → ℕ → List Element
 drawing_on sheet report entries shown later =
     ground sheet entries ++ chart sheet report entries ++ foot sheet.bottom (remark shown later)
 
 -- the elements of a picture, in order
-unfoldable pub drawing : List ℕ → List Entry → ℕ → ℕ → List Element
+unfoldable pub drawing : List ℕ → List DrawnEntry → ℕ → ℕ → List Element
 drawing report entries shown later = drawing_on (sheet report entries) report entries shown later
 
 -- what the classes of elements look like, and the hatch of what is dropped
@@ -171,7 +171,7 @@ abbrev pub closing : List ℕ
 closing = codes "</svg>\n"
 
 -- the bytes of a picture
-unfoldable pub svg : List ℕ → List Entry → ℕ → ℕ → List ℕ
+unfoldable pub svg : List ℕ → List DrawnEntry → ℕ → ℕ → List ℕ
 svg report entries shown later =
     picture_front ((sheet report entries).bottom + 60) ++ elements_text
     (drawing report entries shown later) ++ closing

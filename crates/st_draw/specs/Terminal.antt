@@ -7,8 +7,8 @@ use Rattle.st_draw.specs.Drawing.{remark}
 use Rattle.st_entries.specs.Phases.{first_tick, Phase, WaitsForOperands, WaitsForTurn, Executes, IsDropped, Span, spans, least_width}
 use Rattle.st_draw.specs.declared.axis.Axis.{Axis}
 use Rattle.st_draw.specs.declared.terminal.Page.{Page}
-use Rattle.st_entries.specs.declared.timetable.Entry.{Entry}
-use Rattle.st_entries.specs.declared.timetable.Entry.TheVariants.{Done, Dropped, Taken, Shown}
+use Rattle.st_entries.specs.declared.timetable.DrawnEntry.{DrawnEntry}
+use Rattle.st_entries.specs.declared.timetable.DrawnEntry.TheVariants.{Done, Dropped, Taken, Shown}
 
 -- a byte, n times over
 abbrev pub byte_times : ℕ → ℕ → List ℕ
@@ -50,26 +50,26 @@ strokes_of axis [] = []
 strokes_of axis (s ∷ ss) = stroke axis s ++ strokes_of axis ss
 
 -- the sign of an entry that is a tick of its own
-abbrev pub sign : Entry → List ℕ
+abbrev pub sign : DrawnEntry → List ℕ
 sign (Done n a p r t c) = []
 sign (Dropped a p end) = []
 sign (Taken i t) = codes "!"
 sign (Shown t) = codes "|"
 
 -- the bars of an entry behind blanks up to its first tick, or its sign
-unfoldable pub strokes : Axis → Entry → List ℕ
+unfoldable pub strokes : Axis → DrawnEntry → List ℕ
 strokes axis entry = byte_times (column axis (first_tick entry)) 32 ++ strokes_of axis (spans entry)
     ++ sign entry
 
 -- the line of an entry
-unfoldable pub entry_line : Page → List ℕ → Entry → List ℕ
+unfoldable pub entry_line : Page → List ℕ → DrawnEntry → List ℕ
 entry_line page report entry =
     text_columns page.places (caption_number entry) (second_text entry)
     (with_dots (third_text report entry))
     ++ strokes page.axis entry ++ codes "\n"
 
 -- the lines of entries
-unfoldable pub entry_lines : Page → List ℕ → List Entry → List ℕ
+unfoldable pub entry_lines : Page → List ℕ → List DrawnEntry → List ℕ
 entry_lines page report [] = []
 entry_lines page report (e ∷ es) = entry_line page report e ++ entry_lines page report es
 
@@ -89,7 +89,7 @@ scale page line [] = line
 scale page line (tick ∷ ticks) = scale page (line_with_tick page line tick) ticks
 
 -- the line above the rows: what its numbers are, and round ticks; or that there is no entry
-unfoldable pub head : Page → List Entry → List ℕ
+unfoldable pub head : Page → List DrawnEntry → List ℕ
 head page [] = codes "no rows\n"
 head page (e ∷ es) = scale page (text_at_right (18 + page.places) (codes "ticks")) (marks page.axis)
     ++ codes "\n"
@@ -101,11 +101,11 @@ key =
     ++ codes "! interrupt  | snapshot\n"
 
 -- the page of entries: its axis, and the places of their third texts
-abbrev pub page_of : List ℕ → List Entry → Page
+abbrev pub page_of : List ℕ → List DrawnEntry → Page
 page_of report entries = record { axis = axis entries 60; places = widest report entries }
 
 -- the bytes of a picture as text
-unfoldable pub page_text : List ℕ → List Entry → ℕ → ℕ → List ℕ
+unfoldable pub page_text : List ℕ → List DrawnEntry → ℕ → ℕ → List ℕ
 page_text report entries shown later =
     let page = page_of report entries in
     head page entries ++ entry_lines page report entries ++ key ++ remark shown later ++ codes "\n"

@@ -3,17 +3,17 @@ use Rattle.std.specs.Prelude.{ℕ, ◌+◌, ◌-◌, ◌^◌, nat_eq, nat_le, mi
 use Rattle.std.specs.Option.{option_map, option_and_then}
 use Rattle.std.specs.Cmp.Lexicographic.{pointwise}
 use Rattle.st_text.specs.Number.{number_up_to}
-use Rattle.st_entries.specs.declared.timetable.Part.{Part}
+use Rattle.st_entries.specs.declared.timetable.RowRange.{RowRange}
 use Rattle.st_draw.specs.declared.words.Choice.{Choice}
-use Rattle.st_draw.specs.declared.words.Kind.{Kind}
-use Rattle.st_draw.specs.declared.words.Kind.TheVariants.{Svg, Text, Kanata}
+use Rattle.st_draw.specs.declared.words.PictureKind.{PictureKind}
+use Rattle.st_draw.specs.declared.words.PictureKind.TheVariants.{Svg, Text, Kanata}
 
 -- the rows that are drawn where no word names them
-abbrev pub first_part : Part
+abbrev pub first_part : RowRange
 first_part = record { from = 1; to = 200 }
 
 -- the kind of picture that a word is
-abbrev pub kind_named : List ℕ → Option Kind
+abbrev pub kind_named : List ℕ → Option PictureKind
 kind_named word =
     if pointwise nat_eq word (codes "svg") then Some Svg
     else if pointwise nat_eq word (codes "text") then Some Text
@@ -21,13 +21,13 @@ kind_named word =
     else None
 
 -- the part from a row to a row: at least one row, and at most 200
-abbrev pub part_between : ℕ → ℕ → Option Part
+abbrev pub part_between : ℕ → ℕ → Option RowRange
 part_between from to =
     if nat_le 1 from && nat_le from to then Some (record { from = from; to = min to (from + 199) })
     else None
 
 -- the part that two words name
-unfoldable pub part_named : List ℕ → List ℕ → Option Part
+unfoldable pub part_named : List ℕ → List ℕ → Option RowRange
 part_named from to = option_and_then (λ f. option_and_then (λ t. part_between f t)
     (number_up_to (2 ^ 64 - 1) to)) (number_up_to (2 ^ 64 - 1) from)
 

@@ -2,7 +2,7 @@
 ghost use Rattle.std.specs.Prelude.{◌≡◌, ◌+◌, ◌^◌, ◌≤◌, ◌<◌, ◌++◌, IfOk};
 ghost use Rattle.st_draw.specs.Axis as spec;
 
-use st_entries::{Entry, first_tick};
+use st_entries::{DrawnEntry, first_tick};
 use std::alloc::{AllocError, Global};
 
 /// The ticks that a picture shows.
@@ -28,20 +28,20 @@ pub struct Room {
 }
 
 // The last tick of an entry.
-fn last_tick(entry: &Entry) -> u64
+fn last_tick(entry: &DrawnEntry) -> u64
     ensures { result ≡ spec.last_tick_of entry.now }
 {
     match *entry {
-        Entry::Done { complete, .. } => complete,
-        Entry::Dropped { end, .. } => end,
-        Entry::Taken { tick, .. } => tick,
-        Entry::Shown { tick } => tick,
+        DrawnEntry::Done { complete, .. } => complete,
+        DrawnEntry::Dropped { end, .. } => end,
+        DrawnEntry::Taken { tick, .. } => tick,
+        DrawnEntry::Shown { tick } => tick,
     }
 }
 
 // The first tick of entries.
 #[tactic(auto, using(crate::proofs::Axes::lowest_bound))]
-fn lowest(entries: &[Entry]) -> u64
+fn lowest(entries: &[DrawnEntry]) -> u64
     ensures { result ≡ spec.lowest_tick entries.now }
 {
     let mut low = u64::MAX;
@@ -54,7 +54,7 @@ fn lowest(entries: &[Entry]) -> u64
 }
 
 // The last tick of entries.
-fn highest(entries: &[Entry]) -> u64
+fn highest(entries: &[DrawnEntry]) -> u64
     ensures { result ≡ spec.highest_tick entries.now }
 {
     let mut high = 0;
@@ -89,7 +89,7 @@ fn step_from(fuel: u8, unit: u64, span: u64) -> u64
 }
 
 /// The axis of entries, at least so many ticks long.
-pub fn axis_of(entries: &[Entry], least: u64) -> Axis
+pub fn axis_of(entries: &[DrawnEntry], least: u64) -> Axis
     requires { 1 ≤ least }
     ensures value { result ≡ spec.axis entries.now least }
     ensures some { 1 ≤ result.span }

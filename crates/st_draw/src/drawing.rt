@@ -5,8 +5,8 @@ ghost use Rattle.st_draw.specs.Drawing as spec;
 ghost use Rattle.st_draw.specs.Drawing.{IsSheet};
 
 use crate::axis::{Axis, Room, at, axis_of, marks_of};
-use crate::element::{Area, Spot, push_bar, push_box, push_card, push_line, push_text};
-use st_entries::{Entry, first_text, push_decimal, second_text, third_text, title, widest};
+use crate::element::{Area, Point, push_bar, push_box, push_card, push_line, push_text};
+use st_entries::{DrawnEntry, first_text, push_decimal, second_text, third_text, title, widest};
 use std::alloc::{AllocError, Global};
 
 /// What all rows of a picture share.
@@ -33,7 +33,7 @@ const STYLES: &[u8; 489] =
 #[derive(Clone, Copy)]
 struct DrawnRow {
     y: u128,
-    entry: Entry,
+    entry: DrawnEntry,
 }
 
 // The words before the height of a picture.
@@ -69,7 +69,7 @@ fn room_behind(characters: u16) -> Room
 
 // The sheet of entries.
 #[tactic(auto, unfolding(crate::specs::Drawing::sheet))]
-fn sheet_of(report: &[u8], entries: &[Entry]) -> Sheet
+fn sheet_of(report: &[u8], entries: &[DrawnEntry]) -> Sheet
     ensures value { result ≡ spec.sheet report.now entries.now }
     ensures good { IsSheet result }
 {
@@ -109,7 +109,7 @@ fn push_number(alloc: Global, out: &mut Vec<u8>, x: u128, n: u64) -> Result<(), 
 {
     let mut number = Vec::new(alloc);
     push_decimal(&mut number, u128::from(n))?;
-    push_text(out, b"m", Spot { x, y: 22 }, number.as_slice())
+    push_text(out, b"m", Point { x, y: 22 }, number.as_slice())
 }
 
 // Appends a round tick: a line down the sheet and its number above.
@@ -206,7 +206,7 @@ fn push_bars(
     let title = title(alloc, entry)?;
     let title = title.as_slice();
     match entry {
-        Entry::Done {
+        DrawnEntry::Done {
             prepared,
             ready,
             turn,
@@ -219,12 +219,12 @@ fn push_bars(
             push_bar(out, b"t", bar(y, 0, there, start), title)?;
             push_bar(out, b"e", bar(y, 1, start, across(sheet, complete)), title)
         }
-        Entry::Dropped { prepared, end, .. } => {
+        DrawnEntry::Dropped { prepared, end, .. } => {
             let bar = bar(y, 1, across(sheet, prepared), across(sheet, end));
             push_bar(out, b"d", bar, title)
         }
-        Entry::Taken { tick, .. } => push_upright(out, b"i", sheet, y, tick),
-        Entry::Shown { tick } => push_upright(out, b"s", sheet, y, tick),
+        DrawnEntry::Taken { tick, .. } => push_upright(out, b"i", sheet, y, tick),
+        DrawnEntry::Shown { tick } => push_upright(out, b"s", sheet, y, tick),
     }
 }
 
@@ -235,7 +235,7 @@ fn push_caption(
     out: &mut Vec<u8>,
     report: &[u8],
     y: u128,
-    entry: Entry,
+    entry: DrawnEntry,
 ) -> Result<(), AllocError>
     requires { y < 2 ^ 70 }
     ensures { IfOk result (λ _. out.new.items ≡ out.old.items
@@ -244,9 +244,9 @@ fn push_caption(
     let first = first_text(alloc, entry)?;
     let second = second_text(alloc, entry)?;
     let y = y + 12;
-    push_text(out, b"n", Spot { x: 48, y }, first.as_slice())?;
-    push_text(out, b"n", Spot { x: 110, y }, second.as_slice())?;
-    push_card(out, Spot { x: 120, y }, third_text(report, entry))
+    push_text(out, b"n", Point { x: 48, y }, first.as_slice())?;
+    push_text(out, b"n", Point { x: 110, y }, second.as_slice())?;
+    push_card(out, Point { x: 120, y }, third_text(report, entry))
 }
 
 // Appends the row of an entry at y.
@@ -273,7 +273,7 @@ fn push_rows(
     out: &mut Vec<u8>,
     sheet: &Sheet,
     report: &[u8],
-    entries: &[Entry],
+    entries: &[DrawnEntry],
 ) -> Result<(), AllocError>
     requires { IsSheet sheet.now }
     ensures { IfOk result (λ _. out.new.items ≡ out.old.items
@@ -295,7 +295,7 @@ fn push_meaning(out: &mut Vec<u8>, x: u16, y: u128, meaning: &[u8]) -> Result<()
     ensures { IfOk result (λ _. out.new.items ≡ out.old.items
         ++ element_text (Text (codes "c") (x + 26) (y + 9) meaning.now)) }
 {
-    let spot = Spot {
+    let spot = Point {
         x: u128::from(x) + 26,
         y: y + 9,
     };
@@ -408,7 +408,7 @@ pub fn remark(alloc: Global, shown: u64, later: u64) -> Result<Vec<u8>, AllocErr
 // Appends the ground of the picture, and what is said beside the axis: what its numbers are, or
 // that there is no entry.
 #[tactic(auto, unfolding(crate::specs::Drawing::ground, crate::specs::Drawing::notice, crate::specs::Element::elements_text))]
-fn push_ground(out: &mut Vec<u8>, sheet: &Sheet, entries: &[Entry]) -> Result<(), AllocError>
+fn push_ground(out: &mut Vec<u8>, sheet: &Sheet, entries: &[DrawnEntry]) -> Result<(), AllocError>
     requires { IsSheet sheet.now }
     ensures { IfOk result (λ _. out.new.items ≡ out.old.items
         ++ elements_text (spec.ground sheet.now entries.now)) }
@@ -421,10 +421,10 @@ fn push_ground(out: &mut Vec<u8>, sheet: &Sheet, entries: &[Entry]) -> Result<()
     };
     push_box(out, b"p", area)?;
     if entries.is_empty() {
-        return push_text(out, b"c", Spot { x: 12, y: 20 }, b"no rows");
+        return push_text(out, b"c", Point { x: 12, y: 20 }, b"no rows");
     }
     let x = u128::from(sheet.room.left.saturating_sub(48));
-    push_text(out, b"m", Spot { x, y: 22 }, b"ticks")
+    push_text(out, b"m", Point { x, y: 22 }, b"ticks")
 }
 
 // Appends the axis and the rows.
@@ -434,7 +434,7 @@ fn push_chart(
     out: &mut Vec<u8>,
     sheet: &Sheet,
     report: &[u8],
-    entries: &[Entry],
+    entries: &[DrawnEntry],
 ) -> Result<(), AllocError>
     requires { IsSheet sheet.now }
     ensures { IfOk result (λ _. out.new.items ≡ out.old.items
@@ -453,7 +453,7 @@ fn push_foot(out: &mut Vec<u8>, bottom: u128, remark: &[u8]) -> Result<(), Alloc
         ++ elements_text (spec.foot bottom remark.now)) }
 {
     push_legend(out, bottom + 8)?;
-    let spot = Spot {
+    let spot = Point {
         x: 12,
         y: bottom + 54,
     };
@@ -475,7 +475,7 @@ fn push_opening(out: &mut Vec<u8>, height: u128) -> Result<(), AllocError>
 pub fn draw_svg(
     alloc: Global,
     report: &[u8],
-    entries: &[Entry],
+    entries: &[DrawnEntry],
     shown: u64,
     later: u64,
 ) -> Result<Vec<u8>, AllocError>

@@ -21,7 +21,7 @@ pub struct Area {
 
 /// Where a text stands: one of its ends or its middle, and the line under it.
 #[derive(Clone, Copy)]
-pub struct Spot {
+pub struct Point {
     pub x: u128,
     pub y: u128,
 }
@@ -157,7 +157,12 @@ pub fn push_line(out: &mut Vec<u8>, class: &[u8], area: Area) -> Result<(), Allo
 
 /// Appends a text, whose left end, right end or middle stands at x by its class.
 #[tactic(auto, unfolding(crate::specs::Element::element_text))]
-pub fn push_text(out: &mut Vec<u8>, class: &[u8], spot: Spot, text: &[u8]) -> Result<(), AllocError>
+pub fn push_text(
+    out: &mut Vec<u8>,
+    class: &[u8],
+    spot: Point,
+    text: &[u8],
+) -> Result<(), AllocError>
     ensures { IfOk result (λ _. out.new.items ≡ out.old.items
         ++ element_text (Text class.now spot.x spot.y text.now)) }
 {
@@ -168,7 +173,7 @@ pub fn push_text(out: &mut Vec<u8>, class: &[u8], spot: Spot, text: &[u8]) -> Re
 
 /// Appends a card.
 #[tactic(auto, unfolding(crate::specs::Element::element_text))]
-pub fn push_card(out: &mut Vec<u8>, spot: Spot, text: &[u8]) -> Result<(), AllocError>
+pub fn push_card(out: &mut Vec<u8>, spot: Point, text: &[u8]) -> Result<(), AllocError>
     ensures { IfOk result (λ _. out.new.items ≡ out.old.items
         ++ element_text (Card spot.x spot.y text.now)) }
 {

@@ -8,8 +8,8 @@ ghost use Rattle.st_draw.specs.Words.{picture_choice};
 use crate::drawing::draw_svg;
 use crate::status::Status;
 use crate::terminal::draw_text;
-use crate::words::{Choice, Kind, read_words};
-use st_entries::{Entry, read_timetable};
+use crate::words::{Choice, PictureKind, read_words};
+use st_entries::{DrawnEntry, read_timetable};
 use st_io::{ReadError, Sink, Source, read_all, write_all};
 use st_kanata::write_log;
 use std::alloc::{AllocError, Global};
@@ -18,13 +18,13 @@ use std::alloc::{AllocError, Global};
 const REPORT_LIMIT: u32 = 16_000_000;
 
 // How many of the entries are rows.
-fn rows_in(entries: &[Entry]) -> u64
+fn rows_in(entries: &[DrawnEntry]) -> u64
     ensures { result ≡ spec.rows_in entries.now }
 {
     let mut count = 0;
     let mut rest = entries;
     'entries: while let [entry, after @ ..] = rest {
-        if matches!(entry, Entry::Done { .. }) {
+        if matches!(entry, DrawnEntry::Done { .. }) {
             count += 1;
         }
         rest = after;
@@ -33,7 +33,7 @@ fn rows_in(entries: &[Entry]) -> u64
 }
 
 // What is drawn of the entries: nothing, where none of them is a row.
-fn visible(shown: u64, entries: &[Entry]) -> &[Entry]
+fn visible(shown: u64, entries: &[DrawnEntry]) -> &[DrawnEntry]
     ensures { result.now ≡ spec.visible_entries shown entries.now }
 {
     if shown == 0 { &[] } else { entries }
@@ -42,18 +42,18 @@ fn visible(shown: u64, entries: &[Entry]) -> &[Entry]
 // The bytes of a kind of picture.
 fn picture_of(
     alloc: Global,
-    kind: Kind,
+    kind: PictureKind,
     report: &[u8],
-    entries: &[Entry],
+    entries: &[DrawnEntry],
     counts: (u64, u64),
 ) -> Result<Vec<u8>, AllocError>
     ensures { IfOk result (λ out. out.items
         ≡ spec.picture_of kind report.now entries.now counts.0 counts.1) }
 {
     match kind {
-        Kind::Svg => draw_svg(alloc, report, entries, counts.0, counts.1),
-        Kind::Text => draw_text(alloc, report, entries, counts.0, counts.1),
-        Kind::Kanata => write_log(alloc, report, entries),
+        PictureKind::Svg => draw_svg(alloc, report, entries, counts.0, counts.1),
+        PictureKind::Text => draw_text(alloc, report, entries, counts.0, counts.1),
+        PictureKind::Kanata => write_log(alloc, report, entries),
     }
 }
 

@@ -5,7 +5,7 @@ ghost use Rattle.st_draw.specs.Terminal as spec;
 use crate::axis::{Axis, Room, at, axis_of, marks_of};
 use crate::drawing::remark;
 use st_entries::{
-    Entry, first_text, first_tick, push_decimal, push_plain, second_text, third_text, widest,
+    DrawnEntry, first_text, first_tick, push_decimal, push_plain, second_text, third_text, widest,
     with_dots,
 };
 use std::alloc::{AllocError, Global};
@@ -92,13 +92,13 @@ fn push_stroke(
 }
 
 // Appends the bars of an entry behind blanks up to its first tick, or its sign.
-fn push_strokes(out: &mut Vec<u8>, axis: &Axis, entry: Entry) -> Result<(), AllocError>
+fn push_strokes(out: &mut Vec<u8>, axis: &Axis, entry: DrawnEntry) -> Result<(), AllocError>
     requires { 1 ≤ axis.now.span }
     ensures { IfOk result (λ _. out.new.items ≡ out.old.items ++ spec.strokes axis.now entry) }
 {
     push_many(out, column(axis, first_tick(&entry)), b' ')?;
     match entry {
-        Entry::Done {
+        DrawnEntry::Done {
             prepared,
             ready,
             turn,
@@ -109,9 +109,15 @@ fn push_strokes(out: &mut Vec<u8>, axis: &Axis, entry: Entry) -> Result<(), Allo
             push_stroke(out, axis, (b'-', 0), ready, turn)?;
             push_stroke(out, axis, (b'#', 1), turn, complete)
         }
-        Entry::Dropped { prepared, end, .. } => push_stroke(out, axis, (b'x', 1), prepared, end),
-        Entry::Taken { .. } => out.extend_from_slice(b"!"),
-        Entry::Shown { .. } => out.extend_from_slice(b"|"),
+        DrawnEntry::Dropped { prepared, end, .. } => push_stroke(
+            out,
+            axis,
+            (b'x', 1),
+            prepared,
+            end,
+        ),
+        DrawnEntry::Taken { .. } => out.extend_from_slice(b"!"),
+        DrawnEntry::Shown { .. } => out.extend_from_slice(b"|"),
     }
 }
 
@@ -121,7 +127,7 @@ fn push_entry(
     out: &mut Vec<u8>,
     page: &Page,
     report: &[u8],
-    entry: Entry,
+    entry: DrawnEntry,
 ) -> Result<(), AllocError>
     requires { 1 ≤ page.now.axis.span }
     ensures { IfOk result (λ _. out.new.items ≡ out.old.items
@@ -147,7 +153,7 @@ fn push_entries(
     out: &mut Vec<u8>,
     page: &Page,
     report: &[u8],
-    entries: &[Entry],
+    entries: &[DrawnEntry],
 ) -> Result<(), AllocError>
     requires { 1 ≤ page.now.axis.span }
     ensures { IfOk result (λ _. out.new.items ≡ out.old.items
@@ -190,7 +196,7 @@ fn push_scale(line: &mut Vec<u8>, page: &Page, ticks: &[u64]) -> Result<(), Allo
 }
 
 // The line above the rows: what its numbers are, and round ticks; or that there is no entry.
-fn head(alloc: Global, page: &Page, entries: &[Entry]) -> Result<Vec<u8>, AllocError>
+fn head(alloc: Global, page: &Page, entries: &[DrawnEntry]) -> Result<Vec<u8>, AllocError>
     requires axis { 1 ≤ page.now.axis.span }
     requires places { page.now.places ≤ 40 }
     ensures { IfOk result (λ out. out.items ≡ spec.head page.now entries.now) }
@@ -220,7 +226,7 @@ fn push_key(out: &mut Vec<u8>) -> Result<(), AllocError>
 pub fn draw_text(
     alloc: Global,
     report: &[u8],
-    entries: &[Entry],
+    entries: &[DrawnEntry],
     shown: u64,
     later: u64,
 ) -> Result<Vec<u8>, AllocError>

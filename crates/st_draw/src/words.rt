@@ -3,12 +3,12 @@ ghost use Rattle.std.specs.Prelude.{◌≡◌, map};
 ghost use Rattle.std.specs.String.{string_bytes};
 ghost use Rattle.st_draw.specs.Words as spec;
 
-use st_entries::Part;
+use st_entries::RowRange;
 use st_text::number_up_to;
 
 /// A kind of picture.
 #[derive(Clone, Copy)]
-pub enum Kind {
+pub enum PictureKind {
     /// A picture for a browser.
     Svg,
     /// Lines for a terminal.
@@ -20,40 +20,40 @@ pub enum Kind {
 /// What is to be drawn.
 #[derive(Clone, Copy)]
 pub struct Choice {
-    pub kind: Kind,
-    pub part: Part,
+    pub kind: PictureKind,
+    pub part: RowRange,
 }
 
 // The rows that are drawn where no word names them.
-const FIRST_PART: Part = Part { from: 1, to: 200 };
+const FIRST_PART: RowRange = RowRange { from: 1, to: 200 };
 
 // The kind of picture that a word is.
-fn kind_named(word: &str) -> Option<Kind>
+fn kind_named(word: &str) -> Option<PictureKind>
     ensures { result ≡ spec.kind_named word.now }
 {
     match word {
-        "svg" => Some(Kind::Svg),
-        "text" => Some(Kind::Text),
-        "kanata" => Some(Kind::Kanata),
+        "svg" => Some(PictureKind::Svg),
+        "text" => Some(PictureKind::Text),
+        "kanata" => Some(PictureKind::Kanata),
         _ => None,
     }
 }
 
 // The part from a row to a row: at least one row, and at most 200.
-fn part_between(from: u64, to: u64) -> Option<Part>
+fn part_between(from: u64, to: u64) -> Option<RowRange>
     ensures { result ≡ spec.part_between from to }
 {
     if from < 1 || to < from {
         return None;
     }
-    Some(Part {
+    Some(RowRange {
         from,
         to: to.min(from.saturating_add(199)),
     })
 }
 
 // The part that two words name.
-fn part_named(from: &str, to: &str) -> Option<Part>
+fn part_named(from: &str, to: &str) -> Option<RowRange>
     ensures { result ≡ spec.part_named from.now to.now }
 {
     let from = number_up_to(from.as_bytes(), u64::MAX)?;
@@ -76,7 +76,7 @@ pub fn read_words(words: &[String]) -> Option<Choice>
 {
     match words {
         [] => Some(Choice {
-            kind: Kind::Svg,
+            kind: PictureKind::Svg,
             part: FIRST_PART,
         }),
         [word] => Some(Choice {
@@ -84,7 +84,7 @@ pub fn read_words(words: &[String]) -> Option<Choice>
             part: FIRST_PART,
         }),
         [from, to] => Some(Choice {
-            kind: Kind::Svg,
+            kind: PictureKind::Svg,
             part: part_named(from.as_str(), to.as_str())?,
         }),
         [word, from, to] => chosen(word.as_str(), from.as_str(), to.as_str()),

@@ -7,20 +7,20 @@ use Rattle.st_entries.specs.Phases.{executing_at, turn_of}
 use Rattle.st_entries.specs.Report.{item}
 use Rattle.st_entries.specs.Timetable.{Timetable, timetable_at_start, is_in_part, timetable_with, after_said, after_line, after_lines, timetable}
 use Rattle.st_entries.specs.Completions.{completion_after, CompletionsRise}
-use Rattle.st_entries.specs.declared.report.Item.{Item}
-use Rattle.st_entries.specs.declared.report.Item.TheVariants.{Row, Drop, Interrupt, Snapshot}
-use Rattle.st_entries.specs.declared.report.Place.{Place}
-use Rattle.st_entries.specs.declared.timetable.Entry.{Entry}
-use Rattle.st_entries.specs.declared.timetable.Entry.TheVariants.{Done, Dropped, Taken, Shown}
-use Rattle.st_entries.specs.declared.timetable.Part.{Part}
+use Rattle.st_entries.specs.declared.report.TimetableLine.{TimetableLine}
+use Rattle.st_entries.specs.declared.report.TimetableLine.TheVariants.{Row, Drop, Interrupt, Snapshot}
+use Rattle.st_entries.specs.declared.report.ReportAddress.{ReportAddress}
+use Rattle.st_entries.specs.declared.timetable.DrawnEntry.{DrawnEntry}
+use Rattle.st_entries.specs.declared.timetable.DrawnEntry.TheVariants.{Done, Dropped, Taken, Shown}
+use Rattle.st_entries.specs.declared.timetable.RowRange.{RowRange}
 
 -- entries behind entries
-executing_append : (tick : ℕ) (a b : List Entry) → executing_at tick (a ++ b) ≡ executing_at tick a + executing_at tick b
+executing_append : (tick : ℕ) (a b : List DrawnEntry) → executing_at tick (a ++ b) ≡ executing_at tick a + executing_at tick b
 executing_append tick [] b = omega arith
 executing_append tick (e ∷ es) b = let rest = executing_append tick es b in omega (arith, rest)
 
 -- the last entry first
-executing_reverse : (tick : ℕ) (es : List Entry) → executing_at tick (reverse es) ≡ executing_at tick es
+executing_reverse : (tick : ℕ) (es : List DrawnEntry) → executing_at tick (reverse es) ≡ executing_at tick es
 executing_reverse tick [] = refl
 executing_reverse tick (e ∷ es) =
     let turned : reverse (e ∷ es) ≡ reverse es ++ e ∷ [] = reverse-append (e ∷ []) es in
@@ -29,18 +29,18 @@ executing_reverse tick (e ∷ es) =
     rw (turned, both) (omega (arith, rest))
 
 -- an entry that is kept or not, by the test
-kept_by_test : (tick : ℕ) (e : Entry) (es : List Entry) (kept : Bool)
+kept_by_test : (tick : ℕ) (e : DrawnEntry) (es : List DrawnEntry) (kept : Bool)
     → executing_at tick (if kept then es ++ e ∷ [] else es) ≤ executing_at tick es + executing_at tick (e ∷ [])
 kept_by_test tick e es true = let both = executing_append tick es (e ∷ []) in omega (arith, both)
 kept_by_test tick e es false = omega arith
 
 -- a row executes at one of the ticks from the completion before it to its own
-row_executes : (tick before n p r c : ℕ) (a : Place) → before ≤ c
+row_executes : (tick before n p r c : ℕ) (a : ReportAddress) → before ≤ c
     → executing_at tick (Done n a p r (turn_of before r c) c ∷ []) ≤ (if nat_le before tick then 1 else 0)
 row_executes tick before n p r c a rise = grind (arith, rise)
 
 -- a row does not execute from its completion on
-row_is_over : (tick before n p r c : ℕ) (a : Place) → c ≤ tick
+row_is_over : (tick before n p r c : ℕ) (a : ReportAddress) → c ≤ tick
     → executing_at tick (Done n a p r (turn_of before r c) c ∷ []) ≡ 0
 row_is_over tick before n p r c a over = grind (arith, over)
 
@@ -51,7 +51,7 @@ record IsOnce (tick : ℕ) (t : Timetable) : Type 0 where
   pub dropped : executing_at tick t.dropped ≡ 0
 
 -- an entry behind all that were told
-joined_at_most : (part : Part) (tick n : ℕ) (e : Entry) (t : Timetable) → IsOnce tick t
+joined_at_most : (part : RowRange) (tick n : ℕ) (e : DrawnEntry) (t : Timetable) → IsOnce tick t
     → executing_at tick (timetable_with part n e t).entries ≤ executing_at tick t.entries + executing_at tick (e ∷ [])
 joined_at_most part tick n e t is =
     let most = kept_by_test tick e (t.entries ++ reverse t.dropped) (is_in_part part n) in
@@ -60,7 +60,7 @@ joined_at_most part tick n e t is =
     omega (arith, most, both, none, is.dropped)
 
 -- an entry that does not execute, behind all that were told
-joined_once : (part : Part) (tick n : ℕ) (e : Entry) (t : Timetable) → executing_at tick (e ∷ []) ≡ 0 → IsOnce tick t
+joined_once : (part : RowRange) (tick n : ℕ) (e : DrawnEntry) (t : Timetable) → executing_at tick (e ∷ []) ≡ 0 → IsOnce tick t
     → IsOnce tick (timetable_with part n e t)
 joined_once part tick n e t rests is =
     let most = joined_at_most part tick n e t is in
@@ -77,7 +77,7 @@ one_by true tick before all so_far here test one over most sum = omega (arith, o
 one_by false tick before all so_far here test one over most sum = omega (arith, one, most, sum)
 
 -- what one line says
-said_once : (part : Part) (tick : ℕ) (t : Timetable) (said : Option Item) → t.end ≤ completion_after t.end said
+said_once : (part : RowRange) (tick : ℕ) (t : Timetable) (said : Option TimetableLine) → t.end ≤ completion_after t.end said
     → IsOnce tick t → IsOnce tick (after_said part t said)
 said_once part tick t None rise is = is
 said_once part tick t (Some (Row n a p r c)) rise is =
@@ -99,7 +99,7 @@ said_once part tick t (Some (Interrupt i)) rise is = joined_once part tick t.row
 said_once part tick t (Some (Snapshot s)) rise is = joined_once part tick t.row (Shown s) t refl is
 
 -- the last completion behind a line
-said_end : (part : Part) (t : Timetable) (said : Option Item) → (after_said part t said).end ≡ completion_after t.end said
+said_end : (part : RowRange) (t : Timetable) (said : Option TimetableLine) → (after_said part t said).end ≡ completion_after t.end said
 said_end part t None = refl
 said_end part t (Some (Row n a p r c)) = refl
 said_end part t (Some (Drop a p)) = refl
@@ -107,7 +107,7 @@ said_end part t (Some (Interrupt i)) = refl
 said_end part t (Some (Snapshot s)) = refl
 
 -- what lines say
-lines_once : (part : Part) (tick : ℕ) (t : Timetable) (lines : List (List ℕ)) → CompletionsRise t.end lines
+lines_once : (part : RowRange) (tick : ℕ) (t : Timetable) (lines : List (List ℕ)) → CompletionsRise t.end lines
     → IsOnce tick t → IsOnce tick (after_lines part t lines)
 lines_once part tick t [] rise is = is
 lines_once part tick t (line ∷ lines) rise is =
@@ -115,7 +115,7 @@ lines_once part tick t (line ∷ lines) rise is =
     lines_once part tick (after_line part t line) lines next (said_once part tick t (item line) rise.0 is)
 
 -- what a report says
-pub executing_once : (part : Part) (report : List ℕ) (tick : ℕ) → CompletionsRise 0 (pieces_of 10 report)
+pub executing_once : (part : RowRange) (report : List ℕ) (tick : ℕ) → CompletionsRise 0 (pieces_of 10 report)
     → executing_at tick (timetable part report).entries ≤ 1
 unfolding timetable
 executing_once part report tick rise =

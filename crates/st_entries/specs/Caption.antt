@@ -2,9 +2,9 @@
 -- pointed at.
 use Rattle.std.specs.Prelude.{ℕ, ◌*◌, nat_le, nat_lt, min, max, if◌then◌else◌, List, [], ◌∷◌, ◌++◌, length, take, drop, codes, decimal}
 use Rattle.st_entries.specs.Label.{label}
-use Rattle.st_entries.specs.declared.report.Place.{Place}
-use Rattle.st_entries.specs.declared.timetable.Entry.{Entry}
-use Rattle.st_entries.specs.declared.timetable.Entry.TheVariants.{Done, Dropped, Taken, Shown}
+use Rattle.st_entries.specs.declared.report.ReportAddress.{ReportAddress}
+use Rattle.st_entries.specs.declared.timetable.DrawnEntry.{DrawnEntry}
+use Rattle.st_entries.specs.declared.timetable.DrawnEntry.TheVariants.{Done, Dropped, Taken, Shown}
 
 -- the names of the indicators 0 to 63, each in four places
 unfoldable pub indicator_names : List ℕ
@@ -19,25 +19,25 @@ unfoldable pub indicator_text : ℕ → List ℕ
 indicator_text i = if nat_lt i 64 then take 4 (drop (4 * i) indicator_names) else []
 
 -- a place as word.bit
-abbrev pub place_text : Place → List ℕ
+abbrev pub place_text : ReportAddress → List ℕ
 place_text place = decimal place.word ++ codes "." ++ decimal place.bit
 
 -- the number of an entry that is done, or what else it is
-unfoldable pub caption_number : Entry → List ℕ
+unfoldable pub caption_number : DrawnEntry → List ℕ
 caption_number (Done n a p r t c) = decimal n
 caption_number (Dropped a p end) = codes "drop"
 caption_number (Taken i t) = codes "INT"
 caption_number (Shown t) = codes "SNAP"
 
 -- where an entry stands in storage; the number of an indicator; the tick of a snapshot
-unfoldable pub second_text : Entry → List ℕ
+unfoldable pub second_text : DrawnEntry → List ℕ
 second_text (Done n a p r t c) = place_text a
 second_text (Dropped a p end) = place_text a
 second_text (Taken i t) = decimal i
 second_text (Shown t) = decimal t
 
 -- the text of an entry's card; the name of an indicator
-unfoldable pub third_text : List ℕ → Entry → List ℕ
+unfoldable pub third_text : List ℕ → DrawnEntry → List ℕ
 third_text report (Done n a p r t c) = label report a
 third_text report (Dropped a p end) = label report a
 third_text report (Taken i t) = indicator_text i
@@ -52,7 +52,7 @@ unfoldable pub with_dots : List ℕ → List ℕ
 with_dots text = if nat_le (length text) card_limit then text else take 37 text ++ codes "..."
 
 -- how many characters are shown of the longest third text
-abbrev pub widest : List ℕ → List Entry → ℕ
+abbrev pub widest : List ℕ → List DrawnEntry → ℕ
 widest report [] = 0
 widest report (e ∷ es) = max (min card_limit (length (third_text report e))) (widest report es)
 
@@ -61,7 +61,7 @@ unfoldable pub words_with_number : List ℕ → ℕ → List ℕ
 words_with_number words n = words ++ decimal n
 
 -- what the bars of an entry tell: the ticks of its phases
-unfoldable pub title : Entry → List ℕ
+unfoldable pub title : DrawnEntry → List ℕ
 title (Done n a p r t c) =
     words_with_number (codes "row ") n ++ words_with_number (codes ": waits for operands from P ") p
     ++ words_with_number (codes " to R ") r

@@ -1,11 +1,11 @@
 -- The completions of the rows that a report tells, one after another.
 use Rattle.std.specs.Prelude.{ℕ, ◌≤◌, List, [], ◌∷◌, ⊤, Option, None, Some}
 use Rattle.st_entries.specs.Report.{item}
-use Rattle.st_entries.specs.declared.report.Item.{Item}
-use Rattle.st_entries.specs.declared.report.Item.TheVariants.{Row, Drop, Interrupt, Snapshot}
+use Rattle.st_entries.specs.declared.report.TimetableLine.{TimetableLine}
+use Rattle.st_entries.specs.declared.report.TimetableLine.TheVariants.{Row, Drop, Interrupt, Snapshot}
 
 -- the completion of the last row behind a line, by the one before it and what the line says
-abbrev pub completion_after : ℕ → Option Item → ℕ
+abbrev pub completion_after : ℕ → Option TimetableLine → ℕ
 completion_after before None = before
 completion_after before (Some (Row n a p r c)) = c
 completion_after before (Some (Drop a p)) = before

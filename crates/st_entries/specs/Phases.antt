@@ -1,7 +1,7 @@
 -- The phases of an entry: what each of its bars says, from which tick to which.
 use Rattle.std.specs.Prelude.{ℕ, ◌+◌, nat_le, nat_lt, min, max, ◌&&◌, Bool, true, false, if◌then◌else◌, List, [], ◌∷◌}
-use Rattle.st_entries.specs.declared.timetable.Entry.{Entry}
-use Rattle.st_entries.specs.declared.timetable.Entry.TheVariants.{Done, Dropped, Taken, Shown}
+use Rattle.st_entries.specs.declared.timetable.DrawnEntry.{DrawnEntry}
+use Rattle.st_entries.specs.declared.timetable.DrawnEntry.TheVariants.{Done, Dropped, Taken, Shown}
 
 -- the tick at which it is a row's turn: its operands are there, and the row before it in the report
 -- is complete; not past its own completion
@@ -9,7 +9,7 @@ abbrev pub turn_of : ℕ → ℕ → ℕ → ℕ
 turn_of before ready complete = max ready (min before complete)
 
 -- the first tick of an entry
-abbrev pub first_tick : Entry → ℕ
+abbrev pub first_tick : DrawnEntry → ℕ
 first_tick (Done n a p r t c) = p
 first_tick (Dropped a p end) = p
 first_tick (Taken i t) = t
@@ -29,7 +29,7 @@ pub record Span : Type 0 where
   pub to : ℕ
 
 -- the phases of an entry, one after another; an interrupt and a snapshot are ticks, and have none
-abbrev pub spans : Entry → List Span
+abbrev pub spans : DrawnEntry → List Span
 spans (Done n a p r t c) =
     record { phase = WaitsForOperands; from = p; to = r }
     ∷ record { phase = WaitsForTurn; from = r; to = t }
@@ -60,6 +60,6 @@ executing_spans tick (s ∷ ss) =
     + executing_spans tick ss
 
 -- how many entries execute at a tick
-abbrev pub executing_at : ℕ → List Entry → ℕ
+abbrev pub executing_at : ℕ → List DrawnEntry → ℕ
 executing_at tick [] = 0
 executing_at tick (e ∷ es) = executing_spans tick (spans e) + executing_at tick es

@@ -4,9 +4,9 @@ use Rattle.std.specs.Option.{option_map, option_and_then}
 use Rattle.std.specs.Cmp.Lexicographic.{pointwise}
 use Rattle.st_text.specs.Number.{number_up_to}
 use Rattle.st_text.specs.Pieces.{pieces_of}
-use Rattle.st_entries.specs.declared.report.Item.{Item}
-use Rattle.st_entries.specs.declared.report.Item.TheVariants.{Row, Drop, Interrupt, Snapshot}
-use Rattle.st_entries.specs.declared.report.Place.{Place}
+use Rattle.st_entries.specs.declared.report.TimetableLine.{TimetableLine}
+use Rattle.st_entries.specs.declared.report.TimetableLine.TheVariants.{Row, Drop, Interrupt, Snapshot}
+use Rattle.st_entries.specs.declared.report.ReportAddress.{ReportAddress}
 
 -- the k-th piece of a text that is cut at a byte; nothing where there are fewer
 abbrev pub piece : ℕ → List ℕ → ℕ → List ℕ
@@ -21,7 +21,7 @@ unfoldable pub number_in_report : List ℕ → Option ℕ
 number_in_report text = number_up_to (2 ^ 64 - 1) text
 
 -- the place that a word is, written as word.bit
-unfoldable pub place_in_report : List ℕ → Option Place
+unfoldable pub place_in_report : List ℕ → Option ReportAddress
 place_in_report text =
     option_and_then (λ w. option_map (λ b. record { word = w; bit = b })
     (number_in_report (piece 46 text 1)))
@@ -32,7 +32,7 @@ abbrev pub has : List ℕ → ℕ → List ℕ → Bool
 has line k text = pointwise nat_eq (word_in_line line k) text
 
 -- an entry that is done
-unfoldable pub row_item : List ℕ → Option Item
+unfoldable pub row_item : List ℕ → Option TimetableLine
 row_item line =
     option_and_then (λ n. option_and_then (λ a. option_and_then
     (λ p. option_and_then (λ r. option_map (λ c. Row n a p r c)
@@ -41,7 +41,7 @@ row_item line =
     (number_in_report (word_in_line line 1))
 
 -- an entry that was dropped
-unfoldable pub dropped_item : List ℕ → Option Item
+unfoldable pub dropped_item : List ℕ → Option TimetableLine
 dropped_item line = option_and_then (λ a. option_map (λ p. Drop a p)
     (number_in_report (word_in_line line 3))) (place_in_report (word_in_line line 1))
 
@@ -51,7 +51,7 @@ is_row line = has line 0 (codes "ROW") && has line 3 (codes "P") && has line 5 (
     && has line 7 (codes "C")
 
 -- what a line says, if it speaks of the timetable
-unfoldable pub item : List ℕ → Option Item
+unfoldable pub item : List ℕ → Option TimetableLine
 item line =
     if is_row line then row_item line
     else if has line 0 (codes "DROP") && has line 2 (codes "P") then dropped_item line

@@ -4,19 +4,19 @@ use Rattle.st_text.specs.Pieces.{pieces_of}
 use Rattle.st_io.specs.Count.{count_after}
 use Rattle.st_entries.specs.Phases.{turn_of}
 use Rattle.st_entries.specs.Report.{item}
-use Rattle.st_entries.specs.declared.report.Item.{Item}
-use Rattle.st_entries.specs.declared.report.Item.TheVariants.{Row, Drop, Interrupt, Snapshot}
-use Rattle.st_entries.specs.declared.timetable.Entry.{Entry}
-use Rattle.st_entries.specs.declared.timetable.Entry.TheVariants.{Done, Dropped, Taken, Shown}
-use Rattle.st_entries.specs.declared.timetable.Part.{Part}
+use Rattle.st_entries.specs.declared.report.TimetableLine.{TimetableLine}
+use Rattle.st_entries.specs.declared.report.TimetableLine.TheVariants.{Row, Drop, Interrupt, Snapshot}
+use Rattle.st_entries.specs.declared.timetable.DrawnEntry.{DrawnEntry}
+use Rattle.st_entries.specs.declared.timetable.DrawnEntry.TheVariants.{Done, Dropped, Taken, Shown}
+use Rattle.st_entries.specs.declared.timetable.RowRange.{RowRange}
 use Rattle.st_entries.specs.declared.timetable.Told.{Told}
 
 -- what the lines told so far: the entries of the part; those of its last segment that were dropped,
 -- the youngest first; the number and the last tick of the last row; how many rows are behind the
 -- part
 pub record Timetable : Type 0 where
-  pub entries : List Entry
-  pub dropped : List Entry
+  pub entries : List DrawnEntry
+  pub dropped : List DrawnEntry
   pub row : ℕ
   pub end : ℕ
   pub later : ℕ
@@ -26,11 +26,11 @@ abbrev pub timetable_at_start : Timetable
 timetable_at_start = record { entries = []; dropped = []; row = 1; end = 0; later = 0 }
 
 -- whether a row is in a part
-abbrev pub is_in_part : Part → ℕ → Bool
+abbrev pub is_in_part : RowRange → ℕ → Bool
 is_in_part part n = nat_le part.from n && nat_le n part.to
 
 -- the entries, and an entry that goes with a row, where the part has that row
-abbrev pub entries_with : Part → ℕ → Entry → List Entry → List Entry
+abbrev pub entries_with : RowRange → ℕ → DrawnEntry → List DrawnEntry → List DrawnEntry
 entries_with part n entry entries = if is_in_part part n then entries ++ entry ∷ [] else entries
 
 -- the dropped entries stand behind the others, the oldest first
@@ -38,7 +38,7 @@ abbrev pub with_dropped : Timetable → Timetable
 with_dropped t = record t { entries = t.entries ++ reverse t.dropped; dropped = [] }
 
 -- an entry behind all that were told
-abbrev pub timetable_with : Part → ℕ → Entry → Timetable → Timetable
+abbrev pub timetable_with : RowRange → ℕ → DrawnEntry → Timetable → Timetable
 timetable_with part n entry t = record t {
   entries = entries_with part n entry
       (t.entries ++ reverse t.dropped);
@@ -46,11 +46,11 @@ timetable_with part n entry t = record t {
 }
 
 -- how many rows are behind a part after a row
-abbrev pub counted_later : Part → ℕ → ℕ → ℕ
+abbrev pub counted_later : RowRange → ℕ → ℕ → ℕ
 counted_later part n later = if nat_lt part.to n then count_after later 1 else later
 
 -- what one more thing tells
-abbrev pub after_item : Part → Timetable → Item → Timetable
+abbrev pub after_item : RowRange → Timetable → TimetableLine → Timetable
 after_item part t (Row n a p r c) =
     record (timetable_with part n (Done n a p r (turn_of t.end r c) c) t) {
       row = n;
@@ -65,21 +65,21 @@ after_item part t (Interrupt i) = timetable_with part t.row (Taken i t.end) t
 after_item part t (Snapshot tick) = timetable_with part t.row (Shown tick) t
 
 -- what a line tells that says something, or nothing
-abbrev pub after_said : Part → Timetable → Option Item → Timetable
+abbrev pub after_said : RowRange → Timetable → Option TimetableLine → Timetable
 after_said part t None = t
 after_said part t (Some said) = after_item part t said
 
 -- what one more line tells
-abbrev pub after_line : Part → Timetable → List ℕ → Timetable
+abbrev pub after_line : RowRange → Timetable → List ℕ → Timetable
 after_line part t line = after_said part t (item line)
 
 -- what lines tell
-abbrev pub after_lines : Part → Timetable → List (List ℕ) → Timetable
+abbrev pub after_lines : RowRange → Timetable → List (List ℕ) → Timetable
 after_lines part t [] = t
 after_lines part t (line ∷ lines) = after_lines part (after_line part t line) lines
 
 -- the timetable that a report tells
-unfoldable pub timetable : Part → List ℕ → Timetable
+unfoldable pub timetable : RowRange → List ℕ → Timetable
 timetable part report = with_dropped (after_lines part timetable_at_start (pieces_of 10 report))
 
 -- what the code keeps of it

@@ -5,8 +5,8 @@ ghost use Rattle.st_entries.specs.Caption as spec;
 
 use crate::label::label_at;
 use crate::plain::push_decimal;
-use crate::report::Place;
-use crate::timetable::Entry;
+use crate::report::ReportAddress;
+use crate::timetable::DrawnEntry;
 use st_text::{behind, front};
 use std::alloc::{AllocError, Global};
 
@@ -47,7 +47,7 @@ fn decimal_text(alloc: Global, n: u64) -> Result<Vec<u8>, AllocError>
 }
 
 // A place as word.bit.
-fn place_text(alloc: Global, place: Place) -> Result<Vec<u8>, AllocError>
+fn place_text(alloc: Global, place: ReportAddress) -> Result<Vec<u8>, AllocError>
     ensures { IfOk result (λ text. text.items ≡ spec.place_text place) }
 {
     let mut text = decimal_text(alloc, place.word)?;
@@ -58,40 +58,40 @@ fn place_text(alloc: Global, place: Place) -> Result<Vec<u8>, AllocError>
 
 /// The first text of an entry: its number, where it is done, else what it is (`drop`, `INT` or
 /// `SNAP`).
-pub fn first_text(alloc: Global, entry: Entry) -> Result<Vec<u8>, AllocError>
+pub fn first_text(alloc: Global, entry: DrawnEntry) -> Result<Vec<u8>, AllocError>
     ensures { IfOk result (λ text. text.items ≡ spec.caption_number entry) }
 {
     match entry {
-        Entry::Done { number, .. } => decimal_text(alloc, number),
-        Entry::Dropped { .. } => Vec::from_slice(alloc, b"drop"),
-        Entry::Taken { .. } => Vec::from_slice(alloc, b"INT"),
-        Entry::Shown { .. } => Vec::from_slice(alloc, b"SNAP"),
+        DrawnEntry::Done { number, .. } => decimal_text(alloc, number),
+        DrawnEntry::Dropped { .. } => Vec::from_slice(alloc, b"drop"),
+        DrawnEntry::Taken { .. } => Vec::from_slice(alloc, b"INT"),
+        DrawnEntry::Shown { .. } => Vec::from_slice(alloc, b"SNAP"),
     }
 }
 
 /// The second text of an entry: its address as word.bit; of an interrupt the number of its
 /// indicator, of a snapshot its tick.
-pub fn second_text(alloc: Global, entry: Entry) -> Result<Vec<u8>, AllocError>
+pub fn second_text(alloc: Global, entry: DrawnEntry) -> Result<Vec<u8>, AllocError>
     ensures { IfOk result (λ text. text.items ≡ spec.second_text entry) }
 {
     match entry {
-        Entry::Done { place, .. } => place_text(alloc, place),
-        Entry::Dropped { place, .. } => place_text(alloc, place),
-        Entry::Taken { indicator, .. } => decimal_text(alloc, indicator),
-        Entry::Shown { tick } => decimal_text(alloc, tick),
+        DrawnEntry::Done { place, .. } => place_text(alloc, place),
+        DrawnEntry::Dropped { place, .. } => place_text(alloc, place),
+        DrawnEntry::Taken { indicator, .. } => decimal_text(alloc, indicator),
+        DrawnEntry::Shown { tick } => decimal_text(alloc, tick),
     }
 }
 
 /// The third text of an entry: that of its card in the report's listing, where it has one; of an
 /// interrupt the name of its indicator.
-pub fn third_text<'a>(report: &'a [u8], entry: Entry) -> &'a [u8]
+pub fn third_text<'a>(report: &'a [u8], entry: DrawnEntry) -> &'a [u8]
     ensures { result.now ≡ spec.third_text report.now entry }
 {
     match entry {
-        Entry::Done { place, .. } => label_at(report, place),
-        Entry::Dropped { place, .. } => label_at(report, place),
-        Entry::Taken { indicator: i, .. } => indicator(i),
-        Entry::Shown { .. } => &[],
+        DrawnEntry::Done { place, .. } => label_at(report, place),
+        DrawnEntry::Dropped { place, .. } => label_at(report, place),
+        DrawnEntry::Taken { indicator: i, .. } => indicator(i),
+        DrawnEntry::Shown { .. } => &[],
     }
 }
 
@@ -109,7 +109,7 @@ pub fn with_dots(alloc: Global, text: &[u8]) -> Result<Vec<u8>, AllocError>
 }
 
 /// How many characters are shown of the longest third text, 40 at most; 0 where there is no entry.
-pub fn widest(report: &[u8], entries: &[Entry]) -> usize
+pub fn widest(report: &[u8], entries: &[DrawnEntry]) -> usize
     ensures value { result ≡ spec.widest report.now entries.now }
     ensures inside { result ≤ 40 }
 {
@@ -132,11 +132,11 @@ fn push_numbered(out: &mut Vec<u8>, words: &[u8], n: u64) -> Result<(), AllocErr
 }
 
 // Appends what the bars of an entry tell.
-fn push_title(out: &mut Vec<u8>, entry: Entry) -> Result<(), AllocError>
+fn push_title(out: &mut Vec<u8>, entry: DrawnEntry) -> Result<(), AllocError>
     ensures { IfOk result (λ _. out.new.items ≡ out.old.items ++ spec.title entry) }
 {
     match entry {
-        Entry::Done {
+        DrawnEntry::Done {
             number,
             prepared,
             ready,
@@ -150,18 +150,18 @@ fn push_title(out: &mut Vec<u8>, entry: Entry) -> Result<(), AllocError>
             push_numbered(out, b", for its turn to ", turn)?;
             push_numbered(out, b", executes to C ", complete)
         }
-        Entry::Dropped { prepared, end, .. } => {
+        DrawnEntry::Dropped { prepared, end, .. } => {
             push_numbered(out, b"prepared at P ", prepared)?;
             push_numbered(out, b", dropped at ", end)
         }
-        Entry::Taken { .. } => Ok(()),
-        Entry::Shown { .. } => Ok(()),
+        DrawnEntry::Taken { .. } => Ok(()),
+        DrawnEntry::Shown { .. } => Ok(()),
     }
 }
 
 /// What the bars of an entry tell when they are pointed at: the ticks of its phases. An interrupt
 /// and a snapshot have no bars.
-pub fn title(alloc: Global, entry: Entry) -> Result<Vec<u8>, AllocError>
+pub fn title(alloc: Global, entry: DrawnEntry) -> Result<Vec<u8>, AllocError>
     ensures { IfOk result (λ text. text.items ≡ spec.title entry) }
 {
     let mut out = Vec::new(alloc);

@@ -3,7 +3,7 @@ ghost use Rattle.std.specs.Prelude.{◌≡◌};
 ghost use Rattle.st_entries.specs.Label as spec;
 ghost use Rattle.st_entries.specs.Report.{place_in_report};
 
-use crate::report::{Place, number, place_of};
+use crate::report::{ReportAddress, number, place_of};
 use st_text::{behind, cut, front, without_end_blanks, without_front_blanks};
 
 // Whether a line is one of the listing: it begins with a number, at the right of five places.
@@ -14,7 +14,7 @@ fn is_listed(line: &[u8]) -> bool
 }
 
 // Whether a text spells a place.
-fn is_place(text: &[u8], here: Place) -> bool
+fn is_place(text: &[u8], here: ReportAddress) -> bool
     ensures { result ≡ spec.is_place (place_in_report text.now) here }
 {
     match place_of(text) {
@@ -34,7 +34,7 @@ fn is_filled(text: &[u8]) -> bool
 }
 
 // Whether the card of a listed line lays bits at a place.
-fn lays(line: &[u8], here: Place) -> bool
+fn lays(line: &[u8], here: ReportAddress) -> bool
     ensures { result ≡ spec.lays line.now here }
 {
     is_place(without_front_blanks(front(behind(line, 6), 9)), here) && is_filled(behind(line, 16))
@@ -49,7 +49,7 @@ fn card_text(line: &[u8]) -> &[u8]
 
 /// The text of the card that lays what stands at a place; nothing, where the report has no listing
 /// of it.
-pub fn label_at(report: &[u8], here: Place) -> &[u8]
+pub fn label_at(report: &[u8], here: ReportAddress) -> &[u8]
     ensures { result.now ≡ spec.label report.now here }
 {
     let mut rest = report;

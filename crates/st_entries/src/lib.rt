@@ -10,5 +10,5 @@ mod timetable;
 
 pub use caption::{CARD_LIMIT, first_text, second_text, third_text, title, widest, with_dots};
 pub use plain::{push_decimal, push_plain};
-pub use report::Place;
-pub use timetable::{Entry, Part, Told, first_tick, read_timetable};
+pub use report::ReportAddress;
+pub use timetable::{DrawnEntry, RowRange, Told, first_tick, read_timetable};

@@ -6,26 +6,26 @@ use st_text::{cut, number_up_to};
 
 /// An address as a report has it: a word, and a bit of it.
 #[derive(Clone, Copy)]
-pub struct Place {
+pub struct ReportAddress {
     pub word: u64,
     pub bit: u64,
 }
 
 /// What a line says that speaks of the timetable.
 #[derive(Clone, Copy)]
-pub enum Item {
+pub enum TimetableLine {
     /// An instruction is done: its number, its address, and the ticks at which it was prepared, its
     /// operands were there and it was complete.
     Row {
         number: u64,
-        place: Place,
+        place: ReportAddress,
         prepared: u64,
         ready: u64,
         complete: u64,
     },
     /// An entry was dropped, that was prepared at this tick.
     Drop {
-        place: Place,
+        place: ReportAddress,
         prepared: u64,
     },
     /// An interrupt is taken by this indicator.
@@ -65,10 +65,10 @@ pub fn number(text: &[u8]) -> Option<u64>
 }
 
 /// The place that a word is, written as word.bit.
-pub fn place_of(text: &[u8]) -> Option<Place>
+pub fn place_of(text: &[u8]) -> Option<ReportAddress>
     ensures { result ≡ spec.place_in_report text.now }
 {
-    Some(Place {
+    Some(ReportAddress {
         word: number(piece(text, b'.', 0))?,
         bit: number(piece(text, b'.', 1))?,
     })
@@ -82,7 +82,7 @@ fn has(line: &[u8], k: usize, text: &[u8]) -> bool
 }
 
 // The entry that a line says is done.
-fn row(line: &[u8]) -> Option<Item>
+fn row(line: &[u8]) -> Option<TimetableLine>
     ensures { result ≡ spec.row_item line.now }
 {
     let n = number(word(line, 1))?;
@@ -90,7 +90,7 @@ fn row(line: &[u8]) -> Option<Item>
     let prepared = number(word(line, 4))?;
     let ready = number(word(line, 6))?;
     let complete = number(word(line, 8))?;
-    Some(Item::Row {
+    Some(TimetableLine::Row {
         number: n,
         place,
         prepared,
@@ -100,12 +100,12 @@ fn row(line: &[u8]) -> Option<Item>
 }
 
 // The entry that a line says was dropped.
-fn dropped(line: &[u8]) -> Option<Item>
+fn dropped(line: &[u8]) -> Option<TimetableLine>
     ensures { result ≡ spec.dropped_item line.now }
 {
     let place = place_of(word(line, 1))?;
     let prepared = number(word(line, 3))?;
-    Some(Item::Drop { place, prepared })
+    Some(TimetableLine::Drop { place, prepared })
 }
 
 // Whether a line has the words of an entry that is done.
@@ -116,7 +116,7 @@ fn is_row(line: &[u8]) -> bool
 }
 
 /// What a line says, if it speaks of the timetable.
-pub fn item_of(line: &[u8]) -> Option<Item>
+pub fn item_of(line: &[u8]) -> Option<TimetableLine>
     ensures { result ≡ spec.item line.now }
 {
     if is_row(line) {
@@ -126,12 +126,12 @@ pub fn item_of(line: &[u8]) -> Option<Item>
         return dropped(line);
     }
     if has(line, 0, b"INT") && has(line, 2, b"AFTER") {
-        return Some(Item::Interrupt {
+        return Some(TimetableLine::Interrupt {
             indicator: number(word(line, 1))?,
         });
     }
     if has(line, 0, b"SNAP") {
-        return Some(Item::Snapshot {
+        return Some(TimetableLine::Snapshot {
             tick: number(word(line, 1))?,
         });
     }

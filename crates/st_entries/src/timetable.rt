@@ -5,13 +5,13 @@ ghost use Rattle.st_entries.specs.Timetable as spec;
 ghost use Rattle.st_entries.specs.Timetable.{kept_by};
 ghost use Rattle.st_text.specs.Pieces.{pieces_of};
 
-use crate::report::{Item, Place, item_of};
+use crate::report::{ReportAddress, TimetableLine, item_of};
 use st_text::cut;
 use std::alloc::{AllocError, Global};
 
 /// The rows that are asked for, by their numbers: none where `to` is below `from`.
 #[derive(Clone, Copy)]
-pub struct Part {
+pub struct RowRange {
     /// The first row.
     pub from: u64,
     /// The last row.
@@ -20,12 +20,12 @@ pub struct Part {
 
 /// One line of the picture.
 #[derive(Clone, Copy)]
-pub enum Entry {
+pub enum DrawnEntry {
     /// An instruction is done: its number, its address, and the ticks at which it was prepared, its
     /// operands were there, it was its turn and it was complete.
     Done {
         number: u64,
-        place: Place,
+        place: ReportAddress,
         prepared: u64,
         ready: u64,
         turn: u64,
@@ -33,7 +33,7 @@ pub enum Entry {
     },
     /// An entry was prepared at one tick and dropped at another.
     Dropped {
-        place: Place,
+        place: ReportAddress,
         prepared: u64,
         end: u64,
     },
@@ -52,9 +52,9 @@ pub enum Entry {
 #[derive(Drop)]
 pub struct Told {
     /// The entries of the part.
-    pub entries: Vec<Entry>,
+    pub entries: Vec<DrawnEntry>,
     /// Those of the last segment that were dropped, the youngest first.
-    pub dropped: Vec<Entry>,
+    pub dropped: Vec<DrawnEntry>,
     /// The number of the last row.
     pub row: u64,
     /// The last tick of the last row.
@@ -64,26 +64,31 @@ pub struct Told {
 }
 
 /// The first tick of an entry: when it was prepared; of an interrupt and a snapshot their tick.
-pub fn first_tick(entry: &Entry) -> u64
+pub fn first_tick(entry: &DrawnEntry) -> u64
     ensures { result ≡ first_tick_of entry.now }
 {
     match *entry {
-        Entry::Done { prepared, .. } => prepared,
-        Entry::Dropped { prepared, .. } => prepared,
-        Entry::Taken { tick, .. } => tick,
-        Entry::Shown { tick } => tick,
+        DrawnEntry::Done { prepared, .. } => prepared,
+        DrawnEntry::Dropped { prepared, .. } => prepared,
+        DrawnEntry::Taken { tick, .. } => tick,
+        DrawnEntry::Shown { tick } => tick,
     }
 }
 
 // Whether a row is in a part.
-fn is_in(part: Part, n: u64) -> bool
+fn is_in(part: RowRange, n: u64) -> bool
     ensures { result ≡ spec.is_in_part part n }
 {
     part.from <= n && n <= part.to
 }
 
 // Puts an entry that goes with a row behind the others, where the part has that row.
-fn keep(part: Part, n: u64, entry: Entry, entries: &mut Vec<Entry>) -> Result<(), AllocError>
+fn keep(
+    part: RowRange,
+    n: u64,
+    entry: DrawnEntry,
+    entries: &mut Vec<DrawnEntry>,
+) -> Result<(), AllocError>
     ensures { IfOk result
         (λ _. entries.new.items ≡ spec.entries_with part n entry entries.old.items) }
 {
@@ -94,7 +99,7 @@ fn keep(part: Part, n: u64, entry: Entry, entries: &mut Vec<Entry>) -> Result<()
 }
 
 // Puts the dropped entries behind the others, the oldest first.
-fn settle(entries: &mut Vec<Entry>, dropped: &mut Vec<Entry>) -> Result<(), AllocError>
+fn settle(entries: &mut Vec<DrawnEntry>, dropped: &mut Vec<DrawnEntry>) -> Result<(), AllocError>
     ensures entries { IfOk result (λ _. entries.new.items
         ≡ entries.old.items ++ reverse dropped.old.items) }
     ensures none { IfOk result (λ _. dropped.new.items ≡ []) }
@@ -106,7 +111,7 @@ fn settle(entries: &mut Vec<Entry>, dropped: &mut Vec<Entry>) -> Result<(), Allo
 }
 
 // Puts an entry behind all that were told.
-fn join(part: Part, n: u64, entry: Entry, told: &mut Told) -> Result<(), AllocError>
+fn join(part: RowRange, n: u64, entry: DrawnEntry, told: &mut Told) -> Result<(), AllocError>
     ensures { IfOk result (λ _. kept_by told.new ≡ spec.timetable_with part n entry
         (kept_by told.old)) }
 {
@@ -115,7 +120,7 @@ fn join(part: Part, n: u64, entry: Entry, told: &mut Told) -> Result<(), AllocEr
 }
 
 // How many rows are behind a part after a row.
-fn count_later(part: Part, n: u64, later: u64) -> u64
+fn count_later(part: RowRange, n: u64, later: u64) -> u64
     ensures { result ≡ spec.counted_later part n later }
 {
     if part.to < n {
@@ -126,20 +131,20 @@ fn count_later(part: Part, n: u64, later: u64) -> u64
 }
 
 // Takes in one more thing.
-fn take_item(part: Part, told: &mut Told, item: Item) -> Result<(), AllocError>
+fn take_item(part: RowRange, told: &mut Told, item: TimetableLine) -> Result<(), AllocError>
     ensures { IfOk result (λ _. kept_by told.new ≡ spec.after_item part (kept_by told.old) item) }
 {
     let row = told.row;
     let end = told.end;
     match item {
-        Item::Row {
+        TimetableLine::Row {
             number,
             place,
             prepared,
             ready,
             complete,
         } => {
-            let entry = Entry::Done {
+            let entry = DrawnEntry::Done {
                 number,
                 place,
                 prepared,
@@ -153,27 +158,27 @@ fn take_item(part: Part, told: &mut Told, item: Item) -> Result<(), AllocError>
             told.later = count_later(part, number, told.later);
             Ok(())
         }
-        Item::Drop { place, prepared } => {
-            let entry = Entry::Dropped {
+        TimetableLine::Drop { place, prepared } => {
+            let entry = DrawnEntry::Dropped {
                 place,
                 prepared,
                 end,
             };
             keep(part, row, entry, &mut told.dropped)
         }
-        Item::Interrupt { indicator } => {
-            let entry = Entry::Taken {
+        TimetableLine::Interrupt { indicator } => {
+            let entry = DrawnEntry::Taken {
                 indicator,
                 tick: end,
             };
             join(part, row, entry, told)
         }
-        Item::Snapshot { tick } => join(part, row, Entry::Shown { tick }, told),
+        TimetableLine::Snapshot { tick } => join(part, row, DrawnEntry::Shown { tick }, told),
     }
 }
 
 // Takes in one more line.
-fn take_line(part: Part, told: &mut Told, line: &[u8]) -> Result<(), AllocError>
+fn take_line(part: RowRange, told: &mut Told, line: &[u8]) -> Result<(), AllocError>
     ensures { IfOk result (λ _. kept_by told.new
         ≡ spec.after_line part (kept_by told.old) line.now) }
 {
@@ -184,7 +189,7 @@ fn take_line(part: Part, told: &mut Told, line: &[u8]) -> Result<(), AllocError>
 }
 
 // Takes in all lines.
-fn take_lines(part: Part, told: &mut Told, report: &[u8]) -> Result<(), AllocError>
+fn take_lines(part: RowRange, told: &mut Told, report: &[u8]) -> Result<(), AllocError>
     ensures { IfOk result (λ _. kept_by told.new
         ≡ spec.after_lines part (kept_by told.old) (pieces_of 10 report.now)) }
 {
@@ -198,7 +203,7 @@ fn take_lines(part: Part, told: &mut Told, report: &[u8]) -> Result<(), AllocErr
 
 /// The timetable that the lines of a report tell, as far as a part of its rows is asked for. A line
 /// that says nothing of it is passed over.
-pub fn read_timetable(alloc: Global, part: Part, report: &[u8]) -> Result<Told, AllocError>
+pub fn read_timetable(alloc: Global, part: RowRange, report: &[u8]) -> Result<Told, AllocError>
     ensures { IfOk result (λ told. kept_by told ≡ spec.timetable part report.now) }
 {
     let mut told = Told {

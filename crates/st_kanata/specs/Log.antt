@@ -3,11 +3,11 @@ use Rattle.std.specs.Prelude.{ℕ, ◌-◌, nat_eq, if◌then◌else◌, List, [
 use Rattle.st_entries.specs.Caption.{caption_number, second_text, third_text, with_dots}
 use Rattle.st_kanata.specs.Moments.{happenings}
 use Rattle.st_entries.specs.Plain.{plain_text}
-use Rattle.st_kanata.specs.declared.moments.Moment.{Moment}
-use Rattle.st_kanata.specs.declared.moments.Step.{Step}
-use Rattle.st_kanata.specs.declared.moments.Step.TheVariants.{Begin, Ready, Turn, End}
-use Rattle.st_entries.specs.declared.timetable.Entry.{Entry}
-use Rattle.st_entries.specs.declared.timetable.Entry.TheVariants.{Done, Dropped, Taken, Shown}
+use Rattle.st_kanata.specs.declared.moments.LogMoment.{LogMoment}
+use Rattle.st_kanata.specs.declared.moments.LogStep.{LogStep}
+use Rattle.st_kanata.specs.declared.moments.LogStep.TheVariants.{Begin, Ready, Turn, End}
+use Rattle.st_entries.specs.declared.timetable.DrawnEntry.{DrawnEntry}
+use Rattle.st_entries.specs.declared.timetable.DrawnEntry.TheVariants.{Done, Dropped, Taken, Shown}
 
 -- the name of the log's format, and what stands before the tick at which it starts
 unfoldable pub heading : List ℕ
@@ -39,40 +39,40 @@ log_end_line k n how = codes "R\t" ++ decimal k ++ codes "\t" ++ decimal n ++ co
     ++ codes "\n"
 
 -- the label of an entry: its three texts, the last one with dots where it is too long
-unfoldable pub log_label : List ℕ → Entry → List ℕ
+unfoldable pub log_label : List ℕ → DrawnEntry → List ℕ
 log_label report e = caption_number e ++ codes " " ++ second_text e ++ codes " "
     ++ with_dots (third_text report e)
 
 -- the stage in which an entry begins: waiting for its operands, dropped, an interrupt, a snapshot
-abbrev pub first_stage : Entry → List ℕ
+abbrev pub first_stage : DrawnEntry → List ℕ
 first_stage (Done n a p r t c) = codes "W"
 first_stage (Dropped a p end) = codes "D"
 first_stage (Taken i t) = codes "I"
 first_stage (Shown t) = codes "S"
 
 -- the stage in which an entry ends: executing, or that in which it began
-abbrev pub last_stage : Entry → List ℕ
+abbrev pub last_stage : DrawnEntry → List ℕ
 last_stage (Done n a p r t c) = codes "X"
 last_stage (Dropped a p end) = codes "D"
 last_stage (Taken i t) = codes "I"
 last_stage (Shown t) = codes "S"
 
 -- the number of an entry's row; 0 where it has none
-abbrev pub row_number : Entry → ℕ
+abbrev pub row_number : DrawnEntry → ℕ
 row_number (Done n a p r t c) = n
 row_number (Dropped a p end) = 0
 row_number (Taken i t) = 0
 row_number (Shown t) = 0
 
 -- whether an entry was retired, 0, or flushed, 1
-abbrev pub manner : Entry → List ℕ
+abbrev pub manner : DrawnEntry → List ℕ
 manner (Done n a p r t c) = codes "0"
 manner (Dropped a p end) = codes "1"
 manner (Taken i t) = codes "0"
 manner (Shown t) = codes "0"
 
 -- the lines of an entry that begins
-unfoldable pub begin_lines : List ℕ → ℕ → Entry → List ℕ
+unfoldable pub begin_lines : List ℕ → ℕ → DrawnEntry → List ℕ
 begin_lines report k e = log_entry_line k ++ label_line k (log_label report e)
     ++ stage_line (codes "S") k (first_stage e)
 
@@ -81,36 +81,36 @@ unfoldable pub change_lines : ℕ → List ℕ → List ℕ → List ℕ
 change_lines k from to = stage_line (codes "E") k from ++ stage_line (codes "S") k to
 
 -- the lines of an entry that ends
-unfoldable pub log_end_lines : ℕ → Entry → List ℕ
+unfoldable pub log_end_lines : ℕ → DrawnEntry → List ℕ
 log_end_lines k e = stage_line (codes "E") k (last_stage e)
     ++ log_end_line k (row_number e) (manner e)
 
 -- the lines of what happens to an entry
-abbrev pub step_lines : List ℕ → ℕ → Step → Entry → List ℕ
+abbrev pub step_lines : List ℕ → ℕ → LogStep → DrawnEntry → List ℕ
 step_lines report k Begin e = begin_lines report k e
 step_lines report k Ready e = change_lines k (codes "W") (codes "T")
 step_lines report k Turn e = change_lines k (codes "T") (codes "X")
 step_lines report k End e = log_end_lines k e
 
 -- the lines of a moment that comes after a tick, or at it
-unfoldable pub moment_lines : List ℕ → ℕ → Moment → List ℕ
+unfoldable pub moment_lines : List ℕ → ℕ → LogMoment → List ℕ
 moment_lines report tick m = passing tick m.tick ++ step_lines report m.number m.step m.entry
 
 -- the lines of moments that come after a tick, or at it, one after another
-abbrev pub moments_lines : List ℕ → ℕ → List Moment → List ℕ
+abbrev pub moments_lines : List ℕ → ℕ → List LogMoment → List ℕ
 moments_lines report tick [] = []
 moments_lines report tick (m ∷ ms) = moment_lines report tick m ++ moments_lines report m.tick ms
 
 -- the tick of the first moment; 0 where there is none
-abbrev pub first_moment_tick : List Moment → ℕ
+abbrev pub first_moment_tick : List LogMoment → ℕ
 first_moment_tick [] = 0
 first_moment_tick (m ∷ ms) = m.tick
 
 -- the bytes of a log of moments
-unfoldable pub log_of : List ℕ → List Moment → List ℕ
+unfoldable pub log_of : List ℕ → List LogMoment → List ℕ
 log_of report ms = log_front (first_moment_tick ms) ++ moments_lines report
     (first_moment_tick ms) ms
 
 -- the bytes of a log of entries
-unfoldable pub log : List ℕ → List Entry → List ℕ
+unfoldable pub log : List ℕ → List DrawnEntry → List ℕ
 log report entries = log_of report (happenings entries)

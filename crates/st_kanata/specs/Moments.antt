@@ -2,47 +2,47 @@
 use Rattle.std.specs.Prelude.{ℕ, ◌+◌, ◌≤◌, nat_le, max, if◌then◌else◌, List, [], ◌∷◌, ◌++◌, ⊤}
 use Rattle.st_io.specs.Count.{count_after}
 use Rattle.st_entries.specs.Phases.{first_tick}
-use Rattle.st_kanata.specs.declared.moments.Moment.{Moment}
-use Rattle.st_kanata.specs.declared.moments.Step.{Step}
-use Rattle.st_kanata.specs.declared.moments.Step.TheVariants.{Begin, Ready, Turn, End}
-use Rattle.st_entries.specs.declared.timetable.Entry.{Entry}
-use Rattle.st_entries.specs.declared.timetable.Entry.TheVariants.{Done, Dropped, Taken, Shown}
+use Rattle.st_kanata.specs.declared.moments.LogMoment.{LogMoment}
+use Rattle.st_kanata.specs.declared.moments.LogStep.{LogStep}
+use Rattle.st_kanata.specs.declared.moments.LogStep.TheVariants.{Begin, Ready, Turn, End}
+use Rattle.st_entries.specs.declared.timetable.DrawnEntry.{DrawnEntry}
+use Rattle.st_entries.specs.declared.timetable.DrawnEntry.TheVariants.{Done, Dropped, Taken, Shown}
 
 -- the tick at which an entry's operands are there: not before it begins
-abbrev pub ready_tick : Entry → ℕ
+abbrev pub ready_tick : DrawnEntry → ℕ
 ready_tick (Done n a p r t c) = max p r
 ready_tick (Dropped a p end) = p
 ready_tick (Taken i t) = t
 ready_tick (Shown t) = t
 
 -- the tick at which it is an entry's turn: not before its operands are there
-abbrev pub turn_tick : Entry → ℕ
+abbrev pub turn_tick : DrawnEntry → ℕ
 turn_tick (Done n a p r t c) = max (max p r) t
 turn_tick (Dropped a p end) = p
 turn_tick (Taken i t) = t
 turn_tick (Shown t) = t
 
 -- the tick at which an entry ends: not before it begins; an interrupt and a snapshot fill one tick
-abbrev pub end_tick : Entry → ℕ
+abbrev pub end_tick : DrawnEntry → ℕ
 end_tick (Done n a p r t c) = max (max (max p r) t) c
 end_tick (Dropped a p end) = max p end
 end_tick (Taken i t) = count_after t 1
 end_tick (Shown t) = count_after t 1
 
 -- the tick at which something happens to an entry
-abbrev pub moment_tick : Step → Entry → ℕ
+abbrev pub moment_tick : LogStep → DrawnEntry → ℕ
 moment_tick Begin e = first_tick e
 moment_tick Ready e = ready_tick e
 moment_tick Turn e = turn_tick e
 moment_tick End e = end_tick e
 
 -- what happens to the entry with a number
-abbrev pub moment : ℕ → Step → Entry → Moment
+abbrev pub moment : ℕ → LogStep → DrawnEntry → LogMoment
 moment k step e = record { tick = moment_tick step e; number = k; step = step; entry = e }
 
 -- that the operands of an entry are there, and that it is its turn: nothing else than an
 -- instruction that is done waits for these
-abbrev pub waits_of : ℕ → Entry → List Moment
+abbrev pub waits_of : ℕ → DrawnEntry → List LogMoment
 waits_of k (Done n a p r t c) = moment k Ready (Done n a p r t c) ∷ moment k Turn (Done n a p r t c)
     ∷ []
 waits_of k (Dropped a p end) = []
@@ -50,34 +50,34 @@ waits_of k (Taken i t) = []
 waits_of k (Shown t) = []
 
 -- all that happens to the entry with a number
-unfoldable pub moments_of : ℕ → Entry → List Moment
+unfoldable pub moments_of : ℕ → DrawnEntry → List LogMoment
 moments_of k e = moment k Begin e ∷ waits_of k e ++ moment k End e ∷ []
 
 -- that entries begin
-abbrev pub beginnings : List Entry → List Moment
+abbrev pub beginnings : List DrawnEntry → List LogMoment
 beginnings [] = []
 beginnings (e ∷ es) = moment 0 Begin e ∷ beginnings es
 
 -- all that happens to the entries that begin so, which are numbered from k on
-abbrev pub moments : ℕ → List Moment → List Moment
+abbrev pub moments : ℕ → List LogMoment → List LogMoment
 moments k [] = []
 moments k (m ∷ ms) = moments_of k m.entry ++ moments (k + 1) ms
 
 -- a moment before the first one of a list that is not earlier
-unfoldable pub moments_with : Moment → List Moment → List Moment
+unfoldable pub moments_with : LogMoment → List LogMoment → List LogMoment
 moments_with m [] = m ∷ []
 moments_with m (n ∷ ns) = if nat_le m.tick n.tick then m ∷ n ∷ ns else n ∷ moments_with m ns
 
 -- moments in the order of their ticks; those of one tick keep their order
-unfoldable pub in_order : List Moment → List Moment
+unfoldable pub in_order : List LogMoment → List LogMoment
 in_order [] = []
 in_order (m ∷ ms) = moments_with m (in_order ms)
 
 -- what happens to entries, in the order of ticks; they are numbered from 0 on as they begin
-unfoldable pub happenings : List Entry → List Moment
+unfoldable pub happenings : List DrawnEntry → List LogMoment
 happenings entries = in_order (moments 0 (in_order (beginnings entries)))
 
 -- moments that come after a tick, or at it, and none before the one that stands before it
-abbrev pub GoForward : ℕ → List Moment → Type 0
+abbrev pub GoForward : ℕ → List LogMoment → Type 0
 GoForward tick [] = ⊤
 GoForward tick (m ∷ ms) = (tick ≤ m.tick) × GoForward m.tick ms

@@ -2,8 +2,10 @@
 ghost use Rattle.std.specs.Prelude.{◌≡◌, ◌++◌, IfOk};
 ghost use Rattle.st_kanata.specs.Log as spec;
 
-use crate::moments::{Moment, Step, happenings};
-use st_entries::{Entry, first_text, push_decimal, push_plain, second_text, third_text, with_dots};
+use crate::moments::{LogMoment, LogStep, happenings};
+use st_entries::{
+    DrawnEntry, first_text, push_decimal, push_plain, second_text, third_text, with_dots,
+};
 use std::alloc::{AllocError, Global};
 
 // The name of the log's format, and what stands before the tick at which it starts.
@@ -88,7 +90,7 @@ fn push_end_line(out: &mut Vec<u8>, number: u64, row: u64, how: &[u8]) -> Result
 
 // The label of an entry: its three texts, the last one with dots where it is too long.
 #[tactic(auto, unfolding(crate::specs::Log::log_label))]
-fn label(alloc: Global, report: &[u8], entry: Entry) -> Result<Vec<u8>, AllocError>
+fn label(alloc: Global, report: &[u8], entry: DrawnEntry) -> Result<Vec<u8>, AllocError>
     ensures { IfOk result (λ text. text.items ≡ spec.log_label report.now entry) }
 {
     let mut text = first_text(alloc, entry)?;
@@ -102,50 +104,50 @@ fn label(alloc: Global, report: &[u8], entry: Entry) -> Result<Vec<u8>, AllocErr
 }
 
 // The stage in which an entry begins: waiting for its operands, dropped, an interrupt, a snapshot.
-fn first_stage(entry: Entry) -> &'static [u8]
+fn first_stage(entry: DrawnEntry) -> &'static [u8]
     ensures { result.now ≡ spec.first_stage entry }
 {
     match entry {
-        Entry::Done { .. } => b"W",
-        Entry::Dropped { .. } => b"D",
-        Entry::Taken { .. } => b"I",
-        Entry::Shown { .. } => b"S",
+        DrawnEntry::Done { .. } => b"W",
+        DrawnEntry::Dropped { .. } => b"D",
+        DrawnEntry::Taken { .. } => b"I",
+        DrawnEntry::Shown { .. } => b"S",
     }
 }
 
 // The stage in which an entry ends: executing, or that in which it began.
-fn last_stage(entry: Entry) -> &'static [u8]
+fn last_stage(entry: DrawnEntry) -> &'static [u8]
     ensures { result.now ≡ spec.last_stage entry }
 {
     match entry {
-        Entry::Done { .. } => b"X",
-        Entry::Dropped { .. } => b"D",
-        Entry::Taken { .. } => b"I",
-        Entry::Shown { .. } => b"S",
+        DrawnEntry::Done { .. } => b"X",
+        DrawnEntry::Dropped { .. } => b"D",
+        DrawnEntry::Taken { .. } => b"I",
+        DrawnEntry::Shown { .. } => b"S",
     }
 }
 
 // The number of an entry's row; 0 where it has none.
-fn row_number(entry: Entry) -> u64
+fn row_number(entry: DrawnEntry) -> u64
     ensures { result ≡ spec.row_number entry }
 {
     match entry {
-        Entry::Done { number, .. } => number,
-        Entry::Dropped { .. } => 0,
-        Entry::Taken { .. } => 0,
-        Entry::Shown { .. } => 0,
+        DrawnEntry::Done { number, .. } => number,
+        DrawnEntry::Dropped { .. } => 0,
+        DrawnEntry::Taken { .. } => 0,
+        DrawnEntry::Shown { .. } => 0,
     }
 }
 
 // Whether an entry was retired, 0, or flushed, 1.
-fn manner(entry: Entry) -> &'static [u8]
+fn manner(entry: DrawnEntry) -> &'static [u8]
     ensures { result.now ≡ spec.manner entry }
 {
     match entry {
-        Entry::Done { .. } => b"0",
-        Entry::Dropped { .. } => b"1",
-        Entry::Taken { .. } => b"0",
-        Entry::Shown { .. } => b"0",
+        DrawnEntry::Done { .. } => b"0",
+        DrawnEntry::Dropped { .. } => b"1",
+        DrawnEntry::Taken { .. } => b"0",
+        DrawnEntry::Shown { .. } => b"0",
     }
 }
 
@@ -155,7 +157,7 @@ fn push_begin(
     out: &mut Vec<u8>,
     report: &[u8],
     number: u64,
-    entry: Entry,
+    entry: DrawnEntry,
 ) -> Result<(), AllocError>
     ensures { IfOk result (λ _. out.new.items ≡ out.old.items
         ++ spec.begin_lines report.now number entry) }
@@ -176,7 +178,7 @@ fn push_change(out: &mut Vec<u8>, number: u64, from: &[u8], to: &[u8]) -> Result
 }
 
 // Appends the lines of an entry that ends.
-fn push_end(out: &mut Vec<u8>, number: u64, entry: Entry) -> Result<(), AllocError>
+fn push_end(out: &mut Vec<u8>, number: u64, entry: DrawnEntry) -> Result<(), AllocError>
     ensures { IfOk result (λ _. out.new.items ≡ out.old.items ++ spec.log_end_lines number entry) }
 {
     push_stage(out, b"E", number, last_stage(entry))?;
@@ -188,16 +190,16 @@ fn push_step(
     alloc: Global,
     out: &mut Vec<u8>,
     report: &[u8],
-    moment: &Moment,
+    moment: &LogMoment,
 ) -> Result<(), AllocError>
     ensures { IfOk result (λ _. out.new.items ≡ out.old.items
         ++ spec.step_lines report.now moment.now.number moment.now.step moment.now.entry) }
 {
     match moment.step {
-        Step::Begin => push_begin(alloc, out, report, moment.number, moment.entry),
-        Step::Ready => push_change(out, moment.number, b"W", b"T"),
-        Step::Turn => push_change(out, moment.number, b"T", b"X"),
-        Step::End => push_end(out, moment.number, moment.entry),
+        LogStep::Begin => push_begin(alloc, out, report, moment.number, moment.entry),
+        LogStep::Ready => push_change(out, moment.number, b"W", b"T"),
+        LogStep::Turn => push_change(out, moment.number, b"T", b"X"),
+        LogStep::End => push_end(out, moment.number, moment.entry),
     }
 }
 
@@ -207,7 +209,7 @@ fn push_moment(
     out: &mut Vec<u8>,
     report: &[u8],
     tick: u64,
-    moment: &Moment,
+    moment: &LogMoment,
 ) -> Result<(), AllocError>
     ensures { IfOk result (λ _. out.new.items ≡ out.old.items
         ++ spec.moment_lines report.now tick moment.now) }
@@ -222,7 +224,7 @@ fn push_moments(
     out: &mut Vec<u8>,
     report: &[u8],
     start: u64,
-    moments: &[Moment],
+    moments: &[LogMoment],
 ) -> Result<(), AllocError>
     ensures { IfOk result (λ _. out.new.items ≡ out.old.items
         ++ spec.moments_lines report.now start moments.now) }
@@ -238,7 +240,7 @@ fn push_moments(
 }
 
 // The tick of the first moment; 0 where there is none.
-fn start_of(moments: &[Moment]) -> u64
+fn start_of(moments: &[LogMoment]) -> u64
     ensures { result ≡ spec.first_moment_tick moments.now }
 {
     match moments {
@@ -249,7 +251,11 @@ fn start_of(moments: &[Moment]) -> u64
 
 /// The log of entries, in the order of ticks, with the three texts of each from the listing of
 /// their report. It fails for want of memory alone.
-pub fn write_log(alloc: Global, report: &[u8], entries: &[Entry]) -> Result<Vec<u8>, AllocError>
+pub fn write_log(
+    alloc: Global,
+    report: &[u8],
+    entries: &[DrawnEntry],
+) -> Result<Vec<u8>, AllocError>
     ensures { IfOk result (λ out. out.items ≡ spec.log report.now entries.now) }
 {
     let moments = happenings(alloc, entries)?;

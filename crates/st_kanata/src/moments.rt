@@ -1,14 +1,14 @@
 //! What happens to the entries of a timetable, in the order of ticks.
 ghost use Rattle.std.specs.Prelude.{◌≡◌, ◌++◌, ◌∷◌, [], IfOk, List};
-ghost use Rattle.st_kanata.specs.declared.moments.Moment.{Moment};
+ghost use Rattle.st_kanata.specs.declared.moments.LogMoment.{LogMoment};
 ghost use Rattle.st_kanata.specs.Moments as spec;
 
-use st_entries::{Entry, first_tick};
+use st_entries::{DrawnEntry, first_tick};
 use std::alloc::{AllocError, Global};
 
 /// What happens to an entry.
 #[derive(Clone, Copy)]
-pub enum Step {
+pub enum LogStep {
     /// It begins.
     Begin,
     /// Its operands are there.
@@ -21,84 +21,89 @@ pub enum Step {
 
 /// What happens to an entry at a tick.
 #[derive(Clone, Copy)]
-pub struct Moment {
+pub struct LogMoment {
     pub tick: u64,
     /// The number of the entry, as they begin.
     pub number: u64,
-    pub step: Step,
-    pub entry: Entry,
+    pub step: LogStep,
+    pub entry: DrawnEntry,
 }
 
 // The tick at which an entry's operands are there: not before it begins.
-fn ready_tick(entry: &Entry) -> u64
+fn ready_tick(entry: &DrawnEntry) -> u64
     ensures { result ≡ spec.ready_tick entry.now }
 {
     match *entry {
-        Entry::Done {
+        DrawnEntry::Done {
             prepared,
             ready,
             ..
         } => prepared.max(ready),
-        Entry::Dropped { prepared, .. } => prepared,
-        Entry::Taken { tick, .. } => tick,
-        Entry::Shown { tick } => tick,
+        DrawnEntry::Dropped { prepared, .. } => prepared,
+        DrawnEntry::Taken { tick, .. } => tick,
+        DrawnEntry::Shown { tick } => tick,
     }
 }
 
 // The tick at which it is an entry's turn: not before its operands are there.
-fn turn_tick(entry: &Entry) -> u64
+fn turn_tick(entry: &DrawnEntry) -> u64
     ensures { result ≡ spec.turn_tick entry.now }
 {
     match *entry {
-        Entry::Done {
+        DrawnEntry::Done {
             prepared,
             ready,
             turn,
             ..
         } => prepared.max(ready).max(turn),
-        Entry::Dropped { prepared, .. } => prepared,
-        Entry::Taken { tick, .. } => tick,
-        Entry::Shown { tick } => tick,
+        DrawnEntry::Dropped { prepared, .. } => prepared,
+        DrawnEntry::Taken { tick, .. } => tick,
+        DrawnEntry::Shown { tick } => tick,
     }
 }
 
 // The tick at which an entry ends: not before it begins; an interrupt and a snapshot fill one tick.
-fn end_tick(entry: &Entry) -> u64
+fn end_tick(entry: &DrawnEntry) -> u64
     ensures { result ≡ spec.end_tick entry.now }
 {
     match *entry {
-        Entry::Done {
+        DrawnEntry::Done {
             prepared,
             ready,
             turn,
             complete,
             ..
         } => prepared.max(ready).max(turn).max(complete),
-        Entry::Dropped { prepared, end, .. } => prepared.max(end),
-        Entry::Taken { tick, .. } => tick.saturating_add(1),
-        Entry::Shown { tick } => tick.saturating_add(1),
+        DrawnEntry::Dropped { prepared, end, .. } => prepared.max(end),
+        DrawnEntry::Taken { tick, .. } => tick.saturating_add(1),
+        DrawnEntry::Shown { tick } => tick.saturating_add(1),
     }
 }
 
 // The tick at which something happens to an entry.
-fn tick_of(step: Step, entry: &Entry) -> u64
+fn tick_of(step: LogStep, entry: &DrawnEntry) -> u64
     ensures { result ≡ spec.moment_tick step entry.now }
 {
     match step {
-        Step::Begin => first_tick(entry),
-        Step::Ready => ready_tick(entry),
-        Step::Turn => turn_tick(entry),
-        Step::End => end_tick(entry),
+        LogStep::Begin => first_tick(entry),
+        LogStep::Ready => ready_tick(entry),
+        LogStep::Turn => turn_tick(entry),
+        LogStep::End => end_tick(entry),
     }
 }
 
 // Appends what happens to the entry with a number.
-fn push(out: &mut Vec<Moment>, number: u64, step: Step, entry: Entry) -> Result<(), AllocError>
+fn push(
+    out: &mut Vec<LogMoment>,
+    number: u64,
+    step: LogStep,
+    entry: DrawnEntry,
+) -> Result<(), AllocError>
     ensures { IfOk result (λ _. out.new.items
         ≡ out.old.items ++ spec.moment number step entry ∷ []) }
 {
     let tick = tick_of(step, &entry);
-    out.push(Moment {
+    out.push(LogMoment {
         tick,
         number,
         step,
@@ -109,44 +114,48 @@ fn push(out: &mut Vec<Moment>, number: u64, step: Step, entry: Entry) -> Result<
 
 // Appends that the operands of an entry are there, and that it is its turn, where it waits for
 // these.
-fn push_waits(out: &mut Vec<Moment>, number: u64, entry: Entry) -> Result<(), AllocError>
+fn push_waits(out: &mut Vec<LogMoment>, number: u64, entry: DrawnEntry) -> Result<(), AllocError>
     ensures { IfOk result (λ _. out.new.items ≡ out.old.items ++ spec.waits_of number entry) }
 {
     match entry {
-        Entry::Done { .. } => {
-            push(out, number, Step::Ready, entry)?;
-            push(out, number, Step::Turn, entry)
+        DrawnEntry::Done { .. } => {
+            push(out, number, LogStep::Ready, entry)?;
+            push(out, number, LogStep::Turn, entry)
         }
-        Entry::Dropped { .. } => Ok(()),
-        Entry::Taken { .. } => Ok(()),
-        Entry::Shown { .. } => Ok(()),
+        DrawnEntry::Dropped { .. } => Ok(()),
+        DrawnEntry::Taken { .. } => Ok(()),
+        DrawnEntry::Shown { .. } => Ok(()),
     }
 }
 
 // Appends all that happens to the entry with a number.
-fn push_moments_of(out: &mut Vec<Moment>, number: u64, entry: Entry) -> Result<(), AllocError>
+fn push_moments_of(
+    out: &mut Vec<LogMoment>,
+    number: u64,
+    entry: DrawnEntry,
+) -> Result<(), AllocError>
     ensures { IfOk result (λ _. out.new.items ≡ out.old.items ++ spec.moments_of number entry) }
 {
-    push(out, number, Step::Begin, entry)?;
+    push(out, number, LogStep::Begin, entry)?;
     push_waits(out, number, entry)?;
-    push(out, number, Step::End, entry)
+    push(out, number, LogStep::End, entry)
 }
 
 // That entries begin.
-fn begins_of(alloc: Global, entries: &[Entry]) -> Result<Vec<Moment>, AllocError>
+fn begins_of(alloc: Global, entries: &[DrawnEntry]) -> Result<Vec<LogMoment>, AllocError>
     ensures { IfOk result (λ out. out.items ≡ spec.beginnings entries.now) }
 {
     let mut out = Vec::new(alloc);
     let mut rest = entries;
     'entries: while let [entry, after @ ..] = rest {
-        push(&mut out, 0, Step::Begin, *entry)?;
+        push(&mut out, 0, LogStep::Begin, *entry)?;
         rest = after;
     }
     Ok(out)
 }
 
 // All that happens to the entries that begin so, numbered from 0 on.
-fn moments_of(alloc: Global, begins: &[Moment]) -> Result<Vec<Moment>, AllocError>
+fn moments_of(alloc: Global, begins: &[LogMoment]) -> Result<Vec<LogMoment>, AllocError>
     ensures { IfOk result (λ out. out.items ≡ spec.moments 0 begins.now) }
 {
     let mut out = Vec::new(alloc);
@@ -162,8 +171,12 @@ fn moments_of(alloc: Global, begins: &[Moment]) -> Result<Vec<Moment>, AllocErro
 
 // Two lists in order as one: the earlier of the two first moments comes first, the left one where
 // they come at one tick.
-fn merge(alloc: Global, left: &[Moment], right: &[Moment]) -> Result<Vec<Moment>, AllocError>
-    ensures { IfOk result (λ out. (a b : List Moment) → left.now ≡ spec.in_order a
+fn merge(
+    alloc: Global,
+    left: &[LogMoment],
+    right: &[LogMoment],
+) -> Result<Vec<LogMoment>, AllocError>
+    ensures { IfOk result (λ out. (a b : List LogMoment) → left.now ≡ spec.in_order a
         → right.now ≡ spec.in_order b → out.items ≡ spec.in_order (a ++ b)) }
 {
     let mut out = Vec::new(alloc);
@@ -187,7 +200,7 @@ fn merge(alloc: Global, left: &[Moment], right: &[Moment]) -> Result<Vec<Moment>
 }
 
 // Moments in the order of their ticks; those of one tick keep their order.
-fn in_order(alloc: Global, moments: &[Moment]) -> Result<Vec<Moment>, AllocError>
+fn in_order(alloc: Global, moments: &[LogMoment]) -> Result<Vec<LogMoment>, AllocError>
     ensures { IfOk result (λ out. out.items ≡ spec.in_order moments.now) }
 {
     if moments.len() <= 1 {
@@ -200,7 +213,7 @@ fn in_order(alloc: Global, moments: &[Moment]) -> Result<Vec<Moment>, AllocError
 }
 
 /// What happens to entries, in the order of ticks; they are numbered from 0 on as they begin.
-pub fn happenings(alloc: Global, entries: &[Entry]) -> Result<Vec<Moment>, AllocError>
+pub fn happenings(alloc: Global, entries: &[DrawnEntry]) -> Result<Vec<LogMoment>, AllocError>
     ensures { IfOk result (λ out. out.items ≡ spec.happenings entries.now) }
 {
     let begins = begins_of(alloc, entries)?;

@@ -1,5 +1,5 @@
 use Rattle.st_text.proofs.ListLemmas.{first_and_rest}
-use Rattle.st_entries.specs.declared.timetable.Entry.TheVariants.{Done}
+use Rattle.st_entries.specs.declared.timetable.DrawnEntry.TheVariants.{Done}
 use Rattle.st_draw.proofs.Lines.{lines_step, lines_done}
 use Rattle.st_draw.proofs.terminal.push_entries.Goals as goal
 

@@ -1,12 +1,12 @@
 use Rattle.st_text.proofs.ListLemmas.{first_and_rest}
-use Rattle.st_kanata.specs.declared.moments.Moment.{Moment}
-use Rattle.st_kanata.specs.declared.moments.Step.TheVariants.{Begin}
-use Rattle.st_entries.specs.declared.timetable.Entry.TheVariants.{Done}
+use Rattle.st_kanata.specs.declared.moments.LogMoment.{LogMoment}
+use Rattle.st_kanata.specs.declared.moments.LogStep.TheVariants.{Begin}
+use Rattle.st_entries.specs.declared.timetable.DrawnEntry.TheVariants.{Done}
 use Rattle.st_kanata.proofs.Merging.{left_step, right_step, left_rest, right_rest, joined_in_order}
 use Rattle.st_kanata.proofs.moments.merge.Goals as goal
 
 -- the moment that stands for one that is not there
-abbrev none : Moment
+abbrev none : LogMoment
 none = record { tick = 0; number = 0; step = Begin; entry = Done 0 (record { word = 0; bit = 0 }) 0 0 0 0 }
 
 pub returns-in_default-theirs : goal.returns-in_default-theirs
