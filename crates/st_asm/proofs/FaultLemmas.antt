@@ -13,8 +13,8 @@ use Rattle.st_asm.specs.declared.line.Line.{Line}
 use Rattle.st_asm.specs.Checks.{is_address, in_range, fits, on_boundary, in_storage, extent, value_fault}
 use Rattle.st_asm.specs.Places.{role_of, length_in}
 use Rattle.st_asm.specs.declared.values.Values.{Values}
-use Rattle.st_asm.specs.declared.places.Role.{Role}
-use Rattle.st_asm.specs.declared.places.Role.TheVariants.{Lays, Passes, Sets, Names, Ends}
+use Rattle.st_asm.specs.declared.places.Placing.{Placing}
+use Rattle.st_asm.specs.declared.places.Placing.TheVariants.{Lays, Passes, Sets, Names, Ends}
 
 none_of : (a b c d : Bool) (e f g h : Fault) →
     first_fault ((not a, e) ∷ (not b, f) ∷ (not c, g) ∷ (not d, h) ∷ []) ≡ None →
@@ -54,7 +54,7 @@ first-below (IndexWord value count refill flags) v is good =
 first-below _ v is good = address-below v.first (both (is_address v.first) (is_address v.second) is).0
 
 -- what is laid is in storage where what is laid or passed over is
-pub laid-in_storage : (role : Role) (value : ℤ) (place : ℕ) → in_storage place (extent role value) ≡ true →
+pub laid-in_storage : (role : Placing) (value : ℤ) (place : ℕ) → in_storage place (extent role value) ≡ true →
     in_storage place (length_in role) ≡ true
 unfolding in_storage
 laid-in_storage (Lays unit bits) value place is = is

@@ -38,8 +38,8 @@ use Rattle.st_asm.specs.Assembly.{together, with_defaults}
 use Rattle.st_asm.specs.Sound.{IsLocation, IsSymbol, IsAssemblySound}
 use Rattle.st_asm.specs.Kept.{IsLine, IsDeck, IsNamed, IsSoundLayout}
 use Rattle.st_asm.specs.declared.line.Line.{Line}
-use Rattle.st_asm.specs.declared.places.Role.{Role}
-use Rattle.st_asm.specs.declared.places.Role.TheVariants.{Lays, Passes, Sets, Names, Ends}
+use Rattle.st_asm.specs.declared.places.Placing.{Placing}
+use Rattle.st_asm.specs.declared.places.Placing.TheVariants.{Lays, Passes, Sets, Names, Ends}
 use Rattle.st_asm.specs.declared.valuing.Listed.{Listed}
 
 -- the numbers of the cards of lines, and of rows
@@ -261,7 +261,7 @@ unfolding value_modulo
 wrapped-below (pos n) = omega arith
 wrapped-below (negsuc n) = omega arith
 
-place_in-is : (role : Role) (location : ℕ) (value : ℤ) → IsLocation (place_in role location value)
+place_in-is : (role : Placing) (location : ℕ) (value : ℤ) → IsLocation (place_in role location value)
 place_in-is (Lays unit bits) location value = omega arith
 place_in-is Passes location value = omega arith
 place_in-is Sets location value = wrapped-below value

@@ -2,13 +2,13 @@
 use Rattle.std.specs.Prelude.{◌≡◌, ℕ, ⊤, Result, Err}
 use Rattle.st_card.specs.declared.faults.Fault.{Fault}
 use Rattle.st_asm.specs.Pass.{Refusal}
-use Rattle.st_asm.specs.declared.stop.Stop.{Stop}
-use Rattle.st_asm.specs.declared.stop.Stop.TheVariants.{Faulty, NoMemory}
+use Rattle.st_asm.specs.declared.stop.PassStop.{PassStop}
+use Rattle.st_asm.specs.declared.stop.PassStop.TheVariants.{Faulty, NoMemory}
 use Rattle.st_asm.specs.declared.stop.AsmError.{AsmError}
 use Rattle.st_asm.specs.declared.stop.AsmError.TheVariants.{Refused, NoMemory as OutOfMemory}
 
 -- why a pass stops at a card: it has the fault that is wanted, or memory ran out
-abbrev pub Stops : {A : Type 0} → Result A Fault → Stop → Type 0
+abbrev pub Stops : {A : Type 0} → Result A Fault → PassStop → Type 0
 Stops wanted (Faulty fault) = wanted ≡ Err fault
 Stops wanted NoMemory = ⊤
 
@@ -18,6 +18,6 @@ Explains wanted (Refused card fault) = wanted ≡ Err (record { card = card; fau
 Explains wanted OutOfMemory = ⊤
 
 -- why a pass stops, with the number of the card at which it does
-abbrev pub stopped_at : ℕ → Stop → AsmError
+abbrev pub stopped_at : ℕ → PassStop → AsmError
 stopped_at card (Faulty fault) = Refused card fault
 stopped_at card NoMemory = OutOfMemory

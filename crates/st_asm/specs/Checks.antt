@@ -9,8 +9,8 @@ use Rattle.st_card.specs.declared.faults.Fault.TheVariants.{AddressOutOfRange, V
 use Rattle.st_strap.specs.Statements.{Statement}
 use Rattle.st_strap.specs.declared.statement.Statement.TheVariants.{Half, Sum, Refill, Branch, Floating, Vfl, Connect, Move, BitBranch, IndBranch, StoreCounter, Transfer, Data, IndexWord, Synonym, SetLocation, Reserve, End}
 use Rattle.st_asm.specs.declared.values.Values.{Values}
-use Rattle.st_asm.specs.declared.places.Role.{Role}
-use Rattle.st_asm.specs.declared.places.Role.TheVariants.{Lays, Passes, Sets, Names, Ends}
+use Rattle.st_asm.specs.declared.places.Placing.{Placing}
+use Rattle.st_asm.specs.declared.places.Placing.TheVariants.{Lays, Passes, Sets, Names, Ends}
 use Rattle.st_asm.specs.Numbers.{holds}
 use Rattle.st_asm.specs.Places.{role_of}
 
@@ -98,7 +98,7 @@ on_boundary (Reserve at) v = true
 on_boundary (End at) v = is_multiple 32 v.first
 
 -- how many bits a statement lays or passes over
-abbrev pub extent : Role → ℤ → ℕ
+abbrev pub extent : Placing → ℤ → ℕ
 extent (Lays unit bits) value = bits
 extent Passes value = unsigned_abs value
 extent Sets value = 0

@@ -2,14 +2,14 @@
 use Rattle.std.specs.Prelude.{ℕ, ℤ, ◌≤◌, ◌+◌, ◌-◌, ◌*◌, ◌/◌, ◌%◌, ◌^◌, Bool, true, false, Option, Some, None}
 use Rattle.st_strap.specs.Statements.{Statement}
 use Rattle.st_strap.specs.declared.statement.Statement.TheVariants.{Half, Sum, Refill, Branch, Floating, Vfl, Connect, Move, BitBranch, IndBranch, StoreCounter, Transfer, Data, IndexWord, Synonym, SetLocation, Reserve, End}
-use Rattle.st_asm.specs.declared.places.Role.{Role}
-use Rattle.st_asm.specs.declared.places.Role.TheVariants.{Lays, Passes, Sets, Names, Ends}
+use Rattle.st_asm.specs.declared.places.Placing.{Placing}
+use Rattle.st_asm.specs.declared.places.Placing.TheVariants.{Lays, Passes, Sets, Names, Ends}
 use Rattle.st_asm.specs.Values.{value_modulo}
 
 -- what a statement does to the location: an instruction lays 32 or 64 bits from a multiple of 32
 -- on, an index word 64 from a multiple of 64 on, a number as many as its form says where the
 -- location is
-abbrev pub role_of : Statement → Role
+abbrev pub role_of : Statement → Placing
 role_of (Half op j at) = Lays 32 32
 role_of (Sum j listed) = Lays 32 32
 role_of (Refill j) = Lays 32 32
@@ -30,7 +30,7 @@ role_of (Reserve at) = Passes
 role_of (End at) = Ends
 
 -- units are 1 to 64, and at most 64 bits are laid
-abbrev pub IsRole : Role → Type 0
+abbrev pub IsRole : Placing → Type 0
 IsRole (Lays unit bits) = (1 ≤ unit) × (unit ≤ 64) × (bits ≤ 64)
 IsRole Passes = Unit {0}
 IsRole Sets = Unit {0}
@@ -38,7 +38,7 @@ IsRole Names = Unit {0}
 IsRole Ends = Unit {0}
 
 -- how many bits it lays
-abbrev pub length_in : Role → ℕ
+abbrev pub length_in : Placing → ℕ
 length_in (Lays unit bits) = bits
 length_in Passes = 0
 length_in Sets = 0
@@ -51,7 +51,7 @@ next_multiple unit location = (location + (unit - 1)) / unit * unit % 2 ^ 24
 
 -- the place of a statement that is met at a location: that of what it lays or passes over, or its
 -- value
-abbrev pub place_in : Role → ℕ → ℤ → Option ℕ
+abbrev pub place_in : Placing → ℕ → ℤ → Option ℕ
 place_in (Lays unit bits) location value = Some (next_multiple unit location)
 place_in Passes location value = Some (next_multiple 64 location)
 place_in Sets location value = Some (value_modulo value)
@@ -59,7 +59,7 @@ place_in Names location value = Some (value_modulo value)
 place_in Ends location value = None
 
 -- the location behind it
-abbrev pub behind_in : Role → ℕ → ℤ → ℕ
+abbrev pub behind_in : Placing → ℕ → ℤ → ℕ
 behind_in (Lays unit bits) location value = (next_multiple unit location + bits) % 2 ^ 24
 behind_in Passes location value = (next_multiple 64 location + value_modulo value) % 2 ^ 24
 behind_in Sets location value = value_modulo value
@@ -67,7 +67,7 @@ behind_in Names location value = location
 behind_in Ends location value = location
 
 -- whether the names of its field have to be defined by earlier cards
-abbrev pub needs_earlier : Role → Bool
+abbrev pub needs_earlier : Placing → Bool
 needs_earlier (Lays unit bits) = false
 needs_earlier Passes = true
 needs_earlier Sets = true

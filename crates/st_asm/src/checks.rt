@@ -6,7 +6,7 @@ ghost use Rattle.st_asm.specs.Places.{role_of, IsRole};
 ghost use Rattle.st_strap.specs.WellFormed.{IsWellFormed};
 
 use crate::numbers::holds;
-use crate::places::Role;
+use crate::places::Placing;
 use crate::values::Values;
 use st_bits::WORDS;
 use st_bits::register::FIRST_STORAGE_WORD;
@@ -35,7 +35,12 @@ pub const MOST_FLAGS: u64 = 7;
 const FIRST_BIT: u64 = 64 * FIRST_STORAGE_WORD as u64;
 
 // The fault of a statement with its values at its place, if it has one.
-pub(crate) fn value_fault(s: &CompactStatement, role: Role, v: Values, place: u32) -> Option<Fault>
+pub(crate) fn value_fault(
+    s: &CompactStatement,
+    role: Placing,
+    v: Values,
+    place: u32,
+) -> Option<Fault>
     requires well { IsWellFormed s.now }
     requires role { role ≡ role_of s.now }
     ensures { result ≡ spec.value_fault s.now v place }
@@ -127,14 +132,14 @@ fn is_multiple(unit: u64, a: i64) -> bool
 }
 
 // How many bits are laid or passed over.
-fn extent(role: Role, value: i64) -> u64
+fn extent(role: Placing, value: i64) -> u64
     requires { IsRole role }
     ensures extent { result ≡ spec.extent role value }
     ensures few { result ≤ 2 ^ 63 }
 {
     match role {
-        Role::Lays { bits, .. } => u64::from(bits),
-        Role::Passes => value.unsigned_abs(),
+        Placing::Lays { bits, .. } => u64::from(bits),
+        Placing::Passes => value.unsigned_abs(),
         _ => 0,
     }
 }

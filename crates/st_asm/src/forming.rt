@@ -7,7 +7,7 @@ ghost use Rattle.st_asm.specs.Pass.{pass};
 ghost use Rattle.st_asm.specs.Forming as spec;
 
 use crate::line::{Line, name_field, name_in, silent, statement_field};
-use crate::stop::{AsmError, Stop};
+use crate::stop::{AsmError, PassStop};
 use st_card::{Card, CardError, CardKind, Controls, Fault};
 use st_strap::{CompactStatement, Statement, read_compact};
 use std::alloc::Global;
@@ -72,14 +72,14 @@ fn empty_deck(alloc: Global) -> Deck
 }
 
 // A card more.
-fn add_card(deck: &mut Deck, job: &[u8], card: Card) -> Result<(), Stop>
+fn add_card(deck: &mut Deck, job: &[u8], card: Card) -> Result<(), PassStop>
     requires { IsCardOf job.now card }
     ensures ok { OnOk result (spec.form_card job.now (spec.found_in deck.old) card
         ≡ Ok (spec.found_in deck.new)) }
     ensures err { IfErr result (Stops (spec.form_card job.now (spec.found_in deck.old) card)) }
 {
     if let Some(fault) = first_fault_of(card.kind, card.fault) {
-        return Err(Stop::Faulty(fault));
+        return Err(PassStop::Faulty(fault));
     }
     let text = card.text(job);
     match card.kind {
@@ -111,49 +111,54 @@ fn before_end(fault: Option<Fault>) -> Option<Fault>
 }
 
 // A line more.
-fn add_line(deck: &mut Deck, line: Line) -> Result<(), Stop>
+fn add_line(deck: &mut Deck, line: Line) -> Result<(), PassStop>
     ensures ok { OnOk result (spec.found_in deck.new
         ≡ spec.with_line (spec.found_in deck.old) line) }
-    ensures err { IfErr result (λ stop. stop ≡ Stop.NoMemory) }
+    ensures err { IfErr result (λ stop. stop ≡ PassStop.NoMemory) }
 {
     match deck.lines.push(line) {
         Ok(()) => Ok(()),
-        Err(_) => Err(Stop::NoMemory),
+        Err(_) => Err(PassStop::NoMemory),
     }
 }
 
 // A control card more.
-fn add_control(deck: &mut Deck, card: u32, text: &[u8]) -> Result<(), Stop>
+fn add_control(deck: &mut Deck, card: u32, text: &[u8]) -> Result<(), PassStop>
     ensures ok { OnOk result (spec.form_control (spec.found_in deck.old) card text.now
         ≡ Ok (spec.found_in deck.new)) }
     ensures err { IfErr result (Stops (spec.form_control (spec.found_in deck.old) card text.now)) }
 {
     if !deck.ended {
-        return Err(Stop::Faulty(Fault::BadControlCard));
+        return Err(PassStop::Faulty(Fault::BadControlCard));
     }
     match deck.controls.add(card, text) {
-        Err(CardError::Refused { fault, .. }) => Err(Stop::Faulty(fault)),
-        Err(CardError::NoMemory) => Err(Stop::NoMemory),
+        Err(CardError::Refused { fault, .. }) => Err(PassStop::Faulty(fault)),
+        Err(CardError::NoMemory) => Err(PassStop::NoMemory),
         Ok(()) => add_line(deck, silent(card)),
     }
 }
 
 // A statement card more, with the fault that it has by itself.
-fn add_statement(deck: &mut Deck, card: u32, fault: Option<Fault>, text: &[u8]) -> Result<(), Stop>
+fn add_statement(
+    deck: &mut Deck,
+    card: u32,
+    fault: Option<Fault>,
+    text: &[u8],
+) -> Result<(), PassStop>
     ensures ok { OnOk result (spec.form_statement (spec.found_in deck.old) card fault text.now
         ≡ Ok (spec.found_in deck.new)) }
     ensures err { IfErr result
         (Stops (spec.form_statement (spec.found_in deck.old) card fault text.now)) }
 {
     if deck.ended {
-        return Err(Stop::Faulty(Fault::CardAfterEnd));
+        return Err(PassStop::Faulty(Fault::CardAfterEnd));
     }
     if let Some(fault) = fault {
-        return Err(Stop::Faulty(fault));
+        return Err(PassStop::Faulty(fault));
     }
     let name = name_field(text);
     match read_compact(name, statement_field(text)) {
-        Err(fault) => Err(Stop::Faulty(fault)),
+        Err(fault) => Err(PassStop::Faulty(fault)),
         Ok(statement) => add_read(deck, card, name, statement),
     }
 }
@@ -164,11 +169,11 @@ fn add_read(
     card: u32,
     name: &[u8],
     statement: CompactStatement,
-) -> Result<(), Stop>
+) -> Result<(), PassStop>
     requires { length name.now ≤ 8 }
     ensures ok { OnOk result (spec.found_in deck.new
         ≡ spec.with_statement (spec.found_in deck.old) card name.now statement) }
-    ensures err { IfErr result (λ stop. stop ≡ Stop.NoMemory) }
+    ensures err { IfErr result (λ stop. stop ≡ PassStop.NoMemory) }
 {
     deck.ended = is_end(&statement);
     add_line(

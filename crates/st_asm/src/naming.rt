@@ -10,8 +10,8 @@ ghost use Rattle.st_asm.specs.Symbols.{is_defined};
 ghost use Rattle.st_strap.specs.WellFormed.{IsWellFormed, IsWellFormedIfAny};
 
 use crate::line::Line;
-use crate::places::{Role, role_of};
-use crate::stop::{AsmError, Stop};
+use crate::places::{Placing, role_of};
+use crate::stop::{AsmError, PassStop};
 use crate::symbols::{knows_all, names_in};
 use crate::values::values_of;
 use st_card::Fault;
@@ -96,7 +96,7 @@ fn no_names(alloc: Global) -> Names
 
 // A card more.
 #[tactic(auto, unfolding(crate::specs::Naming::name_card))]
-fn name_line(names: &mut Names, all: &Symbols, line: &Line) -> Result<(), Stop>
+fn name_line(names: &mut Names, all: &Symbols, line: &Line) -> Result<(), PassStop>
     requires well { IsWellFormedIfAny line.now.statement }
     requires kept { spec.AreNamesKept names.old }
     ensures ok { OnOk result (spec.name_card (is_defined all.now) (spec.named_in names.old) line.now
@@ -106,7 +106,7 @@ fn name_line(names: &mut Names, all: &Symbols, line: &Line) -> Result<(), Stop>
     ensures kept { OnOk result (spec.AreNamesKept names.new) }
 {
     match name_fault(names, all, line) {
-        Some(fault) => Err(Stop::Faulty(fault)),
+        Some(fault) => Err(PassStop::Faulty(fault)),
         None => add_line(names, line),
     }
 }
@@ -173,14 +173,14 @@ fn is_statement_earlier(symbols: &Symbols, statement: &CompactStatement) -> bool
 }
 
 // A card more, which has no fault.
-fn add_line(names: &mut Names, line: &Line) -> Result<(), Stop>
+fn add_line(names: &mut Names, line: &Line) -> Result<(), PassStop>
     requires well { IsWellFormedIfAny line.now.statement }
     requires kept { spec.AreNamesKept names.old }
     requires fresh { spec.is_name_taken names.old.table line.now.name ≡ false }
 
     ensures ok { OnOk result (spec.name_step (spec.named_in names.old) line.now
         ≡ spec.named_in names.new) }
-    ensures err { IfErr result (λ stop. stop ≡ Stop.NoMemory) }
+    ensures err { IfErr result (λ stop. stop ≡ PassStop.NoMemory) }
     ensures kept { OnOk result (spec.AreNamesKept names.new) }
 {
     let (place, behind) = place_and_behind(&names.table, names.location, &line.statement);
@@ -190,7 +190,7 @@ fn add_line(names: &mut Names, line: &Line) -> Result<(), Stop>
     names.location = behind;
     match names.places.push(place) {
         Ok(()) => Ok(()),
-        Err(_) => Err(Stop::NoMemory),
+        Err(_) => Err(PassStop::NoMemory),
     }
 }
 
@@ -230,7 +230,7 @@ fn place_and_behind_statement(
 
 // The value by which a statement of this role is placed; of a statement that is placed by none it
 // is 0.
-fn placing_value(role: Role, symbols: &Symbols, statement: &CompactStatement) -> i64
+fn placing_value(role: Placing, symbols: &Symbols, statement: &CompactStatement) -> i64
     ensures place { (location : ℕ) → place_in role location result
         ≡ place_in role location (values_by symbols.now statement.now).first }
     ensures behind { (location : ℕ) → behind_in role location result
@@ -244,20 +244,20 @@ fn placing_value(role: Role, symbols: &Symbols, statement: &CompactStatement) ->
 }
 
 // A name more.
-fn define(names: &mut Names, name: [u8; 8], value: u32) -> Result<(), Stop>
+fn define(names: &mut Names, name: [u8; 8], value: u32) -> Result<(), PassStop>
     requires kept { spec.AreNamesKept names.old }
     requires fresh { is_defined names.old.table name ≡ false }
     ensures ok { OnOk result (spec.named_in names.new ≡ record (spec.named_in names.old) {
       symbols = names.old.symbols.items ++ record { name = name; value = value } ∷ [];
     }) }
-    ensures err { IfErr result (λ stop. stop ≡ Stop.NoMemory) }
+    ensures err { IfErr result (λ stop. stop ≡ PassStop.NoMemory) }
     ensures kept { OnOk result (spec.AreNamesKept names.new) }
 {
     if names.table.define(name, value).is_err() {
-        return Err(Stop::NoMemory);
+        return Err(PassStop::NoMemory);
     }
     match names.symbols.push(Symbol { name, value }) {
         Ok(()) => Ok(()),
-        Err(_) => Err(Stop::NoMemory),
+        Err(_) => Err(PassStop::NoMemory),
     }
 }

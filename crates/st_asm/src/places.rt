@@ -15,7 +15,7 @@ const WORD: u32 = 64;
 
 // What a statement does to the location.
 #[derive(Clone, Copy)]
-pub(crate) enum Role {
+pub(crate) enum Placing {
     // So many bits are laid from the next multiple of the unit on.
     Lays { unit: u32, bits: u32 },
     // As many bits as the field says are passed over from the next word on.
@@ -29,7 +29,7 @@ pub(crate) enum Role {
 }
 
 // What a statement does to the location.
-pub(crate) fn role_of(statement: &CompactStatement) -> Role
+pub(crate) fn role_of(statement: &CompactStatement) -> Placing
     requires { IsWellFormed statement.now }
     ensures role { result ≡ spec.role_of statement.now }
     ensures fits { IsRole result }
@@ -39,7 +39,7 @@ pub(crate) fn role_of(statement: &CompactStatement) -> Role
         | Statement::Sum { .. }
         | Statement::Refill { .. }
         | Statement::Branch { .. }
-        | Statement::Floating { .. } => Role::Lays {
+        | Statement::Floating { .. } => Placing::Lays {
             unit: HALF,
             bits: HALF,
         },
@@ -49,26 +49,26 @@ pub(crate) fn role_of(statement: &CompactStatement) -> Role
         | Statement::BitBranch { .. }
         | Statement::IndBranch { .. }
         | Statement::StoreCounter { .. }
-        | Statement::Transfer { .. } => Role::Lays {
+        | Statement::Transfer { .. } => Placing::Lays {
             unit: HALF,
             bits: WORD,
         },
-        Statement::Data { form, .. } => Role::Lays {
+        Statement::Data { form, .. } => Placing::Lays {
             unit: 1,
             bits: u32::from(form.length),
         },
-        Statement::IndexWord { .. } => Role::Lays {
+        Statement::IndexWord { .. } => Placing::Lays {
             unit: WORD,
             bits: WORD,
         },
-        Statement::Synonym { .. } => Role::Names,
-        Statement::SetLocation { .. } => Role::Sets,
-        Statement::Reserve { .. } => Role::Passes,
-        Statement::End { .. } => Role::Ends,
+        Statement::Synonym { .. } => Placing::Names,
+        Statement::SetLocation { .. } => Placing::Sets,
+        Statement::Reserve { .. } => Placing::Passes,
+        Statement::End { .. } => Placing::Ends,
     }
 }
 
-impl Role {
+impl Placing {
     // How many bits are laid.
     pub(crate) fn length(self) -> u32
         requires { IsRole self }
@@ -76,7 +76,7 @@ impl Role {
         ensures few { result ≤ 64 }
     {
         match self {
-            Role::Lays { bits, .. } => bits,
+            Placing::Lays { bits, .. } => bits,
             _ => 0,
         }
     }
@@ -89,10 +89,10 @@ impl Role {
         ensures below { IfSome result (λ place. place < 2 ^ 24) }
     {
         match self {
-            Role::Lays { unit, .. } => Some(aligned(unit, location)),
-            Role::Passes => Some(aligned(WORD, location)),
-            Role::Sets | Role::Names => Some(wrapped(value)),
-            Role::Ends => None,
+            Placing::Lays { unit, .. } => Some(aligned(unit, location)),
+            Placing::Passes => Some(aligned(WORD, location)),
+            Placing::Sets | Placing::Names => Some(wrapped(value)),
+            Placing::Ends => None,
         }
     }
 
@@ -104,10 +104,10 @@ impl Role {
         ensures below { result < 2 ^ 24 }
     {
         match self {
-            Role::Lays { unit, bits } => (aligned(unit, location) + bits) % (1 << 24),
-            Role::Passes => (aligned(WORD, location) + wrapped(value)) % (1 << 24),
-            Role::Sets => wrapped(value),
-            Role::Names | Role::Ends => location,
+            Placing::Lays { unit, bits } => (aligned(unit, location) + bits) % (1 << 24),
+            Placing::Passes => (aligned(WORD, location) + wrapped(value)) % (1 << 24),
+            Placing::Sets => wrapped(value),
+            Placing::Names | Placing::Ends => location,
         }
     }
 
@@ -115,7 +115,7 @@ impl Role {
     pub(crate) fn needs_earlier(self) -> bool
         ensures { result ≡ spec.needs_earlier self }
     {
-        matches!(self, Role::Passes | Role::Sets | Role::Names)
+        matches!(self, Placing::Passes | Placing::Sets | Placing::Names)
     }
 }
 

@@ -17,19 +17,19 @@ pub enum AsmError {
 
 // Why a pass stops at a card.
 #[derive(Clone, Copy)]
-pub(crate) enum Stop {
+pub(crate) enum PassStop {
     Faulty(Fault),
     NoMemory,
 }
 
-impl Stop {
+impl PassStop {
     // The same with the card's number.
     pub(crate) fn at(self, card: u32) -> AsmError
         ensures { result ≡ spec.stopped_at card self }
     {
         match self {
-            Stop::Faulty(fault) => AsmError::Refused { card, fault },
-            Stop::NoMemory => AsmError::NoMemory,
+            PassStop::Faulty(fault) => AsmError::Refused { card, fault },
+            PassStop::NoMemory => AsmError::NoMemory,
         }
     }
 }

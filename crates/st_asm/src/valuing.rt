@@ -16,7 +16,7 @@ use crate::forming::is_end;
 use crate::laying::{bits_of, half_word};
 use crate::line::Line;
 use crate::places::role_of;
-use crate::stop::{AsmError, Stop};
+use crate::stop::{AsmError, PassStop};
 use crate::values::{Values, values_of};
 use st_bits::{WORDS, put_field};
 use st_expr::Symbols;
@@ -105,7 +105,7 @@ fn value_line(
     symbols: &Symbols,
     line: &Line,
     place: Option<u32>,
-) -> Result<(), Stop>
+) -> Result<(), PassStop>
     requires well { IsWellFormedIfAny line.now.statement }
     requires located { IsLocation place }
     requires sound { IsSoundLayout (spec.laid_in layout.old) }
@@ -123,12 +123,12 @@ fn value_line(
 }
 
 // A card more that says nothing.
-fn add_silent(layout: &mut Layout, card: u32, place: Option<u32>) -> Result<(), Stop>
+fn add_silent(layout: &mut Layout, card: u32, place: Option<u32>) -> Result<(), PassStop>
     requires located { IsLocation place }
     requires sound { IsSoundLayout (spec.laid_in layout.old) }
     ensures ok { OnOk result (spec.laid_in layout.new
         ≡ spec.with_silent (spec.laid_in layout.old) card place) }
-    ensures err { IfErr result (λ stop. stop ≡ Stop.NoMemory) }
+    ensures err { IfErr result (λ stop. stop ≡ PassStop.NoMemory) }
     ensures sound { OnOk result (IsSoundLayout (spec.laid_in layout.new)) }
 {
     add_row(
@@ -143,18 +143,18 @@ fn add_silent(layout: &mut Layout, card: u32, place: Option<u32>) -> Result<(), 
 }
 
 // A row more.
-fn add_row(layout: &mut Layout, row: Listed) -> Result<(), Stop>
+fn add_row(layout: &mut Layout, row: Listed) -> Result<(), PassStop>
     requires row { IsRow row }
     requires sound { IsSoundLayout (spec.laid_in layout.old) }
     ensures ok { OnOk result (spec.laid_in layout.new ≡ record (spec.laid_in layout.old) {
       rows = layout.old.rows.items ++ row ∷ [];
     }) }
-    ensures err { IfErr result (λ stop. stop ≡ Stop.NoMemory) }
+    ensures err { IfErr result (λ stop. stop ≡ PassStop.NoMemory) }
     ensures sound { OnOk result (IsSoundLayout (spec.laid_in layout.new)) }
 {
     match layout.rows.push(row) {
         Ok(()) => Ok(()),
-        Err(_) => Err(Stop::NoMemory),
+        Err(_) => Err(PassStop::NoMemory),
     }
 }
 
@@ -165,7 +165,7 @@ fn value_statement(
     s: &CompactStatement,
     v: Values,
     place: Option<u32>,
-) -> Result<(), Stop>
+) -> Result<(), PassStop>
     requires well { IsWellFormed s.now }
     requires located { IsLocation place }
     requires sound { IsSoundLayout (spec.laid_in layout.old) }
@@ -177,7 +177,7 @@ fn value_statement(
     ensures sound { OnOk result (IsSoundLayout (spec.laid_in layout.new)) }
 {
     match value_fault(s, role_of(s), v, place.unwrap_or(0)) {
-        Some(fault) => Err(Stop::Faulty(fault)),
+        Some(fault) => Err(PassStop::Faulty(fault)),
         None => lay(layout, card, s, v, place),
     }
 }
@@ -189,7 +189,7 @@ fn lay(
     s: &CompactStatement,
     v: Values,
     place: Option<u32>,
-) -> Result<(), Stop>
+) -> Result<(), PassStop>
     requires well { IsWellFormed s.now }
     requires located { IsLocation place }
     requires sound { IsSoundLayout (spec.laid_in layout.old) }
@@ -197,7 +197,7 @@ fn lay(
 
     ensures ok { OnOk result (spec.laid_in layout.new
         ≡ spec.with_laid (spec.laid_in layout.old) card s.now v place) }
-    ensures err { IfErr result (λ stop. stop ≡ Stop.NoMemory) }
+    ensures err { IfErr result (λ stop. stop ≡ PassStop.NoMemory) }
     ensures sound { OnOk result (IsSoundLayout (spec.laid_in layout.new)) }
 {
     let length = role_of(s).length() as u8;

@@ -6,21 +6,21 @@ use Rattle.st_card.specs.Controls.{Asked}
 use Rattle.st_card.specs.declared.limits.TheConstants.{MOST_NUMBER}
 use Rattle.st_card.specs.declared.written.Control.{Control}
 use Rattle.st_card.specs.declared.written.Control.TheVariants.{Budget, Delay, Signal, Dump, Trace, Time, Chart, Snap, Back}
-use Rattle.st_card.specs.declared.written.Form.{Form}
-use Rattle.st_card.specs.declared.written.Form.TheVariants.{Card, ObjectLine}
+use Rattle.st_card.specs.declared.written.ControlForm.{ControlForm}
+use Rattle.st_card.specs.declared.written.ControlForm.TheVariants.{Card, ObjectLine}
 
 -- what a line begins with
-abbrev pub front : Form → List ℕ
+abbrev pub front : ControlForm → List ℕ
 front Card = codes "/"
 front ObjectLine = []
 
 -- the word before a delay: a card may have several
-abbrev pub delay_word : Form → List ℕ
+abbrev pub delay_word : ControlForm → List ℕ
 delay_word Card = codes "DELAYS "
 delay_word ObjectLine = codes "DELAY "
 
 -- the line that asks for one thing
-unfoldable pub control_line : Form → Control → List ℕ
+unfoldable pub control_line : ControlForm → Control → List ℕ
 control_line form (Budget n) = front form ++ codes "BUDGET " ++ decimal n
 control_line form (Delay d) = front form ++ delay_word form ++ decimal d
 control_line form (Signal c i) =

@@ -34,7 +34,7 @@ pub enum Control {
 
 /// Where what is asked for is written.
 #[derive(Clone, Copy, Debug, PartialEq, Eq)]
-pub enum Form {
+pub enum ControlForm {
     /// On the control cards of a deck.
     Card,
     /// On the lines of an object text.
@@ -42,29 +42,29 @@ pub enum Form {
 }
 
 // What a line begins with.
-fn front(form: Form) -> &'static str
+fn front(form: ControlForm) -> &'static str
     ensures text { result.now ≡ spec.front form }
     ensures short { length result.now ≤ 1 }
 {
     match form {
-        Form::Card => "/",
-        Form::ObjectLine => "",
+        ControlForm::Card => "/",
+        ControlForm::ObjectLine => "",
     }
 }
 
 // The word before a delay.
-fn delay_word(form: Form) -> &'static str
+fn delay_word(form: ControlForm) -> &'static str
     ensures text { result.now ≡ spec.delay_word form }
     ensures short { length result.now ≤ 7 }
 {
     match form {
-        Form::Card => "DELAYS ",
-        Form::ObjectLine => "DELAY ",
+        ControlForm::Card => "DELAYS ",
+        ControlForm::ObjectLine => "DELAY ",
     }
 }
 
 // A line that begins with a word.
-fn worded(form: Form, word: &str) -> Line
+fn worded(form: ControlForm, word: &str) -> Line
     requires { length word.now ≤ 8 }
     ensures text { result.bytes ≡ spec.front form ++ word.now }
     ensures room { array_string_len result ≤ 9 }
@@ -75,7 +75,7 @@ fn worded(form: Form, word: &str) -> Line
 }
 
 // A word and a number.
-fn with_number(form: Form, word: &str, n: u64) -> Line
+fn with_number(form: ControlForm, word: &str, n: u64) -> Line
     requires { length word.now ≤ 8 }
     ensures { result.bytes ≡ spec.front form ++ word.now ++ decimal n }
 {
@@ -85,7 +85,7 @@ fn with_number(form: Form, word: &str, n: u64) -> Line
 }
 
 // A word and two numbers.
-fn with_numbers(form: Form, word: &str, a: u64, b: u64) -> Line
+fn with_numbers(form: ControlForm, word: &str, a: u64, b: u64) -> Line
     requires { length word.now ≤ 8 }
     ensures { result.bytes ≡ spec.front form ++ word.now ++ decimal a ++ codes " " ++ decimal b }
 {
@@ -98,7 +98,7 @@ fn with_numbers(form: Form, word: &str, a: u64, b: u64) -> Line
 
 /// The line that asks for one thing, without its line end.
 #[tactic(auto, unfolding(crate::specs::Written::control_line))]
-pub fn control_line(form: Form, control: Control) -> Line
+pub fn control_line(form: ControlForm, control: Control) -> Line
     ensures { result.bytes ≡ spec.control_line form control }
 {
     match control {
@@ -115,7 +115,7 @@ pub fn control_line(form: Form, control: Control) -> Line
 }
 
 // Appends a line.
-fn push_line(text: &mut Vec<u8>, form: Form, control: Control) -> Result<(), AllocError>
+fn push_line(text: &mut Vec<u8>, form: ControlForm, control: Control) -> Result<(), AllocError>
     ensures { let lines = spec.control_line form control ∷ [] in
         OnOk result (text.new.items ≡ text.old.items ++ spec.text_of_lines lines) }
 {
@@ -126,7 +126,7 @@ fn push_line(text: &mut Vec<u8>, form: Form, control: Control) -> Result<(), All
 // Appends a line where it is asked for.
 fn push_where(
     text: &mut Vec<u8>,
-    form: Form,
+    form: ControlForm,
     asked: bool,
     control: Control,
 ) -> Result<(), AllocError>
@@ -139,7 +139,7 @@ fn push_where(
     push_line(text, form, control)
 }
 
-fn push_budget(text: &mut Vec<u8>, form: Form, budget: u64) -> Result<(), AllocError>
+fn push_budget(text: &mut Vec<u8>, form: ControlForm, budget: u64) -> Result<(), AllocError>
     ensures { let lines = spec.unless_zero budget (spec.control_line form (asks.Budget budget)) in
         OnOk result (text.new.items ≡ text.old.items ++ spec.text_of_lines lines) }
 {
@@ -149,7 +149,7 @@ fn push_budget(text: &mut Vec<u8>, form: Form, budget: u64) -> Result<(), AllocE
     push_line(text, form, Control::Budget(budget))
 }
 
-fn push_delays(text: &mut Vec<u8>, form: Form, delays: &[u8]) -> Result<(), AllocError>
+fn push_delays(text: &mut Vec<u8>, form: ControlForm, delays: &[u8]) -> Result<(), AllocError>
     ensures { let lines = map (λ d. spec.control_line form (asks.Delay d)) delays.now in
         OnOk result (text.new.items ≡ text.old.items ++ spec.text_of_lines lines) }
 {
@@ -159,7 +159,7 @@ fn push_delays(text: &mut Vec<u8>, form: Form, delays: &[u8]) -> Result<(), Allo
     Ok(())
 }
 
-fn push_signals(text: &mut Vec<u8>, form: Form, signals: &[Signal]) -> Result<(), AllocError>
+fn push_signals(text: &mut Vec<u8>, form: ControlForm, signals: &[Signal]) -> Result<(), AllocError>
     ensures { let lines = map
         (λ s. spec.control_line form (asks.Signal s.count s.indicator)) signals.now in
         OnOk result (text.new.items ≡ text.old.items ++ spec.text_of_lines lines) }
@@ -171,7 +171,7 @@ fn push_signals(text: &mut Vec<u8>, form: Form, signals: &[Signal]) -> Result<()
     Ok(())
 }
 
-fn push_dumps(text: &mut Vec<u8>, form: Form, dumps: &[(u32, u32)]) -> Result<(), AllocError>
+fn push_dumps(text: &mut Vec<u8>, form: ControlForm, dumps: &[(u32, u32)]) -> Result<(), AllocError>
     ensures { let lines = map (λ p. spec.control_line form (asks.Dump p.0 p.1)) dumps.now in
         OnOk result (text.new.items ≡ text.old.items ++ spec.text_of_lines lines) }
 {
@@ -182,7 +182,7 @@ fn push_dumps(text: &mut Vec<u8>, form: Form, dumps: &[(u32, u32)]) -> Result<()
     Ok(())
 }
 
-fn push_snaps(text: &mut Vec<u8>, form: Form, snaps: &[u64]) -> Result<(), AllocError>
+fn push_snaps(text: &mut Vec<u8>, form: ControlForm, snaps: &[u64]) -> Result<(), AllocError>
     ensures { let lines = map (λ t. spec.control_line form (asks.Snap t)) snaps.now in
         OnOk result (text.new.items ≡ text.old.items ++ spec.text_of_lines lines) }
 {
@@ -192,7 +192,7 @@ fn push_snaps(text: &mut Vec<u8>, form: Form, snaps: &[u64]) -> Result<(), Alloc
     Ok(())
 }
 
-fn push_back(text: &mut Vec<u8>, form: Form, back: u8) -> Result<(), AllocError>
+fn push_back(text: &mut Vec<u8>, form: ControlForm, back: u8) -> Result<(), AllocError>
     ensures { let lines = spec.unless_zero back (spec.control_line form (asks.Back back)) in
         OnOk result (text.new.items ≡ text.old.items ++ spec.text_of_lines lines) }
 {
@@ -203,7 +203,11 @@ fn push_back(text: &mut Vec<u8>, form: Form, back: u8) -> Result<(), AllocError>
 }
 
 /// Appends what is asked for up to the parts of storage, each line with its line end.
-pub fn push_orders(text: &mut Vec<u8>, form: Form, controls: &Controls) -> Result<(), AllocError>
+pub fn push_orders(
+    text: &mut Vec<u8>,
+    form: ControlForm,
+    controls: &Controls,
+) -> Result<(), AllocError>
     ensures { let lines = spec.orders (spec.control_line form) controls.now in
         OnOk result (text.new.items ≡ text.old.items ++ spec.text_of_lines lines) }
 {
@@ -214,7 +218,11 @@ pub fn push_orders(text: &mut Vec<u8>, form: Form, controls: &Controls) -> Resul
 }
 
 /// Appends what is to be shown, each line with its line end.
-pub fn push_shows(text: &mut Vec<u8>, form: Form, controls: &Controls) -> Result<(), AllocError>
+pub fn push_shows(
+    text: &mut Vec<u8>,
+    form: ControlForm,
+    controls: &Controls,
+) -> Result<(), AllocError>
     ensures { let lines = spec.shows (spec.control_line form) controls.now in
         OnOk result (text.new.items ≡ text.old.items ++ spec.text_of_lines lines) }
 {

@@ -9,7 +9,7 @@ use Rattle.st_card.specs.declared.keywords.Keyword.TheVariants.{Budget, Delays, 
 use Rattle.st_card.specs.Written.{control_line, where_asked, unless_zero, IsShort}
 use Rattle.st_card.specs.declared.written.Control.{Control}
 use Rattle.st_card.specs.declared.written.Control.TheVariants as asks
-use Rattle.st_card.specs.declared.written.Form.TheVariants.{Card}
+use Rattle.st_card.specs.declared.written.ControlForm.TheVariants.{Card}
 use Rattle.st_text.specs.Number.{is_filled, reading, number_if_good}
 use Rattle.st_text.specs.Pieces.{pieces_of, lacks, words}
 use Rattle.st_card.specs.Cards.{columns}

@@ -8,7 +8,7 @@ use Rattle.st_card.specs.Controls.{Asked}
 use Rattle.st_card.specs.Written.{control_line}
 use Rattle.st_card.specs.declared.written.Control.{Control}
 use Rattle.st_card.specs.declared.written.Control.TheVariants as asks
-use Rattle.st_card.specs.declared.written.Form.TheVariants.{Card}
+use Rattle.st_card.specs.declared.written.ControlForm.TheVariants.{Card}
 use Rattle.st_card.proofs.EachControl.{OfEach, of_any, orders_all, shows_all}
 use Rattle.st_card.specs.declared.faults.Fault.{Fault}
 use Rattle.st_bits.specs.Storage.{words_of_storage_is}

@@ -12,7 +12,7 @@ use Rattle.st_card.specs.Limits.{IsWithinLimits}
 use Rattle.st_card.specs.Written.{control_line, IsShortControl}
 use Rattle.st_card.specs.declared.written.Control.{Control}
 use Rattle.st_card.specs.declared.written.Control.TheVariants as asks
-use Rattle.st_card.specs.declared.written.Form.TheVariants.{Card}
+use Rattle.st_card.specs.declared.written.ControlForm.TheVariants.{Card}
 use Rattle.st_card.proofs.EachControl.{OfEach, of_short, orders_all, shows_all}
 use Rattle.st_object.specs.Object.{Program, IsProgram, AreWords}
 use Rattle.st_dis.specs.Spelling.{number_text, statements_of}

@@ -28,7 +28,7 @@ use Rattle.st_card.specs.Controls.{Asked}
 use Rattle.st_card.specs.Written.{control_line}
 use Rattle.st_card.specs.declared.written.Control.{Control}
 use Rattle.st_card.specs.declared.written.Control.TheVariants as asks
-use Rattle.st_card.specs.declared.written.Form.TheVariants.{Card}
+use Rattle.st_card.specs.declared.written.ControlForm.TheVariants.{Card}
 use Rattle.st_card.proofs.EachControl.{OfEach, of_any, orders_all, shows_all}
 use Rattle.st_asm.specs.declared.alone.LaidBits.{LaidBits}
 use Rattle.st_dis.specs.Names.{half_name, branch_name, field_name, negation, kind_name, truth_digits, move_name, changes, change_name, turning, order_name, mode_name, forms, form_name}

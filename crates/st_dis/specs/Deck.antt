@@ -3,7 +3,7 @@ use Rattle.std.specs.Prelude.{ℕ, ◌+◌, ◌==◌, List, [], ◌∷◌, ◌++
 use Rattle.st_text.specs.Numerals.{half_address}
 use Rattle.st_card.specs.Controls.{Asked}
 use Rattle.st_card.specs.Written.{control_line, text_of_lines, orders, shows}
-use Rattle.st_card.specs.declared.written.Form.TheVariants.{Card}
+use Rattle.st_card.specs.declared.written.ControlForm.TheVariants.{Card}
 use Rattle.st_object.specs.Object.{Program}
 use Rattle.st_dis.specs.Spelling.{statements_of}
 

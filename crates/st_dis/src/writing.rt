@@ -6,7 +6,7 @@ ghost use Rattle.st_dis.specs.Deck as spec;
 ghost use Rattle.st_dis.specs.Spelling.{statements_of};
 
 use crate::spelling::{half_spelling, left_half, right_half, word_spelling};
-use st_card::{Controls, Form, push_orders, push_shows};
+use st_card::{ControlForm, Controls, push_orders, push_shows};
 use st_expr::Symbols;
 use st_text::{Line, begun, push_decimal, push_half_address, push_short_decimal};
 use std::alloc::AllocError;
@@ -153,6 +153,6 @@ pub(crate) fn push_deck(
         OnOk result (deck.new.items ≡ deck.old.items ++ spec.deck_text p) }
 {
     push_program(deck, symbols, words, start)?;
-    push_orders(deck, Form::Card, controls)?;
-    push_shows(deck, Form::Card, controls)
+    push_orders(deck, ControlForm::Card, controls)?;
+    push_shows(deck, ControlForm::Card, controls)
 }

@@ -9,7 +9,7 @@ use Rattle.st_mnemonic.specs.Fields.{texts}
 use Rattle.st_mnemonic.specs.Describing.{in_mode, in_pieces, modes}
 use Rattle.st_mnemonic.specs.declared.descriptions.Mode.{Mode}
 use Rattle.st_mnemonic.specs.declared.descriptions.Mode.TheVariants.{Field, Normalized, Unnormalized}
-use Rattle.st_mnemonic.specs.declared.field.Field.{Field as FieldOf}
+use Rattle.st_mnemonic.specs.declared.field.FieldText.{FieldText}
 
 -- the first seventeen of a list are those that were found
 pub first_found : (found rest pieces : List (List ℕ)) → found ++ rest ≡ pieces → length found ≡ 17 → found ≡ take 17 pieces
@@ -17,17 +17,17 @@ first_found found rest pieces all full =
     sym (ap (λ n. take n (found ++ rest)) (sym full) ∙ take-append_seam found rest) ∙ ap (λ (ps : List (List ℕ)). take 17 ps) all
 
 -- so are those that were kept when there is room for no more
-pub no_room : (kept new : List FieldOf) (f : FieldOf) (left after text : List ℕ) → new ≡ kept ++ f ∷ [] →
+pub no_room : (kept new : List FieldText) (f : FieldText) (left after text : List ℕ) → new ≡ kept ++ f ∷ [] →
     texts kept ++ pieces_of 44 left ≡ pieces_of 44 text → pieces_of 44 left ≡ f.text.now ∷ pieces_of 44 after → length new ≡ 17 →
     texts new ≡ take 17 (pieces_of 44 text)
 no_room kept new f left after text pushed so_far cut full =
     let both : texts new ≡ texts kept ++ f.text.now ∷ [] =
-    ap (λ (fs : List FieldOf). texts fs) pushed ∙ map-append (λ (g : FieldOf). g.text.now) kept (f ∷ []) in
+    ap (λ (fs : List FieldText). texts fs) pushed ∙ map-append (λ (g : FieldText). g.text.now) kept (f ∷ []) in
     let all : texts new ++ pieces_of 44 after ≡ pieces_of 44 text =
     ap (λ (t : List (List ℕ)). t ++ pieces_of 44 after) both
     ∙ (append_assoc (texts kept) (f.text.now ∷ []) (pieces_of 44 after)
     ∙ (ap (λ (ps : List (List ℕ)). texts kept ++ ps) (sym cut) ∙ so_far)) in
-    first_found (texts new) (pieces_of 44 after) (pieces_of 44 text) all (length-map new (λ (g : FieldOf). g.text.now) ∙ full)
+    first_found (texts new) (pieces_of 44 after) (pieces_of 44 text) all (length-map new (λ (g : FieldText). g.text.now) ∙ full)
 
 -- ---- descriptions
 

@@ -1,7 +1,7 @@
 -- The texts of fields.
 use Rattle.std.specs.Prelude.{ℕ, List, map}
-use Rattle.st_mnemonic.specs.declared.field.Field.{Field}
+use Rattle.st_mnemonic.specs.declared.field.FieldText.{FieldText}
 
 -- the texts that fields have
-abbrev pub texts : List Field → List (List ℕ)
+abbrev pub texts : List FieldText → List (List ℕ)
 texts fields = map (λ f. f.text.now) fields

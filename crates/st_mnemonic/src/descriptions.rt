@@ -8,7 +8,7 @@ ghost use Rattle.st_text.specs.Pieces.{pieces_of};
 ghost use Rattle.st_mnemonic.specs.Describing as spec;
 ghost use Rattle.st_mnemonic.specs.Fields.{texts};
 
-use crate::field::Field;
+use crate::field::FieldText;
 use crate::form::Form;
 use crate::operations::Operation;
 use crate::parts::{ends_with, pieces};
@@ -101,7 +101,7 @@ fn number_to(most: u8, text: &[u8]) -> Option<u8>
 }
 
 // What a length, a byte size or neither say behind a mode.
-fn in_mode(mode: Mode, more: &[Field]) -> Option<Description>
+fn in_mode(mode: Mode, more: &[FieldText]) -> Option<Description>
     ensures { result ≡ spec.in_mode mode (texts more.now) }
 {
     match mode {
@@ -114,7 +114,7 @@ fn in_mode(mode: Mode, more: &[Field]) -> Option<Description>
     }
 }
 
-fn in_form(decimal: bool, unsigned: bool, more: &[Field]) -> Option<Description>
+fn in_form(decimal: bool, unsigned: bool, more: &[FieldText]) -> Option<Description>
     ensures { result ≡ spec.in_mode (Mode.Field decimal unsigned) (texts more.now) }
 {
     let usual = usual_byte(decimal);
@@ -163,7 +163,7 @@ fn in_pieces(text: &[u8]) -> Option<Description>
     in_fields(pieces(text).as_slice())
 }
 
-fn in_fields(fields: &[Field]) -> Option<Description>
+fn in_fields(fields: &[FieldText]) -> Option<Description>
     ensures { result ≡ spec.in_pieces (texts fields.now) }
 {
     match fields {

@@ -6,15 +6,15 @@ use arrayvec::ArrayVec;
 
 /// What stands between commas.
 #[derive(Clone, Copy)]
-pub struct Field<'a> {
+pub struct FieldText<'a> {
     /// Its bytes, without blanks: at most 63.
     pub text: &'a [u8],
     ghost fits: { length text.now ≤ 63 },
 }
 
-impl Default for Field<'_> {
+impl Default for FieldText<'_> {
     fn default() -> Self {
-        Field { text: &[] }
+        FieldText { text: &[] }
     }
 }
 
@@ -22,4 +22,4 @@ impl Default for Field<'_> {
 const MOST_FIELDS: usize = 17;
 
 /// The first fields of a text, seventeen at most.
-pub type Fields<'a> = ArrayVec<Field<'a>, MOST_FIELDS>;
+pub type Fields<'a> = ArrayVec<FieldText<'a>, MOST_FIELDS>;

@@ -10,7 +10,7 @@ mod operations;
 mod parts;
 
 pub use descriptions::described_in;
-pub use field::{Field, Fields};
+pub use field::{FieldText, Fields};
 pub use form::Form;
 pub use forms::{progressed, split_description};
 pub use operations::{Operation, operation_of};

@@ -6,7 +6,7 @@ ghost use Rattle.st_text.specs.Pieces.{pieces_of};
 ghost use Rattle.st_mnemonic.specs.Text as spec;
 ghost use Rattle.st_mnemonic.specs.Fields.{texts};
 
-use crate::field::{Field, Fields};
+use crate::field::{FieldText, Fields};
 use arrayvec::ArrayVec;
 use st_text::cut;
 
@@ -110,12 +110,12 @@ pub(crate) fn pieces(text: &[u8]) -> Fields<'_>
     let mut fields = Fields::new();
     let mut rest = text;
     'pieces: while let Some((piece, after)) = cut(rest, b',') {
-        fields.push(Field { text: piece });
+        fields.push(FieldText { text: piece });
         if fields.is_full() {
             return fields;
         }
         rest = after;
     }
-    fields.push(Field { text: rest });
+    fields.push(FieldText { text: rest });
     fields
 }

@@ -5,7 +5,7 @@ use Rattle.std.proofs.lemmas.List.Concat.{flat_map-append}
 use Rattle.st_text.specs.Bytes.{lf}
 use Rattle.st_card.specs.Controls.{Asked}
 use Rattle.st_card.specs.Written.{control_line, text_of_lines, where_asked, unless_zero, orders, shows}
-use Rattle.st_card.specs.declared.written.Form.TheVariants.{ObjectLine}
+use Rattle.st_card.specs.declared.written.ControlForm.TheVariants.{ObjectLine}
 use Rattle.st_card.proofs.LineLemmas.{orders-same, shows-same}
 use Rattle.st_object.specs.Lines.{line_text, object_text_of, word_lines}
 use Rattle.st_object.specs.Draft.{Draft, lines_read}

@@ -4,7 +4,7 @@ use Rattle.std.specs.List.{flat_map}
 use Rattle.st_text.specs.Bytes.{lf}
 use Rattle.st_text.specs.Numerals.{hex_word, half_address}
 use Rattle.st_card.specs.Written.{control_line}
-use Rattle.st_card.specs.declared.written.Form.TheVariants.{ObjectLine}
+use Rattle.st_card.specs.declared.written.ControlForm.TheVariants.{ObjectLine}
 use Rattle.st_object.specs.declared.items.Item.{Item}
 use Rattle.st_object.specs.declared.items.Item.TheVariants.{Object, Start, Word, Fin, Ask}
 

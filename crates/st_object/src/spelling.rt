@@ -5,7 +5,7 @@ ghost use Rattle.st_text.specs.Numerals.{hex_word, half_address};
 ghost use Rattle.st_object.specs.Lines as spec;
 
 use crate::items::Item;
-use st_card::{Form, control_line};
+use st_card::{ControlForm, control_line};
 use st_text::{Line, begun, push_decimal, push_hex};
 
 // Where the program starts.
@@ -39,7 +39,7 @@ pub(crate) fn spelled(item: Item) -> Line
         Item::Object => begun("OBJECT"),
         Item::Start(half) => start_line(half),
         Item::Word(w, word) => word_line(w, word),
-        Item::Ask(control) => control_line(Form::ObjectLine, control),
+        Item::Ask(control) => control_line(ControlForm::ObjectLine, control),
         Item::Fin => begun("FIN"),
     }
 }

@@ -10,7 +10,7 @@ use crate::images::Image;
 use crate::items::Item;
 use crate::spelling::spelled;
 use st_bits::NoMemory;
-use st_card::{Controls, Form, push_orders, push_shows};
+use st_card::{ControlForm, Controls, push_orders, push_shows};
 use std::alloc::{AllocError, Global};
 
 // Appends a line.
@@ -65,8 +65,8 @@ fn push_object(
         OnOk result (text.new.items ≡ text.old.items ++ object_text p) }
 {
     push_program(text, words, start)?;
-    push_orders(text, Form::ObjectLine, controls)?;
-    push_shows(text, Form::ObjectLine, controls)?;
+    push_orders(text, ControlForm::ObjectLine, controls)?;
+    push_shows(text, ControlForm::ObjectLine, controls)?;
     push_line(text, Item::Fin)
 }
 

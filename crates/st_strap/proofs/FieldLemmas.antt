@@ -4,17 +4,17 @@ use Rattle.std.proofs.Math.Seq.{take-length}
 use Rattle.st_card.specs.declared.faults.Fault.{Fault}
 use Rattle.st_strap.specs.Order.{both_of}
 use Rattle.st_mnemonic.specs.Fields.{texts}
-use Rattle.st_mnemonic.specs.declared.field.Field.{Field}
+use Rattle.st_mnemonic.specs.declared.field.FieldText.{FieldText}
 
 -- the texts of fields are that of the first and those of the rest
-pub texts_first : (fields : List Field) (first : Field) → 1 ≤ length fields → first ≡ get_or fields 0 first →
+pub texts_first : (fields : List FieldText) (first : FieldText) → 1 ≤ length fields → first ≡ get_or fields 0 first →
     texts fields ≡ first.text.now ∷ texts (take (length fields - 1) (drop 1 fields))
 texts_first [] first some is_first = let no : ⊥ = omega arith in absurd no
 texts_first (f ∷ fs) first some is_first =
     let count : length fs ≡ suc (length fs) - 1 = omega arith in
     let tail : fs ≡ take (suc (length fs) - 1) fs = sym (take-length fs) ∙ ap (λ n. take n fs) count in
-    ap (λ (y : Field). y.text.now ∷ texts fs) (sym is_first)
-    ∙ ap (λ (t : List Field). first.text.now ∷ texts t) tail
+    ap (λ (y : FieldText). y.text.now ∷ texts fs) (sym is_first)
+    ∙ ap (λ (t : List FieldText). first.text.now ∷ texts t) tail
 
 -- readings that are the same give the same together
 pub joined : {A B : Type 0} (a p : Result A Fault) (b q : Result B Fault) (r : Result (A × B) Fault) → r ≡ both_of a b → a ≡ p →

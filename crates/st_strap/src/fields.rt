@@ -9,7 +9,7 @@ ghost use Rattle.st_strap.specs.Reading as spec;
 use crate::statement::{CompactSpot, Spot};
 use st_card::Fault;
 use st_expr::ExprText;
-use st_mnemonic::{Field, begins_with, ends_with};
+use st_mnemonic::{FieldText, begins_with, ends_with};
 use st_text::{Reading, read_number, row_of};
 
 const INDEX_FIELDS: [(&[u8], u8); 16] = [
@@ -243,7 +243,7 @@ fn selector(j: u8) -> u16
 }
 
 // A list of index words from fields that name them.
-pub(crate) fn selected(fields: &[Field]) -> Result<u16, Fault>
+pub(crate) fn selected(fields: &[FieldText]) -> Result<u16, Fault>
     ensures { result ≡ spec.index_selector (texts fields.now) }
 {
     match fields {

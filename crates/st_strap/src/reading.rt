@@ -15,7 +15,7 @@ use crate::terms::statement_terms;
 use st_card::Fault;
 use st_expr::is_name;
 use st_mnemonic::{
-    Field, Form, Operation, clean, described_in, fields, operation_of, progressed,
+    FieldText, Form, Operation, clean, described_in, fields, operation_of, progressed,
     split_description, split_word,
 };
 
@@ -108,7 +108,7 @@ fn with_text(op: Operation, form: Form, text: &[u8]) -> Result<CompactStatement,
 }
 
 // What an operation says with its form and its fields.
-fn with_fields(op: Operation, form: Form, fields: &[Field]) -> Result<CompactStatement, Fault>
+fn with_fields(op: Operation, form: Form, fields: &[FieldText]) -> Result<CompactStatement, Fault>
     ensures { result ≡ spec.with_fields op form (texts fields.now) }
 {
     match op {

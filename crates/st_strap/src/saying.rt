@@ -13,11 +13,11 @@ use crate::shapes::{
 use crate::statement::{CompactStatement, Statement};
 use st_bits::{BranchOp, ConnKind, HalfOp, VflOp};
 use st_card::Fault;
-use st_mnemonic::{Field, Form, Operation};
+use st_mnemonic::{FieldText, Form, Operation};
 
 // What an operation on an index word says.
 #[inline(never)]
-pub(crate) fn say_half(op: HalfOp, fields: &[Field]) -> Result<CompactStatement, Fault>
+pub(crate) fn say_half(op: HalfOp, fields: &[FieldText]) -> Result<CompactStatement, Fault>
     ensures { (form : FormOf) → result ≡ spec.with_fields (Operation.Half op) form
         (texts fields.now) }
 {
@@ -27,7 +27,7 @@ pub(crate) fn say_half(op: HalfOp, fields: &[Field]) -> Result<CompactStatement,
 
 // What LVS says.
 #[inline(never)]
-pub(crate) fn say_sum(fields: &[Field]) -> Result<CompactStatement, Fault>
+pub(crate) fn say_sum(fields: &[FieldText]) -> Result<CompactStatement, Fault>
     ensures { (form : FormOf) → result ≡ spec.with_fields Operation.Sum form (texts fields.now) }
 {
     let (j, list) = index_and_list(fields)?;
@@ -36,7 +36,7 @@ pub(crate) fn say_sum(fields: &[Field]) -> Result<CompactStatement, Fault>
 
 // What R says.
 #[inline(never)]
-pub(crate) fn say_refill(fields: &[Field]) -> Result<CompactStatement, Fault>
+pub(crate) fn say_refill(fields: &[FieldText]) -> Result<CompactStatement, Fault>
     ensures { (form : FormOf) → result ≡ spec.with_fields Operation.Refill form (texts fields.now) }
 {
     Ok(Statement::Refill {
@@ -46,7 +46,7 @@ pub(crate) fn say_refill(fields: &[Field]) -> Result<CompactStatement, Fault>
 
 // What EX says.
 #[inline(never)]
-pub(crate) fn say_execute(fields: &[Field]) -> Result<CompactStatement, Fault>
+pub(crate) fn say_execute(fields: &[FieldText]) -> Result<CompactStatement, Fault>
     ensures { (form : FormOf) → result ≡ spec.with_fields Operation.Execute form
         (texts fields.now) }
 {
@@ -59,7 +59,7 @@ pub(crate) fn say_execute(fields: &[Field]) -> Result<CompactStatement, Fault>
 
 // What a branch says.
 #[inline(never)]
-pub(crate) fn say_branch(op: BranchOp, fields: &[Field]) -> Result<CompactStatement, Fault>
+pub(crate) fn say_branch(op: BranchOp, fields: &[FieldText]) -> Result<CompactStatement, Fault>
     ensures { (form : FormOf) → result ≡ spec.with_fields (Operation.Branch op) form
         (texts fields.now) }
 {
@@ -71,7 +71,7 @@ pub(crate) fn say_branch(op: BranchOp, fields: &[Field]) -> Result<CompactStatem
 
 // What an operation of the branch group without an address says.
 #[inline(never)]
-pub(crate) fn say_bare(op: BranchOp, fields: &[Field]) -> Result<CompactStatement, Fault>
+pub(crate) fn say_bare(op: BranchOp, fields: &[FieldText]) -> Result<CompactStatement, Fault>
     ensures { (form : FormOf) → result ≡ spec.with_fields (Operation.Bare op) form
         (texts fields.now) }
 {
@@ -80,7 +80,7 @@ pub(crate) fn say_bare(op: BranchOp, fields: &[Field]) -> Result<CompactStatemen
 
 // What an operation of the floating group says.
 #[inline(never)]
-pub(crate) fn say_floating(number: u8, fields: &[Field]) -> Result<CompactStatement, Fault>
+pub(crate) fn say_floating(number: u8, fields: &[FieldText]) -> Result<CompactStatement, Fault>
     ensures { (form : FormOf) → result ≡ spec.with_fields (Operation.Floating number) form
         (texts fields.now) }
 {
@@ -96,7 +96,7 @@ pub(crate) fn say_vfl(
     op: VflOp,
     negated: bool,
     form: Form,
-    fields: &[Field],
+    fields: &[FieldText],
 ) -> Result<CompactStatement, Fault>
     ensures { result ≡ spec.with_fields (Operation.Vfl op negated) form (texts fields.now) }
 {
@@ -116,7 +116,7 @@ pub(crate) fn say_connect(
     kind: ConnKind,
     table: u8,
     form: Form,
-    fields: &[Field],
+    fields: &[FieldText],
 ) -> Result<CompactStatement, Fault>
     ensures { result ≡ spec.with_fields (Operation.Connect kind table) form (texts fields.now) }
 {
@@ -132,7 +132,7 @@ pub(crate) fn say_connect(
 
 // What T or SWAP says.
 #[inline(never)]
-pub(crate) fn say_move(swap: bool, fields: &[Field]) -> Result<CompactStatement, Fault>
+pub(crate) fn say_move(swap: bool, fields: &[FieldText]) -> Result<CompactStatement, Fault>
     ensures { (form : FormOf) → result ≡ spec.with_fields (Operation.Move swap) form
         (texts fields.now) }
 {
@@ -150,7 +150,7 @@ pub(crate) fn say_move(swap: bool, fields: &[Field]) -> Result<CompactStatement,
 pub(crate) fn say_bit_branch(
     sense: bool,
     change: u8,
-    fields: &[Field],
+    fields: &[FieldText],
 ) -> Result<CompactStatement, Fault>
     ensures { (form : FormOf) → result ≡ spec.with_fields (Operation.BitBranch sense change) form
         (texts fields.now) }
@@ -169,7 +169,7 @@ pub(crate) fn say_bit_branch(
 pub(crate) fn say_ind_branch(
     sense: bool,
     off: bool,
-    fields: &[Field],
+    fields: &[FieldText],
 ) -> Result<CompactStatement, Fault>
     ensures { (form : FormOf) → result ≡ spec.with_fields (Operation.IndBranch sense off) form
         (texts fields.now) }
@@ -185,7 +185,7 @@ pub(crate) fn say_ind_branch(
 
 // What SIC says.
 #[inline(never)]
-pub(crate) fn say_store_counter(fields: &[Field]) -> Result<CompactStatement, Fault>
+pub(crate) fn say_store_counter(fields: &[FieldText]) -> Result<CompactStatement, Fault>
     ensures { (form : FormOf) → result ≡ spec.with_fields Operation.StoreCounter form
         (texts fields.now) }
 {
@@ -195,7 +195,7 @@ pub(crate) fn say_store_counter(fields: &[Field]) -> Result<CompactStatement, Fa
 
 // What RD or WR says.
 #[inline(never)]
-pub(crate) fn say_transfer(write: bool, fields: &[Field]) -> Result<CompactStatement, Fault>
+pub(crate) fn say_transfer(write: bool, fields: &[FieldText]) -> Result<CompactStatement, Fault>
     ensures { (form : FormOf) → result ≡ spec.with_fields (Operation.Transfer write) form
         (texts fields.now) }
 {
@@ -205,7 +205,7 @@ pub(crate) fn say_transfer(write: bool, fields: &[Field]) -> Result<CompactState
 
 // What DD says.
 #[inline(never)]
-pub(crate) fn say_data(form: Form, fields: &[Field]) -> Result<CompactStatement, Fault>
+pub(crate) fn say_data(form: Form, fields: &[FieldText]) -> Result<CompactStatement, Fault>
     ensures { result ≡ spec.with_fields Operation.Data form (texts fields.now) }
 {
     let (minus, number) = number_alone(fields)?;
@@ -218,7 +218,7 @@ pub(crate) fn say_data(form: Form, fields: &[Field]) -> Result<CompactStatement,
 
 // What XW says.
 #[inline(never)]
-pub(crate) fn say_index_word(fields: &[Field]) -> Result<CompactStatement, Fault>
+pub(crate) fn say_index_word(fields: &[FieldText]) -> Result<CompactStatement, Fault>
     ensures { (form : FormOf) → result ≡ spec.with_fields Operation.IndexWord form
         (texts fields.now) }
 {
@@ -233,7 +233,7 @@ pub(crate) fn say_index_word(fields: &[Field]) -> Result<CompactStatement, Fault
 
 // What SYN says.
 #[inline(never)]
-pub(crate) fn say_synonym(fields: &[Field]) -> Result<CompactStatement, Fault>
+pub(crate) fn say_synonym(fields: &[FieldText]) -> Result<CompactStatement, Fault>
     ensures { (form : FormOf) → result ≡ spec.with_fields Operation.Synonym form
         (texts fields.now) }
 {
@@ -244,7 +244,7 @@ pub(crate) fn say_synonym(fields: &[Field]) -> Result<CompactStatement, Fault>
 
 // What SLC says.
 #[inline(never)]
-pub(crate) fn say_set_location(fields: &[Field]) -> Result<CompactStatement, Fault>
+pub(crate) fn say_set_location(fields: &[FieldText]) -> Result<CompactStatement, Fault>
     ensures { (form : FormOf) → result ≡ spec.with_fields Operation.SetLocation form
         (texts fields.now) }
 {
@@ -255,7 +255,7 @@ pub(crate) fn say_set_location(fields: &[Field]) -> Result<CompactStatement, Fau
 
 // What DR says.
 #[inline(never)]
-pub(crate) fn say_reserve(fields: &[Field]) -> Result<CompactStatement, Fault>
+pub(crate) fn say_reserve(fields: &[FieldText]) -> Result<CompactStatement, Fault>
     ensures { (form : FormOf) → result ≡ spec.with_fields Operation.Reserve form
         (texts fields.now) }
 {
@@ -266,7 +266,7 @@ pub(crate) fn say_reserve(fields: &[Field]) -> Result<CompactStatement, Fault>
 
 // What END says.
 #[inline(never)]
-pub(crate) fn say_end(fields: &[Field]) -> Result<CompactStatement, Fault>
+pub(crate) fn say_end(fields: &[FieldText]) -> Result<CompactStatement, Fault>
     ensures { (form : FormOf) → result ≡ spec.with_fields Operation.End form (texts fields.now) }
 {
     Ok(Statement::End {

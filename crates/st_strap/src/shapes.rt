@@ -8,7 +8,7 @@ use crate::fields::{both, expression, index_field, plain_number, selected, signe
 use crate::statement::{CompactSpot, CompactStatement};
 use st_card::Fault;
 use st_expr::ExprText;
-use st_mnemonic::{Field, Form};
+use st_mnemonic::{FieldText, Form};
 
 // An address and a number.
 #[derive(Drop)]
@@ -33,7 +33,7 @@ pub(crate) struct CountAndRefill {
 }
 
 // One field that is an index word.
-pub(crate) fn index_alone(fields: &[Field]) -> Result<u8, Fault>
+pub(crate) fn index_alone(fields: &[FieldText]) -> Result<u8, Fault>
     ensures { result ≡ spec.index_alone (texts fields.now) }
 {
     match fields {
@@ -43,7 +43,7 @@ pub(crate) fn index_alone(fields: &[Field]) -> Result<u8, Fault>
 }
 
 // One address that may have an index part.
-pub(crate) fn spot_alone(fields: &[Field]) -> Result<CompactSpot, Fault>
+pub(crate) fn spot_alone(fields: &[FieldText]) -> Result<CompactSpot, Fault>
     ensures { result ≡ spec.spot_alone (texts fields.now) }
 {
     match fields {
@@ -53,7 +53,7 @@ pub(crate) fn spot_alone(fields: &[Field]) -> Result<CompactSpot, Fault>
 }
 
 // One address without an index part.
-pub(crate) fn expression_alone(fields: &[Field]) -> Result<ExprText, Fault>
+pub(crate) fn expression_alone(fields: &[FieldText]) -> Result<ExprText, Fault>
     ensures { result ≡ spec.expression_alone (texts fields.now) }
 {
     match fields {
@@ -63,7 +63,7 @@ pub(crate) fn expression_alone(fields: &[Field]) -> Result<ExprText, Fault>
 }
 
 // One number with a sign or none.
-pub(crate) fn number_alone(fields: &[Field]) -> Result<(bool, u64), Fault>
+pub(crate) fn number_alone(fields: &[FieldText]) -> Result<(bool, u64), Fault>
     ensures { result ≡ spec.number_alone (texts fields.now) }
 {
     match fields {
@@ -73,7 +73,7 @@ pub(crate) fn number_alone(fields: &[Field]) -> Result<(bool, u64), Fault>
 }
 
 // An index word and an address.
-pub(crate) fn index_and_spot(fields: &[Field]) -> Result<(u8, CompactSpot), Fault>
+pub(crate) fn index_and_spot(fields: &[FieldText]) -> Result<(u8, CompactSpot), Fault>
     ensures { result ≡ spec.index_and_spot (texts fields.now) }
 {
     match fields {
@@ -83,7 +83,7 @@ pub(crate) fn index_and_spot(fields: &[Field]) -> Result<(u8, CompactSpot), Faul
 }
 
 // An index word, and 1 to 15 that are listed.
-pub(crate) fn index_and_list(fields: &[Field]) -> Result<(u8, u16), Fault>
+pub(crate) fn index_and_list(fields: &[FieldText]) -> Result<(u8, u16), Fault>
     ensures { result ≡ spec.index_and_list (texts fields.now) }
 {
     match fields {
@@ -95,7 +95,7 @@ pub(crate) fn index_and_list(fields: &[Field]) -> Result<(u8, u16), Fault>
 }
 
 // The address of a field and an offset or none.
-pub(crate) fn operand(form: Form, fields: &[Field]) -> Result<(CompactSpot, u64), Fault>
+pub(crate) fn operand(form: Form, fields: &[FieldText]) -> Result<(CompactSpot, u64), Fault>
     ensures { result ≡ spec.operand_spot form (texts fields.now) }
 {
     match fields {
@@ -106,7 +106,7 @@ pub(crate) fn operand(form: Form, fields: &[Field]) -> Result<(CompactSpot, u64)
 }
 
 // An address and a second one.
-pub(crate) fn two_addresses(fields: &[Field]) -> Result<(CompactSpot, ExprText), Fault>
+pub(crate) fn two_addresses(fields: &[FieldText]) -> Result<(CompactSpot, ExprText), Fault>
     ensures { result ≡ spec.two_addresses (texts fields.now) }
 {
     match fields {
@@ -116,7 +116,7 @@ pub(crate) fn two_addresses(fields: &[Field]) -> Result<(CompactSpot, ExprText),
 }
 
 // An address and a number.
-pub(crate) fn spot_and_number(fields: &[Field]) -> Result<(CompactSpot, u64), Fault>
+pub(crate) fn spot_and_number(fields: &[FieldText]) -> Result<(CompactSpot, u64), Fault>
     ensures { result ≡ spec.spot_and_number (texts fields.now) }
 {
     match fields {
@@ -139,7 +139,7 @@ fn address_with_number(
 }
 
 // An address without an index part and a number.
-fn address_and_number(fields: &[Field]) -> Result<AddressAndNumber, Fault>
+fn address_and_number(fields: &[FieldText]) -> Result<AddressAndNumber, Fault>
     ensures { result ≡ spec.address_and_number (texts fields.now) }
 {
     match fields {
@@ -150,7 +150,7 @@ fn address_and_number(fields: &[Field]) -> Result<AddressAndNumber, Fault>
 
 // Two addresses and a number.
 pub(crate) fn two_addresses_and_number(
-    fields: &[Field],
+    fields: &[FieldText],
 ) -> Result<(CompactSpot, AddressAndNumber), Fault>
     ensures { result ≡ spec.two_addresses_and_number (texts fields.now) }
 {
@@ -174,7 +174,7 @@ fn refill_with_flags(
 }
 
 // A refill address, and flags or none.
-fn refill_and_flags(fields: &[Field]) -> Result<RefillAndFlags, Fault>
+fn refill_and_flags(fields: &[FieldText]) -> Result<RefillAndFlags, Fault>
     ensures { result ≡ spec.refill_and_flags (texts fields.now) }
 {
     match fields {
@@ -202,7 +202,7 @@ fn count_with_refill(
 }
 
 // A count, a refill address, and flags or none.
-fn count_and_refill(fields: &[Field]) -> Result<CountAndRefill, Fault>
+fn count_and_refill(fields: &[FieldText]) -> Result<CountAndRefill, Fault>
     ensures { result ≡ spec.count_and_refill (texts fields.now) }
 {
     match fields {
@@ -212,7 +212,7 @@ fn count_and_refill(fields: &[Field]) -> Result<CountAndRefill, Fault>
 }
 
 // The parts of an index word.
-pub(crate) fn index_word_parts(fields: &[Field]) -> Result<(ExprText, CountAndRefill), Fault>
+pub(crate) fn index_word_parts(fields: &[FieldText]) -> Result<(ExprText, CountAndRefill), Fault>
     ensures { result ≡ spec.index_word_parts (texts fields.now) }
 {
     match fields {
@@ -224,7 +224,7 @@ pub(crate) fn index_word_parts(fields: &[Field]) -> Result<(ExprText, CountAndRe
 // A statement without fields.
 pub(crate) fn without_fields(
     statement: CompactStatement,
-    fields: &[Field],
+    fields: &[FieldText],
 ) -> Result<CompactStatement, Fault>
     ensures { result ≡ spec.without_fields statement (texts fields.now) }
 {

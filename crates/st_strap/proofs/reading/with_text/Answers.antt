@@ -2,13 +2,13 @@ use Rattle.std.proofs.Common.{◌∙◌, ℕ, List, ap}
 use Rattle.st_mnemonic.specs.Fields.{texts}
 use Rattle.st_strap.specs.Saying.{with_fields}
 use Rattle.st_mnemonic.specs.Text.{fields_of}
-use Rattle.st_mnemonic.specs.declared.field.Field.{Field}
+use Rattle.st_mnemonic.specs.declared.field.FieldText.{FieldText}
 use Rattle.st_strap.proofs.FirstFields.{enough_fields}
 use Rattle.st_strap.proofs.reading.with_text.Goals as goal
 
 pub returns : goal.returns
 returns c =
     c.with_fields.ensures
-    ∙ (ap (λ (fs : List Field). with_fields c.args.op c.args.form (texts fs)) c.as_slice.ensures.value
+    ∙ (ap (λ (fs : List FieldText). with_fields c.args.op c.args.form (texts fs)) c.as_slice.ensures.value
     ∙ (ap (λ (ps : List (List ℕ)). with_fields c.args.op c.args.form ps) c.fields.ensures
     ∙ enough_fields c.args.op c.args.form (fields_of c.args.text.now)))
