@@ -14,8 +14,8 @@ use Rattle.st_rows.specs.Rows.{opening_front, tick_a, tick_p, row_of_entry, fron
 use Rattle.st_rows.specs.declared.log.Made.{Made}
 use Rattle.st_rows.proofs.LogLaws.{logged-noted}
 use Rattle.st_rows.proofs.NoteLemmas.{opened-log}
-use Rattle.st_rows.proofs.Parts.{two-parts, served-formed, free-formed, front-done}
-use Rattle.st_rows.proofs.Served.{served-asked}
+use Rattle.st_rows.proofs.Parts.{two-parts, free-formed, front-done}
+use Rattle.st_rows.proofs.Served.{served-asked, served-formed}
 use Rattle.st_rows.proofs.Tight.{later-r, later-c}
 use Rattle.st_rows.specs.declared.bus.Bus.{Bus}
 use Rattle.st_rows.specs.declared.entry.Entry.{Entry}

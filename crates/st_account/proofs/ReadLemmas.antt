@@ -18,8 +18,8 @@ use Rattle.st_rows.specs.declared.front.Front.{Front}
 use Rattle.st_rows.specs.declared.log.Made.{Made}
 use Rattle.st_rows.proofs.LogLaws.{undone_is_made_before, few_are_undone, logged-noted}
 use Rattle.st_rows.proofs.MadeLemmas.{made-more}
-use Rattle.st_rows.proofs.Parts.{two-parts, at-prepared, served-formed, free-formed}
-use Rattle.st_rows.proofs.Served.{made-bounds, served-append, served-asked, few-words, few-side, few-operands, few-following}
+use Rattle.st_rows.proofs.Parts.{two-parts, at-prepared, free-formed}
+use Rattle.st_rows.proofs.Served.{made-bounds, served-append, served-asked, few-words, few-side, few-operands, few-following, served-formed}
 use Rattle.st_rows.proofs.Tight.{tight-after}
 use Rattle.st_segment.specs.Entries.{entry}
 use Rattle.st_segment.specs.Ahead.{ahead, reads_before}

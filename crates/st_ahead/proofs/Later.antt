@@ -17,8 +17,8 @@ use Rattle.st_rows.specs.declared.entry.Entry.{Entry}
 use Rattle.st_rows.specs.declared.front.Front.{Front}
 use Rattle.st_rows.proofs.LogLaws.{undone_is_made_before, few_are_undone, logs_go_on}
 use Rattle.st_rows.proofs.MadeLemmas.{made-more}
-use Rattle.st_rows.proofs.Parts.{asked-parts, two-parts, at-prepared, served-formed, free-formed}
-use Rattle.st_rows.proofs.Served.{made-bounds, served-append, served-asked, few-words, few-side, few-operands, few-following}
+use Rattle.st_rows.proofs.Parts.{asked-parts, two-parts, at-prepared, free-formed}
+use Rattle.st_rows.proofs.Served.{made-bounds, served-append, served-asked, few-words, few-side, few-operands, few-following, served-formed}
 use Rattle.st_rows.proofs.Tight.{tight-after}
 use Rattle.st_ring.specs.declared.level.Level.{Level}
 use Rattle.st_segment.specs.Entries.{entry}

@@ -36,6 +36,7 @@ none = record { first = 0; len = 0 }
 
 opening-near : (start : ℕ) (banks : LastAnswers) → All (λ b. b ≤ start + 255) banks.ticks → IsNear 255 (opening_front banks start).bus
 opening-near start banks early = record {
+  free = omega arith;
   banks = early;
   held = All-replicate (λ (h : AskedWord). h.tick ≤ start + 255) 4 no_word (omega arith);
 }

@@ -1,16 +1,11 @@
 -- How long a read takes.
-use Rattle.std.specs.Prelude.{ℕ, ◌≡◌, ◌≤◌, ◌+◌, ◌%◌, ◌==◌, List, length, All, slice_index, Option}
+use Rattle.std.specs.Prelude.{ℕ, ◌≤◌, ◌+◌, ◌%◌, ◌==◌, List, length, slice_index, Option}
 use Rattle.std.specs.List.{position}
 use Rattle.st_bits.specs.declared.limits.TheConstants.{MOST_DELAY}
 
 -- a delay of a read
 abbrev pub IsDelay : ℕ → Type 0
 IsDelay d = (1 ≤ d) × (d ≤ MOST_DELAY)
-
--- a list that can be gone round: not empty, and each entry a delay
-pub record IsDelayList (list : List ℕ) : Type 0 where
-  pub some : 1 ≤ length list
-  pub each : All IsDelay list
 
 -- the delay of a read that is accepted at the tick: the list is gone round, one entry a tick
 abbrev pub delay : List ℕ → ℕ → ℕ

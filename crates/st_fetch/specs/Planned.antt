@@ -31,11 +31,8 @@ content_patched w word (f, content) = if f.w == w then option_map (λ _. word) c
 
 -- a word with the content beside it: it is answered once its content is there
 abbrev pub with_its_content : AskedWord × Option ℕ → Held
-with_its_content (f, content) = record {
-  w = f.w;
-  answer = option_map
-      (λ word. (word, f.tick)) content;
-}
+with_its_content (f, content) =
+    record { w = f.w; answer = option_map (λ word. (word, f.tick)) content }
 
 -- the newest n words with the contents beside them, the oldest of them first
 unfoldable pub oldest_first : ℕ → List AskedWord → List (Option ℕ) → List Held

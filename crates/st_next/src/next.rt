@@ -12,19 +12,18 @@ ghost use Rattle.st_rows.specs.Notes.{log_after_reads};
 ghost use Rattle.st_rows.specs.Ranges.{IsEntryInTime};
 ghost use Rattle.st_rows.specs.Rows.{wanted_from, fetch_word};
 ghost use Rattle.st_segment.specs.Alone.{words_of_run};
-ghost use Rattle.st_segment.specs.Entries.{above_registers as above_registers_of, words_to_read as words_to_read_of, words_to_write as words_to_write_of, side_to_read as side_to_read_of};
 ghost use Rattle.st_next.specs.Words.{words_alone, run_with_word as with_word_of};
 ghost use Rattle.st_next.specs.Progress.{IsKnown, IsNextReady};
 ghost use Rattle.st_next.specs.Going.{IsFrontInTime, IsEarly, GoesOnTo, IsReadFurther, IsPreparedBy, IsPlanAtItsTick, as_entry, prepared_as};
 
 use st_banks::Delays;
-use st_bits::register::FIRST_STORAGE_WORD;
 use st_format::{Decoded, Format, FullOp, decode_as, format_of};
 use st_prep::{
-    Fetched, Fetching as Given, Needs, Place, Prepared, Words, fetch_on, halves_known,
-    is_execute_format, prepare_in, prepare_without_side, side_word,
+    Fetched, Fetching as Given, Needs, Place, Prepared, fetch_on, halves_known, is_execute_format,
+    prepare_in, prepare_without_side, side_word,
 };
-use st_rows::{Bus, Entry, Fetching, Formed, Front, Log, Timing, Wanted, WordRun, WordRuns};
+use st_rows::{Bus, Entry, Fetching, Formed, Front, Log, Timing, Wanted, WordRun};
+use st_segment::{side_to_read, words_to_read, words_to_write};
 use st_state::State;
 
 /// The entry that is prepared next, as far as it is known.
@@ -565,56 +564,5 @@ fn with_word(run: WordRun, w: u32) -> WordRun
     WordRun {
         first,
         len: run.len + 1,
-    }
-}
-
-// A run of words without the registers at its front.
-#[tactic(auto, unfolding(st_segment::specs::Entries::above_registers))]
-fn above_registers(first: u32, len: u8) -> WordRun
-    ensures { result ≡ above_registers_of first len }
-{
-    let above = first.max(FIRST_STORAGE_WORD);
-    let registers = (above - first) as u8;
-    WordRun {
-        first: above,
-        len: len.saturating_sub(registers),
-    }
-}
-
-// The operand words that make reads.
-#[tactic(auto, unfolding(st_segment::specs::Entries::words_to_read))]
-fn words_to_read(words: Words) -> WordRuns
-    ensures { result ≡ words_to_read_of words }
-{
-    WordRuns {
-        one: above_registers(words.first, words.len),
-        two: above_registers(words.first2, words.len2),
-    }
-}
-
-// The words that are written.
-fn words_to_write(words: Words) -> WordRuns
-    ensures { result ≡ words_to_write_of words }
-{
-    WordRuns {
-        one: WordRun {
-            first: words.first,
-            len: words.len,
-        },
-        two: WordRun {
-            first: words.first2,
-            len: words.len2,
-        },
-    }
-}
-
-// The index-side word, where it makes a read.
-#[tactic(auto, unfolding(st_segment::specs::Entries::side_to_read))]
-fn side_to_read(side: Option<u32>) -> Option<u32>
-    ensures { result ≡ side_to_read_of side }
-{
-    match side {
-        Some(w) if w >= FIRST_STORAGE_WORD => Some(w),
-        _ => None,
     }
 }

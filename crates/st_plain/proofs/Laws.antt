@@ -52,7 +52,7 @@ module _ (ds : List ℕ) where
 
   -- an instruction word or a following one, and what comes behind it
   fetched : (o : Option ℕ) (b : Bus) (w want v s : ℕ) (us : List Use) → v ≤ want → s ≤ b.free
-      → ((x y : ℕ) → x ≤ want → x ≤ max v (answer_if o ds b w want) → y ≤ (requested_if o ds b w want).free → AreInTurn x y us)
+      → ((x y : ℕ) → x ≤ want → x ≤ max v (answer_if ds b w want o) → y ≤ (requested_if ds b w want o).free → AreInTurn x y us)
       → IsInTurn v s (fetch_supply o ds b w want)
       × AreInTurn (want_behind v (fetch_supply o ds b w want)) (turn_behind s (fetch_supply o ds b w want)) us
   unfolding bus_after_read

@@ -14,8 +14,7 @@ use Rattle.st_rows.specs.declared.entry.Entry.{Entry}
 use Rattle.st_rows.specs.declared.log.Made.{Made}
 use Rattle.st_rows.specs.declared.past.Past.{Past}
 use Rattle.st_rows.proofs.Noted.{noted-two}
-use Rattle.st_rows.proofs.Parts.{served-formed}
-use Rattle.st_rows.proofs.Served.{served-append, served-asked}
+use Rattle.st_rows.proofs.Served.{served-append, served-asked, served-formed}
 use Rattle.st_rows.specs.declared.front.Front.{Front}
 use Rattle.st_rows.specs.declared.front.EntryTicks.{EntryTicks}
 use Rattle.st_segment.specs.Entries.{entry}

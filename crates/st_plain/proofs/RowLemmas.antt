@@ -13,8 +13,8 @@ use Rattle.st_rows.specs.declared.front.Front.{Front}
 use Rattle.st_rows.specs.declared.log.Made.{Made}
 use Rattle.st_rows.specs.declared.past.Past.{Past}
 use Rattle.st_rows.proofs.Noted.{noted-two}
-use Rattle.st_rows.proofs.Parts.{two-parts, served-formed}
-use Rattle.st_rows.proofs.Served.{served-word, served-words, served-runs, served-fetches}
+use Rattle.st_rows.proofs.Parts.{two-parts}
+use Rattle.st_rows.proofs.Served.{served-word, served-words, served-runs, served-fetches, served-formed}
 
 module _ (ds : List ℕ) (past : List Past) (from w : ℕ) where
   pub fetch-turn : (s t : Fetching) (n : ℕ) → t ≡ fetch_word ds past s w from → 1 ≤ n

@@ -11,17 +11,17 @@ ghost use Rattle.st_prep.specs.Reading.{Use, words_read, own_words, half_of as h
 ghost use Rattle.st_plain.specs.Looking.{known_at};
 ghost use Rattle.st_rows.specs.Ranges.{IsEntryInTime};
 ghost use Rattle.st_plain.specs.Straight.{IsReadOver, if_more, entry_shown, IsEntryPlanned};
-ghost use Rattle.st_segment.specs.Entries.{run_of as run_by, above_registers as above_registers_of, words_to_read as words_to_read_of, words_to_write as words_to_write_of, side_to_read as side_to_read_of, entry as entry_of};
+ghost use Rattle.st_segment.specs.Entries.{run_of as run_by, entry as entry_of};
 
 use crate::known::{Code, Known, code_found, code_in};
-use st_bits::register::FIRST_STORAGE_WORD;
 use st_bits::{HalfOp, part};
 use st_format::{Decoded, Format, FullOp, Instr, decode_as, format_of, length_in_halves};
 use st_prep::{
-    Fetched, Fetching, Needs, Place, Prepared, Words, fetch_on, index_words, is_execute_format,
-    place_of, prepare_in, prepare_without_side, side_word,
+    Fetched, Fetching, Needs, Place, Prepared, fetch_on, index_words, is_execute_format, place_of,
+    prepare_in, prepare_without_side, side_word,
 };
-use st_rows::{Entry, WordRun, WordRuns};
+use st_rows::{Entry, WordRun};
+use st_segment::{side_to_read, words_to_read, words_to_write};
 use st_state::{Access, State};
 
 // Words that follow each other, at most four, as a run.
@@ -90,57 +90,6 @@ fn find(place: &Place, x: &[u64; 16], state: &State) -> Found
                 };
             }
         }
-    }
-}
-
-// A run of words without the registers at its front.
-#[tactic(auto, unfolding(st_segment::specs::Entries::above_registers))]
-fn above_registers(first: u32, len: u8) -> WordRun
-    ensures { result ≡ above_registers_of first len }
-{
-    let above = first.max(FIRST_STORAGE_WORD);
-    let registers = (above - first) as u8;
-    WordRun {
-        first: above,
-        len: len.saturating_sub(registers),
-    }
-}
-
-// The operand words that make reads.
-#[tactic(auto, unfolding(st_segment::specs::Entries::words_to_read))]
-fn words_to_read(words: Words) -> WordRuns
-    ensures { result ≡ words_to_read_of words }
-{
-    WordRuns {
-        one: above_registers(words.first, words.len),
-        two: above_registers(words.first2, words.len2),
-    }
-}
-
-// The words that are written.
-fn words_to_write(words: Words) -> WordRuns
-    ensures { result ≡ words_to_write_of words }
-{
-    WordRuns {
-        one: WordRun {
-            first: words.first,
-            len: words.len,
-        },
-        two: WordRun {
-            first: words.first2,
-            len: words.len2,
-        },
-    }
-}
-
-// The index-side word, where it makes a read.
-#[tactic(auto, unfolding(st_segment::specs::Entries::side_to_read))]
-fn side_to_read(side: Option<u32>) -> Option<u32>
-    ensures { result ≡ side_to_read_of side }
-{
-    match side {
-        Some(w) if w >= FIRST_STORAGE_WORD => Some(w),
-        _ => None,
     }
 }
 

@@ -41,6 +41,7 @@ opening-tight most start banks soon = record {
   done = record { each = All-replicate (λ (entry : Past). entry.c ≤ start) 8 _ (omega arith) };
   free = omega arith;
   near = record {
+    free = omega arith;
     banks = soon;
     held = All-replicate (λ (h : AskedWord). h.tick ≤ start + most) 4 _ (omega arith);
   };

@@ -23,7 +23,6 @@ module _ (most : ℕ) (ds : List ℕ) (are : AreDelaysUpTo most ds) (past : List
   fill-late_if false b w p is = omega (arith, delay-bounds most ds (accept_at b w p) are)
 
   fill-late : (b : Bus) (w p : ℕ) → p < fill_at ds past b w p
-  unfolding fill_at
   fill-late b w p = fill-late_if (is_forwarded past w p) b w p (λ late. ltb-true p (latest_done past w) late)
 
   pub first-late : (b : Bus) (run : WordRun) (p : ℕ) → 1 ≤ run.len → p < get_or (fills_of ds past b run p) 0 0
@@ -32,7 +31,7 @@ module _ (most : ℕ) (ds : List ℕ) (are : AreDelaysUpTo most ds) (past : List
 
   pub second-late : (b : Bus) (run : WordRun) (p : ℕ) → 2 ≤ run.len → p < get_or (fills_of ds past b run p) 1 0
   unfolding fills_of
-  second-late b run p some = rw (lt-ltb 1 run.len some) (fill-late _ (run.first + 1) p)
+  second-late b run p some = rw (lt-ltb 1 run.len some) (fill-late (read_word ds past (record { bus = b; answered = p }) run.first p).bus (run.first + 1) p)
 
 -- ---- not after the operands and the last completion
 
@@ -44,7 +43,7 @@ module _ (ds : List ℕ) (past : List Past) (p c : ℕ) (before : ArePastWithin 
   fill-early_if false s w = omega arith
 
   fill-early : (s : OperandReading) (w : ℕ) → fill_at ds past s.bus w p ≤ max (read_word ds past s w p).answered c
-  unfolding fill_at read_word
+  unfolding read_word
   fill-early s w = fill-early_if (is_forwarded past w p) s w
 
   first-early : (s : OperandReading) (w n : ℕ) → (if nat_lt 0 n then fill_at ds past s.bus w p else 0) ≤ max (read_words ds past s p w n).answered c
@@ -78,7 +77,7 @@ module _ (ds : List ℕ) (past : List Past) (p c : ℕ) (before : ArePastWithin 
   fill-step_if false s w = omega arith
 
   fill-step : (s : OperandReading) (w : ℕ) → max (read_word ds past s w p).answered c ≡ max (max s.answered c) (fill_at ds past s.bus w p)
-  unfolding fill_at read_word
+  unfolding read_word
   fill-step s w = fill-step_if (is_forwarded past w p) s w
 
   few-decide : (s : OperandReading) (w n : ℕ) → n ≤ 2

@@ -7,10 +7,10 @@ use Rattle.st_rows.proofs.Tight.{tight-after}
 use Rattle.st_rows.proofs.Fills.{first-late, second-late, fills-ready, fills-decide}
 use Rattle.st_rows.proofs.Sooner.{read-sooner, answer-sooner, requested-sooner, row-sooner, after-sooner, order-after, covered-after, hazard_free-behind, rows-sooner, opening-sooner, opening-order, opening-covered, none-falls}
 use Rattle.st_rows.proofs.Older.{older-after, row-kept, after-kept}
-use Rattle.st_rows.proofs.Served.{served-asked, few-asked, most-asked, free-one_if, made-bounds, served-fetches}
+use Rattle.st_rows.proofs.Served.{served-asked, few-asked, most-asked, free-one_if, made-bounds, served-fetches, served-formed, served-prepared}
 use Rattle.st_rows.specs.BusTimes.{accept_at}
 use Rattle.st_rows.proofs.Within.{delay-bounds}
-use Rattle.st_rows.proofs.Parts.{asked-parts, two-parts, served-formed, served-prepared, a-p, at-prepared, free-fetched, free-formed, front-formed, front-done, free-done}
+use Rattle.st_rows.proofs.Parts.{asked-parts, two-parts, a-p, at-prepared, free-fetched, free-formed, front-formed, front-done, free-done}
 use Rattle.std.specs.Prelude.{IfSome}
 use Rattle.st_rows.specs.Asked.{Read}
 use Rattle.st_rows.proofs.Each.{each-fetch, each-side, each-operand, each-following, each-of-data}

@@ -1,24 +1,17 @@
 -- The reads of an entry in their parts, when they are wanted, and when the bus is free of them.
-use Rattle.std.proofs.Common.{◌≡◌, ℕ, ◌≤◌, List, ◌++◌, All, refl, sym, ap, ◌∙◌, append_assoc, arith}
+use Rattle.std.proofs.Common.{◌≡◌, ℕ, ◌≤◌, List, ◌++◌, All, refl, append_assoc, arith}
 use Rattle.std.proofs.lemmas.List.Elements.{All-append}
-use Rattle.st_rows.specs.Asked.{Read, side_asked, operands_asked, runs_asked, following_asked, fetches_asked, formed_asked, prepared_asked, data_of, reads_of_entry, bus_after_reads}
+use Rattle.st_rows.specs.Asked.{Read, side_asked, runs_asked, following_asked, fetches_asked, formed_asked, prepared_asked, data_of, reads_of_entry}
 use Rattle.st_rows.specs.Ranges.{AreDelaysUpTo, IsEntryInTime, IsTight}
-use Rattle.st_rows.specs.Rows.{words_tick, tick_a, bus_a, tick_p, preparation_tick, operands, tick_c, address_tick, front_after_entry}
+use Rattle.st_rows.specs.Rows.{words_tick, tick_a, bus_a, tick_p, preparation_tick, operands, tick_c, address_tick}
 use Rattle.st_rows.specs.declared.entry.Entry.{Entry}
 use Rattle.st_rows.specs.declared.front.Front.{Front}
 use Rattle.st_rows.proofs.Each.{each-operand, each-following}
-use Rattle.st_rows.proofs.Served.{served-append, served-fetches, served-side, served-runs, served-following}
 use Rattle.st_rows.proofs.Tight.{free-a, free-p, free-r, later-r, later-c}
-
-five-parts : (a b c d e : List Read) → a ++ b ++ c ++ d ++ e ≡ a ++ (b ++ ((c ++ d) ++ e))
-five-parts a b c d e = simp append_assoc refl
 
 pub asked-parts : (ds : List ℕ) (n : ℕ) (f : Front) (e : Entry) → reads_of_entry ds n f e ≡ fetches_asked ds f e ++ data_of ds n f e
 unfolding reads_of_entry
-asked-parts ds n f e =
-    five-parts (fetches_asked ds f e) (side_asked f.past e.side (tick_a ds f e))
-    (operands_asked f.past (tick_p ds n f e) e.reads.one.first e.reads.one.len) (operands_asked f.past (tick_p ds n f e) e.reads.two.first e.reads.two.len)
-    (following_asked ds (operands ds n f e).bus e (tick_p ds n f e))
+asked-parts ds n f e = append_assoc (fetches_asked ds f e) (side_asked f.past e.side (tick_a ds f e)) (prepared_asked ds n f e)
 
 -- preparation is later than the address
 pub a-p : (ds : List ℕ) (n : ℕ) (f : Front) (e : Entry) → tick_a ds f e ≤ tick_p ds n f e
@@ -28,8 +21,8 @@ a-p ds n f e = omega arith
 -- ---- the reads of an entry in two parts
 
 pub two-parts : (ds : List ℕ) (n : ℕ) (f : Front) (e : Entry) → reads_of_entry ds n f e ≡ formed_asked ds f e ++ prepared_asked ds n f e
-two-parts ds n f e =
-    asked-parts ds n f e ∙ sym (append_assoc (fetches_asked ds f e) (side_asked f.past e.side (tick_a ds f e)) (prepared_asked ds n f e))
+unfolding reads_of_entry
+two-parts ds n f e = refl
 
 -- each of the second part is wanted at preparation
 pub at-prepared : (ds : List ℕ) (n : ℕ) (f : Front) (e : Entry) → All (λ (r : Read). r.want ≡ tick_p ds n f e) (prepared_asked ds n f e)
@@ -39,21 +32,7 @@ at-prepared ds n f e =
     (each-operand (λ (r : Read). r.want ≡ p) f.past e.reads p (λ v least most. refl) (λ v least most. refl))
     (each-following (λ (r : Read). r.want ≡ p) ds (operands ds n f e).bus e p (λ follows v least most. refl))
 
--- ---- the buses behind the parts, and when they are free
-
-pub served-formed : (ds : List ℕ) (f : Front) (e : Entry) → bus_after_reads ds (formed_asked ds f e) f.bus ≡ bus_a ds f e
-unfolding bus_a
-served-formed ds f e =
-    let side = side_asked f.past e.side (tick_a ds f e) in
-    served-append ds (fetches_asked ds f e) side f.bus
-    ∙ ap (bus_after_reads ds side) (served-fetches ds f e)
-    ∙ served-side ds f.past e.side (tick_a ds f e) (words_tick ds f e).bus
-
-pub served-prepared : (ds : List ℕ) (n : ℕ) (f : Front) (e : Entry) → bus_after_reads ds (prepared_asked ds n f e) (bus_a ds f e) ≡ (front_after_entry ds n f e).bus
-served-prepared ds n f e =
-    let p = tick_p ds n f e in
-    let next = following_asked ds (operands ds n f e).bus e p in
-    served-append ds (runs_asked f.past e.reads p) next (bus_a ds f e) ∙ ap (bus_after_reads ds next) (served-runs ds n f e) ∙ served-following ds n f e
+-- ---- when the buses behind the parts are free
 
 pub front-formed : (ds : List ℕ) (f : Front) (e : Entry) → f.bus.free ≤ tick_a ds f e
 unfolding tick_a address_tick

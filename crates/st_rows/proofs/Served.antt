@@ -4,7 +4,7 @@ use Rattle.std.proofs.Common.{◌≡◌, ℕ, zero, suc, ◌+◌, ◌<◌, ◌�
 use Rattle.std.proofs.lemmas.Bool.{cases_Bool, ltb-true}
 use Rattle.st_bits.specs.Storage.{words_of_storage}
 use Rattle.st_fetch.specs.Planned.{tick_of}
-use Rattle.st_rows.specs.Asked.{Read, word_asked, words_asked, data_asked, side_asked, operands_asked, inside_asked, runs_asked, following_asked, fetches_asked, reads_of_entry, after_one, bus_after_reads, made_before, side_count, own_reads}
+use Rattle.st_rows.specs.Asked.{Read, word_asked, words_asked, data_asked, side_asked, operands_asked, inside_asked, runs_asked, following_asked, fetches_asked, formed_asked, prepared_asked, reads_of_entry, after_one, bus_after_reads, made_before, side_count, own_reads}
 use Rattle.st_rows.specs.BusTimes.{OperandReading, accept_at, answer_at, bus_after_read, requested_if, bus_after_request}
 use Rattle.st_rows.specs.Ranges.{AreDelaysUpTo, IsNear}
 use Rattle.st_rows.specs.Rows.{fetch_word, fetch_words, wanted_from, words_tick, is_forwarded, bus_sided, read_word, read_words, operands_read, request_inside, bus_followed, tick_a, bus_a, tick_p, operands, front_after_entry}
@@ -25,7 +25,7 @@ module _ (ds : List ℕ) where
   served-append [] ys b = refl
   served-append (x ∷ xs) ys b = served-append xs ys (after_one ds b x)
 
-  pub served-word : (o : Option ℕ) (w want : ℕ) (b : Bus) → bus_after_reads ds (word_asked o w want) b ≡ requested_if o ds b w want
+  pub served-word : (o : Option ℕ) (w want : ℕ) (b : Bus) → bus_after_reads ds (word_asked o w want) b ≡ requested_if ds b w want o
   unfolding bus_after_reads
   served-word (Some t) w want b = refl
   served-word None w want b = refl
@@ -116,27 +116,26 @@ module _ (ds : List ℕ) where
   unfolding front_after_entry following_asked bus_followed
   served-following n f e = follow_if e.follows (operands ds n f e).bus (e.own.first + e.own.len) (tick_p ds n f e)
 
-  pub served-asked : (n : ℕ) (f : Front) (e : Entry) → bus_after_reads ds (reads_of_entry ds n f e) f.bus ≡ (front_after_entry ds n f e).bus
-  unfolding reads_of_entry front_after_entry bus_a operands operands_read following_asked bus_followed
-  served-asked n f e =
-      let p = tick_p ds n f e in
-      let one = operands_asked f.past p e.reads.one.first e.reads.one.len in
-      let two = operands_asked f.past p e.reads.two.first e.reads.two.len in
+  -- both parts of its reads
+  pub served-formed : (f : Front) (e : Entry) → bus_after_reads ds (formed_asked ds f e) f.bus ≡ bus_a ds f e
+  unfolding bus_a
+  served-formed f e =
       let side = side_asked f.past e.side (tick_a ds f e) in
+      served-append (fetches_asked ds f e) side f.bus
+      ∙ ap (bus_after_reads ds side) (served-fetches f e)
+      ∙ served-side f.past e.side (tick_a ds f e) (words_tick ds f e).bus
+
+  pub served-prepared : (n : ℕ) (f : Front) (e : Entry) → bus_after_reads ds (prepared_asked ds n f e) (bus_a ds f e) ≡ (front_after_entry ds n f e).bus
+  served-prepared n f e =
+      let p = tick_p ds n f e in
       let next = following_asked ds (operands ds n f e).bus e p in
-      let start : OperandReading = record { bus = bus_a ds f e; answered = p } in
-      let first = read_words ds f.past start p e.reads.one.first e.reads.one.len in
-      let all = fetches_asked ds f e in
-      served-append (all ++ side ++ one ++ two) next f.bus
-      ∙ ap (bus_after_reads ds next)
-      (served-append (all ++ side ++ one) two f.bus
-      ∙ ap (bus_after_reads ds two)
-      (served-append (all ++ side) one f.bus
-      ∙ ap (bus_after_reads ds one)
-      (served-append all side f.bus ∙ ap (bus_after_reads ds side) (served-fetches f e) ∙ served-side f.past e.side (tick_a ds f e) (words_tick ds f e).bus)
-      ∙ served-operands f.past p start e.reads.one.first e.reads.one.len)
-      ∙ served-operands f.past p first e.reads.two.first e.reads.two.len)
-      ∙ follow_if e.follows (operands ds n f e).bus (e.own.first + e.own.len) p
+      served-append (runs_asked f.past e.reads p) next (bus_a ds f e) ∙ ap (bus_after_reads ds next) (served-runs n f e) ∙ served-following n f e
+
+  pub served-asked : (n : ℕ) (f : Front) (e : Entry) → bus_after_reads ds (reads_of_entry ds n f e) f.bus ≡ (front_after_entry ds n f e).bus
+  unfolding reads_of_entry
+  served-asked n f e =
+      let behind = prepared_asked ds n f e in
+      served-append (formed_asked ds f e) behind f.bus ∙ ap (bus_after_reads ds behind) (served-formed f e) ∙ served-prepared n f e
 
 -- ---- how many there are
 
@@ -205,13 +204,13 @@ most-asked ds n f e few = omega (arith, few, few-asked ds n f e)
 ltb_cases : (a b : ℕ) → ((nat_lt a b ≡ true) × (a < b)) ⊎ (nat_lt a b ≡ false)
 ltb_cases a b = elim (cases_Bool (nat_lt a b)) [ inl t ↦ inl (t, ltb-true a b t) | inr n ↦ inr n ]
 
-pub free-one_if : (ds : List ℕ) (fetch : Bool) (b : Bus) (w want : ℕ) → (if fetch then requested_if None ds b w want else bus_after_read ds b w want).free ≡ accept_at b w want + 1
+pub free-one_if : (ds : List ℕ) (fetch : Bool) (b : Bus) (w want : ℕ) → (if fetch then requested_if ds b w want None else bus_after_read ds b w want).free ≡ accept_at b w want + 1
 unfolding bus_after_read
 free-one_if ds true b w want = refl
 free-one_if ds false b w want = refl
 
 module _ (most : ℕ) (ds : List ℕ) (are : AreDelaysUpTo most ds) (t : ℕ) where
-  near-one_if : (fetch : Bool) (b : Bus) (w want : ℕ) → IsNear most b → IsNear most (if fetch then requested_if None ds b w want else bus_after_read ds b w want)
+  near-one_if : (fetch : Bool) (b : Bus) (w want : ℕ) → IsNear most b → IsNear most (if fetch then requested_if ds b w want None else bus_after_read ds b w want)
   near-one_if true b w want is = near-requested_if most ds are None b w want is
   near-one_if false b w want is = near-read most ds are b w want is
 

@@ -133,7 +133,7 @@ module _ (d : ℕ) (ds : List ℕ) (are : AreEqual d ds) where
   }
 
   requested_if-sooner : (o p : Option ℕ) (b c : Bus) (w want later : ℕ) → BothSooner o p → IsBusSooner b c → want ≤ later
-      → IsBusSooner (requested_if o ds b w want) (requested_if p ds c w later) × (answer_if o ds b w want ≤ answer_if p ds c w later)
+      → IsBusSooner (requested_if ds b w want o) (requested_if ds c w later p) × (answer_if ds b w want o ≤ answer_if ds c w later p)
   requested_if-sooner (Some s) (Some t) b c w want later both is low = (is, both)
   requested_if-sooner (Some s) None b c w want later both is low = absurd both
   requested_if-sooner None (Some t) b c w want later both is low = absurd both

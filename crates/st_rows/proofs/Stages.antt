@@ -2,8 +2,7 @@
 use Rattle.std.proofs.Common.{ℕ, zero, suc, ◌+◌, ◌-◌, ◌*◌, ◌<◌, ◌≤◌, max, true, false, Bool, List, [], ◌∷◌, get_or, Option, None, Some, arith}
 use Rattle.std.specs.Prelude.{IfSome, ◌||◌, if◌then◌else◌}
 use Rattle.std.proofs.Math.Nat.{max-le, mul-le-mul_right}
-use Rattle.std.proofs.lemmas.List.Elements.{All-head, All-tail, All-weaker}
-use Rattle.st_fetch.specs.declared.fetched.AskedWord.{AskedWord}
+use Rattle.std.proofs.lemmas.List.Elements.{All-head, All-tail}
 use Rattle.st_rows.specs.BusTimes.{OperandReading, answer_at, bus_after_read}
 use Rattle.st_rows.specs.Entries.{latest_done, no_runs}
 use Rattle.st_rows.specs.Ranges.{AreDelaysUpTo, IsBusWithin, IsFetchingWithin, IsReadingWithin, ArePastWithin, IsTight, IsEntryInTime}
@@ -23,11 +22,7 @@ side-above (Some w) end inside = inside.0
 
 -- the bus of a tight front
 pub tight-bus : (most : ℕ) (f : Front) → IsTight most f → IsBusWithin (f.c + 3 * most + 2) f.bus
-tight-bus most f is = record {
-  free = omega (arith, is.free);
-  banks = All-weaker (λ t. t ≤ f.bus.free + most) (λ t. t ≤ f.c + 3 * most + 2) (λ t low. omega (arith, is.free)) f.bus.banks.ticks is.near.banks;
-  held = All-weaker (λ (h : AskedWord). h.tick ≤ f.bus.free + most) (λ (h : AskedWord). h.tick ≤ f.c + 3 * most + 2) (λ h low. omega (arith, is.free)) f.bus.held.words is.near.held;
-}
+tight-bus most f is = bus-weaker (f.bus.free + most) (f.c + 3 * most + 2) f.bus (omega (arith, is.free)) is.near
 
 -- the first want is no later than the last completion
 pub wanted-early : (most : ℕ) (f : Front) → IsTight most f → wanted_from f ≤ f.c

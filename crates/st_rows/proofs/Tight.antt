@@ -39,6 +39,7 @@ module _ (most : ℕ) (ds : List ℕ) (are : AreDelaysUpTo most ds) where
       let later : b.free ≤ accept_at b w want = omega arith in
       let known = delay-bounds most ds (accept_at b w want) are in
       record {
+        free = omega arith;
         banks = All-set (λ t. t ≤ accept_at b w want + 1 + most) b.banks.ticks (bank_of w) _ (omega arith)
             (All-weaker (λ t. t ≤ b.free + most) (λ t. t ≤ accept_at b w want + 1 + most) (λ t low. omega arith) b.banks.ticks is.banks);
         held = All-weaker (λ (h : AskedWord). h.tick ≤ b.free + most) (λ (h : AskedWord). h.tick ≤ accept_at b w want + 1 + most) (λ h low. omega arith) b.held.words is.held;
@@ -46,23 +47,24 @@ module _ (most : ℕ) (ds : List ℕ) (are : AreDelaysUpTo most ds) where
 
   -- ---- an instruction word
 
-  pub near-requested_if : (o : Option ℕ) (b : Bus) (w want : ℕ) → IsNear most b → IsNear most (requested_if o ds b w want)
+  pub near-requested_if : (o : Option ℕ) (b : Bus) (w want : ℕ) → IsNear most b → IsNear most (requested_if ds b w want o)
   unfolding bus_after_read
   near-requested_if (Some t) b w want is = is
   near-requested_if None b w want is =
       let made = near-read b w want is in
       let known = delay-bounds most ds (accept_at b w want) are in
       record {
+        free = omega arith;
         banks = made.banks;
         held = All-cons (λ (h : AskedWord). h.tick ≤ accept_at b w want + 1 + most) _ (take 3 b.held.words) (omega arith)
             (All-take (λ (h : AskedWord). h.tick ≤ accept_at b w want + 1 + most) 3 b.held.words made.held);
       }
 
-  free-requested_if : (o : Option ℕ) (b : Bus) (w want : ℕ) → (requested_if o ds b w want).free ≤ max b.free (answer_if o ds b w want)
+  free-requested_if : (o : Option ℕ) (b : Bus) (w want : ℕ) → (requested_if ds b w want o).free ≤ max b.free (answer_if ds b w want o)
   free-requested_if (Some t) b w want = omega arith
   free-requested_if None b w want = omega (arith, free-answer b w want)
 
-  soon-requested_if : (o : Option ℕ) (b : Bus) (w want : ℕ) → IsNear most b → (requested_if o ds b w want).free ≤ max (b.free + most) want + 1
+  soon-requested_if : (o : Option ℕ) (b : Bus) (w want : ℕ) → IsNear most b → (requested_if ds b w want o).free ≤ max (b.free + most) want + 1
   unfolding bus_after_read
   soon-requested_if (Some t) b w want is = omega arith
   soon-requested_if None b w want is = omega (arith, (accept-bounds b w want is).2)

@@ -97,7 +97,7 @@ module _ (most : ℕ) (ds : List ℕ) (are : AreDelaysUpTo most ds) (m n : ℕ) 
       }
 
   requested_if-within : (o : Option ℕ) (b : Bus) (w want : ℕ) → IfSome o (λ t. t ≤ m) → IsBusWithin m b → want ≤ m
-      → IsBusWithin n (requested_if o ds b w want) × (answer_if o ds b w want ≤ n)
+      → IsBusWithin n (requested_if ds b w want o) × (answer_if ds b w want o ≤ n)
   requested_if-within (Some t) b w want known is early = (bus-weaker m n b (omega arith) is, omega (arith, known))
   requested_if-within None b w want known is early =
       let made = read-within b w want is early in

@@ -3,7 +3,7 @@ use Rattle.std.specs.Prelude.{ℕ, zero, suc, ◌+◌, max, Bool, true, false, n
 use Rattle.st_bits.specs.Storage.{words_of_storage}
 use Rattle.st_fetch.specs.Planned.{tick_of}
 use Rattle.st_rows.specs.BusTimes.{accept_at, bus_after_read, requested_if}
-use Rattle.st_rows.specs.Rows.{fetch_word, fetch_words, wanted_from, is_forwarded, request_inside, tick_a, tick_p, operands, nothing_fetched}
+use Rattle.st_rows.specs.Rows.{fetch_word, own_fetched, wanted_from, is_forwarded, request_inside, tick_a, tick_p, operands, nothing_fetched}
 use Rattle.st_rows.specs.declared.bus.Bus.{Bus}
 use Rattle.st_rows.specs.declared.entry.Entry.{Entry}
 use Rattle.st_rows.specs.declared.entry.WordRuns.{WordRuns}
@@ -59,21 +59,16 @@ inside_asked b w p = if nat_lt w words_of_storage then word_asked (tick_of b.hel
 -- both of them, where the entry has following words
 unfoldable pub following_asked : List ℕ → Bus → Entry → ℕ → List Read
 following_asked ds b e p =
-    if e.follows
-    then inside_asked b (e.own.first + e.own.len) p
-    ++ inside_asked (request_inside ds b (e.own.first + e.own.len) p)
-    (e.own.first + e.own.len + 1) p
+    let w = e.own.first + e.own.len in
+    if e.follows then inside_asked b w p ++ inside_asked (request_inside ds b w p) (w + 1) p
     else []
 
 module _ (ds : List ℕ) (f : Front) (e : Entry) where
   -- the instruction words of the entry e behind the front f
   unfoldable pub fetches_asked : List Read
   fetches_asked =
-      words_asked ds f.past (nothing_fetched f.bus)
-      (wanted_from f) e.own.first e.own.len
-      ++ words_asked ds f.past
-      (fetch_words ds f.past (nothing_fetched f.bus)
-      (wanted_from f) e.own.first e.own.len)
+      words_asked ds f.past (nothing_fetched f.bus) (wanted_from f) e.own.first e.own.len
+      ++ words_asked ds f.past (own_fetched ds f e)
       (max (wanted_from f) f.c) e.target.first e.target.len
 
   -- in two parts: its reads until its address is formed
@@ -84,8 +79,8 @@ module _ (ds : List ℕ) (n : ℕ) (f : Front) (e : Entry) where
   -- and those from its preparation on
   abbrev pub prepared_asked : List Read
   prepared_asked =
-      runs_asked f.past e.reads (tick_p ds n f e) ++ following_asked ds (operands ds n f e).bus e
-      (tick_p ds n f e)
+      let p = tick_p ds n f e in
+      runs_asked f.past e.reads p ++ following_asked ds (operands ds n f e).bus e p
 
   -- those behind its instruction words
   abbrev pub data_of : List Read
@@ -93,12 +88,7 @@ module _ (ds : List ℕ) (n : ℕ) (f : Front) (e : Entry) where
 
   -- all reads of that entry
   unfoldable pub reads_of_entry : List Read
-  reads_of_entry =
-      fetches_asked ds f e
-      ++ side_asked f.past e.side (tick_a ds f e)
-      ++ operands_asked f.past (tick_p ds n f e) e.reads.one.first e.reads.one.len
-      ++ operands_asked f.past (tick_p ds n f e) e.reads.two.first e.reads.two.len
-      ++ following_asked ds (operands ds n f e).bus e (tick_p ds n f e)
+  reads_of_entry = formed_asked ds f e ++ prepared_asked
 
 -- how many words the index-side word is
 abbrev pub side_count : Option ℕ → ℕ
@@ -112,7 +102,7 @@ own_reads e = e.own.len + e.target.len + side_count e.side + e.reads.one.len + e
 module _ (ds : List ℕ) where
   -- the bus after a read
   abbrev pub after_one : Bus → Read → Bus
-  after_one b r = if r.fetch then requested_if None ds b r.w r.want
+  after_one b r = if r.fetch then requested_if ds b r.w r.want None
       else bus_after_read ds b r.w r.want
 
   -- after the reads of a list

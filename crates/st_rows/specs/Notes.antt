@@ -1,5 +1,5 @@
 -- Notes of reads that are made, by which they can be taken back. They stand youngest first.
-use Rattle.std.specs.Prelude.{ℕ, ◌≡◌, ◌<◌, ◌≤◌, nat_lt, if◌then◌else◌, List, [], ◌∷◌, ◌++◌, length, take, All}
+use Rattle.std.specs.Prelude.{ℕ, ◌≡◌, ◌<◌, nat_lt, if◌then◌else◌, List, [], ◌∷◌, ◌++◌, take, All}
 use Rattle.st_banks.specs.Bank.{last_of, answered_at}
 use Rattle.st_rows.specs.Asked.{Read, after_one}
 use Rattle.st_rows.specs.BusTimes.{accept_at}
@@ -49,9 +49,3 @@ pub record IsLogged (ds : List ℕ) (now : ℕ) (reads : List Read) (b : Bus)
   pub older : List Made
   pub early : AreEarly now older
   pub notes : log ≡ take 64 (notes_of_reads ds reads b ++ older)
-
--- a ring of at most 64 notes
-pub record IsNoteRing (head n : ℕ) (slots : List Made) : Type 0 where
-  pub inside : head < 64
-  pub few : n ≤ 64
-  pub whole : length slots ≡ 64

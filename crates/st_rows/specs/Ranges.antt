@@ -61,9 +61,8 @@ abbrev pub most_ticks_of_entry : ℕ
 most_ticks_of_entry = 64 * (MOST_DELAY + 4)
 
 -- what is on its way on the bus is answered soon, where no read takes more than so many ticks
-pub record IsNear (most : ℕ) (b : Bus) : Type 0 where
-  pub banks : All (λ t. t ≤ b.free + most) b.banks.ticks
-  pub held : All (λ h. h.tick ≤ b.free + most) b.held.words
+abbrev pub IsNear : ℕ → Bus → Type 0
+IsNear most b = IsBusWithin (b.free + most) b
 
 -- the ticks of a front lie close together, where no read takes more than so many ticks
 pub record IsTight (most : ℕ) (f : Front) : Type 0 where

@@ -49,14 +49,6 @@ module _ (ds : List ℕ) (past : List Past) where
 abbrev pub wanted_from : Front → ℕ
 wanted_from f = if f.serial then max f.p f.c else f.p
 
--- the entry's own words and then those of the target of EX, which wait for the last entry
-unfoldable pub words_tick : List ℕ → Front → Entry → Fetching
-words_tick ds f e =
-    fetch_words ds f.past
-    (fetch_words ds f.past (nothing_fetched f.bus)
-    (wanted_from f) e.own.first e.own.len)
-    (max (wanted_from f) f.c) e.target.first e.target.len
-
 -- ---- the address: one tick after the words are there and all that is awaited is done, and after
 -- the reads of the entries before; an entry that is done alone, and the one behind it, await the
 -- last entry
@@ -75,6 +67,11 @@ abbrev pub is_forwarded : List Past → ℕ → ℕ → Bool
 is_forwarded past w tick = nat_lt tick (latest_done past w)
 
 module _ (ds : List ℕ) (past : List Past) (b : Bus) where
+  -- the tick at which a word is there that is wanted from the tick p on: its answer, or the
+  -- completion of its latest writer where it comes from that
+  abbrev pub fill_at : ℕ → ℕ → ℕ
+  fill_at w p = if is_forwarded past w p then latest_done past w else answer_at ds b w p
+
   -- the bus behind the read of the index-side word, wanted at the address's tick
   unfoldable pub bus_sided : Option ℕ → ℕ → Bus
   bus_sided None a = b
@@ -83,7 +80,7 @@ module _ (ds : List ℕ) (past : List Past) (b : Bus) where
   -- the tick at which that word is there
   unfoldable pub side_there : Option ℕ → ℕ → ℕ
   side_there None a = 0
-  side_there (Some w) a = if is_forwarded past w a then latest_done past w else answer_at ds b w a
+  side_there (Some w) a = fill_at w a
 
 -- ---- preparation: one tick later, and later than the completion of the entry n before
 
@@ -128,24 +125,12 @@ module _ (ds : List ℕ) (past : List Past) where
       (read_words (record { bus = b; answered = p }) p reads.one.first reads.one.len)
       p reads.two.first reads.two.len
 
-  -- the tick at which an operand word is there: its answer, or the completion of its latest writer
-  -- where it is forwarded
-  unfoldable pub fill_at : Bus → ℕ → ℕ → ℕ
-  fill_at b w p = if is_forwarded past w p then latest_done past w else answer_at ds b w p
-
--- when the first two words of its first run of operands are there, 0 where the run has no such word
-unfoldable pub fills_of : List ℕ → List Past → Bus → WordRun → ℕ → List ℕ
-fills_of ds past b run p =
-    (if nat_lt 0 run.len then fill_at ds past b run.first p else 0)
-    ∷ (if nat_lt 1 run.len then fill_at ds past
-    (read_word ds past (record { bus = b; answered = p }) run.first p).bus (run.first + 1) p else 0)
-    ∷ []
-
--- ---- completion
-
--- the tick of completion: its cost after all operands are there and the entry before is done
-abbrev pub completion_tick : Front → Entry → ℕ → ℕ
-completion_tick f e r = max f.c r + e.cost
+  -- when the first two words of a run are there, 0 where the run has no such word
+  unfoldable pub fills_of : Bus → WordRun → ℕ → List ℕ
+  fills_of b run p =
+      let behind = (read_word (record { bus = b; answered = p }) run.first p).bus in
+      (if nat_lt 0 run.len then fill_at ds past b run.first p else 0)
+      ∷ (if nat_lt 1 run.len then fill_at ds past behind (run.first + 1) p else 0) ∷ []
 
 -- ---- the two following words, where they are words of storage
 
@@ -156,25 +141,33 @@ request_inside ds b w p = if nat_lt w words_of_storage then bus_after_request ds
 -- both of them, where the entry has following words
 unfoldable pub bus_followed : List ℕ → Bus → Entry → ℕ → Bus
 bus_followed ds b e p =
-    if e.follows
-    then request_inside ds (request_inside ds b (e.own.first + e.own.len) p)
-    (e.own.first + e.own.len + 1) p
-    else b
+    let w = e.own.first + e.own.len in
+    if e.follows then request_inside ds (request_inside ds b w p) (w + 1) p else b
 
 -- ---- the row of the entry e behind the front f
 
 module _ (ds : List ℕ) (f : Front) (e : Entry) where
+  -- its own instruction words are fetched
+  abbrev pub own_fetched : Fetching
+  own_fetched =
+      fetch_words ds f.past (nothing_fetched f.bus) (wanted_from f) e.own.first e.own.len
+
+  -- and then those of the target of EX, which wait for the last entry
+  unfoldable pub words_tick : Fetching
+  words_tick =
+      fetch_words ds f.past own_fetched (max (wanted_from f) f.c) e.target.first e.target.len
+
   -- when its address is formed
   unfoldable pub tick_a : ℕ
-  tick_a = address_tick f e (words_tick ds f e).answered (words_tick ds f e).awaited
+  tick_a = address_tick f e words_tick.answered words_tick.awaited
 
   -- the bus behind its instruction words and its index-side word
   unfoldable pub bus_a : Bus
-  bus_a = bus_sided ds f.past (words_tick ds f e).bus e.side tick_a
+  bus_a = bus_sided ds f.past words_tick.bus e.side tick_a
 
   -- when its index-side word is there
   unfoldable pub tick_y : ℕ
-  tick_y = side_there ds f.past (words_tick ds f e).bus e.side tick_a
+  tick_y = side_there ds f.past words_tick.bus e.side tick_a
 
 module _ (ds : List ℕ) (n : ℕ) (f : Front) (e : Entry) where
   -- when it is prepared
@@ -185,9 +178,9 @@ module _ (ds : List ℕ) (n : ℕ) (f : Front) (e : Entry) where
   unfoldable pub operands : OperandReading
   operands = operands_read ds f.past (bus_a ds f e) e.reads tick_p
 
-  -- when it is done
+  -- when it is done: its cost after all operands are there and the entry before is done
   unfoldable pub tick_c : ℕ
-  tick_c = completion_tick f e operands.answered
+  tick_c = max f.c operands.answered + e.cost
 
   -- all of these ticks
   unfoldable pub row_of_entry : EntryTicks

@@ -32,15 +32,14 @@ pub struct Log {
 // Clauses see the notes, the youngest one first.
 impl Model for Log {
     ghost use Rattle.std.specs.Prelude.{List};
-    ghost use Rattle.st_fetch.specs.Queue.{window};
-    ghost use Rattle.st_rows.specs.Notes.{IsNoteRing};
+    ghost use Rattle.st_fetch.specs.Queue.{window, IsRing};
     ghost use Rattle.st_rows.specs.declared.log.Made.{Made as Note};
 
     ghost Value = { List Note };
 
     ghost view = { λ log. window log.head log.len log.notes };
 
-    ghost invariant = { λ log. IsNoteRing log.head log.len log.notes };
+    ghost invariant = { λ log. IsRing 64 log.head log.len log.notes };
 }
 
 impl Default for Log {

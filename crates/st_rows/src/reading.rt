@@ -13,7 +13,7 @@ impl Fetching {
     // Reads the next operand word of an entry, which is wanted when that is prepared, unless an
     // earlier entry writes it that is done later. The result is the tick at which the word is
     // there.
-    #[tactic(auto, unfolding(crate::specs::Rows::read_word, crate::specs::Rows::fill_at, crate::specs::Notes::log_after_reads))]
+    #[tactic(auto, unfolding(crate::specs::Rows::read_word, crate::specs::Notes::log_after_reads))]
     pub(crate) fn read(&mut self, log: &mut Log, wanted: &Wanted<'_>, w: u32) -> u64
         requires room { IsReadingWithin (2 ^ 64 - 512) (reading_of_fetch self.old) }
         requires before { ArePastWithin (2 ^ 64 - 512) wanted.now.past.now }

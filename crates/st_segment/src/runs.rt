@@ -1,0 +1,58 @@
+//! The words of an entry that make reads, and those that it writes.
+ghost use Rattle.std.specs.Prelude.{◌≡◌};
+ghost use Rattle.st_segment.specs.Entries.{above_registers as above_registers_of, words_to_read as words_to_read_of, words_to_write as words_to_write_of, side_to_read as side_to_read_of};
+
+use st_bits::register::FIRST_STORAGE_WORD;
+use st_prep::Words;
+use st_rows::{WordRun, WordRuns};
+
+// A run of words without the registers at its front.
+#[tactic(auto, unfolding(crate::specs::Entries::above_registers))]
+fn above_registers(first: u32, len: u8) -> WordRun
+    ensures { result ≡ above_registers_of first len }
+{
+    let above = first.max(FIRST_STORAGE_WORD);
+    let registers = (above - first) as u8;
+    WordRun {
+        first: above,
+        len: len.saturating_sub(registers),
+    }
+}
+
+/// The operand words that make reads.
+#[tactic(auto, unfolding(crate::specs::Entries::words_to_read))]
+pub fn words_to_read(words: Words) -> WordRuns
+    ensures { result ≡ words_to_read_of words }
+{
+    WordRuns {
+        one: above_registers(words.first, words.len),
+        two: above_registers(words.first2, words.len2),
+    }
+}
+
+/// The words that are written.
+pub fn words_to_write(words: Words) -> WordRuns
+    ensures { result ≡ words_to_write_of words }
+{
+    WordRuns {
+        one: WordRun {
+            first: words.first,
+            len: words.len,
+        },
+        two: WordRun {
+            first: words.first2,
+            len: words.len2,
+        },
+    }
+}
+
+/// The index-side word, where it makes a read.
+#[tactic(auto, unfolding(crate::specs::Entries::side_to_read))]
+pub fn side_to_read(side: Option<u32>) -> Option<u32>
+    ensures { result ≡ side_to_read_of side }
+{
+    match side {
+        Some(w) if w >= FIRST_STORAGE_WORD => Some(w),
+        _ => None,
+    }
+}
