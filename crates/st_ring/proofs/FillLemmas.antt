@@ -13,7 +13,7 @@ use Rattle.st_exec.specs.Completion.{guess}
 use Rattle.st_rows.specs.BusTimes.{accept_at, answer_at}
 use Rattle.st_rows.specs.Entries.{is_among, latest_done}
 use Rattle.st_rows.specs.Ranges.{AreDelaysUpTo}
-use Rattle.st_rows.specs.Rows.{is_forwarded, fill_at, fills_of, fills, row_of_entry, front_after_entry, tick_p, bus_a}
+use Rattle.st_rows.specs.Rows.{is_forwarded, read_word, fill_at, fills_of, fills, row_of_entry, front_after_entry, tick_p, bus_a}
 use Rattle.st_rows.specs.declared.bus.Bus.{Bus}
 use Rattle.st_rows.specs.declared.entry.WordRun.{WordRun}
 use Rattle.st_rows.specs.declared.front.Front.{Front}
@@ -25,8 +25,8 @@ use Rattle.st_segment.specs.Guesses.{guesses}
 use Rattle.st_segment.specs.Alone.{RunAhead, is_word_written}
 use Rattle.st_segment.proofs.GuessLemmas.{guess-machine}
 use Rattle.st_segment.proofs.RestLemmas.{storage-kept}
-use Rattle.st_ring.specs.Levels.{IsLevel, AreLevels, AreFull}
-use Rattle.st_ring.specs.Slots.{fill_tick, is_there, slot_of, have_of, IsKeptSlot, put_of, coming, came_at, level_with_slot, level_with_words}
+use Rattle.st_ring.specs.Levels.{have_of, IsLevel, AreLevels, AreFull}
+use Rattle.st_ring.specs.Slots.{fill_tick, is_there, slot_of, IsKeptSlot, put_of, coming, came_at, level_with_slot, level_with_words}
 use Rattle.st_ring.specs.declared.plans.Plan.{Plan}
 use Rattle.st_ring.proofs.WriterLemmas.{take-latest, not-latest}
 
@@ -39,7 +39,6 @@ module _ (most : ℕ) (ds : List ℕ) (are : AreDelaysUpTo most ds) (past : List
   behind_if false b w p early = omega (arith, delay-bounds most ds (accept_at b w p) are, early refl)
 
   behind-writer : (b : Bus) (w p : ℕ) → latest_done past w ≤ fill_at ds past b w p
-  unfolding fill_at
   behind-writer b w p = behind_if (is_forwarded past w p) b w p (λ early. ltb-false p (latest_done past w) early)
 
   pub fills-behind : (b : Bus) (r : WordRun) (p i : ℕ) → i < 2 → i < r.len
@@ -48,7 +47,8 @@ module _ (most : ℕ) (ds : List ℕ) (are : AreDelaysUpTo most ds) (past : List
   fills-behind b r p zero few inside =
       let same : r.first + 0 ≡ r.first = omega arith in
       rw (lt-ltb 0 r.len inside, same) (behind-writer b r.first p)
-  fills-behind b r p (suc zero) few inside = rw (lt-ltb 1 r.len inside) (behind-writer _ (r.first + 1) p)
+  fills-behind b r p (suc zero) few inside =
+      rw (lt-ltb 1 r.len inside) (behind-writer (read_word ds past (record { bus = b; answered = p }) r.first p).bus (r.first + 1) p)
   fills-behind b r p (suc (suc i)) few inside = absurd (omega arith)
 
 -- the first run of words to read of an entry

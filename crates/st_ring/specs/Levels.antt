@@ -10,7 +10,7 @@ use Rattle.st_ring.specs.declared.level.Level.{Level}
 use Rattle.st_segment.specs.Entries.{entry}
 use Rattle.st_segment.specs.Guesses.{split_words}
 use Rattle.st_segment.specs.Alone.{RunAhead}
-use Rattle.st_ring.specs.Slots.{slot_of, have_of, AreKept}
+use Rattle.st_ring.specs.Slots.{slot_of, slots_of, AreKept}
 use Rattle.st_ring.specs.declared.plans.Plan.{Plan}
 use Rattle.st_ring.specs.declared.levels.Completed.{Completed}
 
@@ -30,14 +30,17 @@ pub record AreLevelsSound (n : ℕ) (ring : List Level) (plans : List Plan) : Ty
   pub prepared : All (λ level. IsPrepared level.prepared) ring
 
 module _ (ds : List ℕ) (n tick : ℕ) where
+  -- the operand words that the next entry of a state behind a front has at the tick
+  abbrev pub have_of : Option ℕ → Machine → Front → List (Option ℕ)
+  have_of t s f = slots_of (fills ds n f (entry t s)) (plan s t) s tick
+
   -- a level is the next entry of the state s behind the front f, prepared; t says whether it is a
   -- table instruction. It has no other operand words than those that are there at the tick
   pub record IsLevel (t : Option ℕ) (s : Machine) (f : Front) (level : Level)
       (q : Plan) : Type 0 where
     pub prepared : level.prepared ≡ plan s t
     pub p : level.p ≡ (row_of_entry ds n f (entry t s)).p
-    pub have : AreKept level.have (slot_of (fills ds n f (entry t s)) (plan s t) s tick 0)
-        (slot_of (fills ds n f (entry t s)) (plan s t) s tick 1)
+    pub have : AreKept level.have (slot_of (fills ds n f (entry t s)) (plan s t) s tick)
     pub front : q.front.value ≡ f
     pub r : q.r ≡ (row_of_entry ds n f (entry t s)).r
     pub c : q.c ≡ (row_of_entry ds n f (entry t s)).c
@@ -56,7 +59,7 @@ module _ (ds : List ℕ) (n tick : ℕ) where
   unfoldable pub AreFull : Option ℕ → Machine → Front → List Level → Type 0
   AreFull t s f [] = Unit {0}
   AreFull t s f (level ∷ levels) =
-      (level.have ≡ have_of ds n tick t s f) × AreFull None (guess t s)
+      (level.have ≡ have_of t s f) × AreFull None (guess t s)
       (front_after_entry ds n f (entry t s)) levels
 
   -- all of it: only the youngest level may be one that is done alone

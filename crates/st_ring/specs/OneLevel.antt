@@ -14,7 +14,5 @@ HasNumber level = IfSome level.prepared.index (λ c. c.number < 16)
 
 -- a level with an operand word that came at a tick
 abbrev pub level_with_word : Level → ℕ → ℕ → ℕ → Level
-level_with_word level slot word tick = record level {
-  r = max level.r tick;
-  have = slice_set level.have slot (Some word);
-}
+level_with_word level slot word tick =
+    record level { r = max level.r tick; have = slice_set level.have slot (Some word) }

@@ -1,5 +1,4 @@
--- Eight slots that planned rows go round.
-use Rattle.std.specs.Prelude.{◌≡◌, ℕ, ◌<◌, ◌≤◌, List, length}
+-- The planned row of an entry.
 use Rattle.st_rows.specs.declared.front.Filled.{Filled}
 use Rattle.st_rows.specs.declared.front.Front.{Front}
 use Rattle.st_ring.specs.declared.plans.Plan.{Plan}
@@ -12,9 +11,3 @@ row_of_plan f filled = record {
   c = filled.row.c;
   fills = filled.fills;
 }
-
--- a ring of at most eight planned rows
-pub record IsPlanRing (head n : ℕ) (slots : List Plan) : Type 0 where
-  pub inside : head < 8
-  pub few : n ≤ 8
-  pub whole : length slots ≡ 8

@@ -2,14 +2,10 @@
 use Rattle.std.specs.Prelude.{ℕ, ◌≡◌, ◌+◌, ◌-◌, Bool, not, ◌&&◌, ◌||◌, nat_lt, nat_le, if◌then◌else◌, List, [], ◌∷◌, get_or, slice_index_or, Option, None, Some}
 use Rattle.st_bits.specs.declared.register.TheConstants.{FIRST_STORAGE_WORD}
 use Rattle.st_state.specs.Machine.{Machine, word}
-use Rattle.st_prep.specs.Plan.{plan}
 use Rattle.st_prep.specs.FewWords.{is_transmission}
 use Rattle.st_prep.specs.declared.entries.Prepared.{Prepared}
-use Rattle.st_rows.specs.Rows.{fills}
-use Rattle.st_rows.specs.declared.front.Front.{Front}
 use Rattle.st_ring.specs.OneLevel.{level_with_word}
 use Rattle.st_ring.specs.declared.level.Level.{Level}
-use Rattle.st_segment.specs.Entries.{entry}
 
 module _ (ticks : List ℕ) (p : Prepared) where
   -- when an operand word above the registers is there, by the ticks of the first two of these words
@@ -35,23 +31,18 @@ module _ (ticks : List ℕ) (p : Prepared) where
   abbrev pub slots_of : Machine → ℕ → List (Option ℕ)
   slots_of s tick = slot_of s tick 0 ∷ slot_of s tick 1 ∷ []
 
--- those of the next entry of a state behind a front, on a machine with the delays ds and with n
--- levels
-abbrev pub have_of : List ℕ → ℕ → ℕ → Option ℕ → Machine → Front → List (Option ℕ)
-have_of ds n tick t s f = slots_of (fills ds n f (entry t s)) (plan s t) s tick
-
 -- a slot is empty, or has the word that is there
 abbrev pub IsKeptSlot : Option ℕ → Option ℕ → Type 0
 IsKeptSlot None there = Unit {0}
 IsKeptSlot (Some w) there = there ≡ Some w
 
--- so are both slots of a level, of which these words are there
-pub record AreKept (have : List (Option ℕ)) (a b : Option ℕ) : Type 0 where
+-- so are both slots of a level, by the words that are there
+pub record AreKept (have : List (Option ℕ)) (there : ℕ → Option ℕ) : Type 0 where
   pub first : Option ℕ
   pub second : Option ℕ
   pub slots : have ≡ first ∷ second ∷ []
-  pub kept_first : IsKeptSlot first a
-  pub kept_second : IsKeptSlot second b
+  pub kept_first : IsKeptSlot first (there 0)
+  pub kept_second : IsKeptSlot second (there 1)
 
 -- the word that is put into a slot, by what it has: one that is there, where it is empty
 abbrev pub put_of : Option ℕ → Option ℕ → Option ℕ

@@ -34,15 +34,14 @@ pub struct Plans {
 // Clauses see the rows, oldest first.
 impl Model for Plans {
     ghost use Rattle.std.specs.Prelude.{List};
-    ghost use Rattle.st_fetch.specs.Queue.{window};
+    ghost use Rattle.st_fetch.specs.Queue.{window, IsRing};
     ghost use Rattle.st_ring.specs.declared.plans.Plan.{Plan as Row};
-    ghost use Rattle.st_ring.specs.PlannedRows.{IsPlanRing};
 
     ghost Value = { List Row };
 
     ghost view = { λ ring. window ring.head ring.len ring.slots };
 
-    ghost invariant = { λ ring. IsPlanRing ring.head ring.len ring.slots };
+    ghost invariant = { λ ring. IsRing 8 ring.head ring.len ring.slots };
 }
 
 impl Plans {

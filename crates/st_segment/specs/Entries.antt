@@ -26,10 +26,8 @@ above_registers first n =
 
 -- its operand words that are read from storage
 unfoldable pub words_to_read : Words → WordRuns
-words_to_read w = record {
-  one = above_registers w.first w.len;
-  two = above_registers w.first2 w.len2;
-}
+words_to_read w =
+    record { one = above_registers w.first w.len; two = above_registers w.first2 w.len2 }
 
 -- the words that it writes, registers among them
 abbrev pub words_to_write : Words → WordRuns
