@@ -85,12 +85,12 @@ card-hazard_free : (halt : Bool) (n : ℕ) (ds : List ℕ) (s u : Machine) (t b 
     → IsInside (overlap_of n ds u t b now owed over halt fresh v) fresh v
 card-hazard_free halt n ds s u t b now owed false fresh v is ends done m alike = absurd (cc ends)
 card-hazard_free halt n ds s u t b now owed true false v is ends done m alike = absurd (cc done)
-card-hazard_free halt n ds s u t b now false true true v is ends done m alike = absurd (cc (is.fresh_owed refl))
-card-hazard_free halt n ds s u (Some i) b now true true true v is ends done m alike = absurd (cc (is.none_taken refl))
+card-hazard_free halt n ds s u t b now false true true v is ends done m alike = absurd (cc ((is.settled refl).0))
+card-hazard_free halt n ds s u (Some i) b now true true true v is ends done m alike = absurd (cc ((is.done refl).0))
 card-hazard_free halt n ds s u None b now true true true v is ends done m alike =
     let between : IsBetween now None s v = is.looking in
     inside-fresh halt true n ds u b now v is.some is.few is.in_time
-    (assumption (card-opened s u (opening_front (answers_before now v) v.front.c) v (alike between.machine) between.opened)) (λ e. absurd (cc e)) (is.near refl)
+    (assumption (card-opened s u (opening_front (answers_before now v) v.front.c) v (alike between.machine) between.opened)) (λ e. absurd (cc e)) (is.done refl).1
 
 pub card-inside : (halt : Bool) (n : ℕ) (ds : List ℕ) (s u : Machine) (t b : Option ℕ) (now : ℕ) (owed over fresh : Bool) (v : LookView) (order : Option Order) (card : List ℕ)
     → IsInside (overlap_of n ds s t b now owed over halt fresh v) fresh v → over ≡ true → fresh ≡ true → order ≡ s.reader → IsSome order

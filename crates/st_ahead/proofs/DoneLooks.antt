@@ -1,5 +1,5 @@
 -- What runs ahead once the oldest entry is done, and once the operands that come at the tick are there.
-use Rattle.std.proofs.Common.{◌≡◌, ℕ, zero, suc, ◌+◌, ◌*◌, ◌<◌, ◌≤◌, Bool, true, false, not, ◌&&◌, ◌||◌, List, [], ◌∷◌, ◌++◌, append_assoc, length, Option, None, refl, sym, subst, ◌∙◌, ap, arith}
+use Rattle.std.proofs.Common.{◌≡◌, ℕ, zero, suc, ◌+◌, ◌*◌, ◌<◌, ◌≤◌, Bool, true, false, not, ◌&&◌, ◌||◌, List, [], ◌∷◌, ◌++◌, append_assoc, length, inl, Option, None, refl, sym, subst, ◌∙◌, ap, arith}
 use Rattle.std.specs.Prelude.{All, IfSome, ◌==◌, if◌then◌else◌}
 use Rattle.std.proofs.lemmas.List.Elements.{All-nil, All-head, All-tail}
 use Rattle.std.proofs.lemmas.Bool.{and_parts, eqb-true, ne_eqb}
@@ -21,7 +21,7 @@ use Rattle.st_rows.proofs.MadeLemmas.{free-served}
 use Rattle.st_rows.proofs.Served.{served-asked}
 use Rattle.st_rows.proofs.Tight.{tight-after}
 use Rattle.st_ring.specs.declared.level.Level.{Level}
-use Rattle.st_segment.specs.Ahead.{front_behind}
+use Rattle.st_segment.specs.Ahead.{ahead, front_behind}
 use Rattle.st_segment.specs.Entries.{entry}
 use Rattle.st_segment.specs.Guesses.{guesses, table_behind}
 use Rattle.st_segment.proofs.EntryRanges.{entry-ranges}
@@ -31,7 +31,7 @@ use Rattle.st_ring.specs.Levels.{LevelsView, AreLevels, AreAhead, AreFull}
 use Rattle.st_ring.specs.declared.plans.Plan.{Plan}
 use Rattle.st_ring.proofs.LevelLemmas.{levels-front}
 use Rattle.st_ring.proofs.OrderLemmas.{after-c}
-use Rattle.st_next.specs.Progress.{IsNext, Rests, Waits, reads_so_far}
+use Rattle.st_next.specs.Progress.{IsNext, Rests, reads_so_far}
 use Rattle.st_next.specs.declared.next.Next.{Next}
 use Rattle.st_ahead.specs.Look.{LookView, IsLook, IsOutlook, IsNextIf, is_open, count, asked_ahead}
 use Rattle.st_ahead.proofs.Openings.{first-none, so-far}
@@ -154,7 +154,7 @@ opened-at ds n now u f next closed alone late place = (
     };
     planned = λ planned. absurd (cc (planned, closed.0));
   },
-  Waits closed.0 (omega (arith, late, wanted-alone f alone)),
+  λ un. inl (omega (arith, late, wanted-alone f alone)),
 )
 
 open-behind : (a b : Bool) → false ≡ (a && b) → (a || not b) ≡ not b
@@ -241,7 +241,7 @@ logged-behind ds n f e rest log h =
 
 asked-behind : (ds : List ℕ) (n k : ℕ) (t : Option ℕ) (s : Machine) (f : Front) (more : List Read)
     → asked_ahead ds n (suc k) t s f ++ more ≡ reads_of_entry ds n f (entry t s) ++ (asked_ahead ds n k None (guess t s) (front_after_entry ds n f (entry t s)) ++ more)
-unfolding asked_ahead
+unfolding ahead
 asked-behind ds n k t s f more =
     append_assoc (reads_of_entry ds n f (entry t s)) (asked_ahead ds n k None (guess t s) (front_after_entry ds n f (entry t s))) more
 

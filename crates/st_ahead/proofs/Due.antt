@@ -8,7 +8,7 @@ use Rattle.st_exec.specs.Completion.{guess}
 use Rattle.st_rows.specs.Asked.{fetches_asked, side_asked, formed_asked}
 use Rattle.st_rows.specs.Entries.{no_runs}
 use Rattle.st_rows.specs.Ranges.{AreDelaysUpTo, IsEntryInTime}
-use Rattle.st_rows.specs.Rows.{row_of_entry, front_after_entry, preparation_tick, address_tick, done_before, tick_a, bus_a, tick_p, tick_c}
+use Rattle.st_rows.specs.Rows.{row_of_entry, front_after_entry, preparation_tick, address_tick, done_before, tick_a, tick_p, tick_c}
 use Rattle.st_rows.specs.declared.entry.Entry.{Entry}
 use Rattle.st_rows.specs.declared.entry.WordRun.{WordRun}
 use Rattle.st_rows.specs.declared.front.Front.{Front}
@@ -101,7 +101,7 @@ pub reads-formed : (ds : List ℕ) (n : ℕ) (k : Option ℕ) (u : Machine) (f :
 reads-formed ds n k u f next is planned =
     let e = entry k u in
     let fetches : asked_so_far ds f next.own next.target ≡ fetches_asked ds f e =
-    ap₂ (λ (a b : WordRun). asked_so_far ds f a b) is.all.own is.all.target ∙ formed-fetches ds f e in
+    ap₂ (λ (a b : WordRun). asked_so_far ds f a b) is.own is.target ∙ formed-fetches ds f e in
     let sides : (if next.planned then side_asked f.past next.entry.side next.formed.a else []) ≡ side_asked f.past e.side (tick_a ds f e) =
     ap (λ b. if b then side_asked f.past next.entry.side next.formed.a else []) planned
     ∙ ap₂ (λ (x : Entry) (a : ℕ). side_asked f.past x.side a) is.entry is.address in
@@ -138,11 +138,7 @@ becomes-level ds n now t s f v some most are few early is planned due run before
       before = before;
       is_next = next;
       indicator = indicator;
-      same = all.entry;
       range = subst (λ (x : Entry). IsEntryInTime x) (sym all.entry) range;
-      address = all.address ∙ ap (tick_a ds v.front) (sym all.entry);
-      bus = all.bus ∙ ap (bus_a ds v.front) (sym all.entry);
-      tick = all.tick ∙ ap (tick_p ds n v.front) (sym all.entry);
       alone = λ serial.
           let c : v.front.c < tick_p ds n v.front e = alone-behind ds n v.front e (sym (ap (λ (x : Entry). x.serial) all.entry) ∙ serial) in
           none-guessed (count v) t s (no-levels (count v) now v.front.c late (omega (arith, c, p)));

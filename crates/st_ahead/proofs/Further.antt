@@ -1,6 +1,6 @@
 -- The next entry is known further, behind levels that are not done.
 use Rattle.std.specs.Prelude.{All, if◌then◌else◌, ◌==◌, ◌-◌, ◌^◌}
-use Rattle.std.proofs.Common.{◌≡◌, ℕ, zero, suc, ◌<◌, ◌≤◌, ◌||◌, max, Bool, true, false, not, List, [], ◌∷◌, ◌++◌, append_assoc, length, Option, refl, sym, subst, ◌∙◌, ap, arith, ◌+◌}
+use Rattle.std.proofs.Common.{◌≡◌, ℕ, zero, suc, ◌<◌, ◌≤◌, ◌||◌, max, Bool, true, false, not, List, [], ◌∷◌, ◌++◌, append_assoc, length, inl, inr, Option, refl, sym, subst, ◌∙◌, ap, arith, ◌+◌}
 use Rattle.std.proofs.lemmas.List.Elements.{All-head}
 use Rattle.st_state.specs.Machine.{Machine}
 use Rattle.st_rows.specs.Asked.{Read, bus_after_reads}
@@ -25,7 +25,7 @@ use Rattle.st_ring.proofs.LevelLemmas.{levels-beside}
 use Rattle.st_ring.proofs.OrderLemmas.{done-order}
 use Rattle.st_next.specs.Known.{IsStateBefore}
 use Rattle.st_next.specs.Going.{IsFrontInTime, GoesOnTo, IsReadFurther}
-use Rattle.st_next.specs.Progress.{IsNext, IsPlanned, IsKnown, Rests, Planned, Waits, Target, reads_so_far}
+use Rattle.st_next.specs.Progress.{IsNext, IsPlanned, IsKnown, Rests, reads_so_far}
 use Rattle.st_next.specs.declared.next.Next.{Next}
 use Rattle.st_next.proofs.Resting.{address-late}
 use Rattle.st_next.proofs.Starting.{new-reads}
@@ -37,9 +37,10 @@ use Rattle.st_ahead.proofs.Served.{served-ahead}
 -- ---- what rests up to a tick rests up to an earlier one
 
 rests-sooner : (now sooner : ℕ) (t : Option ℕ) (u : Machine) (f : Front) (next : Next) → sooner ≤ now → Rests now t u f next → Rests sooner t u f next
-rests-sooner now sooner t u f next early (Planned planned) = Planned planned
-rests-sooner now sooner t u f next early (Waits unplanned late) = Waits unplanned (omega (arith, early, late))
-rests-sooner now sooner t u f next early (Target unplanned all none some late) = Target unplanned all none some (omega (arith, early, late))
+rests-sooner now sooner t u f next early rests = λ un. elim (rests un) [
+  | inl late ↦ inl (omega (arith, early, late))
+  | inr is ↦ inr (is.0, is.1, is.2, omega (arith, early, is.3))
+]
 
 pub next-sooner : (b : Bool) (ds : List ℕ) (n now sooner : ℕ) (t : Option ℕ) (s : Machine) (v : LookView) → sooner ≤ now
     → IsNextIf b ds n now t s v → IsNextIf b ds n sooner t s v
@@ -51,7 +52,7 @@ next-sooner false ds n now sooner t s v early is = is
 
 pub next-planned : (b : Bool) (ds : List ℕ) (n now later : ℕ) (t : Option ℕ) (s : Machine) (v : LookView) → v.next.planned ≡ true
     → IsNextIf b ds n now t s v → IsNextIf b ds n later t s v
-next-planned true ds n now later t s v planned is = (is.0, Planned planned)
+next-planned true ds n now later t s v planned is = (is.0, λ un. absurd (cc (planned, un)))
 next-planned false ds n now later t s v planned is = is
 
 pub going-planned : (ds : List ℕ) (n now rest later : ℕ) (t : Option ℕ) (s : Machine) (f : Front) (v : LookView) → v.next.planned ≡ true

@@ -92,10 +92,10 @@ pub going-at : (ds : List ℕ) (n tick rest now later : ℕ) (t : Option ℕ) (s
     → v.next.planned ≡ true → v.next.formed.p ≡ now → IsGoing ds n tick rest t s f v → IsGoing ds n now later t s f v
 going-at ds n tick rest now later t s f v behind before planned due is =
     let ahead_ = ahead-rests tick now behind ds n t s f v.front v.levels is.ahead in
-    let start : f.c ≤ now + 10 = omega (arith, is.start, behind) in
-    let early : v.front.c ≤ now + 10 + most_ticks_of_entry * count v = omega (arith, is.early, behind) in
+    let start : f.c ≤ (now + 1) + 9 = omega (arith, is.start, behind) in
+    let early : v.front.c ≤ (now + 1) + 9 + most_ticks_of_entry * count v = omega (arith, is.early, behind) in
     let late : v.next.planned ≡ true → now ≤ v.next.formed.p = λ yes. omega (arith, due) in
-    assumption (All-weaker (λ (x : Level). x.p ≤ tick) (λ x. x.p ≤ now) (λ x h. omega (arith, h, behind)) v.levels.ring is.prepared, before-due ds n now now t s f v.front v.levels.ring v.levels.plans is.machine is.indicator ahead_.levels before, next-planned (is_open v) ds n rest later t s v planned is.next)
+    assumption (All-weaker (λ (x : Level). x.p < tick + 1) (λ x. x.p < now + 1) (λ x h. omega (arith, h, behind)) v.levels.ring is.prepared, before-due ds n now now t s f v.front v.levels.ring v.levels.plans is.machine is.indicator ahead_.levels before, next-planned (is_open v) ds n rest later t s v planned is.next)
 
 -- ---- to the end: the next entry is not prepared before it
 
@@ -106,7 +106,7 @@ going-gone ds n tick rest now t s f v behind before known late is =
     let start : f.c ≤ (now + 1) + 9 = omega (arith, is.start, behind) in
     let early : v.front.c ≤ (now + 1) + 9 + most_ticks_of_entry * count v = omega (arith, is.early, behind) in
     let late : v.next.planned ≡ true → (now + 1) ≤ v.next.formed.p = λ planned. omega (arith, late planned) in
-    assumption (All-weaker (λ (x : Level). x.p ≤ tick) (λ x. x.p < now + 1) (λ x h. omega (arith, h, behind)) v.levels.ring is.prepared, before-due ds n now now t s f v.front v.levels.ring v.levels.plans is.machine is.indicator ahead_.levels before, next-sooner (is_open v) ds n rest (now + 1) t s v known is.next)
+    assumption (All-weaker (λ (x : Level). x.p < tick + 1) (λ x. x.p < now + 1) (λ x h. omega (arith, h, behind)) v.levels.ring is.prepared, before-due ds n now now t s f v.front v.levels.ring v.levels.plans is.machine is.indicator ahead_.levels before, next-sooner (is_open v) ds n rest (now + 1) t s v known is.next)
 
 waits-late : (due last now p : ℕ) → (p < due → p ≤ last → ⊥) → now < due → now ≤ last → now < p
 waits-late due last now p waits before early = omega (arith, by-contra)

@@ -10,7 +10,7 @@ use Rattle.st_rows.specs.declared.front.Front.{Front}
 use Rattle.st_segment.specs.Entries.{entry}
 use Rattle.st_ahead.specs.Overlap.{Overlap, state_ahead, oldest_row, interrupt_due}
 use Rattle.st_ahead.specs.Calls.{is_done, machine_after_completion, machine_after_tick, machine_after_pass, settled_by, answer_by, machine_after_settling, answer}
-use Rattle.st_ahead.specs.RunTo.{after_ticks, may_come, IsPassed, ArePassed}
+use Rattle.st_ahead.specs.RunTo.{after_ticks, may_come_from_outside, IsPassed, ArePassed}
 use Rattle.st_ahead.specs.declared.events.Settled.TheVariants.{Goes}
 use Rattle.st_ahead.proofs.Standing.{overlap}
 
@@ -76,5 +76,5 @@ pub less-than : (a b : ℕ) → nat_le a b ≡ false → b < a
 less-than a b test = grind (arith, nat_tests)
 
 -- where no instruction may be done, something always may
-pub zero-comes : (m : Overlap) → may_come 0 m ≡ false → ⊥
+pub zero-comes : (m : Overlap) → may_come_from_outside 0 m.state ≡ false → ⊥
 zero-comes m none = let less = less-than 0 m.state.done (or_parts (nat_le 0 m.state.done) _ none).0 in omega (arith, less)

@@ -68,7 +68,7 @@ module _ (ds : List ℕ) (n now : ℕ) (ordered : AreOrdered ds n) where
       let e : Entry = entry t u in
       let p : next.formed.p ≡ tick_p ds n f e = is.tick in
       let fetches : asked_so_far ds f next.own next.target ≡ fetches_asked ds f e =
-      ap₂ (λ (a b : WordRun). asked_so_far ds f a b) is.all.own is.all.target ∙ all-fetched f e in
+      ap₂ (λ (a b : WordRun). asked_so_far ds f a b) is.own is.target ∙ all-fetched f e in
       let sides : (if next.planned then side_asked f.past next.entry.side next.formed.a else []) ≡ side_asked f.past e.side (tick_a ds f e) =
       ap (λ b. if b then side_asked f.past next.entry.side next.formed.a else []) planned
       ∙ ap₂ (λ (x : Entry) (a : ℕ). side_asked f.past x.side a) is.entry is.address in
@@ -187,7 +187,7 @@ levels-reads : (ds : List ℕ) (n tick now m : ℕ) (t k : Option ℕ) (s u : Ma
     (plans : List Plan) → AreLevels ds n tick t s f last ring plans → All (λ level. level.p < now) ring
     → k ≡ table_behind (length ring) t → u ≡ guesses (length ring) t s → now ≤ (row_of_entry ds n last (entry k u)).p → length ring < m
     → reads_before ds n now (ahead ds n m t s f) ≡ asked_ahead ds n (length ring) t s f ++ reads_of_entry ds n last (entry k u)
-unfolding AreLevels guesses ahead reads_before asked_ahead
+unfolding AreLevels guesses ahead reads_before
 levels-reads ds n tick now zero t k s u f last ring plans h each table state late more = absurd (omega arith)
 levels-reads ds n tick now (suc m) t k s u f last [] [] h each table state late more =
     let front : last ≡ f = h in
@@ -285,7 +285,7 @@ record AreFew (ds : List ℕ) (now : ℕ) (reads : List Read) (b : Bus) : Type 0
 few-ahead : (ds : List ℕ) (n tick now : ℕ) (t : Option ℕ) (s : Machine) (f last : Front) (ring : List Level) (plans : List Plan) (more : List Read)
     → AreDelaysUpTo 255 ds → IsMachine s → IfSome t (λ i. i < 64) → IsTight 255 f → AreLevels ds n tick t s f last ring plans
     → All (λ level. level.p < now) ring → 1 ≤ length ring → length more ≤ 5 → AreFew ds now (asked_ahead ds n (length ring) t s f ++ more) f.bus
-unfolding AreLevels asked_ahead row_of_entry
+unfolding AreLevels row_of_entry ahead
 few-ahead ds n tick now t s f last [] plans more are m some tight h each one few = absurd (omega (arith, one))
 few-ahead ds n tick now t s f last (level ∷ levels) [] more are m some tight h each one few = absurd h
 few-ahead ds n tick now t s f last (level ∷ []) (q ∷ qs) more are m some tight h each one few =

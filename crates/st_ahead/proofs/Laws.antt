@@ -1,7 +1,6 @@
 -- What the next entry is known by, while it is not there yet, proved.
 use Rattle.std.proofs.Common.{◌<◌, ◌≤◌, ◌+◌, arith, sym, ◌∙◌, ◌≡◌, true, ℕ, Bool, subst, None, List, All}
 use Rattle.std.proofs.lemmas.List.Elements.{All-weaker}
-use Rattle.st_ring.specs.declared.level.Level.{Level}
 use Rattle.st_ring.specs.declared.plans.Plan.{Plan}
 use Rattle.st_ahead.proofs.OpenLevels.{levels-run}
 use Rattle.st_ahead.specs.Look.{count, is_open, IsNextIf}
@@ -27,8 +26,7 @@ pub open_levels_run_ahead : OpenLevelsRunAhead
 open_levels_run_ahead = λ ds n now t s f v is early late opened.
     levels-run ds n now t s f v.front v.levels.ring v.levels.plans is.levels opened (λ two.
     levels_that_are_not_done_run_ahead ds n now (now + 1) t s f v.front v.levels is
-    (All-weaker (λ (x : Level). x.p ≤ now) (λ x. x.p < now + 1) (λ x h. omega arith) v.levels.ring early)
-    (All-weaker (λ (q : Plan). now < q.c) (λ q. now + 1 ≤ q.c) (λ q h. omega arith) v.levels.plans late) two)
+    early (All-weaker (λ (q : Plan). now < q.c) (λ q. now + 1 ≤ q.c) (λ q h. omega arith) v.levels.plans late) two)
 
 pub next_entries_are_known : NextEntriesAreKnown
 next_entries_are_known = λ ds n tick now t s f v m i is late few run. record {
@@ -68,7 +66,7 @@ instruction_words_are_those_of_the_run = record {
   fetched = λ ds n tick now t s f v look planned.
       let opened = planned-open (is_open v) ds n now t s v look.outlook.next planned in
       let next = (subst (λ (b : Bool). IsNextIf b ds n now t s v) opened look.outlook.next).0 in
-      (next.planned planned).all.found;
+      (next.planned planned).found;
 }
 
 pub openings_look : OpeningsLook

@@ -1,6 +1,6 @@
 -- At the opening of a segment nothing runs ahead.
 use Rattle.std.specs.Prelude.{All, if◌then◌else◌, Bool, true, false}
-use Rattle.std.proofs.Common.{◌≡◌, ℕ, ◌+◌, ◌<◌, ◌≤◌, max, List, [], Option, IfSome, refl, sym, subst, ◌∙◌, ap, arith}
+use Rattle.std.proofs.Common.{◌≡◌, ℕ, ◌+◌, ◌<◌, ◌≤◌, max, List, [], inl, Option, IfSome, refl, sym, subst, ◌∙◌, ap, arith}
 use Rattle.std.proofs.lemmas.List.{append-nil}
 use Rattle.std.proofs.lemmas.List.Elements.{All-nil, All-replicate}
 use Rattle.st_state.specs.Machine.{Machine, IsMachine}
@@ -20,14 +20,15 @@ use Rattle.st_rows.specs.declared.front.Front.{Front}
 use Rattle.st_rows.specs.declared.past.Past.{Past}
 use Rattle.st_rows.specs.declared.entry.WordRun.{WordRun}
 use Rattle.st_rows.proofs.NoteLemmas.{opened-log}
+use Rattle.st_segment.specs.Ahead.{ahead}
 use Rattle.st_segment.specs.Entries.{entry}
 use Rattle.st_segment.specs.Guesses.{guesses, split_words}
 use Rattle.st_segment.specs.Alone.{RunAhead}
 use Rattle.st_ring.specs.Levels.{LevelsView, AreLevels, AreAhead, AreFull}
 use Rattle.st_next.specs.Words.{words_so_far, asked_so_far, IsStart, AreFirstWords}
-use Rattle.st_next.specs.Progress.{IsNext, Rests, Waits, reads_so_far}
+use Rattle.st_next.specs.Progress.{IsNext, Rests, reads_so_far}
 use Rattle.st_next.specs.declared.next.Next.{Next}
-use Rattle.st_ahead.specs.Look.{LookView, IsLook, IsOpened, asked_ahead}
+use Rattle.st_ahead.specs.Look.{LookView, IsLook, IsOpened}
 
 abbrev none : WordRun
 none = record { first = 0; len = 0 }
@@ -117,7 +118,7 @@ next-none ds n now t s f next place no_own no_target unplanned words late alone 
     };
     planned = λ planned. absurd (cc (planned, unplanned));
   },
-  Waits unplanned (omega (arith, late, wanted_if f.serial alone)),
+  λ un. inl (omega (arith, late, wanted_if f.serial alone)),
 )
   where
     wanted_if : (b : Bool) → b ≡ false → f.p ≤ (if b then max f.p f.c else f.p)
@@ -130,7 +131,7 @@ pub opening-looks : (ds : List ℕ) (n tick now start : ℕ) (t : Option ℕ) (s
     → IsOpened t s (opening_front banks start) v → IsMachine s → IfSome t (λ i. i < 64)
     → All (λ b. b ≤ start + 255) banks.ticks → now ≤ start → start ≤ now + 9
     → IsLook ds n tick now t s (opening_front banks start) v
-unfolding asked_ahead guesses
+unfolding guesses ahead
 opening-looks ds n tick now start t s banks v is machine some early before soon =
     let f = opening_front banks start in
     let tight = opening-tight start banks early in

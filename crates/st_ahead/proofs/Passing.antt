@@ -6,7 +6,7 @@ use Rattle.std.proofs.lemmas.Bool.{or_parts}
 use Rattle.st_exec.specs.Step.{rests}
 use Rattle.st_ahead.specs.Overlap.{Overlap, interrupt_due}
 use Rattle.st_ahead.specs.Calls.{is_done, machine_after_completion, machine_after_tick, machine_after_pass, machine_after_settling, answer}
-use Rattle.st_ahead.specs.RunTo.{after_ticks, may_come, IsPassed, ArePassed}
+use Rattle.st_ahead.specs.RunTo.{after_ticks, may_come_from_outside, IsPassed, ArePassed}
 use Rattle.st_ahead.specs.declared.events.Settled.TheVariants.{Goes}
 use Rattle.st_ahead.proofs.Idling.{less-than, zero-comes, goes-passed, late-ticked}
 
@@ -81,7 +81,7 @@ ticked-now m = by (is_done m)
     by true = refl
     by false = refl
 
-few-none : (count : ℕ) (t : Overlap) → count ≤ 2 ^ 63 → may_come count t ≡ false → t.state.done < 2 ^ 63
+few-none : (count : ℕ) (t : Overlap) → count ≤ 2 ^ 63 → may_come_from_outside count t.state ≡ false → t.state.done < 2 ^ 63
 few-none count t few none = omega (arith, less-than count t.state.done (or_parts (nat_le count t.state.done) _ none).0, few)
 
 -- what a tick that is passed leaves

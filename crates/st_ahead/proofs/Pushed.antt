@@ -1,6 +1,6 @@
 -- What runs ahead once the next entry is a level.
 use Rattle.std.specs.Prelude.{All, if◌then◌else◌, ◌==◌}
-use Rattle.std.proofs.Common.{◌≡◌, ℕ, suc, ◌+◌, ◌≤◌, ◌||◌, max, Bool, true, false, not, List, [], ◌∷◌, ◌++◌, length, Option, None, refl, sym, subst, ◌∙◌, ap, arith}
+use Rattle.std.proofs.Common.{◌≡◌, ℕ, suc, ◌+◌, ◌<◌, ◌≤◌, ◌||◌, max, Bool, true, false, not, List, [], ◌∷◌, ◌++◌, length, Option, None, refl, sym, subst, ◌∙◌, ap, arith}
 use Rattle.std.proofs.lemmas.List.{append-nil}
 use Rattle.std.proofs.lemmas.List.Elements.{All-append, All-cons, All-nil}
 use Rattle.st_state.specs.Machine.{Machine}
@@ -11,7 +11,7 @@ use Rattle.st_prep.proofs.GivenLemmas.{differs}
 use Rattle.st_rows.specs.Asked.{Read, reads_of_entry, formed_asked, prepared_asked}
 use Rattle.st_rows.specs.Notes.{log_after_reads, IsLogged}
 use Rattle.st_rows.specs.Ranges.{IsTight}
-use Rattle.st_rows.specs.Rows.{front_after_entry, wanted_from}
+use Rattle.st_rows.specs.Rows.{front_after_entry, wanted_from, tick_p}
 use Rattle.st_rows.specs.declared.entry.Entry.{Entry}
 use Rattle.st_rows.specs.declared.front.Front.{Front}
 use Rattle.st_rows.proofs.Parts.{two-parts}
@@ -19,7 +19,7 @@ use Rattle.st_ring.specs.declared.level.Level.{Level}
 use Rattle.st_segment.specs.Entries.{entry}
 use Rattle.st_segment.specs.Guesses.{guesses, table_behind}
 use Rattle.st_ring.specs.Levels.{AreAhead, AreNotDone}
-use Rattle.st_next.specs.Progress.{IsPlanned, reads_so_far}
+use Rattle.st_next.specs.Progress.{reads_so_far}
 use Rattle.st_next.proofs.Starting.{new-next, new-rests, new-reads}
 use Rattle.st_ahead.specs.Look.{LookView, IsNextIf, count, is_open, asked_ahead, reads_ahead}
 use Rattle.st_ahead.specs.Going.{IsGoing, BecomesLevel}
@@ -84,16 +84,15 @@ module _ (ds : List ℕ) (n now : ℕ) (t : Option ℕ) (s : Machine) (f : Front
   logged-pushed is becomes planned counted none kept =
       let x = v.next.entry in
       let so_far = asked_ahead ds n (count v) t s f in
-      let all : IsPlanned ds n k u v.front v.next = becomes.is_next.planned planned in
       let added = prepared_asked ds n v.front x in
       let formed : reads_so_far ds v.front v.next ≡ formed_asked ds v.front x =
-      reads-formed ds n k u v.front v.next all planned ∙ ap (formed_asked ds v.front) (sym becomes.same) in
+      reads-formed ds n k u v.front v.next (becomes.is_next.planned planned) planned ∙ ap (formed_asked ds v.front) (sym (becomes.is_next.planned planned).entry) in
       let parts : reads_of_entry ds n v.front x ≡ reads_so_far ds v.front v.next ++ added =
       two-parts ds n v.front x ∙ ap (λ l. l ++ added) (sym formed) in
       let logged = logged-more ds f.bus.free so_far (reads_so_far ds v.front v.next) (reads_of_entry ds n v.front x) added f.bus v.next.words.bus v.log w.log parts
       (bus-ahead ds n now (now + 1) t s f v is.next is.ahead) kept is.logged in
       let list : so_far ++ reads_of_entry ds n v.front x ≡ reads_ahead ds n t s f w =
-      ap (λ y. so_far ++ reads_of_entry ds n v.front y) becomes.same
+      ap (λ y. so_far ++ reads_of_entry ds n v.front y) (becomes.is_next.planned planned).entry
       ∙ sym (asked-more ds n now t k s u f v.front v.levels.ring v.levels.plans refl refl is.ahead.levels)
       ∙ ap (λ j. asked_ahead ds n j t s f) (sym counted)
       ∙ sym (append-nil (asked_ahead ds n (count w) t s f))
@@ -114,17 +113,17 @@ module _ (ds : List ℕ) (n now : ℕ) (t : Option ℕ) (s : Machine) (f : Front
   unfolding front_after_entry entry
   going-pushed level p is becomes planned due ring level_p not_done ahead front tight bound plan_is place unplanned own target words kept counter =
       let counted : count w ≡ suc (count v) = ap length ring ∙ length-more v.levels.ring level in
-      let ticked : w.front.p ≡ now = ap (λ (g : Front). g.p) front ∙ sym becomes.tick ∙ due in
+      let ticked : w.front.p ≡ now = ap (λ (g : Front). g.p) front ∙ ap (tick_p ds n v.front) (becomes.is_next.planned planned).entry ∙ sym (becomes.is_next.planned planned).tick ∙ due in
       let serial : w.front.serial ≡ p.serial =
-      ap (λ (g : Front). g.serial) front ∙ ap (λ (x : Entry). x.serial) becomes.same ∙ sym (ap (λ (x : Prepared). x.serial) plan_is) in
+      ap (λ (g : Front). g.serial) front ∙ ap (λ (x : Entry). x.serial) (becomes.is_next.planned planned).entry ∙ sym (ap (λ (x : Prepared). x.serial) plan_is) in
       record {
         machine = is.machine;
         indicator = is.indicator;
         ahead = ahead;
         prepared =
-            subst (λ (l : List Level). All (λ x. x.p ≤ now) l) (sym ring)
-            (All-append (λ (x : Level). x.p ≤ now) v.levels.ring (level ∷ []) is.prepared
-            (All-cons (λ (x : Level). x.p ≤ now) level [] (omega (arith, level_p)) (All-nil (λ (x : Level). x.p ≤ now))));
+            subst (λ (l : List Level). All (λ x. x.p < now + 1) l) (sym ring)
+            (All-append (λ (x : Level). x.p < now + 1) v.levels.ring (level ∷ []) is.prepared
+            (All-cons (λ (x : Level). x.p < now + 1) level [] (omega (arith, level_p)) (All-nil (λ (x : Level). x.p < now + 1))));
         not_done = not_done;
         oldest = is.oldest;
         tight = tight;

@@ -20,9 +20,9 @@ use Rattle.st_ring.specs.declared.levels.Completed.{Completed}
 use Rattle.st_ring.proofs.RestLemmas.{ahead-rests}
 use Rattle.st_ahead.specs.Overlap.{Overlap, state_ahead, oldest_row, interrupt_due, banks_at_its_end, machine_between_ticks}
 use Rattle.st_ahead.specs.Calls.{is_done, row_done, machine_after_completion, machine_after_tick, machine_after_pass, machine_after_settling, answer, answer_by}
-use Rattle.st_ahead.specs.RunTo.{may_come, ArePassed, may_come_from_outside}
+use Rattle.st_ahead.specs.RunTo.{ArePassed, may_come_from_outside}
 use Rattle.st_ahead.specs.RowsDone.{Queue, queue_with, rows_in_ticks}
-use Rattle.st_ahead.specs.Running.{IsAwake, HasPassed}
+use Rattle.st_ahead.specs.Running.{IsAwake, IsStart, HasPassed}
 use Rattle.st_ahead.specs.Look.{LookView, IsLook, IsOutlook, count}
 use Rattle.st_ahead.specs.Going.{IsGoing, IsDueAt}
 use Rattle.st_ahead.specs.Inside.{answers_before}
@@ -66,7 +66,7 @@ module _ (ds : List ℕ) (n now : ℕ) (t : Option ℕ) (s : Machine) (f : Front
     one-passed count nothing =
         passed-one count before _ (record {
           goes = goes-done;
-          nothing = λ done. ap {A = Overlap} (may_come count) ticked-done ∙ nothing;
+          nothing = λ done. ap {A = Overlap} (λ m. may_come_from_outside count m.state) ticked-done ∙ nothing;
         }) (sym next-done)
 
 -- what goes on has nothing due, and was not misled
@@ -80,14 +80,14 @@ goes-parts None None false m goes = (refl, refl, refl)
 pub stopped-comes : (ds : List ℕ) (n count now : ℕ) (t : Option ℕ) (s : Machine) (f : Front) → (row_of_entry ds n f (entry t s)).c ≡ now
     → (may_come_from_outside count (state_after_execution t s) ≡ false → (if is_missed (plan s t) s then Some (plan s t).following else None) ≡ None
     → interrupt (state_after_execution t s) ≡ None → rests (state_after_execution t s) ≡ false → ⊥)
-    → answer (machine_after_tick (machine_between_ticks ds n s t f now)) ≡ Goes → may_come count (machine_after_tick (machine_between_ticks ds n s t f now)) ≡ true
+    → answer (machine_after_tick (machine_between_ticks ds n s t f now)) ≡ Goes → may_come_from_outside count (machine_after_tick (machine_between_ticks ds n s t f now)).state ≡ true
 unfolding answer machine_after_completion state_ahead
 stopped-comes ds n count now t s f due stops goes =
     let m = machine_after_completion (machine_between_ticks ds n s t f now) in
     let same = ticked-done ds n now t s f due in
     let goes_on : answer m ≡ Goes = ap {A = Overlap} answer (sym same) ∙ goes in
     let parts = goes-parts (interrupt_due m) m.behind (rests m.state) m goes_on in
-    ap {A = Overlap} (may_come count) same ∙ true_from_ne_false (may_come_from_outside count (state_after_execution t s)) (λ nothing. stops nothing parts.2 parts.0 parts.1)
+    ap {A = Overlap} (λ m. may_come_from_outside count m.state) same ∙ true_from_ne_false (may_come_from_outside count (state_after_execution t s)) (λ nothing. stops nothing parts.2 parts.0 parts.1)
 
 -- ---- ticks at which none is
 
@@ -147,15 +147,15 @@ start-by ds n count (suc now) t s f m some awake =
     move ds n count 0 _ (suc now) (suc now) _ t t s s f f (omega arith) (omega arith) (passed-none count (machine_between_ticks ds n s t f (suc now)))
 
 pub running-starts : (ds : List ℕ) (n count last now : ℕ) (t : Option ℕ) (s : Machine) (f : Front) (v : LookView)
-    → IsLook ds n (now - 1) now t s f v → now ≤ last → IsAwake t s → IsRunning ds n count last now t s f t s v
-running-starts ds n count last now t s f v is soon awake = record {
+    → IsStart ds n last now t s f v → IsRunning ds n count last now t s f t s v
+running-starts ds n count last now t s f v is = record {
   tick = now - 1;
   front = f;
-  passed = start-by ds n count now t s f is.outlook.machine is.outlook.indicator awake;
+  passed = start-by ds n count now t s f is.look.outlook.machine is.look.outlook.indicator is.awake;
   behind = omega arith;
-  soon = omega (arith, soon);
-  awake = awake;
-  going = look-runs ds n now t s f v is;
+  soon = omega (arith, is.soon);
+  awake = is.awake;
+  going = look-runs ds n now t s f v is.look;
 }
 
 -- so it runs, and of the entries that are done the rows wait
@@ -165,12 +165,12 @@ pub record IsNoting (ds : List ℕ) (n count last now : ℕ) (t : Option ℕ) (s
   pub noted : new ≡ queue_with (rows_in_ticks (run.tick + 1 - now) (machine_between_ticks ds n s t f now)) old
 
 pub noting-starts : (ds : List ℕ) (n count last now : ℕ) (t : Option ℕ) (s : Machine) (f : Front) (v : LookView) (q : Queue)
-    → IsLook ds n (now - 1) now t s f v → now ≤ last → IsAwake t s → IsNoting ds n count last now t s f t s v q q
+    → IsStart ds n last now t s f v → IsNoting ds n count last now t s f t s v q q
 unfolding running-starts
-noting-starts ds n count last now t s f v q is soon awake = record {
-  run = running-starts ds n count last now t s f v is soon awake;
+noting-starts ds n count last now t s f v q is = record {
+  run = running-starts ds n count last now t s f v is;
   noted = queue-none q ∙ ap {A = List Row} (λ xs. queue_with xs q)
-      (sym (rows-none (now - 1 + 1 - now) _ _ (start-by ds n 0 now t s f is.outlook.machine is.outlook.indicator awake)));
+      (sym (rows-none (now - 1 + 1 - now) _ _ (start-by ds n 0 now t s f is.look.outlook.machine is.look.outlook.indicator is.awake)));
 }
 
 -- ---- behind an entry that is done it goes on
@@ -179,16 +179,16 @@ going-done : (ds : List ℕ) (n due : ℕ) (s : Machine) (f : Front) (v : LookVi
     → IsGoing ds n due due None s f v
 going-done ds n due s f v at is =
     let ahead_ = ahead-rests (due - 1) due (omega arith) ds n None s f v.front v.levels is.ahead in
-    let start : f.c ≤ due + 10 = omega (arith, is.start) in
-    let early : v.front.c ≤ due + 10 + most_ticks_of_entry * count v = omega (arith, is.early) in
-    assumption (All-weaker (λ (x : Level). x.p < due) (λ x. x.p ≤ due) (λ x h. omega (arith, h)) v.levels.ring is.prepared, done-after ds n due due None s f v.front v.levels.ring v.levels.plans is.machine tt ahead_.levels (omega (arith, at, done-later ds n None s f is.machine tt)))
+    let start : f.c ≤ (due + 1) + 9 = omega (arith, is.start) in
+    let early : v.front.c ≤ (due + 1) + 9 + most_ticks_of_entry * count v = omega (arith, is.early) in
+    assumption (All-weaker (λ (x : Level). x.p < due) (λ x. x.p < due + 1) (λ x h. omega (arith, h)) v.levels.ring is.prepared, done-after ds n due due None s f v.front v.levels.ring v.levels.plans is.machine tt ahead_.levels (omega (arith, at, done-later ds n None s f is.machine tt)))
 
 missed-none : (b : Bool) (h : ℕ) → (if b then Some h else None) ≡ None → b ≡ false
 missed-none true h e = absurd (cc e)
 missed-none false h e = refl
 
 module _ (ds : List ℕ) (n count last now due : ℕ) (t k : Option ℕ) (s u x : Machine) (f : Front) (v w new : LookView) (done : Completed)
-    (is : IsRunning ds n count last now t s f k u v) (at : IsDueAt ds n is.tick last due k u is.front w)
+    (is : IsRunning ds n count last now t s f k u v) (at : IsDueAt ds n is.tick last k u is.front w due)
     (state : x ≡ state_after_execution k u) (told : IsCompleted ds n k u is.front done) where
   pub running-on : IsOutlook ds n (due - 1) due None (guess k u) (front_after_entry ds n is.front (entry k u)) new
       → may_come_from_outside count x ≡ false → done.missed ≡ None → interrupt x ≡ None → rests x ≡ false
@@ -224,7 +224,7 @@ row-between n ds s u t f tick number done counted address p r =
     same-row number done.address done.p done.r tick _ _ _ _ counted address p r
 
 module _ (ds : List ℕ) (n count last now due : ℕ) (t k : Option ℕ) (s u x : Machine) (f : Front) (v w new : LookView) (done : Completed)
-    (is : IsRunning ds n count last now t s f k u v) (at : IsDueAt ds n is.tick last due k u is.front w)
+    (is : IsRunning ds n count last now t s f k u v) (at : IsDueAt ds n is.tick last k u is.front w due)
     (told_of : IsCompleted ds n k u is.front done) (counted : x.done ≡ u.done + 1) where
   abbrev start : Overlap
   start = machine_between_ticks ds n s t f now
@@ -257,7 +257,7 @@ module _ (ds : List ℕ) (n count last now due : ℕ) (t k : Option ℕ) (s u x 
       ∙ ap {A = List Row} (λ xs. queue_with xs old) rows-on
 
 module _ (ds : List ℕ) (n count last now due : ℕ) (t k : Option ℕ) (s u x : Machine) (f : Front) (v w new : LookView) (done : Completed) (old mid : Queue)
-    (is : IsNoting ds n count last now t s f k u v old mid) (at : IsDueAt ds n is.run.tick last due k u is.run.front w)
+    (is : IsNoting ds n count last now t s f k u v old mid) (at : IsDueAt ds n is.run.tick last k u is.run.front w due)
     (state : x ≡ state_after_execution k u) (told_of : IsCompleted ds n k u is.run.front done) where
   pub noting-on : IsOutlook ds n (due - 1) due None (guess k u) (front_after_entry ds n is.run.front (entry k u)) new
       → may_come_from_outside count x ≡ false → done.missed ≡ None → interrupt x ≡ None → rests x ≡ false

@@ -1,11 +1,10 @@
 -- States that differ in their indicators and orders alone have the same entries ahead of them.
-use Rattle.std.specs.Prelude.{option_map}
-use Rattle.std.proofs.Common.{◌≡◌, ℕ, zero, suc, ◌<◌, ◌≤◌, Bool, true, false, List, ◌++◌, Option, None, refl, sym, subst, ◌∙◌, ap, arith}
+use Rattle.std.proofs.Common.{◌≡◌, ℕ, zero, suc, ◌<◌, ◌≤◌, Bool, true, false, List, ◌++◌, ◌⊎◌, Option, None, refl, sym, subst, ◌∙◌, ap, arith}
 use Rattle.std.proofs.lemmas.List.Elements.{All-weaker}
 use Rattle.st_state.specs.Machine.{Machine, IsMachine}
 use Rattle.st_prep.specs.BesideOrders.{AreAlikeBesideOrders}
 use Rattle.st_prep.specs.Fetch.{place_of}
-use Rattle.st_prep.specs.Plan.{needs, sight, prepared_entry, plan}
+use Rattle.st_prep.specs.Plan.{needs, sight, plan}
 use Rattle.st_exec.specs.Completion.{guess}
 use Rattle.st_segment.proofs.GuessLemmas.{guess-machine}
 use Rattle.st_rows.specs.Asked.{reads_of_entry}
@@ -13,6 +12,7 @@ use Rattle.st_rows.specs.Rows.{front_after_entry, tick_a, bus_a, tick_p}
 use Rattle.st_rows.specs.Notes.{IsLogged}
 use Rattle.st_rows.specs.declared.entry.Entry.{Entry}
 use Rattle.st_rows.specs.declared.front.Front.{Front}
+use Rattle.st_segment.specs.Ahead.{ahead}
 use Rattle.st_segment.specs.Entries.{entry}
 use Rattle.st_segment.specs.Guesses.{guesses, table_behind}
 use Rattle.st_segment.specs.Alone.{RunAhead}
@@ -23,7 +23,7 @@ use Rattle.st_ring.specs.declared.plans.Plan.{Plan}
 use Rattle.st_ring.proofs.AloneLemmas.{AwaitsLast, behind-ahead}
 use Rattle.st_ring.proofs.PassLemmas.{ahead-same, full-same}
 use Rattle.st_next.specs.Words.{AreFirstWords}
-use Rattle.st_next.specs.Progress.{IsNext, IsFoundNext, IsPlanned, Rests, Planned, Waits, Target, reads_so_far}
+use Rattle.st_next.specs.Progress.{IsNext, IsPlanned, prepared_early, Rests, wanted_next, reads_so_far}
 use Rattle.st_next.specs.declared.next.Next.{Next}
 use Rattle.st_ahead.specs.Look.{LookView, IsLook, IsOpened, IsNextIf, asked_ahead, count, is_open}
 
@@ -39,7 +39,7 @@ module _ (ds : List ℕ) (n : ℕ) where
 
   pub asked-same : (k : ℕ) (s u : Machine) (f : Front) → IsMachine s → AreAlikeBesideOrders s u → RunAhead k None s
       → asked_ahead ds n k None u f ≡ asked_ahead ds n k None s f
-  unfolding asked_ahead RunAhead
+  unfolding RunAhead ahead
   asked-same zero s u f m beside run = refl
   asked-same (suc k) s u f m beside run =
       let same = entry-same None s u beside in
@@ -49,25 +49,18 @@ module _ (ds : List ℕ) (n : ℕ) where
 
   -- ---- the entry that is prepared next
 
-  found-same : (t : Option ℕ) (s u : Machine) (next : Next) → AreAlikeBesideOrders s u → IsFoundNext t s next → IsFoundNext t u next
-  unfolding sight
-  found-same t s u next beside is =
-      let same : entry t s ≡ entry t u = sym (entry-same t s u beside) in
-      record {
-        own = is.own ∙ ap (λ (e : Entry). e.own) same;
-        target = is.target ∙ ap (λ (e : Entry). e.target) same;
-        found = is.found ∙ ap (λ v. v.fetched) (sym (same-sight s u t beside));
-      }
-
   planned-same : (t : Option ℕ) (s u : Machine) (f : Front) (next : Next) → AreAlikeBesideOrders s u
       → IsPlanned ds n t s f next → IsPlanned ds n t u f next
+  unfolding sight
   planned-same t s u f next beside is =
       let same : entry t s ≡ entry t u = sym (entry-same t s u beside) in
       let seen : sight s (place_of s t) ≡ sight u (place_of u t) = sym (same-sight s u t beside) in
       record {
-        all = found-same t s u next beside is.all;
+        own = is.own ∙ ap (λ (e : Entry). e.own) same;
+        target = is.target ∙ ap (λ (e : Entry). e.target) same;
+        found = is.found ∙ ap (λ v. v.fetched) seen;
         needs = is.needs ∙ ap needs seen;
-        prepared = is.prepared ∙ ap (λ v. prepared_entry v (option_map (λ w. 0) (needs v).index_read)) seen;
+        prepared = is.prepared ∙ ap prepared_early seen;
         entry = is.entry ∙ same;
         address = is.address ∙ ap (λ e. tick_a ds f e) same;
         bus = is.bus ∙ ap (λ e. bus_a ds f e) same;
@@ -88,11 +81,10 @@ module _ (ds : List ℕ) (n : ℕ) where
 
   rests-same : (now : ℕ) (t : Option ℕ) (s u : Machine) (f : Front) (next : Next) → AreAlikeBesideOrders s u
       → Rests now t s f next → Rests now t u f next
-  rests-same now t s u f next beside (Planned planned) = Planned planned
-  rests-same now t s u f next beside (Waits unplanned late) = Waits unplanned late
-  rests-same now t s u f next beside (Target unplanned all none some late) =
-      let same : entry t s ≡ entry t u = sym (entry-same t s u beside) in
-      Target unplanned (all ∙ ap (λ (e : Entry). e.own) same) none (subst (λ (e : Entry). 1 ≤ e.target.len) same some) late
+  rests-same now t s u f next beside rests =
+      subst (λ (e : Entry). next.planned ≡ false → (now ≤ wanted_next f next)
+      ⊎ ((next.own ≡ e.own) × (next.target.len ≡ 0) × (1 ≤ e.target.len) × (now ≤ f.c)))
+      (sym (entry-same t s u beside)) rests
 
   pub next-if_same : (b : Bool) (now : ℕ) (s u : Machine) (v : LookView) → AreAlikeBesideOrders (guesses (count v) None s) (guesses (count v) None u)
       → IsNextIf b ds n now None s v → IsNextIf b ds n now None u v

@@ -8,6 +8,7 @@ use Rattle.st_rows.specs.Rows.{front_after_entry}
 use Rattle.st_rows.specs.declared.front.Front.{Front}
 use Rattle.st_rows.proofs.Served.{served-append, served-asked}
 use Rattle.st_ring.specs.declared.level.Level.{Level}
+use Rattle.st_segment.specs.Ahead.{ahead}
 use Rattle.st_segment.specs.Entries.{entry}
 use Rattle.st_segment.specs.Guesses.{guesses, table_behind}
 use Rattle.st_segment.proofs.GuessLemmas.{behind-none}
@@ -18,7 +19,7 @@ use Rattle.st_ahead.specs.Look.{asked_ahead}
 module _ (ds : List ℕ) (n tick : ℕ) where
   pub served-ahead : (t : Option ℕ) (s : Machine) (f last : Front) (ring : List Level) (plans : List Plan)
       → AreLevels ds n tick t s f last ring plans → bus_after_reads ds (asked_ahead ds n (length ring) t s f) f.bus ≡ last.bus
-  unfolding AreLevels asked_ahead bus_after_reads
+  unfolding AreLevels bus_after_reads ahead
   served-ahead t s f last [] [] h = ap (λ (g : Front). g.bus) (sym h)
   served-ahead t s f last [] (q ∷ qs) h = absurd h
   served-ahead t s f last (level ∷ levels) [] h = absurd h
@@ -31,7 +32,7 @@ module _ (ds : List ℕ) (n tick : ℕ) where
   pub asked-more : (t k : Option ℕ) (s u : Machine) (f last : Front) (ring : List Level) (plans : List Plan)
       → k ≡ table_behind (length ring) t → u ≡ guesses (length ring) t s → AreLevels ds n tick t s f last ring plans
       → asked_ahead ds n (suc (length ring)) t s f ≡ asked_ahead ds n (length ring) t s f ++ reads_of_entry ds n last (entry k u)
-  unfolding AreLevels asked_ahead guesses
+  unfolding AreLevels guesses ahead
   asked-more t k s u f last [] [] table state h =
       append-nil (reads_of_entry ds n f (entry t s)) ∙ ap₂ (λ g e. reads_of_entry ds n g e) (sym h) (sym (ap₂ entry table state))
   asked-more t k s u f last [] (q ∷ qs) table state h = absurd h

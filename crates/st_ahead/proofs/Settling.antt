@@ -32,7 +32,7 @@ use Rattle.st_rows.specs.Ranges.{most_ticks_of_entry}
 pub quiet-inside : (halt : Bool) (n : ℕ) (ds : List ℕ) (s : Machine) (t b : Option ℕ) (now : ℕ) (owed over fresh : Bool) (v : LookView)
     → IsInside (overlap_of n ds s t b now owed over halt fresh v) fresh v → (overlap_of n ds s t b now owed over halt fresh v).closing ≡ None
     → (interrupt_due (overlap_of n ds s t b now owed over halt fresh v) ≡ None) × (rests s ≡ false) × (b ≡ None)
-quiet-inside halt n ds s t b now owed over false v is e = let quiet = is.quiet refl in (quiet.0, quiet.1, is.behind_fresh refl)
+quiet-inside halt n ds s t b now owed over false v is e = is.quiet refl
 quiet-inside halt n ds s t b now owed over true v is e = absurd (cc e)
 
 pub counted-index : (c : Option ℕ) (s : Machine) → index_words (with_counter c s) ≡ index_words s
@@ -162,7 +162,7 @@ end-hazard_free halt n ds s b now v w is m most levels opened early =
       soon = omega (arith, start, most, few);
     } in (
       inside-fresh halt true n ds s b now w is.some few is.in_time between (λ e. absurd (cc e))
-          (subst (λ (x : LastAnswers). All (λ y. y ≤ now + 255) x.ticks) (sym banks) (is.near refl)),
+          (subst (λ (x : LastAnswers). All (λ y. y ≤ now + 255) x.ticks) (sym banks) (is.done refl).1),
       sym levels,
       same-fields halt ds n s s None b b _ _ now true true _ _ refl refl (front ∙ ap (λ k. opening_front (answers_before now v) (now + 1 + k)) (sym levels)) (ap Some banks),
     )
@@ -188,7 +188,7 @@ unfolding state_ahead
 end-first halt n ds s t b now false over fresh v w is m owes ends done most levels opened early = absurd (cc owes)
 end-first halt n ds s t b now true true fresh v w is m owes ends done most levels opened early = absurd (cc ends)
 end-first halt n ds s t b now true false false v w is m owes ends done most levels opened early = absurd (cc done)
-end-first halt n ds s (Some i) b now true false true v w is m owes ends done most levels opened early = absurd (cc (is.none_taken refl))
+end-first halt n ds s (Some i) b now true false true v w is m owes ends done most levels opened early = absurd (cc ((is.done refl).0))
 end-first halt n ds s None b now true false true v w is m owes ends done most levels opened early =
     end-hazard_free halt n ds s b now v w is m most (levels-counted halt n ds s None b now true v (levels is.looking)) (opened is.looking) early
 
@@ -222,15 +222,10 @@ given-hazard_free halt n ds s t b now v w is m most levels opened =
         looking = between;
         indicator = is.indicator;
         in_time = is.in_time;
-        fresh_owed = λ e. refl;
-        ended_owed = λ e. refl;
-        stopped_owed = λ e. refl;
-        behind_fresh = is.behind_fresh;
-        done_now = λ e. absurd (cc e);
-        none_taken = λ e. absurd (cc e);
+        settled = λ e. absurd (cc e);
         quiet = is.quiet;
+        done = λ e. absurd (cc e);
         unstarted = λ e. absurd (cc e);
-        near = λ e. absurd (cc e);
       },
       sym levels,
       same-fields halt ds n s s t b b _ _ now true true None None refl refl (front ∙ ap (λ k. opening_front idle_banks (now + 1 + k)) (sym levels)) refl,
@@ -271,7 +266,7 @@ unfolding state_ahead
 ending halt n ds s t b now false over fresh v is owes ends done = absurd (cc owes)
 ending halt n ds s t b now true true fresh v is owes ends done = absurd (cc ends)
 ending halt n ds s t b now true false false v is owes ends done = absurd (cc done)
-ending halt n ds s t b now true false true v is owes ends done = record { look = is.looking; done = is.done_now refl refl; early = is.in_time }
+ending halt n ds s t b now true false true v is owes ends done = record { look = is.looking; done = (is.done refl).2 refl; early = is.in_time }
 
 pub fresh-closing : (halt : Bool) (n : ℕ) (ds : List ℕ) (s : Machine) (t b : Option ℕ) (now : ℕ) (owed over fresh : Bool) (v : LookView)
     → IsSome (overlap_of n ds s t b now owed over halt fresh v).closing → fresh ≡ true
@@ -294,15 +289,10 @@ stop-inside halt n ds s t b now owed over fresh v is owes = record {
   looking = same-looking over halt n ds s t b now owed fresh v is.looking;
   indicator = is.indicator;
   in_time = is.in_time;
-  fresh_owed = is.fresh_owed;
-  ended_owed = is.ended_owed;
-  stopped_owed = λ e. owes;
-  behind_fresh = is.behind_fresh;
-  done_now = is.done_now;
-  none_taken = is.none_taken;
+  settled = λ e. absurd (cc (sym e ∙ owes));
   quiet = is.quiet;
+  done = is.done;
   unstarted = λ e f. absurd (cc (sym e ∙ owes));
-  near = is.near;
 }
 
 -- ---- the next tick
@@ -382,19 +372,19 @@ pub look-goes : (ds : List ℕ) (n now : ℕ) (t : Option ℕ) (s : Machine) (f 
     → IsGoing ds n now now t s f v
 look-goes ds n now t s f v looks =
     let is = looks.outlook in
-    let start : f.c ≤ now + 10 = omega (arith, is.start) in
-    let early : v.front.c ≤ now + 10 + most_ticks_of_entry * count v = omega (arith, is.early) in
-    assumption (All-weaker (λ (level : Level). level.p < now) (λ level. level.p ≤ now) (λ level h. omega arith) v.levels.ring is.prepared)
+    let start : f.c ≤ (now + 1) + 9 = omega (arith, is.start) in
+    let early : v.front.c ≤ (now + 1) + 9 + most_ticks_of_entry * count v = omega (arith, is.early) in
+    assumption (All-weaker (λ (level : Level). level.p < now) (λ level. level.p < now + 1) (λ level h. omega arith) v.levels.ring is.prepared)
 
 -- the same before a tick that is not made
 pub look-runs : (ds : List ℕ) (n now : ℕ) (t : Option ℕ) (s : Machine) (f : Front) (v : LookView) → IsLook ds n (now - 1) now t s f v
     → IsGoing ds n (now - 1) (now - 1) t s f v
 look-runs ds n now t s f v looks =
     let is = looks.outlook in
-    let start : f.c ≤ (now - 1) + 10 = omega (arith, is.start) in
-    let early : v.front.c ≤ (now - 1) + 10 + most_ticks_of_entry * count v = omega (arith, is.early) in
+    let start : f.c ≤ (now - 1 + 1) + 9 = omega (arith, is.start) in
+    let early : v.front.c ≤ (now - 1 + 1) + 9 + most_ticks_of_entry * count v = omega (arith, is.early) in
     let late : v.next.planned ≡ true → (now - 1) ≤ v.next.formed.p = λ planned. omega (arith, is.late planned) in
-    assumption (All-weaker (λ (level : Level). level.p < now) (λ level. level.p ≤ now - 1) (λ level h. omega (arith, h)) v.levels.ring is.prepared, next-sooner (is_open v) ds n now (now - 1) t s v (omega arith) is.next)
+    assumption (All-weaker (λ (level : Level). level.p < now) (λ level. level.p < now - 1 + 1) (λ level h. omega (arith, h)) v.levels.ring is.prepared, next-sooner (is_open v) ds n now (now - 1) t s v (omega arith) is.next)
 
 pub going-look : (halt : Bool) (n : ℕ) (ds : List ℕ) (s : Machine) (t b : Option ℕ) (now : ℕ) (owed over fresh : Bool) (v : LookView)
     → IsInside (overlap_of n ds s t b now owed over halt fresh v) fresh v → owed ≡ true → over ≡ false → b ≡ None

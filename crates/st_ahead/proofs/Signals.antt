@@ -35,33 +35,28 @@ before-first : (halt : Bool) (n : ℕ) (ds : List ℕ) (s u : Machine) (t b : Op
     → IsInside (overlap_of n ds s t b now false over halt fresh v) fresh v → now ≡ 0 → IsMachine u → AreAlikeBesideOrders s u → LooksOn ds n now v
     → IsInside (overlap_of n ds u t b now false over halt fresh v) fresh v
 unfolding state_ahead
-before-first halt n ds s u t b now true fresh v is start m alike on = absurd (cc (is.ended_owed refl))
-before-first halt n ds s u t b now false true v is start m alike on = absurd (cc (is.fresh_owed refl))
-before-first halt n ds s u t (Some h) now false false v is start m alike on = absurd (cc (is.behind_fresh refl))
-before-first halt n ds s u (Some i) None now false false v is start m alike on = absurd (cc ((is.unstarted refl start).table))
+before-first halt n ds s u t b now true fresh v is start m alike on = absurd (cc ((is.settled refl).1))
+before-first halt n ds s u t b now false true v is start m alike on = absurd (cc ((is.settled refl).0))
+before-first halt n ds s u t (Some h) now false false v is start m alike on = absurd (cc ((is.quiet refl).2))
+before-first halt n ds s u (Some i) None now false false v is start m alike on = absurd (cc ((is.unstarted refl start).2))
 before-first halt n ds s u None None now false false v is start m alike on =
     let f = oldest_front v.levels.plans v.front in
     let un = is.unstarted refl start in
     let last : now - 1 ≡ now = omega (arith, start) in
     let look : IsLook ds n now now None s f v = subst (λ (x : ℕ). IsLook ds n x now None s f v) last is.looking in
-    let next = on s u f look look.outlook.not_done (un.start ∙ sym start) m alike in
-    let enabled : u.enabled ≡ false = alike.enabled ∙ un.enabled in
-    let waiting : u.waiting ≡ false = alike.waiting ∙ un.waiting in
+    let next = on s u f look look.outlook.not_done (un.3 ∙ sym start) m alike in
+    let enabled : u.enabled ≡ false = alike.enabled ∙ un.0 in
+    let waiting : u.waiting ≡ false = alike.waiting ∙ un.1 in
     record {
       some = is.some;
       few = is.few;
       looking = subst (λ (x : ℕ). IsLook ds n x now None u f v) (sym last) next;
       indicator = tt;
       in_time = is.in_time;
-      fresh_owed = λ e. absurd (cc e);
-      ended_owed = λ e. absurd (cc e);
-      stopped_owed = is.stopped_owed;
-      behind_fresh = λ e. refl;
-      done_now = λ e. absurd (cc e);
-      none_taken = λ e. refl;
-      quiet = λ e. (off-if u.enabled (pending u) enabled, and_left u.waiting (is_none (pending u)) waiting);
-      unstarted = λ e g. record { enabled = enabled; waiting = waiting; table = refl; start = un.start };
-      near = λ e. absurd (cc e);
+      settled = is.settled;
+      quiet = λ e. (off-if u.enabled (pending u) enabled, and_left u.waiting (is_none (pending u)) waiting, refl);
+      done = λ e. absurd (cc e);
+      unstarted = λ e g. (enabled, waiting, refl, un.3);
     }
 
 behind-done : (halt : Bool) (n : ℕ) (ds : List ℕ) (s u : Machine) (t b : Option ℕ) (now : ℕ) (over fresh : Bool) (v : LookView)
@@ -69,17 +64,17 @@ behind-done : (halt : Bool) (n : ℕ) (ds : List ℕ) (s u : Machine) (t b : Opt
     → IsInside (overlap_of n ds u t b now true over halt fresh v) fresh v
 unfolding state_ahead
 behind-done halt n ds s u t b now over false v is done m alike on = absurd (cc done)
-behind-done halt n ds s u (Some i) b now over true v is done m alike on = absurd (cc (is.none_taken refl))
+behind-done halt n ds s u (Some i) b now over true v is done m alike on = absurd (cc ((is.done refl).0))
 behind-done halt n ds s u None b now true true v is done m alike on =
     let between : IsBetween now None s v = is.looking in
     inside-fresh halt true n ds u b now v is.some is.few is.in_time
-    (assumption (opened-same None s u (opening_front (answers_before now v) v.front.c) v between.opened alike)) (λ e. absurd (cc e)) (is.near refl)
+    (assumption (opened-same None s u (opening_front (answers_before now v) v.front.c) v between.opened alike)) (λ e. absurd (cc e)) (is.done refl).1
 behind-done halt n ds s u None b now false true v is done m alike on =
     let f = oldest_front v.levels.plans v.front in
     let look : IsLook ds n now now None (with_counter b s) f v = is.looking in
-    let next = on (with_counter b s) (with_counter b u) f look look.outlook.not_done (is.done_now refl refl)
+    let next = on (with_counter b s) (with_counter b u) f look look.outlook.not_done ((is.done refl).2 refl)
     (counted-machine b s u look.outlook.machine m) (counted-alike b s u alike) in
-    inside-fresh halt false n ds u b now v is.some is.few is.in_time next (λ e. is.done_now refl refl) (is.near refl)
+    inside-fresh halt false n ds u b now v is.some is.few is.in_time next (λ e. (is.done refl).2 refl) (is.done refl).1
 
 done-fresh : (fresh : Bool) (banks : LastAnswers) → IsSome (if fresh then Some banks else None) → fresh ≡ true
 done-fresh true banks some = refl

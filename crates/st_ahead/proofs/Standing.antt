@@ -24,7 +24,7 @@ use Rattle.st_ring.specs.declared.level.Level.{Level}
 use Rattle.st_ahead.specs.Overlap.{Overlap, machine_at_start, state_ahead, with_counter, oldest_row, banks_at_its_end, interrupt_due}
 use Rattle.st_ahead.specs.Calls.{is_done, row_done, machine_after_completion, machine_after_tick}
 use Rattle.st_ahead.specs.Look.{LookView, IsLook, IsOpened}
-use Rattle.st_ahead.specs.Ticked.{IsPassedBy, IsDoneAt}
+use Rattle.st_ahead.specs.Ticked.{IsTicked, IsDoneAt}
 use Rattle.st_ahead.specs.Inside.{overlap_of, answers_before, IsLooking, IsInside}
 use Rattle.st_ahead.proofs.Openings.{opening-looks}
 use Rattle.st_ring.proofs.OrderLemmas.{after-c}
@@ -87,15 +87,10 @@ inside-fresh halt over n ds s b now v some few early looking done near = record 
   looking = looking;
   indicator = tt;
   in_time = early;
-  fresh_owed = λ e. refl;
-  ended_owed = λ e. refl;
-  stopped_owed = λ e. refl;
-  behind_fresh = λ e. absurd (cc e);
-  done_now = λ e. done;
-  none_taken = λ e. refl;
+  settled = λ e. absurd (cc e);
   quiet = λ e. absurd (cc e);
+  done = λ e. (refl, near, done);
   unstarted = λ e. absurd (cc e);
-  near = λ e. near;
 }
 
 -- between two ticks, behind the first
@@ -110,15 +105,10 @@ inside-between halt n ds s t now v some few off early look indicator due goes = 
   looking = let last : now ≡ now + 1 - 1 = omega arith in subst (λ (x : ℕ). IsLook ds n x (now + 1) t s (oldest_front v.levels.plans v.front) v) last look;
   indicator = indicator;
   in_time = omega (arith, early);
-  fresh_owed = λ e. absurd (cc e);
-  ended_owed = λ e. absurd (cc e);
-  stopped_owed = λ e. absurd (cc (sym off ∙ e));
-  behind_fresh = λ e. refl;
-  done_now = λ e. absurd (cc e);
-  none_taken = λ e. absurd (cc e);
-  quiet = λ e. (due, goes);
+  settled = λ e. (refl, refl, off);
+  quiet = λ e. (due, goes, refl);
+  done = λ e. absurd (cc e);
   unstarted = λ e first. absurd (omega (arith, first));
-  near = λ e. absurd (cc e);
 }
 
 -- ---- before the first tick
@@ -137,15 +127,10 @@ started-inside n ds s v some few m enabled waiting is =
         looking = subst (λ (f : Front). IsLook ds n 0 0 None s f v) (sym front) look;
         indicator = tt;
         in_time = omega arith;
-        fresh_owed = λ e. absurd (cc e);
-        ended_owed = λ e. absurd (cc e);
-        stopped_owed = λ e. absurd (cc e);
-        behind_fresh = λ e. refl;
-        done_now = λ e. absurd (cc e);
-        none_taken = λ e. refl;
-        quiet = λ e. (off-if s.enabled (pending s) enabled, and_left s.waiting (is_none (pending s)) waiting);
-        unstarted = λ e f. record { enabled = enabled; waiting = waiting; table = refl; start = ap (λ (g : Front). g.c) front };
-        near = λ e. absurd (cc e);
+        settled = λ e. (refl, refl, refl);
+        quiet = λ e. (off-if s.enabled (pending s) enabled, and_left s.waiting (is_none (pending s)) waiting, refl);
+        done = λ e. absurd (cc e);
+        unstarted = λ e f. (enabled, waiting, refl, ap (λ (g : Front). g.c) front);
       },
       same-fields false ds n s s None None None _ _ 0 false false None None refl refl front refl,
     )
@@ -163,10 +148,10 @@ pub idle : (halt : Bool) (n : ℕ) (ds : List ℕ) (s : Machine) (t b : Option �
     → IsInside (overlap_of n ds s t b now owed ended halt fresh v) fresh v → owed ≡ false → IsIdle n ds s t b now ended fresh v
 unfolding state_ahead
 idle halt n ds s t b now true ended fresh v is e = absurd (cc e)
-idle halt n ds s t b now false true fresh v is e = absurd (cc (is.ended_owed refl))
-idle halt n ds s t b now false false true v is e = absurd (cc (is.fresh_owed refl))
+idle halt n ds s t b now false true fresh v is e = absurd (cc ((is.settled refl).1))
+idle halt n ds s t b now false false true v is e = absurd (cc ((is.settled refl).0))
 idle halt n ds s t b now false false false v is e =
-    let behind = is.behind_fresh refl in
+    let behind = (is.quiet refl).2 in
     record {
       ended = refl;
       fresh = refl;
@@ -183,7 +168,7 @@ not-first now (level ∷ levels) each some = let early : level.p < now = All-hea
 
 pub passed-hazard_free : (halt : Bool) (n : ℕ) (ds : List ℕ) (s u : Machine) (t : Option ℕ) (now : ℕ) (v w : LookView)
     → IsInside (overlap_of n ds s t None now false false halt false v) false v → now < 2 ^ 63
-    → IsPassedBy ds n now t s (oldest_front v.levels.plans v.front) v u w
+    → IsTicked ds n now t s (oldest_front v.levels.plans v.front) v u w None
     → oldest_front w.levels.plans w.front ≡ oldest_front v.levels.plans v.front
     → IsInside (overlap_of n ds u t None now true false halt false w) false w
     × (is_done (overlap_of n ds s t None now false false halt false v) ≡ false)
@@ -191,44 +176,40 @@ pub passed-hazard_free : (halt : Bool) (n : ℕ) (ds : List ℕ) (s u : Machine)
 unfolding state_ahead oldest_row machine_after_tick
 passed-hazard_free halt n ds s u t now v w is early by front =
     let f = oldest_front v.levels.plans v.front in
-    let late : is_done (overlap_of n ds s t None now false false halt false v) ≡ false = ne_eqb (row_of_entry ds n f (entry t s)).c now by.later in
+    let late : is_done (overlap_of n ds s t None now false false halt false v) ≡ false = ne_eqb (row_of_entry ds n f (entry t s)).c now by.1 in
     let quiet = is.quiet refl in (
       record {
         some = is.some;
         few = is.few;
         looking =
-            subst (λ (x : Machine). IsLook ds n now now t x (oldest_front w.levels.plans w.front) w) (sym by.state)
-            (subst (λ (g : Front). IsLook ds n now now t s g w) (sym front) by.look);
+            subst (λ (x : Machine). IsLook ds n now now t x (oldest_front w.levels.plans w.front) w) (sym by.0)
+            (subst (λ (g : Front). IsLook ds n now now t s g w) (sym front) by.2);
         indicator = is.indicator;
         in_time = early;
-        fresh_owed = λ e. absurd (cc e);
-        ended_owed = λ e. absurd (cc e);
-        stopped_owed = λ e. refl;
-        behind_fresh = λ e. refl;
-        done_now = λ e. absurd (cc e);
-        none_taken = λ e. absurd (cc e);
+        settled = λ e. absurd (cc e);
         quiet = λ e. (
-          subst (λ (x : Machine). (if is_none t then interrupt x else None) ≡ None) (sym by.state) quiet.0,
-          subst (λ (x : Machine). rests x ≡ false) (sym by.state) quiet.1,
+          subst (λ (x : Machine). (if is_none t then interrupt x else None) ≡ None) (sym by.0) quiet.0,
+          subst (λ (x : Machine). rests x ≡ false) (sym by.0) quiet.1,
+          refl,
         );
+        done = λ e. absurd (cc e);
         unstarted = λ e. absurd (cc e);
-        near = λ e. absurd (cc e);
       },
       late,
-      same-fields halt ds n u s t None None _ f now true false None None by.state refl front refl ∙ sym (cond-false _ _ _ late),
+      same-fields halt ds n u s t None None _ f now true false None None by.0 refl front refl ∙ sym (cond-false _ _ _ late),
     )
 
 pub passed-tick : (halt : Bool) (n : ℕ) (ds : List ℕ) (s u : Machine) (t b : Option ℕ) (now : ℕ) (owed ended fresh : Bool) (v w : LookView)
     → IsInside (overlap_of n ds s t b now owed ended halt fresh v) fresh v → owed ≡ false → now < 2 ^ 63
-    → IsPassedBy ds n now t s (oldest_front v.levels.plans v.front) v u w
+    → IsTicked ds n now t s (oldest_front v.levels.plans v.front) v u w None
     → oldest_front w.levels.plans w.front ≡ oldest_front v.levels.plans v.front
     → IsInside (overlap_of n ds u t b now true ended halt fresh w) fresh w
     × (is_done (overlap_of n ds s t b now owed ended halt fresh v) ≡ false)
     × (overlap_of n ds u t b now true ended halt fresh w ≡ machine_after_tick (overlap_of n ds s t b now owed ended halt fresh v))
 passed-tick halt n ds s u t b now true ended fresh v w is e early by front = absurd (cc e)
-passed-tick halt n ds s u t b now false true fresh v w is e early by front = absurd (cc (is.ended_owed refl))
-passed-tick halt n ds s u t b now false false true v w is e early by front = absurd (cc (is.fresh_owed refl))
-passed-tick halt n ds s u t (Some h) now false false false v w is e early by front = absurd (cc (is.behind_fresh refl))
+passed-tick halt n ds s u t b now false true fresh v w is e early by front = absurd (cc ((is.settled refl).1))
+passed-tick halt n ds s u t b now false false true v w is e early by front = absurd (cc ((is.settled refl).0))
+passed-tick halt n ds s u t (Some h) now false false false v w is e early by front = absurd (cc ((is.quiet refl).2))
 passed-tick halt n ds s u t None now false false false v w is e early by front = passed-hazard_free halt n ds s u t now v w is early by front
 
 -- what runs ahead goes on by the guess
@@ -277,9 +258,9 @@ pub done-tick : (halt : Bool) (n : ℕ) (ds : List ℕ) (s u : Machine) (t b : O
     × (is_done (overlap_of n ds s t b now owed ended halt fresh v) ≡ true)
     × (overlap_of n ds u None done.missed now true ended halt true w ≡ machine_after_tick (overlap_of n ds s t b now owed ended halt fresh v))
 done-tick halt n ds s u t b now true ended fresh v w done is e early by front banks near guessed = absurd (cc e)
-done-tick halt n ds s u t b now false true fresh v w done is e early by front banks near guessed = absurd (cc (is.ended_owed refl))
-done-tick halt n ds s u t b now false false true v w done is e early by front banks near guessed = absurd (cc (is.fresh_owed refl))
-done-tick halt n ds s u t (Some h) now false false false v w done is e early by front banks near guessed = absurd (cc (is.behind_fresh refl))
+done-tick halt n ds s u t b now false true fresh v w done is e early by front banks near guessed = absurd (cc ((is.settled refl).1))
+done-tick halt n ds s u t b now false false true v w done is e early by front banks near guessed = absurd (cc ((is.settled refl).0))
+done-tick halt n ds s u t (Some h) now false false false v w done is e early by front banks near guessed = absurd (cc ((is.quiet refl).2))
 done-tick halt n ds s u t None now false false false v w done is e early by front banks near guessed = done-hazard_free halt n ds s u t now v w done is early by front banks near guessed
 
 -- ---- what is told of an entry that is done
@@ -300,9 +281,9 @@ pub row-tick : (halt : Bool) (n : ℕ) (ds : List ℕ) (s u : Machine) (t b : Op
     → IsDoneAt ds n now t s (oldest_front v.levels.plans v.front) v u w done → (state_after_execution t s).done ≡ s.done + 1
     → told u.done done.address done.p done.r now ≡ row_done (overlap_of n ds s t b now owed ended halt fresh v)
 row-tick halt n ds s u t b now true ended fresh v w done is e by number = absurd (cc e)
-row-tick halt n ds s u t b now false true fresh v w done is e by number = absurd (cc (is.ended_owed refl))
-row-tick halt n ds s u t b now false false true v w done is e by number = absurd (cc (is.fresh_owed refl))
-row-tick halt n ds s u t (Some h) now false false false v w done is e by number = absurd (cc (is.behind_fresh refl))
+row-tick halt n ds s u t b now false true fresh v w done is e by number = absurd (cc ((is.settled refl).1))
+row-tick halt n ds s u t b now false false true v w done is e by number = absurd (cc ((is.settled refl).0))
+row-tick halt n ds s u t (Some h) now false false false v w done is e by number = absurd (cc ((is.quiet refl).2))
 row-tick halt n ds s u t None now false false false v w done is e by number = row-hazard_free halt n ds s u t now v w done by number
 
 -- ---- the banks

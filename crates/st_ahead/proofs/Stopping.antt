@@ -1,6 +1,6 @@
 -- What a machine keeps once ticks are made in one call.
 use Rattle.std.specs.Prelude.{◌-◌, ◌^◌}
-use Rattle.std.proofs.Common.{◌≡◌, ℕ, ◌+◌, ◌<◌, Bool, true, false, List, Option, None, Some, refl, sym, subst, ◌∙◌, ap, arith}
+use Rattle.std.proofs.Common.{◌≡◌, ℕ, ◌+◌, ◌<◌, ◌≤◌, Bool, true, false, List, Option, None, Some, refl, sym, subst, ◌∙◌, ap, arith}
 use Rattle.st_state.specs.Machine.{Machine}
 use Rattle.st_exec.specs.Completion.{state_after_execution, guess}
 use Rattle.st_rows.specs.Rows.{front_after_entry}
@@ -10,30 +10,33 @@ use Rattle.st_ring.specs.Levels.{oldest_front}
 use Rattle.st_ring.specs.declared.levels.Completed.{Completed}
 use Rattle.st_ahead.specs.Overlap.{Overlap, state_ahead, with_counter, machine_between_ticks}
 use Rattle.st_ahead.specs.Calls.{machine_after_completion, machine_after_tick, answer}
-use Rattle.st_ahead.specs.RunTo.{may_come, ArePassed, StopsAt}
-use Rattle.st_ahead.specs.Running.{IsAwake, HasPassed, HasStopped}
+use Rattle.st_ahead.specs.RunTo.{may_come_from_outside, ArePassed, StopsAt}
+use Rattle.st_ahead.specs.Running.{IsStart, HasPassed, HasStopped}
 use Rattle.st_ahead.specs.Look.{LookView, IsLook}
 use Rattle.st_ahead.specs.Inside.{overlap_of, IsInside}
 use Rattle.st_ahead.proofs.Runs.{is-due, ticked-done, row-between}
-use Rattle.st_ahead.proofs.Standing.{same-fields, told, inside-fresh, inside-between}
+use Rattle.st_ahead.proofs.Standing.{idle, same-fields, told, inside-fresh, inside-between}
 use Rattle.st_ring.proofs.OrderLemmas.{after-c}
 
--- a machine that nothing is owed of may be awake
-pub awake-inside : (halt : Bool) (n : ℕ) (ds : List ℕ) (s : Machine) (t b : Option ℕ) (now : ℕ) (owed ended fresh : Bool) (v : LookView)
-    → IsInside (overlap_of n ds s t b now owed ended halt fresh v) fresh v → owed ≡ false → IsAwake t s
-awake-inside halt n ds s t b now true ended fresh v is e = absurd (cc e)
-awake-inside halt n ds s t b now false ended true v is e = absurd (cc (is.fresh_owed refl))
-awake-inside halt n ds s t b now false ended false v is e = let quiet = is.quiet refl in record { due = quiet.0; goes = quiet.1 }
+-- a machine that nothing is owed of may go on
+pub start-inside : (halt : Bool) (n : ℕ) (ds : List ℕ) (s : Machine) (t b : Option ℕ) (now last : ℕ) (owed ended fresh : Bool) (v : LookView)
+    → IsInside (overlap_of n ds s t b now owed ended halt fresh v) fresh v → owed ≡ false → now ≤ last
+    → IsStart ds n last now t s (oldest_front v.levels.plans v.front) v
+start-inside halt n ds s t b now last true ended fresh v is e soon = absurd (cc e)
+start-inside halt n ds s t b now last false ended true v is e soon = absurd (cc ((is.settled refl).0))
+start-inside halt n ds s t b now last false ended false v is e soon =
+    let quiet = is.quiet refl in
+    record { look = (idle halt n ds s t b now false ended false v is e).look; soon = soon; awake = record { due = quiet.0; goes = quiet.1 } }
 
 -- and is a machine between two ticks
 pub settled-between : (halt : Bool) (n : ℕ) (ds : List ℕ) (s : Machine) (t b : Option ℕ) (now : ℕ) (owed ended fresh : Bool) (v : LookView)
     → IsInside (overlap_of n ds s t b now owed ended halt fresh v) fresh v → owed ≡ false
     → machine_between_ticks ds n s t (oldest_front v.levels.plans v.front) now ≡ overlap_of n ds s t b now owed ended halt fresh v
 settled-between halt n ds s t b now true ended fresh v is e = absurd (cc e)
-settled-between halt n ds s t b now false true fresh v is e = absurd (cc (is.ended_owed refl))
-settled-between halt n ds s t b now false false true v is e = absurd (cc (is.fresh_owed refl))
-settled-between true n ds s t b now false false false v is e = absurd (cc (is.stopped_owed refl))
-settled-between false n ds s t (Some h) now false false false v is e = absurd (cc (is.behind_fresh refl))
+settled-between halt n ds s t b now false true fresh v is e = absurd (cc ((is.settled refl).1))
+settled-between halt n ds s t b now false false true v is e = absurd (cc ((is.settled refl).0))
+settled-between true n ds s t b now false false false v is e = absurd (cc ((is.settled refl).2))
+settled-between false n ds s t (Some h) now false false false v is e = absurd (cc ((is.quiet refl).2))
 settled-between false n ds s t None now false false false v is e = refl
 
 -- all ticks up to `last` are passed
@@ -55,16 +58,16 @@ pub passed-machine : (halt : Bool) (n : ℕ) (ds : List ℕ) (s u : Machine) (t 
     → IsInside (overlap_of n ds u k b (last + 1) owed ended halt fresh w) fresh w
     × ArePassed count (last + 1 - now) (overlap_of n ds s t b now owed ended halt fresh v) (overlap_of n ds u k b (last + 1) owed ended halt fresh w)
 passed-machine halt n ds s u t k b now last count true ended fresh v w is e early by front = absurd (cc e)
-passed-machine halt n ds s u t k b now last count false true fresh v w is e early by front = absurd (cc (is.ended_owed refl))
-passed-machine halt n ds s u t k b now last count false false true v w is e early by front = absurd (cc (is.fresh_owed refl))
-passed-machine true n ds s u t k b now last count false false false v w is e early by front = absurd (cc (is.stopped_owed refl))
-passed-machine false n ds s u t k (Some h) now last count false false false v w is e early by front = absurd (cc (is.behind_fresh refl))
+passed-machine halt n ds s u t k b now last count false true fresh v w is e early by front = absurd (cc ((is.settled refl).1))
+passed-machine halt n ds s u t k b now last count false false true v w is e early by front = absurd (cc ((is.settled refl).0))
+passed-machine true n ds s u t k b now last count false false false v w is e early by front = absurd (cc ((is.settled refl).2))
+passed-machine false n ds s u t k (Some h) now last count false false false v w is e early by front = absurd (cc ((is.quiet refl).2))
 passed-machine false n ds s u t k None now last count false false false v w is e early by front = passed-hazard_free n ds s u t k now last count v w is early by front
 
 -- an entry is done, behind which something may come
 stopped-hazard_free : (n : ℕ) (ds : List ℕ) (s u : Machine) (t : Option ℕ) (now last count tick number : ℕ) (v w : LookView) (done : Completed)
     → IsInside (overlap_of n ds s t None now false false false false v) false v → last < 2 ^ 63
-    → (is : HasStopped ds n count last now tick t s (oldest_front v.levels.plans v.front) None u w done)
+    → (is : HasStopped ds n count last now t s (oldest_front v.levels.plans v.front) None u w tick done)
     → oldest_front w.levels.plans w.front ≡ front_after_entry ds n is.front (entry is.table is.state)
     → with_counter done.missed u ≡ guess is.table is.state → number ≡ is.state.done + 1
     → IsInside (overlap_of n ds u None done.missed tick true false false true w) true w
@@ -92,23 +95,23 @@ stopped-hazard_free n ds s u t now last count tick number v w done is early by f
         soon = by.soon;
         row_is = row-between n ds by.state u by.table f tick number done counted at.told.address at.told.p at.told.r;
         after = after_;
-        stops = λ goes. ap {A = Overlap} (may_come count) after_ ∙ by.stops (ap {A = Overlap} answer (sym after_) ∙ goes);
+        stops = λ goes. ap {A = Overlap} (λ m. may_come_from_outside count m.state) after_ ∙ by.stops (ap {A = Overlap} answer (sym after_) ∙ goes);
       },
     )
 
 pub stopped-machine : (halt : Bool) (n : ℕ) (ds : List ℕ) (s u : Machine) (t k b : Option ℕ) (now last count tick number : ℕ) (owed ended fresh : Bool) (v w : LookView) (done : Completed)
     → IsInside (overlap_of n ds s t b now owed ended halt fresh v) fresh v → owed ≡ false → last < 2 ^ 63
-    → (is : HasStopped ds n count last now tick t s (oldest_front v.levels.plans v.front) k u w done)
+    → (is : HasStopped ds n count last now t s (oldest_front v.levels.plans v.front) k u w tick done)
     → oldest_front w.levels.plans w.front ≡ front_after_entry ds n is.front (entry is.table is.state)
     → with_counter done.missed u ≡ guess is.table is.state → number ≡ is.state.done + 1
     → IsInside (overlap_of n ds u k done.missed tick true ended halt true w) true w
     × StopsAt count last (told number done.address done.p done.r tick) (overlap_of n ds s t b now owed ended halt fresh v)
     (overlap_of n ds u k done.missed tick true ended halt true w)
 stopped-machine halt n ds s u t k b now last count tick number true ended fresh v w done is e early by front guessed counted = absurd (cc e)
-stopped-machine halt n ds s u t k b now last count tick number false true fresh v w done is e early by front guessed counted = absurd (cc (is.ended_owed refl))
-stopped-machine halt n ds s u t k b now last count tick number false false true v w done is e early by front guessed counted = absurd (cc (is.fresh_owed refl))
-stopped-machine true n ds s u t k b now last count tick number false false false v w done is e early by front guessed counted = absurd (cc (is.stopped_owed refl))
-stopped-machine false n ds s u t k (Some h) now last count tick number false false false v w done is e early by front guessed counted = absurd (cc (is.behind_fresh refl))
+stopped-machine halt n ds s u t k b now last count tick number false true fresh v w done is e early by front guessed counted = absurd (cc ((is.settled refl).1))
+stopped-machine halt n ds s u t k b now last count tick number false false true v w done is e early by front guessed counted = absurd (cc ((is.settled refl).0))
+stopped-machine true n ds s u t k b now last count tick number false false false v w done is e early by front guessed counted = absurd (cc ((is.settled refl).2))
+stopped-machine false n ds s u t k (Some h) now last count tick number false false false v w done is e early by front guessed counted = absurd (cc ((is.quiet refl).2))
 stopped-machine false n ds s u t (Some i) None now last count tick number false false false v w done is e early by front guessed counted = absurd (cc by.none_taken)
 stopped-machine false n ds s u t None None now last count tick number false false false v w done is e early by front guessed counted =
     stopped-hazard_free n ds s u t now last count tick number v w done is early by front guessed counted

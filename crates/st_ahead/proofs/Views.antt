@@ -16,7 +16,6 @@ use Rattle.st_ring.specs.declared.plans.Plan.{Plan}
 use Rattle.st_ahead.specs.Overlap.{Overlap, state_ahead, levels_of, last_tick_made}
 use Rattle.st_ahead.specs.Look.{LookView, count}
 use Rattle.st_ahead.specs.Shown.{word_before_change, level_shown, view_at_tick, lent_index_words}
-use Rattle.st_ahead.specs.Inside.{kept_shown, kept_at}
 use Rattle.st_ahead.specs.declared.events.LevelView.{LevelView}
 use Rattle.st_ahead.specs.declared.events.View.{View}
 use Rattle.st_ahead.proofs.Showing.{IsShowing, showing-count}
@@ -42,45 +41,40 @@ same-shown : (a b : Prepared) (p q r x tick : ℕ) → a ≡ b → p ≡ q → r
 same-shown a b p q r x tick e g h = rw (e, g, h) refl
 
 one-shown : (ds : List ℕ) (n tick now : ℕ) (t : Option ℕ) (s : Machine) (f : Front) (level : Level) (q : Plan) → IsLevel ds n tick t s f level q
-    → kept_shown now level q ≡ level_shown now (next_ahead ds n t s f)
+    → at level.prepared level.p q.r now ≡ level_shown now (next_ahead ds n t s f)
 one-shown ds n tick now t s f level q is =
     same-shown level.prepared (plan s t) level.p (row_of_entry ds n f (entry t s)).p q.r (row_of_entry ds n f (entry t s)).r now is.prepared is.p is.r
 
-level-at : (ds : List ℕ) (n tick now k : ℕ) (t : Option ℕ) (s : Machine) (f last : Front) (ring : List Level) (plans : List Plan) (rest : List (Option LevelView))
-    → AreLevels ds n tick t s f last ring plans → ((j : ℕ) → get_or rest j None ≡ None)
-    → kept_at now ring plans k ≡ get_or (map (λ a. Some (level_shown now a)) (ahead ds n (length ring) t s f) ++ rest) k None
-unfolding AreLevels ahead kept_at
-level-at ds n tick now k t s f last [] [] rest is none = sym (none k)
-level-at ds n tick now k t s f last [] (p ∷ ps) rest is none = absurd is
-level-at ds n tick now k t s f last (l ∷ ls) [] rest is none = absurd is
-level-at ds n tick now zero t s f last (l ∷ ls) (p ∷ ps) rest is none = ap (λ x. Some x) (one-shown ds n tick now t s f l p is.0)
-level-at ds n tick now (suc k) t s f last (l ∷ ls) (p ∷ ps) rest is none =
-    level-at ds n tick now k None (guess t s) (front_after_entry ds n f (entry t s)) last ls ps rest is.1 none
+-- level k is entry k ahead
+pub none-shown : (ds : List ℕ) (n now m k : ℕ) (t : Option ℕ) (s : Machine) (f : Front) → m ≤ k
+    → None ≡ get_or (map (λ a. Some (level_shown now a)) (ahead ds n m t s f)) k None
+unfolding ahead
+none-shown ds n now zero k t s f few = refl
+none-shown ds n now (suc m) zero t s f few = absurd (omega (arith, few))
+none-shown ds n now (suc m) (suc k) t s f few = none-shown ds n now m k None (guess t s) (front_after_entry ds n f (entry t s)) (omega (arith, few))
+
+pub some-shown : (ds : List ℕ) (n tick now k : ℕ) (t : Option ℕ) (s : Machine) (f last : Front) (ring : List Level) (plans : List Plan) (level : Level) (q : Plan)
+    → AreLevels ds n tick t s f last ring plans → slice_get ring k ≡ Some level → slice_get plans k ≡ Some q
+    → Some (at level.prepared level.p q.r now) ≡ get_or (map (λ a. Some (level_shown now a)) (ahead ds n (length ring) t s f)) k None
+unfolding AreLevels ahead
+some-shown ds n tick now k t s f last [] plans level q is there planned = absurd (cc there)
+some-shown ds n tick now k t s f last (l ∷ ls) [] level q is there planned = absurd is
+some-shown ds n tick now zero t s f last (l ∷ ls) (p ∷ ps) level q is there planned =
+    let same : level ≡ l = cc in
+    let beside : q ≡ p = cc in
+    rw (same, beside) (ap (λ x. Some x) (one-shown ds n tick now t s f l p is.0))
+some-shown ds n tick now (suc k) t s f last (l ∷ ls) (p ∷ ps) level q is there planned =
+    some-shown ds n tick now k None (guess t s) (front_after_entry ds n f (entry t s)) last ls ps level q is.1 there planned
 
 none-at : (m k : ℕ) → get_or (replicate m hidden) k None ≡ None
 none-at zero k = refl
 none-at (suc m) zero = refl
 none-at (suc m) (suc k) = none-at m k
 
--- ---- what is kept of level k
-
-pub kept-none : (tick k : ℕ) (ring : List Level) (plans : List Plan) → length ring ≤ k → None ≡ kept_at tick ring plans k
-unfolding kept_at
-kept-none tick k [] plans few = refl
-kept-none tick k (l ∷ ls) [] few = refl
-kept-none tick zero (l ∷ ls) (p ∷ ps) few = absurd (omega (arith, few))
-kept-none tick (suc k) (l ∷ ls) (p ∷ ps) few = kept-none tick k ls ps (omega (arith, few))
-
-kept-first : (tick : ℕ) (l level : Level) (p q : Plan) → Some l ≡ Some level → Some p ≡ Some q → Some (kept_shown tick level q) ≡ Some (kept_shown tick l p)
-kept-first tick l level p q a b = let same : l ≡ level = cc in let planned : p ≡ q = cc in rw (same, planned) refl
-
-pub kept-some : (tick k : ℕ) (ring : List Level) (plans : List Plan) (level : Level) (q : Plan) → slice_get ring k ≡ Some level → slice_get plans k ≡ Some q
-    → Some (kept_shown tick level q) ≡ kept_at tick ring plans k
-unfolding kept_at
-kept-some tick k [] plans level q there planned = absurd (cc there)
-kept-some tick k (l ∷ ls) [] level q there planned = absurd (cc planned)
-kept-some tick zero (l ∷ ls) (p ∷ ps) level q there planned = kept-first tick l level p q there planned
-kept-some tick (suc k) (l ∷ ls) (p ∷ ps) level q there planned = kept-some tick k ls ps level q there planned
+more-none : (xs : List (Option LevelView)) (m k : ℕ) → get_or xs k None ≡ get_or (xs ++ replicate m hidden) k None
+more-none [] m k = sym (none-at m k)
+more-none (x ∷ xs) m zero = refl
+more-none (x ∷ xs) m (suc k) = more-none xs m k
 
 abbrev pub level-of : ℕ → ℕ → Option ℕ → ℕ → Bool → LevelView
 level-of address p index kept ready = record { address = address; p = p; index = index; kept = kept; ready = ready }
@@ -92,13 +86,12 @@ some-kept address p index number kept word ready a b = rw (a, b) refl
 -- ---- all of them
 
 pub showing-level : (m : Overlap) (v : LookView) (k : ℕ) → IsShowing m v
-    → kept_at (last_tick_made m) v.levels.ring v.levels.plans k ≡ get_or (view_at_tick m).levels k None
+    → get_or (map (λ a. Some (level_shown (last_tick_made m) a)) (ahead m.delays m.levels (count v) m.taken (state_ahead m) m.front)) k None
+    ≡ get_or (view_at_tick m).levels k None
 unfolding view_at_tick
 showing-level m v k is =
-    let left = 8 - length (levels_of m) in
-    level-at m.delays m.levels (last_tick_made m) (last_tick_made m) k m.taken (state_ahead m) m.front v.front v.levels.ring v.levels.plans (replicate left None) is.look.outlook.ahead.levels
-    (λ j. none-at left j)
-    ∙ ap (λ (levels : List Ahead). get_or (map (λ a. Some (level_shown (last_tick_made m) a)) levels ++ replicate left None) k None) (sym is.levels)
+    ap (λ levels. get_or (map (λ (a : Ahead). Some (level_shown (last_tick_made m) a)) levels) k None) (sym is.levels)
+    ∙ more-none (map (λ a. Some (level_shown (last_tick_made m) a)) (levels_of m)) (8 - length (levels_of m)) k
 
 pub showing-eight : (m : Overlap) (v : LookView) → IsShowing m v → count v ≤ 8 → length (view_at_tick m).levels ≡ 8
 unfolding view_at_tick

@@ -1,18 +1,14 @@
 -- What a machine keeps, so that it stands for what it does.
-use Rattle.std.specs.Prelude.{ℕ, ◌≡◌, ◌+◌, ◌<◌, ◌≤◌, ◌^◌, Bool, true, false, if◌then◌else◌, zero, suc, nat_le, All, List, [], ◌∷◌, Option, None, Some, IfSome, option_map}
+use Rattle.std.specs.Prelude.{ℕ, ◌≡◌, ◌+◌, ◌<◌, ◌≤◌, ◌^◌, Bool, true, false, if◌then◌else◌, All, List, Option, None, Some}
 use Rattle.st_bits.specs.declared.limits.TheConstants.{MOST_DELAY}
 use Rattle.st_state.specs.Machine.{Machine, IsMachine}
 use Rattle.st_banks.specs.declared.answers.LastAnswers.{LastAnswers}
 use Rattle.st_exec.specs.Step.{rests}
 use Rattle.st_rows.specs.Notes.{answers_left}
 use Rattle.st_rows.specs.Rows.{opening_front}
-use Rattle.st_ring.specs.declared.level.Level.{Level}
 use Rattle.st_ring.specs.Levels.{oldest_front}
-use Rattle.st_ring.specs.declared.plans.Plan.{Plan}
 use Rattle.st_ahead.specs.Overlap.{Overlap, state_ahead, interrupt_due, last_tick_made}
 use Rattle.st_ahead.specs.Look.{LookView, IsLook, IsOpened}
-use Rattle.st_ahead.specs.Shown.{word_before_change}
-use Rattle.st_ahead.specs.declared.events.LevelView.{LevelView}
 use Rattle.st_segment.specs.Entries.{IsTable}
 
 -- the last answers of the banks by the reads that are accepted before the tick
@@ -55,42 +51,18 @@ abbrev pub IsInTime : Bool → ℕ → Type 0
 IsInTime true now = now < 2 ^ 63
 IsInTime false now = now ≤ 2 ^ 63
 
--- before the first tick nothing is enabled, and nothing waits
-pub record IsUnstarted (m : Overlap) : Type 0 where
-  pub enabled : m.state.enabled ≡ false
-  pub waiting : m.state.waiting ≡ false
-  pub table : m.taken ≡ None
-  pub start : m.front.c ≡ 0
-
--- a machine and what runs ahead of it
+-- a machine and what runs ahead of it; before the first tick nothing is enabled, and nothing waits
 pub record IsInside (m : Overlap) (fresh : Bool) (v : LookView) : Type 0 where
   pub some : 1 ≤ m.levels
   pub few : m.levels ≤ 8
   pub looking : IsLooking m.ended m v
   pub indicator : IsTable m.taken
   pub in_time : IsInTime m.owed m.now
-  pub fresh_owed : fresh ≡ true → m.owed ≡ true
-  pub ended_owed : m.ended ≡ true → m.owed ≡ true
-  pub stopped_owed : m.stopped ≡ true → m.owed ≡ true
-  pub behind_fresh : fresh ≡ false → m.behind ≡ None
-  pub done_now : fresh ≡ true → m.ended ≡ false → m.front.c ≡ m.now
-  pub none_taken : fresh ≡ true → m.taken ≡ None
-  pub quiet : fresh ≡ false → (interrupt_due m ≡ None) × (rests m.state ≡ false)
-  pub unstarted : m.owed ≡ false → m.now ≡ 0 → IsUnstarted m
-  pub near : fresh ≡ true → All (λ b. b ≤ m.now + MOST_DELAY) (answers_before m.now v).ticks
-
--- a level as it is shown at a tick, by what is kept of it
-abbrev pub kept_shown : ℕ → Level → Plan → LevelView
-kept_shown tick level q = record {
-  address = level.prepared.place.address;
-  p = level.p;
-  index = option_map (λ c. c.number) level.prepared.index;
-  kept = word_before_change level.prepared.index;
-  ready = nat_le q.r tick;
-}
-
--- level k, counted from the oldest
-unfoldable pub kept_at : ℕ → List Level → List Plan → ℕ → Option LevelView
-kept_at tick (level ∷ levels) (q ∷ qs) zero = Some (kept_shown tick level q)
-kept_at tick (level ∷ levels) (q ∷ qs) (suc k) = kept_at tick levels qs k
-kept_at tick _ _ k = None
+  pub settled : m.owed ≡ false → (fresh ≡ false) × (m.ended ≡ false) × (m.stopped ≡ false)
+  pub quiet : fresh ≡ false →
+      (interrupt_due m ≡ None) × (rests m.state ≡ false) × (m.behind ≡ None)
+  pub done : fresh ≡ true →
+      (m.taken ≡ None) × All (λ b. b ≤ m.now + MOST_DELAY) (answers_before m.now v).ticks
+      × (m.ended ≡ false → m.front.c ≡ m.now)
+  pub unstarted : m.owed ≡ false → m.now ≡ 0 →
+      (m.state.enabled ≡ false) × (m.state.waiting ≡ false) × (m.taken ≡ None) × (m.front.c ≡ 0)

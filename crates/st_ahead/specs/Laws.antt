@@ -25,7 +25,7 @@ use Rattle.st_segment.specs.Ahead.{ahead, prepared_before, reads_before}
 abbrev pub OpenLevelsRunAhead : Type 0
 OpenLevelsRunAhead = (ds : List ℕ) (n now : ℕ) (t : Option ℕ) (s : Machine) (f : Front)
     (v : LookView) →
-    AreAhead ds n now t s f v.front v.levels → All (λ level. level.p ≤ now) v.levels.ring →
+    AreAhead ds n now t s f v.front v.levels → All (λ level. level.p < now + 1) v.levels.ring →
     AreNotDone now v.levels → is_open v ≡ true → RunAhead (count v) t s
 
 -- So the state before the next entry agrees with the one that stands in all that it is known by.

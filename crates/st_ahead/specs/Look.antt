@@ -1,17 +1,17 @@
 -- What a machine keeps of what runs ahead: its levels, the front behind them, the log of reads, and
 -- the entry that is prepared next.
-use Rattle.std.specs.Prelude.{ℕ, zero, suc, ◌≡◌, ◌+◌, ◌*◌, ◌≤◌, ◌<◌, Bool, true, false, not, ◌||◌, ◌==◌, List, [], ◌++◌, length, All, Option, None, IfSome}
+use Rattle.std.specs.Prelude.{ℕ, ◌≡◌, ◌+◌, ◌*◌, ◌≤◌, ◌<◌, Bool, true, false, not, ◌||◌, ◌==◌, List, [], ◌++◌, length, All, flat_map, Option}
 use Rattle.st_bits.specs.declared.limits.TheConstants.{MOST_DELAY}
 use Rattle.st_state.specs.Machine.{Machine, IsMachine}
 use Rattle.st_prep.specs.Fetch.{index_words, place_of}
-use Rattle.st_exec.specs.Completion.{guess}
-use Rattle.st_rows.specs.Rows.{front_after_entry, nothing_fetched}
+use Rattle.st_rows.specs.Rows.{nothing_fetched}
 use Rattle.st_rows.specs.Notes.{IsLogged}
 use Rattle.st_rows.specs.Ranges.{IsTight, most_ticks_of_entry}
 use Rattle.st_rows.specs.Asked.{Read, reads_of_entry}
 use Rattle.st_rows.specs.declared.front.Front.{Front}
 use Rattle.st_rows.specs.declared.log.Made.{Made}
-use Rattle.st_segment.specs.Entries.{entry, IsTable}
+use Rattle.st_segment.specs.Entries.{IsTable}
+use Rattle.st_segment.specs.Ahead.{Ahead, ahead}
 use Rattle.st_segment.specs.Guesses.{guesses, table_behind}
 use Rattle.st_ring.specs.Levels.{LevelsView, AreAhead, AreFull, AreNotDone}
 use Rattle.st_next.specs.Progress.{IsNext, Rests, reads_so_far}
@@ -26,11 +26,9 @@ pub record LookView : Type 0 where
   pub next : Next
 
 -- the reads of the next k entries
-unfoldable pub asked_ahead : List ℕ → ℕ → ℕ → Option ℕ → Machine → Front → List Read
-asked_ahead ds n zero t s f = []
-asked_ahead ds n (suc k) t s f =
-    reads_of_entry ds n f (entry t s) ++ asked_ahead ds n k None (guess t s)
-    (front_after_entry ds n f (entry t s))
+abbrev pub asked_ahead : List ℕ → ℕ → ℕ → Option ℕ → Machine → Front → List Read
+asked_ahead ds n k t s f =
+    flat_map (λ (a : Ahead). reads_of_entry ds n a.front a.entry) (ahead ds n k t s f)
 
 -- the entry that is prepared next can be known: the youngest level is not done alone
 abbrev pub is_open : LookView → Bool
@@ -55,27 +53,32 @@ IsNextIf false ds n now t s v =
 abbrev pub reads_ahead : List ℕ → ℕ → Option ℕ → Machine → Front → LookView → List Read
 reads_ahead ds n t s f v = asked_ahead ds n (count v) t s f ++ reads_so_far ds v.front v.next
 
+-- What runs ahead of the state s, behind the front f of the oldest entry that is not done; t says
+-- whether that is a table instruction. Levels are prepared before `now`, and not done at `tick` or
+-- before it; no operand word stands in a slot that comes behind `tick`. The next entry is prepared
+-- at `first` or later, and nothing more of it can be known before `rest`.
+pub record IsForecast (ds : List ℕ) (n tick now first rest : ℕ) (t : Option ℕ) (s : Machine)
+    (f : Front) (v : LookView) : Type 0 where
+  pub machine : IsMachine s
+  pub indicator : IsTable t
+  pub ahead : AreAhead ds n tick t s f v.front v.levels
+  pub prepared : All (λ level. level.p < now) v.levels.ring
+  pub not_done : AreNotDone tick v.levels
+  pub oldest : IsTight MOST_DELAY f
+  pub tight : IsTight MOST_DELAY v.front
+  pub start : f.c ≤ now + 9
+  pub early : v.front.c ≤ now + 9 + most_ticks_of_entry * count v
+  pub next : IsNextIf (is_open v) ds n rest t s v
+  pub late : v.next.planned ≡ true → first ≤ v.next.formed.p
+  pub logged : IsLogged ds f.bus.free (reads_ahead ds n t s f v) f.bus v.log
+
 module _ (ds : List ℕ) (n tick now : ℕ) (t : Option ℕ) (s : Machine) (f : Front)
     (v : LookView) where
-  -- What runs ahead of the state s, behind the front f of the oldest entry that is not done; t says
-  -- whether that is a table instruction. Entries that are prepared before `now` are levels, and
-  -- those are not done at `tick` or before it; no operand word stands in a slot that comes behind
-  -- `tick`.
-  pub record IsOutlook : Type 0 where
-    pub machine : IsMachine s
-    pub indicator : IsTable t
-    pub ahead : AreAhead ds n tick t s f v.front v.levels
-    pub prepared : All (λ level. level.p < now) v.levels.ring
-    pub not_done : AreNotDone tick v.levels
-    pub oldest : IsTight MOST_DELAY f
-    pub tight : IsTight MOST_DELAY v.front
-    pub start : f.c ≤ now + 9
-    pub early : v.front.c ≤ now + 9 + most_ticks_of_entry * count v
-    pub next : IsNextIf (is_open v) ds n now t s v
-    pub late : v.next.planned ≡ true → now ≤ v.next.formed.p
-    pub logged : IsLogged ds f.bus.free (reads_ahead ds n t s f v) f.bus v.log
+  -- the levels are the entries that are prepared before `now`
+  abbrev pub IsOutlook : Type 0
+  IsOutlook = IsForecast ds n tick now now now t s f v
 
-  -- The same with the slots of levels filled up to `tick`.
+  -- the same with the slots of levels filled up to `tick`
   pub record IsLook : Type 0 where
     pub outlook : IsOutlook
     pub full : AreFull ds n tick t s f v.levels.ring

@@ -22,6 +22,6 @@ rows_in_ticks (suc k) m =
 
 -- how many ticks are passed from `now` on: those before the tick at which the entry is done that it
 -- stops behind, or those up to the tick `last`
-abbrev pub ticks_passed : ℕ → ℕ → Option Row → ℕ
-ticks_passed last now (Some row) = row.c - now
+abbrev pub ticks_passed : ℕ → ℕ → Option ℕ → ℕ
+ticks_passed last now (Some tick) = tick - now
 ticks_passed last now None = last + 1 - now

@@ -19,15 +19,12 @@ abbrev pub may_come_from_outside : ℕ → Machine → Bool
 may_come_from_outside count s = nat_le count s.done
     || (is_due s.done s.reader || is_due s.done s.printer)
 
--- the same of an overlapped machine
-abbrev pub may_come : ℕ → Overlap → Bool
-may_come count m = may_come_from_outside count m.state
-
 -- behind the next tick it is decided that the machine goes on; and if an entry is done at it,
 -- nothing may come from outside
 pub record IsPassed (count : ℕ) (m : Overlap) : Type 0 where
   pub goes : answer (machine_after_tick m) ≡ Goes
-  pub nothing : is_done m ≡ true → may_come count (machine_after_tick m) ≡ false
+  pub nothing : is_done m ≡ true →
+      may_come_from_outside count (machine_after_tick m).state ≡ false
 
 -- so are the next k ticks, and leave the machine `new`
 pub record ArePassed (count k : ℕ) (old new : Overlap) : Type 0 where
@@ -45,7 +42,7 @@ pub record StopsAt (count last : ℕ) (row : Row) (old new : Overlap) : Type 0 w
   pub soon : before.now ≤ last
   pub row_is : row ≡ row_done before
   pub after : new ≡ machine_after_tick before
-  pub stops : answer new ≡ Goes → may_come count new ≡ true
+  pub stops : answer new ≡ Goes → may_come_from_outside count new.state ≡ true
 
 -- by the row: ticks are made up to that at which it is complete; or without one up to the tick
 -- `last`, all of which are passed

@@ -1,5 +1,5 @@
 -- What runs ahead of a machine that makes ticks and goes on behind each.
-use Rattle.std.specs.Prelude.{ℕ, ◌≡◌, ◌+◌, ◌-◌, ◌≤◌, ◌<◌, true, false, All, List, Option, None, Some, IfSome, is_none, if◌then◌else◌}
+use Rattle.std.specs.Prelude.{ℕ, ◌≡◌, ◌+◌, ◌-◌, ◌≤◌, true, false, All, List, Option, None, Some, is_none, if◌then◌else◌}
 use Rattle.st_bits.specs.declared.limits.TheConstants.{MOST_DELAY}
 use Rattle.st_state.specs.Machine.{Machine, IsMachine}
 use Rattle.st_exec.specs.Step.{interrupt, rests}
@@ -7,7 +7,7 @@ use Rattle.st_rows.specs.declared.front.Front.{Front}
 use Rattle.st_ring.specs.declared.levels.Completed.{Completed}
 use Rattle.st_ahead.specs.Overlap.{machine_between_ticks, banks_at_its_end}
 use Rattle.st_ahead.specs.Calls.{machine_after_tick, answer}
-use Rattle.st_ahead.specs.RunTo.{may_come, ArePassed}
+use Rattle.st_ahead.specs.RunTo.{may_come_from_outside, ArePassed}
 use Rattle.st_ahead.specs.Look.{LookView, IsLook}
 use Rattle.st_ahead.specs.Ticked.{IsDoneAt}
 use Rattle.st_ahead.specs.Inside.{answers_before}
@@ -20,24 +20,17 @@ pub record IsAwake (t : Option ℕ) (s : Machine) : Type 0 where
   pub due : (if is_none t then interrupt s else None) ≡ None
   pub goes : rests s ≡ false
 
--- how many ticks are passed, by the entry that it stops behind
-abbrev pub ticks_run : ℕ → ℕ → Option Stop → ℕ
-ticks_run last now None = last + 1 - now
-ticks_run last now (Some stop) = stop.tick - now
-
--- there is such a start
-pub record Starts (ds : List ℕ) (n last : ℕ) (t : Option ℕ) (s : Machine)
+-- it goes on from the tick `now`, `last` at the latest
+pub record IsStart (ds : List ℕ) (n last now : ℕ) (t : Option ℕ) (s : Machine) (f : Front)
     (v : LookView) : Type 0 where
-  pub front : Front
-  pub now : ℕ
-  pub look : IsLook ds n (now - 1) now t s front v
+  pub look : IsLook ds n (now - 1) now t s f v
   pub soon : now ≤ last
   pub awake : IsAwake t s
 
-module _ (ds : List ℕ) (n count last now : ℕ) where
+module _ (ds : List ℕ) (n count last now : ℕ) (t : Option ℕ) (s : Machine) (f : Front)
+    (k : Option ℕ) (u : Machine) (v : LookView) where
   -- all ticks up to `last` are passed
-  pub record HasPassed (t : Option ℕ) (s : Machine) (f : Front) (k : Option ℕ) (u : Machine)
-      (v : LookView) : Type 0 where
+  pub record HasPassed : Type 0 where
     pub front : Front
     pub passed : ArePassed count (last + 1 - now) (machine_between_ticks ds n s t f now)
         (machine_between_ticks ds n u k front (last + 1))
@@ -46,8 +39,7 @@ module _ (ds : List ℕ) (n count last now : ℕ) where
 
   -- the ticks before the tick `tick` are passed, and at that one an entry is done behind which
   -- something may come
-  pub record HasStopped (tick : ℕ) (t : Option ℕ) (s : Machine) (f : Front) (k : Option ℕ)
-      (u : Machine) (v : LookView) (done : Completed) : Type 0 where
+  pub record HasStopped (tick : ℕ) (done : Completed) : Type 0 where
     pub table : Option ℕ
     pub state : Machine
     pub front : Front
@@ -62,12 +54,10 @@ module _ (ds : List ℕ) (n count last now : ℕ) where
     pub banks : banks_at_its_end (machine_between_ticks ds n state table front tick)
         ≡ answers_before tick v
     pub near : All (λ b. b ≤ tick + MOST_DELAY) (answers_before tick v).ticks
-    pub stops : answer (machine_after_tick (machine_between_ticks ds n state table front tick))
-        ≡ Goes → may_come count
-        (machine_after_tick (machine_between_ticks ds n state table front tick)) ≡ true
+    pub stops : let m = machine_after_tick (machine_between_ticks ds n state table front tick) in
+        answer m ≡ Goes → may_come_from_outside count m.state ≡ true
 
   -- by the entry that it stops behind
-  abbrev pub HasRunTo : Option ℕ → Machine → Front → Option ℕ → Machine → LookView →
-      Option Stop → Type 0
-  HasRunTo t s f k u v None = HasPassed t s f k u v
-  HasRunTo t s f k u v (Some stop) = HasStopped stop.tick t s f k u v stop.done
+  abbrev pub HasRunTo : Option Stop → Type 0
+  HasRunTo None = HasPassed
+  HasRunTo (Some stop) = HasStopped stop.tick stop.done

@@ -11,13 +11,6 @@ use Rattle.st_ahead.specs.Look.{LookView, IsLook}
 
 module _ (ds : List ℕ) (n now : ℕ) (t : Option ℕ) (s : Machine) (f : Front) (v : LookView)
     (u : Machine) (w : LookView) where
-  -- no entry is done at it: the state u behind it is the state s before it, w runs ahead of that as
-  -- v did, and operands may have come
-  pub record IsPassedBy : Type 0 where
-    pub state : u ≡ s
-    pub later : (row_of_entry ds n f (entry t s)).c ≢ now
-    pub look : IsLook ds n now now t s f w
-
   -- the oldest entry is done at it: u is the state after its step, and w runs ahead of the guess of
   -- that
   pub record IsDoneAt (done : Completed) : Type 0 where
@@ -28,7 +21,9 @@ module _ (ds : List ℕ) (n now : ℕ) (t : Option ℕ) (s : Machine) (f : Front
     pub log : w.log ≡ v.log
     pub bus : w.next.words ≡ v.next.words
 
-  -- by what is told of it
+  -- by what is told of it; where no entry is done at it, the state u behind it is the state s before
+  -- it, w runs ahead of that as v did, and operands may have come
   abbrev pub IsTicked : Option Completed → Type 0
-  IsTicked None = IsPassedBy
+  IsTicked None =
+      (u ≡ s) × ((row_of_entry ds n f (entry t s)).c ≢ now) × IsLook ds n now now t s f w
   IsTicked (Some done) = IsDoneAt done

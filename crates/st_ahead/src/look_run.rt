@@ -1,9 +1,8 @@
 //! What runs ahead makes ticks, up to an entry that is done behind which something may come.
-ghost use Rattle.std.specs.Prelude.{◌≡◌, ℕ, ◌-◌, ◌<◌, ◌≤◌, ◌^◌, true, false, None};
+ghost use Rattle.std.specs.Prelude.{◌≡◌, ℕ, ◌<◌, ◌≤◌, ◌^◌, true, false, None, option_map};
 ghost use Rattle.st_exec.specs.Step.{interrupt as interrupt_of, rests};
 ghost use Rattle.st_rows.specs.declared.front.Front.{Front as FrontOf};
 ghost use Rattle.st_ahead.specs.RunTo.{may_come_from_outside};
-ghost use Rattle.st_ahead.specs.Running.{IsAwake};
 
 use crate::events::Row;
 use crate::look::Lookahead;
@@ -34,10 +33,9 @@ pub struct Stop {
 }
 
 impl<const N: usize> Lookahead<N> {
-    ghost use Rattle.st_ahead.specs.Look.{IsLook};
     ghost use Rattle.st_ahead.specs.Overlap.{machine_between_ticks};
-    ghost use Rattle.st_ahead.specs.Running.{Starts, HasRunTo, ticks_run};
-    ghost use Rattle.st_ahead.specs.RowsDone.{queue_with, rows_in_ticks};
+    ghost use Rattle.st_ahead.specs.Running.{IsStart, HasRunTo};
+    ghost use Rattle.st_ahead.specs.RowsDone.{queue_with, rows_in_ticks, ticks_passed};
 
     /// Makes ticks and goes on behind each, up to the last one of its limits, until an entry is
     /// done behind which something may come: as many instructions are done by then as the limits
@@ -55,15 +53,15 @@ impl<const N: usize> Lookahead<N> {
         requires some { 1 ≤ N }
         requires few { N ≤ 8 }
         requires done { present.old.state.done < 2 ^ 63 }
-        requires starts { let x = present.old in
-            Starts delays.now.list N limits.last x.taken x.state self.old }
+        requires starts { (f : FrontOf) × (now : ℕ) × (let x = present.old in
+            IsStart delays.now.list N limits.last now x.taken x.state f self.old) }
 
         ensures { (f : FrontOf) (now : ℕ) → let x = present.old in let y = present.new in
             let ds = delays.now.list in let last = limits.last in
-            IsLook ds N (now - 1) now x.taken x.state f self.old → now ≤ last →
-            IsAwake x.taken x.state →
+            IsStart ds N last now x.taken x.state f self.old →
             HasRunTo ds N limits.count last now x.taken x.state f y.taken y.state self.new result
-            × (rows.new ≡ queue_with (rows_in_ticks (ticks_run last now result)
+            × (rows.new ≡ queue_with
+            (rows_in_ticks (ticks_passed last now (option_map (λ stop. stop.tick) result))
             (machine_between_ticks ds N x.state x.taken f now)) rows.old) }
     {
         let Limits { count, last } = limits;

@@ -1,5 +1,5 @@
 //! The overlapped machine, and the calls that drive it.
-ghost use Rattle.std.specs.Prelude.{◌≡◌, ◌<◌, ◌≤◌, ◌^◌, true, false, is_some, IsSome, IfSome, None, Some, get_or, length, ◌||◌};
+ghost use Rattle.std.specs.Prelude.{◌≡◌, ◌<◌, ◌≤◌, ◌^◌, true, false, is_some, IsSome, IfSome, None, Some, option_map, get_or, length, ◌||◌};
 
 use crate::events::{Event, LevelView, Row, Settled, View};
 use crate::look::Lookahead;
@@ -123,8 +123,8 @@ impl<const N: usize> Machine<N> {
 
         // What is made, and the rows of it that wait.
         ensures runs { RunsTo count last result self.old self.new }
-        ensures rows { rows.new ≡ queue_with
-            (rows_in_ticks (ticks_passed last self.old.now result) self.old) rows.old }
+        ensures rows { rows.new ≡ queue_with (rows_in_ticks (ticks_passed last self.old.now
+            (option_map (λ row. row.c) result)) self.old) rows.old }
     {
         let now = self.now;
         if now > last {

@@ -5,7 +5,6 @@ use Rattle.std.proofs.lemmas.List.{append-nil}
 use Rattle.std.proofs.lemmas.List.Elements.{All-cons, All-nil}
 use Rattle.st_fetch.specs.Planned.{tick_of}
 use Rattle.st_state.specs.Machine.{Machine, word}
-use Rattle.st_prep.specs.declared.entries.Fetched.{Fetched}
 use Rattle.st_prep.specs.declared.entries.Fetching.TheVariants.{Next as GivenWord, Found as GivenAll}
 use Rattle.st_prep.specs.Plan.{sight_of, sight}
 use Rattle.st_prep.specs.Ranges.{IsPlace}
@@ -29,7 +28,7 @@ use Rattle.st_segment.specs.Entries.{entry}
 use Rattle.st_segment.proofs.EntryRanges.{entry-ranges}
 use Rattle.st_next.specs.Words.{words_alone, words_so_far, asked_so_far}
 use Rattle.st_next.specs.Progress.{IsKnown, reads_so_far}
-use Rattle.st_next.specs.Going.{IsFrontInTime, IsEarly, IsReadFurther, entry_seen}
+use Rattle.st_next.specs.Going.{IsFrontInTime, IsEarly, IsReadFurther, prepared_as}
 use Rattle.st_next.specs.declared.next.Next.{Next}
 use Rattle.st_next.proofs.Starts.{IsNextOwn, IsNextTarget, word-behind}
 use Rattle.st_next.proofs.Contents.{words-entry}
@@ -143,33 +142,31 @@ module _ (ds : List ℕ) (n now : ℕ) (f : Front) (x : List ℕ) (s : Machine) 
         })
 
     -- the plan
-    module _ (fd : Fetched) (e : what ds n now f x s before un due cs contents ≡ GivenAll fd) where
-      known-whole : entry_seen before.own before.target (sight_of before.place fd x s) ≡ entry k.table k.state
-      known-whole =
-          let it = comes-all ds n now f x s before un due cs contents k.table k.state k.indicator k.before k.is_next.read_on fd e in
-          entry-same k.table k.state before.own before.target (sight_of before.place fd x s) it.0.own_all it.0.target_all
-          (sight-same now f x s k.state k.table before.place fd k.before k.is_next.read_on.place it.1)
+    module _ (e : what ds n now f x s before un due cs contents ≡ GivenAll before.fetched) (prepared : before ≡ prepared_as before.fetched x s before) where
+      pub known-seen : IsEntryInTime before.entry
+      known-seen =
+          let it = comes-all ds n now f x s before un due cs contents k.table k.state k.indicator k.before k.is_next.read_on before.fetched e in
+          rw (ap (λ (m : Next). m.entry) prepared
+          ∙ entry-same k.table k.state before.own before.target (sight_of before.place before.fetched x s) it.0.own_all it.0.target_all
+          (sight-same now f x s k.state k.table before.place before.fetched k.before k.is_next.read_on.place it.1)) known-entry
 
-      pub known-seen : IsEntryInTime (entry_seen before.own before.target (sight_of before.place fd x s))
-      known-seen = rw known-whole known-entry
-
-      pub plan-words : before.words ≡ words_tick ds f (entry_seen before.own before.target (sight_of before.place fd x s))
+      pub plan-words : before.words ≡ words_tick ds f before.entry
       unfolding words_tick
-      plan-words = k.is_next.read_on.words un
+      plan-words = k.is_next.read_on.words un ∙ ap (λ (m : Next). words_tick ds f m.entry) (sym prepared)
 
-      pub plan-asks : (after : Next) (log new : List Made) → IsPlannedAs ds n f (sight_of before.place fd x s) before after
+      pub plan-asks : (after : Next) (log new : List Made) → IsPlannedAs ds n f before after
           → new ≡ log_after_reads ds (side_asked f.past after.entry.side after.formed.a) before.words.bus log → IsReadFurther ds f before after log new
       unfolding bus_a
       plan-asks after log new made kept =
-          let g = entry_seen before.own before.target (sight_of before.place fd x s) in
+          let g = before.entry in
           let side = side_asked f.past after.entry.side after.formed.a in
-          let same : side ≡ side_asked f.past g.side (tick_a ds f g) = rw (made.entry, made.address) refl in
+          let same : side ≡ side_asked f.past g.side (tick_a ds f g) = rw (ap (λ (m : Next). m.entry) made.rest, made.address) refl in
           record {
             added = side;
             so_far =
-                reads-planned ds f after made.planned
-                ∙ ap (λ r. asked_so_far ds f r after.target ++ side) made.own
-                ∙ ap (λ r. asked_so_far ds f before.own r ++ side) made.target
+                reads-planned ds f after (ap (λ (m : Next). m.planned) made.rest)
+                ∙ ap (λ r. asked_so_far ds f r after.target ++ side) (ap (λ (m : Next). m.own) made.rest)
+                ∙ ap (λ r. asked_so_far ds f before.own r ++ side) (ap (λ (m : Next). m.target) made.rest)
                 ∙ ap (λ reads. reads ++ side) (sym (reads-none ds f before un));
             bus = made.bus ∙ sym (served-side ds f.past g.side (tick_a ds f g) (words_tick ds f g).bus)
                 ∙ ap (bus_after_reads ds (side_asked f.past g.side (tick_a ds f g))) (ap (λ (w : Fetching). w.bus) (sym plan-words))

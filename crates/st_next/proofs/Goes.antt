@@ -1,9 +1,9 @@
 -- Steps after steps.
 use Rattle.std.specs.Prelude.{if◌then◌else◌}
-use Rattle.std.proofs.Common.{◌≡◌, ℕ, ◌≤◌, max, Bool, true, false, List, arith}
+use Rattle.std.proofs.Common.{◌≡◌, ℕ, ◌≤◌, max, Bool, true, false, List, inl, arith}
 use Rattle.st_state.specs.Machine.{Machine}
 use Rattle.st_rows.specs.declared.front.Front.{Front}
-use Rattle.st_next.specs.Progress.{Waits, wanted_next, IsKnown}
+use Rattle.st_next.specs.Progress.{wanted_next, IsKnown}
 use Rattle.st_next.specs.Going.{GoesOnTo}
 use Rattle.st_next.specs.declared.next.Next.{Next}
 
@@ -14,14 +14,14 @@ alone-wanted false p c = omega arith
 
 module _ (ds : List ℕ) (n now : ℕ) (f : Front) (x : List ℕ) (s : Machine) where
   pub goes-same : (a : Next) → a.planned ≡ false → GoesOnTo ds n now f x s a a 0
-  goes-same a un = record { each = λ t u table is next. (next, Waits un (omega arith)) }
+  goes-same a un = record { each = λ t u table is next. (next, λ un. inl (omega arith)) }
 
   pub goes-then : (a b c : Next) (sooner later : ℕ) → GoesOnTo ds n now f x s a b sooner → GoesOnTo ds n now f x s b c later → GoesOnTo ds n now f x s a c later
   goes-then a b c sooner later one two = record { each = λ t u table is next. two.each t u table is (one.each t u table is next).0 }
 
   -- it stops at a word that is wanted later
   pub goes-stop : (a b : Next) (sooner later : ℕ) → GoesOnTo ds n now f x s a b sooner → b.planned ≡ false → later ≤ wanted_next f b → GoesOnTo ds n now f x s a b later
-  goes-stop a b sooner later goes un late = record { each = λ t u table is next. ((goes.each t u table is next).0, Waits un late) }
+  goes-stop a b sooner later goes un late = record { each = λ t u table is next. ((goes.each t u table is next).0, λ none. inl late) }
 
   -- or before an entry that it waits for
   pub goes-waits : (a : Next) (later : ℕ) → a.planned ≡ false → later ≤ max a.words.awaited (if f.serial then f.c else 0) → GoesOnTo ds n now f x s a a later

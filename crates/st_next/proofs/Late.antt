@@ -13,7 +13,6 @@ use Rattle.st_rows.specs.declared.fetching.Fetching.{Fetching}
 use Rattle.st_rows.specs.declared.front.Front.{Front}
 use Rattle.st_prep.proofs.GivenLemmas.{differs}
 use Rattle.st_next.specs.Words.{IsStart, AreFirstWords, words_so_far, asked_so_far}
-use Rattle.st_next.specs.Progress.{target_waits}
 use Rattle.st_next.proofs.WordByWord.{want_of, fetch-more, asked-more, fetch-none, asked-none}
 
 -- a read is wanted at a tick or later
@@ -87,14 +86,14 @@ module _ (ds : List ℕ) (past : List Past) (from : ℕ) where
 -- ---- behind the first words of an entry
 
 -- the words of the target wait for the last entry
-pub waits-most : (f : Front) (run : WordRun) → target_waits f run ≤ f.c
+pub waits-most : (f : Front) (run : WordRun) → (if run.len == 0 then 0 else f.c) ≤ f.c
 waits-most f run = most_if (run.len == 0)
   where
     most_if : (b : Bool) → (if b then 0 else f.c) ≤ f.c
     most_if true = omega arith
     most_if false = omega arith
 
-pub waits-some : (f : Front) (run : WordRun) → 1 ≤ run.len → target_waits f run ≡ f.c
+pub waits-some : (f : Front) (run : WordRun) → 1 ≤ run.len → (if run.len == 0 then 0 else f.c) ≡ f.c
 waits-some f run some =
     let no : (run.len == 0) ≡ false = differs run.len 0 (λ e. omega (arith, e)) in
     ap (λ b. if b then 0 else f.c) no

@@ -91,7 +91,7 @@ module _ (ds : List ℕ) (n now : ℕ) (f : Front) (x : List ℕ) (s : Machine) 
   planned = is.planned done
 
   same : now_seen ≡ v
-  same = sight-same now f x s u t next.place next.fetched before is.read_on.place planned.all.found
+  same = sight-same now f x s u t next.place next.fetched before is.read_on.place planned.found
 
   needs-same : next.needs ≡ needs now_seen
   needs-same = planned.needs ∙ ap needs (sym same)
@@ -105,7 +105,7 @@ module _ (ds : List ℕ) (n now : ℕ) (f : Front) (x : List ℕ) (s : Machine) 
 
   pub fetched-fits : IsFetched next.fetched
   unfolding sight
-  fetched-fits = rw planned.all.found (sight-fits u t before.machine table).fetched
+  fetched-fits = rw planned.found (sight-fits u t before.machine table).fetched
 
   pub table-fits : IfSome next.place.table (λ i. i < 64)
   table-fits = rw table-same table
@@ -134,7 +134,7 @@ module _ (ds : List ℕ) (n now : ℕ) (f : Front) (x : List ℕ) (s : Machine) 
   pub seen-is : IsSeen u now_seen
   seen-is = record {
     place = ap (place_of u) table-same ∙ sym is.read_on.place;
-    fetched = ap (words_fetched u) is.read_on.place ∙ sym planned.all.found;
+    fetched = ap (words_fetched u) is.read_on.place ∙ sym planned.found;
     words = before.index;
     bounds = before.bounds;
     enabled = before.enabled;

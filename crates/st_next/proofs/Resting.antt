@@ -1,5 +1,5 @@
 -- While the entry rests, what is left of it is wanted later.
-use Rattle.std.proofs.Common.{◌≡◌, ℕ, zero, suc, ◌≤◌, ◌<◌, ◌||◌, max, Bool, true, false, ◌==◌, if◌then◌else◌, List, Option, refl, ◌∙◌, ap, arith}
+use Rattle.std.proofs.Common.{◌≡◌, ℕ, zero, suc, ◌≤◌, ◌<◌, ◌||◌, max, Bool, true, false, ◌==◌, if◌then◌else◌, List, inl, inr, Option, refl, ◌∙◌, ap, arith}
 use Rattle.st_state.specs.Machine.{Machine}
 use Rattle.st_rows.specs.Rows.{fetch_words, wanted_from, words_tick, address_tick, tick_a}
 use Rattle.st_rows.specs.declared.entry.WordRun.{WordRun}
@@ -8,13 +8,13 @@ use Rattle.st_rows.specs.declared.fetching.Fetching.{Fetching}
 use Rattle.st_rows.specs.declared.front.Front.{Front}
 use Rattle.st_segment.specs.Entries.{entry}
 use Rattle.st_next.specs.Words.{words_so_far}
-use Rattle.st_next.specs.Progress.{IsReadOn, Rests, Planned, Waits, Target, wanted_next, target_waits}
+use Rattle.st_next.specs.Progress.{IsReadOn, Rests, wanted_next}
 use Rattle.st_next.specs.declared.next.Next.{Next}
 use Rattle.st_next.proofs.Given.{target-serial}
 use Rattle.st_next.proofs.WordByWord.{fetch-none}
 use Rattle.st_next.proofs.Late.{waits-most, words-later, AreLeft, left_none, left_target}
 
-pub waits-none : (f : Front) (run : WordRun) → run.len ≡ 0 → target_waits f run ≡ 0
+pub waits-none : (f : Front) (run : WordRun) → run.len ≡ 0 → (if run.len == 0 then 0 else f.c) ≡ 0
 waits-none f run none = ap (λ n. if n == 0 then 0 else f.c) none
 
 -- ---- the address is formed later
@@ -46,17 +46,17 @@ module _ (ds : List ℕ) (m : ℕ) (t : Option ℕ) (u : Machine) (f : Front) (n
       let more = words-later ds f next.own next.target e read.first in
       omega (arith, late, same-answered, same-awaited, more.0, more.1, alone-first e.serial f.serial f.p f.c)
 
-  waits-alone : (n : ℕ) → next.target.len ≡ n → target_waits f next.target ≤ (if e.serial || f.serial then f.c else 0)
+  waits-alone : (n : ℕ) → next.target.len ≡ n → (if next.target.len == 0 then 0 else f.c) ≤ (if e.serial || f.serial then f.c else 0)
   waits-alone zero none = omega (arith, waits-none f next.target none)
   waits-alone (suc n) some =
       let serial : e.serial ≡ true = target-serial t u (omega (arith, some, read.first.target_start.few)) in
       omega (arith, waits-most f next.target, alone-serial e.serial f.serial f.c serial)
 
   pub address-late : Rests m t u f next → m < tick_a ds f e
-  address-late (Planned p) = absurd (cc)
-  address-late (Waits p late) = after-words (omega (arith, late, waits-alone next.target.len refl))
-  address-late (Target p all none some late) =
-      after-words (omega (arith, late, alone-serial e.serial f.serial f.c (target-serial t u some)))
+  address-late rests = elim (rests un) [
+    | inl late ↦ after-words (omega (arith, late, waits-alone next.target.len refl))
+    | inr is ↦ after-words (omega (arith, is.3, alone-serial e.serial f.serial f.c (target-serial t u is.2)))
+  ]
 
   -- ---- and so are the words that are left
 
@@ -73,6 +73,7 @@ module _ (ds : List ℕ) (m : ℕ) (t : Option ℕ) (u : Machine) (f : Front) (n
       (omega (arith, late, waits-most f next.target, same-answered, same-awaited))
 
   pub rest-left : Rests m t u f next → AreLeft ds f next.own next.target e read.first m
-  rest-left (Planned p) = absurd (cc)
-  rest-left (Waits p late) = left-waits next.target.len refl late
-  rest-left (Target p all none some late) = left_target ds f next.own next.target e read.first m all (omega arith)
+  rest-left rests = elim (rests un) [
+    | inl late ↦ left-waits next.target.len refl late
+    | inr is ↦ left_target ds f next.own next.target e read.first m is.0 (omega (arith, is.3))
+  ]

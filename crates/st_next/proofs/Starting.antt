@@ -1,5 +1,5 @@
 -- The entry of which no word is asked for.
-use Rattle.std.proofs.Common.{◌≡◌, ℕ, ◌≤◌, false, List, [], Option, refl, sym, ◌∙◌, ap, arith}
+use Rattle.std.proofs.Common.{◌≡◌, ℕ, ◌≤◌, false, List, [], inl, Option, refl, sym, ◌∙◌, ap, arith}
 use Rattle.st_state.specs.Machine.{Machine}
 use Rattle.st_prep.specs.Fetch.{place_of}
 use Rattle.st_rows.specs.Rows.{fetch_words, words_tick, wanted_from}
@@ -9,7 +9,7 @@ use Rattle.st_rows.specs.declared.fetching.Fetching.{Fetching}
 use Rattle.st_rows.specs.declared.front.Front.{Front}
 use Rattle.st_segment.specs.Entries.{entry}
 use Rattle.st_next.specs.Words.{IsStart, words_so_far, asked_so_far}
-use Rattle.st_next.specs.Progress.{IsNext, Rests, Waits, reads_so_far}
+use Rattle.st_next.specs.Progress.{IsNext, Rests, reads_so_far}
 use Rattle.st_next.specs.declared.next.Next.{Next}
 use Rattle.st_next.proofs.Steps.{planned-none}
 use Rattle.st_next.proofs.Asking.{reads-none}
@@ -54,4 +54,4 @@ new-reads ds f next own target un = reads-none ds f next un ∙ rw (own, target)
 -- before its first word is wanted, nothing of it can be known
 pub new-rests : (now : ℕ) (t : Option ℕ) (u : Machine) (f : Front) (next : Next) → next.planned ≡ false → now ≤ wanted_from f
     → Rests now t u f next
-new-rests now t u f next un early = Waits un (omega arith)
+new-rests now t u f next un early = λ none. inl (omega arith)

@@ -1,5 +1,5 @@
 -- One step of the entry that is prepared next, whatever the state before it is.
-use Rattle.std.proofs.Common.{◌≡◌, ℕ, zero, suc, ◌≤◌, ◌<◌, max, Bool, true, false, List, ◌++◌, map, Option, refl, sym, subst, ◌∙◌, ap, arith}
+use Rattle.std.proofs.Common.{◌≡◌, ℕ, zero, suc, ◌≤◌, ◌<◌, max, Bool, true, false, List, ◌++◌, map, inl, inr, Option, refl, sym, subst, ◌∙◌, ap, arith}
 use Rattle.std.specs.Prelude.{IfSome, option_map, is_none, ◌&&◌}
 use Rattle.st_state.specs.Machine.{Machine, word}
 use Rattle.st_prep.specs.declared.entries.Fetched.{Fetched}
@@ -19,10 +19,10 @@ use Rattle.st_segment.specs.Alone.{words_of_run}
 use Rattle.st_segment.specs.Entries.{reading_at, entry, side_to_read, words_to_read, words_to_write}
 use Rattle.st_segment.proofs.EntryRanges.{entry-ranges}
 use Rattle.st_segment.proofs.KnownEarly.{known-early}
-use Rattle.st_next.specs.Words.{run_with_word, words_so_far}
+use Rattle.st_next.specs.Words.{run_with_word}
 use Rattle.st_next.specs.Known.{IsStateBefore}
-use Rattle.st_next.specs.Progress.{IsReadOn, IsPlanned, Rests, Planned, Waits, Target}
-use Rattle.st_next.specs.Going.{GoesOnTo, IsPreparedBy, entry_seen, prepared_as}
+use Rattle.st_next.specs.Progress.{IsReadOn, IsPlanned, prepared_early, Rests}
+use Rattle.st_next.specs.Going.{GoesOnTo, prepared_as}
 use Rattle.st_next.specs.declared.next.Next.{Next}
 use Rattle.st_next.proofs.Starts.{IsNextOwn, own-more, IsNextTarget, target-more, word-behind, IsAll}
 use Rattle.st_next.proofs.Given.{contents_of, gives-own, gives-target, gives-all}
@@ -63,6 +63,12 @@ same_fields : (o p g h : WordRun) (a b : Option ℕ) (r q v w : WordRuns) (m n :
     → entry_with o g a r v m c e ≡ entry_with p h b q w n d f
 same_fields o p g h a b r q v w m n c d e f e1 e2 e3 e4 e5 e6 e7 e8 = cc
 
+abbrev pub entry_seen : WordRun → WordRun → Sight → Entry
+entry_seen own target v =
+    let p = prepared_early v in
+    entry_with own target (side_to_read (needs v).index_read) (words_to_read p.reads) (words_to_write p.writes) p.cost p.serial
+    (is_none v.place.table && is_none v.fetched.fault)
+
 follows-same : (t : Option ℕ) (u : Machine) → let v = sight u (place_of u t) in (is_none v.place.table && is_none v.fetched.fault) ≡ (entry t u).follows
 unfolding entry sight place_of
 follows-same t u = refl
@@ -82,21 +88,13 @@ pub entry-same : (t : Option ℕ) (u : Machine) (own target : WordRun) (v : Sigh
     → v ≡ sight u (place_of u t) → entry_seen own target v ≡ entry t u
 entry-same t u own target v o g e = ap (λ v. entry_seen own target v) e ∙ entry-whole t u own target o g
 
--- an entry of which the words are there is planned, of which so much is seen
-pub record IsPlannedAs (ds : List ℕ) (n : ℕ) (f : Front) (v : Sight)
-    (before after : Next) : Type 0 where
-  pub place : after.place ≡ before.place
-  pub own : after.own ≡ before.own
-  pub target : after.target ≡ before.target
+-- an entry that is prepared so far is planned
+pub record IsPlannedAs (ds : List ℕ) (n : ℕ) (f : Front) (before after : Next) : Type 0 where
+  pub rest : after ≡ record before { words = after.words; formed = after.formed; planned = true }
   pub awaited : after.words.awaited ≡ before.words.awaited
-  pub planned : after.planned ≡ true
-  pub found : after.fetched ≡ v.fetched
-  pub needed : after.needs ≡ needs v
-  pub ready : after.prepared ≡ prepared_entry v (option_map (λ w. 0) (needs v).index_read)
-  pub entry : after.entry ≡ entry_seen before.own before.target v
-  pub address : after.formed.a ≡ tick_a ds f (entry_seen before.own before.target v)
-  pub bus : after.words.bus ≡ bus_a ds f (entry_seen before.own before.target v)
-  pub tick : after.formed.p ≡ tick_p ds n f (entry_seen before.own before.target v)
+  pub address : after.formed.a ≡ tick_a ds f before.entry
+  pub bus : after.words.bus ≡ bus_a ds f before.entry
+  pub tick : after.formed.p ≡ tick_p ds n f before.entry
 
 module _ (ds : List ℕ) (n now : ℕ) (f : Front) (x : List ℕ) (s : Machine) (before : Next) (un : before.planned ≡ false) (due : before.words.awaited ≤ now)
     (cs : List ℕ) (contents : cs ≡ map (word s) (words_of_run before.own ++ words_of_run before.target)) where
@@ -140,7 +138,7 @@ module _ (ds : List ℕ) (n now : ℕ) (f : Front) (x : List ℕ) (s : Machine) 
   own-goes w after e same = subst (λ a. GoesOnTo ds n now f x s before a 0) (sym same) (record {
     each = λ t u table is next. let it = comes-own t u table is next.read_on w e in (
       record { read_on = own-read t u w next.read_on it; planned = planned-none before.planned ds n t u f (with_own w) un },
-      Waits un (omega arith),
+      λ none. inl (omega arith),
     );
   })
 
@@ -164,7 +162,7 @@ module _ (ds : List ℕ) (n now : ℕ) (f : Front) (x : List ℕ) (s : Machine) 
   target-goes w after e same = subst (λ a. GoesOnTo ds n now f x s before a 0) (sym same) (record {
     each = λ t u table is next. let it = comes-target t u table is next.read_on w e in (
       record { read_on = target-read t u w next.read_on it; planned = planned-none before.planned ds n t u f (with_target w) un },
-      Waits un (omega arith),
+      λ none. inl (omega arith),
     );
   })
 
@@ -172,8 +170,8 @@ module _ (ds : List ℕ) (n now : ℕ) (f : Front) (x : List ℕ) (s : Machine) 
 
   waits-rests : (k later : ℕ) (t : Option ℕ) (u : Machine) (w : ℕ) → before.target.len ≡ k → later ≤ f.c → IsNextTarget before.own before.target (entry t u) w
       → Rests later t u f before
-  waits-rests zero later t u w none early is = Target un is.all none (let more = is.more in omega arith) early
-  waits-rests (suc k) later t u w some early is = Waits un (omega (arith, early, waits-some f before.target (omega arith)))
+  waits-rests zero later t u w none early is = λ un. inr (is.all, none, (let more = is.more in omega arith), early)
+  waits-rests (suc k) later t u w some early is = λ un. inl (omega (arith, early, waits-some f before.target (omega arith)))
 
   pub target-waits : (later w : ℕ) → what ≡ GivenWord w true → later ≤ f.c → GoesOnTo ds n now f x s before before later
   target-waits later w e early = record {
@@ -189,38 +187,38 @@ module _ (ds : List ℕ) (n now : ℕ) (f : Front) (x : List ℕ) (s : Machine) 
         read_on = record { place = next.read_on.place; first = next.read_on.first; words = next.read_on.words; awaited = next.read_on.awaited };
         planned = planned-none before.planned ds n t u f (prepared_as fd x s before) un;
       },
-      Waits un (omega arith),
+      λ none. inl (omega arith),
     );
   })
 
   -- ---- the plan
 
-  pub plan-goes : (fd : Fetched) (after : Next) (later : ℕ) → what ≡ GivenAll fd → IsPlannedAs ds n f (sight_of before.place fd x s) before after → GoesOnTo ds n now f x s before after later
-  plan-goes fd after later e made = record {
+  pub plan-goes : (after : Next) (later : ℕ) → what ≡ GivenAll before.fetched → before ≡ prepared_as before.fetched x s before → IsPlannedAs ds n f before after
+      → GoesOnTo ds n now f x s before after later
+  plan-goes after later e prepared made = subst (λ a. GoesOnTo ds n now f x s before a later) (sym made.rest) (record {
     each = λ t u table is next.
-        let it = comes-all t u table is next.read_on fd e in
-        let same = sight-same now f x s u t before.place fd is next.read_on.place it.1 in
-        let v = sight_of before.place fd x s in
-        let whole = entry-same t u before.own before.target v it.0.own_all it.0.target_all same in (
+        let it = comes-all t u table is next.read_on before.fetched e in
+        let same = sight-same now f x s u t before.place before.fetched is next.read_on.place it.1 in
+        let whole = ap (λ (m : Next). m.entry) prepared ∙ entry-same t u before.own before.target (sight_of before.place before.fetched x s) it.0.own_all it.0.target_all same in (
           record {
             read_on = record {
-              place = made.place ∙ next.read_on.place;
-              first = rw (made.own, made.target) next.read_on.first;
-              words = λ none. absurd (cc (none, made.planned));
-              awaited =
-                  made.awaited ∙ next.read_on.awaited ∙ ap (λ r. (words_so_far ds f r before.target).awaited) (sym made.own)
-                  ∙ ap (λ r. (words_so_far ds f after.own r).awaited) (sym made.target);
+              place = next.read_on.place;
+              first = next.read_on.first;
+              words = λ none. absurd (cc);
+              awaited = made.awaited ∙ next.read_on.awaited;
             };
             planned = λ done. record {
-              all = record { own = made.own ∙ it.0.own_all; target = made.target ∙ it.0.target_all; found = made.found ∙ it.1 };
-              needs = made.needed ∙ ap needs same;
-              prepared = made.ready ∙ ap (λ v. prepared_entry v (option_map (λ w. 0) (needs v).index_read)) same;
-              entry = made.entry ∙ whole;
+              own = it.0.own_all;
+              target = it.0.target_all;
+              found = it.1;
+              needs = ap (λ (m : Next). m.needs) prepared ∙ ap needs same;
+              prepared = ap (λ (m : Next). m.prepared) prepared ∙ ap prepared_early same;
+              entry = whole;
               address = made.address ∙ ap (tick_a ds f) whole;
               bus = made.bus ∙ ap (bus_a ds f) whole;
               tick = made.tick ∙ ap (tick_p ds n f) whole;
             };
           },
-          Planned made.planned,
+          λ none. absurd (cc),
         );
-  }
+  })

@@ -63,7 +63,7 @@ module _ (ds : List ℕ) (n : ℕ) (t : Option ℕ) (u : Machine) (f : Front) (n
   planned-reads : reads_so_far ds f next ≡ fetches_asked ds f e ++ side_asked f.past e.side (tick_a ds f e)
   planned-reads =
       reads-planned ds f next done
-      ∙ ap (λ reads. reads ++ side_asked f.past next.entry.side next.formed.a) (fetches-same ds f next.own next.target e planned.all.own planned.all.target)
+      ∙ ap (λ reads. reads ++ side_asked f.past next.entry.side next.formed.a) (fetches-same ds f next.own next.target e planned.own planned.target)
       ∙ ap (λ (g : Entry). fetches_asked ds f e ++ side_asked f.past g.side next.formed.a) planned.entry
       ∙ ap (λ a. fetches_asked ds f e ++ side_asked f.past e.side a) planned.address
 

@@ -1,17 +1,16 @@
 -- How the entry that is prepared next goes on, and what it takes for granted.
-use Rattle.std.specs.Prelude.{ℕ, ◌≡◌, ◌+◌, ◌-◌, ◌^◌, ◌≤◌, true, ◌&&◌, Bool, List, ◌++◌, All, map, Option, is_none, option_map}
+use Rattle.std.specs.Prelude.{ℕ, ◌≡◌, ◌+◌, ◌-◌, ◌^◌, ◌≤◌, true, ◌&&◌, List, ◌++◌, All, map, Option, is_none}
 use Rattle.st_bits.specs.declared.limits.TheConstants.{MOST_DELAY}
 use Rattle.st_state.specs.Machine.{Machine, word}
 use Rattle.st_prep.specs.declared.entries.Fetched.{Fetched}
 use Rattle.st_prep.specs.declared.entries.Prepared.{Prepared}
 use Rattle.st_prep.specs.declared.entries.Fetching.TheVariants.{Found as FoundAll}
-use Rattle.st_prep.specs.Plan.{Sight, sight_of, needs, prepared_entry, plan}
+use Rattle.st_prep.specs.Plan.{sight_of, needs, plan}
 use Rattle.st_prep.specs.Reading.{reading_at_place, left_after, fetching_of}
 use Rattle.st_rows.specs.Asked.{Read, reads_of_entry, bus_after_reads}
 use Rattle.st_rows.specs.Notes.{log_after_reads}
 use Rattle.st_rows.specs.Ranges.{IsTight, IsFetchingWithin, ArePastWithin}
 use Rattle.st_rows.specs.Rows.{wanted_from}
-use Rattle.st_rows.specs.declared.entry.WordRun.{WordRun}
 use Rattle.st_rows.specs.declared.entry.Entry.{Entry}
 use Rattle.st_rows.specs.declared.fetching.Fetching.{Fetching}
 use Rattle.st_rows.specs.declared.front.Front.{Front}
@@ -19,7 +18,7 @@ use Rattle.st_rows.specs.declared.log.Made.{Made}
 use Rattle.st_segment.specs.Alone.{words_of_run}
 use Rattle.st_segment.specs.Entries.{entry, side_to_read, words_to_read, words_to_write, IsTable}
 use Rattle.st_next.specs.Known.{IsStateBefore}
-use Rattle.st_next.specs.Progress.{IsNext, Rests, reads_so_far}
+use Rattle.st_next.specs.Progress.{IsNext, Rests, reads_so_far, prepared_early}
 use Rattle.st_next.specs.declared.next.Next.{Next}
 
 -- the ticks of a front lie close together and are early enough
@@ -50,43 +49,25 @@ pub record IsEarly (f : Front) (words : Fetching) : Type 0 where
   pub wanted : wanted_from f ≤ 2 ^ 64 - 512
   pub done : f.c ≤ 2 ^ 64 - 512
 
--- an entry with these words, its index-side word and what it is prepared to; following words are
--- asked for as `follows` says
-abbrev pub entry_with : WordRun → WordRun → Option ℕ → Prepared → Bool → Entry
-entry_with own target side p follows = record {
-  own = own;
-  target = target;
-  side = side_to_read side;
-  reads = words_to_read p.reads;
-  writes = words_to_write p.writes;
-  cost = p.cost;
-  serial = p.serial;
-  follows = follows;
-}
-
--- the entry with these instruction words, of which so much is seen
-abbrev pub entry_seen : WordRun → WordRun → Sight → Entry
-entry_seen own target v =
-    entry_with own target (needs v).index_read
-    (prepared_entry v (option_map (λ w. 0) (needs v).index_read))
-    (is_none v.place.table && is_none v.fetched.fault)
-
 -- an entry as the timetable sees it, by what is fetched, what it needs and what it is prepared to
 abbrev pub as_entry : Next → Entry
-as_entry next =
-    entry_with next.own next.target next.needs.index_read next.prepared
-    (is_none next.prepared.place.table && is_none next.fetched.fault)
+as_entry next = record {
+  own = next.own;
+  target = next.target;
+  side = side_to_read next.needs.index_read;
+  reads = words_to_read next.prepared.reads;
+  writes = words_to_write next.prepared.writes;
+  cost = next.prepared.cost;
+  serial = next.prepared.serial;
+  follows = is_none next.place.table && is_none next.fetched.fault;
+}
 
 -- an entry of which this is fetched, prepared as far as it goes without its index-side word
 abbrev pub prepared_as : Fetched → List ℕ → Machine → Next → Next
 prepared_as fd x s next =
     let v = sight_of next.place fd x s in
-    record next {
-      fetched = fd;
-      needs = needs v;
-      prepared = prepared_entry v (option_map (λ w. 0) (needs v).index_read);
-      entry = entry_seen next.own next.target v;
-    }
+    let m = record next { fetched = fd; needs = needs v; prepared = prepared_early v } in
+    record m { entry = as_entry m }
 
 -- its words tell all of it, and their writers are done by the tick `now`: it is prepared as far as
 -- it goes without its index-side word

@@ -1,8 +1,9 @@
 -- How far the entry that is prepared next is known.
-use Rattle.std.specs.Prelude.{ℕ, ◌≡◌, ◌≤◌, ◌==◌, max, Bool, true, false, if◌then◌else◌, List, [], ◌++◌, Option, option_map}
+use Rattle.std.specs.Prelude.{ℕ, ◌≡◌, ◌≤◌, ◌==◌, max, true, false, if◌then◌else◌, List, [], ◌++◌, ◌⊎◌, Option, option_map}
 use Rattle.st_state.specs.Machine.{Machine}
 use Rattle.st_prep.specs.Fetch.{place_of, words_fetched as fetched_at}
-use Rattle.st_prep.specs.Plan.{needs as needs_of, sight, prepared_entry as prepared_of}
+use Rattle.st_prep.specs.Plan.{Sight, needs as needs_of, sight, prepared_entry as prepared_of}
+use Rattle.st_prep.specs.declared.entries.Prepared.{Prepared}
 use Rattle.st_rows.specs.Rows.{wanted_from, tick_a, bus_a, tick_p}
 use Rattle.st_rows.specs.Asked.{Read, side_asked}
 use Rattle.st_rows.specs.declared.entry.WordRun.{WordRun}
@@ -23,30 +24,27 @@ pub record IsReadOn (ds : List ℕ) (t : Option ℕ) (u : Machine) (f : Front)
   pub words : next.planned ≡ false → next.words ≡ words_so_far ds f next.own next.target
   pub awaited : next.words.awaited ≡ (words_so_far ds f next.own next.target).awaited
 
--- these are all of them, and this is what is fetched
-pub record IsFoundNext (t : Option ℕ) (u : Machine) (next : Next) : Type 0 where
-  pub own : next.own ≡ (entry_of t u).own
-  pub target : next.target ≡ (entry_of t u).target
-  pub found : next.fetched ≡ fetched_at u (place_of u t)
+-- how an entry of which so much is seen is prepared, with 0 in place of its index-side word
+abbrev pub prepared_early : Sight → Prepared
+prepared_early v = prepared_of v (option_map (λ w. 0) (needs_of v).index_read)
 
--- all of it is known but its index-side word
-pub record IsPlanned (ds : List ℕ) (n : ℕ) (t : Option ℕ) (u : Machine) (f : Front)
-    (next : Next) : Type 0 where
-  pub all : IsFoundNext t u next
-  pub needs : next.needs ≡ needs_of (sight u (place_of u t))
-  pub prepared : next.prepared
-      ≡ prepared_of (sight u (place_of u t))
-      (option_map (λ w. 0) (needs_of (sight u (place_of u t))).index_read)
-  pub entry : next.entry ≡ entry_of t u
-  pub address : next.formed.a ≡ tick_a ds f (entry_of t u)
-  pub bus : next.words.bus ≡ bus_a ds f (entry_of t u)
-  pub tick : next.formed.p ≡ tick_p ds n f (entry_of t u)
+module _ (ds : List ℕ) (n : ℕ) (t : Option ℕ) (u : Machine) (f : Front) (next : Next) where
+  -- its words are all asked for, and all of it is known but its index-side word
+  pub record IsPlanned : Type 0 where
+    pub own : next.own ≡ (entry_of t u).own
+    pub target : next.target ≡ (entry_of t u).target
+    pub found : next.fetched ≡ fetched_at u (place_of u t)
+    pub needs : next.needs ≡ needs_of (sight u (place_of u t))
+    pub prepared : next.prepared ≡ prepared_early (sight u (place_of u t))
+    pub entry : next.entry ≡ entry_of t u
+    pub address : next.formed.a ≡ tick_a ds f (entry_of t u)
+    pub bus : next.words.bus ≡ bus_a ds f (entry_of t u)
+    pub tick : next.formed.p ≡ tick_p ds n f (entry_of t u)
 
--- it is read as far as its words tell, and planned where its mark says so
-pub record IsNext (ds : List ℕ) (n : ℕ) (t : Option ℕ) (u : Machine) (f : Front)
-    (next : Next) : Type 0 where
-  pub read_on : IsReadOn ds t u f next
-  pub planned : next.planned ≡ true → IsPlanned ds n t u f next
+  -- it is read as far as its words tell, and planned where its mark says so
+  pub record IsNext : Type 0 where
+    pub read_on : IsReadOn ds t u f next
+    pub planned : next.planned ≡ true → IsPlanned
 
 -- the reads that are asked for it so far
 abbrev pub reads_so_far : List ℕ → Front → Next → List Read
@@ -54,27 +52,20 @@ reads_so_far ds f next =
     asked_so_far ds f next.own next.target
     ++ (if next.planned then side_asked f.past next.entry.side next.formed.a else [])
 
--- ---- that nothing more of it can be known before a tick: the entry is planned; or the words so
--- far are not answered before, or an entry that writes one of them is not done; or it is EX, whose
--- target waits for the entry before
-
--- the words of the target wait for the last entry, once one of them is asked for
-abbrev pub target_waits : Front → WordRun → ℕ
-target_waits f target = if target.len == 0 then 0 else f.c
-
--- the tick from which on the next word is wanted, as far as the words so far tell
+-- the tick from which on the next word is wanted, as far as the words so far tell: those of the
+-- target wait for the last entry, once one of them is asked for
 abbrev pub wanted_next : Front → Next → ℕ
 wanted_next f next =
     max (max (max (wanted_from f)
-    (target_waits f next.target)) next.words.answered) next.words.awaited
+    (if next.target.len == 0 then 0 else f.c)) next.words.answered) next.words.awaited
 
--- nothing more of it can be known before the tick `now`
-pub data Rests (now : ℕ) (t : Option ℕ) (u : Machine) (f : Front) (next : Next) : Type 0 where
-  Planned : next.planned ≡ true → Rests now t u f next
-  Waits : next.planned ≡ false → now ≤ wanted_next f next → Rests now t u f next
-  Target : next.planned ≡ false → next.own ≡ (entry_of t u).own → next.target.len ≡ 0 → 1
-      ≤ (entry_of t u).target.len
-      → now ≤ f.c → Rests now t u f next
+-- nothing more of it can be known before the tick `now`: it is planned; or the words so far are not
+-- answered before, or an entry that writes one of them is not done; or it is EX, whose target waits
+-- for the entry before
+abbrev pub Rests : ℕ → Option ℕ → Machine → Front → Next → Type 0
+Rests now t u f next = next.planned ≡ false → (now ≤ wanted_next f next)
+    ⊎ ((next.own ≡ (entry_of t u).own) × (next.target.len ≡ 0)
+    × (1 ≤ (entry_of t u).target.len) × (now ≤ f.c))
 
 -- what the calls take for granted: there is such a state u, by the entries that are done at this
 -- tick

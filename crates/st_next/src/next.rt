@@ -532,7 +532,7 @@ impl Next {
         entry.writes = words_to_write(prepared.writes);
         entry.cost = prepared.cost;
         entry.serial = prepared.serial;
-        entry.follows = prepared.place.table.is_none() && self.fetched.fault.is_none();
+        entry.follows = self.place.table.is_none() && self.fetched.fault.is_none();
     }
 }
 

@@ -119,7 +119,7 @@ asked-late ds n t f e late =
     (All-append P (fetches_asked ds f e) (data_of ds n f e) fetches others)
 
 ahead-late : (ds : List ℕ) (n t k : ℕ) (i : Option ℕ) (s : Machine) (f : Front) → t ≤ f.p → All (λ (r : Read). t ≤ r.want) (asked_ahead ds n k i s f)
-unfolding asked_ahead front_after_entry row_of_entry
+unfolding front_after_entry row_of_entry ahead
 ahead-late ds n t zero i s f late = All-nil (λ (r : Read). t ≤ r.want)
 ahead-late ds n t (suc k) i s f late =
     let e = entry i s in
@@ -134,7 +134,7 @@ behind-late ds n t k i s f late = ahead-late ds n t k None (guess i s) (front_af
 -- those of entries behind the first one that is not prepared before the tick change nothing of what is made before it
 ahead-made : (ds : List ℕ) (n t k : ℕ) (i : Option ℕ) (s : Machine) (f : Front) (front : List Read) (b : Bus)
     → made_before ds t (front ++ reads_before ds n t (ahead ds n k i s f)) b ≡ made_before ds t (front ++ asked_ahead ds n k i s f) b
-unfolding ahead reads_before asked_ahead
+unfolding ahead reads_before
 ahead-made ds n t zero i s f front b = refl
 ahead-made ds n t (suc k) i s f front b = by (nat_lt (row_of_entry ds n f (entry i s)).p t) refl (ahead-made ds n t k None (guess i s) (front_after_entry ds n f (entry i s)) (front ++ reads_of_entry ds n f (entry i s)) b)
   where

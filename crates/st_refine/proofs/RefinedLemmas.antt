@@ -21,7 +21,7 @@ use Rattle.st_ahead.specs.declared.events.Settled.TheVariants.{Goes, Interrupt, 
 use Rattle.st_ahead.proofs.Settling.{due-taken}
 use Rattle.st_ahead.proofs.Standing.{guess-seen}
 use Rattle.st_refine.specs.Reached.{IsReached, MayTick}
-use Rattle.st_refine.specs.Refined.{row_of, IsUnwound, AddsOneAtMost}
+use Rattle.st_refine.specs.Refined.{row_before, IsUnwound, AddsOneAtMost}
 use Rattle.st_refine.proofs.LevelLists.{none-before, one-more, done-levels}
 use Rattle.st_refine.proofs.Kept.{IsIdle, IsPhase, IsKept, idle-of, fresh-of, kept, kept-ended, seen-idle, ended-rest, quiet, closing-cases}
 use Rattle.st_refine.proofs.SplitLemmas.{plan-address, shown-none}
@@ -97,7 +97,7 @@ tick-row m made since from may done = (
 )
 
 pub tick-times : (m : Overlap) → is_done m ≡ true
-    → ((row_done m).p ≡ (row_of 0 m).p) × ((row_done m).r ≡ (row_of 0 m).r) × ((row_done m).c ≡ (row_of 0 m).c)
+    → ((row_done m).p ≡ (row_before 0 m).p) × ((row_done m).r ≡ (row_before 0 m).r) × ((row_done m).c ≡ (row_before 0 m).c)
 unfolding oldest_row front_behind guesses
 tick-times m done = (refl, refl, sym (eqb-true (oldest_row m).c m.now done))
 

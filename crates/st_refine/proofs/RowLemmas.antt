@@ -11,7 +11,7 @@ use Rattle.st_segment.specs.Guesses.{table_behind}
 use Rattle.st_rows.proofs.MadeLemmas.{before-cases}
 use Rattle.st_ahead.specs.Overlap.{Overlap, state_ahead, oldest_row, levels_of, last_tick_made}
 use Rattle.st_refine.specs.Reached.{IsReached}
-use Rattle.st_refine.specs.Refined.{row_of}
+use Rattle.st_refine.specs.Refined.{row_before}
 use Rattle.st_refine.specs.Openings.{Opening, Outside, state_after, front_at, StandsAt}
 use Rattle.st_refine.proofs.LevelLists.{done-behind, level-early, behind-late, level-later}
 use Rattle.st_refine.proofs.Kept.{IsIdle, IsPhase, IsKept, fresh-of, kept, row-idle, closing-cases, late-fresh}
@@ -72,7 +72,7 @@ oldest-behind m is =
     ]
 
 pub levels-told : (m : Overlap) (made since k : ℕ) → IsReached m made since → k < length (levels_of m)
-    → ((row_of k m).p < m.now) × (last_tick_made m < (row_of k m).c)
+    → ((row_before k m).p < m.now) × (last_tick_made m < (row_before k m).c)
 unfolding levels_of oldest_row
 levels-told m made since k from few =
     let is = kept from in (
@@ -81,7 +81,7 @@ levels-told m made since k from few =
     )
 
 pub next-told : (m : Overlap) (made since : ℕ) → IsReached m made since
-    → (m.now ≤ (row_of (length (levels_of m)) m).p) × (last_tick_made m < (row_of (length (levels_of m)) m).c)
+    → (m.now ≤ (row_before (length (levels_of m)) m).p) × (last_tick_made m < (row_before (length (levels_of m)) m).c)
 unfolding levels_of oldest_row
 next-told m made since from =
     let is = kept from in (

@@ -1,7 +1,8 @@
 -- What is shown of the levels.
-use Rattle.std.specs.Prelude.{IfSome, get_or, map, replicate, ◌-◌, ◌++◌, if◌then◌else◌}
+use Rattle.std.specs.Prelude.{IfSome, option_map, unwrap_or, get_or, map, replicate, ◌-◌, ◌++◌, if◌then◌else◌}
 use Rattle.std.proofs.Common.{◌≡◌, ℕ, zero, suc, ◌+◌, ◌<◌, ◌≤◌, ◌^◌, Bool, true, false, List, [], ◌∷◌, length, Option, None, Some, refl, sym, ◌∙◌, ap, arith}
 use Rattle.std.proofs.lemmas.List.{length-append, length-map, length-replicate}
+use Rattle.st_bits.specs.declared.register.TheConstants.{FIRST_INDEX_WORD}
 use Rattle.st_state.specs.Machine.{Machine, IsMachine, word}
 use Rattle.st_prep.specs.Fetch.{address_by, index_words, place_of}
 use Rattle.st_prep.specs.Plan.{plan, aim, sight, side_word, needs, prepared_entry, prepared_by, suppressed_entry, entry_at as entry_of}
@@ -25,7 +26,7 @@ use Rattle.st_ahead.specs.Shown.{word_before_change, level_shown, view_at_tick, 
 use Rattle.st_ahead.specs.declared.events.LevelView.{LevelView}
 use Rattle.st_ahead.proofs.Settling.{counted-index}
 use Rattle.st_refine.specs.Reached.{IsReached}
-use Rattle.st_refine.specs.Refined.{state_before, table_before, word_before, level_seen}
+use Rattle.st_refine.specs.Refined.{state_before, table_before, level_seen}
 use Rattle.st_refine.proofs.LevelLists.{first-ones}
 use Rattle.st_refine.proofs.Kept.{IsKept, kept, idle-of, seen-idle}
 use Rattle.st_refine.proofs.InTime.{levels-few, made-ticks}
@@ -158,7 +159,7 @@ plan-address s t =
     let v = sight s (place_of s t) in
     ap (λ (p : Place). p.address) (place-by (aim v).fault v.place (aim v) v.x (side_word t s (needs v).index_read))
 
-kept-by : (c : Option IndexChange) (s : Machine) → ChangeKeeps (index_words s) c → IfSome c IsChange → word_before_change c ≡ word_before c s
+kept-by : (c : Option IndexChange) (s : Machine) → ChangeKeeps (index_words s) c → IfSome c IsChange → word_before_change c ≡ unwrap_or (option_map (λ x. word s (FIRST_INDEX_WORD + x.number)) c) 0
 kept-by None s keeps is = refl
 kept-by (Some c) s keeps is = sym keeps ∙ index-at s c.number is.number
 

@@ -1,10 +1,9 @@
 -- What is shown of the levels, and what calls leave of them.
-use Rattle.std.specs.Prelude.{ℕ, ◌≡◌, ◌+◌, nat_le, List, [], ◌∷◌, ◌++◌, Option, None, Some, option_map, ◌⊎◌}
+use Rattle.std.specs.Prelude.{ℕ, ◌≡◌, ◌+◌, nat_le, List, [], ◌∷◌, ◌++◌, Option, option_map, unwrap_or, ◌⊎◌}
 use Rattle.st_bits.specs.declared.register.TheConstants.{FIRST_INDEX_WORD}
 use Rattle.st_state.specs.Machine.{Machine, word}
 use Rattle.st_prep.specs.Fetch.{address_by, index_words}
 use Rattle.st_prep.specs.Plan.{plan}
-use Rattle.st_prep.specs.declared.entries.IndexChange.{IndexChange}
 use Rattle.st_rows.specs.Rows.{row_of_entry, fills}
 use Rattle.st_rows.specs.declared.front.Front.{Front}
 use Rattle.st_rows.specs.declared.front.EntryTicks.{EntryTicks}
@@ -31,8 +30,8 @@ module _ (k : ℕ) (m : Overlap) where
   front_before = front_behind m.delays m.levels k m.taken (state_ahead m) m.front
 
   -- its row
-  abbrev pub row_of : EntryTicks
-  row_of =
+  abbrev pub row_before : EntryTicks
+  row_before =
       row_of_entry m.delays m.levels front_before (entry table_before state_before)
 
   -- when its first two operand words above the registers are there: each when its read is answered
@@ -41,23 +40,19 @@ module _ (k : ℕ) (m : Overlap) where
   fills_at = fills m.delays m.levels front_before
       (entry table_before state_before)
 
--- the index word that a change replaces, as it stands in the state before; 0 without a change
-abbrev pub word_before : Option IndexChange → Machine → ℕ
-word_before None s = 0
-word_before (Some c) s = word s (FIRST_INDEX_WORD + c.number)
-
 -- entry k ahead as a level, shown at a tick: its address, its P, the number of the index word that
--- it changes and that word before its own step, and whether its R has come
+-- it changes and that word before its own step, 0 where it changes none, and whether its R has come
 abbrev pub level_seen : ℕ → ℕ → Overlap → LevelView
 level_seen tick k m =
     let s = state_before k m in
     let t = table_before k m in
+    let change = (plan s t).index in
     record {
       address = address_by t s;
-      p = (row_of k m).p;
-      index = option_map (λ c. c.number) (plan s t).index;
-      kept = word_before (plan s t).index s;
-      ready = nat_le (row_of k m).r tick;
+      p = (row_before k m).p;
+      index = option_map (λ c. c.number) change;
+      kept = unwrap_or (option_map (λ c. word s (FIRST_INDEX_WORD + c.number)) change) 0;
+      ready = nat_le (row_before k m).r tick;
     }
 
 -- ---- what calls leave of the levels

@@ -8,7 +8,7 @@ use Rattle.st_state.specs.Orders.{is_due}
 use Rattle.st_exec.specs.Step.{rests}
 use Rattle.st_ahead.specs.Overlap.{Overlap, interrupt_due}
 use Rattle.st_ahead.specs.Calls.{is_done, row_done, machine_after_completion, machine_after_tick, machine_after_pass, machine_after_settling, answer, answer_by}
-use Rattle.st_ahead.specs.RunTo.{after_ticks, may_come, IsPassed, ArePassed, RunsTo}
+use Rattle.st_ahead.specs.RunTo.{after_ticks, may_come_from_outside, IsPassed, ArePassed, RunsTo}
 use Rattle.st_ahead.specs.RowsDone.{Queue, queue_with, rows_in_ticks}
 use Rattle.st_ahead.specs.declared.events.Row.{Row}
 use Rattle.st_ahead.specs.declared.events.Settled.TheVariants.{Goes}
@@ -54,7 +54,7 @@ goes-by None behind true m goes = absurd (cc goes)
 goes-by None (Some h) false m goes = absurd (cc goes)
 goes-by None None false m goes = (refl, refl)
 
-goes-quiet : (m : Overlap) (count : ℕ) → answer m ≡ Goes → may_come count m ≡ false → IsQuiet m
+goes-quiet : (m : Overlap) (count : ℕ) → answer m ≡ Goes → may_come_from_outside count m.state ≡ false → IsQuiet m
 unfolding answer
 goes-quiet m count goes none =
     let by = goes-by (interrupt_due m) m.behind (rests m.state) m goes in
@@ -127,8 +127,8 @@ module _ (left tick : ℕ) (t : Together) (before : IsBeforeEntry t) (in_time : 
     abbrev next : Together
     next = record t { machine = machine_after_settling (machine_after_tick o) }
 
-    none : may_come count m ≡ false
-    none = subst {A = Overlap} (λ x. may_come count x ≡ false) ticked-is (passes.nothing due)
+    none : may_come_from_outside count m.state ≡ false
+    none = subst {A = Overlap} (λ x. may_come_from_outside count x.state ≡ false) ticked-is (passes.nothing due)
 
     quiet : IsQuiet m
     quiet = goes-quiet m count (subst {A = Overlap} (λ x. answer x ≡ Goes) ticked-is passes.goes) none

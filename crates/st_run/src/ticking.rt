@@ -1,5 +1,5 @@
 //! Ticks up to an entry that is told, or up to a snapshot.
-ghost use Rattle.std.specs.Prelude.{◌≡◌, ◌-◌, ◌<◌, ◌≤◌, ◌^◌, None, IfSome};
+ghost use Rattle.std.specs.Prelude.{◌≡◌, ◌-◌, ◌<◌, ◌≤◌, ◌^◌, None, IfSome, option_map};
 ghost use Rattle.st_ahead.specs.Overlap.{oldest_row};
 ghost use Rattle.st_run.specs.Together.{IsBeforeEntry};
 ghost use Rattle.st_run.specs.Ticking.{AreMade, AreTicked, last_for};
@@ -44,9 +44,8 @@ pub(crate) fn run_many<const N: usize>(
     requires count { count ≤ 2 ^ 63 }
     ensures made { AreMade (RunsTo count (last_for None) result) driven.old driven.new }
     ensures rows { rows.new ≡ queue_with
-        (rows_in_ticks (ticks_passed (last_for None) driven.old.machine.now result)
-        driven.old.machine)
-        rows.old }
+        (rows_in_ticks (ticks_passed (last_for None) driven.old.machine.now
+        (option_map (λ row. row.c) result)) driven.old.machine) rows.old }
 {
     driven.machine.run_to(count, LAST, rows)
 }

@@ -1,4 +1,6 @@
 use Rattle.std.proofs.Common.{ap, ◌≡◌, ◌-◌, ◌<◌, ◌^◌, false, None, sym, subst, arith}
+use Rattle.std.specs.Prelude.{option_map}
+use Rattle.st_ahead.specs.declared.events.Row.{Row}
 use Rattle.st_ahead.specs.RowsDone.{queue_with, rows_in_ticks, ticks_passed}
 use Rattle.st_ahead.specs.Overlap.{Overlap}
 use Rattle.st_run.specs.Together.{Together}
@@ -14,5 +16,5 @@ invariant_of-driven g c =
 
 pub returns-clause-rows : goal.returns-clause-rows
 returns-clause-rows g c =
-    subst {A = Together} (λ t. c.run_to.new.rows ≡ queue_with (rows_in_ticks (ticks_passed (last_for None) t.machine.now c.run_to.result) t.machine) c.args.rows.now)
+    subst {A = Together} (λ t. c.run_to.new.rows ≡ queue_with (rows_in_ticks (ticks_passed (last_for None) t.machine.now (option_map (λ (r : Row). r.c) c.run_to.result)) t.machine) c.args.rows.now)
     c.driven.view_is c.run_to.ensures.rows

@@ -27,9 +27,9 @@ plan_before-requires-clause-known g c = λ waits.
     let n = g.row.N in
     let s = c.args.state.now in
     let due = c.args.due in
-    let t = c.requires.going.table in
-    let f = c.requires.going.front in
-    let tick = c.requires.going.goes.tick in
+    let t = c.requires.going.goes.table in
+    let f = c.requires.going.goes.front in
+    let tick = c.requires.going.tick in
     let view : LookView = record { levels = c.self.inside.levels; front = c.self.inside.front; log = c.self.inside.log; next = c.self.inside.next } in
     let is = subst (λ (w : LookView). IsGoing ds n tick tick t s f w) (sym c.self.view_is) c.requires.going.goes.going in
     let at : due ≡ due_of view.levels.plans = c.requires.due ∙ ap (λ (w : LookView). due_of w.levels.plans) (sym c.self.view_is) in
@@ -47,13 +47,13 @@ plan_before-requires-clause-front g c =
     let ds = c.args.delays.now.list in
     let n = g.row.N in
     let s = c.args.state.now in
-    let t = c.requires.going.table in
-    let f = c.requires.going.front in
-    let tick = c.requires.going.goes.tick in
+    let t = c.requires.going.goes.table in
+    let f = c.requires.going.goes.front in
+    let tick = c.requires.going.tick in
     let view : LookView = record { levels = c.self.inside.levels; front = c.self.inside.front; log = c.self.inside.log; next = c.self.inside.next } in
     let is = subst (λ (w : LookView). IsGoing ds n tick tick t s f w) (sym c.self.view_is) c.requires.going.goes.going in
     going-front ds n tick tick t s f view is c.requires.few c.index.ensures.few
-    (omega (arith, c.requires.going.goes.soon, c.requires.early))
+    (omega (arith, c.requires.going.soon, c.requires.early))
 
 pub returns-clause-going : goal.returns-clause-going
 returns-clause-going g c = λ t f tick given.

@@ -75,15 +75,16 @@ fill-filled-requires g c =
     let becomes = planned_entries_become_levels ds n now t s f view c.requires.some c.requires.few
     (delays-are c.args.delays.now) c.index.ensures.few c.requires.early is planned due in
     let entry_is : c.prepare.new.self.entry ≡ view.next.entry = ap (λ (next : Next). next.entry) c.prepare.ensures.rest in
+    let same = entry_is ∙ (becomes.is_next.planned planned).entry in
     let formed_is : c.prepare.new.self.formed ≡ view.next.formed = ap (λ (next : Next). next.formed) c.prepare.ensures.rest in
     let words_are : c.prepare.new.self.words ≡ view.next.words = ap (λ (next : Next). next.words) c.prepare.ensures.rest in
     record {
       entry = subst (λ (e : Entry). IsEntryInTime e) (sym entry_is) becomes.range;
       tight = is.tight;
       early = omega (arith, becomes.early);
-      address = ap (λ (x : Formed). x.a) formed_is ∙ becomes.address ∙ ap (tick_a ds view.front) (sym entry_is);
-      bus = ap (λ (x : Fetching). x.bus) words_are ∙ becomes.bus ∙ ap (bus_a ds view.front) (sym entry_is);
-      tick = ap (λ (x : Formed). x.p) formed_is ∙ becomes.tick ∙ ap (tick_p ds n view.front) (sym entry_is);
+      address = ap (λ (x : Formed). x.a) formed_is ∙ (becomes.is_next.planned planned).address ∙ ap (tick_a ds view.front) (sym same);
+      bus = ap (λ (x : Fetching). x.bus) words_are ∙ (becomes.is_next.planned planned).bus ∙ ap (bus_a ds view.front) (sym same);
+      tick = ap (λ (x : Formed). x.p) formed_is ∙ (becomes.is_next.planned planned).tick ∙ ap (tick_p ds n view.front) (sym same);
     }
 
 pub push-requires : goal.push-requires
@@ -119,14 +120,14 @@ returns-clause-going g c = λ t f given.
     let x = view.next.entry in
     let new : LookView = record { levels = c.push.new.self; front = c.pass.new.self; log = c.fill-filled.new.log; next = c.restart.new.self } in
     let filled = c.fill-filled.result in
-    let same : x ≡ entry k u = becomes.same in
+    let same : x ≡ entry k u = (becomes.is_next.planned planned).entry in
     let serial : (entry k u).serial ≡ true → u ≡ s = λ alone. becomes.alone (ap (λ (e : Entry). e.serial) same ∙ alone) in
     let before = subst (λ (words : List ℕ). IsStateBefore now view.front.past words s u) (sym c.index.ensures.words) becomes.before in
     let plan_is : c.prepare.new.self.prepared ≡ plan u k =
     c.prepare.ensures.value ds n now view.front k u becomes.indicator before becomes.is_next (sym due) serial in
     let entry_is : c.prepare.new.self.entry ≡ x = ap (λ (next : Next). next.entry) c.prepare.ensures.rest in
     let row_is : filled.row ≡ row_of_entry ds n view.front x = c.fill-filled.ensures.value ∙ ap (row_of_entry ds n view.front) entry_is in
-    let p_is : filled.row.p ≡ now = ap (λ (r : EntryTicks). r.p) row_is ∙ row-p ds n view.front x ∙ sym becomes.tick ∙ due in
+    let p_is : filled.row.p ≡ now = ap (λ (r : EntryTicks). r.p) row_is ∙ row-p ds n view.front x ∙ ap (tick_p ds n view.front) same ∙ sym (becomes.is_next.planned planned).tick ∙ due in
     let ready : (row_of_entry ds n view.front x).p ≤ (row_of_entry ds n view.front x).r = rows_are_in_order.ready ds n view.front x in
     let done : (row_of_entry ds n view.front x).r < (row_of_entry ds n view.front x).c = (rows_are_in_order.done ds n view.front x becomes.range).0 in
     let late : now < filled.row.c = omega (arith, ready, done, p_is, ap (λ (r : EntryTicks). r.p) row_is, ap (λ (r : EntryTicks). r.c) row_is) in

@@ -29,15 +29,15 @@ use Rattle.st_ring.proofs.OrderLemmas.{after-c}
 
 pub entries-init : goal.entries-init
 entries-init g c = record {
-  each = λ f now h soon awake.
-      noting-starts c.args.delays.now.list g.row.N c.args.limits.count c.args.limits.last now c.args.present.now.taken c.args.present.now.state f c.args.self.now c.args.rows.now h soon awake;
+  each = λ f now start.
+      noting-starts c.args.delays.now.list g.row.N c.args.limits.count c.args.limits.last now c.args.present.now.taken c.args.present.now.state f c.args.self.now c.args.rows.now start;
   done = c.requires.done;
 }
 
 pub go_to-requires : goal.go_to-requires
 go_to-requires g c =
     let starts = c.requires.starts in
-    let run = (c.entries.invariant.each starts.front starts.now starts.look starts.soon starts.awake).run in (
+    let run = (c.entries.invariant.each starts.0 starts.1 starts.2).run in (
       omega arith,
       (
         c.requires.some,
@@ -46,10 +46,9 @@ go_to-requires g c =
           (
             c.args.limits.early,
             record {
-              table = c.entries.present.taken;
-              front = run.front;
-              since = run.tick;
-              goes = record { tick = run.tick; going = run.going; behind = omega arith; soon = run.soon };
+              tick = run.tick;
+              goes = record { table = c.entries.present.taken; front = run.front; going = run.going };
+              soon = run.soon;
             },
           ),
         ),
@@ -59,19 +58,19 @@ go_to-requires g c =
 pub complete-done-requires : goal.complete-done-requires
 complete-done-requires g c =
     let starts = c.requires.starts in
-    let run = (c.entries.invariant.each starts.front starts.now starts.look starts.soon starts.awake).run in
+    let run = (c.entries.invariant.each starts.0 starts.1 starts.2).run in
     let at = c.in-Some.ensures.goes c.entries.present.taken run.front run.tick (record { tick = run.tick; going = run.going; behind = omega arith; soon = run.soon }) in
     (omega arith, (at.some, c.entries.invariant.done))
 
 pub returns-in_default : goal.returns-in_default
-returns-in_default g c = λ f now h soon awake.
+returns-in_default g c = λ f now start.
     let ds = c.args.delays.now.list in
     let n = g.row.N in
     let k = c.entries.present.taken in
     let u = c.entries.present.state in
     let are = delays-are c.args.delays.now in
     let last = c.args.limits.last in
-    let noting = c.entries.invariant.each f now h soon awake in
+    let noting = c.entries.invariant.each f now start in
     let run = noting.run in
     let out = c.in_default.ensures.goes k run.front run.tick (record { tick = run.tick; going = run.going; behind = omega arith; soon = run.soon }) in
     let filled = (c.fill.ensures.filled ds last (last + 1) k u run.front are out (omega arith) (omega arith) out.not_done (λ w. refl)).0 in
@@ -91,11 +90,11 @@ entries-preserved g c =
     let u = c.entries.present.state in
     let are = delays-are c.args.delays.now in
     let starts = c.requires.starts in
-    let run = (c.entries.invariant.each starts.front starts.now starts.look starts.soon starts.awake).run in
+    let run = (c.entries.invariant.each starts.0 starts.1 starts.2).run in
     let goes = c.is_stopped.ensures.goes c.if-is_stopped.false in
     record {
-      each = λ f now h soon awake.
-          let noting = c.entries.invariant.each f now h soon awake in
+      each = λ f now start.
+          let noting = c.entries.invariant.each f now start in
           let run = noting.run in
           let at = c.in-Some.ensures.goes k run.front run.tick (record { tick = run.tick; going = run.going; behind = omega arith; soon = run.soon }) in
           let due = c.in-Some.tick in
@@ -120,7 +119,7 @@ entries-smaller g c =
     let u = c.entries.present.state in
     let are = delays-are c.args.delays.now in
     let starts = c.requires.starts in
-    let run = (c.entries.invariant.each starts.front starts.now starts.look starts.soon starts.awake).run in
+    let run = (c.entries.invariant.each starts.0 starts.1 starts.2).run in
     let at = c.in-Some.ensures.goes k run.front run.tick (record { tick = run.tick; going = run.going; behind = omega arith; soon = run.soon }) in
     let due = c.in-Some.tick in
     let all = c.complete-done.ensures ds (due - 1) due k run.front are at.look at.row_is in
@@ -133,13 +132,13 @@ entries-smaller g c =
     )
 
 pub returns-then-is_stopped : goal.returns-then-is_stopped
-returns-then-is_stopped g c = λ f now h soon awake.
+returns-then-is_stopped g c = λ f now start.
     let ds = c.args.delays.now.list in
     let n = g.row.N in
     let k = c.entries.present.taken in
     let u = c.entries.present.state in
     let are = delays-are c.args.delays.now in
-    let noting = c.entries.invariant.each f now h soon awake in
+    let noting = c.entries.invariant.each f now start in
     let run = noting.run in
     let at = c.in-Some.ensures.goes k run.front run.tick (record { tick = run.tick; going = run.going; behind = omega arith; soon = run.soon }) in
     let due = c.in-Some.tick in

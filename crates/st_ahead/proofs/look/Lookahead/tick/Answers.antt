@@ -53,7 +53,7 @@ returns-then-len-gt0-clause-ticked g c = λ ds tick t f one most are h next.
     let v = c.args.self.now in
     let waits = done-after ds n tick now t s f v.front v.levels.ring v.levels.plans h.outlook.machine h.outlook.indicator h.outlook.ahead.levels late in
     let filled = c.fill-then-len-gt0.ensures.filled ds tick now t s f are (outlook-of ds n tick now t s f v h) (omega (arith, soon)) (omega arith) waits (λ w. refl) in
-    record { state = refl; later = λ same. absurd (omega (arith, late, same)); look = filled.0 }
+    (refl, (λ same. absurd (omega (arith, late, same))), filled.0)
 
 pub returns-else-len-gt0-clause-ticked : goal.returns-else-len-gt0-clause-ticked
 returns-else-len-gt0-clause-ticked g c = λ ds tick t f one most are h next.
@@ -66,8 +66,4 @@ returns-else-len-gt0-clause-ticked g c = λ ds tick t f one most are h next.
     let empty : count v ≡ 0 = subst (λ (w : LookView). count w ≡ 0) is (omega (arith, c.len.ensures.value, c.if-len-gt0.false)) in
     let look = look-without ds n tick now t s f v empty h in
     let none = looks_are_levels ds n now now t s f v one most are (omega arith) (omega (arith, empty)) look in
-    record {
-      state = refl;
-      later = unprepared ds n (count v) now t s f one empty are (entry-ranges t s h.outlook.machine h.outlook.indicator) h.outlook.oldest none;
-      look = look;
-    }
+    (refl, unprepared ds n (count v) now t s f one empty are (entry-ranges t s h.outlook.machine h.outlook.indicator) h.outlook.oldest none, look)

@@ -35,7 +35,7 @@ end-dropped-requires g c =
         tt,
         (
           omega (arith, early),
-          c.self.invariant.near (fresh-closing i.stopped g.row.N i.delays.list i.present.state i.present.taken i.behind i.now i.owed i.ended i.fresh i.look done),
+          (c.self.invariant.done (fresh-closing i.stopped g.row.N i.delays.list i.present.state i.present.taken i.behind i.now i.owed i.ended i.fresh i.look done)).1,
         ),
       ),
     )

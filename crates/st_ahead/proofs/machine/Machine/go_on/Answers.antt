@@ -27,10 +27,9 @@ go_on-requires g c =
           (
             both.1,
             record {
-              table = i.present.taken;
-              front = f;
-              since = i.now;
-              goes = record { tick = i.now; going = look-goes i.delays.list g.row.N i.now i.present.taken i.present.state f i.look both.0; behind = omega arith; soon = omega arith };
+              tick = i.now;
+              goes = record { table = i.present.taken; front = f; going = look-goes i.delays.list g.row.N i.now i.present.taken i.present.state f i.look both.0 };
+              soon = omega arith;
             },
           ),
         ),

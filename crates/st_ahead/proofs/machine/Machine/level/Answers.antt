@@ -1,10 +1,11 @@
-use Rattle.std.specs.Prelude.{get_or}
+use Rattle.std.specs.Prelude.{get_or, map, Some}
 use Rattle.std.proofs.Common.{◌≡◌, ◌≤◌, length, None, ap, subst, ◌∙◌, sym, arith}
 use Rattle.st_rows.proofs.Within.{delays-are}
 use Rattle.st_ahead.specs.Overlap.{Overlap, state_ahead, last_tick_made}
+use Rattle.st_segment.specs.Ahead.{Ahead, ahead}
 use Rattle.st_ahead.specs.Look.{count}
-use Rattle.st_ahead.specs.Shown.{view_at_tick}
-use Rattle.st_ahead.specs.Inside.{overlap_of, kept_at}
+use Rattle.st_ahead.specs.Shown.{level_shown, view_at_tick}
+use Rattle.st_ahead.specs.Inside.{overlap_of}
 use Rattle.st_ahead.proofs.Showing.{look-inside, soon-last, showing}
 use Rattle.st_ahead.proofs.Views.{showing-level, showing-eight}
 use Rattle.st_ahead.proofs.machine.Machine.level.Goals as goal
@@ -20,7 +21,9 @@ returns-clause-value g c =
     c.self.invariant.some c.self.invariant.few (delays-are i.delays) (soon-last i.owed i.now) c.level.ensures.few look) in
     let tick = c.last_tick-tick.ensures ∙ ap (λ (x : Overlap). last_tick_made x) (sym c.self.view_is) in
     subst (λ (x : Overlap). c.level.result ≡ get_or (view_at_tick x).levels c.args.k None) c.self.view_is
-    (c.level.ensures.value ∙ ap (λ t. kept_at t i.look.levels.ring i.look.levels.plans c.args.k) tick ∙ showing-level m i.look c.args.k is)
+    (c.level.ensures.value i.delays.list n (last_tick_made m) i.present.taken (state_ahead m) m.front look.outlook.ahead
+    ∙ ap (λ t. get_or (map (λ (a : Ahead). Some (level_shown t a)) (ahead i.delays.list n (count i.look) i.present.taken (state_ahead m) m.front)) c.args.k None) tick
+    ∙ showing-level m i.look c.args.k is)
 
 pub returns-clause-eight : goal.returns-clause-eight
 returns-clause-eight g c =

@@ -1,3 +1,4 @@
+use Rattle.std.specs.Prelude.{option_map}
 use Rattle.std.proofs.Common.{◌≡◌, ◌+◌, ◌-◌, ◌<◌, ◌^◌, true, false, Option, None, refl, sym, subst, ◌∙◌, ap, arith}
 use Rattle.st_state.specs.Machine.{Machine}
 use Rattle.st_prep.specs.Plan.{plan}
@@ -7,14 +8,14 @@ use Rattle.st_segment.specs.Entries.{entry}
 use Rattle.st_ring.specs.Levels.{oldest_front}
 use Rattle.st_ahead.specs.Overlap.{Overlap, machine_between_ticks}
 use Rattle.st_ahead.specs.RunTo.{ArePassed, StopsAt}
-use Rattle.st_ahead.specs.RowsDone.{queue_with, rows_in_ticks}
-use Rattle.st_ahead.specs.Running.{HasRunTo, ticks_run}
+use Rattle.st_ahead.specs.RowsDone.{queue_with, rows_in_ticks, ticks_passed}
+use Rattle.st_ahead.specs.Running.{HasRunTo}
 use Rattle.st_ahead.specs.Inside.{overlap_of}
 use Rattle.st_ahead.specs.declared.look_run.Stop.{Stop}
 use Rattle.st_ahead.proofs.Idling.{passed-none}
 use Rattle.st_ahead.proofs.NotedRows.{rows-zero}
-use Rattle.st_ahead.proofs.Standing.{idle, guess-seen, told as told_row}
-use Rattle.st_ahead.proofs.Stopping.{awake-inside, settled-between, passed-machine, stopped-machine}
+use Rattle.st_ahead.proofs.Standing.{guess-seen, told as told_row}
+use Rattle.st_ahead.proofs.Stopping.{start-inside, settled-between, passed-machine, stopped-machine}
 use Rattle.st_ahead.proofs.machine.Machine.run_to.Goals as goal
 use Rattle.st_ring.proofs.Laws.{levels_are_the_entries_ahead}
 use Rattle.st_segment.proofs.Laws.{steps_are_guesses}
@@ -38,25 +39,8 @@ run_to-stop-requires g c =
     let i = c.self.inside in
     let owes = subst (λ (m : Overlap). m.owed ≡ false) (sym c.self.view_is) c.requires.settled in
     let few = subst (λ (m : Overlap). m.state.done < 2 ^ 63) (sym c.self.view_is) c.requires.done in
-    let at = idle i.stopped n i.delays.list i.present.state i.present.taken i.behind i.now i.owed i.ended i.fresh i.look c.self.invariant owes in (
-      omega arith,
-      (
-        c.self.invariant.some,
-        (
-          c.self.invariant.few,
-          (
-            few,
-            record {
-              front = oldest_front i.look.levels.plans i.look.front;
-              now = i.now;
-              look = at.look;
-              soon = omega (arith, c.if-now-last.false);
-              awake = awake-inside i.stopped n i.delays.list i.present.state i.present.taken i.behind i.now i.owed i.ended i.fresh i.look c.self.invariant owes;
-            },
-          ),
-        ),
-      ),
-    )
+    let start = start-inside i.stopped n i.delays.list i.present.state i.present.taken i.behind i.now c.args.last i.owed i.ended i.fresh i.look c.self.invariant owes (omega (arith, c.if-now-last.false)) in
+    (omega arith, (c.self.invariant.some, (c.self.invariant.few, (few, (oldest_front i.look.levels.plans i.look.front, i.now, start)))))
 
 pub invariant_of-self : goal.invariant_of-self
 invariant_of-self g c =
@@ -66,10 +50,9 @@ invariant_of-self g c =
     let w = c.run_to-stop.new.self in
     let f = oldest_front v.levels.plans v.front in
     let owes = subst (λ (m : Overlap). m.owed ≡ false) (sym c.self.view_is) c.requires.settled in
-    let at = idle i.stopped n i.delays.list i.present.state i.present.taken i.behind i.now i.owed i.ended i.fresh v c.self.invariant owes in
-    let awake = awake-inside i.stopped n i.delays.list i.present.state i.present.taken i.behind i.now i.owed i.ended i.fresh v c.self.invariant owes in
+    let start = start-inside i.stopped n i.delays.list i.present.state i.present.taken i.behind i.now c.args.last i.owed i.ended i.fresh v c.self.invariant owes (omega (arith, c.if-now-last.false)) in
     let by = subst (λ (x : Option Stop). HasRunTo i.delays.list n c.args.count c.args.last i.now i.present.taken i.present.state f c.run_to-stop.new.present.taken c.run_to-stop.new.present.state w x) c.in_default.is
-    (c.run_to-stop.ensures f i.now at.look (omega (arith, c.if-now-last.false)) awake).0 in
+    (c.run_to-stop.ensures f i.now start).0 in
     let front = levels_are_the_entries_ahead.oldest i.delays.list n c.args.last c.run_to-stop.new.present.taken c.run_to-stop.new.present.state by.front w.front w.levels by.look.outlook.ahead in
     let all = passed-machine i.stopped n i.delays.list i.present.state c.run_to-stop.new.present.state i.present.taken c.run_to-stop.new.present.taken i.behind i.now c.args.last c.args.count i.owed i.ended i.fresh v w
     c.self.invariant owes c.requires.last by front in
@@ -83,10 +66,9 @@ returns-in_default-clause-runs g c =
     let w = c.run_to-stop.new.self in
     let f = oldest_front v.levels.plans v.front in
     let owes = subst (λ (m : Overlap). m.owed ≡ false) (sym c.self.view_is) c.requires.settled in
-    let at = idle i.stopped n i.delays.list i.present.state i.present.taken i.behind i.now i.owed i.ended i.fresh v c.self.invariant owes in
-    let awake = awake-inside i.stopped n i.delays.list i.present.state i.present.taken i.behind i.now i.owed i.ended i.fresh v c.self.invariant owes in
+    let start = start-inside i.stopped n i.delays.list i.present.state i.present.taken i.behind i.now c.args.last i.owed i.ended i.fresh v c.self.invariant owes (omega (arith, c.if-now-last.false)) in
     let by = subst (λ (x : Option Stop). HasRunTo i.delays.list n c.args.count c.args.last i.now i.present.taken i.present.state f c.run_to-stop.new.present.taken c.run_to-stop.new.present.state w x) c.in_default.is
-    (c.run_to-stop.ensures f i.now at.look (omega (arith, c.if-now-last.false)) awake).0 in
+    (c.run_to-stop.ensures f i.now start).0 in
     let front = levels_are_the_entries_ahead.oldest i.delays.list n c.args.last c.run_to-stop.new.present.taken c.run_to-stop.new.present.state by.front w.front w.levels by.look.outlook.ahead in
     let all = passed-machine i.stopped n i.delays.list i.present.state c.run_to-stop.new.present.state i.present.taken c.run_to-stop.new.present.taken i.behind i.now c.args.last c.args.count i.owed i.ended i.fresh v w
     c.self.invariant owes c.requires.last by front in
@@ -101,10 +83,9 @@ invariant_of-self-2 g c =
     let w = c.run_to-stop.new.self in
     let f = oldest_front v.levels.plans v.front in
     let owes = subst (λ (m : Overlap). m.owed ≡ false) (sym c.self.view_is) c.requires.settled in
-    let at = idle i.stopped n i.delays.list i.present.state i.present.taken i.behind i.now i.owed i.ended i.fresh v c.self.invariant owes in
-    let awake = awake-inside i.stopped n i.delays.list i.present.state i.present.taken i.behind i.now i.owed i.ended i.fresh v c.self.invariant owes in
+    let start = start-inside i.stopped n i.delays.list i.present.state i.present.taken i.behind i.now c.args.last i.owed i.ended i.fresh v c.self.invariant owes (omega (arith, c.if-now-last.false)) in
     let by = subst (λ (x : Option Stop). HasRunTo i.delays.list n c.args.count c.args.last i.now i.present.taken i.present.state f c.run_to-stop.new.present.taken c.run_to-stop.new.present.state w x) c.in-Some.is
-    (c.run_to-stop.ensures f i.now at.look (omega (arith, c.if-now-last.false)) awake).0 in
+    (c.run_to-stop.ensures f i.now start).0 in
     let stop = c.in-Some.stop in
     let told = by.done_at in
     let front = levels_are_the_entries_ahead.oldest i.delays.list n stop.tick None (guess by.table by.state) (front_after_entry i.delays.list n by.front (entry by.table by.state)) w.front w.levels
@@ -124,10 +105,9 @@ returns-clause-runs g c =
     let w = c.run_to-stop.new.self in
     let f = oldest_front v.levels.plans v.front in
     let owes = subst (λ (m : Overlap). m.owed ≡ false) (sym c.self.view_is) c.requires.settled in
-    let at = idle i.stopped n i.delays.list i.present.state i.present.taken i.behind i.now i.owed i.ended i.fresh v c.self.invariant owes in
-    let awake = awake-inside i.stopped n i.delays.list i.present.state i.present.taken i.behind i.now i.owed i.ended i.fresh v c.self.invariant owes in
+    let start = start-inside i.stopped n i.delays.list i.present.state i.present.taken i.behind i.now c.args.last i.owed i.ended i.fresh v c.self.invariant owes (omega (arith, c.if-now-last.false)) in
     let by = subst (λ (x : Option Stop). HasRunTo i.delays.list n c.args.count c.args.last i.now i.present.taken i.present.state f c.run_to-stop.new.present.taken c.run_to-stop.new.present.state w x) c.in-Some.is
-    (c.run_to-stop.ensures f i.now at.look (omega (arith, c.if-now-last.false)) awake).0 in
+    (c.run_to-stop.ensures f i.now start).0 in
     let stop = c.in-Some.stop in
     let told = by.done_at in
     let front = levels_are_the_entries_ahead.oldest i.delays.list n stop.tick None (guess by.table by.state) (front_after_entry i.delays.list n by.front (entry by.table by.state)) w.front w.levels
@@ -147,13 +127,12 @@ returns-in_default-clause-rows g c =
     let v = i.look in
     let f = oldest_front v.levels.plans v.front in
     let owes = subst (λ (m : Overlap). m.owed ≡ false) (sym c.self.view_is) c.requires.settled in
-    let at = idle i.stopped n i.delays.list i.present.state i.present.taken i.behind i.now i.owed i.ended i.fresh v c.self.invariant owes in
-    let awake = awake-inside i.stopped n i.delays.list i.present.state i.present.taken i.behind i.now i.owed i.ended i.fresh v c.self.invariant owes in
-    let start = machine_between_ticks i.delays.list n i.present.state i.present.taken f i.now in
+    let start = start-inside i.stopped n i.delays.list i.present.state i.present.taken i.behind i.now c.args.last i.owed i.ended i.fresh v c.self.invariant owes (omega (arith, c.if-now-last.false)) in
+    let between = machine_between_ticks i.delays.list n i.present.state i.present.taken f i.now in
     let old = c.args.rows.now in
-    let noted = subst (λ (x : Option Stop). c.run_to-stop.new.rows ≡ queue_with (rows_in_ticks (ticks_run c.args.last i.now x) start) old) c.in_default.is
-    (c.run_to-stop.ensures f i.now at.look (omega (arith, c.if-now-last.false)) awake).1 in
-    let same : start ≡ c.args.self.now =
+    let noted = subst (λ (x : Option Stop). c.run_to-stop.new.rows ≡ queue_with (rows_in_ticks (ticks_passed c.args.last i.now (option_map (λ (y : Stop). y.tick) x)) between) old) c.in_default.is
+    (c.run_to-stop.ensures f i.now start).1 in
+    let same : between ≡ c.args.self.now =
     settled-between i.stopped n i.delays.list i.present.state i.present.taken i.behind i.now i.owed i.ended i.fresh v c.self.invariant owes ∙ c.self.view_is in
     subst (λ (m : Overlap). c.run_to-stop.new.rows ≡ queue_with (rows_in_ticks (c.args.last + 1 - m.now) m) old) same noted
 
@@ -164,12 +143,11 @@ returns-clause-rows g c =
     let v = i.look in
     let f = oldest_front v.levels.plans v.front in
     let owes = subst (λ (m : Overlap). m.owed ≡ false) (sym c.self.view_is) c.requires.settled in
-    let at = idle i.stopped n i.delays.list i.present.state i.present.taken i.behind i.now i.owed i.ended i.fresh v c.self.invariant owes in
-    let awake = awake-inside i.stopped n i.delays.list i.present.state i.present.taken i.behind i.now i.owed i.ended i.fresh v c.self.invariant owes in
-    let start = machine_between_ticks i.delays.list n i.present.state i.present.taken f i.now in
+    let start = start-inside i.stopped n i.delays.list i.present.state i.present.taken i.behind i.now c.args.last i.owed i.ended i.fresh v c.self.invariant owes (omega (arith, c.if-now-last.false)) in
+    let between = machine_between_ticks i.delays.list n i.present.state i.present.taken f i.now in
     let old = c.args.rows.now in
-    let noted = subst (λ (x : Option Stop). c.run_to-stop.new.rows ≡ queue_with (rows_in_ticks (ticks_run c.args.last i.now x) start) old) c.in-Some.is
-    (c.run_to-stop.ensures f i.now at.look (omega (arith, c.if-now-last.false)) awake).1 in
-    let same : start ≡ c.args.self.now =
+    let noted = subst (λ (x : Option Stop). c.run_to-stop.new.rows ≡ queue_with (rows_in_ticks (ticks_passed c.args.last i.now (option_map (λ (y : Stop). y.tick) x)) between) old) c.in-Some.is
+    (c.run_to-stop.ensures f i.now start).1 in
+    let same : between ≡ c.args.self.now =
     settled-between i.stopped n i.delays.list i.present.state i.present.taken i.behind i.now i.owed i.ended i.fresh v c.self.invariant owes ∙ c.self.view_is in
     subst (λ (m : Overlap). c.run_to-stop.new.rows ≡ queue_with (rows_in_ticks (c.in-Some.stop.tick - m.now) m) old) same noted

@@ -39,7 +39,7 @@ invariant_of-self g c =
     let by = subst (λ (x : Option Completed). IsTicked i.delays.list n i.now i.present.taken i.present.state f v u w x) c.in_default.is
     (c.tick-done.ensures.ticked i.delays.list (i.now - 1) i.present.taken f c.self.invariant.some c.self.invariant.few are at.look (not-first i.now v.levels.ring at.look.outlook.prepared)) in
     let all = passed-tick i.stopped n i.delays.list i.present.state u i.present.taken i.behind i.now i.owed i.ended i.fresh v w c.self.invariant owes early by
-    (levels_are_the_entries_ahead.oldest i.delays.list n i.now i.present.taken i.present.state f w.front w.levels by.look.outlook.ahead) in
+    (levels_are_the_entries_ahead.oldest i.delays.list n i.now i.present.taken i.present.state f w.front w.levels by.2.outlook.ahead) in
     all.0
 
 pub returns-in_default-clause-event : goal.returns-in_default-clause-event
@@ -57,7 +57,7 @@ returns-in_default-clause-event g c =
     let by = subst (λ (x : Option Completed). IsTicked i.delays.list n i.now i.present.taken i.present.state f v u w x) c.in_default.is
     (c.tick-done.ensures.ticked i.delays.list (i.now - 1) i.present.taken f c.self.invariant.some c.self.invariant.few are at.look (not-first i.now v.levels.ring at.look.outlook.prepared)) in
     let all = passed-tick i.stopped n i.delays.list i.present.state u i.present.taken i.behind i.now i.owed i.ended i.fresh v w c.self.invariant owes early by
-    (levels_are_the_entries_ahead.oldest i.delays.list n i.now i.present.taken i.present.state f w.front w.levels by.look.outlook.ahead) in
+    (levels_are_the_entries_ahead.oldest i.delays.list n i.now i.present.taken i.present.state f w.front w.levels by.2.outlook.ahead) in
     subst (λ (m : Overlap). is_done m ≡ false) c.self.view_is all.1
 
 pub returns-in_default-clause-after : goal.returns-in_default-clause-after
@@ -75,7 +75,7 @@ returns-in_default-clause-after g c =
     let by = subst (λ (x : Option Completed). IsTicked i.delays.list n i.now i.present.taken i.present.state f v u w x) c.in_default.is
     (c.tick-done.ensures.ticked i.delays.list (i.now - 1) i.present.taken f c.self.invariant.some c.self.invariant.few are at.look (not-first i.now v.levels.ring at.look.outlook.prepared)) in
     let all = passed-tick i.stopped n i.delays.list i.present.state u i.present.taken i.behind i.now i.owed i.ended i.fresh v w c.self.invariant owes early by
-    (levels_are_the_entries_ahead.oldest i.delays.list n i.now i.present.taken i.present.state f w.front w.levels by.look.outlook.ahead) in
+    (levels_are_the_entries_ahead.oldest i.delays.list n i.now i.present.taken i.present.state f w.front w.levels by.2.outlook.ahead) in
     subst (λ (m : Overlap). overlap_of n i.delays.list u i.present.taken i.behind i.now true i.ended i.stopped i.fresh w ≡ machine_after_tick m) c.self.view_is all.2
 
 pub invariant_of-self-2 : goal.invariant_of-self-2

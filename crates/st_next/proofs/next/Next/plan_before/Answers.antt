@@ -1,7 +1,4 @@
-use Rattle.std.proofs.Common.{refl, sym, subst, ◌∙◌, ap, arith}
-use Rattle.st_rows.specs.Ranges.{IsEntryInTime}
-use Rattle.st_rows.specs.Rows.{tick_a, bus_a, tick_p}
-use Rattle.st_next.specs.declared.next.Next.{Next}
+use Rattle.std.proofs.Common.{refl, arith}
 use Rattle.st_next.proofs.Goes.{goes-then, goes-waits, known-then}
 use Rattle.st_next.proofs.Steps.{plan-goes}
 use Rattle.st_next.proofs.Asking.{known-seen, plan-words, plan-asks, further-then, further-nothing}
@@ -26,47 +23,33 @@ returns-clause-still c late = absurd (omega (arith, late, c.waits_for.ensures, c
 pub form-self-requires-clause-entry : goal.form-self-requires-clause-entry
 form-self-requires-clause-entry c =
     let p = (c.if-not-prepare_own_before.ensures.prepared refl) in
-    subst IsEntryInTime (sym (ap (λ (m : Next). m.entry) p.prepared)) (known-seen _ _ _ _ _ _ _ c.if-not-prepare_own_before.ensures.unplanned (known-then _ _ _ _ _ _ _ _ _ (c.requires.known (omega (arith, c.waits_for.ensures, c.if-waits_for-due.false))) c.if-not-prepare_own_before.ensures.next) p.done _ refl _ p.found)
+    known-seen _ _ _ _ _ _ _ c.if-not-prepare_own_before.ensures.unplanned (known-then _ _ _ _ _ _ _ _ _ (c.requires.known (omega (arith, c.waits_for.ensures, c.if-waits_for-due.false))) c.if-not-prepare_own_before.ensures.next) p.done _ refl p.found p.prepared
 
 pub form-self-requires-clause-words : goal.form-self-requires-clause-words
 form-self-requires-clause-words c =
     let p = (c.if-not-prepare_own_before.ensures.prepared refl) in
-    rw (ap (λ (m : Next). m.entry) p.prepared) (plan-words _ _ _ _ _ _ _ c.if-not-prepare_own_before.ensures.unplanned (known-then _ _ _ _ _ _ _ _ _ (c.requires.known (omega (arith, c.waits_for.ensures, c.if-waits_for-due.false))) c.if-not-prepare_own_before.ensures.next) p.done _ refl _ p.found)
+    plan-words _ _ _ _ _ _ _ c.if-not-prepare_own_before.ensures.unplanned (known-then _ _ _ _ _ _ _ _ _ (c.requires.known (omega (arith, c.waits_for.ensures, c.if-waits_for-due.false))) c.if-not-prepare_own_before.ensures.next) p.done _ refl p.found p.prepared
 
 pub returns-clause-next : goal.returns-clause-next
 returns-clause-next c =
     let p = (c.if-not-prepare_own_before.ensures.prepared refl) in
     goes-then _ _ _ _ _ _ _ _ _ _ _ c.if-not-prepare_own_before.ensures.next
-    (plan-goes _ _ _ _ _ _ _ c.if-not-prepare_own_before.ensures.unplanned p.done _ refl _ _ _ p.found (record {
-      place = refl;
-      own = refl;
-      target = refl;
+    (plan-goes _ _ _ _ _ _ _ c.if-not-prepare_own_before.ensures.unplanned p.done _ refl _ _ p.found p.prepared (record {
+      rest = refl;
       awaited = c.form-self.ensures.awaited;
-      planned = refl;
-      found = refl;
-      needed = ap (λ (m : Next). m.needs) p.prepared;
-      ready = ap (λ (m : Next). m.prepared) p.prepared;
-      entry = ap (λ (m : Next). m.entry) p.prepared;
-      address = c.form-self.ensures.address ∙ ap (tick_a c.args.basis.now.timing.delays.now.list c.args.basis.now.front.now) (ap (λ (m : Next). m.entry) p.prepared);
-      bus = c.form-self.ensures.bus ∙ ap (bus_a c.args.basis.now.timing.delays.now.list c.args.basis.now.front.now) (ap (λ (m : Next). m.entry) p.prepared);
-      tick = c.form-self.ensures.tick ∙ ap (tick_p c.args.basis.now.timing.delays.now.list c.args.basis.now.timing.levels c.args.basis.now.front.now) (ap (λ (m : Next). m.entry) p.prepared);
+      address = c.form-self.ensures.address;
+      bus = c.form-self.ensures.bus;
+      tick = c.form-self.ensures.tick;
     }))
 
 pub returns-clause-further : goal.returns-clause-further
 returns-clause-further c =
     let p = (c.if-not-prepare_own_before.ensures.prepared refl) in
     further-then _ _ _ _ _ _ _ _ c.if-not-prepare_own_before.ensures.further
-    (plan-asks _ _ _ _ _ _ _ c.if-not-prepare_own_before.ensures.unplanned (known-then _ _ _ _ _ _ _ _ _ (c.requires.known (omega (arith, c.waits_for.ensures, c.if-waits_for-due.false))) c.if-not-prepare_own_before.ensures.next) p.done _ refl _ p.found _ _ _ (record {
-      place = refl;
-      own = refl;
-      target = refl;
+    (plan-asks _ _ _ _ _ _ _ c.if-not-prepare_own_before.ensures.unplanned (known-then _ _ _ _ _ _ _ _ _ (c.requires.known (omega (arith, c.waits_for.ensures, c.if-waits_for-due.false))) c.if-not-prepare_own_before.ensures.next) p.done _ refl p.found p.prepared _ _ _ (record {
+      rest = refl;
       awaited = c.form-self.ensures.awaited;
-      planned = refl;
-      found = refl;
-      needed = ap (λ (m : Next). m.needs) p.prepared;
-      ready = ap (λ (m : Next). m.prepared) p.prepared;
-      entry = ap (λ (m : Next). m.entry) p.prepared;
-      address = c.form-self.ensures.address ∙ ap (tick_a c.args.basis.now.timing.delays.now.list c.args.basis.now.front.now) (ap (λ (m : Next). m.entry) p.prepared);
-      bus = c.form-self.ensures.bus ∙ ap (bus_a c.args.basis.now.timing.delays.now.list c.args.basis.now.front.now) (ap (λ (m : Next). m.entry) p.prepared);
-      tick = c.form-self.ensures.tick ∙ ap (tick_p c.args.basis.now.timing.delays.now.list c.args.basis.now.timing.levels c.args.basis.now.front.now) (ap (λ (m : Next). m.entry) p.prepared);
+      address = c.form-self.ensures.address;
+      bus = c.form-self.ensures.bus;
+      tick = c.form-self.ensures.tick;
     }) c.form-self.ensures.log)
