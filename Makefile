@@ -14,7 +14,7 @@ zsh = $(to)/share/zsh/site-functions
 fish = $(to)/share/fish/vendor_completions.d
 
 help:
-	@echo 'make check                 prove, test and run everything, from nothing: some 35 minutes on four processors'
+	@echo 'make check                 prove, test and run everything, from nothing: some 25 minutes on four processors'
 	@echo 'make vectors               run the proved program over all vectors and examples'
 	@echo 'make tools                 try the scripts of tools/ with the proved program'
 	@echo 'make bench                 time the proved program'
@@ -47,7 +47,7 @@ proved:
 	        continue; \
 	    fi; \
 	    echo "no proved program $$why $$program" >&2; \
-	    echo 'make check makes it: some 35 minutes on four processors, with the kit (README.md, "What it needs")' >&2; \
+	    echo 'make check makes it: some 25 minutes on four processors, with the kit (README.md, "What it needs")' >&2; \
 	    echo 'status 70: no program' >&2; \
 	    exit 70; \
 	done
