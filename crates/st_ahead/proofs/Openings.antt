@@ -136,8 +136,8 @@ opening-looks ds n tick now start t s banks v is machine some early before soon 
     let f = opening_front banks start in
     let tight = opening-tight start banks early in
     let front : v.front ≡ f = is.front in
-    let next = next-none ds n now t s f v.next is.place is.own is.target is.planned is.words before refl in
-    let reads = reads-none ds v.front v.next is.own is.target is.planned in
+    let next = next-none ds n now t s f v.next is.place is.next.1 is.next.2 is.next.0 is.next.3 before refl in
+    let reads = reads-none ds v.front v.next is.next.1 is.next.2 is.next.0 in
     record {
       outlook = record {
         machine = machine;
@@ -150,7 +150,7 @@ opening-looks ds n tick now start t s banks v is machine some early before soon 
         start = soon;
         early = rw (is.ring, front) (omega (arith, soon));
         next = rw (is.ring, front) next;
-        late = λ planned. absurd (cc (sym is.planned ∙ planned));
+        late = λ planned. absurd (cc (sym is.next.0 ∙ planned));
         logged = rw (is.ring, reads, is.log) (opened-log ds f.bus.free f.bus);
       };
       full = no-slots ds n tick t s f v.levels.ring is.ring;

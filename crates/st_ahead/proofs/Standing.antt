@@ -73,7 +73,7 @@ answers-same now v w log words = rw (log, words) refl
 pub opened-answers : (now : ℕ) (t : Option ℕ) (s : Machine) (banks : LastAnswers) (start : ℕ) (v : LookView) → IsOpened t s (opening_front banks start) v
     → answers_before now v ≡ banks
 unfolding answers_left
-opened-answers now t s banks start v is = rw (is.log, is.words) refl
+opened-answers now t s banks start v is = rw (is.log, is.next.3) refl
 
 -- ---- a machine and what runs ahead of it
 

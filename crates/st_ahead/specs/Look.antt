@@ -4,7 +4,6 @@ use Rattle.std.specs.Prelude.{ℕ, ◌≡◌, ◌+◌, ◌*◌, ◌≤◌, ◌<�
 use Rattle.st_bits.specs.declared.limits.TheConstants.{MOST_DELAY}
 use Rattle.st_state.specs.Machine.{Machine, IsMachine}
 use Rattle.st_prep.specs.Fetch.{index_words, place_of}
-use Rattle.st_rows.specs.Rows.{nothing_fetched}
 use Rattle.st_rows.specs.Notes.{IsLogged}
 use Rattle.st_rows.specs.Ranges.{IsTight, most_ticks_of_entry}
 use Rattle.st_rows.specs.Asked.{Read, reads_of_entry}
@@ -14,9 +13,8 @@ use Rattle.st_segment.specs.Entries.{IsTable}
 use Rattle.st_segment.specs.Ahead.{Ahead, ahead}
 use Rattle.st_segment.specs.Guesses.{guesses, table_behind}
 use Rattle.st_ring.specs.Levels.{LevelsView, AreAhead, AreFull, AreNotDone}
-use Rattle.st_next.specs.Progress.{IsNext, Rests, reads_so_far}
+use Rattle.st_next.specs.Progress.{IsUnread, IsNext, Rests, reads_so_far}
 use Rattle.st_next.specs.declared.next.Next.{Next}
-use Rattle.st_rows.specs.Entries.{no_run}
 
 -- what is seen of it
 pub record LookView : Type 0 where
@@ -43,10 +41,7 @@ abbrev pub IsNextIf : Bool → List ℕ → ℕ → ℕ → Option ℕ → Machi
 IsNextIf true ds n now t s v =
     IsNext ds n (table_behind (count v) t) (guesses (count v) t s) v.front v.next
     × Rests now (table_behind (count v) t) (guesses (count v) t s) v.front v.next
-IsNextIf false ds n now t s v =
-    (v.next.planned ≡ false) × (v.next.own ≡ no_run)
-    × (v.next.target ≡ no_run)
-    × (v.next.words ≡ nothing_fetched v.front.bus)
+IsNextIf false ds n now t s v = IsUnread v.front.bus v.next
 
 -- the reads that are made behind the front f: those of the levels, and those that are asked for the
 -- next entry so far
@@ -91,7 +86,4 @@ pub record IsOpened (t : Option ℕ) (s : Machine) (f : Front) (v : LookView) : 
   pub front : v.front ≡ f
   pub log : v.log ≡ []
   pub place : v.next.place ≡ place_of s t
-  pub own : v.next.own ≡ no_run
-  pub target : v.next.target ≡ no_run
-  pub planned : v.next.planned ≡ false
-  pub words : v.next.words ≡ nothing_fetched f.bus
+  pub next : IsUnread f.bus v.next

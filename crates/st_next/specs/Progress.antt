@@ -4,9 +4,10 @@ use Rattle.st_state.specs.Machine.{Machine}
 use Rattle.st_prep.specs.Fetch.{place_of, words_fetched as fetched_at}
 use Rattle.st_prep.specs.Plan.{Sight, needs as needs_of, sight, prepared_entry as prepared_of}
 use Rattle.st_prep.specs.declared.entries.Prepared.{Prepared}
-use Rattle.st_rows.specs.Rows.{wanted_from, tick_a, bus_a, tick_p}
+use Rattle.st_rows.specs.Rows.{wanted_from, tick_a, bus_a, tick_p, nothing_fetched}
+use Rattle.st_rows.specs.Entries.{no_run}
+use Rattle.st_rows.specs.declared.bus.Bus.{Bus}
 use Rattle.st_rows.specs.Asked.{Read, side_asked}
-use Rattle.st_rows.specs.declared.entry.WordRun.{WordRun}
 use Rattle.st_rows.specs.declared.front.Front.{Front}
 use Rattle.st_segment.specs.Entries.{entry as entry_of, IsTable}
 use Rattle.st_next.specs.Known.{IsStateBefore}
@@ -15,6 +16,11 @@ use Rattle.st_next.specs.declared.next.Next.{Next}
 
 -- ---- the entry that is prepared next: t says whether it is a table instruction, u is the state
 -- before it, and f the front
+
+-- no word of it is asked for yet, on this bus
+abbrev pub IsUnread : Bus → Next → Type 0
+IsUnread bus next = (next.planned ≡ false) × (next.own ≡ no_run) × (next.target ≡ no_run)
+    × (next.words ≡ nothing_fetched bus)
 
 -- so many of its words are asked for, and the bus is behind them until the entry is planned
 pub record IsReadOn (ds : List ℕ) (t : Option ℕ) (u : Machine) (f : Front)

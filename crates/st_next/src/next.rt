@@ -13,7 +13,7 @@ ghost use Rattle.st_rows.specs.Ranges.{IsEntryInTime};
 ghost use Rattle.st_rows.specs.Rows.{wanted_from, fetch_word};
 ghost use Rattle.st_segment.specs.Alone.{words_of_run};
 ghost use Rattle.st_next.specs.Words.{words_alone, run_with_word as with_word_of};
-ghost use Rattle.st_next.specs.Progress.{IsKnown, IsNextReady};
+ghost use Rattle.st_next.specs.Progress.{IsUnread, IsKnown, IsNextReady};
 ghost use Rattle.st_next.specs.Going.{IsFrontInTime, IsEarly, GoesOnTo, IsReadFurther, IsPreparedBy, IsPlanAtItsTick, as_entry, prepared_as};
 
 use st_banks::Delays;
@@ -75,10 +75,7 @@ impl Next {
     /// The entry at a place, of which no word is asked for, on this bus.
     pub fn new(place: Place, bus: Bus) -> Next
         ensures place { result.place ≡ place }
-        ensures own { result.own ≡ record { first = 0; len = 0 } }
-        ensures target { result.target ≡ record { first = 0; len = 0 } }
-        ensures words { result.words ≡ record { bus = bus; answered = 0; awaited = 0 } }
-        ensures unplanned { result.planned ≡ false }
+        ensures unread { IsUnread bus result }
     {
         Next {
             place,
@@ -90,14 +87,7 @@ impl Next {
     /// The entry at another place, of which no word is asked for, on the bus behind the last one.
     pub fn restart(&mut self, place: Place)
         ensures place { self.new.place ≡ place }
-        ensures own { self.new.own ≡ record { first = 0; len = 0 } }
-        ensures target { self.new.target ≡ record { first = 0; len = 0 } }
-        ensures words { self.new.words ≡ record {
-          bus = self.old.words.bus;
-          answered = 0;
-          awaited = 0;
-        } }
-        ensures unplanned { self.new.planned ≡ false }
+        ensures unread { IsUnread self.old.words.bus self.new }
     {
         self.place = place;
         self.own = WordRun::default();

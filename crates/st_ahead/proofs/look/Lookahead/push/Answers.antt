@@ -75,7 +75,7 @@ fill-filled-requires g c =
     let becomes = planned_entries_become_levels ds n now t s f view c.requires.some c.requires.few
     (delays-are c.args.delays.now) c.index.ensures.few c.requires.early is planned due in
     let entry_is : c.prepare.new.self.entry ≡ view.next.entry = ap (λ (next : Next). next.entry) c.prepare.ensures.rest in
-    let same = entry_is ∙ (becomes.is_next.planned planned).entry in
+    let same : c.prepare.new.self.entry ≡ entry (table_behind (count view) t) (guesses (count view) t s) = entry_is ∙ (becomes.is_next.planned planned).entry in
     let formed_is : c.prepare.new.self.formed ≡ view.next.formed = ap (λ (next : Next). next.formed) c.prepare.ensures.rest in
     let words_are : c.prepare.new.self.words ≡ view.next.words = ap (λ (next : Next). next.words) c.prepare.ensures.rest in
     record {
@@ -141,8 +141,8 @@ returns-clause-going g c = λ t f given.
     going-pushed ds n now t s f view new _ c.prepare.new.self.prepared is becomes planned due c.push.ensures.ring p_is
     (c.push.ensures.not_done now is.not_done late) ahead front tight bound plan_is
     (c.restart.ensures.place ∙ c.place_behind-place.ensures)
-    c.restart.ensures.unplanned c.restart.ensures.own c.restart.ensures.target
-    (c.restart.ensures.words ∙ ap (λ (b : Bus). begun b) (c.fill-filled.ensures.bus ∙ ap (λ (e : Entry). (front_after_entry ds n view.front e).bus) entry_is ∙ ap (λ (h : Front). h.bus) (sym front)))
+    c.restart.ensures.unread.0 c.restart.ensures.unread.1 c.restart.ensures.unread.2
+    (c.restart.ensures.unread.3 ∙ ap (λ (b : Bus). begun b) (c.fill-filled.ensures.bus ∙ ap (λ (e : Entry). (front_after_entry ds n view.front e).bus) entry_is ∙ ap (λ (h : Front). h.bus) (sym front)))
     (c.fill-filled.ensures.log
     ∙ ap (λ (e : Entry). log_after_reads ds (prepared_asked ds n view.front e) c.prepare.new.self.words.bus view.log) entry_is
     ∙ ap (λ (w : Fetching). log_after_reads ds (prepared_asked ds n view.front x) w.bus view.log) (ap (λ (next : Next). next.words) c.prepare.ensures.rest))
