@@ -150,5 +150,5 @@ pub record IsBehindMoment (ds : List ℕ) (n left : ℕ) (b : Machine) (m : Mome
 -- does not wait, and no interrupt is taken
 abbrev pub still_by : Machine → Bool → List Signal → Bool
 still_by s missed xs =
-    not missed && not (signal_due s.done xs) && is_none s.reader && is_none s.printer && not s.waiting
-    && is_none (interrupt s)
+    not missed && not (signal_due s.done xs) && is_none s.reader && is_none s.printer
+    && not s.waiting && is_none (interrupt s)

@@ -15,13 +15,13 @@ use Rattle.st_prep.proofs.PlanLemmas.{plan-prepared}
 use Rattle.st_exec.specs.Ahead.{IsNotAmong}
 use Rattle.st_exec.specs.Completion.{state_after_completion}
 use Rattle.st_exec.specs.Step.{interrupt, step}
-use Rattle.st_exec.specs.Trails.{IsTrail, CanBePutBack}
+use Rattle.st_exec.specs.Trails.{TrailKeeps, IsTrail, CanBePutBack}
 use Rattle.st_exec.specs.declared.kept.Trail.{Trail}
 use Rattle.st_exec.proofs.MachineKept.{kept-completed}
 use Rattle.st_exec.proofs.UnwrittenLemmas.{IsBeside, completed-unwritten}
 use Rattle.st_back.specs.declared.kept.Kept.{Kept}
 use Rattle.st_prep.specs.declared.entries.Prepared.{Prepared}
-use Rattle.st_back.specs.Undone.{state_with_words, restored_words, unput, with_rest, state_undone, step_with_word, TrailKeeps}
+use Rattle.st_back.specs.Undone.{state_with_words, restored_words, unput, with_rest, state_undone, step_with_word}
 use Rattle.st_back.specs.Steps.{IsStepSound}
 use Rattle.st_back.proofs.UndoneLemmas.{unput-none, restored-size, restored-back}
 
@@ -99,20 +99,6 @@ trail-undone s u k t fits none size same =
     same-machine s d.words k.trail (ext_get_or 0 d.words s.words (size_d ∙ sym m.size) (λ i h. registers i)) t.ic t.enabled
     t.waiting t.done t.reader t.printer
 
--- what a trail of a step keeps
-pub trail-keeps : (s : Machine) (t : Trail) → IsTrail s t → TrailKeeps s t
-trail-keeps s t is = record {
-  machine = is.machine;
-  before = is.before;
-  registers = is.registers;
-  done = is.done;
-  ic = is.ic;
-  enabled = is.enabled;
-  waiting = is.waiting;
-  reader = is.reader;
-  printer = is.printer;
-}
-
 -- an entry is undone that is completed, whatever the counter is set to then
 pub entry-undone : (p : Prepared) (s : Machine) (ic : ℕ) (k : Kept) → IsPrepared p → TrailKeeps s k.trail → CanBePutBack k.trail
     → k.puts ≡ 0 → k.trail.writes ≡ p.writes → state_undone k (record (state_after_completion p s) { ic = ic }) ≡ s
@@ -138,11 +124,11 @@ pub step-undone : (s : Machine) (k : Kept) → IsTrail s k.trail → CanBePutBac
     → state_undone k (step s) ≡ s
 unfolding step
 step-undone s k t fits none =
-    let m = t.machine in
+    let m = t.keeps.machine in
     let p = plan s (interrupt s) in
     let h : IsPrepared p = plan-prepared s (interrupt s) m (interrupt-below s) in
     let n = kept-completed p s h m in
-    trail-undone s (state_after_completion p s) k (trail-keeps s k.trail t) fits none (n.size ∙ sym m.size)
+    trail-undone s (state_after_completion p s) k t.keeps fits none (n.size ∙ sym m.size)
     (λ w above apart. completed-unwritten p s w h m above (subst (IsNotAmong w) t.writes apart))
 
 -- ---- words that are put since

@@ -1,8 +1,7 @@
 -- What a state is where the step that was kept last is undone.
-use Rattle.std.specs.Prelude.{ℕ, zero, suc, ◌≡◌, ◌+◌, ◌<◌, List, slice_index, slice_set}
-use Rattle.st_state.specs.Machine.{Machine, IsMachine, word, state_with_store}
+use Rattle.std.specs.Prelude.{ℕ, zero, suc, ◌+◌, List, slice_index, slice_set}
+use Rattle.st_state.specs.Machine.{Machine, state_with_store}
 use Rattle.st_prep.specs.declared.entries.Words.{Words}
-use Rattle.st_exec.specs.Operand.{AreOperands}
 use Rattle.st_exec.specs.declared.kept.Trail.{Trail}
 use Rattle.st_back.specs.declared.kept.Kept.{Kept}
 
@@ -49,16 +48,3 @@ step_with_word k w x = record k {
   contents = slice_set k.contents k.puts x;
   puts = k.puts + 1;
 }
-
--- a trail keeps of a state what stands in the words that it names, the registers, and all that is
--- no word
-pub record TrailKeeps (s : Machine) (t : Trail) : Type 0 where
-  pub machine : IsMachine s
-  pub before : AreOperands t.writes t.before s
-  pub registers : (w : ℕ) → w < 32 → slice_index t.registers w ≡ word s w
-  pub done : t.done ≡ s.done
-  pub ic : t.ic ≡ s.ic
-  pub enabled : t.enabled ≡ s.enabled
-  pub waiting : t.waiting ≡ s.waiting
-  pub reader : t.reader ≡ s.reader
-  pub printer : t.printer ≡ s.printer

@@ -1,15 +1,15 @@
 //! How a step is undone.
-ghost use Rattle.std.specs.Prelude.{◌≡◌, ◌+◌, ◌≤◌, ◌<◌, ℕ, slice_index};
+ghost use Rattle.std.specs.Prelude.{◌≡◌, ◌+◌, ◌≤◌, ℕ};
 ghost use Rattle.st_bits.specs.Storage.{words_of_storage};
-ghost use Rattle.st_state.specs.Machine.{Machine, word as word_of};
+ghost use Rattle.st_state.specs.Machine.{Machine};
 ghost use Rattle.st_prep.specs.Ranges.{IsRuns, AreInside, IsPrepared};
 ghost use Rattle.st_exec.specs.Completion.{state_after_completion};
 ghost use Rattle.st_exec.specs.Trails.{CanBePutBack};
-ghost use Rattle.st_back.specs.Undone.{state_with_words, restored_words, unput, with_rest, state_undone, TrailKeeps};
+ghost use Rattle.st_back.specs.Undone.{state_with_words, restored_words, unput, with_rest, state_undone};
 ghost use Rattle.st_back.specs.Steps.{IsStepSound};
 
 use crate::kept::Kept;
-use st_exec::{Trail, read_operands};
+use st_exec::{Trail, trail_of};
 use st_prep::{Prepared, Words};
 use st_state::State;
 
@@ -59,39 +59,6 @@ fn restore_rest(trail: &Trail, state: &mut State)
     state.printer = trail.printer;
 }
 
-// Words 0 to 31.
-fn registers(state: &State) -> [u64; 32]
-    ensures { (w : ℕ) → w < 32 → slice_index result w ≡ word_of state.now w }
-{
-    let mut registers = [0; 32];
-    for w in 0..32 {
-        registers[w] = state.word(w as u32);
-    }
-    registers
-}
-
-// What is kept of a state before an entry is completed that is prepared.
-fn trail_of(p: &Prepared, state: &State) -> Trail
-    requires prepared { IsPrepared p.now }
-    ensures keeps { TrailKeeps state.now result }
-    ensures fits { CanBePutBack result }
-    ensures writes { result.writes ≡ p.now.writes }
-{
-    Trail {
-        index_read: None,
-        reads: p.reads,
-        writes: p.writes,
-        before: read_operands(p.writes, state),
-        registers: registers(state),
-        done: state.done,
-        ic: state.ic,
-        enabled: state.enabled,
-        waiting: state.waiting,
-        reader: state.reader,
-        printer: state.printer,
-    }
-}
-
 /// Keeps of a state what is needed to undo an entry that is prepared of it: once it is completed,
 /// and the counter set or not, `undo` gives the state back.
 pub fn keep(p: &Prepared, state: &State) -> Kept
@@ -102,7 +69,7 @@ pub fn keep(p: &Prepared, state: &State) -> Kept
         state_undone result s ≡ state.now }
 {
     Kept {
-        trail: trail_of(p, state),
+        trail: trail_of(None, p, state),
         places: [0; 8],
         contents: [0; 8],
         puts: 0,

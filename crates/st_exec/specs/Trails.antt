@@ -10,14 +10,10 @@ use Rattle.st_exec.specs.declared.kept.Trail.{Trail}
 use Rattle.st_exec.specs.declared.step.Step.{Step}
 use Rattle.st_exec.specs.declared.step.Step.TheVariants.{Plain, Interrupt, Waits}
 
--- a trail of the next step of a state: what the entry reads and writes, what the words that it
--- writes hold before it, and the registers, the number done, the counter, the marks and the orders
--- before it
-pub record IsTrail (s : Machine) (t : Trail) : Type 0 where
+-- a trail keeps of a state what stands in the words that it names, the registers, and all that is
+-- no word
+pub record TrailKeeps (s : Machine) (t : Trail) : Type 0 where
   pub machine : IsMachine s
-  pub index_read : t.index_read ≡ (needs (sight s (place_of s (interrupt s)))).index_read
-  pub reads : t.reads ≡ (plan s (interrupt s)).reads
-  pub writes : t.writes ≡ (plan s (interrupt s)).writes
   pub before : AreOperands t.writes t.before s
   pub registers : (w : ℕ) → w < 32 → slice_index t.registers w ≡ word s w
   pub done : t.done ≡ s.done
@@ -26,6 +22,13 @@ pub record IsTrail (s : Machine) (t : Trail) : Type 0 where
   pub waiting : t.waiting ≡ s.waiting
   pub reader : t.reader ≡ s.reader
   pub printer : t.printer ≡ s.printer
+
+-- a trail of the next step of a state: what the entry reads and writes, and what the trail keeps
+pub record IsTrail (s : Machine) (t : Trail) : Type 0 where
+  pub keeps : TrailKeeps s t
+  pub index_read : t.index_read ≡ (needs (sight s (place_of s (interrupt s)))).index_read
+  pub reads : t.reads ≡ (plan s (interrupt s)).reads
+  pub writes : t.writes ≡ (plan s (interrupt s)).writes
 
 -- what can be put back: the words lie in storage, the counter is one, and the areas of orders lie
 -- in storage

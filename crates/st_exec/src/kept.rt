@@ -1,11 +1,9 @@
 //! A step of which everything is kept that is needed to undo it.
 ghost use Rattle.std.specs.Prelude.{◌≡◌, ℕ, ◌<◌, ◌^◌, slice_index};
 ghost use Rattle.st_state.specs.Machine.{word as word_of};
-ghost use Rattle.st_prep.specs.Fetch.{place_of as place_at};
-ghost use Rattle.st_prep.specs.Plan.{needs, sight, plan as plan_of};
 ghost use Rattle.st_prep.specs.Ranges.{IsPrepared};
-ghost use Rattle.st_exec.specs.Step.{interrupt as interrupt_of, IsStep};
-ghost use Rattle.st_exec.specs.Trails.{IsTrail, CanBePutBack, IsKeptStep};
+ghost use Rattle.st_exec.specs.Step.{IsStep};
+ghost use Rattle.st_exec.specs.Trails.{TrailKeeps, CanBePutBack, IsKeptStep};
 
 use crate::completing::complete;
 use crate::execution::read_operands;
@@ -51,15 +49,15 @@ fn registers(state: &State) -> [u64; 32]
     registers
 }
 
-// The trail of an entry that is to be completed, with its index-side word.
-fn trail_of(side: Option<u32>, p: &Prepared, state: &State) -> Trail
-    requires side { let place = place_at state.now (interrupt_of state.now) in
-        side ≡ (needs (sight state.now place)).index_read }
+/// What is kept of a state before an entry is completed that is prepared, whose index-side word is
+/// `side`.
+pub fn trail_of(side: Option<u32>, p: &Prepared, state: &State) -> Trail
     requires prepared { IsPrepared p.now }
-    requires entry { p.now ≡ plan_of state.now (interrupt_of state.now) }
-
-    ensures trail { IsTrail state.now result }
+    ensures keeps { TrailKeeps state.now result }
     ensures fits { CanBePutBack result }
+    ensures side { result.index_read ≡ side }
+    ensures reads { result.reads ≡ p.now.reads }
+    ensures writes { result.writes ≡ p.now.writes }
 {
     Trail {
         index_read: side,

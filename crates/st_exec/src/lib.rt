@@ -16,7 +16,7 @@ mod transmission;
 
 pub use completing::{complete, complete_in};
 pub use execution::{execute, read_operands};
-pub use kept::{Trail, one_kept};
+pub use kept::{Trail, one_kept, trail_of};
 pub use missed::is_missed;
 pub use step::{Step, interrupt, is_at_rest, next_address, one};
 pub use transfers::{print_out, read_in};

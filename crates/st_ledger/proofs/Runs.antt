@@ -14,7 +14,7 @@ use Rattle.st_ledger.specs.declared.charges.Charge.{Charge}
 use Rattle.st_ledger.specs.declared.charges.Stage.{Stage}
 use Rattle.st_ledger.specs.declared.charges.Stage.TheVariants.{Executing}
 use Rattle.st_ledger.specs.Charges.{ticks_for, Follow}
-use Rattle.st_ledger.specs.Ledger.{entries_from, charges_at, all_charges, all_costs, row_at, row_done, rows_told}
+use Rattle.st_ledger.specs.Ledger.{entries_from, charges_at, all_charges, all_costs, row_at, row_of_event, rows_told}
 use Rattle.st_ledger.proofs.Rows.{row-follows, row-costs}
 
 -- ---- lists
@@ -102,14 +102,14 @@ rows-append : (xs ys : List Timed) → rows_told (xs ++ ys) ≡ rows_told xs ++ 
 unfolding rows_told
 rows-append [] ys = refl
 rows-append (x ∷ xs) ys =
-    ap (λ rest. row_done x.event ++ rest) (rows-append xs ys)
-    ∙ sym (append_assoc (row_done x.event) (rows_told xs) (rows_told ys))
+    ap (λ rest. row_of_event x.event ++ rest) (rows-append xs ys)
+    ∙ sym (append_assoc (row_of_event x.event) (rows_told xs) (rows_told ys))
 
 rows-none : (xs ys : List Timed) → rows_told xs ≡ [] → rows_told (xs ++ ys) ≡ rows_told ys
 rows-none xs ys none = rows-append xs ys ∙ ap (λ rows. rows ++ rows_told ys) none
 
 -- events that tell no row
-each-none : {A : Type 0} (f : A → Timed) (xs : List A) → ((x : A) → row_done (f x).event ≡ []) → rows_told (map f xs) ≡ []
+each-none : {A : Type 0} (f : A → Timed) (xs : List A) → ((x : A) → row_of_event (f x).event ≡ []) → rows_told (map f xs) ≡ []
 unfolding rows_told
 each-none f [] none = refl
 each-none f (x ∷ xs) none = rw (none x) (each-none f xs none)
@@ -149,7 +149,7 @@ done-row ds n p snaps =
     let due = ticks_before (next_moment ds n p).tick snaps in
     rows-none (map (snapshot_at ds n p) due) (completion ds n p ∷ []) (each-none (snapshot_at ds n p) due (λ x. snapshot-none ds n p x))
   where
-    snapshot-none : (ds : List ℕ) (n : ℕ) (p : Standing) (x : ℕ) → row_done (snapshot_at ds n p x).event ≡ []
+    snapshot-none : (ds : List ℕ) (n : ℕ) (p : Standing) (x : ℕ) → row_of_event (snapshot_at ds n p x).event ≡ []
     snapshot-none ds n p x = refl
 
 rows-if : (b : Bool) (ds : List ℕ) (n : ℕ) (m : Moment) (snaps : List ℕ) (events : List Timed) (ps : List Standing)

@@ -47,14 +47,14 @@ pub record DoneRow : Type 0 where
 abbrev pub row_at : List ℕ → ℕ → Standing → DoneRow
 row_at ds n p = record { address = address p.scene.machine; row = next_row ds n p }
 
--- what an event tells of a row
-abbrev pub row_done : TimetableEvent → List DoneRow
-row_done (Completes s a r) = record { address = a; row = r } ∷ []
-row_done (Drops a p) = []
-row_done (Shows tick s levels) = []
-row_done (Happens happening) = []
+-- the row that an event tells, if it tells one
+abbrev pub row_of_event : TimetableEvent → List DoneRow
+row_of_event (Completes s a r) = record { address = a; row = r } ∷ []
+row_of_event (Drops a p) = []
+row_of_event (Shows tick s levels) = []
+row_of_event (Happens happening) = []
 
 -- what the events of a run tell
 unfoldable pub rows_told : List Timed → List DoneRow
 rows_told [] = []
-rows_told (x ∷ xs) = row_done x.event ++ rows_told xs
+rows_told (x ∷ xs) = row_of_event x.event ++ rows_told xs

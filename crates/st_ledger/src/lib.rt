@@ -9,5 +9,5 @@ mod totals;
 
 pub use charges::{Charge, Part, Stage};
 pub use lines::{RowLine, fill_charge, fill_row, line_sum, name_of};
-pub use telling::{first_part, later, parts, write_row};
+pub use telling::{later, parts, write_row};
 pub use totals::{Totals, write_sums};

@@ -1,5 +1,5 @@
 //! The line of a row, and its stages.
-ghost use Rattle.std.specs.Prelude.{◌≡◌, ◌∷◌, ◌<◌, [], length, max, MatchOption, IfSome};
+ghost use Rattle.std.specs.Prelude.{◌≡◌, ◌∷◌, [], max};
 ghost use Rattle.st_io.specs.Lines.{WritesLines};
 ghost use Rattle.st_ledger.specs.Charges.{parts_of_row as parts_of};
 ghost use Rattle.st_ledger.specs.Lines.{row_stage_line};
@@ -30,17 +30,6 @@ pub fn parts(start: u64, row: &EntryTicks) -> [Part; 7]
         part(Stage::Operand, row.r),
         part(Stage::Executing, row.c),
     ]
-}
-
-/// The first of some stages, and those behind it.
-pub fn first_part(parts: &[Part]) -> Option<(Part, &[Part])>
-    ensures parts { MatchOption result (parts.now ≡ []) (λ r. parts.now ≡ r.0 ∷ r.1.now) }
-    ensures fewer { IfSome result (λ r. length r.1.now < length parts.now) }
-{
-    match parts {
-        [first, more @ ..] => Some((*first, more)),
-        [] => None,
-    }
 }
 
 /// The later of two ticks.

@@ -1,5 +1,5 @@
 //! The ticks of charges, stage by stage.
-ghost use Rattle.std.specs.Prelude.{◌≡◌, ◌+◌, ◌<◌, ◌∷◌, [], max, length, MatchOption, IfSome};
+ghost use Rattle.std.specs.Prelude.{◌≡◌, ◌+◌, ◌<◌, ◌∷◌, [], max};
 ghost use Rattle.st_io.specs.Lines.{WritesLines};
 ghost use Rattle.st_ledger.specs.declared.charges.Stage.{Stage as StageOf};
 ghost use Rattle.st_ledger.specs.Charges.{parts_of_row as parts_of, charges_behind, part_charges, ticks_for, all_ticks};
@@ -8,7 +8,7 @@ ghost use Rattle.st_ledger.specs.Totals.{sum_at, AreWithin, stages, sums_by, sum
 
 use crate::charges::{Charge, Part, Stage};
 use crate::lines::line_sum;
-use crate::telling::{first_part, later, parts};
+use crate::telling::{later, parts};
 use st_io::{Failed, Sink, write_line};
 use st_rows::EntryTicks;
 
@@ -69,7 +69,7 @@ impl Totals {
         ensures sums { (s : StageOf) → sum_at s self.new ≡ sum_at s self.old
             + ticks_for s (charges_behind from parts.now) }
     {
-        let Some((part, more)) = first_part(parts) else {
+        let Some((&part, more)) = parts.split_first() else {
             return;
         };
         self.add_part(from, part);
@@ -119,17 +119,6 @@ fn sums_of(totals: &Totals) -> [Sum; 7]
     ]
 }
 
-// The first of some sums, and those behind it.
-fn first_sum(sums: &[Sum]) -> Option<(Sum, &[Sum])>
-    ensures parts { MatchOption result (sums.now ≡ []) (λ r. sums.now ≡ r.0 ∷ r.1.now) }
-    ensures fewer { IfSome result (λ r. length r.1.now < length sums.now) }
-{
-    match sums {
-        [first, more @ ..] => Some((*first, more)),
-        [] => None,
-    }
-}
-
 // Writes the line of a sum.
 fn write_sum<K: Sink>(out: &mut K, sum: Sum) -> Result<(), Failed>
     ensures { WritesLines (K.output out.old) (K.output out.new)
@@ -142,7 +131,7 @@ fn write_sum<K: Sink>(out: &mut K, sum: Sum) -> Result<(), Failed>
 fn write_each<K: Sink>(out: &mut K, sums: &[Sum]) -> Result<(), Failed>
     ensures { WritesLines (K.output out.old) (K.output out.new) (sum_lines sums.now) result }
 {
-    let Some((sum, more)) = first_sum(sums) else {
+    let Some((&sum, more)) = sums.split_first() else {
         return Ok(());
     };
     write_sum(out, sum)?;

@@ -1,6 +1,6 @@
 //! The lines of a ledger that tell of the machine and of segments, by the rules of
 //! `docs/ledger.md`: one call a line, each with its line end.
-ghost use Rattle.std.specs.Prelude.{◌≡◌, ◌+◌, ◌*◌, ◌<◌, ◌≤◌, ◌++◌, ◌∷◌, [], length, codes, decimal, MatchOption, IfSome};
+ghost use Rattle.std.specs.Prelude.{◌≡◌, ◌+◌, ◌*◌, ◌<◌, ◌≤◌, ◌++◌, length, codes, decimal};
 ghost use Rattle.arrayvec.specs.ArrayString.{array_string_len};
 ghost use Rattle.st_text.specs.Bytes.{lf};
 ghost use Rattle.st_lines.specs.Lines.{ledger_levels_line, numbers_text, delays_line, why_text, start_line, segment_end_line, word_line, missed_line, alone_text, alone_line, suppressed_line, dropped_line, begun_line, level_wait_line};
@@ -54,17 +54,6 @@ pub fn line_levels(n: u8) -> Line
     ended(line)
 }
 
-// The first of some numbers, and those behind it.
-fn first_number(ns: &[u8]) -> Option<(u8, &[u8])>
-    ensures parts { MatchOption result (ns.now ≡ []) (λ r. ns.now ≡ r.0 ∷ r.1.now) }
-    ensures fewer { IfSome result (λ r. length r.1.now + 1 ≡ length ns.now) }
-{
-    match ns {
-        [first, more @ ..] => Some((*first, more)),
-        [] => None,
-    }
-}
-
 // Appends a number behind a blank.
 fn push_number(line: &mut Line, n: u8)
     requires { array_string_len line.old + 11 ≤ 128 }
@@ -81,7 +70,7 @@ fn push_numbers(line: &mut Line, ns: &[u8])
     ensures bytes { line.new.bytes ≡ line.old.bytes ++ numbers_text ns.now }
     ensures room { array_string_len line.new ≤ array_string_len line.old + 11 * length ns.now }
 {
-    let Some((first, more)) = first_number(ns) else {
+    let Some((&first, more)) = ns.split_first() else {
         return;
     };
     push_number(line, first);

@@ -1,5 +1,5 @@
 //! The lines that tell what a row waited for, and what kept it back.
-ghost use Rattle.std.specs.Prelude.{◌≡◌, ◌+◌, ◌<◌, ◌≤◌, ◌∷◌, ◌++◌, [], length, codes, decimal, MatchOption, IfSome, IsOk};
+ghost use Rattle.std.specs.Prelude.{◌≡◌, ◌+◌, ◌<◌, ◌≤◌, ◌∷◌, ◌++◌, [], length, codes, decimal, IsOk};
 ghost use Rattle.arrayvec.specs.ArrayString.{array_string_len};
 ghost use Rattle.st_text.specs.Bytes.{lf};
 ghost use Rattle.st_banks.specs.Bank.{bank_of};
@@ -16,7 +16,7 @@ use crate::facts::EntryRecord;
 use crate::uses::{FactLine, bank_number};
 use crate::writing::put;
 use st_io::{Failed, Sink, write_line};
-use st_ledger::{Charge, Part, RowLine, fill_charge, first_part, later, name_of, parts};
+use st_ledger::{Charge, Part, RowLine, fill_charge, later, name_of, parts};
 use st_reasons::{
     Because, Cause, Prefetched, Reason, Stall, Wait, WaitSum, WaitTotals, Waits, fill_waits,
     wait_sums,
@@ -68,18 +68,6 @@ fn fill_wait(line: &mut RowLine, wait: &Wait)
     line.bytes.put_word(*b"WAIT ");
 }
 
-// The first of some waits, and those behind it.
-#[inline(always)]
-fn first_wait(waits: &[Wait]) -> Option<(&Wait, &[Wait])>
-    ensures parts { MatchOption result (waits.now ≡ []) (λ r. waits.now ≡ r.0.now ∷ r.1.now) }
-    ensures fewer { IfSome result (λ r. length r.1.now < length waits.now) }
-{
-    match waits {
-        [first, more @ ..] => Some((first, more)),
-        [] => None,
-    }
-}
-
 // Writes a wait.
 fn write_wait<K: Sink>(out: &mut K, line: &mut RowLine, wait: &Wait) -> Result<(), Failed>
     ensures { WritesLines (K.output out.old) (K.output out.new) (wait_line wait.now ∷ []) result }
@@ -93,7 +81,7 @@ fn write_wait<K: Sink>(out: &mut K, line: &mut RowLine, wait: &Wait) -> Result<(
 fn write_each_wait<K: Sink>(out: &mut K, line: &mut RowLine, waits: &[Wait]) -> Result<(), Failed>
     ensures { WritesLines (K.output out.old) (K.output out.new) (wait_lines waits.now) result }
 {
-    let Some((wait, more)) = first_wait(waits) else {
+    let Some((wait, more)) = waits.split_first() else {
         return Ok(());
     };
     write_wait(out, line, wait)?;
@@ -178,7 +166,7 @@ fn write_parts<K: Sink>(
     ensures waits { IsOk result → AddsWaits entry.now.uses.now entry.now.before.now from
         (charges_behind from parts.now) waiting.old.totals waiting.new.totals }
 {
-    let Some((part, more)) = first_part(parts) else {
+    let Some((&part, more)) = parts.split_first() else {
         return Ok(());
     };
     write_part(out, from, part, entry, waiting)?;
@@ -238,17 +226,6 @@ fn line_wait_sum(sum: &WaitSum) -> Line
     ended(line)
 }
 
-// The first of some sums, and those behind it.
-fn first_wait_sum(sums: &[WaitSum]) -> Option<(&WaitSum, &[WaitSum])>
-    ensures parts { MatchOption result (sums.now ≡ []) (λ r. sums.now ≡ r.0.now ∷ r.1.now) }
-    ensures fewer { IfSome result (λ r. length r.1.now < length sums.now) }
-{
-    match sums {
-        [first, more @ ..] => Some((first, more)),
-        [] => None,
-    }
-}
-
 // Writes the line of a sum.
 fn write_wait_sum<K: Sink>(out: &mut K, sum: &WaitSum) -> Result<(), Failed>
     ensures { WritesLines (K.output out.old) (K.output out.new)
@@ -262,7 +239,7 @@ fn write_wait_sum<K: Sink>(out: &mut K, sum: &WaitSum) -> Result<(), Failed>
 fn write_each_sum<K: Sink>(out: &mut K, sums: &[WaitSum]) -> Result<(), Failed>
     ensures { WritesLines (K.output out.old) (K.output out.new) (wait_sum_lines sums.now) result }
 {
-    let Some((sum, more)) = first_wait_sum(sums) else {
+    let Some((sum, more)) = sums.split_first() else {
         return Ok(());
     };
     write_wait_sum(out, sum)?;

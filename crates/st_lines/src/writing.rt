@@ -1,5 +1,5 @@
 //! The lines where a segment ends, and where one begins.
-ghost use Rattle.std.specs.Prelude.{◌≡◌, ◌+◌, ◌<◌, ◌≤◌, ◌^◌, ℕ, ◌∷◌, ◌++◌, [], if◌then◌else◌, ◌||◌, length, min, MatchOption, IfSome, Some, ◌≢◌, false, slice_index, IsOk};
+ghost use Rattle.std.specs.Prelude.{◌≡◌, ◌+◌, ◌<◌, ◌≤◌, ◌^◌, ℕ, ◌∷◌, ◌++◌, [], if◌then◌else◌, ◌||◌, length, min, Some, ◌≢◌, false, slice_index, IsOk};
 ghost use Rattle.st_io.specs.Lines.{WritesLines, lines_for};
 ghost use Rattle.st_bits.specs.Storage.{words_of_storage};
 ghost use Rattle.st_state.specs.Machine.{IsMachine, word};
@@ -55,17 +55,6 @@ pub fn put<K: Sink>(out: &mut K, line: &Line) -> Result<(), Failed>
     ensures { WritesLines (K.output out.old) (K.output out.new) (line.now.bytes ∷ []) result }
 {
     write_line(out, line.as_str().as_bytes())
-}
-
-// The first of some entries, and those behind it.
-fn first_ahead(found: &[Ahead]) -> Option<(&Ahead, &[Ahead])>
-    ensures parts { MatchOption result (found.now ≡ []) (λ r. found.now ≡ r.0.now ∷ r.1.now) }
-    ensures fewer { IfSome result (λ r. length r.1.now + 1 ≡ length found.now) }
-{
-    match found {
-        [first, more @ ..] => Some((first, more)),
-        [] => None,
-    }
 }
 
 // Writes the line of an entry that is dropped, which is the n-th entry.
@@ -148,7 +137,7 @@ fn write_drops<K: Sink>(out: &mut K, dropped: &Dropped<'_>, state: &State) -> Re
         (drop_lines (origin_at dropped.now.origins.now state.now) dropped.now.n dropped.now.tick
         dropped.now.found.now) result }
 {
-    let Some((first, more)) = first_ahead(dropped.found) else {
+    let Some((first, more)) = dropped.found.split_first() else {
         return Ok(());
     };
     let n = dropped.n;
@@ -284,17 +273,6 @@ fn write_en<K: Sink>(out: &mut K, shown: bool, enabled: bool) -> Result<(), Fail
     put(out, &line_en(enabled))
 }
 
-// The first of the words that are printed, and those behind them.
-fn first_words(printed: &[[u64; 8]]) -> Option<(&[u64; 8], &[[u64; 8]])>
-    ensures parts { MatchOption result (printed.now ≡ []) (λ r. printed.now ≡ r.0.now ∷ r.1.now) }
-    ensures fewer { IfSome result (λ r. length r.1.now + 1 ≡ length printed.now) }
-{
-    match printed {
-        [first, more @ ..] => Some((first, more)),
-        [] => None,
-    }
-}
-
 // Writes eight words that are printed.
 fn write_print<K: Sink>(out: &mut K, words: &[u64; 8]) -> Result<(), Failed>
     ensures { WritesLines (K.output out.old) (K.output out.new)
@@ -308,7 +286,7 @@ fn write_print<K: Sink>(out: &mut K, words: &[u64; 8]) -> Result<(), Failed>
 fn write_prints<K: Sink>(out: &mut K, printed: &[[u64; 8]]) -> Result<(), Failed>
     ensures { WritesLines (K.output out.old) (K.output out.new) (prints_lines printed.now) result }
 {
-    let Some((first, more)) = first_words(printed) else {
+    let Some((first, more)) = printed.split_first() else {
         return Ok(());
     };
     write_print(out, first)?;

@@ -1,5 +1,5 @@
 //! What kept a row from being prepared earlier.
-ghost use Rattle.std.specs.Prelude.{◌≡◌, ◌+◌, ◌-◌, ◌≤◌, ◌<◌, ◌∷◌, ◌++◌, [], nat_eq, find, reverse, length, if◌then◌else◌, ◌&&◌, ◌||◌, Some, None, All, MatchOption, IfSome, unwrap_or};
+ghost use Rattle.std.specs.Prelude.{◌≡◌, ◌+◌, ◌-◌, ◌≤◌, ◌<◌, ◌∷◌, ◌++◌, [], nat_eq, find, reverse, length, if◌then◌else◌, ◌&&◌, ◌||◌, Some, None, All, unwrap_or};
 ghost use Rattle.st_reasons.specs.declared.because.Because.TheVariants.{Prefetch as PrefetchOf};
 ghost use Rattle.std.specs.List.{list_any};
 ghost use Rattle.st_rows.specs.Rows.{done_before};
@@ -236,23 +236,11 @@ fn writer_of(supply: &Supply) -> Option<Writer>
     }
 }
 
-// The first of some uses, and those behind it.
-#[inline(always)]
-fn first_use(uses: &[Use]) -> Option<(&Use, &[Use])>
-    ensures parts { MatchOption result (uses.now ≡ []) (λ r. uses.now ≡ r.0.now ∷ r.1.now) }
-    ensures fewer { IfSome result (λ r. length r.1.now + 1 ≡ length uses.now) }
-{
-    match uses {
-        [first, more @ ..] => Some((first, more)),
-        [] => None,
-    }
-}
-
 // The writer of the index-side word, if that is forwarded.
 fn side_writer(uses: &[Use]) -> Option<Writer>
     ensures { result ≡ side_writer_of uses.now }
 {
-    let Some((first, more)) = first_use(uses) else {
+    let Some((first, more)) = uses.split_first() else {
         return None;
     };
     if is_index(first.role) {

@@ -1,5 +1,5 @@
 //! The ticks of waits, by stage and by what was waited for.
-ghost use Rattle.std.specs.Prelude.{◌≡◌, ◌+◌, ◌-◌, ◌≤◌, ◌<◌, ◌^◌, ◌∷◌, [], length, true, if◌then◌else◌, MatchOption, IfSome};
+ghost use Rattle.std.specs.Prelude.{◌≡◌, ◌+◌, ◌-◌, ◌≤◌, ◌<◌, ◌^◌, true, if◌then◌else◌};
 ghost use Rattle.st_ledger.specs.declared.charges.Stage.{Stage as StageOf};
 ghost use Rattle.st_ledger.specs.Charges.{is_stage};
 ghost use Rattle.st_reasons.specs.declared.waits.Stall.{Stall as StallOf};
@@ -22,18 +22,6 @@ pub struct WaitTotals {
     pub instruction: Shares,
     pub index: Shares,
     pub operand: Shares,
-}
-
-// The first of some waits, and those behind it.
-#[inline(always)]
-fn first_wait(waits: &[Wait]) -> Option<(&Wait, &[Wait])>
-    ensures parts { MatchOption result (waits.now ≡ []) (λ r. waits.now ≡ r.0.now ∷ r.1.now) }
-    ensures fewer { IfSome result (λ r. length r.1.now < length waits.now) }
-{
-    match waits {
-        [first, more @ ..] => Some((first, more)),
-        [] => None,
-    }
 }
 
 impl Shares {
@@ -62,7 +50,7 @@ impl Shares {
         ensures sums { (s : StallOf) → share_at s self.new
             ≡ share_at s self.old + stalled_for s waits.now }
     {
-        let Some((wait, more)) = first_wait(waits) else {
+        let Some((wait, more)) = waits.split_first() else {
             return;
         };
         self.add_one(wait);

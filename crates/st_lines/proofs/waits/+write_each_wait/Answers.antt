@@ -1,12 +1,13 @@
+use Rattle.std.proofs.lemmas.List.{nil_from_length}
 use Rattle.st_lines.proofs.WaitLemmas.{waits_cut, waits_then, waits_none}
 use Rattle.st_lines.proofs.waits.+write_each_wait.Goals as goal
 
 pub returns-in_err-write_wait : goal.returns-in_err-write_wait
 returns-in_err-write_wait g t c =
-    waits_cut _ _ c.args.waits.now _ _ _ _ c.from_residual.ensures.0 c.in-Some.ensures.parts c.in_err-write_wait.ensures
+    waits_cut _ _ c.args.waits.now _ _ _ _ c.from_residual.ensures.0 c.in-Some.ensures.cases.0 c.in_err-write_wait.ensures
 
 pub returns : goal.returns
-returns g t c = waits_then _ _ _ c.args.waits.now _ _ _ _ c.in-Some.ensures.parts c.in_ok-write_wait.ensures c.write_each_wait.ensures
+returns g t c = waits_then _ _ _ c.args.waits.now _ _ _ _ c.in-Some.ensures.cases.0 c.in_ok-write_wait.ensures c.write_each_wait.ensures
 
 pub returns-in_default : goal.returns-in_default
-returns-in_default g t c = waits_none _ c.args.waits.now _ c.in_default.ensures.parts
+returns-in_default g t c = waits_none _ c.args.waits.now _ (nil_from_length _ c.in_default.ensures.cases)

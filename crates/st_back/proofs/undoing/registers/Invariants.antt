@@ -1,6 +1,0 @@
-use Rattle.std.proofs.Common.{◌≡◌, ℕ, ◌<◌, get_or, length}
-use Rattle.st_state.specs.Machine.{word}
-use Rattle.st_back.proofs.undoing.registers.Given as goal
-
-abbrev pub invariant-loop-w : goal.invariant-loop-w
-invariant-loop-w l = (length l.registers ≡ 32) × ((k : ℕ) → k < l.w → get_or l.registers k 0 ≡ word l.state k)
