@@ -21,8 +21,8 @@ module _ (ds : List ℕ) (n now : ℕ) (t : Option ℕ) (s : Machine) (f : Front
     pub log : w.log ≡ v.log
     pub bus : w.next.words ≡ v.next.words
 
-  -- by what is told of it; where no entry is done at it, the state u behind it is the state s before
-  -- it, w runs ahead of that as v did, and operands may have come
+  -- by what is told of it; where no entry is done at it, the state u behind it is the state s
+  -- before it, w runs ahead of that as v did, and operands may have come
   abbrev pub IsTicked : Option Completed → Type 0
   IsTicked None =
       (u ≡ s) × ((row_of_entry ds n f (entry t s)).c ≢ now) × IsLook ds n now now t s f w
