@@ -15,32 +15,12 @@ use crate::uses::{FactLine, write_uses};
 use crate::waits::{Waiting, write_because, write_charged};
 use crate::writing::put;
 use st_bits::indicator;
-use st_bits::register::FIRST_STORAGE_WORD;
 use st_io::{Failed, Sink, write_line};
 use st_ledger::write_row;
 use st_plain::{Code, Known, Use, WaitedRow};
-use st_prep::{IndexChange, Prepared, Words};
+use st_prep::{IndexChange, Prepared, Words, has_register, is_register};
 use st_reasons::Because;
 use st_report::LineFromEnd;
-
-// Whether one of the words is a register.
-#[tactic(auto, unfolding(st_prep::specs::Entry::has_register))]
-fn has_register(words: Words) -> bool
-    ensures { result ≡ has_register_of words }
-{
-    (words.len != 0 && words.first < FIRST_STORAGE_WORD)
-        || (words.len2 != 0 && words.first2 < FIRST_STORAGE_WORD)
-}
-
-// Whether there is a word, and it is a register.
-fn is_register(word: Option<u32>) -> bool
-    ensures { result ≡ is_register_of word }
-{
-    match word {
-        Some(w) => w < FIRST_STORAGE_WORD,
-        None => false,
-    }
-}
 
 // Why an entry is done alone that is.
 fn alone_for(table: Option<u8>, execute: bool, register: bool) -> Alone

@@ -17,4 +17,4 @@ pub use fetching::{fetch_on, halves_known, index_words, is_execute, place_of};
 pub use preparation::{
     is_execute_format, look, plan_in, prepare, prepare_in, prepare_without_side, side_word,
 };
-pub use runs::reads_field;
+pub use runs::{has_register, is_register, reads_field};

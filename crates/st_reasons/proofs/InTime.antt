@@ -1,6 +1,6 @@
 -- The words of an entry: each that is read is accepted no earlier than it is wanted, and answered no earlier than that.
-use Rattle.std.specs.Prelude.{zero, suc, nat_lt, if◌then◌else◌, Option, None, Some, All}
-use Rattle.std.proofs.Common.{◌≡◌, ℕ, ◌+◌, ◌-◌, ◌≤◌, max, List, [], ◌∷◌, ◌++◌, arith}
+use Rattle.std.specs.Prelude.{zero, suc, nat_lt, Option, None, Some, All}
+use Rattle.std.proofs.Common.{ℕ, ◌+◌, ◌-◌, max, List, [], arith}
 use Rattle.std.proofs.lemmas.Bool.{cond_both}
 use Rattle.std.proofs.lemmas.List.Elements.{All-nil, All-cons, All-append}
 use Rattle.st_bits.specs.Storage.{words_of_storage}
@@ -19,9 +19,7 @@ use Rattle.st_rows.specs.declared.front.Front.{Front}
 use Rattle.st_rows.specs.declared.past.Past.{Past}
 use Rattle.st_plain.specs.declared.uses.Role.{Role}
 use Rattle.st_plain.specs.declared.uses.Role.TheVariants.{Instruction, Index, Operand, Following}
-use Rattle.st_plain.specs.declared.uses.Supply.{Supply}
 use Rattle.st_plain.specs.declared.uses.Supply.TheVariants.{Read, Forwarded, Register}
-use Rattle.st_plain.specs.declared.uses.Use.{Use}
 use Rattle.st_plain.specs.Uses.{read_ticks, fetch_supply, storage_supply, writer_back, instruction_uses, fetch_uses, side_uses, register_uses, operand_uses, run_uses, data_uses, inside_uses, following_uses, uses_of_entry}
 use Rattle.st_reasons.specs.Words.{IsReadInTime, read_of}
 

@@ -1,5 +1,5 @@
 //! A job on machines of one to eight levels, and what is written of it.
-ghost use Rattle.std.specs.Prelude.{◌≡◌, ◌+◌, ◌≤◌, ◌<◌, ◌^◌, ℕ, Ok, None, [], ◌∷◌, IfOk, IfSome, MatchOption, length, slice_index};
+ghost use Rattle.std.specs.Prelude.{◌≡◌, ◌+◌, ◌≤◌, ◌<◌, ◌^◌, ℕ, Ok, [], ◌∷◌, IfOk, length, slice_index};
 ghost use Rattle.st_bits.specs.Storage.{words_of_storage};
 ghost use Rattle.st_bits.specs.declared.register.TheConstants.{FIRST_STORAGE_WORD};
 ghost use Rattle.st_asm.specs.Assembly.{assembly_parts};
@@ -24,24 +24,13 @@ use st_sweep::{Swept, SweptJob, sweep};
 use st_telling::put;
 use std::alloc::Global;
 
-// The first of some ticks, and what is behind it.
-fn first_ticks(ticks: &[u64]) -> Option<(u64, &[u64])>
-    ensures parts { MatchOption result (ticks.now ≡ []) (λ r. ticks.now ≡ r.0 ∷ r.1.now) }
-    ensures fewer { IfSome result (λ r. length r.1.now + 1 ≡ length ticks.now) }
-{
-    match ticks {
-        [first, more @ ..] => Some((*first, more)),
-        [] => None,
-    }
-}
-
 // Writes the lines of machines with `n` levels, `n + 1` levels and so on, by their ticks.
 #[tactic(auto, using(st_io::proofs::Progress::wrote_nothing))]
 fn write_levels<K: Sink>(out: &mut K, n: u8, ticks: &[u64]) -> Result<(), Failed>
     requires { n + length ticks.now ≤ 9 }
     ensures { WritesLines (K.output out.old) (K.output out.new) (levels_lines n ticks.now) result }
 {
-    let Some((first, more)) = first_ticks(ticks) else {
+    let Some((&first, more)) = ticks.split_first() else {
         return Ok(());
     };
     put(out, &line_levels(n, first))?;
