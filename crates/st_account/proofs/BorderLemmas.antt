@@ -18,7 +18,7 @@ use Rattle.st_run.specs.Run.{Scene}
 use Rattle.st_account.specs.declared.account.Account.{Account}
 use Rattle.st_account.specs.declared.last.Last.{Last}
 use Rattle.st_lines.specs.declared.lines.Why.{Why}
-use Rattle.st_lines.specs.declared.waits.Waiting.{Waiting}
+use Rattle.st_lines.specs.declared.waits.RowTelling.{RowTelling}
 use Rattle.st_lines.specs.declared.writing.Border.{Border}
 use Rattle.st_lines.specs.declared.origins.Origin.{Origin}
 use Rattle.st_lines.specs.declared.origins.Origins.{Origins}
@@ -287,7 +287,7 @@ words-left ds n left b m a xs cards is ends old us new is_ends same is_new =
     (ends-is ds n m a.state a.last a.behind.ahead.found.items a.behind.banks a.behind.card a.behind.waited (border-of ds n left b m a xs cards is) (interrupt a.state) ends refl is_ends)
 
 -- the sums of waits do not count
-pub behind-same : (ds : List ℕ) (n left : ℕ) (b : Machine) (m : Moment) (a : Account) (xs : List Signal) (cards : List (List ℕ)) (w : Waiting)
+pub behind-same : (ds : List ℕ) (n left : ℕ) (b : Machine) (m : Moment) (a : Account) (xs : List Signal) (cards : List (List ℕ)) (w : RowTelling)
     → IsBehindMoment ds n left b m a xs cards → IsBehindMoment ds n left b m (record a { waiting = w }) xs cards
 behind-same ds n left b m a xs cards w is = record {
   scene = is.scene;

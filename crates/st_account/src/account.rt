@@ -41,7 +41,7 @@ use st_exec::{interrupt, is_at_rest, next_address};
 use st_io::{Failed, Sink};
 use st_ledger::{RowLine, Totals};
 use st_lines::{
-    Between, Border, Dropped, EntryDone, EntryRecord, FactLine, Origins, Waiting, counter_of,
+    Between, Border, Dropped, EntryDone, EntryRecord, FactLine, Origins, RowTelling, counter_of,
     is_enabled, write_border, write_done, write_end, write_marks, write_totals,
 };
 use st_reasons::{WaitTotals, Waits};
@@ -68,7 +68,7 @@ pub(crate) struct Account {
     /// The ticks of each stage so far.
     pub sums: Totals,
     /// What the waits of the last entry are told with, and the sums of those before it.
-    pub waiting: Waiting,
+    pub waiting: RowTelling,
     /// The number of its segment, 0 before the first entry.
     pub k: u32,
 }
@@ -80,7 +80,7 @@ fn write_row<K: Sink>(
     last: &Last,
     k: u32,
     end: Option<u64>,
-    waiting: &mut Waiting,
+    waiting: &mut RowTelling,
 ) -> Result<(), Failed>
     requires { IsWaiting last.now waiting.old.totals }
     ensures lines { WritesLines (K.output out.old) (K.output out.new)
@@ -149,7 +149,7 @@ impl Account {
             behind: nothing_came(),
             origins,
             sums: Totals::default(),
-            waiting: Waiting {
+            waiting: RowTelling {
                 waits: Waits::new(),
                 totals: WaitTotals::default(),
                 line: RowLine::new(),

@@ -22,7 +22,7 @@ use Rattle.st_ahead.specs.Overlap.{Overlap, state_ahead, oldest_row, interrupt_d
 use Rattle.st_ahead.specs.Calls.{is_done, row_done, machine_after_completion, machine_after_tick, machine_after_pass, machine_after_settling, answer, answer_by}
 use Rattle.st_ahead.specs.RunTo.{ArePassed, may_come_from_outside}
 use Rattle.st_ahead.specs.RowsDone.{Queue, queue_with, rows_in_ticks}
-use Rattle.st_ahead.specs.Running.{IsAwake, IsStart, HasPassed}
+use Rattle.st_ahead.specs.Running.{IsAwake, GoesFrom, HasPassed}
 use Rattle.st_ahead.specs.Look.{LookView, IsLook, IsOutlook, count}
 use Rattle.st_ahead.specs.Going.{IsGoing, IsDueAt}
 use Rattle.st_ahead.specs.Inside.{answers_before}
@@ -147,7 +147,7 @@ start-by ds n count (suc now) t s f m some awake =
     move ds n count 0 _ (suc now) (suc now) _ t t s s f f (omega arith) (omega arith) (passed-none count (machine_between_ticks ds n s t f (suc now)))
 
 pub running-starts : (ds : List ℕ) (n count last now : ℕ) (t : Option ℕ) (s : Machine) (f : Front) (v : LookView)
-    → IsStart ds n last now t s f v → IsRunning ds n count last now t s f t s v
+    → GoesFrom ds n last now t s f v → IsRunning ds n count last now t s f t s v
 running-starts ds n count last now t s f v is = record {
   tick = now - 1;
   front = f;
@@ -165,7 +165,7 @@ pub record IsNoting (ds : List ℕ) (n count last now : ℕ) (t : Option ℕ) (s
   pub noted : new ≡ queue_with (rows_in_ticks (run.tick + 1 - now) (machine_between_ticks ds n s t f now)) old
 
 pub noting-starts : (ds : List ℕ) (n count last now : ℕ) (t : Option ℕ) (s : Machine) (f : Front) (v : LookView) (q : Queue)
-    → IsStart ds n last now t s f v → IsNoting ds n count last now t s f t s v q q
+    → GoesFrom ds n last now t s f v → IsNoting ds n count last now t s f t s v q q
 unfolding running-starts
 noting-starts ds n count last now t s f v q is = record {
   run = running-starts ds n count last now t s f v is;

@@ -11,7 +11,7 @@ use Rattle.st_ring.specs.declared.levels.Completed.{Completed}
 use Rattle.st_ahead.specs.Overlap.{Overlap, state_ahead, with_counter, machine_between_ticks}
 use Rattle.st_ahead.specs.Calls.{machine_after_completion, machine_after_tick, answer}
 use Rattle.st_ahead.specs.RunTo.{may_come_from_outside, ArePassed, StopsAt}
-use Rattle.st_ahead.specs.Running.{IsStart, HasPassed, HasStopped}
+use Rattle.st_ahead.specs.Running.{GoesFrom, HasPassed, HasStopped}
 use Rattle.st_ahead.specs.Look.{LookView, IsLook}
 use Rattle.st_ahead.specs.Inside.{overlap_of, IsInside}
 use Rattle.st_ahead.proofs.Runs.{is-due, ticked-done, row-between}
@@ -21,7 +21,7 @@ use Rattle.st_ring.proofs.OrderLemmas.{after-c}
 -- a machine that nothing is owed of may go on
 pub start-inside : (halt : Bool) (n : ℕ) (ds : List ℕ) (s : Machine) (t b : Option ℕ) (now last : ℕ) (owed ended fresh : Bool) (v : LookView)
     → IsInside (overlap_of n ds s t b now owed ended halt fresh v) fresh v → owed ≡ false → now ≤ last
-    → IsStart ds n last now t s (oldest_front v.levels.plans v.front) v
+    → GoesFrom ds n last now t s (oldest_front v.levels.plans v.front) v
 start-inside halt n ds s t b now last true ended fresh v is e soon = absurd (cc e)
 start-inside halt n ds s t b now last false ended true v is e soon = absurd (cc ((is.settled refl).0))
 start-inside halt n ds s t b now last false ended false v is e soon =

@@ -21,7 +21,7 @@ pub record IsAwake (t : Option ℕ) (s : Machine) : Type 0 where
   pub goes : rests s ≡ false
 
 -- it goes on from the tick `now`, `last` at the latest
-pub record IsStart (ds : List ℕ) (n last now : ℕ) (t : Option ℕ) (s : Machine) (f : Front)
+pub record GoesFrom (ds : List ℕ) (n last now : ℕ) (t : Option ℕ) (s : Machine) (f : Front)
     (v : LookView) : Type 0 where
   pub look : IsLook ds n (now - 1) now t s f v
   pub soon : now ≤ last

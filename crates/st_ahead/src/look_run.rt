@@ -34,7 +34,7 @@ pub struct Stop {
 
 impl<const N: usize> Lookahead<N> {
     ghost use Rattle.st_ahead.specs.Overlap.{machine_between_ticks};
-    ghost use Rattle.st_ahead.specs.Running.{IsStart, HasRunTo};
+    ghost use Rattle.st_ahead.specs.Running.{GoesFrom, HasRunTo};
     ghost use Rattle.st_ahead.specs.RowsDone.{queue_with, rows_in_ticks, ticks_passed};
 
     /// Makes ticks and goes on behind each, up to the last one of its limits, until an entry is
@@ -54,11 +54,11 @@ impl<const N: usize> Lookahead<N> {
         requires few { N ≤ 8 }
         requires done { present.old.state.done < 2 ^ 63 }
         requires starts { (f : FrontOf) × (now : ℕ) × (let x = present.old in
-            IsStart delays.now.list N limits.last now x.taken x.state f self.old) }
+            GoesFrom delays.now.list N limits.last now x.taken x.state f self.old) }
 
         ensures { (f : FrontOf) (now : ℕ) → let x = present.old in let y = present.new in
             let ds = delays.now.list in let last = limits.last in
-            IsStart ds N last now x.taken x.state f self.old →
+            GoesFrom ds N last now x.taken x.state f self.old →
             HasRunTo ds N limits.count last now x.taken x.state f y.taken y.state self.new result
             × (rows.new ≡ queue_with
             (rows_in_ticks (ticks_passed last now (option_map (λ stop. stop.tick) result))

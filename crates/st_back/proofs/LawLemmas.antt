@@ -14,7 +14,7 @@ use Rattle.st_exec.specs.Step.{IsStep}
 use Rattle.st_exec.specs.declared.step.Step.{Step}
 use Rattle.st_exec.specs.declared.step.Step.TheVariants.{Plain, Interrupt, Waits}
 use Rattle.st_exec.proofs.AlikeStates.{same-set}
-use Rattle.st_back.specs.declared.kept.Kept.{Kept}
+use Rattle.st_back.specs.declared.kept.KeptStep.{KeptStep}
 use Rattle.st_back.specs.Between.{AreAlikeAbove}
 use Rattle.st_back.specs.Steps.{Steps, IsStepKept, IsForth, IsUndone}
 use Rattle.st_back.specs.Undone.{state_with_words, restored_words, unput, with_rest, state_undone}
@@ -41,7 +41,7 @@ back-kept a b c s t u some h k =
     let same : k.last ≡ h.last =
     same_last c.kept (drop (length (a.kept ++ h.last ∷ []) - a.depth) a.kept) k.last h.last
     (sym k.kept ∙ h.kept ∙ keeps_last a.depth a.kept h.last some) in
-    k.state ∙ ap (λ (y : Kept). state_undone y t) same ∙ h.before
+    k.state ∙ ap (λ (y : KeptStep). state_undone y t) same ∙ h.before
 
 pub back-before : (a b c : Steps) (s t u : Machine) (r : Step) → 1 ≤ a.depth → r ≢ Waits → IsForth a b s t r
     → IsUndone b c t u → u ≡ s
@@ -125,7 +125,7 @@ unput-size zero places contents s = refl
 unput-size (suc n) places contents s =
     unput-size n places contents _ ∙ length-set s.words (slice_index places n) _
 
-pub above-undone : (k : Kept) (s t : Machine) → IsMachine s → AreAlikeAbove s t → state_undone k t ≡ state_undone k s
+pub above-undone : (k : KeptStep) (s t : Machine) → IsMachine s → AreAlikeAbove s t → state_undone k t ≡ state_undone k s
 unfolding state_undone
 above-undone k s t m h =
     let q = k.trail.writes in
@@ -143,7 +143,7 @@ above-undone k s t m h =
     (omega (arith, size, size_1, size_0, m.size, words_of_storage_is)))
 
 -- whatever the indicators and the orders become
-indicators-undone : (k : Kept) (s : Machine) (r q : Option Order) (x : ℕ) → IsMachine s
+indicators-undone : (k : KeptStep) (s : Machine) (r q : Option Order) (x : ℕ) → IsMachine s
     → state_undone k (with_word (record s { reader = r; printer = q }) 11 x) ≡ state_undone k s
 indicators-undone k s r q x m =
     above-undone k s (with_word (record s { reader = r; printer = q }) 11 x) m
@@ -152,11 +152,11 @@ indicators-undone k s r q x m =
       words = λ w above. get_or-set_other s.words 11 w x 0 (omega arith);
     })
 
-pub signalled-undone : (k : Kept) (s : Machine) (i : ℕ) → IsMachine s → state_undone k (state_with_signal s i) ≡ state_undone k s
+pub signalled-undone : (k : KeptStep) (s : Machine) (i : ℕ) → IsMachine s → state_undone k (state_with_signal s i) ≡ state_undone k s
 signalled-undone k s i m = indicators-undone k s s.reader s.printer _ m
 
-pub printed-undone : (k : Kept) (s : Machine) → IsMachine s → state_undone k (printed_out s) ≡ state_undone k s
+pub printed-undone : (k : KeptStep) (s : Machine) → IsMachine s → state_undone k (printed_out s) ≡ state_undone k s
 printed-undone k s m = indicators-undone k s s.reader None _ m
 
-pub no_card-undone : (k : Kept) (s : Machine) (w : ℕ) → IsMachine s → state_undone k (read_in s w None) ≡ state_undone k s
+pub no_card-undone : (k : KeptStep) (s : Machine) (w : ℕ) → IsMachine s → state_undone k (read_in s w None) ≡ state_undone k s
 no_card-undone k s w m = indicators-undone k s None s.printer _ m

@@ -4,7 +4,7 @@ use Rattle.circular_buffer.specs.Buffer.{keep_last}
 use Rattle.st_state.specs.Machine.{Machine, IsMachine}
 use Rattle.st_exec.specs.declared.step.Step.{Step}
 use Rattle.st_exec.specs.declared.step.Step.TheVariants.{Plain, Interrupt, Waits}
-use Rattle.st_back.specs.declared.kept.Kept.{Kept}
+use Rattle.st_back.specs.declared.kept.KeptStep.{KeptStep}
 use Rattle.st_back.specs.Between.{AreAlikeAbove}
 use Rattle.st_back.specs.Undone.{state_undone, step_with_word}
 use Rattle.st_state.specs.Machine.{word}
@@ -13,12 +13,12 @@ use Rattle.st_back.proofs.LawLemmas.{above-undone}
 
 -- ---- one more step
 
-all_undone-last : (ks : List Kept) (k : Kept) (s : Machine) → all_undone (ks ++ k ∷ []) s ≡ all_undone ks (state_undone k s)
+all_undone-last : (ks : List KeptStep) (k : KeptStep) (s : Machine) → all_undone (ks ++ k ∷ []) s ≡ all_undone ks (state_undone k s)
 unfolding all_undone
 all_undone-last [] k s = refl
 all_undone-last (j ∷ ks) k s = ap (state_undone j) (all_undone-last ks k s)
 
-states_before-last : (ks : List Kept) (k : Kept) (s : Machine)
+states_before-last : (ks : List KeptStep) (k : KeptStep) (s : Machine)
     → states_before (ks ++ k ∷ []) s ≡ states_before ks (state_undone k s) ++ state_undone k s ∷ []
 unfolding states_before all_undone
 states_before-last [] k s = refl
@@ -26,18 +26,18 @@ states_before-last (j ∷ ks) k s =
     ap (λ t. state_undone j t ∷ states_before (ks ++ k ∷ []) s) (all_undone-last ks k s)
     ∙ ap (λ ts. state_undone j (all_undone ks (state_undone k s)) ∷ ts) (states_before-last ks k s)
 
-states_before-drop : (n : ℕ) (ks : List Kept) (s : Machine) → states_before (drop n ks) s ≡ drop n (states_before ks s)
+states_before-drop : (n : ℕ) (ks : List KeptStep) (s : Machine) → states_before (drop n ks) s ≡ drop n (states_before ks s)
 unfolding states_before
 states_before-drop zero ks s = refl
 states_before-drop (suc n) [] s = refl
 states_before-drop (suc n) (k ∷ ks) s = states_before-drop n ks s
 
-length-states_before : (ks : List Kept) (s : Machine) → length (states_before ks s) ≡ length ks
+length-states_before : (ks : List KeptStep) (s : Machine) → length (states_before ks s) ≡ length ks
 unfolding states_before
 length-states_before [] s = refl
 length-states_before (k ∷ ks) s = ap suc (length-states_before ks s)
 
-states_before-kept : (n : ℕ) (ks : List Kept) (s : Machine)
+states_before-kept : (n : ℕ) (ks : List KeptStep) (s : Machine)
     → states_before (keep_last n ks) s ≡ keep_last n (states_before ks s)
 states_before-kept n ks s =
     states_before-drop (length ks - n) ks s
@@ -76,13 +76,13 @@ back-states a b s t h =
 
 -- ---- what comes between
 
-all_undone-above : (k : Kept) (ks : List Kept) (s t : Machine) → IsMachine s → AreAlikeAbove s t
+all_undone-above : (k : KeptStep) (ks : List KeptStep) (s t : Machine) → IsMachine s → AreAlikeAbove s t
     → all_undone (k ∷ ks) t ≡ all_undone (k ∷ ks) s
 unfolding all_undone
 all_undone-above k [] s t m h = above-undone k s t m h
 all_undone-above k (j ∷ ks) s t m h = ap (state_undone k) (all_undone-above j ks s t m h)
 
-pub between-states : (ks : List Kept) (s t : Machine) → IsMachine s → AreAlikeAbove s t
+pub between-states : (ks : List KeptStep) (s t : Machine) → IsMachine s → AreAlikeAbove s t
     → states_before ks t ≡ states_before ks s
 unfolding states_before
 between-states [] s t m h = refl

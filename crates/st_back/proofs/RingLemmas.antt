@@ -14,7 +14,7 @@ use Rattle.st_exec.specs.Trails.{IsTrail, CanBePutBack, IsKeptStep}
 use Rattle.st_exec.specs.declared.kept.Trail.{Trail}
 use Rattle.st_exec.specs.declared.step.Step.{Step}
 use Rattle.st_exec.specs.declared.step.Step.TheVariants.{Plain, Interrupt, Waits}
-use Rattle.st_back.specs.declared.kept.Kept.{Kept}
+use Rattle.st_back.specs.declared.kept.KeptStep.{KeptStep}
 use Rattle.st_back.specs.Undone.{state_undone, step_with_word}
 use Rattle.st_back.specs.Steps.{Steps, steps, IsStepSound, AreStepsSound, step_at, steps_with, IsStepKept, IsForth, has_room, IsPut, IsUndone}
 use Rattle.st_back.proofs.StepLemmas.{step-undone, put-undone}
@@ -74,7 +74,7 @@ set-all P xs k w n room h each few =
           subst P (sym (get_or-set_other xs k n w 0 other)) (each n (omega arith))
     ]
 
-pub noted-sound : (k : Kept) (w x : ℕ) → IsStepSound k → k.puts ≤ 7 → 32 ≤ w → w < words_of_storage → IsStepSound (step_with_word k w x)
+pub noted-sound : (k : KeptStep) (w x : ℕ) → IsStepSound k → k.puts ≤ 7 → 32 ≤ w → w < words_of_storage → IsStepSound (step_with_word k w x)
 noted-sound k w x h few above inside =
     let room : k.puts < length k.places = omega (arith, h.eight) in
     record {
@@ -86,7 +86,7 @@ noted-sound k w x h few above inside =
       inside = λ n below. set-all (λ a. a < words_of_storage) k.places k.puts w n room inside h.inside below;
     }
 
-pub pushed-sound : (b : Steps) (k : Kept) → AreStepsSound b → IsStepSound k
+pub pushed-sound : (b : Steps) (k : KeptStep) → AreStepsSound b → IsStepSound k
     → AreStepsSound (record b { kept = keep_last b.depth (b.kept ++ k ∷ []) })
 pushed-sound b k h sound =
     let xs = b.kept ++ k ∷ [] in
@@ -103,11 +103,11 @@ popped-sound b h = record {
   each = All-take IsStepSound (length b.kept - 1) b.kept h.each;
 }
 
-pub last-sound : (b : Steps) (k : Kept) → AreStepsSound b → last_item b.kept ≡ Some k → IsStepSound k
+pub last-sound : (b : Steps) (k : KeptStep) → AreStepsSound b → last_item b.kept ≡ Some k → IsStepSound k
 last-sound b k h e =
     of_last IsStepSound (take (length b.kept - 1) b.kept) k (subst (All IsStepSound) (snoc b.kept k e) h.each)
 
-pub room-of : (r : Option Kept) (k : Kept) → r ≡ Some k → has_room r ≡ true → k.puts ≤ 7
+pub room-of : (r : Option KeptStep) (k : KeptStep) → r ≡ Some k → has_room r ≡ true → k.puts ≤ 7
 room-of r k e h = leb-true k.puts 7 (ap has_room (sym e) ∙ h)
 
 -- ---- what the calls do
@@ -131,7 +131,7 @@ forth-kept b c s t old trail Plain made is some e =
 forth-kept b c s t old trail (Interrupt i) made is some e =
     subst (λ d. IsStepKept b d s t) (sym e) (step-kept b s t trail is.0 is.1 made.2)
 
-pub put-made : (a p b : Buffer Kept) (k q : Kept) (s t : Machine) (w x : ℕ) → AreStepsSound (steps a) → IsMachine s
+pub put-made : (a p b : Buffer KeptStep) (k q : KeptStep) (s t : Machine) (w x : ℕ) → AreStepsSound (steps a) → IsMachine s
     → last_item a.items ≡ Some k → k.puts ≤ 7 → q ≡ step_with_word k w (word s w) → t ≡ state_with_store s w x
     → p ≡ buffer (take (length a.items - 1) a.items) a.capacity
     → b ≡ buffer (keep_last p.capacity (p.items ++ q ∷ [])) p.capacity → IsPut (steps a) (steps b) s t w x
@@ -143,33 +143,33 @@ put-made a p b k q s t w x h m e few is made popped pushed =
     omega (arith, h.fits, length-append xs (y ∷ []), length-take (length a.items - 1) a.items) in
     let now : b ≡ buffer (xs ++ y ∷ []) a.capacity =
     pushed
-    ∙ ap (λ (v : Buffer Kept). buffer (keep_last v.capacity (v.items ++ q ∷ [])) v.capacity) popped
+    ∙ ap (λ (v : Buffer KeptStep). buffer (keep_last v.capacity (v.items ++ q ∷ [])) v.capacity) popped
     ∙ ap (λ z. buffer (keep_last a.capacity (xs ++ z ∷ [])) a.capacity) is
     ∙ ap (λ ys. buffer ys a.capacity) (keep-few a.capacity (xs ++ y ∷ []) room) in
     record {
       others = xs;
       last = k;
       was = snoc a.items k e;
-      is = ap (λ (v : Buffer Kept). v.items) now;
-      depth = ap (λ (v : Buffer Kept). v.capacity) now;
+      is = ap (λ (v : Buffer KeptStep). v.items) now;
+      depth = ap (λ (v : Buffer KeptStep). v.capacity) now;
       state = made;
       before = ap (state_undone y) made ∙ put-undone s k w x m (last-sound (steps a) k h e) few;
     }
 
-pub back-made : (a p : Buffer Kept) (k : Kept) (s t : Machine) → last_item a.items ≡ Some k → t ≡ state_undone k s
+pub back-made : (a p : Buffer KeptStep) (k : KeptStep) (s t : Machine) → last_item a.items ≡ Some k → t ≡ state_undone k s
     → p ≡ buffer (take (length a.items - 1) a.items) a.capacity → IsUndone (steps a) (steps p) s t
 back-made a p k s t e made popped = record {
   last = k;
-  kept = snoc a.items k e ∙ ap (λ (v : Buffer Kept). v.items ++ k ∷ []) (sym popped);
-  depth = ap (λ (v : Buffer Kept). v.capacity) popped;
+  kept = snoc a.items k e ∙ ap (λ (v : Buffer KeptStep). v.items ++ k ∷ []) (sym popped);
+  depth = ap (λ (v : Buffer KeptStep). v.capacity) popped;
   state = made;
 }
 
-pub put-sound : (a p b : Buffer Kept) (k q : Kept) (w x : ℕ) → AreStepsSound (steps a) → last_item a.items ≡ Some k
+pub put-sound : (a p b : Buffer KeptStep) (k q : KeptStep) (w x : ℕ) → AreStepsSound (steps a) → last_item a.items ≡ Some k
     → k.puts ≤ 7 → q ≡ step_with_word k w x → 32 ≤ w → w < words_of_storage
     → p ≡ buffer (take (length a.items - 1) a.items) a.capacity
     → b ≡ buffer (keep_last p.capacity (p.items ++ q ∷ [])) p.capacity → AreStepsSound (steps b)
 put-sound a p b k q w x h e few is above inside popped pushed =
-    let before = subst (λ (v : Buffer Kept). AreStepsSound (steps v)) (sym popped) (popped-sound (steps a) h) in
+    let before = subst (λ (v : Buffer KeptStep). AreStepsSound (steps v)) (sym popped) (popped-sound (steps a) h) in
     let last = subst IsStepSound (sym is) (noted-sound k w x (last-sound (steps a) k h e) few above inside) in
-    subst (λ (v : Buffer Kept). AreStepsSound (steps v)) (sym pushed) (pushed-sound (steps p) q before last)
+    subst (λ (v : Buffer KeptStep). AreStepsSound (steps v)) (sym pushed) (pushed-sound (steps p) q before last)

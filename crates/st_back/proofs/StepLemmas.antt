@@ -19,7 +19,7 @@ use Rattle.st_exec.specs.Trails.{TrailKeeps, IsTrail, CanBePutBack}
 use Rattle.st_exec.specs.declared.kept.Trail.{Trail}
 use Rattle.st_exec.proofs.MachineKept.{kept-completed}
 use Rattle.st_exec.proofs.UnwrittenLemmas.{IsBeside, completed-unwritten}
-use Rattle.st_back.specs.declared.kept.Kept.{Kept}
+use Rattle.st_back.specs.declared.kept.KeptStep.{KeptStep}
 use Rattle.st_prep.specs.declared.entries.Prepared.{Prepared}
 use Rattle.st_back.specs.Undone.{state_with_words, restored_words, unput, with_rest, state_undone, step_with_word}
 use Rattle.st_back.specs.Steps.{IsStepSound}
@@ -64,7 +64,7 @@ past_registers i (inl before) = absurd (omega arith)
 past_registers i (inr after) = omega arith
 
 -- a state that has of another one each word that the trail does not have
-pub trail-undone : (s u : Machine) (k : Kept) → TrailKeeps s k.trail → CanBePutBack k.trail → k.puts ≡ 0
+pub trail-undone : (s u : Machine) (k : KeptStep) → TrailKeeps s k.trail → CanBePutBack k.trail → k.puts ≡ 0
     → length u.words ≡ length s.words
     → ((w : ℕ) → 32 ≤ w → IsNotAmong w k.trail.writes → word u w ≡ word s w) → state_undone k u ≡ s
 unfolding state_undone
@@ -100,7 +100,7 @@ trail-undone s u k t fits none size same =
     t.waiting t.done t.reader t.printer
 
 -- an entry is undone that is completed, whatever the counter is set to then
-pub entry-undone : (p : Prepared) (s : Machine) (ic : ℕ) (k : Kept) → IsPrepared p → TrailKeeps s k.trail → CanBePutBack k.trail
+pub entry-undone : (p : Prepared) (s : Machine) (ic : ℕ) (k : KeptStep) → IsPrepared p → TrailKeeps s k.trail → CanBePutBack k.trail
     → k.puts ≡ 0 → k.trail.writes ≡ p.writes → state_undone k (record (state_after_completion p s) { ic = ic }) ≡ s
 entry-undone p s ic k h t fits none writes =
     let m = t.machine in
@@ -120,7 +120,7 @@ interrupt-by false s = tt
 interrupt-below : (s : Machine) → IfSome (interrupt s) (λ i. i < 64)
 interrupt-below s = interrupt-by s.enabled s
 
-pub step-undone : (s : Machine) (k : Kept) → IsTrail s k.trail → CanBePutBack k.trail → k.puts ≡ 0
+pub step-undone : (s : Machine) (k : KeptStep) → IsTrail s k.trail → CanBePutBack k.trail → k.puts ≡ 0
     → state_undone k (step s) ≡ s
 unfolding step
 step-undone s k t fits none =
@@ -167,7 +167,7 @@ unput-put n w x places contents s m room room' =
     ∙ ap (unput n ps cs) (stored-back s w x m)
     ∙ unput-below n n w y places contents s (omega arith)
 
-pub put-undone : (s : Machine) (k : Kept) (w x : ℕ) → IsMachine s → IsStepSound k → k.puts ≤ 7
+pub put-undone : (s : Machine) (k : KeptStep) (w x : ℕ) → IsMachine s → IsStepSound k → k.puts ≤ 7
     → state_undone (step_with_word k w (word s w)) (state_with_store s w x) ≡ state_undone k s
 unfolding state_undone
 put-undone s k w x m h few =

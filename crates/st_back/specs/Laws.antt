@@ -7,7 +7,7 @@ use Rattle.st_exec.specs.Transfer.{read_in, printed_out}
 use Rattle.st_exec.specs.Step.{IsStep}
 use Rattle.st_exec.specs.declared.step.Step.{Step as Answer}
 use Rattle.st_exec.specs.declared.step.Step.TheVariants.{Waits}
-use Rattle.st_back.specs.declared.kept.Kept.{Kept as Past}
+use Rattle.st_back.specs.declared.kept.KeptStep.{KeptStep}
 use Rattle.st_back.specs.Between.{AreAlikeAbove}
 use Rattle.st_back.specs.Steps.{Steps, IsForth, IsPut, IsBack, states_before}
 use Rattle.st_back.specs.Undone.{state_undone}
@@ -25,13 +25,13 @@ pub record BackUndoesForth : Type 0 where
 -- counter, the marks and the orders; so neither a signal nor an order without a card that comes
 -- between changes it.
 pub record UndoingPassesRegistersOver : Type 0 where
-  pub above : (k : Past) (s t : Machine) → IsMachine s → AreAlikeAbove s t
+  pub above : (k : KeptStep) (s t : Machine) → IsMachine s → AreAlikeAbove s t
       → state_undone k t ≡ state_undone k s
-  pub signalled : (k : Past) (s : Machine) (i : ℕ) → IsMachine s
+  pub signalled : (k : KeptStep) (s : Machine) (i : ℕ) → IsMachine s
       → state_undone k (state_with_signal s i) ≡ state_undone k s
-  pub printed : (k : Past) (s : Machine) → IsMachine s
+  pub printed : (k : KeptStep) (s : Machine) → IsMachine s
       → state_undone k (printed_out s) ≡ state_undone k s
-  pub no_card : (k : Past) (s : Machine) (w : ℕ) → IsMachine s
+  pub no_card : (k : KeptStep) (s : Machine) (w : ℕ) → IsMachine s
       → state_undone k (read_in s w None) ≡ state_undone k s
 
 -- The states that calls of `back` give one after another are those before the steps that were made,
@@ -41,7 +41,7 @@ pub record BacksGiveTheStatesBefore : Type 0 where
       → states_before b.kept t ≡ keep_last a.depth (states_before a.kept s ++ s ∷ [])
   pub put : (a b : Steps) (s t : Machine) (w x : ℕ) → IsPut a b s t w x
       → states_before b.kept t ≡ states_before a.kept s
-  pub between : (ks : List Past) (s t : Machine) → IsMachine s → AreAlikeAbove s t
+  pub between : (ks : List KeptStep) (s t : Machine) → IsMachine s → AreAlikeAbove s t
       → states_before ks t ≡ states_before ks s
   pub back : (a b : Steps) (s t : Machine) → IsBack a b s t true
       → states_before a.kept s ≡ states_before b.kept t ++ t ∷ []

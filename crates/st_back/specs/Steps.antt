@@ -7,12 +7,12 @@ use Rattle.st_exec.specs.Trails.{IsTrail, CanBePutBack}
 use Rattle.st_exec.specs.declared.kept.Trail.{Trail}
 use Rattle.st_exec.specs.declared.step.Step.{Step}
 use Rattle.st_exec.specs.declared.step.Step.TheVariants.{Plain, Interrupt, Waits}
-use Rattle.st_back.specs.declared.kept.Kept.{Kept}
+use Rattle.st_back.specs.declared.kept.KeptStep.{KeptStep}
 use Rattle.st_back.specs.Undone.{state_undone, step_with_word}
 
 -- the steps that are kept, the oldest first, and how many there may be
 pub record Steps : Type 0 where
-  pub kept : List Kept
+  pub kept : List KeptStep
   pub depth : ℕ
 
 -- no step is kept, of so many that may be
@@ -20,16 +20,16 @@ abbrev pub none_of : ℕ → Steps
 none_of depth = record { kept = []; depth = depth }
 
 -- what contracts see of the ring
-abbrev pub steps : Buffer Kept → Steps
+abbrev pub steps : Buffer KeptStep → Steps
 steps b = record { kept = b.items; depth = b.capacity }
 
 -- the last one
-abbrev pub newest_step : List Kept → Option Kept
+abbrev pub newest_step : List KeptStep → Option KeptStep
 newest_step ks = slice_get ks (length ks - 1)
 
 -- a step that can be undone: at most eight words were put since, all of them in storage above the
 -- registers
-pub record IsStepSound (k : Kept) : Type 0 where
+pub record IsStepSound (k : KeptStep) : Type 0 where
   pub trail : CanBePutBack k.trail
   pub few : k.puts ≤ 8
   pub eight : length k.places ≡ 8
@@ -45,7 +45,7 @@ pub record AreStepsSound (b : Steps) : Type 0 where
 
 -- a step is kept, and undoing it gives the state before it; a full ring gives up the oldest one
 pub record IsStepKept (old new : Steps) (s t : Machine) : Type 0 where
-  pub last : Kept
+  pub last : KeptStep
   pub kept : new.kept ≡ keep_last old.depth (old.kept ++ last ∷ [])
   pub depth : new.depth ≡ old.depth
   pub trail : IsTrail s last.trail
@@ -59,7 +59,7 @@ IsForth old new s t Plain = IsStepKept old new s t
 IsForth old new s t (Interrupt i) = IsStepKept old new s t
 
 -- a kept step since which no word was put
-abbrev pub step_at : Trail → Kept
+abbrev pub step_at : Trail → KeptStep
 step_at t = record {
   trail = t;
   places = replicate 8 0;
@@ -72,14 +72,14 @@ abbrev pub steps_with : Trail → Steps → Steps
 steps_with t b = record b { kept = keep_last b.depth (b.kept ++ step_at t ∷ []) }
 
 -- there is room in the newest step for one more word that is put
-abbrev pub has_room : Option Kept → Bool
+abbrev pub has_room : Option KeptStep → Bool
 has_room None = false
 has_room (Some k) = nat_le k.puts 7
 
 -- a word is put, and the newest step is undone as if it were not; the others are as they were
 pub record IsPut (old new : Steps) (s t : Machine) (w x : ℕ) : Type 0 where
-  pub others : List Kept
-  pub last : Kept
+  pub others : List KeptStep
+  pub last : KeptStep
   pub was : old.kept ≡ others ++ last ∷ []
   pub is : new.kept ≡ others ++ step_with_word last w (word s w) ∷ []
   pub depth : new.depth ≡ old.depth
@@ -88,7 +88,7 @@ pub record IsPut (old new : Steps) (s t : Machine) (w x : ℕ) : Type 0 where
 
 -- the newest step is undone, and kept no more
 pub record IsUndone (old new : Steps) (s t : Machine) : Type 0 where
-  pub last : Kept
+  pub last : KeptStep
   pub kept : old.kept ≡ new.kept ++ last ∷ []
   pub depth : new.depth ≡ old.depth
   pub state : t ≡ state_undone last s
@@ -101,12 +101,12 @@ IsBack old new s t false = (old.kept ≡ []) × (new ≡ old) × (t ≡ s)
 -- ---- several steps
 
 -- the state after all steps are undone, the last one first
-unfoldable pub all_undone : List Kept → Machine → Machine
+unfoldable pub all_undone : List KeptStep → Machine → Machine
 all_undone [] s = s
 all_undone (k ∷ ks) s = state_undone k (all_undone ks s)
 
 -- the states that `back` gives, one call after another: the last of them first, that before the
 -- oldest step at the front
-unfoldable pub states_before : List Kept → Machine → List Machine
+unfoldable pub states_before : List KeptStep → Machine → List Machine
 states_before [] s = []
 states_before (k ∷ ks) s = all_undone (k ∷ ks) s ∷ states_before ks s

@@ -3,7 +3,7 @@ use Rattle.std.specs.Prelude.{ℕ, zero, suc, ◌+◌, List, slice_index, slice_
 use Rattle.st_state.specs.Machine.{Machine, state_with_store}
 use Rattle.st_prep.specs.declared.entries.Words.{Words}
 use Rattle.st_exec.specs.declared.kept.Trail.{Trail}
-use Rattle.st_back.specs.declared.kept.Kept.{Kept}
+use Rattle.st_back.specs.declared.kept.KeptStep.{KeptStep}
 
 -- n words from word w on hold again what a list has from place k on
 unfoldable pub state_with_words : ℕ → ℕ → ℕ → List ℕ → Machine → Machine
@@ -35,14 +35,14 @@ with_rest t s = record s {
 
 -- a step is undone: the words that were put since, the words that the entry wrote, words 0 to 31,
 -- and the rest
-unfoldable pub state_undone : Kept → Machine → Machine
+unfoldable pub state_undone : KeptStep → Machine → Machine
 state_undone k s =
     with_rest k.trail
     (state_with_words 0 32 0 k.trail.registers
     (restored_words k.trail.writes k.trail.before (unput k.puts k.places k.contents s)))
 
 -- one more word is put: word w, which held x
-abbrev pub step_with_word : Kept → ℕ → ℕ → Kept
+abbrev pub step_with_word : KeptStep → ℕ → ℕ → KeptStep
 step_with_word k w x = record k {
   places = slice_set k.places k.puts w;
   contents = slice_set k.contents k.puts x;

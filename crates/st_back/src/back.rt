@@ -5,7 +5,7 @@ ghost use Rattle.st_exec.specs.Step.{IsStep};
 ghost use Rattle.st_exec.specs.Trails.{CanBePutBack};
 ghost use Rattle.st_back.specs.Steps.{none_of, newest_step, steps_with, IsForth, has_room, IsPut, IsBack};
 
-use crate::kept::{Kept, noted};
+use crate::kept::{KeptStep, noted};
 use crate::undoing::undo;
 use circular_buffer::HeapCircularBuffer;
 use st_bits::NoMemory;
@@ -17,7 +17,7 @@ use std::marker::Model;
 /// The last steps of a machine, as many as it is deep, each kept so that it can be undone.
 #[derive(Drop)]
 pub struct Back {
-    ring: HeapCircularBuffer<Kept>,
+    ring: HeapCircularBuffer<KeptStep>,
 }
 
 // Clauses see the steps, the oldest first, and the depth.
@@ -67,7 +67,7 @@ impl Back {
         requires { CanBePutBack trail }
         ensures { self.new ≡ steps_with trail self.old }
     {
-        self.ring.push_back(Kept {
+        self.ring.push_back(KeptStep {
             trail,
             places: [0; 8],
             contents: [0; 8],

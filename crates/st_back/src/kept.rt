@@ -6,7 +6,7 @@ use st_exec::Trail;
 
 /// A step that can be undone.
 #[derive(Clone, Copy, Debug)]
-pub struct Kept {
+pub struct KeptStep {
     /// What was kept of the state before it.
     pub trail: Trail,
     /// The word addresses of the words that were put since, in order.
@@ -19,7 +19,7 @@ pub struct Kept {
 
 // The step with one more word that is put: the one at the word address `w`, which holds `content`
 // before.
-pub(crate) fn noted(mut kept: Kept, w: u32, content: u64) -> Kept
+pub(crate) fn noted(mut kept: KeptStep, w: u32, content: u64) -> KeptStep
     requires { kept.puts ≤ 7 }
     ensures { result ≡ noted_of kept w content }
 {

@@ -6,5 +6,5 @@ mod kept;
 mod undoing;
 
 pub use back::Back;
-pub use kept::Kept;
+pub use kept::KeptStep;
 pub use undoing::{keep, undo};

@@ -8,7 +8,7 @@ ghost use Rattle.st_exec.specs.Trails.{CanBePutBack};
 ghost use Rattle.st_back.specs.Undone.{state_with_words, restored_words, unput, with_rest, state_undone};
 ghost use Rattle.st_back.specs.Steps.{IsStepSound};
 
-use crate::kept::Kept;
+use crate::kept::KeptStep;
 use st_exec::{Trail, trail_of};
 use st_prep::{Prepared, Words};
 use st_state::State;
@@ -35,7 +35,7 @@ fn restore_written(words: Words, before: &[u64; 32], state: &mut State)
 }
 
 // Puts back the words that were put since, the last one first.
-fn remove_puts(kept: &Kept, state: &mut State)
+fn remove_puts(kept: &KeptStep, state: &mut State)
     requires { IsStepSound kept.now }
     ensures { state.new ≡ unput kept.now.puts kept.now.places kept.now.contents state.old }
 {
@@ -61,14 +61,14 @@ fn restore_rest(trail: &Trail, state: &mut State)
 
 /// Keeps of a state what is needed to undo an entry that is prepared of it: once it is completed,
 /// and the counter set or not, `undo` gives the state back.
-pub fn keep(p: &Prepared, state: &State) -> Kept
+pub fn keep(p: &Prepared, state: &State) -> KeptStep
     requires prepared { IsPrepared p.now }
     ensures sound { IsStepSound result }
     ensures undone { (s : Machine) (ic : ℕ) → s ≡ record
         (state_after_completion p.now state.now) { ic = ic } →
         state_undone result s ≡ state.now }
 {
-    Kept {
+    KeptStep {
         trail: trail_of(None, p, state),
         places: [0; 8],
         contents: [0; 8],
@@ -78,7 +78,7 @@ pub fn keep(p: &Prepared, state: &State) -> Kept
 
 /// Undoes a step or an entry that was kept.
 #[tactic(auto, unfolding(crate::specs::Undone::state_undone), using(st_bits::specs::Storage::words_of_storage_is))]
-pub fn undo(kept: &Kept, state: &mut State)
+pub fn undo(kept: &KeptStep, state: &mut State)
     requires { IsStepSound kept.now }
     ensures { state.new ≡ state_undone kept.now state.old }
 {

@@ -13,7 +13,7 @@ use Rattle.st_exec.specs.Transfer.{all_stored, read_in}
 use Rattle.st_run.specs.Run.{Scene, interlude}
 use Rattle.st_run.specs.Outside.{Coming, scene_at}
 use Rattle.st_exec.proofs.StepLemmas.{step_made}
-use Rattle.st_back.specs.declared.kept.Kept.{Kept}
+use Rattle.st_back.specs.declared.kept.KeptStep.{KeptStep}
 use Rattle.st_back.specs.Between.{AreAlikeAbove}
 use Rattle.st_back.specs.Steps.{Steps, none_of, newest_step, IsForth, IsStepKept, IsPut, has_room, states_before}
 use Rattle.st_back.specs.Undone.{step_with_word}
@@ -32,7 +32,7 @@ alike-turned s r q x = record {
 
 -- ---- moving without a step
 
-pub room_same : (o q : Option Order) (ks : List Kept) → q ≡ o → HasRoomForCard o ks → HasRoomForCard q ks
+pub room_same : (o q : Option Order) (ks : List KeptStep) → q ≡ o → HasRoomForCard o ks → HasRoomForCard q ks
 room_same o q ks e h = subst (λ r. HasRoomForCard r ks) (sym e) h
 
 -- what comes between two steps
@@ -53,25 +53,25 @@ depth-forth old new s t Plain h = h.depth
 depth-forth old new s t (Interrupt i) h = h.depth
 
 -- the last one of a list is its newest one
-newest-last : (ks : List Kept) (k : Kept) → slice_get (ks ++ k ∷ []) (length ks) ≡ Some k
+newest-last : (ks : List KeptStep) (k : KeptStep) → slice_get (ks ++ k ∷ []) (length ks) ≡ Some k
 newest-last [] k = refl
 newest-last (j ∷ ks) k = newest-last ks k
 
-newest-pushed : (ks : List Kept) (k : Kept) → newest_step (ks ++ k ∷ []) ≡ Some k
+newest-pushed : (ks : List KeptStep) (k : KeptStep) → newest_step (ks ++ k ∷ []) ≡ Some k
 newest-pushed ks k =
     let same : length (ks ++ k ∷ []) - 1 ≡ length ks = omega (arith, length-append ks (k ∷ [])) in
     ap (λ n. slice_get (ks ++ k ∷ []) n) same ∙ newest-last ks k
 
-newest-kept : (depth : ℕ) (ks : List Kept) (k : Kept) → 1 ≤ depth → newest_step (keep_last depth (ks ++ k ∷ [])) ≡ Some k
+newest-kept : (depth : ℕ) (ks : List KeptStep) (k : KeptStep) → 1 ≤ depth → newest_step (keep_last depth (ks ++ k ∷ [])) ≡ Some k
 newest-kept depth ks k some =
     let n = length (ks ++ k ∷ []) - depth in
     let few : n ≤ length ks = omega (arith, length-append ks (k ∷ [])) in
     ap newest_step (drop-append-le n ks (k ∷ []) few) ∙ newest-pushed (drop n ks) k
 
-pub fresh_when : (ks : List Kept) (k : Kept) → newest_step ks ≡ Some k → k.puts ≡ 0 → IsFreshStep ks
-fresh_when ks k e none = subst (λ (o : Option Kept). MatchOption o ⊥ (λ j. j.puts ≡ 0)) (sym e) none
+pub fresh_when : (ks : List KeptStep) (k : KeptStep) → newest_step ks ≡ Some k → k.puts ≡ 0 → IsFreshStep ks
+fresh_when ks k e none = subst (λ (o : Option KeptStep). MatchOption o ⊥ (λ j. j.puts ≡ 0)) (sym e) none
 
-pub room_when : (o : Option Order) (ks : List Kept) → IsFreshStep ks → HasRoomForCard o ks
+pub room_when : (o : Option Order) (ks : List KeptStep) → IsFreshStep ks → HasRoomForCard o ks
 room_when None ks h = tt
 room_when (Some order) ks h = h
 
@@ -147,11 +147,11 @@ beside_stepped back b d before h k = record {
 
 pub put-fresh : (old new : Steps) (s t : Machine) (w x n : ℕ) → IsPut old new s t w x → MatchOption (newest_step old.kept) ⊥ (λ k. k.puts ≡ n) → MatchOption (newest_step new.kept) ⊥ (λ k. k.puts ≡ n + 1)
 put-fresh old new s t w x n h puts =
-    let last : h.last.puts ≡ n = subst (λ (o : Option Kept). MatchOption o ⊥ (λ k. k.puts ≡ n)) (ap newest_step h.was ∙ newest-pushed h.others h.last) puts in
+    let last : h.last.puts ≡ n = subst (λ (o : Option KeptStep). MatchOption o ⊥ (λ k. k.puts ≡ n)) (ap newest_step h.was ∙ newest-pushed h.others h.last) puts in
     let more : (step_with_word h.last w (word s w)).puts ≡ n + 1 = ap (λ k. k + 1) last in
-    subst (λ (o : Option Kept). MatchOption o ⊥ (λ k. k.puts ≡ n + 1)) (sym (ap newest_step h.is ∙ newest-pushed h.others (step_with_word h.last w (word s w)))) more
+    subst (λ (o : Option KeptStep). MatchOption o ⊥ (λ k. k.puts ≡ n + 1)) (sym (ap newest_step h.is ∙ newest-pushed h.others (step_with_word h.last w (word s w)))) more
 
-pub room_at : (o : Option Kept) (n : ℕ) → MatchOption o ⊥ (λ k. k.puts ≡ n) → n < 8 → has_room o ≡ true
+pub room_at : (o : Option KeptStep) (n : ℕ) → MatchOption o ⊥ (λ k. k.puts ≡ n) → n < 8 → has_room o ≡ true
 room_at None n puts few = absurd puts
 room_at (Some k) n puts few = let most : nat_le k.puts 7 ≡ true = grind (arith, nat_tests, puts, few) in most
 
@@ -183,12 +183,12 @@ read-kept (Some order) m n card some read depth states =
     )
 
 -- indicators and orders that come leave the states to which steps lead back
-pub states_beside : (ks : List Kept) (s : Machine) (r q : Option Order) (x : ℕ) → IsMachine s → states_before ks (with_word (record s { reader = r; printer = q }) 11 x) ≡ states_before ks s
+pub states_beside : (ks : List KeptStep) (s : Machine) (r q : Option Order) (x : ℕ) → IsMachine s → states_before ks (with_word (record s { reader = r; printer = q }) 11 x) ≡ states_before ks s
 states_beside ks s r q x m = between-states ks s (with_word (record s { reader = r; printer = q }) 11 x) m (alike-turned s r q x)
 
 -- ---- the start
 
-nothing_kept : (back : ℕ) (ks : List Kept) (s : Machine) → ks ≡ [] → states_before ks s ≡ keep_last {X = Machine} back []
+nothing_kept : (back : ℕ) (ks : List KeptStep) (s : Machine) → ks ≡ [] → states_before ks s ≡ keep_last {X = Machine} back []
 unfolding states_before
 nothing_kept back ks s none = ap (λ js. states_before js s) none ∙ sym (drop-none (0 - back))
 
@@ -206,5 +206,5 @@ begins_beside back k b some few none free =
       states = nothing_kept back k.kept b.machine (ap (λ j. j.kept) none);
     }
 
-pub states_unread : (ks : List Kept) (s : Machine) (r : Option Order) → IsMachine s → states_before ks (record s { reader = r }) ≡ states_before ks s
+pub states_unread : (ks : List KeptStep) (s : Machine) (r : Option Order) → IsMachine s → states_before ks (record s { reader = r }) ≡ states_before ks s
 states_unread ks s r m = between-states ks s (record s { reader = r }) m (record { size = refl; words = λ w above. refl })

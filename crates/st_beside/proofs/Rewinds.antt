@@ -3,10 +3,10 @@ use Rattle.std.proofs.Common.{◌≡◌, ◌≢◌, ◌≤◌, ℕ, zero, suc, �
 use Rattle.std.proofs.lemmas.List.{take_all}
 use Rattle.st_state.specs.Machine.{Machine}
 use Rattle.st_exec.specs.Step.{rests}
-use Rattle.st_run.specs.Run.{Scene, Transition, interlude, scene_after_step, with_end, run}
+use Rattle.st_run.specs.Run.{Scene, Transition, interlude, scene_after_step, transition_at_end, run}
 use Rattle.st_exec.proofs.StepLemmas.{step-done}
 use Rattle.st_run.proofs.Runs.{run-rests, run-budget, run-goes_on}
-use Rattle.st_back.specs.declared.kept.Kept.{Kept}
+use Rattle.st_back.specs.declared.kept.KeptStep.{KeptStep}
 use Rattle.st_back.specs.Steps.{Steps, IsBack, states_before}
 use Rattle.st_back.proofs.ManyLemmas.{back-states}
 use Rattle.st_run.proofs.DoneLemmas.{settled-done}
@@ -52,7 +52,7 @@ states_begin back budget b none h = record { before = []; all = refl; last = ref
 
 -- the run ends
 states_end : (back budget : ℕ) (start : Scene) (left : ℕ) (b d : Beside) → IsMoved b d (interlude b.0).scene
-    → states left b.0 ≡ (interlude b.0).scene.machine ∷ [] → run left b.0 ≡ with_end (interlude b.0)
+    → states left b.0 ≡ (interlude b.0).scene.machine ∷ [] → run left b.0 ≡ transition_at_end (interlude b.0)
     → StatesSoFar back budget start left b → HasMadeRun back budget start d
 states_end back budget start left b d moved ends over h =
     let same : d.0 ≡ (interlude b.0).scene = moved.scene in
@@ -115,7 +115,7 @@ states_count left budget b d e some moved step counted =
 
 -- ---- back to the oldest state
 
-pub length-states_before : (ks : List Kept) (s : Machine) → length (states_before ks s) ≡ length ks
+pub length-states_before : (ks : List KeptStep) (s : Machine) → length (states_before ks s) ≡ length ks
 unfolding states_before
 length-states_before [] s = refl
 length-states_before (k ∷ ks) s = ap suc (length-states_before ks s)
@@ -157,7 +157,7 @@ undo_fewer a b s t false back some = absurd (some (ap length back.0))
 undo_fewer a b s t true back some = sym (ap length back.kept ∙ length-append b.kept (back.last ∷ []))
 
 -- all are undone
-undone_all_by : (ks : List Kept) (m : Machine) (all : List Machine) → length ks ≡ 0 → states_before ks m ++ m ∷ [] ≡ take (length ks + 1) all → m ∷ [] ≡ take 1 all
+undone_all_by : (ks : List KeptStep) (m : Machine) (all : List Machine) → length ks ≡ 0 → states_before ks m ++ m ∷ [] ≡ take (length ks + 1) all → m ∷ [] ≡ take 1 all
 unfolding states_before
 undone_all_by [] m all none e = e
 undone_all_by (k ∷ ks) m all none e = absurd (omega arith)

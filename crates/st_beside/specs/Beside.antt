@@ -4,7 +4,7 @@ use Rattle.circular_buffer.specs.Buffer.{keep_last}
 use Rattle.st_state.specs.Machine.{Machine}
 use Rattle.st_state.specs.declared.devices.Order.{Order}
 use Rattle.st_run.specs.Run.{Scene, scene_after_step, run}
-use Rattle.st_back.specs.declared.kept.Kept.{Kept}
+use Rattle.st_back.specs.declared.kept.KeptStep.{KeptStep}
 use Rattle.st_back.specs.Steps.{Steps, newest_step, states_before}
 use Rattle.st_beside.specs.States.{states}
 use Rattle.st_beside.specs.declared.past.Noted.{Noted}
@@ -14,12 +14,12 @@ abbrev pub Beside : Type 0
 Beside = Scene × Steps
 
 -- no word was put since the newest step
-abbrev pub IsFreshStep : List Kept → Type 0
+abbrev pub IsFreshStep : List KeptStep → Type 0
 IsFreshStep kept = MatchOption (newest_step kept) ⊥ (λ k. k.puts ≡ 0)
 
 -- a card that comes can be put: as long as the reader has an order, no word was put since the
 -- newest step
-abbrev pub HasRoomForCard : Option Order → List Kept → Type 0
+abbrev pub HasRoomForCard : Option Order → List KeptStep → Type 0
 HasRoomForCard None kept = Unit {0}
 HasRoomForCard (Some order) kept = IsFreshStep kept
 

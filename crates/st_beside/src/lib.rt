@@ -4,4 +4,4 @@
 
 mod past;
 
-pub use past::{Past, rewind, run_beside};
+pub use past::{MachineBeside, rewind, run_beside};

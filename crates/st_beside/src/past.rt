@@ -43,12 +43,12 @@ pub struct Noted {
 
 /// A machine beside a run, and what is still to come to it: signals, and cards of the reader.
 #[derive(Drop)]
-pub struct Past<'a> {
+pub struct MachineBeside<'a> {
     noted: Noted,
     coming: Coming<'a>,
 }
 
-impl<'a> Model for Past<'a> {
+impl<'a> Model for MachineBeside<'a> {
     ghost use Rattle.st_beside.specs.Beside.{Beside};
 
     ghost Value = { Beside };
@@ -63,12 +63,12 @@ impl<'a> Model for Past<'a> {
     ) };
 }
 
-impl<'a> Past<'a> {
+impl<'a> MachineBeside<'a> {
     ghost use Rattle.std.specs.List.{AllPass};
     ghost use Rattle.st_card.specs.Limits.{is_signal};
 
     /// A machine, what comes to it, and the steps of it that are kept.
-    pub fn new(state: State, signals: &'a [Signal], cards: Hopper, steps: Back) -> Past<'a>
+    pub fn new(state: State, signals: &'a [Signal], cards: Hopper, steps: Back) -> MachineBeside<'a>
         requires { AllPass is_signal signals.now }
         ensures scene { result.0 ≡ record {
           machine = state;
@@ -77,7 +77,7 @@ impl<'a> Past<'a> {
         } }
         ensures steps { result.1 ≡ steps }
     {
-        Past {
+        MachineBeside {
             noted: Noted { state, steps },
             coming: Coming::new(signals, cards),
         }
@@ -167,7 +167,7 @@ impl Outside for Noted {
 
 // What comes between two steps: signals and orders that are due, and what ends a wait. Nothing is
 // printed.
-fn settle(past: &mut Past)
+fn settle(past: &mut MachineBeside)
     requires { IsBesideReady past.old }
     ensures { IsMoved past.old past.new (run.interlude past.old.0).scene }
 {
@@ -175,7 +175,7 @@ fn settle(past: &mut Past)
 }
 
 // Makes the next step of a machine that is not at rest.
-fn step(past: &mut Past)
+fn step(past: &mut MachineBeside)
     requires few { past.old.0.machine.done < 2 ^ 63 }
     requires ready { IsBesideReady past.old }
     ensures { rests past.old.0.machine ≡ false → IsStepped past.old past.new }
@@ -184,14 +184,14 @@ fn step(past: &mut Past)
 }
 
 // Whether the machine waits and nothing is pending that would end it.
-fn is_resting(past: &Past) -> bool
+fn is_resting(past: &MachineBeside) -> bool
     ensures { result ≡ rests past.now.0.machine }
 {
     is_at_rest(&past.noted.state)
 }
 
 // Makes the run to its end, at rest or with the budget used up.
-fn run_to_end(past: &mut Past, budget: u64)
+fn run_to_end(past: &mut MachineBeside, budget: u64)
     requires fresh { past.old.0.machine.done ≡ 0 }
     requires limit { budget ≤ MOST_INSTRUCTIONS }
     requires ready { IsBesideReady past.old }
@@ -215,7 +215,7 @@ fn run_to_end(past: &mut Past, budget: u64)
 
 /// Makes the run to its end on the machine beside it, where there is one: at rest, or with as many
 /// steps done as the budget has.
-pub fn run_beside(past: &mut Option<Past>, budget: u64)
+pub fn run_beside(past: &mut Option<MachineBeside>, budget: u64)
     requires fresh { IfSome past.old (λ b. b.0.machine.done ≡ 0) }
     requires limit { budget ≤ MOST_INSTRUCTIONS }
     requires ready { IfSome past.old IsBesideReady }
@@ -240,7 +240,7 @@ fn undo_all(steps: &mut Back, machine: &mut State)
 }
 
 /// Undoes all steps that are kept, the newest first, and tells how many they were, 64 at most.
-pub fn rewind(past: &mut Past) -> u8
+pub fn rewind(past: &mut MachineBeside) -> u8
     requires { IsBesideReady past.old }
     ensures count { result ≡ length past.old.1.kept }
     ensures state { past.new.0.machine ∷ [] ≡ take 1

@@ -7,10 +7,10 @@ use Rattle.st_io.specs.declared.Failed.{Failed}
 use Rattle.st_io.specs.Lines.{WritesLines}
 use Rattle.st_io.proofs.Progress.{lines_then, lines_cut, wrote_nothing}
 use Rattle.st_ledger.specs.declared.charges.Charge.{Charge}
-use Rattle.st_ledger.specs.declared.charges.Part.{Part}
+use Rattle.st_ledger.specs.declared.charges.StagePart.{StagePart}
 use Rattle.st_ledger.specs.declared.charges.Stage.{Stage}
 use Rattle.st_ledger.specs.declared.charges.Stage.TheVariants.{Restart, Instruction, Address, Index, Preparing, Operand, Executing}
-use Rattle.st_ledger.specs.declared.totals.Sum.{Sum}
+use Rattle.st_ledger.specs.declared.totals.StageSum.{StageSum}
 use Rattle.st_ledger.specs.declared.totals.Totals.{Totals}
 use Rattle.st_ledger.specs.Charges.{charges_behind, part_charges, is_stage, ticks_for, ticks_of, all_ticks}
 use Rattle.st_ledger.specs.Lines.{sum_line}
@@ -93,15 +93,15 @@ charge-added s r x a is = added-at s r (x.to - x.from) a ∙ ap (λ n. sum_at s 
 
 -- ---- a stage, and those behind it
 
-pub part-none : (s : Stage) (t : ℕ) (x : Part) (n : ℕ) → x.end ≤ t → n ≡ n + ticks_for s (part_charges t x)
+pub part-none : (s : Stage) (t : ℕ) (x : StagePart) (n : ℕ) → x.end ≤ t → n ≡ n + ticks_for s (part_charges t x)
 unfolding ticks_for
 part-none s t x n past = rw (le-ltb t x.end past) (omega arith)
 
-pub parts-none : (s : Stage) (t : ℕ) (parts : List Part) (n : ℕ) → parts ≡ [] → n ≡ n + ticks_for s (charges_behind t parts)
+pub parts-none : (s : Stage) (t : ℕ) (parts : List StagePart) (n : ℕ) → parts ≡ [] → n ≡ n + ticks_for s (charges_behind t parts)
 unfolding charges_behind ticks_for
 parts-none s t parts n none = rw none (omega arith)
 
-pub parts-more : (s : Stage) (t late : ℕ) (parts xs : List Part) (x : Part) (n m k : ℕ) → parts ≡ x ∷ xs → late ≡ max t x.end
+pub parts-more : (s : Stage) (t late : ℕ) (parts xs : List StagePart) (x : StagePart) (n m k : ℕ) → parts ≡ x ∷ xs → late ≡ max t x.end
     → m ≡ n + ticks_for s (part_charges t x) → k ≡ m + ticks_for s (charges_behind late xs) → k ≡ n + ticks_for s (charges_behind t parts)
 parts-more s t late parts xs x n m k is top first rest =
     let all : ticks_for s (charges_behind t parts) ≡ ticks_for s (part_charges t x) + ticks_for s (charges_behind (max t x.end) xs) =
@@ -117,14 +117,14 @@ unfolding all_ticks
 all-append [] ys = omega arith
 all-append (x ∷ xs) ys = omega (arith, all-append xs ys)
 
-part-reach : (t : ℕ) (x : Part) → t + all_ticks (part_charges t x) ≡ max t x.end
+part-reach : (t : ℕ) (x : StagePart) → t + all_ticks (part_charges t x) ≡ max t x.end
 unfolding all_ticks
 part-reach t x = elim (lt-cases t x.end) [
   | inl y ↦ rw y.0 (omega (arith, y.1))
   | inr n ↦ rw n.0 (omega (arith, n.1))
 ]
 
-pub reach-later : (t late : ℕ) (parts xs : List Part) (x : Part) → parts ≡ x ∷ xs → late ≡ max t x.end
+pub reach-later : (t late : ℕ) (parts xs : List StagePart) (x : StagePart) → parts ≡ x ∷ xs → late ≡ max t x.end
     → late + all_ticks (charges_behind late xs) ≡ t + all_ticks (charges_behind t parts)
 reach-later t late parts xs x is top =
     let all : all_ticks (charges_behind t parts) ≡ all_ticks (part_charges t x) + all_ticks (charges_behind (max t x.end) xs) =
@@ -134,31 +134,31 @@ reach-later t late parts xs x is top =
     let later : all_ticks (charges_behind late xs) ≡ all_ticks (charges_behind (max t x.end) xs) = ap (λ u. all_ticks (charges_behind u xs)) top in
     omega (arith, all, later, top, part-reach t x)
 
-pub reach-end : (t : ℕ) (parts : List Part) → parts ≡ [] → t ≡ t + all_ticks (charges_behind t parts)
+pub reach-end : (t : ℕ) (parts : List StagePart) → parts ≡ [] → t ≡ t + all_ticks (charges_behind t parts)
 unfolding charges_behind all_ticks
 reach-end t parts none = rw none (omega arith)
 
-pub reach-more : (t late : ℕ) (parts xs : List Part) (x : Part) (a : Totals) → parts ≡ x ∷ xs → late ≡ max t x.end
+pub reach-more : (t late : ℕ) (parts xs : List StagePart) (x : StagePart) (a : Totals) → parts ≡ x ∷ xs → late ≡ max t x.end
     → AreWithin (late + all_ticks (charges_behind late xs)) a → AreWithin (t + all_ticks (charges_behind t parts)) a
 reach-more t late parts xs x a is top within = subst (λ m. AreWithin m a) (reach-later t late parts xs x is top) within
 
 -- ---- lines
 
-lines-first : (sums xs : List Sum) (x : Sum) → sums ≡ x ∷ xs → sum_lines sums ≡ (sum_line x.stage x.ticks ∷ []) ++ sum_lines xs
+lines-first : (sums xs : List StageSum) (x : StageSum) → sums ≡ x ∷ xs → sum_lines sums ≡ (sum_line x.stage x.ticks ∷ []) ++ sum_lines xs
 unfolding sum_lines
 lines-first sums xs x is = rw is refl
 
-pub sums_cut : (s u : OutputState) (sums xs : List Sum) (x : Sum) (e : Failed) (r : Result (Unit {0}) Failed) → IsErr r → sums ≡ x ∷ xs
+pub sums_cut : (s u : OutputState) (sums xs : List StageSum) (x : StageSum) (e : Failed) (r : Result (Unit {0}) Failed) → IsErr r → sums ≡ x ∷ xs
     → WritesLines s u (sum_line x.stage x.ticks ∷ []) (Err e) → WritesLines s u (sum_lines sums) r
 sums_cut s u sums xs x e r f is h =
     subst (λ ls. WritesLines s u ls r) (sym (lines-first sums xs x is)) (lines_cut s u (sum_line x.stage x.ticks ∷ []) (sum_lines xs) e r f h)
 
-pub sums_then : (s v u : OutputState) (sums xs : List Sum) (x : Sum) (o : Unit {0}) (r : Result (Unit {0}) Failed) → sums ≡ x ∷ xs
+pub sums_then : (s v u : OutputState) (sums xs : List StageSum) (x : StageSum) (o : Unit {0}) (r : Result (Unit {0}) Failed) → sums ≡ x ∷ xs
     → WritesLines s v (sum_line x.stage x.ticks ∷ []) (Ok o) → WritesLines v u (sum_lines xs) r → WritesLines s u (sum_lines sums) r
 sums_then s v u sums xs x o r is h k =
     subst (λ ls. WritesLines s u ls r) (sym (lines-first sums xs x is)) (lines_then s v u (sum_line x.stage x.ticks ∷ []) (sum_lines xs) o r h k)
 
-pub sums_none : (s : OutputState) (sums : List Sum) (o : Unit {0}) → sums ≡ [] → WritesLines s s (sum_lines sums) (Ok o)
+pub sums_none : (s : OutputState) (sums : List StageSum) (o : Unit {0}) → sums ≡ [] → WritesLines s s (sum_lines sums) (Ok o)
 unfolding sum_lines
 sums_none s sums o is = subst (λ xs. WritesLines s s (sum_lines xs) (Ok o)) (sym is) (record { ok = wrote_nothing s; err = tt })
 

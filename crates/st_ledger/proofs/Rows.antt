@@ -5,7 +5,7 @@ use Rattle.st_rows.specs.declared.entry.Entry.{Entry}
 use Rattle.st_rows.specs.declared.front.Front.{Front}
 use Rattle.st_rows.specs.declared.front.EntryTicks.{EntryTicks}
 use Rattle.st_rows.proofs.Awaited.{ready-after}
-use Rattle.st_ledger.specs.declared.charges.Part.{Part}
+use Rattle.st_ledger.specs.declared.charges.StagePart.{StagePart}
 use Rattle.st_ledger.specs.declared.charges.Stage.TheVariants.{Restart, Instruction, Address, Index, Preparing, Operand, Executing}
 use Rattle.st_ledger.specs.Charges.{parts_of_row, charges, all_ticks, ticks_for, Follow}
 use Rattle.st_ledger.proofs.Sums.{reach, AreOthers, charged-follow, follow-sum, charged-last, charged-first}
@@ -26,7 +26,7 @@ unfolding reach
 reach-end t cost f r is early = omega (arith, is.a, is.p, is.c)
 
 -- and those before it executes where it is ready and the last entry is done
-front_parts : ℕ → EntryTicks → List Part
+front_parts : ℕ → EntryTicks → List StagePart
 front_parts start row =
     record { stage = Restart; end = start }
     ∷ record { stage = Instruction; end = row.a - 1 }
@@ -52,7 +52,7 @@ executing t cost f r is early =
     ∙ omega (arith, is.c)
 
 -- a restart ends where the segment starts
-later_parts : EntryTicks → List Part
+later_parts : EntryTicks → List StagePart
 later_parts r =
     record { stage = Instruction; end = r.a - 1 }
     ∷ record { stage = Address; end = r.a }

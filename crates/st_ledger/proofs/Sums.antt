@@ -5,7 +5,7 @@ use Rattle.std.proofs.lemmas.Bool.{cases_Bool, ltb-true, ltb-false, le-leb, lt-l
 use Rattle.std.proofs.lemmas.Bool.Decides.{nat_tests}
 use Rattle.std.proofs.lemmas.List.Elements.{All-nil, All-cons, All-weaker}
 use Rattle.st_ledger.specs.declared.charges.Charge.{Charge}
-use Rattle.st_ledger.specs.declared.charges.Part.{Part}
+use Rattle.st_ledger.specs.declared.charges.StagePart.{StagePart}
 use Rattle.st_ledger.specs.declared.charges.Stage.{Stage}
 use Rattle.st_rows.specs.declared.front.EntryTicks.{EntryTicks}
 use Rattle.st_ledger.specs.declared.charges.Stage.TheVariants.{Restart, Instruction, Address, Index, Preparing, Operand, Executing}
@@ -16,13 +16,13 @@ pub lt-cases : (a t : ℕ) → ((nat_lt a t ≡ true) × (a < t)) ⊎ ((nat_lt a
 lt-cases a t = elim (cases_Bool (nat_lt a t)) [ inl y ↦ inl (y, ltb-true a t y) | inr n ↦ inr (n, ltb-false a t n) ]
 
 -- the latest of a tick and of the ends of stages
-unfoldable pub reach : ℕ → List Part → ℕ
+unfoldable pub reach : ℕ → List StagePart → ℕ
 reach t [] = t
 reach t (x ∷ xs) = reach (max t x.end) xs
 
 -- ---- they follow each other
 
-pub charged-follow : (t : ℕ) (xs : List Part) → Follow t (reach t xs) (charges_behind t xs)
+pub charged-follow : (t : ℕ) (xs : List StagePart) → Follow t (reach t xs) (charges_behind t xs)
 unfolding charges_behind reach Follow
 charged-follow t [] = refl
 charged-follow t (x ∷ xs) = elim (lt-cases t x.end) [
@@ -43,7 +43,7 @@ follow-sum t c (x ∷ xs) h =
 
 -- ---- the last stage
 
-last-alone : (t : ℕ) (x : Part) → is_stage x.stage x.stage ≡ true → ticks_for x.stage (charges_behind t (x ∷ [])) ≡ x.end - t
+last-alone : (t : ℕ) (x : StagePart) → is_stage x.stage x.stage ≡ true → ticks_for x.stage (charges_behind t (x ∷ [])) ≡ x.end - t
 unfolding charges_behind ticks_for
 last-alone t x own = elim (lt-cases t x.end) [
   | inl y ↦ rw (y.0, own) (omega arith)
@@ -51,11 +51,11 @@ last-alone t x own = elim (lt-cases t x.end) [
 ]
 
 -- none of these is the stage
-unfoldable pub AreOthers : Stage → List Part → Type 0
+unfoldable pub AreOthers : Stage → List StagePart → Type 0
 AreOthers s [] = Unit {0}
 AreOthers s (x ∷ xs) = (is_stage s x.stage ≡ false) × AreOthers s xs
 
-pub charged-last : (t : ℕ) (xs : List Part) (x : Part) → is_stage x.stage x.stage ≡ true → AreOthers x.stage xs
+pub charged-last : (t : ℕ) (xs : List StagePart) (x : StagePart) → is_stage x.stage x.stage ≡ true → AreOthers x.stage xs
     → ticks_for x.stage (charges_behind t (xs ++ x ∷ [])) ≡ x.end - reach t xs
 unfolding charges_behind reach ticks_for AreOthers
 charged-last t [] x own others = last-alone t x own
@@ -72,7 +72,7 @@ charged-last t (y ∷ ys) x own others =
 
 -- ---- the first stage
 
-charged-none : (s : Stage) (t : ℕ) (xs : List Part) → AreOthers s xs → ticks_for s (charges_behind t xs) ≡ 0
+charged-none : (s : Stage) (t : ℕ) (xs : List StagePart) → AreOthers s xs → ticks_for s (charges_behind t xs) ≡ 0
 unfolding charges_behind ticks_for AreOthers
 charged-none s t [] others = refl
 charged-none s t (x ∷ xs) others = elim (lt-cases t x.end) [
@@ -82,7 +82,7 @@ charged-none s t (x ∷ xs) others = elim (lt-cases t x.end) [
   | inr n ↦ rw n.0 (charged-none s t xs others.1)
 ]
 
-pub charged-first : (t : ℕ) (x : Part) (xs : List Part) → is_stage x.stage x.stage ≡ true → AreOthers x.stage xs
+pub charged-first : (t : ℕ) (x : StagePart) (xs : List StagePart) → is_stage x.stage x.stage ≡ true → AreOthers x.stage xs
     → ticks_for x.stage (charges_behind t (x ∷ xs)) ≡ x.end - t
 unfolding charges_behind ticks_for
 charged-first t x xs own others = elim (lt-cases t x.end) [
@@ -97,29 +97,29 @@ charged-first t x xs own others = elim (lt-cases t x.end) [
 -- ---- the stage of a tick
 
 -- the first of the stages that has not ended before the tick u
-unfoldable pub first_at : ℕ → Stage → List Part → Stage
+unfoldable pub first_at : ℕ → Stage → List StagePart → Stage
 first_at u last [] = last
 first_at u last (x ∷ xs) = if nat_le u x.end then x.stage else first_at u last xs
 
-first-passed : (u : ℕ) (last : Stage) (x : Part) (xs : List Part) → x.end < u → first_at u last (x ∷ xs) ≡ first_at u last xs
+first-passed : (u : ℕ) (last : Stage) (x : StagePart) (xs : List StagePart) → x.end < u → first_at u last (x ∷ xs) ≡ first_at u last xs
 unfolding first_at
 first-passed u last x xs late = rw (lt-leb u x.end late) refl
 
 -- a charge begins at a tick or behind it, and its ticks belong to its stage
-HasStage : Stage → ℕ → List Part → Charge → Type 0
+HasStage : Stage → ℕ → List StagePart → Charge → Type 0
 HasStage last t xs y = (t ≤ y.from) × ((u : ℕ) → y.from < u → u ≤ y.to → first_at u last xs ≡ y.stage)
 
-behind-stage : (last : Stage) (t from : ℕ) (x : Part) (xs : List Part) (y : Charge) → t ≤ from → x.end ≤ from → HasStage last from xs y
+behind-stage : (last : Stage) (t from : ℕ) (x : StagePart) (xs : List StagePart) (y : Charge) → t ≤ from → x.end ≤ from → HasStage last from xs y
     → HasStage last t (x ∷ xs) y
 unfolding HasStage
 behind-stage last t from x xs y later past h =
     (omega (arith, h.0), λ u after to. first-passed u last x xs (omega (arith, h.0)) ∙ h.1 u after to)
 
-own-stage : (last : Stage) (t : ℕ) (x : Part) (xs : List Part) → HasStage last t (x ∷ xs) (record { from = t; to = x.end; stage = x.stage })
+own-stage : (last : Stage) (t : ℕ) (x : StagePart) (xs : List StagePart) → HasStage last t (x ∷ xs) (record { from = t; to = x.end; stage = x.stage })
 unfolding HasStage first_at
 own-stage last t x xs = (omega arith, λ u after to. rw (le-leb u x.end to) refl)
 
-charged-stages : (last : Stage) (t : ℕ) (xs : List Part) → All (HasStage last t xs) (charges_behind t xs)
+charged-stages : (last : Stage) (t : ℕ) (xs : List StagePart) → All (HasStage last t xs) (charges_behind t xs)
 unfolding charges_behind
 charged-stages last t [] = All-nil (HasStage last t [])
 charged-stages last t (x ∷ xs) = elim (lt-cases t x.end) [

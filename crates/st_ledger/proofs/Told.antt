@@ -1,11 +1,11 @@
 -- The charges of stages, one after another.
 use Rattle.std.proofs.Common.{◌≡◌, ℕ, inl, inr, max, List, ◌∷◌, ◌++◌, refl, arith}
-use Rattle.st_ledger.specs.declared.charges.Part.{Part}
+use Rattle.st_ledger.specs.declared.charges.StagePart.{StagePart}
 use Rattle.st_ledger.specs.Charges.{charges_behind, part_charges}
 use Rattle.st_ledger.proofs.Sums.{lt-cases}
 
 -- the first stage, and then the others
-pub charged-parts : (t : ℕ) (x : Part) (xs : List Part) → charges_behind t (x ∷ xs) ≡ part_charges t x ++ charges_behind (max t x.end) xs
+pub charged-parts : (t : ℕ) (x : StagePart) (xs : List StagePart) → charges_behind t (x ∷ xs) ≡ part_charges t x ++ charges_behind (max t x.end) xs
 unfolding charges_behind
 charged-parts t x xs = elim (lt-cases t x.end) [
   | inl y ↦

@@ -4,7 +4,7 @@ use Rattle.std.specs.Prelude.{ℕ, ◌≡◌, ◌+◌, ◌-◌, ◌<◌, nat_eq,
 use Rattle.st_rows.specs.declared.front.Front.{Front}
 use Rattle.st_rows.specs.declared.front.EntryTicks.{EntryTicks}
 use Rattle.st_ledger.specs.declared.charges.Charge.{Charge}
-use Rattle.st_ledger.specs.declared.charges.Part.{Part}
+use Rattle.st_ledger.specs.declared.charges.StagePart.{StagePart}
 use Rattle.st_ledger.specs.declared.charges.Stage.{Stage}
 use Rattle.st_ledger.specs.declared.charges.Stage.TheVariants.{Restart, Instruction, Address, Index, Preparing, Operand, Executing}
 
@@ -24,7 +24,7 @@ stage_at start row t =
 -- ---- charges
 
 -- the stages of a row in their order
-abbrev pub parts_of_row : ℕ → EntryTicks → List Part
+abbrev pub parts_of_row : ℕ → EntryTicks → List StagePart
 parts_of_row start row =
     record { stage = Restart; end = start }
     ∷ record { stage = Instruction; end = row.a - 1 }
@@ -36,7 +36,7 @@ parts_of_row start row =
     ∷ []
 
 -- the ticks behind t, charged to the stages in order; one that ended by then has none
-unfoldable pub charges_behind : ℕ → List Part → List Charge
+unfoldable pub charges_behind : ℕ → List StagePart → List Charge
 charges_behind t [] = []
 charges_behind t (x ∷ xs) =
     if nat_lt t x.end then record { from = t; to = x.end; stage = x.stage }
@@ -44,7 +44,7 @@ charges_behind t (x ∷ xs) =
     else charges_behind t xs
 
 -- the charge of one stage alone
-abbrev pub part_charges : ℕ → Part → List Charge
+abbrev pub part_charges : ℕ → StagePart → List Charge
 part_charges t x = if nat_lt t x.end then record { from = t; to = x.end; stage = x.stage } ∷ []
     else []
 

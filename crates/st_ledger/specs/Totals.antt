@@ -2,7 +2,7 @@
 use Rattle.std.specs.Prelude.{ℕ, ◌≤◌, List, [], ◌∷◌}
 use Rattle.st_ledger.specs.declared.charges.Stage.{Stage}
 use Rattle.st_ledger.specs.declared.charges.Stage.TheVariants.{Restart, Instruction, Address, Index, Preparing, Operand, Executing}
-use Rattle.st_ledger.specs.declared.totals.Sum.{Sum}
+use Rattle.st_ledger.specs.declared.totals.StageSum.{StageSum}
 use Rattle.st_ledger.specs.declared.totals.Totals.{Totals}
 use Rattle.st_ledger.specs.Lines.{sum_line}
 
@@ -31,11 +31,11 @@ abbrev pub stages : List Stage
 stages = Restart ∷ Instruction ∷ Address ∷ Index ∷ Preparing ∷ Operand ∷ Executing ∷ []
 
 -- what each stage of a list has
-abbrev pub sums_by : (Stage → ℕ) → List Stage → List Sum
+abbrev pub sums_by : (Stage → ℕ) → List Stage → List StageSum
 sums_by f [] = []
 sums_by f (s ∷ more) = record { stage = s; ticks = f s } ∷ sums_by f more
 
 -- the lines of sums
-unfoldable pub sum_lines : List Sum → List (List ℕ)
+unfoldable pub sum_lines : List StageSum → List (List ℕ)
 sum_lines [] = []
 sum_lines (x ∷ xs) = sum_line x.stage x.ticks ∷ sum_lines xs

@@ -29,7 +29,7 @@ pub struct Charge {
 
 /// A stage, and the tick at which it ends.
 #[derive(Clone, Copy, Debug, PartialEq, Eq)]
-pub struct Part {
+pub struct StagePart {
     pub stage: Stage,
     pub end: u64,
 }

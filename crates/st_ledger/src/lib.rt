@@ -7,7 +7,7 @@ mod lines;
 mod telling;
 mod totals;
 
-pub use charges::{Charge, Part, Stage};
+pub use charges::{Charge, Stage, StagePart};
 pub use lines::{RowLine, fill_charge, fill_row, line_sum, name_of};
 pub use telling::{later, parts, write_row};
 pub use totals::{Totals, write_sums};

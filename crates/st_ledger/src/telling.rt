@@ -4,21 +4,21 @@ ghost use Rattle.st_io.specs.Lines.{WritesLines};
 ghost use Rattle.st_ledger.specs.Charges.{parts_of_row as parts_of};
 ghost use Rattle.st_ledger.specs.Lines.{row_stage_line};
 
-use crate::charges::{Part, Stage};
+use crate::charges::{Stage, StagePart};
 use crate::lines::{RowLine, fill_row};
 use st_io::{Failed, Sink, write_line};
 use st_rows::EntryTicks;
 
 // A stage, with the tick at which it ends.
-fn part(stage: Stage, end: u64) -> Part
+fn part(stage: Stage, end: u64) -> StagePart
     ensures { result ≡ record { stage = stage; end = end } }
 {
-    Part { stage, end }
+    StagePart { stage, end }
 }
 
 /// The stages of a row in their order, each with the tick at which it ends; the segment starts at
 /// `start`.
-pub fn parts(start: u64, row: &EntryTicks) -> [Part; 7]
+pub fn parts(start: u64, row: &EntryTicks) -> [StagePart; 7]
     ensures { result ≡ parts_of start row.now }
 {
     [

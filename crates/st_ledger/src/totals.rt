@@ -6,7 +6,7 @@ ghost use Rattle.st_ledger.specs.Charges.{parts_of_row as parts_of, charges_behi
 ghost use Rattle.st_ledger.specs.Lines.{sum_line};
 ghost use Rattle.st_ledger.specs.Totals.{sum_at, AreWithin, stages, sums_by, sum_lines};
 
-use crate::charges::{Charge, Part, Stage};
+use crate::charges::{Charge, Stage, StagePart};
 use crate::lines::line_sum;
 use crate::telling::{later, parts};
 use st_io::{Failed, Sink, write_line};
@@ -46,7 +46,7 @@ impl Totals {
     }
 
     // Adds the charge of a stage behind the tick `from`, where it ends later.
-    fn add_part(&mut self, from: u64, part: Part)
+    fn add_part(&mut self, from: u64, part: StagePart)
         requires within { AreWithin from self.old }
         ensures within { AreWithin (max from part.end) self.new }
         ensures sums { (s : StageOf) → sum_at s self.new ≡ sum_at s self.old
@@ -63,7 +63,7 @@ impl Totals {
     }
 
     // Adds the charges of stages behind the tick `from`.
-    fn add_parts(&mut self, from: u64, parts: &[Part])
+    fn add_parts(&mut self, from: u64, parts: &[StagePart])
         requires within { AreWithin from self.old }
         ensures within { AreWithin (from + all_ticks (charges_behind from parts.now)) self.new }
         ensures sums { (s : StageOf) → sum_at s self.new ≡ sum_at s self.old
@@ -92,20 +92,20 @@ impl Totals {
 
 /// The ticks of a stage in the whole run.
 #[derive(Clone, Copy, Debug, PartialEq, Eq)]
-pub struct Sum {
+pub struct StageSum {
     pub stage: Stage,
     pub ticks: u64,
 }
 
 // The sum of a stage.
-fn made_sum(stage: Stage, ticks: u64) -> Sum
+fn made_sum(stage: Stage, ticks: u64) -> StageSum
     ensures { result ≡ record { stage = stage; ticks = ticks } }
 {
-    Sum { stage, ticks }
+    StageSum { stage, ticks }
 }
 
 // The sums in the order of the stages.
-fn sums_of(totals: &Totals) -> [Sum; 7]
+fn sums_of(totals: &Totals) -> [StageSum; 7]
     ensures { result ≡ sums_by (λ s. sum_at s totals.now) stages }
 {
     [
@@ -120,7 +120,7 @@ fn sums_of(totals: &Totals) -> [Sum; 7]
 }
 
 // Writes the line of a sum.
-fn write_sum<K: Sink>(out: &mut K, sum: Sum) -> Result<(), Failed>
+fn write_sum<K: Sink>(out: &mut K, sum: StageSum) -> Result<(), Failed>
     ensures { WritesLines (K.output out.old) (K.output out.new)
         (sum_line sum.stage sum.ticks ∷ []) result }
 {
@@ -128,7 +128,7 @@ fn write_sum<K: Sink>(out: &mut K, sum: Sum) -> Result<(), Failed>
 }
 
 // Writes the lines of sums.
-fn write_each<K: Sink>(out: &mut K, sums: &[Sum]) -> Result<(), Failed>
+fn write_each<K: Sink>(out: &mut K, sums: &[StageSum]) -> Result<(), Failed>
     ensures { WritesLines (K.output out.old) (K.output out.new) (sum_lines sums.now) result }
 {
     let Some((&sum, more)) = sums.split_first() else {

@@ -11,7 +11,7 @@ use Rattle.st_io.specs.Lines.{WritesLines}
 use Rattle.st_io.proofs.Progress.{lines_then, lines_cut, wrote_nothing}
 use Rattle.st_plain.specs.declared.uses.Use.{Use}
 use Rattle.st_ledger.specs.declared.charges.Charge.{Charge}
-use Rattle.st_ledger.specs.declared.charges.Part.{Part}
+use Rattle.st_ledger.specs.declared.charges.StagePart.{StagePart}
 use Rattle.st_ledger.specs.declared.charges.Stage.{Stage}
 use Rattle.st_ledger.specs.Charges.{charges_behind, part_charges, is_stage, all_ticks}
 use Rattle.st_ledger.specs.Lines.{charge_line}
@@ -80,35 +80,35 @@ wait_sums_none s sums o is = subst (λ xs. WritesLines s s (wait_sum_lines xs) (
 
 -- ---- the charge of a stage
 
-pub part_left : (s : OutputState) (uses before : List Use) (t : ℕ) (x : Part) (o : Unit {0}) → x.end ≤ t
+pub part_left : (s : OutputState) (uses before : List Use) (t : ℕ) (x : StagePart) (o : Unit {0}) → x.end ≤ t
     → WritesLines s s (charged_lines uses before (part_charges t x)) (Ok o)
 unfolding charged_lines
 part_left s uses before t x o past = rw (le-ltb t x.end past) (record { ok = wrote_nothing s; err = tt })
 
 -- where it ends
-pub part_end : (t late : ℕ) (x : Part) → late ≡ max t x.end → t + all_ticks (part_charges t x) ≡ late
+pub part_end : (t late : ℕ) (x : StagePart) → late ≡ max t x.end → t + all_ticks (part_charges t x) ≡ late
 unfolding charges_behind all_ticks
 part_end t late x top =
     let none : late + 0 ≡ late = omega arith in
     sym (reach-later t late (x ∷ []) [] x refl top) ∙ none
 
-part_stalled : (r : Stage) (s : Stall) (uses before : List Use) (t : ℕ) (x : Part) (n : ℕ) → x.end ≤ t
+part_stalled : (r : Stage) (s : Stall) (uses before : List Use) (t : ℕ) (x : StagePart) (n : ℕ) → x.end ≤ t
     → n ≡ n + row_stalled r s uses before (part_charges t x)
 unfolding row_stalled
 part_stalled r s uses before t x n past = rw (le-ltb t x.end past) (omega arith)
 
-charge-lines : (uses before : List Use) (t : ℕ) (x : Part) (c : Charge) → t < x.end → c ≡ record { from = t; to = x.end; stage = x.stage }
+charge-lines : (uses before : List Use) (t : ℕ) (x : StagePart) (c : Charge) → t < x.end → c ≡ record { from = t; to = x.end; stage = x.stage }
     → charged_lines uses before (part_charges t x) ≡ charge_line c ∷ wait_lines (charge_waits c uses before)
 unfolding charged_lines
 charge-lines uses before t x c early is = rw (lt-ltb t x.end early, is) (append-nil _)
 
-pub part_told : (s u : OutputState) (uses before : List Use) (t : ℕ) (x : Part) (c : Charge) (waits : List Wait) (r : Result (Unit {0}) Failed)
+pub part_told : (s u : OutputState) (uses before : List Use) (t : ℕ) (x : StagePart) (c : Charge) (waits : List Wait) (r : Result (Unit {0}) Failed)
     → t < x.end → c ≡ record { from = t; to = x.end; stage = x.stage } → waits ≡ charge_waits c uses before
     → WritesLines s u (charge_line c ∷ wait_lines waits) r → WritesLines s u (charged_lines uses before (part_charges t x)) r
 part_told s u uses before t x c waits r early is waits_is h =
     subst (λ ls. WritesLines s u ls r) (ap (λ ws. charge_line c ∷ wait_lines ws) waits_is ∙ sym (charge-lines uses before t x c early is)) h
 
-part_added : (r : Stage) (s : Stall) (uses before : List Use) (t : ℕ) (x : Part) (waits : List Wait) (n m : ℕ) → t < x.end
+part_added : (r : Stage) (s : Stall) (uses before : List Use) (t : ℕ) (x : StagePart) (waits : List Wait) (n m : ℕ) → t < x.end
     → waits ≡ charge_waits (record { from = t; to = x.end; stage = x.stage }) uses before
     → m ≡ n + (if is_stage r x.stage then stalled_for s waits else 0)
     → m ≡ n + row_stalled r s uses before (part_charges t x)
@@ -116,14 +116,14 @@ unfolding row_stalled
 part_added r s uses before t x waits n m early waits_is h =
     h ∙ rw (lt-ltb t x.end early, sym waits_is) (omega arith)
 
-pub part_passed : (uses before : List Use) (t : ℕ) (x : Part) (sums : WaitTotals) → x.end ≤ t → AreWaitsWithin t sums
+pub part_passed : (uses before : List Use) (t : ℕ) (x : StagePart) (sums : WaitTotals) → x.end ≤ t → AreWaitsWithin t sums
     → AddsWaits uses before t (part_charges t x) sums sums
 part_passed uses before t x sums past within = record {
   within = subst (λ m. AreWaitsWithin m sums) (sym (part_end t t x (omega (arith, past)))) within;
   sums = λ r s parted. part_stalled r s uses before t x _ past;
 }
 
-pub part_taken : (uses before : List Use) (t : ℕ) (x : Part) (waits : List Wait) (old new : WaitTotals) → t < x.end
+pub part_taken : (uses before : List Use) (t : ℕ) (x : StagePart) (waits : List Wait) (old new : WaitTotals) → t < x.end
     → waits ≡ charge_waits (record { from = t; to = x.end; stage = x.stage }) uses before → AreWaitsWithin x.end new
     → ((r : Stage) (s : Stall) → is_parted r ≡ true → waited_at r s new ≡ waited_at r s old + (if is_stage r x.stage then stalled_for s waits else 0))
     → AddsWaits uses before t (part_charges t x) old new
@@ -132,7 +132,7 @@ part_taken uses before t x waits old new early waits_is within sums = record {
   sums = λ r s parted. part_added r s uses before t x waits _ _ early waits_is (sums r s parted);
 }
 
-pub part_few : (uses before : List Use) (t : ℕ) (x : Part) (waits : List Wait) → t < x.end → AreWordsInTime uses → AreWordsInTime before
+pub part_few : (uses before : List Use) (t : ℕ) (x : StagePart) (waits : List Wait) → t < x.end → AreWordsInTime uses → AreWordsInTime before
     → waits ≡ charge_waits (record { from = t; to = x.end; stage = x.stage }) uses before → t + all_stalled waits ≤ x.end
 part_few uses before t x waits early new old is =
     omega (arith, early, ap all_stalled is, waits_are_within_their_charge (record { from = t; to = x.end; stage = x.stage }) uses before new.each old.each)
@@ -147,7 +147,7 @@ charged-append uses before (x ∷ xs) ys =
     ap (λ ls. (charge_line x ∷ wait_lines (charge_waits x uses before)) ++ ls) (charged-append uses before xs ys)
     ∙ sym (append_assoc (charge_line x ∷ wait_lines (charge_waits x uses before)) (charged_lines uses before xs) (charged_lines uses before ys))
 
-charged-first : (uses before : List Use) (t : ℕ) (parts : List Part) (x : Part) (xs : List Part) → parts ≡ x ∷ xs
+charged-first : (uses before : List Use) (t : ℕ) (parts : List StagePart) (x : StagePart) (xs : List StagePart) → parts ≡ x ∷ xs
     → charged_lines uses before (charges_behind t parts)
     ≡ charged_lines uses before (part_charges t x) ++ charged_lines uses before (charges_behind (max t x.end) xs)
 charged-first uses before t parts x xs is =
@@ -155,14 +155,14 @@ charged-first uses before t parts x xs is =
     ∙ ap (charged_lines uses before) (charged-parts t x xs)
     ∙ charged-append uses before (part_charges t x) (charges_behind (max t x.end) xs)
 
-pub charged_cut : (s u : OutputState) (uses before : List Use) (t : ℕ) (parts : List Part) (x : Part) (xs : List Part) (e : Failed) (r : Result (Unit {0}) Failed)
+pub charged_cut : (s u : OutputState) (uses before : List Use) (t : ℕ) (parts : List StagePart) (x : StagePart) (xs : List StagePart) (e : Failed) (r : Result (Unit {0}) Failed)
     → IsErr r → parts ≡ x ∷ xs → WritesLines s u (charged_lines uses before (part_charges t x)) (Err e)
     → WritesLines s u (charged_lines uses before (charges_behind t parts)) r
 charged_cut s u uses before t parts x xs e r f is h =
     subst (λ ls. WritesLines s u ls r) (sym (charged-first uses before t parts x xs is))
     (lines_cut s u (charged_lines uses before (part_charges t x)) (charged_lines uses before (charges_behind (max t x.end) xs)) e r f h)
 
-pub charged_then : (s v u : OutputState) (uses before : List Use) (t late : ℕ) (parts : List Part) (x : Part) (xs : List Part) (o : Unit {0})
+pub charged_then : (s v u : OutputState) (uses before : List Use) (t late : ℕ) (parts : List StagePart) (x : StagePart) (xs : List StagePart) (o : Unit {0})
     (r : Result (Unit {0}) Failed) → parts ≡ x ∷ xs → late ≡ max t x.end
     → WritesLines s v (charged_lines uses before (part_charges t x)) (Ok o)
     → WritesLines v u (charged_lines uses before (charges_behind late xs)) r
@@ -172,7 +172,7 @@ charged_then s v u uses before t late parts x xs o r is top h k =
     (lines_then s v u (charged_lines uses before (part_charges t x)) (charged_lines uses before (charges_behind (max t x.end) xs)) o r h
     (subst (λ n. WritesLines v u (charged_lines uses before (charges_behind n xs)) r) top k))
 
-pub charged_none : (s : OutputState) (uses before : List Use) (t : ℕ) (parts : List Part) (o : Unit {0}) → parts ≡ []
+pub charged_none : (s : OutputState) (uses before : List Use) (t : ℕ) (parts : List StagePart) (o : Unit {0}) → parts ≡ []
     → WritesLines s s (charged_lines uses before (charges_behind t parts)) (Ok o)
 unfolding charges_behind charged_lines
 charged_none s uses before t parts o is =
@@ -184,7 +184,7 @@ unfolding row_stalled
 stalled-append r s uses before [] ys = omega arith
 stalled-append r s uses before (x ∷ xs) ys = omega (arith, stalled-append r s uses before xs ys)
 
-stalled_more : (r : Stage) (s : Stall) (uses before : List Use) (t late : ℕ) (parts xs : List Part) (x : Part) (n m k : ℕ) → parts ≡ x ∷ xs
+stalled_more : (r : Stage) (s : Stall) (uses before : List Use) (t late : ℕ) (parts xs : List StagePart) (x : StagePart) (n m k : ℕ) → parts ≡ x ∷ xs
     → late ≡ max t x.end → m ≡ n + row_stalled r s uses before (part_charges t x)
     → k ≡ m + row_stalled r s uses before (charges_behind late xs) → k ≡ n + row_stalled r s uses before (charges_behind t parts)
 stalled_more r s uses before t late parts xs x n m k is top first rest =
@@ -197,19 +197,19 @@ stalled_more r s uses before t late parts xs x n m k is top first rest =
     ap (λ u. row_stalled r s uses before (charges_behind u xs)) top in
     omega (arith, all, later, first, rest)
 
-stalled_none : (r : Stage) (s : Stall) (uses before : List Use) (t : ℕ) (parts : List Part) (n : ℕ) → parts ≡ []
+stalled_none : (r : Stage) (s : Stall) (uses before : List Use) (t : ℕ) (parts : List StagePart) (n : ℕ) → parts ≡ []
     → n ≡ n + row_stalled r s uses before (charges_behind t parts)
 unfolding charges_behind row_stalled
 stalled_none r s uses before t parts n is = rw is (omega arith)
 
-pub parts_passed : (uses before : List Use) (t : ℕ) (parts : List Part) (sums : WaitTotals) → parts ≡ [] → AreWaitsWithin t sums
+pub parts_passed : (uses before : List Use) (t : ℕ) (parts : List StagePart) (sums : WaitTotals) → parts ≡ [] → AreWaitsWithin t sums
     → AddsWaits uses before t (charges_behind t parts) sums sums
 parts_passed uses before t parts sums is within = record {
   within = subst (λ m. AreWaitsWithin m sums) (reach-end t parts is) within;
   sums = λ r s parted. stalled_none r s uses before t parts _ is;
 }
 
-pub parts_taken : (uses before : List Use) (t late : ℕ) (parts xs : List Part) (x : Part) (old mid new : WaitTotals) → parts ≡ x ∷ xs → late ≡ max t x.end
+pub parts_taken : (uses before : List Use) (t late : ℕ) (parts xs : List StagePart) (x : StagePart) (old mid new : WaitTotals) → parts ≡ x ∷ xs → late ≡ max t x.end
     → AddsWaits uses before t (part_charges t x) old mid → AddsWaits uses before late (charges_behind late xs) mid new
     → AddsWaits uses before t (charges_behind t parts) old new
 parts_taken uses before t late parts xs x old mid new is top first rest = record {
@@ -218,6 +218,6 @@ parts_taken uses before t late parts xs x old mid new is top first rest = record
 }
 
 -- no sum is greater than the tick at which the next ones begin
-pub next_within : (uses before : List Use) (t late : ℕ) (x : Part) (old new : WaitTotals) → late ≡ max t x.end
+pub next_within : (uses before : List Use) (t late : ℕ) (x : StagePart) (old new : WaitTotals) → late ≡ max t x.end
     → AddsWaits uses before t (part_charges t x) old new → AreWaitsWithin late new
 next_within uses before t late x old new top is = subst (λ m. AreWaitsWithin m new) (part_end t late x top) is.within

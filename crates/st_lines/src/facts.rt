@@ -12,7 +12,7 @@ use crate::digits::{fill_code, fill_index, fill_writes};
 use crate::lines::{Alone, line_alone, line_level, line_missed, line_suppressed};
 use crate::origins::{Origin, fill_laid};
 use crate::uses::{FactLine, write_uses};
-use crate::waits::{Waiting, write_because, write_charged};
+use crate::waits::{RowTelling, write_because, write_charged};
 use crate::writing::put;
 use st_bits::indicator;
 use st_io::{Failed, Sink, write_line};
@@ -352,7 +352,7 @@ fn write_late_entry<K: Sink>(out: &mut K, done: &EntryDone) -> Result<(), Failed
 fn write_waits<K: Sink>(
     out: &mut K,
     entry: &EntryRecord<'_>,
-    waiting: &mut Waiting,
+    waiting: &mut RowTelling,
 ) -> Result<(), Failed>
     requires { AreWaitsReady entry.now.uses.now entry.now.before.now entry.now.done.now.before
         waiting.old.totals }
@@ -370,7 +370,7 @@ fn write_waits<K: Sink>(
 fn write_spent<K: Sink>(
     out: &mut K,
     entry: &EntryRecord<'_>,
-    waiting: &mut Waiting,
+    waiting: &mut RowTelling,
 ) -> Result<(), Failed>
     requires { AreWaitsReady entry.now.uses.now entry.now.before.now entry.now.done.now.before
         waiting.old.totals }
@@ -389,7 +389,7 @@ fn write_spent<K: Sink>(
 pub fn write_done<K: Sink>(
     out: &mut K,
     entry: &EntryRecord<'_>,
-    waiting: &mut Waiting,
+    waiting: &mut RowTelling,
 ) -> Result<(), Failed>
     requires { AreWaitsReady entry.now.uses.now entry.now.before.now entry.now.done.now.before
         waiting.old.totals }

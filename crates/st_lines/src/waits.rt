@@ -16,7 +16,7 @@ use crate::facts::EntryRecord;
 use crate::uses::{FactLine, bank_number};
 use crate::writing::put;
 use st_io::{Failed, Sink, write_line};
-use st_ledger::{Charge, Part, RowLine, fill_charge, later, name_of, parts};
+use st_ledger::{Charge, RowLine, StagePart, fill_charge, later, name_of, parts};
 use st_reasons::{
     Because, Cause, Prefetched, Reason, Stall, Wait, WaitSum, WaitTotals, Waits, fill_waits,
     wait_sums,
@@ -112,7 +112,7 @@ fn write_charge_with<K: Sink>(
 
 /// What the charges of rows are told with, and the sums of their waits so far.
 #[derive(Drop)]
-pub struct Waiting {
+pub struct RowTelling {
     /// What is filled with the waits of one charge after another.
     pub waits: Waits,
     /// The sums of all of them.
@@ -128,9 +128,9 @@ pub struct Waiting {
 fn write_part<K: Sink>(
     out: &mut K,
     from: u64,
-    part: Part,
+    part: StagePart,
     entry: &EntryRecord<'_>,
-    waiting: &mut Waiting,
+    waiting: &mut RowTelling,
 ) -> Result<(), Failed>
     requires { AreWaitsReady entry.now.uses.now entry.now.before.now from waiting.old.totals }
     ensures lines { WritesLines (K.output out.old) (K.output out.new)
@@ -156,9 +156,9 @@ fn write_part<K: Sink>(
 fn write_parts<K: Sink>(
     out: &mut K,
     from: u64,
-    parts: &[Part],
+    parts: &[StagePart],
     entry: &EntryRecord<'_>,
-    waiting: &mut Waiting,
+    waiting: &mut RowTelling,
 ) -> Result<(), Failed>
     requires { AreWaitsReady entry.now.uses.now entry.now.before.now from waiting.old.totals }
     ensures lines { WritesLines (K.output out.old) (K.output out.new) (charged_lines
@@ -177,7 +177,7 @@ fn write_parts<K: Sink>(
 pub fn write_charged<K: Sink>(
     out: &mut K,
     entry: &EntryRecord<'_>,
-    waiting: &mut Waiting,
+    waiting: &mut RowTelling,
 ) -> Result<(), Failed>
     requires { AreWaitsReady entry.now.uses.now entry.now.before.now entry.now.done.now.before
         waiting.old.totals }

@@ -2,7 +2,7 @@
 use Rattle.std.proofs.Common.{◌≡◌, ℕ, zero, suc, ◌+◌, ◌*◌, ◌≤◌, Bool, true, false, if◌then◌else◌, List, ◌++◌, sym, subst, arith}
 use Rattle.std.proofs.Math.Nat.{mul-add}
 use Rattle.st_exec.specs.Step.{rests}
-use Rattle.st_run.specs.Run.{Scene, Transition, interlude, scene_after_step, with_end, goes_on, run}
+use Rattle.st_run.specs.Run.{Scene, Transition, interlude, scene_after_step, transition_at_end, goes_on, run}
 use Rattle.st_rows.specs.Ranges.{AreDelaysUpTo}
 use Rattle.st_run.specs.Events.{Timed}
 use Rattle.st_run.specs.Moments.{Moment, moment_at_start, next_scene, next_state, standing_at, next_moment}
@@ -18,7 +18,7 @@ EndsInTime : ℕ → List Timed → Transition → Type 0
 EndsInTime b xs ran = (t : ℕ) → last_completion t xs ≤ b * (ran.scene.machine.done + 1)
 
 last-ends : (b : ℕ) (m : Moment) (snaps : List ℕ) → HasTime b m.tick m.scene.machine
-    → EndsInTime b (last_events m snaps) (with_end (interlude m.scene))
+    → EndsInTime b (last_events m snaps) (transition_at_end (interlude m.scene))
 unfolding EndsInTime
 last-ends b m snaps has t =
     let same : (next_state m).done ≡ m.scene.machine.done = settled-done m.scene in
@@ -28,8 +28,8 @@ last-ends b m snaps has t =
     omega (arith, late, last_events-tick t m snaps)
 
 ends-if : (c : Bool) (b : ℕ) (m : Moment) (xs turn rest : List Timed) (later : Transition)
-    → EndsInTime b xs (with_end (interlude m.scene)) → EndsInTime b rest later
-    → EndsInTime b (if c then xs else turn ++ rest) (if c then with_end (interlude m.scene) else goes_on (interlude m.scene) later)
+    → EndsInTime b xs (transition_at_end (interlude m.scene)) → EndsInTime b rest later
+    → EndsInTime b (if c then xs else turn ++ rest) (if c then transition_at_end (interlude m.scene) else goes_on (interlude m.scene) later)
 unfolding EndsInTime
 ends-if true b m xs turn rest later here there t = here t
 ends-if false b m xs turn rest later here there t =

@@ -1,7 +1,7 @@
 -- The last thing that is told of a run is told at its end.
 use Rattle.std.proofs.Common.{◌≡◌, ℕ, zero, suc, Bool, true, false, if◌then◌else◌, List, [], ◌∷◌, ◌++◌, ◌+◌, refl, sym, ◌∙◌, map}
 use Rattle.st_exec.specs.Step.{rests}
-use Rattle.st_run.specs.Run.{Scene, Transition, Ends, interlude, scene_after_step, with_end, goes_on, run}
+use Rattle.st_run.specs.Run.{Scene, Transition, Ends, interlude, scene_after_step, transition_at_end, goes_on, run}
 use Rattle.st_run.specs.Events.{Timed}
 use Rattle.st_run.specs.Moments.{Moment, moment_at_start, next_scene, next_state, standing_at, next_moment}
 use Rattle.st_run.specs.TimedRun.{ticks_before, snapshots_from, drops, happening_at, last_snapshot_at, events_between, until_done, last_events, timed_from}
@@ -24,7 +24,7 @@ record EndsLike (ran : Transition) (xs : List Timed) : Type 0 where
   done : (d : ℕ) → last_done d xs ≡ ran.scene.machine.done
   tick : (t u : ℕ) → last_completion t xs ≡ last_completion u xs
 
-last-like : (m : Moment) (snaps : List ℕ) → EndsLike (with_end (interlude m.scene)) (last_events m snaps)
+last-like : (m : Moment) (snaps : List ℕ) → EndsLike (transition_at_end (interlude m.scene)) (last_events m snaps)
 unfolding last_events last_done
 last-like m snaps =
     let front = drops m ++ map (happening_at m) (interlude m.scene).happened ++ map (last_snapshot_at m) (ticks_before (m.tick + 1) snaps) in
@@ -34,8 +34,8 @@ last-like m snaps =
     }
 
 like-if : (c : Bool) (m : Moment) (xs turn rest : List Timed) (later : Transition)
-    → EndsLike (with_end (interlude m.scene)) xs → EndsLike later rest
-    → EndsLike (if c then with_end (interlude m.scene) else goes_on (interlude m.scene) later) (if c then xs else turn ++ rest)
+    → EndsLike (transition_at_end (interlude m.scene)) xs → EndsLike later rest
+    → EndsLike (if c then transition_at_end (interlude m.scene) else goes_on (interlude m.scene) later) (if c then xs else turn ++ rest)
 like-if true m xs turn rest later here there = here
 like-if false m xs turn rest later here there = record {
   done = λ d. done-append d turn rest ∙ there.done (last_done d turn);

@@ -109,8 +109,8 @@ unfoldable pub interlude : Scene → Transition
 interlude c = and_then (with_due_orders (with_due_signals c)) with_wait
 
 -- the run ends here, the machine at rest or the budget used up
-abbrev pub with_end : Transition → Transition
-with_end r = record r {
+abbrev pub transition_at_end : Transition → Transition
+transition_at_end r = record r {
   happened = r.happened ++ Ends r.scene.machine (rests r.scene.machine) ∷ [];
 }
 
@@ -134,7 +134,7 @@ goes_on r rest =
 -- the run from a scene on to its end, in which so many instructions may still be done; a rest is
 -- tried before the budget
 unfoldable pub run : ℕ → Scene → Transition
-run zero c = with_end (interlude c)
+run zero c = transition_at_end (interlude c)
 run (suc left) c =
     let r = interlude c in
-    if rests r.scene.machine then with_end r else goes_on r (run left (scene_after_step r.scene))
+    if rests r.scene.machine then transition_at_end r else goes_on r (run left (scene_after_step r.scene))

@@ -13,7 +13,7 @@ ghost use Rattle.st_sweep.specs.Marks.{AreMarks};
 ghost use Rattle.st_sweep.specs.Sweep.{without_cards};
 
 use crate::settling::settle;
-use crate::written::Written;
+use crate::written::WrittenWords;
 use st_card::Signal;
 use st_exec::{complete_in, interrupt, is_at_rest, is_missed};
 use st_prep::{Prepared, plan_in};
@@ -54,7 +54,7 @@ fn is_fresh(straight: bool, side: bool, words: bool) -> bool
 }
 
 // Makes the next step, notes the words that it writes, and tells whether it is a hazard-free entry.
-fn step(state: &mut State, written: &mut Written) -> bool
+fn step(state: &mut State, written: &mut WrittenWords) -> bool
     requires going { rests state.old ≡ false }
     requires few { state.old.done < 2 ^ 63 }
     ensures state { state.new ≡ step_of state.old }
@@ -82,7 +82,7 @@ pub(crate) fn both(one: bool, two: bool) -> bool
 
 // What a plain run tells.
 #[derive(Clone, Copy, Debug, PartialEq, Eq)]
-pub(crate) struct Found {
+pub(crate) struct PlainOutcome {
     // The number of instructions done at its end.
     pub done: u64,
     // Whether it is hazard-free, delays aside.
@@ -94,9 +94,9 @@ pub(crate) struct Found {
 pub(crate) fn run_plain(
     state: &mut State,
     signals: &[Signal],
-    written: &mut Written,
+    written: &mut WrittenWords,
     budget: u64,
-) -> Found
+) -> PlainOutcome
     requires signals { AllPass is_signal signals.now }
     requires written { AreMarks [] written.old }
     requires few { state.old.done + budget ≤ MOST_INSTRUCTIONS }
@@ -113,13 +113,13 @@ pub(crate) fn run_plain(
         rest = between.signals;
         hazard_free = both(hazard_free, between.quiet);
         if left == 0 {
-            return Found {
+            return PlainOutcome {
                 done: state.done,
                 hazard_free,
             };
         }
         if is_at_rest(state) {
-            return Found {
+            return PlainOutcome {
                 done: state.done,
                 hazard_free,
             };

@@ -15,7 +15,7 @@ use st_state::State;
 
 // What comes between two entries.
 #[derive(Drop)]
-pub(crate) struct Settled<'a> {
+pub(crate) struct InterludeEnd<'a> {
     // The signals that are still to come.
     pub signals: &'a [Signal],
     // Whether nothing came that ends a wait.
@@ -31,7 +31,7 @@ fn is_kept(before: bool, after: bool) -> bool
 }
 
 // Signals and orders come that are due, and what ends a wait.
-pub(crate) fn settle<'a>(state: &mut State, signals: &'a [Signal]) -> Settled<'a>
+pub(crate) fn settle<'a>(state: &mut State, signals: &'a [Signal]) -> InterludeEnd<'a>
     requires { AllPass is_signal signals.now }
     ensures rest { AllPass is_signal result.signals.now }
     ensures came { (interlude (without_cards state.old signals.now)).scene
@@ -41,7 +41,7 @@ pub(crate) fn settle<'a>(state: &mut State, signals: &'a [Signal]) -> Settled<'a
     let mut coming = Coming::new(signals, Hopper::empty());
     let came = between(state, &mut coming);
     let (rest, _) = coming.parts();
-    Settled {
+    InterludeEnd {
         signals: rest,
         quiet: is_kept(came.waited, is_at_rest(state)),
     }

@@ -11,7 +11,7 @@ ghost use Rattle.st_sweep.specs.SideBySide.{side_by_side, AreNotRising};
 
 use crate::hazards::{are_equal, both, run_plain};
 use crate::start::{Four, ticks_on_few, ticks_on_many};
-use crate::written::Written;
+use crate::written::WrittenWords;
 use st_bits::NoMemory;
 use st_card::Signal;
 use st_state::State;
@@ -71,7 +71,7 @@ fn run_all(alloc: Global, job: &SweptJob<'_>) -> Result<Swept, NoMemory>
     let few = Four::new(alloc, image, start, delays)?;
     let many = Four::new(alloc, image, start, delays)?;
     let mut state = State::new(alloc, image, start)?;
-    let mut written = Written::new(alloc)?;
+    let mut written = WrittenWords::new(alloc)?;
     let found = run_plain(&mut state, signals, &mut written, budget);
     let [one, two, three, four] = ticks_on_few(few, signals, budget);
     let [five, six, seven, eight] = ticks_on_many(many, signals, budget);

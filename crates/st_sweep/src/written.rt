@@ -15,12 +15,12 @@ use std::marker::Model;
 
 // The words of storage that were written so far.
 #[derive(Drop)]
-pub(crate) struct Written {
+pub(crate) struct WrittenWords {
     marks: Vec<bool>,
 }
 
 // Clauses see a mark for each word.
-impl Model for Written {
+impl Model for WrittenWords {
     ghost use Rattle.std.specs.Prelude.{◌≡◌, List, Bool, length};
     ghost use Rattle.st_bits.specs.Storage.{words_of_storage};
 
@@ -77,17 +77,17 @@ fn mark(marks: &mut Vec<bool>, first: u32, len: u8)
     }
 }
 
-impl Written {
+impl WrittenWords {
     ghost use Rattle.st_sweep.specs.Marks.{AreMarks, marks_with};
 
     /// No word was written. The one error is that memory ran out.
-    pub fn new(alloc: Global) -> Result<Written, NoMemory>
+    pub fn new(alloc: Global) -> Result<WrittenWords, NoMemory>
         ensures { IfOk result (λ w. AreMarks [] w) }
     {
         let Ok(marks) = vec![in alloc; false; number_of_words()] else {
             return Err(NoMemory);
         };
-        Ok(Written { marks })
+        Ok(WrittenWords { marks })
     }
 
     /// Whether one of the words of two runs was.

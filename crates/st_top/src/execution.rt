@@ -46,7 +46,7 @@ use crate::reporting::{LEVELS, budget, write_report};
 use st_asm::Assembled;
 use st_back::Back;
 use st_banks::Delays;
-use st_beside::Past;
+use st_beside::MachineBeside;
 use st_bits::NoMemory;
 use st_card::{Card, Controls, Signal};
 use st_exch::Hopper;
@@ -62,7 +62,7 @@ use std::alloc::Global;
 struct RunWithPast<'a> {
     run: Run<'a, LEVELS>,
     // The machine beside it, where steps back are asked for.
-    past: Option<Past<'a>>,
+    past: Option<MachineBeside<'a>>,
 }
 
 // Writes what stands in front of the report of a job, and then the report of its run.
@@ -160,7 +160,7 @@ fn beside<'a>(
     image: &[u64],
     start: u32,
     controls: &'a Controls,
-) -> Result<Option<Past<'a>>, NoMemory>
+) -> Result<Option<MachineBeside<'a>>, NoMemory>
     requires whole { length image.now ≡ words_of_storage }
     requires registers { (w : ℕ) → w < FIRST_STORAGE_WORD → slice_index image.now w ≡ 0 }
     requires counter { start < 2 ^ 19 }
@@ -178,7 +178,7 @@ fn beside<'a>(
     let machine = State::new(alloc, image, start)?;
     let hopper = Hopper::of_cards(alloc, job.text, job.cards)?;
     let steps = Back::new(alloc, depth)?;
-    Ok(Some(Past::new(machine, signals(controls), hopper, steps)))
+    Ok(Some(MachineBeside::new(machine, signals(controls), hopper, steps)))
 }
 
 // Takes all memory of a run: that of an image, a start and controls, with the reader's cards of a

@@ -13,7 +13,7 @@ ghost use Rattle.st_top.specs.StepsBack.{lines_of_steps_back, last_state, events
 ghost use Rattle.st_beside.specs.Beside.{IsBesideReady, StandsAtStart, StandsAtEnd};
 ghost use Rattle.st_telling.specs.Running.{WritesEvents};
 
-use st_beside::{Past, rewind, run_beside};
+use st_beside::{MachineBeside, rewind, run_beside};
 use st_card::Controls;
 use st_io::{Failed, Sink};
 use st_report::line_back;
@@ -50,7 +50,7 @@ fn write_before<K: Sink>(
 #[tactic(auto, using(st_io::proofs::Progress::wrote_nothing))]
 fn write_back<K: Sink>(
     out: &mut K,
-    past: &mut Option<Past>,
+    past: &mut Option<MachineBeside>,
     controls: &Controls,
 ) -> Result<(), Failed>
     requires parts { AllPass is_part controls.now.dumps }
@@ -78,7 +78,7 @@ pub fn budget(controls: &Controls) -> u64
 // Makes the run on the machine beside it, and writes the state before the end that is asked for.
 fn write_past<K: Sink>(
     out: &mut K,
-    past: &mut Option<Past>,
+    past: &mut Option<MachineBeside>,
     controls: &Controls,
 ) -> Result<(), Failed>
     requires limit { controls.now.budget ≤ MOST_INSTRUCTIONS }
@@ -99,7 +99,7 @@ fn write_past<K: Sink>(
 pub fn write_report<K: Sink>(
     out: &mut K,
     run: &mut Run<'_, LEVELS>,
-    past: &mut Option<Past>,
+    past: &mut Option<MachineBeside>,
     moment: &mut Moment,
     controls: &Controls,
 ) -> Result<(), Failed>

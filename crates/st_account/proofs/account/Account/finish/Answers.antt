@@ -1,7 +1,7 @@
 use Rattle.std.proofs.Common.{refl, sym, subst}
 use Rattle.st_io.proofs.Progress.{lines_cut, lines_then}
 use Rattle.st_lines.proofs.LineLemmas.{same_lines}
-use Rattle.st_lines.specs.declared.waits.Waiting.{Waiting}
+use Rattle.st_lines.specs.declared.waits.RowTelling.{RowTelling}
 use Rattle.st_account.specs.Standing.{AddsKeptWaits}
 use Rattle.st_account.proofs.BorderLemmas.{last-row, behind-same}
 use Rattle.st_account.proofs.account.Account.finish.Goals as goal
@@ -20,4 +20,4 @@ returns-clause-lines g c ds n left b m xs cards is end =
 pub returns-clause-waits : goal.returns-clause-waits
 returns-clause-waits g c good =
     let a = c.args.self.now in
-    subst (λ (w : Waiting). AddsKeptWaits a.k a.last a.waiting.totals w.totals) (sym c.write_last.ensures.waits) (c.in_ok-write_row.ensures.waits refl)
+    subst (λ (w : RowTelling). AddsKeptWaits a.k a.last a.waiting.totals w.totals) (sym c.write_last.ensures.waits) (c.in_ok-write_row.ensures.waits refl)

@@ -1,7 +1,7 @@
 use Rattle.std.proofs.Common.{◌≡◌, sym, ◌∙◌, ap, subst, arith}
 use Rattle.st_sweep.specs.Marks.{AreMarks, marks_with}
 use Rattle.st_sweep.proofs.MarkLemmas.{marks-put}
-use Rattle.st_sweep.proofs.written.Written.put.Goals as goal
+use Rattle.st_sweep.proofs.written.WrittenWords.put.Goals as goal
 
 pub returns : goal.returns
 returns c = λ earlier are.

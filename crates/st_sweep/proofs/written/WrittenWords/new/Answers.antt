@@ -1,7 +1,7 @@
 use Rattle.std.proofs.Common.{[], sym, subst}
 use Rattle.st_sweep.specs.Marks.{AreMarks}
 use Rattle.st_sweep.proofs.MarkLemmas.{marks-none}
-use Rattle.st_sweep.proofs.written.Written.new.Goals as goal
+use Rattle.st_sweep.proofs.written.WrittenWords.new.Goals as goal
 
 pub returns : goal.returns
 returns c =
