@@ -137,4 +137,5 @@ unfoldable pub run : ℕ → Scene → Transition
 run zero c = transition_at_end (interlude c)
 run (suc left) c =
     let r = interlude c in
-    if rests r.scene.machine then transition_at_end r else goes_on r (run left (scene_after_step r.scene))
+    if rests r.scene.machine then transition_at_end r
+    else goes_on r (run left (scene_after_step r.scene))
