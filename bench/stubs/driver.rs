@@ -45,9 +45,9 @@ fn tell<const N: usize>(state: State, delays: Delays, budget: u64) {
     let (mut told, mut tick, mut rows, mut last, mut done) = (0u64, 0, 0u64, 0u64, 0);
     loop {
         if let Some(counted) = run.pass_entries() {
-            told += counted.done - done;
-            done = counted.done;
-            tick = counted.tick;
+            told += counted.number - done;
+            done = counted.number;
+            tick = counted.c;
         }
         let Some(next) = run.next() else { break };
         told += 1;

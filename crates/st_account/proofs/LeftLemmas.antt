@@ -20,8 +20,9 @@ use Rattle.st_exec.specs.Step.{rests}
 use Rattle.st_exec.specs.Transfer.{all_stored, read_in}
 use Rattle.st_exec.proofs.Laws.{entries_leave_what_they_do_not_write}
 use Rattle.st_run.specs.Reached.{IsCard}
-use Rattle.st_run.specs.Run.{Scene, with_due_signals, with_signals_at_rest, if_due, with_due_orders, with_device, with_order_at_rest, with_wait, interlude, uneventful, with_order}
+use Rattle.st_run.specs.Run.{Scene, with_due_signals, if_due, with_due_orders, with_device, with_order_at_rest, with_wait, interlude, uneventful, with_order, with_signals_while}
 use Rattle.st_lines.specs.Changes.{IsOutsideArea}
+use Rattle.st_run.proofs.SignalLemmas.{kept-while}
 
 -- ---- an entry
 
@@ -102,23 +103,13 @@ either : {A : Type 0} (P : A → Type 0) (b : Bool) (x y : A) → P x → P y �
 either P true x y p q = p
 either P false x y p q = q
 
-due-left : (m : Machine) (xs : List Signal) (cards : List (List ℕ)) → IsLeftBy m (with_due_signals m xs cards).machine
-due-left m [] cards = left-same m
-due-left m (x ∷ xs) cards =
-    either (λ c. IsLeftBy m c.machine) (nat_le x.count m.done) (with_due_signals (state_with_signal m x.indicator) xs cards) _
-    (left-then m _ _ (left-signal m x.indicator) (due-left (state_with_signal m x.indicator) xs cards)) (left-same m)
+signals-left : (holds : Machine → Signal → Bool) (c : Scene) → IsLeftBy c.machine (with_signals_while holds c.signals c).machine
+signals-left holds c =
+    kept-while (λ d. IsLeftBy c.machine d.machine) (λ d x xs is. left-then c.machine d.machine _ is (left-signal d.machine x.indicator))
+    holds c.signals c (left-same c.machine)
 
-due-cards : (m : Machine) (xs : List Signal) (cards : List (List ℕ)) → (with_due_signals m xs cards).cards ≡ cards
-due-cards m [] cards = refl
-due-cards m (x ∷ xs) cards =
-    either (λ c. c.cards ≡ cards) (nat_le x.count m.done) (with_due_signals (state_with_signal m x.indicator) xs cards) _
-    (due-cards (state_with_signal m x.indicator) xs cards) refl
-
-rest-left : (m : Machine) (xs : List Signal) (cards : List (List ℕ)) → IsLeftBy m (with_signals_at_rest m xs cards).machine
-rest-left m [] cards = left-same m
-rest-left m (x ∷ xs) cards =
-    either (λ c. IsLeftBy m c.machine) (rests m) (with_signals_at_rest (state_with_signal m x.indicator) xs cards) _
-    (left-then m _ _ (left-signal m x.indicator) (rest-left (state_with_signal m x.indicator) xs cards)) (left-same m)
+due-cards : (c : Scene) → (with_due_signals c).cards ≡ c.cards
+due-cards c = kept-while (λ d. d.cards ≡ c.cards) (λ d x xs is. is) (λ s x. nat_le x.count s.done) c.signals c refl
 
 -- a card is read
 card-left : (s : Machine) (order : Order) (card : List ℕ) → s.reader ≡ Some order → length card ≡ 8 → IsLeftBy s (read_in s order.word (Some card))
@@ -185,14 +176,14 @@ wait-left c each =
     let d = (with_order_at_rest c).scene in
     let e = (with_order_at_rest d).scene in
     let both = scene-then c d e (order_at_rest-left c each) (order_at_rest-left d) in
-    left-then c.machine e.machine _ both.machine (rest-left e.machine e.signals e.cards)
+    left-then c.machine e.machine _ both.machine (signals-left (λ s x. rests s) e)
 
 pub between-left : (c : Scene) → All IsCard c.cards → (w : ℕ) → 32 ≤ w → IsOutsideArea w (area c.machine.reader) → word (interlude c).scene.machine w ≡ word c.machine w
 unfolding interlude
 between-left c each w above beside =
-    let d = with_due_signals c.machine c.signals c.cards in
+    let d = with_due_signals c in
     let e = (with_due_orders d).scene in
-    let orders = due_orders-left d (subst (All IsCard) (sym (due-cards c.machine c.signals c.cards)) each) in
-    let all = left-then c.machine d.machine _ (due-left c.machine c.signals c.cards)
+    let orders = due_orders-left d (subst (All IsCard) (sym (due-cards c)) each) in
+    let all = left-then c.machine d.machine _ (signals-left (λ s x. nat_le x.count s.done) c)
     (left-then d.machine e.machine _ orders.machine (wait-left e orders.cards)) in
     all.words w above beside

@@ -51,11 +51,11 @@ module _ (ds : List ℕ) (n : ℕ) (b : Machine) (m : Moment) (a : Account) (xs 
         ∙ ap (λ (c : Scene). nat_lt (length c.cards) (length cards)) (sym scene-is)
         ∙ ap (λ (c : Scene). nat_lt (length (next_scene m).cards) (length c.cards)) (sym h.scene)
 
-    pub waited-is : (waited : Bool) → waited ≡ rests (with_due_orders (with_due_signals mid xs cards)).scene.machine → waited ≡ has_waited m
+    pub waited-is : (waited : Bool) → waited ≡ rests (with_due_orders (with_due_signals (at_hand mid xs cards))).scene.machine → waited ≡ has_waited m
     waited-is waited is =
         is
-        ∙ ap (λ u. rests (with_due_orders (with_due_signals u xs cards)).scene.machine) same
-        ∙ ap (λ (c : Scene). rests (with_due_orders (with_due_signals c.machine c.signals c.cards)).scene.machine) (sym h.scene)
+        ∙ ap (λ u. rests (with_due_orders (with_due_signals (at_hand u xs cards))).scene.machine) same
+        ∙ ap (λ (c : Scene). rests (with_due_orders (with_due_signals c)).scene.machine) (sym h.scene)
 
     -- a word that nothing may have changed
     pub left-is : (may : Changeable) → may ≡ record { writes = a.last.plan.writes; card = area mid.reader } → a.k ≢ 0 → (v : ℕ) → v < WORDS → IsUntouched v may

@@ -9,7 +9,7 @@ use Rattle.st_exec.specs.Step.{rests, step, interrupt}
 use Rattle.st_card.specs.declared.control_cards.Signal.{Signal}
 use Rattle.st_run.specs.Run.{Transition, uneventful, interlude, scene_after_step, with_due_signals, with_due_orders}
 use Rattle.st_state.specs.Orders.{is_due}
-use Rattle.st_run.specs.Between.{signal_due}
+use Rattle.st_run.specs.Outside.{signal_due}
 use Rattle.st_run.proofs.QuietLemmas.{none-due, none-comes}
 use Rattle.st_run.specs.Moments.{Moment, Standing, next_scene, next_state, standing_at, next_row, next_moment, has_card, has_waited, ends_segment}
 use Rattle.st_run.proofs.Bounds.{HasTime}
@@ -141,10 +141,10 @@ module _ (s : Machine) (missed : Bool) (xs : List Signal) (still : still_by s mi
     awake : rests s ≡ false
     awake = rw parts.no_waiting refl
 
-    pub due-still : with_due_orders (with_due_signals s xs cards) ≡ uneventful (at_hand s xs cards)
+    pub due-still : with_due_orders (with_due_signals (at_hand s xs cards)) ≡ uneventful (at_hand s xs cards)
     due-still = none-due (at_hand s xs cards) parts.no_signal reader printer awake
 
-    pub waited-still : false ≡ rests (with_due_orders (with_due_signals s xs cards)).scene.machine
+    pub waited-still : false ≡ rests (with_due_orders (with_due_signals (at_hand s xs cards))).scene.machine
     waited-still = sym (ap (λ (r : Transition). rests r.scene.machine) due-still ∙ awake)
 
     pub interlude-still : interlude (at_hand s xs cards) ≡ uneventful (at_hand s xs cards)
@@ -159,7 +159,7 @@ module _ (s : Machine) (missed : Bool) (xs : List Signal) (still : still_by s mi
 
     no_wait : has_waited m ≡ false
     no_wait =
-        ap (λ c. rests (with_due_orders (with_due_signals c.machine c.signals c.cards)).scene.machine) scene
+        ap (λ c. rests (with_due_orders (with_due_signals c)).scene.machine) scene
         ∙ sym (waited-still cards)
 
     no_card : has_card m ≡ false

@@ -13,7 +13,7 @@ use Rattle.st_rows.specs.declared.log.Made.{Made}
 use Rattle.st_segment.specs.Ahead.{ahead, prepared_before, reads_before}
 use Rattle.st_exec.specs.Step.{interrupt}
 use Rattle.st_card.specs.declared.control_cards.Signal.{Signal}
-use Rattle.st_run.specs.Between.{signal_due}
+use Rattle.st_run.specs.Outside.{signal_due}
 use Rattle.st_run.specs.Moments.{Moment, Standing, next_scene, has_card, has_waited}
 use Rattle.st_run.specs.Reached.{IsCard}
 use Rattle.st_ledger.specs.Charges.{parts_of_row, charges_behind, all_ticks}

@@ -27,8 +27,8 @@ pub(crate) fn settle(
     ensures printed { printed.new.items
         ≡ words_printed (interlude (scene_at state.old coming.old)).happened }
     ensures card { result.card ≡ nat_lt (length coming.new.cards) (length coming.old.cards) }
-    ensures waited { result.waited ≡ rests (with_due_orders (with_due_signals state.old
-        coming.old.signals coming.old.cards)).scene.machine }
+    ensures waited { result.waited ≡ rests (with_due_orders (with_due_signals
+        (scene_at state.old coming.old))).scene.machine }
 {
     printed.clear();
     if still {

@@ -13,7 +13,6 @@ ghost use Rattle.st_rows.specs.Ranges.{IsTight};
 ghost use Rattle.st_rows.specs.Rows.{row_of_entry as row_of, front_after_entry as after_of};
 ghost use Rattle.st_segment.specs.Entries.{entry as entry_of};
 ghost use Rattle.st_account.specs.Text.{why_by};
-ghost use Rattle.st_run.specs.Between.{signal_due};
 ghost use Rattle.st_account.specs.Standing.{guessing, still_by};
 ghost use Rattle.st_lines.specs.declared.lines.Why.TheVariants.{Run as RunBegins};
 ghost use Rattle.st_state.specs.Machine.{IsMachine};
@@ -26,7 +25,7 @@ use st_plain::{Begun, NextEntry, WaitedRow, begin, finish, plan_entry, put_past}
 use st_prep::Prepared;
 use st_reasons::find_reason;
 use st_rows::{Log, Past, Timing};
-use st_run::plain::{printer_is_free, reader_is_free};
+use st_run::plain::{is_signal_due, printer_is_free, reader_is_free};
 use st_state::State;
 
 /// Why a segment begins: the run does, or an interrupt is taken, a guess was wrong, or else a card
@@ -62,16 +61,6 @@ pub(crate) fn end_of(ends: bool, tick: u64) -> Option<u64>
     ensures { result ≡ (if ends then Some tick else None) }
 {
     if ends { Some(tick) } else { None }
-}
-
-// Whether a signal is due.
-fn is_signal_due(signals: &[Signal], done: u64) -> bool
-    ensures { result ≡ signal_due done signals.now }
-{
-    match signals {
-        [first, ..] => first.count <= done,
-        [] => false,
-    }
 }
 
 /// Whether nothing comes between the last entry and the next one, and the guess was right.

@@ -3,7 +3,7 @@ use Rattle.std.proofs.Common.{◌≡◌, ◌≢◌, ◌≤◌, ℕ, zero, suc, �
 use Rattle.std.proofs.lemmas.List.{take_all}
 use Rattle.st_state.specs.Machine.{Machine}
 use Rattle.st_exec.specs.Step.{rests}
-use Rattle.st_run.specs.Run.{Scene, Execution, interlude, scene_after_step, execution_at_end, run}
+use Rattle.st_run.specs.Run.{Scene, Transition, interlude, scene_after_step, with_end, run}
 use Rattle.st_exec.proofs.StepLemmas.{step-done}
 use Rattle.st_run.proofs.Runs.{run-rests, run-budget, run-goes_on}
 use Rattle.st_back.specs.declared.kept.Kept.{Kept}
@@ -43,7 +43,7 @@ states-goes_on (suc k) c some h =
 pub record StatesSoFar (back budget : ℕ) (start : Scene) (left : ℕ) (b : Beside) : Type 0 where
   pub before : List Machine
   pub all : states budget start ≡ before ++ states left b.0
-  pub last : (run left b.0).last ≡ (run budget start).last
+  pub last : (run left b.0).scene.machine ≡ (run budget start).scene.machine
   pub counted : length before ≡ b.0.machine.done
   pub beside : IsBeside back b before
 
@@ -52,14 +52,14 @@ states_begin back budget b none h = record { before = []; all = refl; last = ref
 
 -- the run ends
 states_end : (back budget : ℕ) (start : Scene) (left : ℕ) (b d : Beside) → IsMoved b d (interlude b.0).scene
-    → states left b.0 ≡ (interlude b.0).scene.machine ∷ [] → run left b.0 ≡ execution_at_end (interlude b.0)
+    → states left b.0 ≡ (interlude b.0).scene.machine ∷ [] → run left b.0 ≡ with_end (interlude b.0)
     → StatesSoFar back budget start left b → HasMadeRun back budget start d
 states_end back budget start left b d moved ends over h =
     let same : d.0 ≡ (interlude b.0).scene = moved.scene in
     record {
       before = h.before;
       all = h.all ∙ (ap (λ (ss : List Machine). h.before ++ ss) ends ∙ ap (λ (k : Scene). h.before ++ k.machine ∷ []) (sym same));
-      last = ap (λ (k : Scene). k.machine) same ∙ (sym (ap (λ (r : Execution). r.last) over) ∙ h.last);
+      last = ap (λ (k : Scene). k.machine) same ∙ (sym (ap (λ (r : Transition). r.scene.machine) over) ∙ h.last);
       counted = h.counted ∙ (sym (settled-done b.0) ∙ ap (λ (k : Scene). k.machine.done) (sym same));
       beside = beside_settled back b d (interlude b.0).scene h.before moved h.beside;
     }
@@ -95,8 +95,8 @@ states_next back budget start left b d e some going moved step h =
       all = h.all ∙ (ap (λ (ss : List Machine). h.before ++ ss) (states-goes_on left c some going_on)
           ∙ (sym (append_assoc h.before (s.machine ∷ []) (states (left - 1) (scene_after_step s)))
           ∙ ap (λ (g : Scene). (h.before ++ s.machine ∷ []) ++ states (left - 1) g) (sym here)));
-      last = ap (λ (g : Scene). (run (left - 1) g).last) here
-          ∙ (sym (ap (λ (r : Execution). r.last) (run-goes_on left c some going_on)) ∙ h.last);
+      last = ap (λ (g : Scene). (run (left - 1) g).scene.machine) here
+          ∙ (sym (ap (λ (r : Transition). r.scene.machine) (run-goes_on left c some going_on)) ∙ h.last);
       counted = more ∙ ap (λ (g : Scene). g.machine.done) (sym here);
       beside = subst (λ (g : Scene). IsBeside back e (h.before ++ g.machine ∷ [])) same beside;
     }

@@ -67,7 +67,7 @@ pub record IsBeside (depth : ℕ) (b : Beside) (before : List Machine) : Type 0 
 pub record HasMadeRun (depth budget : ℕ) (start : Scene) (b : Beside) : Type 0 where
   pub before : List Machine
   pub all : states budget start ≡ before ++ b.0.machine ∷ []
-  pub last : b.0.machine ≡ (run budget start).last
+  pub last : b.0.machine ≡ (run budget start).scene.machine
   pub counted : length before ≡ b.0.machine.done
   pub beside : IsBeside depth b before
 

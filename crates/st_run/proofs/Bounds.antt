@@ -21,12 +21,13 @@ use Rattle.st_segment.proofs.EntryRanges.{entry-ranges}
 use Rattle.st_run.specs.Events.{Timed}
 use Rattle.st_run.specs.Scenes.{IsScene}
 use Rattle.st_ahead.specs.Overlap.{idle_banks}
-use Rattle.st_run.specs.Moments.{Moment, Standing, moment_at_start, next_scene, next_state, ends_segment, next_segment, next_front, standing_at, interrupt_of_moment, next_row, front_after, entries_behind, entry_of_moment, next_moment}
+use Rattle.st_run.specs.Moments.{Moment, Standing, moment_at_start, next_scene, next_state, ends_segment, next_segment, next_front, standing_at, next_row, front_after, entries_behind, entry_of_moment, next_moment}
 use Rattle.st_run.specs.TimedRun.{timed_from}
 use Rattle.st_run.proofs.SceneLemmas.{settled-scene, stepped-scene}
 use Rattle.st_run.proofs.EachEvent.{timed-each, next-more}
 use Rattle.st_refine.proofs.InTime.{opening-tight, free-before_done}
 use Rattle.st_refine.proofs.Kept.{interrupt-below}
+use Rattle.st_exec.specs.Step.{interrupt}
 
 -- ---- entries ahead
 
@@ -71,19 +72,19 @@ module _ (most n : ℕ) (ds : List ℕ) (are : AreDelaysUpTo most ds) (levels : 
   unfolding next_moment next_row row_of_entry front_after_entry
   completed-is p is tight =
       let s = p.scene.machine in
-      let t = interrupt_of_moment p in
+      let t = interrupt p.scene.machine in
       let e = entry t s in
       let tick = tick_c ds n p.front e in
       let fits : IsEntryInTime e = entry-ranges t s is.machine (interrupt-below s) in
       let free : p.front.bus.free ≤ tick = free-before_done ds n p.front e fits in
-      let made = made-bounds most ds are tick (reads_to_end ds n tick (interrupt_of_moment p) p.scene.machine p.front (entry_of_moment p)) p.front.bus tight.near free in
+      let made = made-bounds most ds are tick (reads_to_end ds n tick (interrupt p.scene.machine) p.scene.machine p.front (entry_of_moment p)) p.front.bus tight.near free in
       record {
         scene = stepped-scene p.scene is;
         tight = tight-after most ds are n p.front e fits tight;
         last = omega arith;
-        few = omega (arith, prepared-few tick (entries_behind ds n n p), ahead-few ds n n None (guess t s) (front_after ds n p));
+        few = omega (arith, prepared-few tick (entries_behind ds n p n), ahead-few ds n n None (guess t s) (front_after ds n p));
         banks =
-            All-weaker (λ x. x ≤ (made_before ds tick (reads_to_end ds n tick (interrupt_of_moment p) p.scene.machine p.front (entry_of_moment p)) p.front.bus).free + most) (λ x. x ≤ tick + most)
+            All-weaker (λ x. x ≤ (made_before ds tick (reads_to_end ds n tick (interrupt p.scene.machine) p.scene.machine p.front (entry_of_moment p)) p.front.bus).free + most) (λ x. x ≤ tick + most)
             (λ x low. omega (arith, made.1)) _ made.0.banks;
       }
 
@@ -94,7 +95,7 @@ module _ (most n : ℕ) (ds : List ℕ) (are : AreDelaysUpTo most ds) (levels : 
   unfolding next_moment next_row row_of_entry
   next-tick m is =
       let s = next_state m in
-      let t = interrupt_of_moment (standing_at m) in
+      let t = interrupt (next_state m) in
       let scene : IsScene (next_scene m) = settled-scene m.scene is.scene in
       let fits : IsEntryInTime (entry t s) = entry-ranges t s scene.machine (interrupt-below s) in
       let f = next_front-is m is in

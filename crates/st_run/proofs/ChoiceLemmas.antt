@@ -17,9 +17,9 @@ use Rattle.st_ahead.specs.Calls.{machine_after_segment, run_ended, machine_after
 use Rattle.st_ahead.specs.declared.events.Settled.{Settled}
 use Rattle.st_run.specs.Moments.{Moment, standing_at, next_scene, next_state, ends_segment, next_front, next_segment, has_card, has_waited}
 use Rattle.st_run.specs.Scenes.{IsScene}
-use Rattle.st_run.specs.Together.{Together, scene_of, moment_of, AreTexts, IsBehindEntry, IsBeforeEntry, RunGoesOn}
-use Rattle.st_run.specs.Between.{IsChoice, choice_of}
-use Rattle.st_run.specs.Leaving.{IsDecided, IsWay}
+use Rattle.st_run.specs.Together.{Together, scene_of, moment_of, AreTexts, IsBehindEntry, IsBeforeEntry}
+use Rattle.st_run.specs.Between.{IsChoice, choice_of, IsDecidedBy}
+use Rattle.st_run.specs.Leaving.{IsDecided, RunGoesOn}
 use Rattle.st_run.specs.declared.turn.Turn.{Turn}
 use Rattle.st_run.specs.declared.turn.Turn.TheVariants.{Before, AtEnd, Over}
 use Rattle.st_run.specs.declared.leaving.Decided.{Decided}
@@ -47,8 +47,8 @@ choice-is m over goes = choice-by (interrupt_due m) (rests m.state) m.behind ove
 
 abbrev IsGoing : ℕ → Bool → Overlap → Overlap → Bool × Option ℕ → Type 0
 IsGoing left over m k r =
-    (left ≢ 0) × (rests m.state ≡ false) × (k ≡ settled_of m) × (r.1 ≡ interrupt_due m)
-    × (r.0 ≡ (is_some m.behind || over || is_some (interrupt_due m)))
+    (left ≢ 0) × (rests m.state ≡ false)
+    × ((k ≡ settled_of m) × (r.1 ≡ interrupt_due m) × (r.0 ≡ (is_some m.behind || over || is_some (interrupt_due m))))
 
 pub chosen : (left : ℕ) (over : Bool) (old : Together) (m k : Overlap) (xs : List Signal) (cards : List (List ℕ)) (a : Settled) (r : Bool × Option ℕ)
     → record { machine = m; signals = xs; cards = cards } ≡ old → left ≢ 0 → rests m.state ≡ false
@@ -56,7 +56,7 @@ pub chosen : (left : ℕ) (over : Bool) (old : Together) (m k : Overlap) (xs : L
 chosen left over old m k xs cards a r view some goes is after picks =
     let all = picks ∙ ap (λ x. choice_of x over) is ∙ choice-is m over goes in
     subst (λ (t : Together). IsGoing left over t.machine k r) view
-    (some, goes, after, ap (λ (p : Bool × Option ℕ). p.1) all, ap (λ (p : Bool × Option ℕ). p.0) all)
+    (some, goes, (after, ap (λ (p : Bool × Option ℕ). p.1) all, ap (λ (p : Bool × Option ℕ). p.0) all))
 
 -- ---- before the next entry
 
@@ -85,10 +85,12 @@ going-before b n s t f is same scene table awake late =
     let o = b.machine in
     let state : n.machine.state ≡ s = ap (λ (m : Overlap). m.state) same in
     record {
-      some = subst (λ (m : Overlap). 1 ≤ m.levels) (sym same) is.some;
-      few = subst (λ (m : Overlap). m.levels ≤ 8) (sym same) is.few;
-      delays = subst (λ (m : Overlap). AreDelaysUpTo 255 m.delays) (sym same) is.delays;
-      scene = scene;
+      kept = record {
+        some = subst (λ (m : Overlap). 1 ≤ m.levels) (sym same) is.kept.some;
+        few = subst (λ (m : Overlap). m.levels ≤ 8) (sym same) is.kept.few;
+        delays = subst (λ (m : Overlap). AreDelaysUpTo 255 m.delays) (sym same) is.kept.delays;
+        scene = scene;
+      };
       ready = record {
         between = subst (λ (m : Overlap). m ≡ between_by m) (sym same) (going-between o s t f is.stands table);
         awake = ap rests state ∙ awake;
@@ -117,6 +119,11 @@ going-by (Some i) None false o s x now ends none = ap (λ (y : Overlap). machine
 going-by None (Some h) over o s x now ends none = ap machine_after_pass ends ∙ ap (λ t. going o s t (opened o s).front) none
 going-by None None true o s x now ends none = ap machine_after_pass now ∙ ap (λ t. going o s t (opened o s).front) none
 going-by None None false o s x now ends none = ap machine_after_pass now ∙ ap (λ t. going o s t o.front) none
+
+-- ---- how the run goes on
+
+abbrev pub IsWay : Turn → ℕ → Moment → Decided → Together → Type 0
+IsWay turn left m d t = IsDecidedBy turn left (next_state m) d (RunGoesOn m d t) ((scene_of t ≡ next_scene m) × (levels_of t.machine ≡ []))
 
 -- ---- whether the segment ends
 
@@ -182,13 +189,13 @@ module _ (b t : Together) (text : Option (List ℕ)) (over : Bool) (is : IsBehin
 
   goes-on : (d : Decided) (n : Together) → n ≡ record t { machine = n.machine } → rests s ≡ false → n.machine ≡ settled_of t.machine
       → d.taken ≡ interrupt_due t.machine → d.ends ≡ (is_some t.machine.behind || over || is_some (interrupt_due t.machine))
-      → RunGoesOn m d.ends d.taken n
+      → RunGoesOn m d n
   goes-on d n rest goes after table end =
       let same : n.machine ≡ going b.machine s (interrupt s) front = after ∙ settled-is goes in
       let scene : scene_of n ≡ next_scene m = scene-is n rest (ap (λ (x : Overlap). x.state) same) in
       record {
         before =
-            going-before b n s (interrupt s) front is same (subst IsScene (sym scene) (settled-scene (scene_of b) is.scene)) refl goes front-late;
+            going-before b n s (interrupt s) front is same (subst IsScene (sym scene) (settled-scene (scene_of b) is.kept.scene)) refl goes front-late;
         standing =
             ap (λ (c : Scene). record { scene = c; tick = m.tick; front = n.machine.front }) scene
             ∙ ap (λ (f : Front). record (standing_at m) { front = f }) (ap (λ (x : Overlap). x.front) same ∙ front-is);
@@ -210,9 +217,9 @@ module _ (b t : Together) (text : Option (List ℕ)) (over : Bool) (is : IsBehin
   way-is : (turn : Turn) (left : ℕ) (d : Decided) (n : Together) → n ≡ record t { machine = n.machine }
       → IsChoice turn left over t.machine d n.machine → IsWay turn left m d n
   way-is Before left d n rest h =
-      (h.0, sym (ap rests state-is) ∙ h.1, goes-on d n rest h.1 h.2 h.3 h.4)
+      (h.0, sym (ap rests state-is) ∙ h.1, goes-on d n rest h.1 h.2.0 h.2.1 h.2.2)
   way-is (AtEnd resting) left d n rest h =
-      let end = stops n rest h.4 in (h.0 ∙ ap rests state-is, h.1, h.2, h.3, end.0, end.1)
+      (h.0 ∙ ap rests state-is, h.1, h.2, h.3, stops n rest h.4)
   way-is Over left d n rest h = h
 
   pub decided : (left : ℕ) (d : Decided) (n : Together) → n ≡ record t { machine = n.machine }

@@ -1,7 +1,7 @@
 -- What comes between two steps leaves the number done, and a step counts as one.
-use Rattle.std.proofs.Common.{◌≡◌, ℕ, List, [], ◌∷◌, Bool, true, false, nat_le, Option, None, Some, refl, ◌∙◌, if◌then◌else◌}
+use Rattle.std.specs.Prelude.{slice_get}
+use Rattle.std.proofs.Common.{◌≡◌, ℕ, List, Bool, true, false, nat_le, Option, None, Some, refl, ◌∙◌, if◌then◌else◌}
 use Rattle.st_state.specs.Machine.{Machine}
-use Rattle.st_state.specs.Interrupts.{state_with_signal}
 use Rattle.st_state.specs.Orders.{next_device}
 use Rattle.st_state.specs.declared.devices.Order.{Order}
 use Rattle.st_state.specs.declared.devices.Device.{Device}
@@ -9,20 +9,16 @@ use Rattle.st_state.specs.declared.devices.Device.TheVariants.{Reader, Printer}
 use Rattle.st_exec.specs.Step.{rests}
 use Rattle.st_exec.specs.Transfer.{read_in}
 use Rattle.st_card.specs.declared.control_cards.Signal.{Signal}
-use Rattle.st_run.specs.Run.{Scene, next_card, with_due_signals, with_signals_at_rest, if_due, with_due_orders, with_device, with_order_at_rest, with_wait, interlude, uneventful, with_order}
+use Rattle.st_run.specs.Run.{Scene, with_due_signals, with_signals_while, if_due, with_due_orders, with_device, with_order_at_rest, with_wait, interlude, uneventful, with_order}
 use Rattle.st_refine.proofs.InTime.{all_stored-done}
+use Rattle.st_run.proofs.SignalLemmas.{kept-while}
 
 either : {A : Type 0} (f : A → ℕ) (n : ℕ) (b : Bool) (x y : A) → f x ≡ n → f y ≡ n → f (if b then x else y) ≡ n
 either f n true x y p q = p
 either f n false x y p q = q
 
-due-done : (m : Machine) (xs : List Signal) (cards : List (List ℕ)) → (with_due_signals m xs cards).machine.done ≡ m.done
-due-done m [] cards = refl
-due-done m (x ∷ xs) cards = either (λ c. c.machine.done) m.done (nat_le x.count m.done) (with_due_signals (state_with_signal m x.indicator) xs cards) _ (due-done (state_with_signal m x.indicator) xs cards) refl
-
-rest-done : (m : Machine) (xs : List Signal) (cards : List (List ℕ)) → (with_signals_at_rest m xs cards).machine.done ≡ m.done
-rest-done m [] cards = refl
-rest-done m (x ∷ xs) cards = either (λ c. c.machine.done) m.done (rests m) (with_signals_at_rest (state_with_signal m x.indicator) xs cards) _ (rest-done (state_with_signal m x.indicator) xs cards) refl
+signals-done : (holds : Machine → Signal → Bool) (c : Scene) → (with_signals_while holds c.signals c).machine.done ≡ c.machine.done
+signals-done holds c = kept-while (λ d. d.machine.done ≡ c.machine.done) (λ d x xs is. is) holds c.signals c refl
 
 read_in-done : (m : Machine) (w : ℕ) (card : Option (List ℕ)) → (read_in m w card).done ≡ m.done
 read_in-done m w None = refl
@@ -30,7 +26,7 @@ read_in-done m w (Some card) = all_stored-done (record m { reader = None }) w ca
 
 reader-done : (o : Option Order) (c : Scene) → (with_order Reader o c).scene.machine.done ≡ c.machine.done
 reader-done None c = refl
-reader-done (Some order) c = read_in-done c.machine order.word (next_card c.cards)
+reader-done (Some order) c = read_in-done c.machine order.word (slice_get c.cards 0)
 
 printer-done : (o : Option Order) (c : Scene) → (with_order Printer o c).scene.machine.done ≡ c.machine.done
 printer-done None c = refl
@@ -56,10 +52,10 @@ unfolding with_wait
 wait-done c =
     let d = (with_order_at_rest c).scene in
     let e = (with_order_at_rest d).scene in
-    rest-done e.machine e.signals e.cards ∙ (order_at_rest-done d ∙ order_at_rest-done c)
+    signals-done (λ s x. rests s) e ∙ (order_at_rest-done d ∙ order_at_rest-done c)
 
 pub settled-done : (c : Scene) → (interlude c).scene.machine.done ≡ c.machine.done
 unfolding interlude
 settled-done c =
-    let d = with_due_signals c.machine c.signals c.cards in
-    wait-done (with_due_orders d).scene ∙ (due_orders-done d ∙ due-done c.machine c.signals c.cards)
+    let d = with_due_signals c in
+    wait-done (with_due_orders d).scene ∙ (due_orders-done d ∙ signals-done (λ s x. nat_le x.count s.done) c)

@@ -2,7 +2,7 @@
 use Rattle.std.proofs.Common.{◌≡◌, ℕ, zero, suc, ◌+◌, ◌*◌, ◌≤◌, Bool, true, false, if◌then◌else◌, List, ◌++◌, sym, subst, arith}
 use Rattle.std.proofs.Math.Nat.{mul-add}
 use Rattle.st_exec.specs.Step.{rests}
-use Rattle.st_run.specs.Run.{Scene, Execution, interlude, scene_after_step, execution_at_end, goes_on, run}
+use Rattle.st_run.specs.Run.{Scene, Transition, interlude, scene_after_step, with_end, goes_on, run}
 use Rattle.st_rows.specs.Ranges.{AreDelaysUpTo}
 use Rattle.st_run.specs.Events.{Timed}
 use Rattle.st_run.specs.Moments.{Moment, moment_at_start, next_scene, next_state, standing_at, next_moment}
@@ -14,11 +14,11 @@ use Rattle.st_run.proofs.DoneLemmas.{settled-done}
 use Rattle.st_run.proofs.ShownLemmas.{last-append, last_events-tick}
 
 -- the events end in time for a run, whatever tick is given for no events
-EndsInTime : ℕ → List Timed → Execution → Type 0
-EndsInTime b xs ran = (t : ℕ) → last_completion t xs ≤ b * (ran.last.done + 1)
+EndsInTime : ℕ → List Timed → Transition → Type 0
+EndsInTime b xs ran = (t : ℕ) → last_completion t xs ≤ b * (ran.scene.machine.done + 1)
 
 last-ends : (b : ℕ) (m : Moment) (snaps : List ℕ) → HasTime b m.tick m.scene.machine
-    → EndsInTime b (last_events m snaps) (execution_at_end (interlude m.scene))
+    → EndsInTime b (last_events m snaps) (with_end (interlude m.scene))
 unfolding EndsInTime
 last-ends b m snaps has t =
     let same : (next_state m).done ≡ m.scene.machine.done = settled-done m.scene in
@@ -27,9 +27,9 @@ last-ends b m snaps has t =
     let late : m.tick ≤ b * ((next_state m).done + 1) = subst (λ k. m.tick ≤ b * (k + 1)) (sym same) early in
     omega (arith, late, last_events-tick t m snaps)
 
-ends-if : (c : Bool) (b : ℕ) (m : Moment) (xs turn rest : List Timed) (later : Execution)
-    → EndsInTime b xs (execution_at_end (interlude m.scene)) → EndsInTime b rest later
-    → EndsInTime b (if c then xs else turn ++ rest) (if c then execution_at_end (interlude m.scene) else goes_on (interlude m.scene) later)
+ends-if : (c : Bool) (b : ℕ) (m : Moment) (xs turn rest : List Timed) (later : Transition)
+    → EndsInTime b xs (with_end (interlude m.scene)) → EndsInTime b rest later
+    → EndsInTime b (if c then xs else turn ++ rest) (if c then with_end (interlude m.scene) else goes_on (interlude m.scene) later)
 unfolding EndsInTime
 ends-if true b m xs turn rest later here there t = here t
 ends-if false b m xs turn rest later here there t =
@@ -52,6 +52,6 @@ module _ (most n : ℕ) (ds : List ℕ) (are : AreDelaysUpTo most ds) (levels : 
       (timed-ends left next (snapshots_from next.tick snaps) (next-is most n ds are levels m is) (next-time most n ds are levels m is has))
 
   pub run-ends : (left : ℕ) (c : Scene) (snaps : List ℕ) (t : ℕ) → IsScene c
-      → last_completion t (timed_from ds n left (moment_at_start c) snaps) ≤ 64 * (most + 4) * ((run left c).last.done + 1)
+      → last_completion t (timed_from ds n left (moment_at_start c) snaps) ≤ 64 * (most + 4) * ((run left c).scene.machine.done + 1)
   unfolding EndsInTime
   run-ends left c snaps t is = timed-ends left (moment_at_start c) snaps (start-is most n ds are levels c is) (omega arith) t

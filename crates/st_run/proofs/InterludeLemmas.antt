@@ -37,7 +37,7 @@ with_coming m x = record { machine = m; signals = x.signals; cards = x.cards }
 -- it came to the machine and what is to come to it, which stand for the first moment
 pub come-between : (b : Together) (m n : Overlap) (x y : Coming) (i : Interlude) (over : Bool) → with_coming m x ≡ b → IsBehindEntry b
     → HasHappened (λ (o : Overlap). o.state) IsChanged (interlude (scene_at m.state x))
-    (rests (with_due_orders (with_due_signals m.state x.signals x.cards)).scene.machine) i m x n y
+    (rests (with_due_orders (with_due_signals (scene_at m.state x))).scene.machine) i m x n y
     → over ≡ ends_by i → HasCome b (with_coming n y) (option_map line_of_words i.words) over
 come-between b m n x y i over view is came same =
     subst {A = Together} (λ t. IsBehindEntry t → HasCome t (with_coming n y) (option_map line_of_words i.words) over) view

@@ -1,7 +1,7 @@
 -- The last thing that is told of a run is told at its end.
 use Rattle.std.proofs.Common.{◌≡◌, ℕ, zero, suc, Bool, true, false, if◌then◌else◌, List, [], ◌∷◌, ◌++◌, ◌+◌, refl, sym, ◌∙◌, map}
 use Rattle.st_exec.specs.Step.{rests}
-use Rattle.st_run.specs.Run.{Scene, Execution, Ends, interlude, scene_after_step, execution_at_end, goes_on, run}
+use Rattle.st_run.specs.Run.{Scene, Transition, Ends, interlude, scene_after_step, with_end, goes_on, run}
 use Rattle.st_run.specs.Events.{Timed}
 use Rattle.st_run.specs.Moments.{Moment, moment_at_start, next_scene, next_state, standing_at, next_moment}
 use Rattle.st_run.specs.TimedRun.{ticks_before, snapshots_from, drops, happening_at, last_snapshot_at, events_between, until_done, last_events, timed_from}
@@ -20,11 +20,11 @@ done-append d [] ys = refl
 done-append d (x ∷ xs) ys = done-append x.done xs ys
 
 -- events end like a run, whatever was before them
-record EndsLike (ran : Execution) (xs : List Timed) : Type 0 where
-  done : (d : ℕ) → last_done d xs ≡ ran.last.done
+record EndsLike (ran : Transition) (xs : List Timed) : Type 0 where
+  done : (d : ℕ) → last_done d xs ≡ ran.scene.machine.done
   tick : (t u : ℕ) → last_completion t xs ≡ last_completion u xs
 
-last-like : (m : Moment) (snaps : List ℕ) → EndsLike (execution_at_end (interlude m.scene)) (last_events m snaps)
+last-like : (m : Moment) (snaps : List ℕ) → EndsLike (with_end (interlude m.scene)) (last_events m snaps)
 unfolding last_events last_done
 last-like m snaps =
     let front = drops m ++ map (happening_at m) (interlude m.scene).happened ++ map (last_snapshot_at m) (ticks_before (m.tick + 1) snaps) in
@@ -33,9 +33,9 @@ last-like m snaps =
       tick = λ t u. last_events-tick t m snaps ∙ sym (last_events-tick u m snaps);
     }
 
-like-if : (c : Bool) (m : Moment) (xs turn rest : List Timed) (later : Execution)
-    → EndsLike (execution_at_end (interlude m.scene)) xs → EndsLike later rest
-    → EndsLike (if c then execution_at_end (interlude m.scene) else goes_on (interlude m.scene) later) (if c then xs else turn ++ rest)
+like-if : (c : Bool) (m : Moment) (xs turn rest : List Timed) (later : Transition)
+    → EndsLike (with_end (interlude m.scene)) xs → EndsLike later rest
+    → EndsLike (if c then with_end (interlude m.scene) else goes_on (interlude m.scene) later) (if c then xs else turn ++ rest)
 like-if true m xs turn rest later here there = here
 like-if false m xs turn rest later here there = record {
   done = λ d. done-append d turn rest ∙ there.done (last_done d turn);
@@ -52,7 +52,7 @@ timed-like ds n (suc left) m snaps =
     (timed_from ds n left next (snapshots_from next.tick snaps)) (run left (scene_after_step (next_scene m)))
     (last-like m snaps) (timed-like ds n left next (snapshots_from next.tick snaps))
 
-pub run-done : (ds : List ℕ) (n left : ℕ) (c : Scene) (snaps : List ℕ) (d : ℕ) → last_done d (timed_from ds n left (moment_at_start c) snaps) ≡ (run left c).last.done
+pub run-done : (ds : List ℕ) (n left : ℕ) (c : Scene) (snaps : List ℕ) (d : ℕ) → last_done d (timed_from ds n left (moment_at_start c) snaps) ≡ (run left c).scene.machine.done
 run-done ds n left c snaps d = (timed-like ds n left (moment_at_start c) snaps).done d
 
 pub run-tick : (ds : List ℕ) (n left : ℕ) (c : Scene) (snaps : List ℕ) (t u : ℕ) → last_completion t (timed_from ds n left (moment_at_start c) snaps) ≡ last_completion u (timed_from ds n left (moment_at_start c) snaps)

@@ -77,11 +77,11 @@ known-indicator : (x : Signal) → is_signal x ≡ true → x.indicator ≤ 13
 known-indicator x is = leb-true x.indicator 13 (and_parts (nat_le x.count 10000000) (nat_le x.indicator 13) is).1
 
 pub due-led : (xs : List Signal) (m : Overlap) (cards : List (List ℕ)) → AllPass is_signal xs → MaySignal m → IsLed m
-    → IsLed (record m { state = (with_due_signals m.state xs cards).machine })
+    → IsLed (record m { state = (with_due_signals (record { machine = m.state; signals = xs; cards = cards })).machine })
 due-led [] m cards known may led = led
 due-led (x ∷ xs) m cards known may led =
     of_choice (λ (c : Scene). IsLed (record m { state = c.machine })) (nat_le x.count m.state.done)
-    (with_due_signals (state_with_signal m.state x.indicator) xs cards) (record { machine = m.state; signals = x ∷ xs; cards = cards })
+    (with_due_signals (record { machine = state_with_signal m.state x.indicator; signals = xs; cards = cards })) (record { machine = m.state; signals = x ∷ xs; cards = cards })
     (due-led xs (signalled_by x.indicator m) cards (All-tail (λ s. is_signal s ≡ true) x xs known) may
     (signal-led m x.indicator (known-indicator x (All-head (λ s. is_signal s ≡ true) x xs known)) may led)) led
 

@@ -1,29 +1,27 @@
 -- What is told behind an entry that has just been done, and how the run goes on there.
 use Rattle.std.specs.Prelude.{map, is_some, if◌then◌else◌, ◌||◌, IsSome, option_map, ◌≢◌}
-use Rattle.std.proofs.Common.{◌≡◌, ℕ, ◌+◌, ◌-◌, ◌<◌, ◌^◌, Bool, true, false, List, [], ◌∷◌, ◌++◌, Option, None, Some, refl, sym, ◌∙◌, ap, subst, arith}
+use Rattle.std.proofs.Common.{◌≡◌, ℕ, ◌+◌, ◌-◌, ◌<◌, ◌^◌, Bool, true, false, List, [], ◌∷◌, ◌++◌, Option, None, refl, sym, ◌∙◌, ap, subst, arith}
 use Rattle.st_state.specs.Machine.{Machine}
-use Rattle.st_prep.specs.Plan.{prepared_by, suppressed_entry, entry_at as entry_of}
-use Rattle.st_prep.specs.declared.entries.Place.{Place}
-use Rattle.st_prep.specs.declared.entries.Aim.{Aim}
-use Rattle.st_exec.specs.Step.{interrupt, rests, address}
+use Rattle.st_exec.specs.Step.{interrupt, rests}
 use Rattle.st_run.specs.Run.{Scene, interlude}
 use Rattle.st_exec.proofs.StepLemmas.{step-done}
 use Rattle.st_rows.specs.declared.front.Front.{Front}
 use Rattle.st_segment.specs.Ahead.{prepared_before}
 use Rattle.st_ahead.specs.Overlap.{state_ahead, oldest_row, levels_of}
-use Rattle.st_run.specs.Moments.{Moment, Standing, next_scene, next_state, next_row, ends_segment, has_card, has_waited, standing_at, entries_at_moment, next_moment}
-use Rattle.st_run.specs.TimedRun.{events_between, completion, last_events, timed_from, timed_behind}
+use Rattle.st_run.specs.Moments.{Moment, Standing, next_scene, next_state, ends_segment, has_card, has_waited, standing_at, entries_at_moment, next_moment}
+use Rattle.st_run.specs.TimedRun.{events_between, last_events, timed_from, timed_behind}
 use Rattle.st_run.specs.Order.{AreRising}
-use Rattle.st_run.specs.Told.{Done, Told, told_of, told_of_events}
-use Rattle.st_run.specs.Together.{Together, scene_of, IsBeforeEntry, standing_of, moment_of, RunGoesOn, AreTexts}
+use Rattle.st_run.specs.Told.{Told, told_of_events}
+use Rattle.st_run.specs.Together.{Together, scene_of, IsBeforeEntry, standing_of, moment_of, AreTexts}
 use Rattle.st_run.specs.Telling.{Waiting, whats, at_once, told_at_end, rest_of, IsTurn, IsRun, AreInTime, IsLeft}
-use Rattle.st_run.specs.Leaving.{IsWay, IsDecided}
+use Rattle.st_run.specs.Leaving.{IsDecided, RunGoesOn}
 use Rattle.st_run.specs.declared.leaving.Decided.{Decided}
 use Rattle.st_run.specs.declared.turn.Turn.{Turn}
 use Rattle.st_run.specs.declared.turn.Turn.TheVariants as turns
 use Rattle.st_run.proofs.Turns.{timed-rests, timed-budget, timed-goes_on, nothing-ahead}
-use Rattle.st_run.proofs.ToldLemmas.{once, told-append, dropped_at, told-between, told-last, told-completion}
+use Rattle.st_run.proofs.ToldLemmas.{told-append, dropped_at, told-between, told-last, told-completion}
 use Rattle.st_run.proofs.MomentLemmas.{still, ready-still, row-before}
+use Rattle.st_run.proofs.ChoiceLemmas.{IsWay}
 
 -- ---- the run ends, or goes on
 
@@ -51,7 +49,7 @@ module _ (ds : List ℕ) (n left tick : ℕ) (m : Moment) (snaps : List ℕ) (d 
   abbrev printed : Option (List ℕ)
   printed = option_map (λ x. x.bytes) d.text
 
-  goes-told : left ≢ 0 → rests (next_state m) ≡ false → RunGoesOn m d.ends d.taken t
+  goes-told : left ≢ 0 → rests (next_state m) ≡ false → RunGoesOn m d t
       → told_of_events (timed_from ds n left m snaps) ≡ rest_of turns.Before (left - 1) tick snaps (waits drops printed d.taken) t
   unfolding rest_of
   goes-told some awake g =
@@ -99,7 +97,7 @@ module _ (ds : List ℕ) (n left tick : ℕ) (m : Moment) (snaps : List ℕ) (d 
   way-told : (turn : Turn) → IsWay turn left m d t
       → told_of_events (timed_from ds n left m snaps) ≡ rest_of turn (left - 1) tick snaps (waits drops printed d.taken) t
   way-told turns.Before way = goes-told way.0 way.1 way.2
-  way-told (turns.AtEnd resting) way = stops-told resting way.0 way.1 way.2 way.3 way.4
+  way-told (turns.AtEnd resting) way = stops-told resting way.0 way.1 way.2 way.3 way.4.0
   way-told turns.Over way = absurd way
 
   -- ---- what the run keeps there
@@ -118,7 +116,7 @@ module _ (ds : List ℕ) (n left tick : ℕ) (m : Moment) (snaps : List ℕ) (d 
   unfolding levels_of state_ahead
   levels-still es l c f x now = refl
 
-  none-ahead : RunGoesOn m d.ends d.taken t → IsSome d.taken → levels_of t.machine ≡ []
+  none-ahead : RunGoesOn m d t → IsSome d.taken → levels_of t.machine ≡ []
   none-ahead g some =
       let o = t.machine in
       let taken : is_some (interrupt (next_state m)) ≡ true = ap is_some (sym g.taken) ∙ some in
@@ -135,14 +133,14 @@ module _ (ds : List ℕ) (n left tick : ℕ) (m : Moment) (snaps : List ℕ) (d 
 
   way-stands : (turn : Turn) → IsWay turn left m d t → AreRising tick snaps → IsTurn turn snaps t
   way-stands turns.Before way rising =
-      let g : RunGoesOn m d.ends d.taken t = way.2 in
+      let g : RunGoesOn m d t = way.2 in
       (g.before, rising-on t.machine.now snaps (g.now ∙ ap {A = ℕ} (λ x. x + 1) (sym tick_is)) rising)
-  way-stands (turns.AtEnd resting) way rising = way.5
+  way-stands (turns.AtEnd resting) way rising = way.4.1
   way-stands turns.Over way rising = absurd way
 
   way-taken : (turn : Turn) → IsWay turn left m d t → IsSome d.taken → levels_of t.machine ≡ []
   way-taken turns.Before way some = none-ahead way.2 some
-  way-taken (turns.AtEnd resting) way some = way.5
+  way-taken (turns.AtEnd resting) way some = way.4.1
   way-taken turns.Over way some = absurd way
 
 -- the answers to how a run is left

@@ -52,7 +52,7 @@ module _ (ds : List ℕ) (n : ℕ) (c : Scene) (f : Front) (tick now : ℕ) wher
       → ahead ds n n None
       (with_counter (if b then Some (plan c.machine (interrupt c.machine)).following else None) (next_moment ds n here).scene.machine)
       (next_moment ds n here).front
-      ≡ entries_behind ds n n here
+      ≡ entries_behind ds n here n
   behind-same is true missed = sym (behind-missed ds n n here is missed)
   behind-same is false missed = sym (behind-right ds n n here is missed)
 
@@ -81,7 +81,7 @@ pub moment-next : (t : Together) (tick : ℕ) → IsBeforeEntry t
 moment-next t tick h =
     let o = t.machine in
     ap {A = Overlap} (λ q. moment_of (record t { machine = machine_after_completion (at_completion q) })) (ready-still o h.ready)
-    ∙ moment-done o.delays o.levels (scene_of t) o.front tick o.now h.scene
+    ∙ moment-done o.delays o.levels (scene_of t) o.front tick o.now h.kept.scene
 
 -- nothing has come from outside since
 behind-done : (t : Together) (f : Front) (now : ℕ) → 1 ≤ t.machine.levels → t.machine.levels ≤ 8 → AreDelaysUpTo 255 t.machine.delays
@@ -89,10 +89,7 @@ behind-done : (t : Together) (f : Front) (now : ℕ) → 1 ≤ t.machine.levels 
     → IsBehindEntry (record t { machine = machine_after_completion (at_completion (still t.machine.delays t.machine.levels t.machine.state f now)) })
 unfolding machine_after_completion oldest_row state_ahead step row_of_entry front_after_entry
 behind-done t f now some few delays is = record {
-  some = some;
-  few = few;
-  delays = delays;
-  scene = stepped-scene (scene_of t) is;
+  kept = record { some = some; few = few; delays = delays; scene = stepped-scene (scene_of t) is };
   owed = refl;
   going = refl;
   stands = refl;
@@ -109,7 +106,7 @@ behind-done t f now some few delays is = record {
 pub behind-next : (t : Together) → IsBeforeEntry t → IsBehindEntry (record t { machine = machine_after_completion (at_completion t.machine) })
 behind-next t h =
     subst {A = Overlap} (λ q. IsBehindEntry (record t { machine = machine_after_completion (at_completion q) })) (sym (ready-still t.machine h.ready))
-    (behind-done t t.machine.front t.machine.now h.some h.few h.delays h.scene)
+    (behind-done t t.machine.front t.machine.now h.kept.some h.kept.few h.kept.delays h.kept.scene)
 
 -- its row
 pub row-before : (t : Together) (tick : ℕ) → IsBeforeEntry t

@@ -11,9 +11,12 @@ use Rattle.st_exec.specs.Step.{rests}
 use Rattle.st_run.specs.Run.{Scene, Transition, PlainEvent, and_then, uneventful, with_device, with_order_at_rest, with_wait}
 use Rattle.st_run.specs.Together.{AreTexts}
 use Rattle.st_run.specs.Told.{what_happens}
-use Rattle.st_run.specs.Outside.{Coming, ArePrinted, HasHappened, scene_at, joined_of, nothing, ends_by}
+use Rattle.st_run.specs.Outside.{Coming, ArePrinted, HasHappened, scene_at, joined_of, ends_by}
 use Rattle.st_run.specs.declared.between.Interlude.{Interlude}
 use Rattle.st_run.proofs.SignalLemmas.{wait-none}
+
+abbrev pub nothing : Interlude
+nothing = record { card = false; waited = false; words = None }
 
 abbrev pub a_wait : Interlude
 a_wait = record { card = false; waited = true; words = None }

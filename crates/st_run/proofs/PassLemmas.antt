@@ -1,8 +1,7 @@
 -- Entries that are done one after another, between which nothing comes.
-use Rattle.std.specs.Prelude.{All, is_some, nat_le, length, map}
+use Rattle.std.specs.Prelude.{is_some, nat_le, length, MatchOption}
 use Rattle.std.proofs.Common.{◌≡◌, ◌≢◌, ℕ, zero, suc, ◌+◌, ◌-◌, ◌<◌, ◌≤◌, ◌||◌, Bool, true, false, List, [], ◌∷◌, ◌++◌, Option, None, Some, refl, sym, ◌∙◌, ap, subst, arith, length-append}
 use Rattle.std.proofs.lemmas.Bool.Decides.{nat_tests}
-use Rattle.std.proofs.lemmas.List.Elements.{All-nil, All-cons}
 use Rattle.st_state.specs.Machine.{Machine}
 use Rattle.st_state.specs.Orders.{is_due}
 use Rattle.st_exec.specs.Step.{rests}
@@ -12,15 +11,15 @@ use Rattle.st_ahead.specs.RunTo.{after_ticks, may_come, IsPassed, ArePassed, Run
 use Rattle.st_ahead.specs.RowsDone.{Queue, queue_with, rows_in_ticks}
 use Rattle.st_ahead.specs.declared.events.Row.{Row}
 use Rattle.st_ahead.specs.declared.events.Settled.TheVariants.{Goes}
-use Rattle.st_ahead.proofs.NotedRows.{row-one, row-late, rows-first, no-rows, queue-all}
+use Rattle.st_ahead.proofs.NotedRows.{queue-shut, row-one, row-late, rows-first, no-rows, queue-all}
 use Rattle.st_run.specs.Moments.{Moment}
 use Rattle.st_run.specs.TimedRun.{timed_from, timed_behind}
 use Rattle.st_run.specs.Order.{AreRising}
 use Rattle.st_run.specs.Told.{Told, told_of_events}
-use Rattle.st_run.specs.Between.{IsQuiet, signal_due}
+use Rattle.st_run.specs.Between.{IsQuiet}
 use Rattle.st_run.specs.Leaving.{IsDecided, nothing_decided}
 use Rattle.st_run.specs.Together.{Together, IsBeforeEntry, standing_of, moment_of}
-use Rattle.st_run.specs.Telling.{Waiting, whats, row_told, rows_then, IsDone, AreLeftOut, HasGoneFar, IsLeft, IsRun, AreInTime, rest_of}
+use Rattle.st_run.specs.Telling.{Waiting, whats, row_told, rows_then, AreLeftOut, HasGoneFar, IsLeft, IsRun, AreInTime, rest_of}
 use Rattle.st_run.specs.Ticking.{AreMade, AreTicked, at_completion, last_for}
 use Rattle.st_run.specs.declared.turn.Turn.TheVariants as turns
 use Rattle.st_run.proofs.TickLemmas.{tick-passes, tick-early, tick-done, done-completed}
@@ -30,6 +29,7 @@ use Rattle.st_run.proofs.LeftLemmas.{waits, left-told, left-keeps, oldest-in_tim
 use Rattle.st_run.proofs.ProgressLemmas.{rest-quiet}
 use Rattle.st_run.proofs.QuietLemmas.{none-quiet, quiet-settled, passed-decided, passed-parts}
 use Rattle.st_run.proofs.GoLemmas.{tick-before, go-leaves, go-tells}
+use Rattle.st_run.specs.Outside.{signal_due}
 
 -- what is still to be told before the next entry
 abbrev rest_told : ℕ → ℕ → Together → List Told
@@ -70,10 +70,6 @@ fewer count done test = grind (arith, nat_tests)
 rows-both : (xs ys : List Row) (rest : List Told) → rows_then (xs ++ ys) rest ≡ rows_then xs (rows_then ys rest)
 rows-both [] ys rest = refl
 rows-both (x ∷ xs) ys rest = ap (λ (more : List Told). row_told x ∷ more) (rows-both xs ys rest)
-
-rows-are : (xs : List Row) → All (λ x. IsDone x.what) (map row_told xs)
-rows-are [] = All-nil (λ (x : Told). IsDone x.what)
-rows-are (x ∷ xs) = All-cons (λ (y : Told). IsDone y.what) (row_told x) (map row_told xs) tt (rows-are xs)
 
 -- entries were done, between which nothing came and fewer than `count` by then, in k ticks which
 -- leave the machine `new`
@@ -330,33 +326,32 @@ module _ (count left tick : ℕ) (snaps : List ℕ) (t new : Together) (row : Ro
       → HasGoneFar done most row
       (told_of_events (timed_behind t.machine.delays t.machine.levels left (standing_of tick t) snaps)) rest before after
   far-told done most rest before after are few tells waits = record {
-    passed = rows_in_ticks (row.c - t.machine.now) t.machine;
-    told =
-        ap {A = List ℕ} (λ xs. told_of_events (timed_behind t.machine.delays t.machine.levels left (standing_of tick t) xs)) none
-        ∙ far.tells rest
-        (ap {A = ℕ} (λ x. told_of_events (timed_from new.machine.delays new.machine.levels x (moment_of new) [])) same
-        ∙ ap {A = List ℕ} (λ xs. told_of_events (timed_from new.machine.delays new.machine.levels k (moment_of new) xs)) (sym none) ∙ tells);
+    out = record {
+      passed = rows_in_ticks (row.c - t.machine.now) t.machine;
+      rest = ap {A = List ℕ} (λ xs. told_of_events (timed_behind t.machine.delays t.machine.levels left (standing_of tick t) xs)) none
+          ∙ far.tells rest
+          (ap {A = ℕ} (λ x. told_of_events (timed_from new.machine.delays new.machine.levels x (moment_of new) [])) same
+          ∙ ap {A = List ℕ} (λ xs. told_of_events (timed_from new.machine.delays new.machine.levels k (moment_of new) xs)) (sym none) ∙ tells);
+    };
     waits = waits;
     few = omega (arith, far.short, are, few);
   }
 
--- what has gone far is left out
-pub far-left_out : (done most : ℕ) (row : Row) (old new : List Told) (before after : Queue) → HasGoneFar done most row old new before after
-    → AreLeftOut (row_told row) old new
-far-left_out done most row old new before after far = record {
-  rows = map row_told far.passed;
-  are = rows-are far.passed;
-  is = tt;
-  rest = far.told;
-}
+-- what has gone far is left out, where there is no room
+pub far-passed : (o : Option Row) (done most : ℕ) (all old new : List Told) (before next : Queue) → all ≡ old → before.room ≡ 0
+    → MatchOption o ⊥ (λ row. HasGoneFar done most row old new before next)
+    → (next ≡ before) × MatchOption o (new ≡ all) (λ row. AreLeftOut row all new)
+far-passed None done most all old new before next same shut far = absurd far
+far-passed (Some row) done most all old new before next same shut far =
+    (far.waits ∙ queue-shut _ before shut, record { passed = far.out.passed; rest = same ∙ far.out.rest })
 
 -- and waits, where there is room
 pub far-waits : (done : ℕ) (row : Row) (old new : List Told) (before after : Queue) → HasGoneFar done (done + 64) row old new before after
     → before ≡ record { rows = []; room = 64 } → old ≡ rows_then (queue_with (row ∷ []) after).rows new
 far-waits done row old new before after far empty =
-    let few : length far.passed ≤ 63 = omega (arith, far.few) in
-    let mid : after ≡ record { rows = far.passed; room = 64 - length far.passed } =
-    far.waits ∙ ap {A = Queue} (queue_with far.passed) empty ∙ queue-all far.passed (record { rows = []; room = 64 }) (omega (arith, few)) in
-    let end : queue_with (row ∷ []) after ≡ record { rows = far.passed ++ row ∷ []; room = 64 - length far.passed - 1 } =
-    ap {A = Queue} (queue_with (row ∷ [])) mid ∙ queue-all (row ∷ []) (record { rows = far.passed; room = 64 - length far.passed }) (omega (arith, few)) in
-    far.told ∙ sym (rows-both far.passed (row ∷ []) new) ∙ ap {A = Queue} (λ q. rows_then q.rows new) (sym end)
+    let few : length far.out.passed ≤ 63 = omega (arith, far.few) in
+    let mid : after ≡ record { rows = far.out.passed; room = 64 - length far.out.passed } =
+    far.waits ∙ ap {A = Queue} (queue_with far.out.passed) empty ∙ queue-all far.out.passed (record { rows = []; room = 64 }) (omega (arith, few)) in
+    let end : queue_with (row ∷ []) after ≡ record { rows = far.out.passed ++ row ∷ []; room = 64 - length far.out.passed - 1 } =
+    ap {A = Queue} (queue_with (row ∷ [])) mid ∙ queue-all (row ∷ []) (record { rows = far.out.passed; room = 64 - length far.out.passed }) (omega (arith, few)) in
+    far.out.rest ∙ sym (rows-both far.out.passed (row ∷ []) new) ∙ ap {A = Queue} (λ q. rows_then q.rows new) (sym end)

@@ -1,7 +1,7 @@
 -- What comes between two steps is one print at most: the printer has one order at most, and gets none there.
-use Rattle.std.proofs.Common.{◌≡◌, ℕ, ◌+◌, ◌≤◌, List, [], ◌∷◌, length, length-append, nat_le, Option, None, Some, refl, ap, arith}
+use Rattle.std.specs.Prelude.{slice_get}
+use Rattle.std.proofs.Common.{◌≡◌, ℕ, ◌+◌, ◌≤◌, List, [], ◌∷◌, length, length-append, Option, None, Some, refl, ap, arith}
 use Rattle.st_state.specs.Machine.{Machine, state_with_store}
-use Rattle.st_state.specs.Interrupts.{state_with_signal}
 use Rattle.st_state.specs.Orders.{is_due, next_device}
 use Rattle.st_state.specs.declared.devices.Order.{Order}
 use Rattle.st_state.specs.declared.devices.Device.{Device}
@@ -9,8 +9,8 @@ use Rattle.st_state.specs.declared.devices.Device.TheVariants.{Reader, Printer}
 use Rattle.st_prep.proofs.Choices.{of_choice}
 use Rattle.st_exec.specs.Step.{rests}
 use Rattle.st_exec.specs.Transfer.{all_stored, read_in}
-use Rattle.st_card.specs.declared.control_cards.Signal.{Signal}
-use Rattle.st_run.specs.Run.{Scene, Transition, next_card, with_due_signals, with_signals_at_rest, if_due, with_due_orders, with_device, with_order_at_rest, with_wait, interlude, uneventful, and_then, with_order}
+use Rattle.st_run.specs.Run.{Scene, Transition, with_due_signals, with_signals_at_rest, if_due, with_due_orders, with_device, with_order_at_rest, with_wait, interlude, uneventful, and_then, with_order}
+use Rattle.st_run.proofs.SignalLemmas.{kept-while}
 
 -- how many orders the printer has
 orders : Option Order → ℕ
@@ -28,11 +28,8 @@ record PrintsWithin (c : Scene) (r : Transition) : Type 0 where
 
 -- ---- signals and the reader print nothing
 
-rest-printer : (m : Machine) (xs : List Signal) (cards : List (List ℕ)) → (with_signals_at_rest m xs cards).machine.printer ≡ m.printer
-rest-printer m [] cards = refl
-rest-printer m (x ∷ xs) cards =
-    of_choice (λ c. c.machine.printer ≡ m.printer) (rests m) (with_signals_at_rest (state_with_signal m x.indicator) xs cards) _
-    (rest-printer (state_with_signal m x.indicator) xs cards) refl
+rest-printer : (c : Scene) → (with_signals_at_rest c).machine.printer ≡ c.machine.printer
+rest-printer c = kept-while (λ d. d.machine.printer ≡ c.machine.printer) (λ d x xs is. is) (λ s x. rests s) c.signals c refl
 
 stored-printer : (m : Machine) (w : ℕ) (xs : List ℕ) → (all_stored m w xs).printer ≡ m.printer
 unfolding all_stored
@@ -46,7 +43,7 @@ read-printer m w (Some card) = stored-printer (record m { reader = None }) w car
 reader-prints : (o : Option Order) (c : Scene) → PrintsWithin c (with_order Reader o c)
 reader-prints None c = record { few = omega arith }
 reader-prints (Some order) c =
-    let same = ap orders (read-printer c.machine order.word (next_card c.cards)) in
+    let same = ap orders (read-printer c.machine order.word (slice_get c.cards 0)) in
     record { few = omega (arith, same) }
 
 -- ---- the printer
@@ -93,14 +90,14 @@ wait-prints c =
     let r = with_order_at_rest c in
     let q = and_then r with_order_at_rest in
     let e = q.scene in
-    let same = ap orders (rest-printer e.machine e.signals e.cards) in
-    then-prints c q (λ d. uneventful (with_signals_at_rest d.machine d.signals d.cards))
+    let same = ap orders (rest-printer e) in
+    then-prints c q (λ d. uneventful (with_signals_at_rest d))
     (then-prints c r with_order_at_rest (order_at_rest-prints c) (order_at_rest-prints r.scene))
     (record { few = omega (arith, same) })
 
 pub settled-one : (c : Scene) → length (interlude c).happened ≤ 1
 unfolding interlude
 settled-one c =
-    let d = with_due_signals c.machine c.signals c.cards in
+    let d = with_due_signals c in
     let all = then-prints d (with_due_orders d) with_wait (due_orders-prints d) (wait-prints (with_due_orders d).scene) in
     omega (arith, all.few, orders-few d.machine.printer)

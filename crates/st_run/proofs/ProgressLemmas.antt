@@ -16,8 +16,8 @@ use Rattle.st_run.specs.Events.{Level, snapshot, level_at, with_index_words}
 use Rattle.st_run.specs.Moments.{next_row, entries_at_moment, next_moment}
 use Rattle.st_run.specs.TimedRun.{ticks_before, snapshot_at, timed_behind}
 use Rattle.st_run.specs.Order.{AreRising}
-use Rattle.st_run.specs.Told.{What, Dropped, Interrupted, Shown, Ended, Told, told_of, told_of_events}
-use Rattle.st_run.specs.Together.{Together, scene_of, IsBeforeEntry, standing_of, text_told}
+use Rattle.st_run.specs.Told.{What, Dropped, Interrupted, Shown, Ended, Told, told_of, told_of_events, Printed}
+use Rattle.st_run.specs.Together.{Together, scene_of, IsBeforeEntry, standing_of}
 use Rattle.st_run.specs.Told.{what_happens}
 use Rattle.st_run.specs.Run.{interrupts_by}
 use Rattle.st_run.specs.Telling.{Waiting, whats, at_once, told_at_end, rest_of, rest_by, state_told, ahead_of, IsRun, AreInTime, IsShown}
@@ -26,6 +26,7 @@ use Rattle.st_run.specs.declared.turn.Turn.TheVariants as turns
 use Rattle.st_run.proofs.Turns.{behind-snapshot, same-words}
 use Rattle.st_run.proofs.ToldLemmas.{once}
 use Rattle.st_run.proofs.MomentLemmas.{still, ready-still, row-before}
+use Rattle.std.specs.Option.{option_to_list}
 
 -- ---- nothing waits
 
@@ -49,7 +50,7 @@ pub quiet-taken : (w : Waiting) (s : Machine) (P : Type 0) → Quiet w → IsSom
 unfolding whats
 quiet-taken w s P quiet some =
     none-some w.taken P
-    (quiet-by w.taken (map (λ (d : ℕ × ℕ). Dropped d.0 d.1) (reverse w.drops) ++ text_told w.text) s (quiet s)) some
+    (quiet-by w.taken (map (λ (d : ℕ × ℕ). Dropped d.0 d.1) (reverse w.drops) ++ map Printed (option_to_list w.text)) s (quiet s)) some
 
 pub rest-quiet : (turn : Turn) (left tick : ℕ) (snaps : List ℕ) (w : Waiting) (t : Together) → Quiet w
     → rest_of turn left tick snaps w t ≡ rest_by turn left tick snaps t

@@ -1,15 +1,14 @@
 -- Where nothing comes between two entries.
 use Rattle.std.specs.Prelude.{nat_lt, is_some, map}
-use Rattle.std.proofs.Common.{◌≡◌, ◌≢◌, ℕ, Bool, true, false, ◌||◌, List, [], ◌∷◌, length, Option, None, Some, refl, sym, subst, ◌∙◌, ap, arith}
+use Rattle.std.proofs.Common.{◌≡◌, ◌≢◌, ℕ, Bool, true, false, ◌||◌, List, [], length, Option, None, Some, refl, sym, subst, ◌∙◌, ap, arith}
 use Rattle.std.proofs.lemmas.Bool.{le-ltb}
-use Rattle.st_state.specs.Machine.{Machine}
 use Rattle.st_state.specs.Orders.{is_due}
 use Rattle.st_ahead.specs.Overlap.{Overlap, interrupt_due}
 use Rattle.st_ahead.specs.Calls.{machine_after_settling as settled_of, machine_after_pass}
 use Rattle.st_card.specs.declared.control_cards.Signal.{Signal}
 use Rattle.st_run.specs.Run.{Scene, Transition, with_due_signals, with_due_orders, with_wait, interlude, uneventful, and_then}
 use Rattle.st_run.specs.Together.{Together, scene_of, moment_of, IsBehindEntry}
-use Rattle.st_run.specs.Between.{IsChoice, IsQuiet, signal_due}
+use Rattle.st_run.specs.Between.{IsChoice, IsQuiet}
 use Rattle.st_run.specs.Leaving.{IsDecided, nothing_decided}
 use Rattle.st_run.specs.Telling.{Waiting, whats, rest_of, IsRun, AreInTime}
 use Rattle.st_run.specs.Told.{Told, what_happens}
@@ -17,20 +16,16 @@ use Rattle.st_run.specs.Moments.{has_waited}
 use Rattle.st_exec.specs.Step.{rests}
 use Rattle.st_run.specs.declared.turn.Turn.{Turn}
 use Rattle.st_run.specs.declared.turn.Turn.TheVariants.{Before}
-use Rattle.st_run.proofs.SignalLemmas.{wait-none}
+use Rattle.st_run.proofs.SignalLemmas.{due-over, wait-none}
 use Rattle.st_run.proofs.InterludeLemmas.{HasCome, since-none}
 use Rattle.st_run.proofs.ChoiceLemmas.{decided}
 use Rattle.st_run.proofs.PartLemmas.{HasParts, left-parts}
 use Rattle.st_run.proofs.LeftLemmas.{waits}
 use Rattle.st_run.proofs.TickLemmas.{still-settled}
 use Rattle.st_run.proofs.ProgressLemmas.{Quiet, rest-quiet, quiet-taken}
+use Rattle.st_run.specs.Outside.{signal_due}
 
 -- ---- the tests
-
-by-signal : (s : Machine) (xs : List Signal) (cards : List (List ℕ)) → signal_due s.done xs ≡ false
-    → record { machine = s; signals = xs; cards = cards } ≡ with_due_signals s xs cards
-by-signal s [] cards none = refl
-by-signal s (x ∷ xs) cards none = rw none refl
 
 by-orders : (c : Scene) (reader printer : Bool) → is_due c.machine.done c.machine.reader ≡ reader → is_due c.machine.done c.machine.printer ≡ printer
     → reader ≡ false → printer ≡ false → uneventful c ≡ with_due_orders c
@@ -40,9 +35,9 @@ by-orders c reader printer first second a b = rw (first ∙ a, second ∙ b) ref
 -- nothing comes
 module _ (c : Scene) (signals : signal_due c.machine.done c.signals ≡ false) (reader : is_due c.machine.done c.machine.reader ≡ false)
     (printer : is_due c.machine.done c.machine.printer ≡ false) (awake : rests c.machine ≡ false) where
-  pub none-due : with_due_orders (with_due_signals c.machine c.signals c.cards) ≡ uneventful c
+  pub none-due : with_due_orders (with_due_signals c) ≡ uneventful c
   none-due =
-      ap with_due_orders (sym (by-signal c.machine c.signals c.cards signals)) ∙ sym (by-orders c false false reader printer refl refl)
+      ap with_due_orders (due-over c.signals c _ refl signals) ∙ sym (by-orders c false false reader printer refl refl)
 
   pub none-comes : interlude c ≡ uneventful c
   unfolding interlude
@@ -102,9 +97,11 @@ module _ (left : ℕ) (b n : Together) (is : IsBehindEntry b) (some : left ≢ 0
   choice = (
     some,
     quiet.awake,
-    after,
-    neither-first (is_some b.machine.behind) (interrupt_due b.machine) quiet.open_still,
-    neither-still (is_some b.machine.behind) (interrupt_due b.machine) quiet.open_still,
+    (
+      after,
+      neither-first (is_some b.machine.behind) (interrupt_due b.machine) quiet.open_still,
+      neither-still (is_some b.machine.behind) (interrupt_due b.machine) quiet.open_still,
+    ),
   )
 
   pub quiet-decided : IsDecided left (moment_of b) nothing_decided n

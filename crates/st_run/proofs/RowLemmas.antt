@@ -22,13 +22,13 @@ told-behind (Some x) [] [] rest more tell none same told = told
 told-behind o [] (y ∷ ys) rest more tell none same told = absurd (cc same)
 told-behind o (y ∷ ys) new rest more tell none same told = absurd (cc none)
 
-pub passed-behind : {X : Type 0} (o : Option X) (rows new : List Row) (rest more : List Told) (tell : X → Told) → rows ≡ [] → new ≡ rows
-    → MatchOption o (more ≡ rest) (λ x. AreLeftOut (tell x) rest more)
-    → MatchOption o (rows_then new more ≡ rows_then rows rest) (λ x. AreLeftOut (tell x) (rows_then rows rest) (rows_then new more))
-passed-behind None [] [] rest more tell none same passed = passed
-passed-behind (Some x) [] [] rest more tell none same passed = passed
-passed-behind o [] (y ∷ ys) rest more tell none same passed = absurd (cc same)
-passed-behind o (y ∷ ys) new rest more tell none same passed = absurd (cc none)
+pub passed-behind : (o : Option Row) (rows new : List Row) (rest more : List Told) → rows ≡ [] → new ≡ rows
+    → MatchOption o (more ≡ rest) (λ row. AreLeftOut row rest more)
+    → MatchOption o (rows_then new more ≡ rows_then rows rest) (λ row. AreLeftOut row (rows_then rows rest) (rows_then new more))
+passed-behind None [] [] rest more none same passed = passed
+passed-behind (Some row) [] [] rest more none same passed = passed
+passed-behind o [] (y ∷ ys) rest more none same passed = absurd (cc same)
+passed-behind o (y ∷ ys) new rest more none same passed = absurd (cc none)
 
 -- the first one that does
 pub row-next : (o : Option Row) (mid new : Queue) (rest old : List Told) → old ≡ rows_then mid.rows rest

@@ -4,7 +4,7 @@ use Rattle.std.proofs.Common.{◌≡◌, ℕ, zero, suc, ◌+◌, ◌≤◌, Lis
 use Rattle.st_prep.proofs.Choices.{of_choice}
 use Rattle.st_exec.specs.Step.{interrupt, rests}
 use Rattle.st_exec.proofs.StepLemmas.{step-done}
-use Rattle.st_run.specs.Run.{Scene, Ends, Execution, interlude, interrupts_by, scene_after_step, execution_at_end, goes_on, run}
+use Rattle.st_run.specs.Run.{Scene, Ends, Transition, interlude, interrupts_by, scene_after_step, with_end, goes_on, run}
 use Rattle.st_run.specs.Events.{Timed, drop_of}
 use Rattle.st_run.specs.Moments.{Moment, Standing, moment_at_start, next_state, ends_segment, standing_at, next_moment}
 use Rattle.st_run.specs.TimedRun.{event_at, ticks_before, snapshots_from, drops, drops_if_ends, happening_at, events_between, snapshot_at, completion, until_done, last_snapshot_at, last_events, timed_from}
@@ -23,7 +23,7 @@ timed-done ds n left k m snaps few =
     (λ left m few. let more = next-more ds n m in omega (arith, few, more)) left m snaps few
 
 -- the plain run
-ran-done : (left : ℕ) (c : Scene) → (run left c).last.done ≤ c.machine.done + left
+ran-done : (left : ℕ) (c : Scene) → (run left c).scene.machine.done ≤ c.machine.done + left
 unfolding run
 ran-done zero c = let same = settled-done c in omega (arith, same)
 ran-done (suc left) c =
@@ -31,8 +31,8 @@ ran-done (suc left) c =
     let next = scene_after_step (interlude c).scene in
     let more : next.machine.done ≡ (interlude c).scene.machine.done + 1 = step-done (interlude c).scene.machine in
     let rest = ran-done left next in
-    of_choice (λ (x : Execution). x.last.done ≤ c.machine.done + suc left) (rests (interlude c).scene.machine)
-    (execution_at_end (interlude c)) (goes_on (interlude c) (run left next)) (omega (arith, same)) (omega (arith, same, more, rest))
+    of_choice (λ (x : Transition). x.scene.machine.done ≤ c.machine.done + suc left) (rests (interlude c).scene.machine)
+    (with_end (interlude c)) (goes_on (interlude c) (run left next)) (omega (arith, same)) (omega (arith, same, more, rest))
 
 pub runs_keep_their_budget : RunsKeepTheirBudget
 runs_keep_their_budget = record {

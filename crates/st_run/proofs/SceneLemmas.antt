@@ -1,10 +1,9 @@
 -- What comes between two steps, and a step, keep what each scene keeps.
-use Rattle.std.specs.Prelude.{IfSome}
-use Rattle.std.proofs.Common.{ℕ, nat_le, List, [], ◌∷◌, Option, None, Some}
+use Rattle.std.specs.Prelude.{IfSome, drop, slice_get}
+use Rattle.std.proofs.Common.{ℕ, nat_le, Bool, List, [], ◌∷◌, Option, None, Some}
 use Rattle.std.specs.Prelude.{All}
 use Rattle.std.proofs.lemmas.List.Elements.{All-head, All-tail}
-use Rattle.st_state.specs.Machine.{Machine, IsMachine, HasArea}
-use Rattle.st_state.specs.Interrupts.{state_with_signal}
+use Rattle.st_state.specs.Machine.{Machine, HasArea}
 use Rattle.st_state.specs.Orders.{is_due, next_device}
 use Rattle.st_state.specs.declared.devices.Order.{Order}
 use Rattle.st_state.specs.declared.devices.Device.{Device}
@@ -14,47 +13,35 @@ use Rattle.st_prep.proofs.Choices.{of_choice}
 use Rattle.st_prep.proofs.PlanLemmas.{plan-prepared}
 use Rattle.st_exec.specs.Step.{rests, interrupt, step}
 use Rattle.st_card.specs.declared.control_cards.Signal.{Signal}
-use Rattle.st_run.specs.Run.{Scene, next_card, cards_after, with_due_signals, with_signals_at_rest, if_due, with_due_orders, with_device, with_order_at_rest, with_wait, interlude, scene_after_step, uneventful, with_order}
+use Rattle.st_run.specs.Run.{Scene, with_due_signals, with_signals_while, if_due, with_due_orders, with_device, with_order_at_rest, with_wait, interlude, scene_after_step, uneventful, with_order}
 use Rattle.st_exec.proofs.MachineKept.{kept-completed}
 use Rattle.st_refine.specs.Reached.{IsCard}
 use Rattle.st_run.specs.Scenes.{IsScene}
 use Rattle.st_refine.proofs.Kept.{interrupt-below}
+use Rattle.st_run.proofs.SignalLemmas.{kept-while}
 use Rattle.st_refine.proofs.StateLemmas.{signalled-machine, read-machine, printed-machine}
 
 -- ---- states
 
-first-is : (cards : List (List ℕ)) → All IsCard cards → IfSome (next_card cards) IsCard
+first-is : (cards : List (List ℕ)) → All IsCard cards → IfSome (slice_get cards 0) IsCard
 first-is [] are = tt
 first-is (card ∷ cards) are = All-head IsCard card cards are
 
-rest-cards : (cards : List (List ℕ)) → All IsCard cards → All IsCard (cards_after cards)
+rest-cards : (cards : List (List ℕ)) → All IsCard cards → All IsCard (drop 1 cards)
 rest-cards [] are = are
 rest-cards (card ∷ cards) are = All-tail IsCard card cards are
 
 -- ---- scenes
 
-pub due-scene : (s : Machine) (xs : List Signal) (cards : List (List ℕ)) → IsMachine s → All IsCard cards
-    → IsScene (with_due_signals s xs cards)
-due-scene s [] cards m are = record { machine = m; cards = are }
-due-scene s (x ∷ xs) cards m are =
-    of_choice IsScene (nat_le x.count s.done) (with_due_signals (state_with_signal s x.indicator) xs cards)
-    (record { machine = s; signals = x ∷ xs; cards = cards })
-    (due-scene (state_with_signal s x.indicator) xs cards (signalled-machine s x.indicator m) are)
-    (record { machine = m; cards = are })
-
-rest-scene : (s : Machine) (xs : List Signal) (cards : List (List ℕ)) → IsMachine s → All IsCard cards
-    → IsScene (with_signals_at_rest s xs cards)
-rest-scene s [] cards m are = record { machine = m; cards = are }
-rest-scene s (x ∷ xs) cards m are =
-    of_choice IsScene (rests s) (with_signals_at_rest (state_with_signal s x.indicator) xs cards)
-    (record { machine = s; signals = x ∷ xs; cards = cards })
-    (rest-scene (state_with_signal s x.indicator) xs cards (signalled-machine s x.indicator m) are)
-    (record { machine = m; cards = are })
+pub signals-scene : (holds : Machine → Signal → Bool) (c : Scene) → IsScene c → IsScene (with_signals_while holds c.signals c)
+signals-scene holds c is =
+    kept-while IsScene (λ d x xs h. record { machine = signalled-machine d.machine x.indicator h.machine; cards = h.cards })
+    holds c.signals c is
 
 reader-scene : (o : Option Order) (c : Scene) → IsScene c → HasArea o → IsScene (with_order Reader o c).scene
 reader-scene None c is area = is
 reader-scene (Some order) c is area = record {
-  machine = read-machine c.machine order.word (next_card c.cards) is.machine area.1 (first-is c.cards is.cards);
+  machine = read-machine c.machine order.word (slice_get c.cards 0) is.machine area.1 (first-is c.cards is.cards);
   cards = rest-cards c.cards is.cards;
 }
 
@@ -93,13 +80,13 @@ wait-scene c is =
     let d = (with_order_at_rest c).scene in
     let e = (with_order_at_rest d).scene in
     let kept : IsScene e = order_at_rest-scene d (order_at_rest-scene c is) in
-    rest-scene e.machine e.signals e.cards kept.machine kept.cards
+    signals-scene (λ s x. rests s) e kept
 
 pub settled-scene : (c : Scene) → IsScene c → IsScene (interlude c).scene
 unfolding interlude
 settled-scene c is =
-    let d = with_due_signals c.machine c.signals c.cards in
-    wait-scene (with_due_orders d).scene (due_orders-scene d (due-scene c.machine c.signals c.cards is.machine is.cards))
+    let d = with_due_signals c in
+    wait-scene (with_due_orders d).scene (due_orders-scene d (signals-scene (λ s x. nat_le x.count s.done) c is))
 
 pub stepped-scene : (c : Scene) → IsScene c → IsScene (scene_after_step c)
 unfolding step

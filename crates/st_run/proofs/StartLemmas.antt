@@ -5,13 +5,10 @@ use Rattle.std.proofs.Common.{◌≡◌, ◌≢◌, ℕ, suc, ◌+◌, ◌-◌, 
 use Rattle.std.proofs.lemmas.Bool.{le-ltb}
 use Rattle.std.proofs.lemmas.List.Elements.{All-nil, All-cons, All-head, All-tail}
 use Rattle.st_state.specs.Machine.{Machine}
-use Rattle.st_state.specs.Interrupts.{state_with_signal}
-use Rattle.st_state.specs.Orders.{next_device}
 use Rattle.st_state.specs.declared.devices.Order.{Order}
-use Rattle.st_prep.proofs.Choices.{of_choice}
 use Rattle.st_exec.specs.Step.{interrupt, rests}
 use Rattle.st_card.specs.declared.control_cards.Signal.{Signal}
-use Rattle.st_run.specs.Run.{Scene, with_due_signals, with_due_orders, with_order_at_rest, with_wait, interlude, interrupts_by, if_due, Transition, uneventful, and_then, with_device, with_order}
+use Rattle.st_run.specs.Run.{Scene, with_due_signals, with_due_orders, with_wait, interlude, interrupts_by, if_due, Transition, uneventful, and_then, with_order}
 use Rattle.st_state.specs.declared.devices.Device.TheVariants.{Reader, Printer}
 use Rattle.st_rows.specs.Ranges.{AreDelaysUpTo}
 use Rattle.st_rows.specs.Rows.{opening_front}
@@ -29,10 +26,10 @@ use Rattle.st_run.proofs.ProgressLemmas.{Quiet, rest-quiet}
 use Rattle.st_run.proofs.Turns.{timed-goes_on}
 use Rattle.st_run.proofs.Bounds.{run-time}
 use Rattle.st_run.proofs.RunLaws.{timed-done}
-use Rattle.st_run.proofs.SceneLemmas.{due-scene}
 use Rattle.st_run.specs.Outside.{Coming}
 use Rattle.st_run.proofs.InterludeLemmas.{with_coming}
-use Rattle.st_run.proofs.SignalLemmas.{wait-none}
+use Rattle.st_run.proofs.SignalLemmas.{wait-none, kept-while}
+use Rattle.st_run.proofs.SceneLemmas.{signals-scene}
 
 -- the same at another scene
 abbrev pub with_scene : Together → Scene → Together
@@ -45,9 +42,9 @@ with_scene t c = record {
 -- ---- the machine once the signals that are due came
 
 pub started : (m k : Overlap) (xs ys : List Signal) (cards : List (List ℕ)) (x : Coming)
-    → ((ts : List (List ℕ)) → with_due_signals m.state xs ts ≡ record { machine = k.state; signals = ys; cards = ts })
+    → ((ts : List (List ℕ)) → with_due_signals (record { machine = m.state; signals = xs; cards = ts }) ≡ record { machine = k.state; signals = ys; cards = ts })
     → k ≡ record m { state = k.state } → x ≡ record { signals = ys; cards = cards }
-    → with_coming k x ≡ with_scene (record { machine = m; signals = xs; cards = cards }) (with_due_signals m.state xs cards)
+    → with_coming k x ≡ with_scene (record { machine = m; signals = xs; cards = cards }) (with_due_signals (record { machine = m.state; signals = xs; cards = cards }))
 started m k xs ys cards x came machine is =
     ap (with_coming k) is
     ∙ ap (λ (o : Overlap). record { machine = o; signals = ys; cards = cards }) machine
@@ -61,17 +58,14 @@ pub record IsIdle (s : Machine) : Type 0 where
   pub reader : s.reader ≡ None
   pub printer : s.printer ≡ None
 
-signals-idle : (s : Machine) (xs : List Signal) (cards : List (List ℕ)) → IsIdle s → IsIdle (with_due_signals s xs cards).machine
-signals-idle s [] cards is = is
-signals-idle s (x ∷ xs) cards is =
-    of_choice (λ (c : Scene). IsIdle c.machine) (nat_le x.count s.done) (with_due_signals (state_with_signal s x.indicator) xs cards) _
-    (signals-idle (state_with_signal s x.indicator) xs cards (record { enabled = is.enabled; waiting = is.waiting; reader = is.reader; printer = is.printer })) is
+signals-idle : (c : Scene) → IsIdle c.machine → IsIdle (with_due_signals c).machine
+signals-idle c is =
+    kept-while (λ d. IsIdle d.machine)
+    (λ d x xs h. record { enabled = h.enabled; waiting = h.waiting; reader = h.reader; printer = h.printer })
+    (λ s x. nat_le x.count s.done) c.signals c is
 
-signals-cards : (s : Machine) (xs : List Signal) (cards : List (List ℕ)) → (with_due_signals s xs cards).cards ≡ cards
-signals-cards s [] cards = refl
-signals-cards s (x ∷ xs) cards =
-    of_choice (λ (c : Scene). c.cards ≡ cards) (nat_le x.count s.done) (with_due_signals (state_with_signal s x.indicator) xs cards) _
-    (signals-cards (state_with_signal s x.indicator) xs cards) refl
+signals-cards : (c : Scene) → (with_due_signals c).cards ≡ c.cards
+signals-cards c = kept-while (λ d. d.cards ≡ c.cards) (λ d x xs is. is) (λ s x. nat_le x.count s.done) c.signals c refl
 
 idle-rests : (s : Machine) → IsIdle s → rests s ≡ false
 idle-rests s is = rw is.waiting refl
@@ -90,10 +84,10 @@ orders-idle c is =
 
 module _ (c : Scene) (is : IsIdle c.machine) where
   abbrev pub due : Scene
-  due = with_due_signals c.machine c.signals c.cards
+  due = with_due_signals c
 
   due-idle : IsIdle due.machine
-  due-idle = signals-idle c.machine c.signals c.cards is
+  due-idle = signals-idle c is
 
   settled-idle : interlude c ≡ uneventful due
   unfolding interlude
@@ -107,7 +101,7 @@ module _ (c : Scene) (is : IsIdle c.machine) where
   no-card : has_card (moment_at_start c) ≡ false
   no-card =
       ap {A = Transition} (λ r. nat_lt (length r.scene.cards) (length c.cards)) settled-idle
-      ∙ ap {A = List (List ℕ)} (λ xs. nat_lt (length xs) (length c.cards)) (signals-cards c.machine c.signals c.cards)
+      ∙ ap {A = List (List ℕ)} (λ xs. nat_lt (length xs) (length c.cards)) (signals-cards c)
       ∙ same-not_less (length c.cards)
 
   no-wait : has_waited (moment_at_start c) ≡ false
@@ -201,10 +195,7 @@ none = record { drops = []; text = None; taken = None }
 module _ (ds : List ℕ) (n : ℕ) (c : Scene) (idle : IsIdle c.machine) (is : IsScene c) where
   pub opened-before : 1 ≤ n → n ≤ 8 → AreDelaysUpTo 255 ds → IsBeforeEntry (with_scene (opened ds n c) (due c idle))
   opened-before some few are = record {
-    some = some;
-    few = few;
-    delays = are;
-    scene = due-scene c.machine c.signals c.cards is.machine is.cards;
+    kept = record { some = some; few = few; delays = are; scene = signals-scene (λ s x. nat_le x.count s.done) c is };
     ready = record {
       between =
           ap {A = Option ℕ} (λ k. machine_between_ticks ds n (due c idle).machine k (opening_front idle_banks 0) 0)

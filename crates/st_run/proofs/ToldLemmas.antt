@@ -1,21 +1,21 @@
 -- What is told of what comes between two entries, and at the end.
 use Rattle.std.specs.Prelude.{map, reverse, if◌then◌else◌}
-use Rattle.std.proofs.Common.{◌≡◌, ℕ, ◌+◌, Bool, true, false, List, [], ◌∷◌, ◌++◌, Option, None, Some, refl, sym, ◌∙◌, ap, append_assoc}
+use Rattle.std.proofs.Common.{◌≡◌, ℕ, ◌+◌, Bool, true, false, List, [], ◌∷◌, ◌++◌, Option, None, refl, sym, ◌∙◌, ap, append_assoc}
 use Rattle.std.specs.Prelude.{All}
 use Rattle.std.proofs.lemmas.List.{reverse-append, map-append}
 use Rattle.std.proofs.lemmas.List.Elements.{All-head, All-tail}
 use Rattle.std.proofs.lemmas.Simd.{map-map}
-use Rattle.st_state.specs.Machine.{Machine}
 use Rattle.st_exec.specs.Step.{interrupt, rests}
 use Rattle.st_run.specs.Run.{PlainEvent, Ends, interlude, interrupts_by}
 use Rattle.st_segment.specs.Ahead.{Ahead}
 use Rattle.st_run.specs.Events.{Timed, address_ahead, drop_of}
 use Rattle.st_run.specs.Moments.{Moment, Standing, next_state, ends_segment, next_moment}
 use Rattle.st_run.specs.TimedRun.{event_at, ticks_before, snapshots_from, last_snapshot_at, snapshot_at, drops, drops_if_ends, happening_at, events_between, completion, until_done, last_events, timed_from, timed_behind}
-use Rattle.st_run.specs.Told.{What, Dropped, Shown, Ended, Told, what_happens, told_of, told_of_events}
-use Rattle.st_run.specs.Together.{text_told, AreTexts}
+use Rattle.st_run.specs.Told.{What, Dropped, Shown, Ended, Told, what_happens, told_of, told_of_events, Printed}
+use Rattle.st_run.specs.Together.{AreTexts}
 use Rattle.st_run.specs.Telling.{whats, at_once, told_at_end}
 use Rattle.st_run.proofs.DoneLemmas.{settled-done}
+use Rattle.std.specs.Option.{option_to_list}
 
 -- told so many done, at a tick
 abbrev pub once : ℕ → ℕ → What → Told
@@ -127,8 +127,8 @@ module _ (m : Moment) where
       ∙ ap (λ (xs : List Told). map tell ds ++ xs) (tell-happenings hs)
       ∙ sym (map-append tell ds (map what_happens hs))
       ∙ ap (λ (xs : List What). map tell (ds ++ xs)) (sym same)
-      ∙ ap (map tell) (sym (append-none (ds ++ text_told text)))))
-      ∙ append_assoc (map tell (ds ++ text_told text ++ [])) showing ending
+      ∙ ap (map tell) (sym (append-none (ds ++ map Printed (option_to_list text))))))
+      ∙ append_assoc (map tell (ds ++ map Printed (option_to_list text) ++ [])) showing ending
     where
       append-none : (xs : List What) → xs ++ [] ≡ xs
       append-none [] = refl

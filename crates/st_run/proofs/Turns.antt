@@ -4,14 +4,14 @@ use Rattle.std.proofs.lemmas.List.{take-append-drop, drop-drop}
 use Rattle.std.proofs.lemmas.Bool.{lt-ltb, le-ltb}
 use Rattle.st_state.specs.Machine.{Machine}
 use Rattle.st_prep.specs.Fetch.{index_words}
-use Rattle.st_exec.specs.Step.{rests}
+use Rattle.st_exec.specs.Step.{rests, interrupt}
 use Rattle.st_banks.specs.declared.answers.LastAnswers.{LastAnswers}
 use Rattle.st_rows.specs.Rows.{opening_front, row_of_entry, address_tick, preparation_tick, tick_a, tick_p}
 use Rattle.st_segment.specs.Entries.{entry}
 use Rattle.st_segment.specs.Ahead.{ahead, prepared_before}
 use Rattle.st_segment.specs.Guesses.{split_words}
 use Rattle.st_run.specs.Events.{Shows, with_index_words, snapshot}
-use Rattle.st_run.specs.Moments.{Moment, Standing, next_state, ends_segment, next_segment, next_front, standing_at, interrupt_of_moment, entries_at_moment, next_moment}
+use Rattle.st_run.specs.Moments.{Moment, Standing, next_state, ends_segment, next_segment, next_front, standing_at, entries_at_moment, next_moment}
 use Rattle.st_run.specs.TimedRun.{ticks_before, snapshots_from, snapshot_at, events_between, completion, until_done, last_events, timed_from, timed_behind}
 
 -- ---- turns
@@ -100,5 +100,5 @@ pub nothing-ahead : (ds : List ℕ) (n : ℕ) (m : Moment) (tick : ℕ) → ends
     → tick ≤ m.tick + 1 + length m.dropped
     → prepared_before (tick + 1) (entries_at_moment ds n (standing_at m)) ≡ []
 nothing-ahead ds n m tick h early =
-    ap (λ f. prepared_before (tick + 1) (ahead ds n n (interrupt_of_moment (standing_at m)) (next_state m) f)) (front-ended m h)
-    ∙ opening-late ds n n (interrupt_of_moment (standing_at m)) (next_state m) m.banks (m.tick + 1 + length m.dropped) tick early
+    ap (λ f. prepared_before (tick + 1) (ahead ds n n (interrupt (next_state m)) (next_state m) f)) (front-ended m h)
+    ∙ opening-late ds n n (interrupt (next_state m)) (next_state m) m.banks (m.tick + 1 + length m.dropped) tick early

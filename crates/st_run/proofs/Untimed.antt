@@ -2,7 +2,7 @@
 use Rattle.std.specs.Prelude.{map, reverse}
 use Rattle.std.proofs.Common.{◌≡◌, ℕ, zero, suc, ◌+◌, Bool, true, false, if◌then◌else◌, List, [], ◌∷◌, ◌++◌, refl, sym, ◌∙◌, ap, append_assoc, append-nil}
 use Rattle.st_exec.specs.Step.{step, rests, address, interrupt}
-use Rattle.st_run.specs.Run.{PlainEvent, Executes, Ends, interlude, interrupts_by, Execution, execution_at_end, scene_after_step, happens, goes_on, run}
+use Rattle.st_run.specs.Run.{PlainEvent, Executes, Ends, interlude, interrupts_by, Transition, with_end, scene_after_step, happens, goes_on, run}
 use Rattle.st_run.specs.Events.{Timed, plain_events_of, plain_run, drop_of, snapshot}
 use Rattle.st_run.specs.Moments.{Moment, Standing, next_scene, next_state, ends_segment, standing_at, next_moment}
 use Rattle.st_run.specs.TimedRun.{event_at, ticks_before, snapshots_from, snapshot_at, last_snapshot_at, drops, drops_if_ends, happening_at, events_between, completion, until_done, last_events, timed_from}
@@ -73,7 +73,7 @@ turn-plain ds n m snaps =
     ∙ ap (λ xs. came ++ taking ++ xs) (until_done-plain ds n (standing_at m) snaps)
     ∙ append_assoc came taking done
 
-last_events-plain : (m : Moment) (snaps : List ℕ) → plain_run (last_events m snaps) ≡ (execution_at_end (interlude m.scene)).happened
+last_events-plain : (m : Moment) (snaps : List ℕ) → plain_run (last_events m snaps) ≡ (with_end (interlude m.scene)).happened
 unfolding last_events plain_run
 last_events-plain m snaps =
     let came = map (happening_at m) (interlude m.scene).happened in
@@ -97,12 +97,12 @@ module _ (ds : List ℕ) (n left : ℕ) (m : Moment) (snaps : List ℕ) where
   abbrev rest : List Timed
   rest = timed_from ds n left next (snapshots_from next.tick snaps)
 
-  abbrev later : Execution
+  abbrev later : Transition
   later = run left (scene_after_step (next_scene m))
 
   turns-plain : (b : Bool) → plain_run rest ≡ later.happened
       → plain_run (if b then last_events m snaps else events_between m ++ until_done ds n (standing_at m) snaps ++ rest)
-      ≡ (if b then execution_at_end (interlude m.scene) else goes_on (interlude m.scene) later).happened
+      ≡ (if b then with_end (interlude m.scene) else goes_on (interlude m.scene) later).happened
   turns-plain true same = last_events-plain m snaps
   turns-plain false same =
       let came = (interlude m.scene).happened in

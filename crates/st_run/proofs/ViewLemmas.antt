@@ -1,6 +1,5 @@
 -- What is shown of the levels is what they are.
 use Rattle.std.specs.Prelude.{map, slice_index, IfSome, option_map, nat_lt, replicate}
-use Rattle.std.specs.List.{AllZip}
 use Rattle.std.proofs.Common.{◌≡◌, ℕ, zero, suc, ◌+◌, ◌-◌, ◌<◌, false, List, [], ◌∷◌, ◌++◌, length, drop, Option, None, Some, refl, sym, ◌∙◌, ap, subst}
 use Rattle.std.proofs.lemmas.List.{get_or-take, get_or-drop, length-map}
 use Rattle.std.proofs.lemmas.Simd.{map-map}
@@ -27,8 +26,8 @@ use Rattle.st_segment.specs.Ahead.{Ahead, ahead, prepared_before, plan_of}
 use Rattle.st_ahead.specs.Overlap.{Overlap, state_ahead, levels_of, last_tick_made}
 use Rattle.st_ahead.specs.Shown.{word_before_change, level_shown, view_at_tick}
 use Rattle.st_ahead.specs.declared.events.LevelView.{LevelView}
-use Rattle.st_run.specs.Events.{changed_by, level_at}
-use Rattle.st_run.specs.Telling.{Waiting, IsLevelShown, AreLevelsShown, IsRun, ahead_of}
+use Rattle.st_run.specs.Events.{level_at, Level}
+use Rattle.st_run.specs.Telling.{Waiting, AreLevelsShown, IsRun, ahead_of, level_of}
 use Rattle.st_run.specs.declared.turn.Turn.{Turn}
 use Rattle.st_run.specs.declared.turn.Turn.TheVariants as turns
 use Rattle.st_run.specs.Together.{Together, IsBeforeEntry}
@@ -105,32 +104,33 @@ word-of_index s j low = get_or-take 16 (drop 16 s.words) j 0 low ∙ get_or-drop
 
 -- so it stands in the state before the step
 changed-same : (o : Option IndexChange) (s : Machine) → Keeps (index_words s) o → IfSome o IsChange
-    → option_map (λ (i : ℕ). record { number = i; before = word_before_change o }) (option_map (λ (c : IndexChange). c.number) o) ≡ changed_by o s
+    → option_map {U = ℕ × ℕ} (λ (i : ℕ). (i, word_before_change o)) (option_map (λ (c : IndexChange). c.number) o)
+    ≡ option_map {U = ℕ × ℕ} (λ (c : IndexChange). (c.number, word s (16 + c.number))) o
 changed-same None s keeps fits = refl
 changed-same (Some c) s keeps fits =
-    ap {A = ℕ} (λ k. Some (record { number = c.number; before = k })) (keeps ∙ word-of_index s c.number fits.number)
+    let pair : ℕ → ℕ × ℕ = λ k. (c.number, k) in
+    ap {A = ℕ} (λ k. Some (pair k)) (keeps ∙ word-of_index s c.number fits.number)
 
-level-is : (tick : ℕ) (a : Ahead) → IsMachine a.state → IfSome a.table (λ i. i < 64) → IsLevelShown (level_shown tick a) (level_at tick a)
-level-is tick a m some = record {
-  address = refl;
-  changed = changed-same (plan_of a).index a.state (plan-keeps a.state a.table) (plan-prepared a.state a.table m some).change;
-  ready = refl;
-}
+level-is : (tick : ℕ) (a : Ahead) → IsMachine a.state → IfSome a.table (λ i. i < 64) → level_of (level_shown tick a) ≡ level_at tick a
+level-is tick a m some =
+    ap {A = Option (ℕ × ℕ)} (λ o. record (level_at tick a) { changed = o })
+    (changed-same (plan_of a).index a.state (plan-keeps a.state a.table) (plan-prepared a.state a.table m some).change)
 
 -- ---- all of them
 
 levels-are : (tick now : ℕ) (ds : List ℕ) (n k : ℕ) (t : Option ℕ) (s : Machine) (f : Front) → IsMachine s → IfSome t (λ i. i < 64)
-    → AllZip IsLevelShown (map (level_shown tick) (prepared_before now (ahead ds n k t s f)))
-    (map (level_at tick) (prepared_before now (ahead ds n k t s f)))
+    → map level_of (map (level_shown tick) (prepared_before now (ahead ds n k t s f)))
+    ≡ map (level_at tick) (prepared_before now (ahead ds n k t s f))
 unfolding ahead prepared_before
-levels-are tick now ds n zero t s f m some = tt
+levels-are tick now ds n zero t s f m some = refl
 levels-are tick now ds n (suc k) t s f m some =
     let a : Ahead = record { state = s; table = t; front = f; entry = entry t s; row = row_of_entry ds n f (entry t s) } in
     let next = guessed-machine (plan s t) s (plan-prepared s t m some) m in
-    of_choice (λ (xs : List Ahead). AllZip IsLevelShown (map (level_shown tick) xs) (map (level_at tick) xs)) (nat_lt a.row.p now)
-    (a ∷ prepared_before now (ahead ds n k None (guess t s) (front_after_entry ds n f (entry t s)))) []
-    (level-is tick a m some, levels-are tick now ds n k None (guess t s) (front_after_entry ds n f (entry t s)) next tt)
-    tt
+    let rest = prepared_before now (ahead ds n k None (guess t s) (front_after_entry ds n f (entry t s))) in
+    of_choice (λ (xs : List Ahead). map level_of (map (level_shown tick) xs) ≡ map (level_at tick) xs) (nat_lt a.row.p now) (a ∷ rest) []
+    (ap {A = Level} (λ l. l ∷ map level_of (map (level_shown tick) rest)) (level-is tick a m some)
+    ∙ ap {A = List Level} (λ ls. level_at tick a ∷ ls) (levels-are tick now ds n k None (guess t s) (front_after_entry ds n f (entry t s)) next tt))
+    refl
 
 room-is : (tick : ℕ) (xs : List Ahead)
     → map (λ (a : Ahead). Some (level_shown tick a)) xs ++ replicate (8 - length xs) None
@@ -144,7 +144,7 @@ unfolding state_ahead
 seen-plain o going guessed = rw (going, guessed) refl
 
 same-levels : (o : Overlap) (m : IsMachine o.state) → o.ended ≡ false → o.behind ≡ None → IfSome o.taken (λ i. i < 64)
-    → AllZip IsLevelShown (map (level_shown (last_tick_made o)) (levels_of o)) (ahead_of o)
+    → map level_of (map (level_shown (last_tick_made o)) (levels_of o)) ≡ ahead_of o
 unfolding levels_of
 same-levels o m going guessed some =
     levels-are (last_tick_made o) o.now o.delays o.levels o.levels o.taken (state_ahead o) o.front
@@ -158,7 +158,7 @@ view-before t h =
     record {
       views = map (level_shown (last_tick_made o)) (levels_of o);
       room = room-is (last_tick_made o) (levels_of o);
-      same = same-levels o h.scene.machine (ap {A = Overlap} (λ x. x.ended) h.ready.between) (ap {A = Overlap} (λ x. x.behind) h.ready.between) some;
+      same = same-levels o h.kept.scene.machine (ap {A = Overlap} (λ x. x.ended) h.ready.between) (ap {A = Overlap} (λ x. x.behind) h.ready.between) some;
     }
 
 pub view-none : (o : Overlap) → levels_of o ≡ [] → AreLevelsShown (view_at_tick o).levels (ahead_of o)
@@ -166,7 +166,7 @@ unfolding view_at_tick
 view-none o none = record {
   views = [];
   room = rw none refl;
-  same = rw none tt;
+  same = rw none refl;
 }
 
 pub view-run : (turn : Turn) (left tick : ℕ) (snaps : List ℕ) (w : Waiting) (t : Together) → IsRun turn left tick snaps w t

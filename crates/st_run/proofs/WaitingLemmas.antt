@@ -4,7 +4,7 @@ use Rattle.std.proofs.Common.{◌≡◌, ℕ, ◌<◌, ◌≤◌, false, true, l
 use Rattle.std.proofs.lemmas.List.{reverse-append}
 use Rattle.st_state.specs.Machine.{Machine}
 use Rattle.st_run.specs.Told.{Dropped, Printed, Interrupted}
-use Rattle.st_run.specs.Together.{text_told}
+use Rattle.std.specs.Option.{option_to_list}
 use Rattle.st_run.specs.Told.{what_happens}
 use Rattle.st_run.specs.Run.{interrupts_by}
 use Rattle.st_run.specs.Telling.{Waiting, whats}
@@ -17,7 +17,7 @@ pub whats-drop : (w : Waiting) (drops : List (ℕ × ℕ)) (d : ℕ × ℕ) (s :
     → whats w s ≡ Dropped d.0 d.1 ∷ whats (record w { drops = drops }) s
 unfolding whats
 whats-drop w drops d s same =
-    ap (λ xs. map (λ (e : ℕ × ℕ). Dropped e.0 e.1) xs ++ text_told w.text ++ map what_happens (interrupts_by w.taken s)) (ap reverse same ∙ reverse-push drops d)
+    ap (λ xs. map (λ (e : ℕ × ℕ). Dropped e.0 e.1) xs ++ map Printed (option_to_list w.text) ++ map what_happens (interrupts_by w.taken s)) (ap reverse same ∙ reverse-push drops d)
 
 -- then the text
 pub whats-text : (w v : Waiting) (text : List ℕ) (s : Machine) → w.drops ≡ [] → w.text ≡ Some text

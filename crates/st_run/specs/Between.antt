@@ -1,8 +1,8 @@
 -- The decision between two entries how the run goes on.
-use Rattle.std.specs.Prelude.{ℕ, ◌≡◌, ◌≢◌, Bool, true, false, ◌||◌, is_some, nat_le, List, [], ◌∷◌, Option, None, Some}
+use Rattle.std.specs.Prelude.{ℕ, ◌≡◌, ◌≢◌, Bool, true, false, ◌||◌, is_some, Option, None, Some}
+use Rattle.st_state.specs.Machine.{Machine}
 use Rattle.st_state.specs.Orders.{is_due}
 use Rattle.st_exec.specs.Step.{rests}
-use Rattle.st_card.specs.declared.control_cards.Signal.{Signal}
 use Rattle.st_ahead.specs.Overlap.{Overlap, interrupt_due}
 use Rattle.st_ahead.specs.Calls.{run_ended, machine_after_settling}
 use Rattle.st_ahead.specs.declared.events.Settled.{Settled}
@@ -11,17 +11,20 @@ use Rattle.st_run.specs.declared.turn.Turn.{Turn}
 use Rattle.st_run.specs.declared.turn.Turn.TheVariants.{Before, AtEnd, Over}
 use Rattle.st_run.specs.declared.leaving.Decided.{Decided}
 
--- the run goes on by the decision about interrupts; or its last segment ends, at rest or where no
--- more may be done
+-- a run in a state goes on, by what then holds; or its last segment ends, at rest or where no more
+-- may be done, by what holds there
+abbrev pub IsDecidedBy : Turn → ℕ → Machine → Decided → Type 0 → Type 0 → Type 0
+IsDecidedBy Before left s d going ending = (left ≢ 0) × (rests s ≡ false) × going
+IsDecidedBy (AtEnd resting) left s d going ending =
+    (resting ≡ rests s) × (resting ≡ false → left ≡ 0) × (d.ends ≡ true) × (d.taken ≡ None) × ending
+IsDecidedBy Over left s d going ending = ⊥
+
+-- the machine goes on by its decision about interrupts, or ends its last segment
 abbrev pub IsChoice : Turn → ℕ → Bool → Overlap → Decided → Overlap → Type 0
-IsChoice Before left over old d new =
-    (left ≢ 0) × (rests old.state ≡ false) × (new ≡ machine_after_settling old)
-    × (d.taken ≡ interrupt_due old)
-    × (d.ends ≡ (is_some old.behind || over || is_some (interrupt_due old)))
-IsChoice (AtEnd resting) left over old d new =
-    (resting ≡ rests old.state) × (resting ≡ false → left ≡ 0) × (d.ends ≡ true) × (d.taken ≡ None)
-    × (new ≡ run_ended old)
-IsChoice Over left over old d new = ⊥
+IsChoice turn left over old d new = IsDecidedBy turn left old.state d
+    ((new ≡ machine_after_settling old) × (d.taken ≡ interrupt_due old)
+    × (d.ends ≡ (is_some old.behind || over || is_some (interrupt_due old))))
+    (new ≡ run_ended old)
 
 -- whether the segment ends and which interrupt is taken, by the answer
 abbrev pub choice_of : Settled → Bool → Bool × Option ℕ
@@ -30,11 +33,6 @@ choice_of (answers.Missed dropped) over = (true, None)
 choice_of _ over = (over, None)
 
 -- ---- nothing of it
-
--- the first signal comes where so many are done
-abbrev pub signal_due : ℕ → List Signal → Bool
-signal_due done [] = false
-signal_due done (x ∷ xs) = nat_le x.count done
 
 -- no order is due, the machine does not wait, and the next decision ends no segment
 pub record IsQuiet (o : Overlap) : Type 0 where

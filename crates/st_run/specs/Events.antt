@@ -3,7 +3,6 @@ use Rattle.std.specs.Prelude.{ℕ, ◌+◌, Bool, nat_le, List, [], ◌∷◌, �
 use Rattle.std.specs.List.{flat_map}
 use Rattle.st_bits.specs.declared.register.TheConstants.{FIRST_INDEX_WORD, FIRST_STORAGE_WORD}
 use Rattle.st_state.specs.Machine.{Machine, word}
-use Rattle.st_prep.specs.declared.entries.IndexChange.{IndexChange}
 use Rattle.st_run.specs.Run.{PlainEvent, Executes}
 use Rattle.st_rows.specs.declared.front.EntryTicks.{EntryTicks}
 use Rattle.st_segment.specs.Ahead.{Ahead, plan_of}
@@ -11,17 +10,11 @@ use Rattle.st_segment.specs.Guesses.{split_words}
 
 -- ---- what is shown of the entries ahead
 
--- an index word that an entry changed early: its number, and what it was before the entry's own
--- step
-pub record Changed : Type 0 where
-  pub number : ℕ
-  pub before : ℕ
-
--- an entry ahead: its address, the index word that it changed, and whether all its operands are
--- there
+-- an entry ahead: its address, the number of the index word that it changed early with what that
+-- was before the entry's own step, and whether all its operands are there
 pub record Level : Type 0 where
   pub address : ℕ
-  pub changed : Option Changed
+  pub changed : Option (ℕ × ℕ)
   pub ready : Bool
 
 -- ---- events
@@ -53,16 +46,12 @@ address_ahead a = (plan_of a).place.address
 abbrev pub drop_of : Ahead → TimetableEvent
 drop_of a = Drops (address_ahead a) a.row.p
 
--- the index word that it changes early, and what that is in the state before its step
-abbrev pub changed_by : Option IndexChange → Machine → Option Changed
-changed_by change s = option_map
-    (λ c. record { number = c.number; before = word s (FIRST_INDEX_WORD + c.number) }) change
-
 -- how it is shown at a tick
 abbrev pub level_at : ℕ → Ahead → Level
 level_at tick a = record {
   address = address_ahead a;
-  changed = changed_by (plan_of a).index a.state;
+  changed =
+      option_map (λ c. (c.number, word a.state (FIRST_INDEX_WORD + c.number))) (plan_of a).index;
   ready = nat_le a.row.r tick;
 }
 

@@ -2,11 +2,12 @@
 use Rattle.std.specs.Prelude.{◌≡◌, ℕ, ◌+◌, ◌*◌, ◌<◌, ◌≤◌, true, false, List, [], length, All, Option, None, IfSome}
 use Rattle.st_state.specs.Machine.{Machine}
 use Rattle.st_prep.specs.Plan.{plan}
+use Rattle.st_exec.specs.Step.{interrupt}
 use Rattle.st_run.specs.Run.{Scene, interlude, run}
 use Rattle.st_rows.specs.Ranges.{AreDelaysUpTo}
 use Rattle.st_segment.specs.Ahead.{ahead, prepared_before}
 use Rattle.st_run.specs.Events.{Timed, Shows, snapshot, plain_run}
-use Rattle.st_run.specs.Moments.{Moment, Standing, ends_segment, standing_at, interrupt_of_moment, entries_at_moment, entries_behind, next_moment}
+use Rattle.st_run.specs.Moments.{Moment, Standing, ends_segment, standing_at, entries_at_moment, entries_behind, next_moment}
 use Rattle.st_run.specs.Order.{AreEventsInOrder, AreRising, shown_ticks, last_completion}
 use Rattle.st_run.specs.Scenes.{IsScene}
 use Rattle.st_run.specs.TimedRun.{ticks_before, timed_from, timed_run}
@@ -34,7 +35,7 @@ pub record RunsAreInTime : Type 0 where
   pub end : (ds snaps : List ℕ) (most n left : ℕ) (c : Scene) →
       AreDelaysUpTo most ds → n ≤ 8 → IsScene c →
       last_completion 0 (timed_run ds n left c snaps) ≤ 64 * (most + 4) *
-      ((run left c).last.done + 1)
+      ((run left c).scene.machine.done + 1)
 
 -- The events of a run come in the order of their ticks, where snapshots are asked for in that
 -- order.
@@ -68,12 +69,12 @@ PrintsComeOneAtATime = (c : Scene) → length (interlude c).happened ≤ 1
 pub record DroppedEntriesFollowTheGuess : Type 0 where
   pub right : (ds : List ℕ) (n k : ℕ) (p : Standing) → IsScene p.scene →
       let m = next_moment ds n p in m.missed ≡ false →
-      entries_behind ds n k p ≡ ahead ds n k None m.scene.machine m.front
+      entries_behind ds n p k ≡ ahead ds n k None m.scene.machine m.front
   pub missed : (ds : List ℕ) (n k : ℕ) (p : Standing) → IsScene p.scene →
       let m = next_moment ds n p in let h =
-      (plan p.scene.machine (interrupt_of_moment p)).following in
+      (plan p.scene.machine (interrupt p.scene.machine)).following in
       m.missed ≡ true →
-      entries_behind ds n k p ≡ ahead ds n k None (record m.scene.machine { ic = h }) m.front
+      entries_behind ds n p k ≡ ahead ds n k None (record m.scene.machine { ic = h }) m.front
 
 -- What a run starts from is kept between two entries and by each of them: states, and cards of
 -- eight words.
@@ -81,4 +82,4 @@ pub record ScenesAreKept : Type 0 where
   pub between : (m : Moment) → IsScene m.scene → IsScene (standing_at m).scene
   pub done : (ds : List ℕ) (n : ℕ) (p : Standing) → IsScene p.scene →
       IsScene (next_moment ds n p).scene
-  pub taken : (p : Standing) → IfSome (interrupt_of_moment p) (λ i. i < 64)
+  pub taken : (p : Standing) → IfSome (interrupt p.scene.machine) (λ i. i < 64)

@@ -1,26 +1,27 @@
 -- What was decided between two entries.
-use Rattle.std.specs.Prelude.{ℕ, ◌≡◌, ◌≢◌, true, false, [], None, option_map}
-use Rattle.st_exec.specs.Step.{rests}
+use Rattle.std.specs.Prelude.{ℕ, ◌≡◌, ◌+◌, false, [], None, option_map}
+use Rattle.st_exec.specs.Step.{interrupt}
 use Rattle.st_ahead.specs.Overlap.{levels_of}
 use Rattle.st_run.specs.Run.{interlude}
-use Rattle.st_run.specs.Moments.{Moment, next_scene, next_state}
-use Rattle.st_run.specs.Together.{Together, AreTexts, RunGoesOn, scene_of}
-use Rattle.st_run.specs.declared.turn.Turn.{Turn}
-use Rattle.st_run.specs.declared.turn.Turn.TheVariants.{Before, AtEnd, Over}
+use Rattle.st_run.specs.Moments.{Moment, next_scene, next_state, ends_segment, standing_at}
+use Rattle.st_run.specs.Together.{Together, AreTexts, IsBeforeEntry, scene_of, standing_of}
+use Rattle.st_run.specs.Between.{IsDecidedBy}
+use Rattle.st_run.specs.declared.turn.Turn.TheVariants.{Before}
 use Rattle.st_run.specs.declared.leaving.Decided.{Decided}
 
--- the run goes on; or it ends, at rest or where no more may be done
-abbrev pub IsWay : Turn → ℕ → Moment → Decided → Together → Type 0
-IsWay Before left m d t = (left ≢ 0) × (rests (next_state m) ≡ false) × RunGoesOn m d.ends d.taken t
-IsWay (AtEnd resting) left m d t =
-    (resting ≡ rests (next_state m)) × (resting ≡ false → left ≡ 0) × (d.ends ≡ true)
-    × (d.taken ≡ None) × (scene_of t ≡ next_scene m) × (levels_of t.machine ≡ [])
-IsWay Over left m d t = ⊥
+-- the next entry comes next
+pub record RunGoesOn (m : Moment) (d : Decided) (t : Together) : Type 0 where
+  pub before : IsBeforeEntry t
+  pub standing : standing_of m.tick t ≡ standing_at m
+  pub ends : d.ends ≡ ends_segment m
+  pub taken : d.taken ≡ interrupt (next_state m)
+  pub now : t.machine.now ≡ m.tick + 1
 
 -- what was decided is what the moment gives: the text that is printed, and how the run goes on
 pub record IsDecided (left : ℕ) (m : Moment) (d : Decided) (t : Together) : Type 0 where
   pub text : AreTexts (option_map (λ x. x.bytes) d.text) (interlude m.scene).happened
-  pub way : IsWay d.turn left m d t
+  pub way : IsDecidedBy d.turn left (next_state m) d (RunGoesOn m d t)
+      ((scene_of t ≡ next_scene m) × (levels_of t.machine ≡ []))
 
 -- where nothing comes and the segment goes on
 abbrev pub nothing_decided : Decided

@@ -1,6 +1,6 @@
 -- Where a run with its timetable stands: when an entry has just been done, and before the next one.
 -- The machine has the delays ds and n levels.
-use Rattle.std.specs.Prelude.{ℕ, Bool, false, ◌||◌, nat_lt, if◌then◌else◌, is_some, List, [], length, replicate, Option, None}
+use Rattle.std.specs.Prelude.{ℕ, Bool, false, ◌||◌, nat_lt, if◌then◌else◌, is_some, List, [], length, None}
 use Rattle.st_state.specs.Machine.{Machine}
 use Rattle.st_prep.specs.Plan.{plan}
 use Rattle.st_exec.specs.Completion.{guess, is_missed}
@@ -8,7 +8,6 @@ use Rattle.st_exec.specs.Step.{interrupt, rests}
 use Rattle.st_ahead.specs.Overlap.{idle_banks}
 use Rattle.st_run.specs.Run.{Scene, with_due_signals, with_due_orders, interlude, scene_after_step}
 use Rattle.st_banks.specs.declared.answers.LastAnswers.{LastAnswers}
-use Rattle.st_banks.specs.declared.answers.TheConstants.{BANKS}
 use Rattle.st_rows.specs.Rows.{opening_front, row_of_entry, front_after_entry}
 use Rattle.st_rows.specs.declared.entry.Entry.{Entry}
 use Rattle.st_rows.specs.declared.front.Front.{Front}
@@ -64,8 +63,7 @@ module _ (m : Moment) where
   -- with the signals and the orders that are due, the machine rests: it waits for what comes next
   abbrev pub has_waited : Bool
   has_waited =
-      rests (with_due_orders
-      (with_due_signals m.scene.machine m.scene.signals m.scene.cards)).scene.machine
+      rests (with_due_orders (with_due_signals m.scene)).scene.machine
 
   -- where the run goes on, the segment ends here if a branch was missed, a card came, the machine
   -- waited, or an interrupt is taken
@@ -87,42 +85,36 @@ module _ (m : Moment) where
 
 -- ---- the next entry
 
--- the interrupt whose table instruction it is, if it is one
-abbrev pub interrupt_of_moment : Standing → Option ℕ
-interrupt_of_moment p = interrupt p.scene.machine
-
--- the next entry, as the timetable sees it
+-- the next entry, as the timetable sees it; it may be the table instruction of an interrupt
 abbrev pub entry_of_moment : Standing → Entry
-entry_of_moment p = entry (interrupt_of_moment p) p.scene.machine
+entry_of_moment p = entry (interrupt p.scene.machine) p.scene.machine
 
-module _ (ds : List ℕ) (n : ℕ) where
+module _ (ds : List ℕ) (n : ℕ) (p : Standing) where
   -- its row
-  unfoldable pub next_row : Standing → EntryTicks
-  next_row p = row_of_entry ds n p.front (entry_of_moment p)
+  unfoldable pub next_row : EntryTicks
+  next_row = row_of_entry ds n p.front (entry_of_moment p)
 
   -- the front behind it
-  abbrev pub front_after : Standing → Front
-  front_after p = front_after_entry ds n p.front (entry_of_moment p)
+  abbrev pub front_after : Front
+  front_after = front_after_entry ds n p.front (entry_of_moment p)
 
   -- it, and the entries behind it, by guessed steps
-  abbrev pub entries_at_moment : Standing → List Ahead
-  entries_at_moment p = ahead ds n n (interrupt_of_moment p) p.scene.machine p.front
+  abbrev pub entries_at_moment : List Ahead
+  entries_at_moment = ahead ds n n (interrupt p.scene.machine) p.scene.machine p.front
 
-  -- k entries behind its guess
-  abbrev pub entries_behind : ℕ → Standing → List Ahead
-  entries_behind k p = ahead ds n k None (guess (interrupt_of_moment p) p.scene.machine)
-      (front_after p)
+  -- so many entries behind its guess
+  abbrev pub entries_behind : ℕ → List Ahead
+  entries_behind k = ahead ds n k None (guess (interrupt p.scene.machine) p.scene.machine)
+      front_after
 
   -- the moment at which it is done: of the reads those are made that are accepted before
-  unfoldable pub next_moment : Standing → Moment
-  next_moment p =
-      let tick = (next_row p).c in
-      record {
-        scene = scene_after_step p.scene;
-        tick = tick;
-        front = front_after p;
-        missed = is_missed (plan p.scene.machine (interrupt_of_moment p)) p.scene.machine;
-        dropped = prepared_before tick (entries_behind n p);
-        banks = banks_at_end ds tick (reads_to_end ds n tick (interrupt_of_moment p)
-            p.scene.machine p.front (entry_of_moment p)) p.front.bus;
-      }
+  unfoldable pub next_moment : Moment
+  next_moment = record {
+    scene = scene_after_step p.scene;
+    tick = next_row.c;
+    front = front_after;
+    missed = is_missed (plan p.scene.machine (interrupt p.scene.machine)) p.scene.machine;
+    dropped = prepared_before next_row.c (entries_behind n);
+    banks = banks_at_end ds next_row.c (reads_to_end ds n next_row.c
+        (interrupt p.scene.machine) p.scene.machine p.front (entry_of_moment p)) p.front.bus;
+  }

@@ -1,6 +1,6 @@
 -- What comes to a machine from outside between two steps, whatever the machine has beside its plain
 -- state.
-use Rattle.std.specs.Prelude.{ℕ, ◌≡◌, ◌≤◌, ◌||◌, Bool, false, nat_lt, nat_le, if◌then◌else◌, List, [], ◌∷◌, length, drop, Option, None, Some}
+use Rattle.std.specs.Prelude.{ℕ, ◌≡◌, ◌≤◌, ◌||◌, Bool, false, nat_lt, nat_le, List, [], ◌∷◌, length, Option, None, Some}
 use Rattle.std.specs.Option.{option_or}
 use Rattle.st_card.specs.declared.control_cards.Signal.{Signal}
 use Rattle.st_state.specs.Machine.{Machine}
@@ -16,24 +16,12 @@ pub record Coming : Type 0 where
 abbrev pub scene_at : Machine → Coming → Scene
 scene_at s x = record { machine = s; signals = x.signals; cards = x.cards }
 
--- the indicator of the first signal, where that is due; of any
-abbrev pub due_signal : ℕ → List Signal → Option ℕ
-due_signal done [] = None
-due_signal done (x ∷ xs) = if nat_le x.count done then Some x.indicator else None
-
-abbrev pub first_signal : List Signal → Option ℕ
-first_signal [] = None
-first_signal (x ∷ xs) = Some x.indicator
-
--- the signals that are left once one was taken, or none
-abbrev pub signals_after : Option ℕ → List Signal → List Signal
-signals_after None xs = xs
-signals_after _ xs = drop 1 xs
+-- the first signal comes where so many are done
+abbrev pub signal_due : ℕ → List Signal → Bool
+signal_due done [] = false
+signal_due done (x ∷ xs) = nat_le x.count done
 
 -- ---- what came
-
-abbrev pub nothing : Interlude
-nothing = record { card = false; waited = false; words = None }
 
 -- one thing after another
 abbrev pub joined_of : Interlude → Interlude → Interlude

@@ -4,7 +4,7 @@ use Rattle.st_state.specs.Machine.{Machine}
 use Rattle.st_run.specs.TimedRun.{timed_from}
 use Rattle.st_run.specs.Together.{moment_of}
 use Rattle.st_run.specs.Told.{Told, told_of_events}
-use Rattle.st_run.specs.Telling.{IsRun, rest_of, rest_by, rows_then, told_with, whats}
+use Rattle.st_run.specs.Telling.{IsRun, rest_of, rest_by, rows_then, state_told, ahead_of, told_as, whats}
 use Rattle.st_run.specs.declared.progress.Progress.{Progress}
 use Rattle.st_run.specs.declared.teller.Teller.{Teller}
 use Rattle.st_run.specs.declared.told.TimedRunEvent.{TimedRunEvent as ToldNext}
@@ -38,7 +38,8 @@ module _ {n : ℕ} (run : Progress n) where
 
 -- an answer, by what is shown behind it
 abbrev pub told_by : {n : ℕ} → ToldNext → Progress n → Told
-told_by t run = told_with t run.driven.machine run.printed.bytes
+told_by t run = told_as t (state_told run.driven.machine) (ahead_of run.driven.machine)
+    run.printed.bytes
 
 -- the rows that wait, and then the rest
 abbrev pub rest_with_rows : {n : ℕ} → Teller n → List Told

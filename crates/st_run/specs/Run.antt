@@ -1,5 +1,6 @@
 -- A whole run, one instruction after the other: signals and orders take effect between two of them.
-use Rattle.std.specs.Prelude.{ℕ, zero, suc, Bool, nat_le, if◌then◌else◌, slice_get, drop, List, [], ◌∷◌, ◌++◌, Option, None, Some}
+use Rattle.std.specs.Prelude.{ℕ, zero, suc, Bool, nat_le, if◌then◌else◌, slice_get, drop, List, [], ◌∷◌, ◌++◌, map, Option, None, Some}
+use Rattle.std.specs.Option.{option_to_list}
 use Rattle.st_card.specs.declared.control_cards.Signal.{Signal}
 use Rattle.st_state.specs.Machine.{Machine}
 use Rattle.st_state.specs.Interrupts.{state_with_signal}
@@ -29,20 +30,21 @@ pub record Transition : Type 0 where
   pub scene : Scene
   pub happened : List PlainEvent
 
--- the signals at the front that are due come, one after another
-abbrev pub with_due_signals : Machine → List Signal → List (List ℕ) → Scene
-with_due_signals s [] cards = record { machine = s; signals = []; cards = cards }
-with_due_signals s (x ∷ xs) cards =
-    if nat_le x.count s.done then with_due_signals (state_with_signal s x.indicator) xs cards
-    else record { machine = s; signals = x ∷ xs; cards = cards }
+-- the signals of a scene come, one after another, as long as the test holds of the next one
+abbrev pub with_signals_while : (Machine → Signal → Bool) → List Signal → Scene → Scene
+with_signals_while holds [] c = c
+with_signals_while holds (x ∷ xs) c =
+    if holds c.machine x then with_signals_while holds xs
+    (record c { machine = state_with_signal c.machine x.indicator; signals = xs })
+    else c
 
--- the next card of the reader
-abbrev pub next_card : List (List ℕ) → Option (List ℕ)
-next_card cards = slice_get cards 0
+-- those come that are due
+abbrev pub with_due_signals : Scene → Scene
+with_due_signals c = with_signals_while (λ s x. nat_le x.count s.done) c.signals c
 
--- the cards behind it
-abbrev pub cards_after : List (List ℕ) → List (List ℕ)
-cards_after cards = drop 1 cards
+-- they come as long as the machine rests
+abbrev pub with_signals_at_rest : Scene → Scene
+with_signals_at_rest c = with_signals_while (λ s x. rests s) c.signals c
 
 -- a scene where nothing happens
 abbrev pub uneventful : Scene → Transition
@@ -67,8 +69,8 @@ abbrev pub with_order : Device → Option Order → Scene → Transition
 with_order _ None c = uneventful c
 with_order Reader (Some order) c = record {
   scene = record c {
-    machine = read_in c.machine order.word (next_card c.cards);
-    cards = cards_after c.cards;
+    machine = read_in c.machine order.word (slice_get c.cards 0);
+    cards = drop 1 c.cards;
   };
   happened = [];
 }
@@ -96,39 +98,25 @@ unfoldable pub with_order_at_rest : Scene → Transition
 with_order_at_rest c = if rests c.machine then with_device (next_device c.machine) c
     else uneventful c
 
--- signals come one at a time as long as the machine rests
-abbrev pub with_signals_at_rest : Machine → List Signal → List (List ℕ) → Scene
-with_signals_at_rest s [] cards = record { machine = s; signals = []; cards = cards }
-with_signals_at_rest s (x ∷ xs) cards =
-    if rests s then with_signals_at_rest (state_with_signal s x.indicator) xs cards
-    else record { machine = s; signals = x ∷ xs; cards = cards }
-
 -- what ends a wait: orders, then signals
 unfoldable pub with_wait : Scene → Transition
 with_wait c =
     and_then (and_then (with_order_at_rest c) with_order_at_rest)
-    (λ d. uneventful (with_signals_at_rest d.machine d.signals d.cards))
+    (λ d. uneventful (with_signals_at_rest d))
 
 -- what comes between two instructions: the due signals, the due orders, and what ends a wait
 unfoldable pub interlude : Scene → Transition
-interlude c = and_then (with_due_orders (with_due_signals c.machine c.signals c.cards)) with_wait
-
--- a run to its end: what happened, and the last state
-pub record Execution : Type 0 where
-  pub happened : List PlainEvent
-  pub last : Machine
+interlude c = and_then (with_due_orders (with_due_signals c)) with_wait
 
 -- the run ends here, the machine at rest or the budget used up
-abbrev pub execution_at_end : Transition → Execution
-execution_at_end r = record {
+abbrev pub with_end : Transition → Transition
+with_end r = record r {
   happened = r.happened ++ Ends r.scene.machine (rests r.scene.machine) ∷ [];
-  last = r.scene.machine;
 }
 
 -- the interrupt that the next step takes, if it takes one
 abbrev pub interrupts_by : Option ℕ → Machine → List PlainEvent
-interrupts_by None s = []
-interrupts_by (Some i) s = Interrupts s i ∷ []
+interrupts_by i s = map (Interrupts s) (option_to_list i)
 
 -- the scene after the next step
 abbrev pub scene_after_step : Scene → Scene
@@ -139,17 +127,14 @@ abbrev pub happens : Machine → List PlainEvent
 happens s = interrupts_by (interrupt s) s ++ Executes (step s) (address s) ∷ []
 
 -- the run goes on by a step
-abbrev pub goes_on : Transition → Execution → Execution
-goes_on r rest = record {
-  happened = r.happened ++ (happens r.scene.machine ++ rest.happened);
-  last = rest.last;
-}
+abbrev pub goes_on : Transition → Transition → Transition
+goes_on r rest =
+    record rest { happened = r.happened ++ (happens r.scene.machine ++ rest.happened) }
 
--- the run from a scene on, in which so many instructions may still be done; a rest is tried before
--- the budget
-unfoldable pub run : ℕ → Scene → Execution
-run zero c = execution_at_end (interlude c)
+-- the run from a scene on to its end, in which so many instructions may still be done; a rest is
+-- tried before the budget
+unfoldable pub run : ℕ → Scene → Transition
+run zero c = with_end (interlude c)
 run (suc left) c =
     let r = interlude c in
-    if rests r.scene.machine then execution_at_end r else goes_on r
-    (run left (scene_after_step r.scene))
+    if rests r.scene.machine then with_end r else goes_on r (run left (scene_after_step r.scene))

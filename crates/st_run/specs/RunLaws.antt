@@ -10,7 +10,7 @@ use Rattle.st_run.specs.TimedRun.{timed_from, timed_run}
 -- A run does at most as many instructions as its budget, the plain one and the one with its
 -- timetable, from its start and from each moment on.
 pub record RunsKeepTheirBudget : Type 0 where
-  pub plain : (left : ℕ) (c : Scene) → (run left c).last.done ≤ c.machine.done + left
+  pub plain : (left : ℕ) (c : Scene) → (run left c).scene.machine.done ≤ c.machine.done + left
   pub whole : (ds snaps : List ℕ) (n left : ℕ) (c : Scene) →
       All (λ (x : Timed). x.done ≤ c.machine.done + left) (timed_run ds n left c snaps)
   pub from : (ds snaps : List ℕ) (n left : ℕ) (m : Moment) →

@@ -1,6 +1,6 @@
 -- What a run still has to tell, and what it shows.
-use Rattle.std.specs.Prelude.{ℕ, ◌≡◌, ◌+◌, ◌-◌, ◌<◌, ◌^◌, Bool, List, [], ◌∷◌, ◌++◌, map, reverse, replicate, length, All, Option, None, Some, option_map, IsSome, ◌≤◌, ⊤}
-use Rattle.std.specs.List.{AllZip}
+use Rattle.std.specs.Prelude.{ℕ, ◌≡◌, ◌+◌, ◌-◌, ◌<◌, ◌^◌, Bool, List, [], ◌∷◌, ◌++◌, map, reverse, replicate, length, All, Option, None, Some, option_map, IsSome, ◌≤◌}
+use Rattle.std.specs.Option.{option_to_list}
 use Rattle.st_state.specs.Machine.{Machine}
 use Rattle.st_exec.specs.Step.{rests}
 use Rattle.st_ahead.specs.Overlap.{Overlap, levels_of, last_tick_made}
@@ -13,7 +13,7 @@ use Rattle.st_run.specs.TimedRun.{ticks_before, timed_from, timed_behind}
 use Rattle.st_run.specs.Order.{AreRising}
 use Rattle.st_run.specs.Run.{interrupts_by}
 use Rattle.st_run.specs.Told.{What, what_happens, Done, Dropped, Printed, Interrupted, Shown, Ended, Told, told_of_events}
-use Rattle.st_run.specs.Together.{Together, IsBeforeEntry, IsBehindEntry, standing_of, moment_of, text_told}
+use Rattle.st_run.specs.Together.{Together, IsBeforeEntry, IsBehindEntry, standing_of, moment_of}
 use Rattle.st_run.specs.declared.told.TimedRunEvent.{TimedRunEvent as ToldNext}
 use Rattle.st_run.specs.declared.told.RunEvent.{RunEvent as WhatTold}
 use Rattle.st_run.specs.declared.told.RunEvent.TheVariants as tells
@@ -48,18 +48,11 @@ row_told row = record { done = row.number; tick = row.c; what = Done row.address
 abbrev pub rows_then : List Row → List Told → List Told
 rows_then rows rest = map row_told rows ++ rest
 
--- an entry that is done
-abbrev pub IsDone : What → Type 0
-IsDone (Done address p r c) = ⊤
-IsDone _ = ⊥
-
--- of what was to be told entries that are done are left out at the front, of which this is the last
--- one, and nothing else
-pub record AreLeftOut (last : Told) (old new : List Told) : Type 0 where
-  pub rows : List Told
-  pub are : All (λ t. IsDone t.what) rows
-  pub is : IsDone last.what
-  pub rest : old ≡ rows ++ last ∷ new
+-- of what was to be told rows are left out at the front, of which this is the last one, and nothing
+-- else
+pub record AreLeftOut (last : Row) (old new : List Told) : Type 0 where
+  pub passed : List Row
+  pub rest : old ≡ rows_then passed (row_told last ∷ new)
 
 -- ---- what is told between two entries
 
@@ -71,7 +64,7 @@ pub record Waiting : Type 0 where
 
 -- all of this in its order
 unfoldable pub whats : Waiting → Machine → List What
-whats w s = map (λ d. Dropped d.0 d.1) (reverse w.drops) ++ text_told w.text
+whats w s = map (λ d. Dropped d.0 d.1) (reverse w.drops) ++ map Printed (option_to_list w.text)
     ++ map what_happens (interrupts_by w.taken s)
 
 -- told in a state whose last entry was done at a tick
@@ -126,26 +119,24 @@ state_told m = with_index_words (lent_index_words m) m.state
 abbrev pub ahead_of : Overlap → List Level
 ahead_of m = map (level_at (last_tick_made m)) (levels_of m)
 
--- an answer, where a machine and a text are shown
-abbrev pub told_with : ToldNext → Overlap → List ℕ → Told
-told_with t m text =
-    record {
-      done = t.done;
-      tick = t.tick;
-      what = what_told t.tick (state_told m) (ahead_of m) text t.what;
-    }
+-- an answer, where this state, these levels and this text are shown
+abbrev pub told_as : ToldNext → Machine → List Level → List ℕ → Told
+told_as t s levels text =
+    record { done = t.done; tick = t.tick; what = what_told t.tick s levels text t.what }
 
--- a level as the machine shows it
-pub record IsLevelShown (v : LevelView) (level : Level) : Type 0 where
-  pub address : v.address ≡ level.address
-  pub changed : option_map (λ i. record { number = i; before = v.kept }) v.index ≡ level.changed
-  pub ready : v.ready ≡ level.ready
+-- a level, of what the machine shows of it
+abbrev pub level_of : LevelView → Level
+level_of v = record {
+  address = v.address;
+  changed = option_map (λ i. (i, v.kept)) v.index;
+  ready = v.ready;
+}
 
 -- the levels that are shown, with room for eight
 pub record AreLevelsShown (shown : List (Option LevelView)) (levels : List Level) : Type 0 where
   pub views : List LevelView
   pub room : shown ≡ map (λ v. Some v) views ++ replicate (8 - length views) None
-  pub same : AllZip IsLevelShown views levels
+  pub same : map level_of views ≡ levels
 
 -- ---- what a run keeps
 
@@ -172,12 +163,10 @@ pub record IsLeft (left : ℕ) (snaps : List ℕ) (tick : ℕ) (t : Together) : 
   pub in_time : AreInTime (told_of_events (timed_from t.machine.delays t.machine.levels left
       (moment_of t) snaps))
 
--- of what was to be told rows are left out at the front, which wait as far as there is room, and
--- then this one; when `done` were done before the first of them, and `most` at most behind this one
--- or it is the only one
+-- rows up to this one are left out, and those before it wait as far as there is room; when `done`
+-- were done before the first of them, and `most` at most behind this one or it is the only one
 pub record HasGoneFar (done most : ℕ) (row : Row) (old new : List Told) (before after : Queue)
     : Type 0 where
-  pub passed : List Row
-  pub told : old ≡ rows_then passed (row_told row ∷ new)
-  pub waits : after ≡ queue_with passed before
-  pub few : length passed ≤ most - done - 1
+  pub out : AreLeftOut row old new
+  pub waits : after ≡ queue_with out.passed before
+  pub few : length out.passed ≤ most - done - 1

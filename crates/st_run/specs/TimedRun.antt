@@ -6,7 +6,7 @@ use Rattle.st_exec.specs.Step.{rests, address, interrupt}
 use Rattle.st_run.specs.Run.{Scene, PlainEvent, Ends, interlude, interrupts_by}
 use Rattle.st_segment.specs.Ahead.{prepared_before}
 use Rattle.st_run.specs.Events.{TimetableEvent, Timed, Completes, Shows, Happens, drop_of, snapshot}
-use Rattle.st_run.specs.Moments.{Moment, Standing, moment_at_start, next_state, ends_segment, standing_at, interrupt_of_moment, next_row, entries_at_moment, next_moment}
+use Rattle.st_run.specs.Moments.{Moment, Standing, moment_at_start, next_state, ends_segment, standing_at, next_row, entries_at_moment, next_moment}
 
 -- an event by which the last entry was done at the tick, and left the state
 abbrev pub event_at : ℕ → Machine → TimetableEvent → Timed
@@ -68,7 +68,7 @@ module _ (ds : List ℕ) (n : ℕ) where
   abbrev pub snapshot_at : Standing → ℕ → Timed
   snapshot_at p tick =
       event_at p.tick p.scene.machine
-      (snapshot tick (interrupt_of_moment p) p.scene.machine
+      (snapshot tick (interrupt p.scene.machine) p.scene.machine
       (prepared_before (tick + 1) (entries_at_moment ds n p)))
 
   -- the next entry is done

@@ -1,5 +1,6 @@
 -- An overlapped machine with the signals and the reader's cards that are still to come.
-use Rattle.std.specs.Prelude.{ℕ, ◌≡◌, ◌+◌, ◌≤◌, Bool, true, false, if◌then◌else◌, is_some, List, [], ◌∷◌, map, Option, None, Some, IsSome, IfSome, ◌<◌, ◌^◌}
+use Rattle.std.specs.Prelude.{ℕ, ◌≡◌, ◌≤◌, Bool, true, false, if◌then◌else◌, is_some, List, map, Option, None, IsSome, IfSome, ◌<◌, ◌^◌}
+use Rattle.std.specs.Option.{option_to_list}
 use Rattle.st_bits.specs.declared.limits.TheConstants.{MOST_DELAY}
 use Rattle.st_card.specs.declared.control_cards.Signal.{Signal}
 use Rattle.st_prep.specs.BesideOrders.{AreAlikeBesideOrders}
@@ -8,9 +9,9 @@ use Rattle.st_run.specs.Run.{Scene, PlainEvent}
 use Rattle.st_rows.specs.Ranges.{AreDelaysUpTo}
 use Rattle.st_ahead.specs.Overlap.{Overlap, oldest_row, levels_of, machine_between_ticks}
 use Rattle.st_ahead.specs.Calls.{machine_after_segment, banks_left}
-use Rattle.st_run.specs.Moments.{Moment, Standing, next_state, ends_segment, standing_at}
+use Rattle.st_run.specs.Moments.{Moment, Standing}
 use Rattle.st_run.specs.Scenes.{IsScene}
-use Rattle.st_run.specs.Told.{What, Printed, what_happens}
+use Rattle.st_run.specs.Told.{Printed, what_happens}
 
 -- the machine, and what is still to come from outside
 pub record Together : Type 0 where
@@ -21,6 +22,13 @@ pub record Together : Type 0 where
 -- the scene of the plain run in which it stands
 abbrev pub scene_of : Together → Scene
 scene_of t = record { machine = t.machine.state; signals = t.signals; cards = t.cards }
+
+-- what it keeps: one to eight levels, delays in their range, and what each scene keeps
+pub record IsTogether (t : Together) : Type 0 where
+  pub some : 1 ≤ t.machine.levels
+  pub few : t.machine.levels ≤ 8
+  pub delays : AreDelaysUpTo MOST_DELAY t.machine.delays
+  pub scene : IsScene (scene_of t)
 
 -- ---- between two ticks, before an entry is done
 
@@ -34,10 +42,7 @@ pub record IsMachineReady (o : Overlap) : Type 0 where
 -- the tick is settled and the run goes on: no interrupt is due that is not taken, and no entry was
 -- to be done at an earlier tick
 pub record IsBeforeEntry (t : Together) : Type 0 where
-  pub some : 1 ≤ t.machine.levels
-  pub few : t.machine.levels ≤ 8
-  pub delays : AreDelaysUpTo MOST_DELAY t.machine.delays
-  pub scene : IsScene (scene_of t)
+  pub kept : IsTogether t
   pub ready : IsMachineReady t.machine
 
 -- where the run stands then, the last entry done at the tick
@@ -48,10 +53,7 @@ standing_of tick t = record { scene = scene_of t; tick = tick; front = t.machine
 
 -- a tick that is not settled, at which an entry was done
 pub record IsBehindEntry (t : Together) : Type 0 where
-  pub some : 1 ≤ t.machine.levels
-  pub few : t.machine.levels ≤ 8
-  pub delays : AreDelaysUpTo MOST_DELAY t.machine.delays
-  pub scene : IsScene (scene_of t)
+  pub kept : IsTogether t
   pub owed : t.machine.owed ≡ true
   pub going : t.machine.ended ≡ false
   pub stands : t.machine.stopped ≡ false
@@ -81,19 +83,6 @@ pub record IsSince (o : Overlap) (over : Bool) (m : Overlap) : Type 0 where
 
 -- ---- what comes between two entries is over
 
--- a text that was printed
-abbrev pub text_told : Option (List ℕ) → List What
-text_told None = []
-text_told (Some text) = Printed text ∷ []
-
--- what was printed in between
+-- what was printed in between: a text, or nothing
 abbrev pub AreTexts : Option (List ℕ) → List PlainEvent → Type 0
-AreTexts text happened = text_told text ≡ map what_happens happened
-
--- before the next entry
-pub record RunGoesOn (m : Moment) (over : Bool) (table : Option ℕ) (t : Together) : Type 0 where
-  pub before : IsBeforeEntry t
-  pub standing : standing_of m.tick t ≡ standing_at m
-  pub ends : over ≡ ends_segment m
-  pub taken : table ≡ interrupt (next_state m)
-  pub now : t.machine.now ≡ m.tick + 1
+AreTexts text happened = map Printed (option_to_list text) ≡ map what_happens happened

@@ -1,5 +1,5 @@
 -- What is told of a run, one thing after another.
-use Rattle.std.specs.Prelude.{ℕ, Bool, List, [], ◌∷◌, map}
+use Rattle.std.specs.Prelude.{ℕ, Bool, List, map}
 use Rattle.st_state.specs.Machine.{Machine}
 use Rattle.st_exch.specs.Printer.{line_of_words}
 use Rattle.st_run.specs.Run.{PlainEvent, Prints, Interrupts, Executes, Ends}

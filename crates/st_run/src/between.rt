@@ -130,11 +130,14 @@ fn serve_at_rest<M: Outside>(machine: &mut M, coming: &mut Coming) -> Interlude
 fn take_due_signals<M: Outside>(machine: &mut M, coming: &mut Coming)
     requires { M.is_open machine.old }
     ensures came { scene_at (M.state machine.new) coming.new
-        ≡ run.with_due_signals (M.state machine.old) coming.old.signals coming.old.cards }
+        ≡ run.with_due_signals (scene_at (M.state machine.old) coming.old) }
     ensures cards { coming.new.cards ≡ coming.old.cards }
     ensures rest { M.leaves false machine.old machine.new }
 {
-    'signals: while let Some(indicator) = coming.next_due_signal(done_in(machine.state())) {
+    'signals: while coming.is_due(done_in(machine.state())) {
+        let Some(indicator) = coming.next_signal() else {
+            return
+        };
         machine.signal(indicator);
     }
 }
@@ -143,7 +146,7 @@ fn take_due_signals<M: Outside>(machine: &mut M, coming: &mut Coming)
 fn take_signals_at_rest<M: Outside>(machine: &mut M, coming: &mut Coming)
     requires { M.is_open machine.old }
     ensures came { scene_at (M.state machine.new) coming.new
-        ≡ run.with_signals_at_rest (M.state machine.old) coming.old.signals coming.old.cards }
+        ≡ run.with_signals_at_rest (scene_at (M.state machine.old) coming.old) }
     ensures cards { coming.new.cards ≡ coming.old.cards }
     ensures rest { M.leaves false machine.old machine.new }
 {
@@ -195,8 +198,7 @@ pub fn between<M: Outside>(machine: &mut M, coming: &mut Coming) -> Interlude
     ensures { HasHappened M.state M.leaves
         (run.interlude (scene_at (M.state machine.old) coming.old))
         (rests (run.with_due_orders
-        (run.with_due_signals (M.state machine.old) coming.old.signals
-        coming.old.cards)).scene.machine)
+        (run.with_due_signals (scene_at (M.state machine.old) coming.old))).scene.machine)
         result machine.old coming.old machine.new coming.new }
 {
     take_due_signals(machine, coming);

@@ -1,6 +1,7 @@
 //! What is still to come to a machine from outside.
 ghost use Rattle.std.specs.Prelude.{◌≡◌};
 
+use crate::plain::is_signal_due;
 use st_card::Signal;
 use st_exch::Hopper;
 use std::marker::Model;
@@ -25,11 +26,10 @@ impl<'a> Model for Coming<'a> {
 }
 
 impl<'a> Coming<'a> {
-    ghost use Rattle.std.specs.Prelude.{◌≤◌, IfSome, is_some, length, nat_lt};
+    ghost use Rattle.std.specs.Prelude.{◌≤◌, IfSome, drop, is_some, length, nat_lt, option_map, slice_get};
     ghost use Rattle.std.specs.List.{AllPass};
     ghost use Rattle.st_card.specs.Limits.{is_signal};
-    ghost use Rattle.st_run.specs.Run.{next_card, cards_after};
-    ghost use Rattle.st_run.specs.Outside.{due_signal, first_signal, signals_after};
+    ghost use Rattle.st_run.specs.Outside.{signal_due};
 
     /// These signals and cards.
     pub fn new(signals: &'a [Signal], cards: Hopper) -> Coming<'a>
@@ -55,31 +55,18 @@ impl<'a> Coming<'a> {
         self.signals
     }
 
-    /// Takes the first signal, if it is due where so many instructions are done, and gives its
-    /// indicator.
-    pub fn next_due_signal(&mut self, done: u64) -> Option<u8>
-        ensures signal { result ≡ due_signal done self.old.signals }
-        ensures known { IfSome result (λ i. i ≤ 13) }
-        ensures left { self.new ≡ record self.old {
-          signals = signals_after (due_signal done self.old.signals) self.old.signals;
-        } }
+    /// Whether the first signal is due where so many instructions are done.
+    pub fn is_due(&self, done: u64) -> bool
+        ensures { result ≡ signal_due done self.now.signals }
     {
-        match self.signals {
-            [first, after @ ..] if first.count <= done => {
-                self.signals = after;
-                Some(first.indicator)
-            }
-            _ => None,
-        }
+        is_signal_due(self.signals, done)
     }
 
     /// Takes the first signal, and gives its indicator.
     pub fn next_signal(&mut self) -> Option<u8>
-        ensures signal { result ≡ first_signal self.old.signals }
+        ensures signal { result ≡ option_map (λ x. x.indicator) (slice_get self.old.signals 0) }
         ensures known { IfSome result (λ i. i ≤ 13) }
-        ensures left { self.new ≡ record self.old {
-          signals = signals_after (first_signal self.old.signals) self.old.signals;
-        } }
+        ensures left { self.new ≡ record self.old { signals = drop 1 self.old.signals } }
     {
         match self.signals {
             [first, after @ ..] => {
@@ -92,8 +79,8 @@ impl<'a> Coming<'a> {
 
     /// Takes the next card.
     pub fn next_card(&mut self) -> Option<[u64; 8]>
-        ensures card { result ≡ next_card self.old.cards }
-        ensures left { self.new ≡ record self.old { cards = cards_after self.old.cards } }
+        ensures card { result ≡ slice_get self.old.cards 0 }
+        ensures left { self.new ≡ record self.old { cards = drop 1 self.old.cards } }
         ensures came { is_some result ≡ nat_lt (length self.new.cards) (length self.old.cards) }
         ensures fewer { length self.new.cards ≤ length self.old.cards }
     {

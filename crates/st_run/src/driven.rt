@@ -93,7 +93,12 @@ pub(crate) fn due_signals<'a, const N: usize>(
     requires known { AllPass is_signal signals.now }
     requires turn { MaySignal machine.old }
     ensures rest { AllPass is_signal result.now }
-    ensures came { (cards : List (List ℕ)) → with_due_signals machine.old.state signals.now cards
+    ensures came { (cards : List (List ℕ)) →
+        with_due_signals (record {
+          machine = machine.old.state;
+          signals = signals.now;
+          cards = cards;
+        })
         ≡ record { machine = machine.new.state; signals = result.now; cards = cards } }
     ensures machine { machine.new ≡ record machine.old { state = machine.new.state } }
 {

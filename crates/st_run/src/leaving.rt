@@ -7,19 +7,17 @@ ghost use Rattle.st_run.specs.Events.{address_ahead};
 ghost use Rattle.st_run.specs.Together.{IsBehindEntry, moment_of};
 ghost use Rattle.st_run.specs.Outside.{ends_by};
 ghost use Rattle.st_run.specs.Leaving.{IsDecided, nothing_decided};
-ghost use Rattle.st_run.specs.Between.{IsChoice, IsQuiet, choice_of, signal_due};
+ghost use Rattle.st_run.specs.Between.{IsChoice, IsQuiet, choice_of};
 
 use crate::between::{Interlude, between};
 use crate::driven::Driven;
-use crate::plain::{printer_is_due, reader_is_due};
+use crate::plain::{done_in, printer_is_due, reader_is_due};
 use crate::turn::Turn;
 use arrayvec::{ArrayString, ArrayVec};
 use st_ahead::{Machine, Settled};
-use st_card::Signal;
 use st_exch::print_text;
 use st_exec::is_at_rest;
 use st_ring::SpecRing;
-use st_state::State;
 
 // What was decided between two entries.
 #[derive(Clone, Copy, Debug)]
@@ -131,16 +129,6 @@ pub(crate) fn leave<const N: usize>(driven: &mut Driven<N>, left: u64) -> Decide
 
 // ---- nothing of it
 
-// Whether the first of the signals comes where so many instructions are done.
-fn signal_is_due(state: &State, signals: &[Signal]) -> bool
-    ensures { result ≡ signal_due state.now.done signals.now }
-{
-    match signals {
-        [first, ..] => first.count <= state.done,
-        [] => false,
-    }
-}
-
 // Whether no order is due, the machine does not wait, and the next decision ends no segment.
 fn is_quiet<const N: usize>(machine: &Machine<N>) -> bool
     ensures { result ≡ true → IsQuiet machine.entry.now }
@@ -170,7 +158,7 @@ pub(crate) fn pass_on<const N: usize>(driven: &mut Driven<N>, left: u64) -> bool
     if left == 0 {
         return false;
     }
-    if signal_is_due(driven.machine.state(), driven.coming.signals()) {
+    if driven.coming.is_due(done_in(driven.machine.state())) {
         return false;
     }
     if !is_quiet(&driven.machine) {

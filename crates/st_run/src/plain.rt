@@ -3,8 +3,10 @@
 ghost use Rattle.std.specs.Prelude.{◌≡◌, is_none};
 ghost use Rattle.st_state.specs.Orders.{is_due as is_due_of};
 ghost use Rattle.st_run.specs.Run.{order_of};
+ghost use Rattle.st_run.specs.Outside.{signal_due};
 
 use crate::outside::Outside;
+use st_card::Signal;
 use st_state::{Device, State, is_due};
 
 impl Outside for State {
@@ -74,6 +76,16 @@ pub fn is_due_at(state: &State, device: Device) -> bool
     match device {
         Device::Reader => reader_is_due(state),
         Device::Printer => printer_is_due(state),
+    }
+}
+
+/// Whether the first of the signals is due where so many instructions are done.
+pub fn is_signal_due(signals: &[Signal], done: u64) -> bool
+    ensures { result ≡ signal_due done signals.now }
+{
+    match signals {
+        [first, ..] => first.count <= done,
+        [] => false,
     }
 }
 

@@ -1,7 +1,7 @@
 //! How far a run has come, and how it goes on.
 ghost use Rattle.std.specs.Prelude.{◌≡◌, ◌+◌, ◌-◌, ◌<◌, ◌≤◌, ◌^◌, ℕ, true, false, if◌then◌else◌, [], ◌∷◌, MatchOption, IfSome, slice_get};
 ghost use Rattle.st_ahead.specs.Overlap.{levels_of};
-ghost use Rattle.st_run.specs.Between.{signal_due};
+ghost use Rattle.st_run.specs.Outside.{signal_due};
 ghost use Rattle.st_run.specs.Telling.{told_at_end, AreLeftOut, HasGoneFar, rows_then, IsShown, IsLeft, AreInTime};
 ghost use Rattle.st_run.specs.Progress.{rest_behind, told_ahead, told_after, told_by, IsBeforeNext, IsTold, IsUnderWay};
 ghost use Rattle.st_run.specs.declared.told.RunEvent.TheVariants as tells;
@@ -68,22 +68,19 @@ pub(crate) fn tell_next<const N: usize>(
 pub(crate) fn pass_entries<const N: usize>(
     run: &mut Progress<N>,
     rows: &mut RowQueue,
-) -> Option<TimedRunEvent>
+) -> Option<Row>
     requires run { IsUnderWay run.old }
     requires shut { rows.old.room ≡ 0 }
     ensures rows { rows.new ≡ rows.old }
     ensures kept { IsUnderWay run.new }
     ensures told { MatchOption result (rest_behind run.new ≡ rest_behind run.old)
-        (λ t. AreLeftOut (told_by t run.new) (rest_behind run.old) (rest_behind run.new)) }
+        (λ row. AreLeftOut row (rest_behind run.old) (rest_behind run.new)) }
 {
     if !may_go_far(run) {
         return None;
     }
     let done = done_of(&run.driven);
-    let Some(row) = go_far(run, done, MOST, rows) else {
-        return None;
-    };
-    Some(told_of(row))
+    go_far(run, done, MOST, rows)
 }
 
 // Where nothing else is told next, entries are done, as long as nothing else comes between them,

@@ -7,7 +7,7 @@ ghost use Rattle.st_card.specs.Limits.{is_signal};
 ghost use Rattle.st_refine.specs.Reached.{IsCard};
 ghost use Rattle.st_run.specs.Told.{told_of_events as told_events};
 ghost use Rattle.st_run.specs.TimedRun.{timed_run};
-ghost use Rattle.st_run.specs.Telling.{what_told, row_told, AreLeftOut, AreLevelsShown};
+ghost use Rattle.st_run.specs.Telling.{told_as, row_told, AreLeftOut, AreLevelsShown};
 
 use crate::coming::Coming;
 use crate::driven::{Driven, due_signals, view_of};
@@ -73,7 +73,7 @@ impl<'a, const N: usize> Run<'a, N> {
     ghost use Rattle.st_refine.specs.Reached.{IsCard};
     ghost use Rattle.st_run.specs.Told.{told_of_events as told_events};
     ghost use Rattle.st_run.specs.TimedRun.{timed_run};
-    ghost use Rattle.st_run.specs.Telling.{what_told, row_told, AreLeftOut, AreLevelsShown};
+    ghost use Rattle.st_run.specs.Telling.{told_as, row_told, AreLeftOut, AreLevelsShown};
     ghost use Rattle.st_run.specs.Protocol.{ShowsLed, IsViewOfLed};
 
     /// A run from a state that nothing has happened in, with the reader's cards that come to it,
@@ -130,24 +130,18 @@ impl<'a, const N: usize> Run<'a, N> {
 
     /// The next thing that is told; `None` exactly where all is told.
     pub fn next(&mut self) -> Option<TimedRunEvent>
-        ensures { MatchOption result (self.old.rest ≡ []) (λ t. self.old.rest ≡ record {
-          done = t.done;
-          tick = t.tick;
-          what = what_told t.tick self.new.seen self.new.ahead self.new.text t.what;
-        } ∷ self.new.rest) }
+        ensures { MatchOption result (self.old.rest ≡ []) (λ t. self.old.rest
+            ≡ told_as t self.new.seen self.new.ahead self.new.text ∷ self.new.rest) }
     {
         next_of(&mut self.teller)
     }
 
     /// Passes over entries that are done, as so many calls of `next` would tell them, as long as
-    /// nothing else comes between them. The last of them is the result; there is none where
+    /// nothing else comes between them. The row of the last one is the result; there is none where
     /// something else is told next, or may be, as long as snapshots are to come.
-    pub fn pass_entries(&mut self) -> Option<TimedRunEvent>
-        ensures { MatchOption result (self.new.rest ≡ self.old.rest) (λ t. AreLeftOut (record {
-          done = t.done;
-          tick = t.tick;
-          what = what_told t.tick self.new.seen self.new.ahead self.new.text t.what;
-        }) self.old.rest self.new.rest) }
+    pub fn pass_entries(&mut self) -> Option<Row>
+        ensures { MatchOption result (self.new.rest ≡ self.old.rest)
+            (λ row. AreLeftOut row self.old.rest self.new.rest) }
     {
         pass_over(&mut self.teller)
     }

@@ -62,14 +62,13 @@ pub(crate) fn next_row_of<const N: usize>(teller: &mut Teller<N>) -> Option<Row>
 }
 
 // Passes over entries that are done, where no row waits.
-pub(crate) fn pass_over<const N: usize>(teller: &mut Teller<N>) -> Option<TimedRunEvent>
+pub(crate) fn pass_over<const N: usize>(teller: &mut Teller<N>) -> Option<Row>
     requires run { IsUnderWay teller.old.progress }
     requires shut { teller.old.rows.room ≡ 0 }
     ensures kept { IsUnderWay teller.new.progress }
     ensures shut { teller.new.rows.room ≡ 0 }
     ensures told { MatchOption result (rest_with_rows teller.new ≡ rest_with_rows teller.old)
-        (λ t. AreLeftOut (told_by t teller.new.progress)
-        (rest_with_rows teller.old) (rest_with_rows teller.new)) }
+        (λ row. AreLeftOut row (rest_with_rows teller.old) (rest_with_rows teller.new)) }
 {
     if !teller.rows.is_empty() {
         return None;

@@ -125,7 +125,7 @@ hazard_free-entry earlier s h =
 pub record IsQuiet (c : Scene) : Type 0 where
   pub no_card : nat_lt (length (interlude c).scene.cards) (length c.cards) ≡ false
   pub no_wait : rests (interlude c).scene.machine ≡ false
-      → rests (with_due_orders (with_due_signals c.machine c.signals c.cards)).scene.machine ≡ false
+      → rests (with_due_orders (with_due_signals c)).scene.machine ≡ false
 
 awake : (after before : Bool) → (after || not before) ≡ true → after ≡ false → before ≡ false
 awake true before h going = absurd (cc)

@@ -43,7 +43,7 @@ pub record IsSoFar (whole : Bool) (last : ℕ) (so : Bool) (left : ℕ) (s : Mac
   pub earlier : List WordRuns
   pub marks : AreMarks earlier written
   pub hazard_free : (so && is_hazard_free_behind earlier left (without_cards s xs)) ≡ whole
-  pub done : (run left (without_cards s xs)).last.done ≡ last
+  pub done : (run left (without_cards s xs)).scene.machine.done ≡ last
   pub few : s.done + left ≤ MOST_INSTRUCTIONS
 
 -- at its end
@@ -58,9 +58,9 @@ hazard_free-ends earlier (suc left) c (inr resting) = rw resting (and-right (is_
     and-right true = refl
     and-right false = refl
 
-done-ends : (left : ℕ) (c : Scene) → (left ≡ 0) ⊎ (rests (interlude c).scene.machine ≡ true) → (run left c).last.done ≡ (interlude c).scene.machine.done
-done-ends left c (inl none) = ap (λ r. r.last.done) (run-budget left c none)
-done-ends left c (inr resting) = ap (λ r. r.last.done) (run-rests left c resting)
+done-ends : (left : ℕ) (c : Scene) → (left ≡ 0) ⊎ (rests (interlude c).scene.machine ≡ true) → (run left c).scene.machine.done ≡ (interlude c).scene.machine.done
+done-ends left c (inl none) = ap (λ r. r.scene.machine.done) (run-budget left c none)
+done-ends left c (inr resting) = ap (λ r. r.scene.machine.done) (run-rests left c resting)
 
 -- it goes on by an entry
 abbrev hazard_free_on : List WordRuns → ℕ → Scene → Bool
@@ -125,9 +125,9 @@ module _ (whole : Bool) (last : ℕ) (hazard_free quiet : Bool) (left : ℕ) (s 
               ∙ ap (λ b. hazard_free && b) (sym (hazard_free-goes_on e left c some goes_on))
               ∙ is.hazard_free;
           done =
-              ap (λ m. (run (left - 1) (without_cards m ys)).last.done) made
-              ∙ ap (λ d. (run (left - 1) (scene_after_step d)).last.done) (sym came)
-              ∙ sym (ap (λ r. r.last.done) (run-goes_on left c some goes_on))
+              ap (λ m. (run (left - 1) (without_cards m ys)).scene.machine.done) made
+              ∙ ap (λ d. (run (left - 1) (scene_after_step d)).scene.machine.done) (sym came)
+              ∙ sym (ap (λ r. r.scene.machine.done) (run-goes_on left c some goes_on))
               ∙ is.done;
           few =
               let one : u.done ≡ t.done + 1 = ap (λ m. m.done) made ∙ step-done t in

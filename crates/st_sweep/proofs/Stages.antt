@@ -24,10 +24,10 @@ module _ (s t : Machine) (xs ys : List Signal) (x y : Coming) (is : x ≡ record
       ∙ ap (without_cards t) (sym left)
 
   pub settled-quiet : (waited : Bool)
-      → waited ≡ rests (with_due_orders (with_due_signals s x.signals x.cards)).scene.machine
+      → waited ≡ rests (with_due_orders (with_due_signals (scene_at s x))).scene.machine
       → is_quiet (without_cards s xs) ≡ (rests t || not waited)
   unfolding is_quiet
   settled-quiet waited wait =
-      ap (λ (after : Scene). not (nat_lt (length after.cards) 0) && (rests after.machine || not (rests (with_due_orders (with_due_signals s xs [])).scene.machine))) settled-scene
+      ap (λ (after : Scene). not (nat_lt (length after.cards) 0) && (rests after.machine || not (rests (with_due_orders (with_due_signals (without_cards s xs))).scene.machine))) settled-scene
       ∙ ap (λ (b : Bool). rests t || not b)
-      (sym (subst (λ (z : Coming). waited ≡ rests (with_due_orders (with_due_signals s z.signals z.cards)).scene.machine) is wait))
+      (sym (subst (λ (z : Coming). waited ≡ rests (with_due_orders (with_due_signals (scene_at s z))).scene.machine) is wait))

@@ -1,14 +1,15 @@
 -- The last tick that is told.
 use Rattle.st_card.specs.declared.control_cards.Signal.{Signal}
-use Rattle.std.proofs.Common.{◌≡◌, ℕ, ◌<◌, List, [], ◌∷◌, ◌++◌, length, refl, sym, subst, ◌∙◌, ap, arith}
+use Rattle.std.proofs.Common.{◌≡◌, ℕ, ◌<◌, List, [], ◌∷◌, ◌++◌, length, refl, ◌∙◌, ap, arith}
 use Rattle.st_state.specs.Machine.{Machine}
 use Rattle.st_run.specs.Events.{Timed}
 use Rattle.st_run.specs.Order.{last_completion}
 use Rattle.st_run.specs.TimedRun.{timed_run}
 use Rattle.st_run.specs.Told.{Told, told_of_events}
-use Rattle.st_run.specs.Telling.{AreLeftOut}
+use Rattle.st_run.specs.Telling.{AreLeftOut, row_told}
 use Rattle.st_sweep.specs.Starts.{last_told}
 use Rattle.st_sweep.specs.Sweep.{without_cards, ticks}
+use Rattle.std.specs.Prelude.{map}
 
 pub told-last : (t : ℕ) (xs : List Timed) → last_told t (told_of_events xs) ≡ last_completion t xs
 unfolding last_told told_of_events last_completion
@@ -29,8 +30,8 @@ unfolding last_told
 rows-last [] new last t = refl
 rows-last (x ∷ rows) new last t = rows-last rows new last x.tick
 
-pub last_told-left_out : (last : Told) (old new : List Told) → AreLeftOut last old new → (t : ℕ) → last_told t old ≡ last_told last.tick new
-last_told-left_out last old new is t = ap (last_told t) is.rest ∙ rows-last is.rows new last t
+pub last_told-left_out : (last : _) (old new : List Told) → AreLeftOut last old new → (t : ℕ) → last_told t old ≡ last_told (row_told last).tick new
+last_told-left_out last old new is t = ap (last_told t) is.rest ∙ rows-last (map row_told is.passed) new (row_told last) t
 
 rows-fewer : (rows new : List Told) (last : Told) → length new < length (rows ++ last ∷ new)
 rows-fewer [] new last = omega arith

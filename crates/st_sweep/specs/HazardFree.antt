@@ -67,7 +67,7 @@ is_quiet c =
     let after = (interlude c).scene in
     not (nat_lt (length after.cards) (length c.cards))
     && (rests after.machine
-    || not (rests (with_due_orders (with_due_signals c.machine c.signals c.cards)).scene.machine))
+    || not (rests (with_due_orders (with_due_signals c)).scene.machine))
 
 -- ---- the run
 

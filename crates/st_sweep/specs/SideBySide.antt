@@ -12,7 +12,7 @@ use Rattle.st_sweep.specs.declared.sweeping.Swept.{Swept}
 abbrev pub side_by_side : List ℕ → ℕ → Scene → Swept
 side_by_side ds left c = record {
   ticks = map (λ n. ticks ds n left c) (1 ∷ 2 ∷ 3 ∷ 4 ∷ 5 ∷ 6 ∷ 7 ∷ 8 ∷ []);
-  done = (run left c).last.done;
+  done = (run left c).scene.machine.done;
   hazard_free = is_hazard_free ds left c;
 }
 

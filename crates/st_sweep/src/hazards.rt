@@ -100,7 +100,8 @@ pub(crate) fn run_plain(
     requires signals { AllPass is_signal signals.now }
     requires written { AreMarks [] written.old }
     requires few { state.old.done + budget ≤ MOST_INSTRUCTIONS }
-    ensures done { result.done ≡ (run budget (without_cards state.old signals.now)).last.done }
+    ensures done { result.done
+        ≡ (run budget (without_cards state.old signals.now)).scene.machine.done }
     ensures hazard_free { result.hazard_free ≡ is_hazard_free_behind [] budget
         (without_cards state.old signals.now) }
 {

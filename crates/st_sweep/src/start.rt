@@ -60,8 +60,8 @@ fn next_tick<const N: usize>(run: &mut Run<'_, N>) -> Option<u64>
         (λ tick. (t : ℕ) → last_told t run.old.rest ≡ last_told tick run.new.rest) }
     ensures fewer { IfSome result (λ tick. length run.new.rest < length run.old.rest) }
 {
-    if let Some(told) = run.pass_entries() {
-        return Some(told.tick);
+    if let Some(row) = run.pass_entries() {
+        return Some(row.c);
     }
     match run.next() {
         Some(told) => Some(told.tick),

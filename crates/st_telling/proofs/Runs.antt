@@ -1,7 +1,6 @@
 -- Writing the report of a run: what is told, one thing after another, and the lines before and behind it.
 use Rattle.std.proofs.Common.{◌≡◌, ℕ, ◌≤◌, false, length, List, [], ◌∷◌, ◌++◌, arith, refl, sym, ◌∙◌, ap, subst}
-use Rattle.std.specs.Prelude.{All, Result, Ok, Err, IsErr}
-use Rattle.std.proofs.lemmas.List.Elements.{All-head, All-tail}
+use Rattle.std.specs.Prelude.{map, Result, Ok, Err, IsErr}
 use Rattle.st_card.specs.Controls.{Asked}
 use Rattle.st_io.specs.Output.{OutputState}
 use Rattle.st_io.specs.declared.Failed.{Failed}
@@ -9,9 +8,9 @@ use Rattle.st_io.specs.Lines.{WritesLines}
 use Rattle.st_io.specs.Event.{Event, at_moment, StoppedAt}
 use Rattle.st_io.proofs.Writing.{wrote_at_moment, stopped_at_moment, wrote_events, events_before, events_after}
 use Rattle.st_io.proofs.Progress.{EventsSoFar, events_none, events_more, events_stopped, events_whole}
-use Rattle.st_run.specs.Told.{What, Done, Dropped, Printed, Interrupted, Shown, Ended, Told}
+use Rattle.st_run.specs.Told.{Told}
 use Rattle.st_ahead.specs.declared.events.Row.{Row}
-use Rattle.st_run.specs.Telling.{row_told, IsDone, AreLeftOut}
+use Rattle.st_run.specs.Telling.{row_told, rows_then, AreLeftOut}
 use Rattle.st_telling.specs.Report.{report, lines_at, lines_told, done_lines}
 use Rattle.st_telling.specs.Running.{WritesEvents, WritesNothing, moment_told, last_moment}
 use Rattle.st_telling.specs.declared.moment.Moment.{Moment}
@@ -34,27 +33,18 @@ told_skips s t asked m now n all rest more skips h = record {
   last = sym skips.last ∙ h.last;
 }
 
-row-lines : (asked : Asked) (done tick : ℕ) (what : What) → asked.trace ≡ false → asked.chart ≡ false → IsDone what
-    → lines_at asked done tick what ≡ []
-row-lines asked done tick (Done address p r c) trace chart is = rw (trace, chart) refl
-row-lines asked done tick (Dropped address p) trace chart is = absurd is
-row-lines asked done tick (Printed text) trace chart is = absurd is
-row-lines asked done tick (Interrupted i s) trace chart is = absurd is
-row-lines asked done tick (Shown at s levels) trace chart is = absurd is
-row-lines asked done tick (Ended rests s) trace chart is = absurd is
+row-lines : (asked : Asked) (row : Row) → asked.trace ≡ false → asked.chart ≡ false → lines_at asked row.number row.c (row_told row).what ≡ []
+row-lines asked row trace chart = rw (trace, chart) refl
 
-row-report : (asked : Asked) (x : Told) (xs : List Told) → asked.trace ≡ false → asked.chart ≡ false → IsDone x.what
-    → report asked (x ∷ xs) ≡ report asked xs
+row-report : (asked : Asked) (row : Row) (xs : List Told) → asked.trace ≡ false → asked.chart ≡ false
+    → report asked (row_told row ∷ xs) ≡ report asked xs
 unfolding report
-row-report asked x xs trace chart is =
-    ap (λ lines. at_moment x.done x.tick lines ++ report asked xs) (row-lines asked x.done x.tick x.what trace chart is)
+row-report asked row xs trace chart = ap (λ lines. at_moment row.number row.c lines ++ report asked xs) (row-lines asked row trace chart)
 
-rows-report : (asked : Asked) (rows new : List Told) → asked.trace ≡ false → asked.chart ≡ false → All (λ x. IsDone x.what) rows
-    → report asked (rows ++ new) ≡ report asked new
-rows-report asked [] new trace chart are = refl
-rows-report asked (x ∷ rows) new trace chart are =
-    row-report asked x (rows ++ new) trace chart (All-head (λ (y : Told). IsDone y.what) x rows are)
-    ∙ rows-report asked rows new trace chart (All-tail (λ (y : Told). IsDone y.what) x rows are)
+rows-report : (asked : Asked) (rows : List Row) (new : List Told) → asked.trace ≡ false → asked.chart ≡ false
+    → report asked (rows_then rows new) ≡ report asked new
+rows-report asked [] new trace chart = refl
+rows-report asked (x ∷ rows) new trace chart = row-report asked x (rows_then rows new) trace chart ∙ rows-report asked rows new trace chart
 
 rows-moment : (m : Moment) (rows new : List Told) (last : Told) → last_moment m (rows ++ last ∷ new) ≡ last_moment (moment_told last) new
 unfolding last_moment
@@ -66,13 +56,13 @@ rows-fewer [] new last = omega arith
 rows-fewer (x ∷ rows) new last = let fewer = rows-fewer rows new last in omega (arith, fewer)
 
 -- rows that are only counted
-pub counted_skips : (asked : Asked) (m n : Moment) (last : Told) (old new : List Told) → asked.trace ≡ false → asked.chart ≡ false
-    → AreLeftOut last old new → n ≡ moment_told last → WritesNothing asked m old n new
+pub counted_skips : (asked : Asked) (m n : Moment) (last : Row) (old new : List Told) → asked.trace ≡ false → asked.chart ≡ false
+    → AreLeftOut last old new → n ≡ moment_told (row_told last) → WritesNothing asked m old n new
 counted_skips asked m n last old new trace chart is same = record {
   lines =
-      ap (report asked) is.rest ∙ rows-report asked is.rows (last ∷ new) trace chart is.are ∙ row-report asked last new trace chart is.is;
-  last = ap (last_moment m) is.rest ∙ rows-moment m is.rows new last ∙ ap (λ (k : Moment). last_moment k new) (sym same);
-  fewer = subst (λ xs. length new ≤ length xs) (sym is.rest) (rows-fewer is.rows new last);
+      ap (report asked) is.rest ∙ rows-report asked is.passed (row_told last ∷ new) trace chart ∙ row-report asked last new trace chart;
+  last = ap (last_moment m) is.rest ∙ rows-moment m (map row_told is.passed) new (row_told last) ∙ ap (λ (k : Moment). last_moment k new) (sym same);
+  fewer = subst (λ xs. length new ≤ length xs) (sym is.rest) (rows-fewer (map row_told is.passed) new (row_told last));
 }
 
 pub none_skips : (asked : Asked) (m : Moment) (old new : List Told) → new ≡ old → WritesNothing asked m old m new

@@ -1,36 +1,19 @@
 -- The lines of a snapshot, from the levels that the machine shows.
 use Rattle.std.proofs.Common.{◌≡◌, ℕ, zero, suc, ◌-◌, List, [], ◌∷◌, ◌++◌, length, refl, sym, ◌∙◌, ap, subst}
-use Rattle.std.specs.Prelude.{Option, None, Some, option_map, map, replicate, Result, Ok, Err, IsErr}
-use Rattle.std.specs.List.{AllZip}
+use Rattle.std.specs.Prelude.{Option, None, Some, map, replicate, Result, Ok, Err, IsErr}
 use Rattle.st_io.specs.Output.{OutputState}
 use Rattle.st_io.specs.declared.Failed.{Failed}
 use Rattle.st_card.specs.Controls.{Asked}
 use Rattle.st_state.specs.Machine.{Machine}
 use Rattle.st_io.specs.Lines.{WritesLines}
 use Rattle.st_io.proofs.Progress.{lines_then, lines_cut}
-use Rattle.st_report.specs.Line.{lev_line, snap_line}
+use Rattle.st_report.specs.Line.{snap_line}
 use Rattle.st_ahead.specs.declared.events.LevelView.{LevelView}
-use Rattle.st_time.specs.Shown.{levels_standing, change_shown}
-use Rattle.st_run.specs.Events.{Changed, Level}
-use Rattle.st_run.specs.Telling.{IsLevelShown, AreLevelsShown}
+use Rattle.st_time.specs.Shown.{levels_standing}
+use Rattle.st_run.specs.Events.{Level}
+use Rattle.st_run.specs.Telling.{level_of, AreLevelsShown}
 use Rattle.st_telling.specs.Report.{block, level_line, snapshot_lines}
 use Rattle.st_telling.specs.Running.{views_lines}
-
--- an index word that is changed early, as a line shows it
-shown_change : Option Changed → Option (ℕ × ℕ)
-shown_change changed = option_map (λ change. (change.number, change.before)) changed
-
-change_is : (index : Option ℕ) (kept : ℕ) → option_map (λ number. (number, kept)) index ≡ shown_change (option_map (λ i. record { number = i; before = kept }) index)
-unfolding shown_change
-change_is None kept = refl
-change_is (Some number) kept = refl
-
-line_is : (v : LevelView) (level : Level) → IsLevelShown v level → lev_line v.address (change_shown v) v.ready ≡ level_line level
-unfolding shown_change
-line_is v level is =
-    ap (λ a. lev_line a (change_shown v) v.ready) is.address
-    ∙ (ap (λ c. lev_line level.address c v.ready) (change_is v.index v.kept ∙ ap shown_change is.changed)
-    ∙ ap (λ r. lev_line level.address (shown_change level.changed) r) is.ready)
 
 slots : List LevelView → ℕ → List (Option LevelView)
 slots views k = map (λ v. Some v) views ++ replicate k None
@@ -45,20 +28,15 @@ unfolding views_lines
 none-lines zero = refl
 none-lines (suc k) = refl
 
-levels-standing : (views : List LevelView) (levels : List Level) (k : ℕ) → AllZip IsLevelShown views levels → levels_standing (slots views k) ≡ length levels
+levels-standing : (views : List LevelView) (k : ℕ) → levels_standing (slots views k) ≡ length (map level_of views)
 unfolding slots levels_standing
-levels-standing [] [] k all = none-standing k
-levels-standing [] (l ∷ ls) k all = absurd all
-levels-standing (v ∷ vs) [] k all = absurd all
-levels-standing (v ∷ vs) (l ∷ ls) k all = ap suc (levels-standing vs ls k all.1)
+levels-standing [] k = none-standing k
+levels-standing (v ∷ vs) k = ap suc (levels-standing vs k)
 
-levels-lines : (views : List LevelView) (levels : List Level) (k : ℕ) → AllZip IsLevelShown views levels → views_lines (slots views k) ≡ map level_line levels
+levels-lines : (views : List LevelView) (k : ℕ) → views_lines (slots views k) ≡ map level_line (map level_of views)
 unfolding slots views_lines
-levels-lines [] [] k all = none-lines k
-levels-lines [] (l ∷ ls) k all = absurd all
-levels-lines (v ∷ vs) [] k all = absurd all
-levels-lines (v ∷ vs) (l ∷ ls) k all =
-    ap (λ x. x ∷ views_lines (slots vs k)) (line_is v l all.0) ∙ ap (λ xs. level_line l ∷ xs) (levels-lines vs ls k all.1)
+levels-lines [] k = none-lines k
+levels-lines (v ∷ vs) k = ap (λ xs. level_line (level_of v) ∷ xs) (levels-lines vs k)
 
 -- lines of a snapshot as they are written
 abbrev pub lines_of_views : Asked → ℕ → ℕ → Machine → List (Option LevelView) → List (List ℕ)
@@ -68,8 +46,8 @@ pub views_are : (asked : Asked) (done at : ℕ) (s : Machine) (shown : List (Opt
 unfolding slots
 views_are asked done at s shown levels are =
     let k = 8 - length are.views in
-    let count : levels_standing shown ≡ length levels = ap levels_standing are.room ∙ levels-standing are.views levels k are.same in
-    let lines : views_lines shown ≡ map level_line levels = ap views_lines are.room ∙ levels-lines are.views levels k are.same in
+    let count : levels_standing shown ≡ length levels = ap levels_standing are.room ∙ levels-standing are.views k ∙ ap length are.same in
+    let lines : views_lines shown ≡ map level_line levels = ap views_lines are.room ∙ levels-lines are.views k ∙ ap (map level_line) are.same in
     ap (λ n. (snap_line at done n ∷ []) ++ (block asked.dumps s ++ views_lines shown)) count
     ∙ ap (λ ls. (snap_line at done (length levels) ∷ []) ++ (block asked.dumps s ++ ls)) lines
 

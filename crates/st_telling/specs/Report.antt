@@ -1,6 +1,6 @@
 -- The report of a run: its lines, each with the number of instructions done and the tick of the
 -- last completion when it is written.
-use Rattle.std.specs.Prelude.{ℕ, ◌+◌, ◌-◌, ◌==◌, Bool, if◌then◌else◌, List, [], ◌∷◌, ◌++◌, length, map, option_map}
+use Rattle.std.specs.Prelude.{ℕ, ◌+◌, ◌-◌, ◌==◌, Bool, if◌then◌else◌, List, [], ◌∷◌, ◌++◌, length, map}
 use Rattle.st_card.specs.Controls.{Asked}
 use Rattle.st_state.specs.Machine.{Machine, word}
 use Rattle.st_io.specs.Lines.{lines_for}
@@ -52,9 +52,7 @@ interrupt_lines asked done tick i s =
 
 -- an entry ahead
 abbrev pub level_line : Level → List ℕ
-level_line level =
-    lev_line level.address
-    (option_map (λ change. (change.number, change.before)) level.changed) level.ready
+level_line level = lev_line level.address level.changed level.ready
 
 -- a snapshot: the state, and the entries ahead of it, the oldest first
 abbrev pub snapshot_lines : Asked → ℕ → ℕ → Machine → List Level → List (List ℕ)

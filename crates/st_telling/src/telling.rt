@@ -6,7 +6,7 @@ ghost use Rattle.st_io.specs.Lines.{WritesLines};
 ghost use Rattle.st_report.specs.Line.{trc_line, row_line, drop_line, prt_line, int_line, time_line, snap_line as snap_line_of, lev_line, end_line, done_line, ticks_line};
 ghost use Rattle.st_time.specs.Shown.{levels_standing, change_shown};
 ghost use Rattle.st_run.specs.Events.{Level};
-ghost use Rattle.st_run.specs.Telling.{AreLevelsShown, row_told, what_told};
+ghost use Rattle.st_run.specs.Telling.{AreLevelsShown, row_told, told_as};
 ghost use Rattle.st_telling.specs.Report.{block, line_if, done_lines, interrupt_lines, snapshot_lines, end_lines, lines_told, report};
 ghost use Rattle.st_telling.specs.Running.{WritesEvents, WritesNothing, last_moment, views_lines};
 
@@ -324,11 +324,7 @@ fn write_told<K: Sink, const N: usize>(
 ) -> Result<(), Failed>
     requires { AllPass is_part controls.now.dumps }
     ensures { WritesLines (K.output out.old) (K.output out.new)
-        (lines_told controls.now (record {
-          done = told.done;
-          tick = told.tick;
-          what = what_told told.tick run.now.seen run.now.ahead run.now.text told.what;
-        })) result }
+        (lines_told controls.now (told_as told run.now.seen run.now.ahead run.now.text)) result }
 {
     let TimedRunEvent { done, tick, what } = told;
     let moment = Moment { done, tick };
@@ -370,8 +366,8 @@ fn pass_counted<const N: usize>(run: &mut Run<'_, N>, moment: &mut Moment, contr
     if is_charted(controls) {
         return;
     }
-    if let Some(told) = run.pass_entries() {
-        *moment = moment_of(&told);
+    if let Some(row) = run.pass_entries() {
+        *moment = moment_at(&row);
     }
 }
 
@@ -394,11 +390,8 @@ fn next_told<const N: usize>(
     controls: &Controls,
 ) -> Option<TimedRunEvent>
     ensures { MatchOption result (WritesNothing controls.now moment.old run.old.rest moment.new [])
-        (λ t. WritesNothing controls.now moment.old run.old.rest moment.new (record {
-          done = t.done;
-          tick = t.tick;
-          what = what_told t.tick run.new.seen run.new.ahead run.new.text t.what;
-        } ∷ run.new.rest)) }
+        (λ t. WritesNothing controls.now moment.old run.old.rest moment.new
+        (told_as t run.new.seen run.new.ahead run.new.text ∷ run.new.rest)) }
 {
     pass_counted(run, moment, controls);
     run.next()

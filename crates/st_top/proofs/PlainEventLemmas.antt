@@ -174,7 +174,7 @@ rest-prints c =
 settled-prints : (c : Scene) → ArePrints (interlude c).happened
 unfolding interlude with_wait ArePrints
 settled-prints c =
-    let d = with_due_signals c.machine c.signals c.cards in
+    let d = with_due_signals c in
     let e = (with_due_orders d).scene in
     let f = (with_order_at_rest e).scene in
     let first = (with_order_at_rest e).happened in

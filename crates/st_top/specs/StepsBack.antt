@@ -32,7 +32,7 @@ events_of_run asked start = timed_run asked.delays LEVELS asked.budget start ask
 
 -- the last state of a run
 abbrev pub last_state : Asked → Scene → Machine
-last_state asked start = (run asked.budget start).last
+last_state asked start = (run asked.budget start).scene.machine
 
 -- its end: how many instructions are done, and the tick of the last completion
 unfoldable pub moment_at_end : Asked → Scene → Moment

@@ -1,5 +1,5 @@
 use Rattle.std.proofs.Common.{false}
-use Rattle.st_run.specs.Run.{with_wait, with_order_at_rest, with_signals_at_rest, Scene}
+use Rattle.st_run.specs.Run.{with_wait, with_order_at_rest, with_signals_at_rest}
 use Rattle.st_run.proofs.OutsideLemmas.{came-then, came-signals}
 use Rattle.st_run.proofs.between.end_wait.Goals as goal
 
@@ -11,5 +11,5 @@ returns g c =
     let both = g.met.M.Outside.leaves_both in
     let orders = came-then s l both _ with_order_at_rest false false _ _ _ _ _ _ _ _ c.serve_at_rest-first.ensures
     c.serve_at_rest-second.ensures in
-    rw c.joined.ensures (came-signals s l both _ (λ (d : Scene). with_signals_at_rest d.machine d.signals d.cards) false _ _ _ _ _ _ _
+    rw c.joined.ensures (came-signals s l both _ with_signals_at_rest false _ _ _ _ _ _ _
     orders c.take_signals_at_rest.ensures.came c.take_signals_at_rest.ensures.cards c.take_signals_at_rest.ensures.rest)

@@ -15,5 +15,5 @@ signals-preserved g c = record {
 
 pub returns-clause-came : goal.returns-clause-came
 returns-clause-came g c =
-    sym (rest-over _ _ _ (sym (ap rests c.state.ensures) ∙ sym c.is_at_rest.ensures ∙ c.signals-test.false))
+    sym (rest-over _ _ (sym (ap rests c.state.ensures) ∙ sym c.is_at_rest.ensures ∙ c.signals-test.false))
     ∙ c.signals.invariant.came

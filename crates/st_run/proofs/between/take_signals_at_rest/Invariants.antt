@@ -1,11 +1,11 @@
 use Rattle.std.proofs.Common.{◌≡◌, false, length}
 use Rattle.st_run.specs.Run.{with_signals_at_rest}
+use Rattle.st_run.specs.Outside.{scene_at}
 use Rattle.st_run.proofs.between.take_signals_at_rest.Given as goal
 
 abbrev pub invariant-signals : goal.invariant-signals
 invariant-signals g l = record {
-  came : with_signals_at_rest (g.M.Outside.state l.machine) l.coming.signals l.coming.cards
-      ≡ with_signals_at_rest (g.M.Outside.state l.fn.machine) l.fn.coming.signals l.fn.coming.cards;
+  came : with_signals_at_rest (scene_at (g.M.Outside.state l.machine) l.coming) ≡ with_signals_at_rest (scene_at (g.M.Outside.state l.fn.machine) l.fn.coming);
   cards : l.coming.cards ≡ l.fn.coming.cards;
   rest : g.M.Outside.leaves false l.fn.machine l.machine;
 }

@@ -10,8 +10,8 @@ invariant-signals g l = record {
   passes : AllPass is_signal l.rest;
   turn : MaySignal l.machine;
   machine : l.machine ≡ record l.fn.machine { state = l.machine.state };
-  came : (cards : List (List ℕ)) → with_due_signals l.machine.state l.rest cards
-      ≡ with_due_signals l.fn.machine.state l.signals cards;
+  came : (cards : List (List ℕ)) → with_due_signals (record { machine = l.machine.state; signals = l.rest; cards = cards })
+      ≡ with_due_signals (record { machine = l.fn.machine.state; signals = l.signals; cards = cards });
 }
 
 abbrev pub decreases-signals : goal.decreases-signals

@@ -1,5 +1,5 @@
 use Rattle.std.proofs.Common.{◌∷◌, ◌∙◌, sym, ap}
-use Rattle.st_run.specs.Telling.{told_with, rest_of}
+use Rattle.st_run.specs.Telling.{state_told, ahead_of, told_as, rest_of}
 use Rattle.st_run.specs.declared.told.TimedRunEvent.{TimedRunEvent}
 use Rattle.st_run.specs.declared.turn.Turn.TheVariants as turns
 use Rattle.st_run.proofs.ProgressLemmas.{end-tells, end-keeps, last-tells, last-keeps}
@@ -15,7 +15,7 @@ returns-in_default-clause-told g c =
     let run = c.args.run.now in
     end-tells c.args.rests run.left run.tick run.snaps.now run.waiting run.driven c.requires.levels c.requires.in_time c.requires.waits
     c.in_default.ensures
-    ∙ ap {A = TimedRunEvent} (λ t. told_with t run.driven.machine run.printed.bytes ∷ rest_of turns.Over run.left run.tick run.snaps.now run.waiting run.driven)
+    ∙ ap {A = TimedRunEvent} (λ t. told_as t (state_told run.driven.machine) (ahead_of run.driven.machine) run.printed.bytes ∷ rest_of turns.Over run.left run.tick run.snaps.now run.waiting run.driven)
     (sym c.at_once.ensures)
 
 pub returns-clause-kept : goal.returns-clause-kept
@@ -31,5 +31,5 @@ returns-clause-told g c =
     let split = c.in-Some.ensures in
     last-tells c.args.rests run.left run.tick run.snaps.now run.waiting run.driven c.requires.levels c.requires.in_time c.requires.waits
     c.in-Some.at c.in-Some.after.now run.turn split.0 split.1 c.requires.turn
-    ∙ ap {A = TimedRunEvent} (λ t. told_with t run.driven.machine run.printed.bytes ∷ rest_of run.turn run.left run.tick c.in-Some.after.now run.waiting run.driven)
+    ∙ ap {A = TimedRunEvent} (λ t. told_as t (state_told run.driven.machine) (ahead_of run.driven.machine) run.printed.bytes ∷ rest_of run.turn run.left run.tick c.in-Some.after.now run.waiting run.driven)
     (sym c.at_once-2.ensures)

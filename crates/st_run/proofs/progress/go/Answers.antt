@@ -1,7 +1,7 @@
 use Rattle.std.specs.Prelude.{IfSome}
 use Rattle.std.proofs.Common.{◌≤◌, ◌-◌, ◌∷◌, ◌∙◌, ap, ℕ, Option, List, sym, subst, arith}
 use Rattle.st_run.specs.Told.{Told}
-use Rattle.st_run.specs.Telling.{rest_of, told_with, AreInTime}
+use Rattle.st_run.specs.Telling.{rest_of, state_told, ahead_of, told_as, AreInTime}
 use Rattle.st_run.specs.declared.told.TimedRunEvent.{TimedRunEvent as ToldNext}
 use Rattle.st_run.specs.declared.turn.Turn.TheVariants as turns
 use Rattle.st_run.proofs.ProgressLemmas.{rest-quiet}
@@ -65,5 +65,5 @@ returns-clause-told g c =
     let run_new = c.leave_entry.new.run in
     go-tells run.left run.tick run.snaps.now run.driven c.run_until.new.driven stands.0 rising in_time
     c.in-Some.row c.first_of-snap.result c.first_of-snap.ensures c.in-Some.ensures.made _ c.leave_entry.ensures.told
-    ∙ ap {A = ToldNext} (λ t. told_with t run_new.driven.machine run_new.printed.bytes
+    ∙ ap {A = ToldNext} (λ t. told_as t (state_told run_new.driven.machine) (ahead_of run_new.driven.machine) run_new.printed.bytes
     ∷ rest_of run_new.turn run_new.left run_new.tick run_new.snaps.now run_new.waiting run_new.driven) (sym c.told_of.ensures)

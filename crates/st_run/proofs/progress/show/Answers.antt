@@ -1,5 +1,5 @@
 use Rattle.std.proofs.Common.{◌∷◌, ◌∙◌, sym, ap}
-use Rattle.st_run.specs.Telling.{told_with, rest_of}
+use Rattle.st_run.specs.Telling.{state_told, ahead_of, told_as, rest_of}
 use Rattle.st_run.specs.declared.told.TimedRunEvent.{TimedRunEvent}
 use Rattle.st_run.proofs.ProgressLemmas.{show-tells, show-keeps}
 use Rattle.st_run.proofs.progress.show.Goals as goal
@@ -15,5 +15,5 @@ returns-clause-told g c =
     let run = c.args.run.now in
     show-tells run.left run.tick c.in-Some.at c.in-Some.after.now run.snaps.now run.waiting run.driven run.turn c.in-Some.ensures
     c.requires.shown c.requires.turn c.requires.waits
-    ∙ ap {A = TimedRunEvent} (λ t. told_with t run.driven.machine run.printed.bytes ∷ rest_of run.turn run.left run.tick c.in-Some.after.now run.waiting run.driven)
+    ∙ ap {A = TimedRunEvent} (λ t. told_as t (state_told run.driven.machine) (ahead_of run.driven.machine) run.printed.bytes ∷ rest_of run.turn run.left run.tick c.in-Some.after.now run.waiting run.driven)
     (sym c.at_once-2.ensures)

@@ -1,5 +1,5 @@
 use Rattle.std.proofs.Common.{◌∷◌, sym, ◌∙◌, ap, arith}
-use Rattle.st_run.specs.Telling.{what_told, state_told, ahead_of, rest_of, told_with}
+use Rattle.st_run.specs.Telling.{what_told, state_told, ahead_of, rest_of, state_told, ahead_of, told_as}
 use Rattle.st_run.specs.declared.told.TimedRunEvent.{TimedRunEvent}
 use Rattle.st_run.specs.declared.turn.Turn.TheVariants as turns
 use Rattle.st_run.proofs.ProgressLemmas.{seen-none}
@@ -22,7 +22,7 @@ returns-in-Some-clause-told g c =
     next-tells run.turn run.left run.tick run.snaps.now run.waiting c.next.new.self run.driven _
     (what_told run.tick (state_told m) (ahead_of m) c.next.new.printed.bytes c.in-Some.what) (c.in-Some.ensures.told m.state)
     (c.in-Some.ensures.shown m.state (state_told m) run.tick (ahead_of m) c.next.new.printed.bytes (λ some. sym (seen-none m (c.requires.run.taken some))))
-    ∙ ap {A = TimedRunEvent} (λ t. told_with t m c.next.new.printed.bytes ∷ rest_of run.turn run.left run.tick run.snaps.now c.next.new.self run.driven) (sym c.at_once.ensures)
+    ∙ ap {A = TimedRunEvent} (λ t. told_as t (state_told m) (ahead_of m) c.next.new.printed.bytes ∷ rest_of run.turn run.left run.tick run.snaps.now c.next.new.self run.driven) (sym c.at_once.ensures)
 
 pub go-requires : goal.go-requires
 go-requires g c =

@@ -1,7 +1,7 @@
 use Rattle.std.proofs.Common.{◌∷◌, List, sym, ap, ◌∙◌}
 use Rattle.st_ahead.specs.RowsDone.{Queue}
 use Rattle.st_ahead.specs.declared.events.Row.{Row}
-use Rattle.st_run.specs.Telling.{rest_of, rows_then, told_with}
+use Rattle.st_run.specs.Telling.{rest_of, rows_then, state_told, ahead_of, told_as}
 use Rattle.st_run.specs.declared.told.TimedRunEvent.{TimedRunEvent as ToldNext}
 use Rattle.st_run.proofs.RowLemmas.{told-behind}
 use Rattle.st_run.proofs.teller.next_of.Goals as goal
@@ -11,7 +11,7 @@ returns-in-Some-clause-told g c =
     let run = c.args.teller.now.progress in
     let rest = rest_of run.turn run.left run.tick run.snaps.now run.waiting run.driven in
     ap {A = List Row} (λ xs. rows_then xs rest) c.in-Some.ensures.rows
-    ∙ ap {A = ToldNext} (λ t. told_with t run.driven.machine run.printed.bytes ∷ rows_then c.next.new.self.rows rest) (sym c.told_of.ensures)
+    ∙ ap {A = ToldNext} (λ t. told_as t (state_told run.driven.machine) (ahead_of run.driven.machine) run.printed.bytes ∷ rows_then c.next.new.self.rows rest) (sym c.told_of.ensures)
 
 pub returns-clause-told : goal.returns-clause-told
 returns-clause-told g c =
@@ -21,4 +21,4 @@ returns-clause-told g c =
     let more = rest_of after.turn after.left after.tick after.snaps.now after.waiting after.driven in
     let same = c.tell_next.ensures.rows ∙ c.in_default.ensures.none in
     told-behind c.tell_next.result c.args.teller.now.rows.rows c.tell_next.new.rows.rows rest more
-    (λ t. told_with t after.driven.machine after.printed.bytes) c.in_default.ensures.rows (ap {A = Queue} (λ q. q.rows) same) c.tell_next.ensures.told
+    (λ t. told_as t (state_told after.driven.machine) (ahead_of after.driven.machine) after.printed.bytes) c.in_default.ensures.rows (ap {A = Queue} (λ q. q.rows) same) c.tell_next.ensures.told

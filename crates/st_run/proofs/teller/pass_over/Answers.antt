@@ -1,6 +1,6 @@
 use Rattle.std.proofs.Common.{ap}
 use Rattle.st_ahead.specs.RowsDone.{Queue}
-use Rattle.st_run.specs.Telling.{rest_of, told_with}
+use Rattle.st_run.specs.Telling.{rest_of}
 use Rattle.st_run.proofs.RowLemmas.{none-waits, passed-behind}
 use Rattle.st_run.proofs.teller.pass_over.Goals as goal
 
@@ -11,5 +11,5 @@ returns-clause-told g c =
     let rest = rest_of run.turn run.left run.tick run.snaps.now run.waiting run.driven in
     let more = rest_of after.turn after.left after.tick after.snaps.now after.waiting after.driven in
     passed-behind c.pass_entries.result c.args.teller.now.rows.rows c.pass_entries.new.rows.rows rest more
-    (λ t. told_with t after.driven.machine after.printed.bytes) (none-waits c.args.teller.now.rows.rows _ c.is_empty.ensures c.if-not-is_empty.false)
+    (none-waits c.args.teller.now.rows.rows _ c.is_empty.ensures c.if-not-is_empty.false)
     (ap {A = Queue} (λ q. q.rows) c.pass_entries.ensures.rows) c.pass_entries.ensures.told

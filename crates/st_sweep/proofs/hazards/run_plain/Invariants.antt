@@ -12,7 +12,7 @@ invariant-entries l =
     let c = without_cards l.fn.state l.signals in
     record {
       passes : AllPass is_signal l.rest;
-      so_far : IsSoFar (is_hazard_free_behind [] l.budget c) (run l.budget c).last.done l.hazard_free l.left l.state l.rest l.written;
+      so_far : IsSoFar (is_hazard_free_behind [] l.budget c) (run l.budget c).scene.machine.done l.hazard_free l.left l.state l.rest l.written;
     }
 
 abbrev pub decreases-entries : goal.decreases-entries

@@ -23,7 +23,7 @@ invariant_of-result g c =
     let same = started c.new-machine.result c.due_signals-rest.new.machine c.args.controls.now.signals.now c.due_signals-rest.result.now c.args.cards _
     c.due_signals-rest.ensures.came c.due_signals-rest.ensures.machine c.new-coming.ensures
     ∙ ap {A = Overlap} (λ m. with_scene (record { machine = m; signals = scene.signals; cards = scene.cards })
-    (with_due_signals m.state scene.signals scene.cards)) c.new-machine.ensures.value in
+    (with_due_signals (record scene { machine = m.state }))) c.new-machine.ensures.value in
     let stands = subst {A = Waiting} (λ w. IsRun turns.Before (c.args.controls.now.budget - 1) 0 c.args.controls.now.snaps.now w (with_coming c.due_signals-rest.new.machine c.new-coming.result)) (sym c.new-waiting.ensures)
     (subst {A = Together} (λ t. IsRun turns.Before (c.args.controls.now.budget - 1) 0 c.args.controls.now.snaps.now none t) (sym same)
     (start-run c.args.delays.list g.row.N scene idle is c.args.controls.now.budget c.args.controls.now.snaps.now r.some r.few (delays-are c.args.delays)
@@ -39,7 +39,7 @@ returns g c =
     let same = started c.new-machine.result c.due_signals-rest.new.machine c.args.controls.now.signals.now c.due_signals-rest.result.now c.args.cards _
     c.due_signals-rest.ensures.came c.due_signals-rest.ensures.machine c.new-coming.ensures
     ∙ ap {A = Overlap} (λ m. with_scene (record { machine = m; signals = scene.signals; cards = scene.cards })
-    (with_due_signals m.state scene.signals scene.cards)) c.new-machine.ensures.value in
+    (with_due_signals (record scene { machine = m.state }))) c.new-machine.ensures.value in
     ap {A = Queue} (λ q. rows_then q.rows (rest_of turns.Before (c.args.controls.now.budget - 1) 0 c.args.controls.now.snaps.now c.new-waiting.result (with_coming c.due_signals-rest.new.machine c.new-coming.result))) c.new-2.ensures
     ∙ ap {A = Waiting} (λ w. rest_of turns.Before (c.args.controls.now.budget - 1) 0 c.args.controls.now.snaps.now w (with_coming c.due_signals-rest.new.machine c.new-coming.result)) c.new-waiting.ensures
     ∙ ap {A = Together} (λ t. rest_of turns.Before (c.args.controls.now.budget - 1) 0 c.args.controls.now.snaps.now none t) same
