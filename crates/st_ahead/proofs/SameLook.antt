@@ -23,7 +23,7 @@ use Rattle.st_ring.specs.declared.plans.Plan.{Plan}
 use Rattle.st_ring.proofs.AloneLemmas.{AwaitsLast, behind-ahead}
 use Rattle.st_ring.proofs.PassLemmas.{ahead-same, full-same}
 use Rattle.st_next.specs.Words.{AreFirstWords}
-use Rattle.st_next.specs.Progress.{IsNext, IsPlanned, prepared_early, Rests, wanted_next, reads_so_far}
+use Rattle.st_next.specs.Progress.{IsNext, IsPlanned, preparation_without_side, Rests, wanted_next, reads_so_far}
 use Rattle.st_next.specs.declared.next.Next.{Next}
 use Rattle.st_ahead.specs.Look.{LookView, IsLook, IsOpened, IsNextIf, asked_ahead, count, is_open}
 
@@ -60,7 +60,7 @@ module _ (ds : List ℕ) (n : ℕ) where
         target = is.target ∙ ap (λ (e : Entry). e.target) same;
         found = is.found ∙ ap (λ v. v.fetched) seen;
         needs = is.needs ∙ ap needs seen;
-        prepared = is.prepared ∙ ap prepared_early seen;
+        prepared = is.prepared ∙ ap preparation_without_side seen;
         entry = is.entry ∙ same;
         address = is.address ∙ ap (λ e. tick_a ds f e) same;
         bus = is.bus ∙ ap (λ e. bus_a ds f e) same;

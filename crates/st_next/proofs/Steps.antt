@@ -21,7 +21,7 @@ use Rattle.st_segment.proofs.EntryRanges.{entry-ranges}
 use Rattle.st_segment.proofs.KnownEarly.{known-early}
 use Rattle.st_next.specs.Words.{run_with_word}
 use Rattle.st_next.specs.Known.{IsStateBefore}
-use Rattle.st_next.specs.Progress.{IsReadOn, IsPlanned, prepared_early, Rests}
+use Rattle.st_next.specs.Progress.{IsReadOn, IsPlanned, preparation_without_side, Rests}
 use Rattle.st_next.specs.Going.{GoesOnTo, prepared_as}
 use Rattle.st_next.specs.declared.next.Next.{Next}
 use Rattle.st_next.proofs.Starts.{IsNextOwn, own-more, IsNextTarget, target-more, word-behind, IsAll}
@@ -65,7 +65,7 @@ same_fields o p g h a b r q v w m n c d e f e1 e2 e3 e4 e5 e6 e7 e8 = cc
 
 abbrev pub entry_seen : WordRun → WordRun → Sight → Entry
 entry_seen own target v =
-    let p = prepared_early v in
+    let p = preparation_without_side v in
     entry_with own target (side_to_read (needs v).index_read) (words_to_read p.reads) (words_to_write p.writes) p.cost p.serial
     (is_none v.place.table && is_none v.fetched.fault)
 
@@ -212,7 +212,7 @@ module _ (ds : List ℕ) (n now : ℕ) (f : Front) (x : List ℕ) (s : Machine) 
               target = it.0.target_all;
               found = it.1;
               needs = ap (λ (m : Next). m.needs) prepared ∙ ap needs same;
-              prepared = ap (λ (m : Next). m.prepared) prepared ∙ ap prepared_early same;
+              prepared = ap (λ (m : Next). m.prepared) prepared ∙ ap preparation_without_side same;
               entry = whole;
               address = made.address ∙ ap (tick_a ds f) whole;
               bus = made.bus ∙ ap (bus_a ds f) whole;

@@ -18,7 +18,7 @@ use Rattle.st_rows.specs.declared.log.Made.{Made}
 use Rattle.st_segment.specs.Alone.{words_of_run}
 use Rattle.st_segment.specs.Entries.{entry, side_to_read, words_to_read, words_to_write, IsTable}
 use Rattle.st_next.specs.Known.{IsStateBefore}
-use Rattle.st_next.specs.Progress.{IsNext, Rests, reads_so_far, prepared_early}
+use Rattle.st_next.specs.Progress.{IsNext, Rests, reads_so_far, preparation_without_side}
 use Rattle.st_next.specs.declared.next.Next.{Next}
 
 -- the ticks of a front lie close together and are early enough
@@ -66,7 +66,7 @@ as_entry next = record {
 abbrev pub prepared_as : Fetched → List ℕ → Machine → Next → Next
 prepared_as fd x s next =
     let v = sight_of next.place fd x s in
-    let m = record next { fetched = fd; needs = needs v; prepared = prepared_early v } in
+    let m = record next { fetched = fd; needs = needs v; prepared = preparation_without_side v } in
     record m { entry = as_entry m }
 
 -- its words tell all of it, and their writers are done by the tick `now`: it is prepared as far as

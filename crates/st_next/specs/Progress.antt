@@ -31,8 +31,8 @@ pub record IsReadOn (ds : List ℕ) (t : Option ℕ) (u : Machine) (f : Front)
   pub awaited : next.words.awaited ≡ (words_so_far ds f next.own next.target).awaited
 
 -- how an entry of which so much is seen is prepared, with 0 in place of its index-side word
-abbrev pub prepared_early : Sight → Prepared
-prepared_early v = prepared_of v (option_map (λ w. 0) (needs_of v).index_read)
+abbrev pub preparation_without_side : Sight → Prepared
+preparation_without_side v = prepared_of v (option_map (λ w. 0) (needs_of v).index_read)
 
 module _ (ds : List ℕ) (n : ℕ) (t : Option ℕ) (u : Machine) (f : Front) (next : Next) where
   -- its words are all asked for, and all of it is known but its index-side word
@@ -41,7 +41,7 @@ module _ (ds : List ℕ) (n : ℕ) (t : Option ℕ) (u : Machine) (f : Front) (n
     pub target : next.target ≡ (entry_of t u).target
     pub found : next.fetched ≡ fetched_at u (place_of u t)
     pub needs : next.needs ≡ needs_of (sight u (place_of u t))
-    pub prepared : next.prepared ≡ prepared_early (sight u (place_of u t))
+    pub prepared : next.prepared ≡ preparation_without_side (sight u (place_of u t))
     pub entry : next.entry ≡ entry_of t u
     pub address : next.formed.a ≡ tick_a ds f (entry_of t u)
     pub bus : next.words.bus ≡ bus_a ds f (entry_of t u)
