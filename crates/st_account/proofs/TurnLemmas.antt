@@ -14,7 +14,6 @@ use Rattle.st_exec.specs.Completion.{guess}
 use Rattle.st_exec.specs.Step.{rests, step, interrupt}
 use Rattle.st_rows.specs.Ranges.{AreDelaysUpTo, IsTight}
 use Rattle.st_rows.specs.Rows.{opening_front}
-use Rattle.st_rows.specs.declared.front.Front.{Front}
 use Rattle.st_run.specs.Run.{Scene}
 use Rattle.st_run.specs.Reached.{IsCard}
 use Rattle.st_run.specs.Outside.{Coming}
@@ -39,7 +38,7 @@ use Rattle.st_lines.specs.Origins.{origin_at}
 use Rattle.st_lines.specs.declared.origins.Origins.{Origins}
 use Rattle.st_account.proofs.LastLemmas.{start-last}
 use Rattle.st_account.proofs.EntryLemmas.{kept-none}
-use Rattle.st_account.proofs.RunLemmas.{next-stepped, next-at, early-tick}
+use Rattle.st_account.proofs.RunLemmas.{next-stepped, next-at}
 use Rattle.st_account.proofs.LoopLemmas.{run-ends, border-fails, turn-made, sums-none, number-next, number-some, left-some, rests-not, ends-one, sums-next, sums-end, waits-next, waits-last}
 use Rattle.st_account.proofs.StallLemmas.{waited-none, kept-stalled-none}
 

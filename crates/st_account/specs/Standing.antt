@@ -1,6 +1,6 @@
 -- What is at hand of a moment of a run, besides its scene. The machine has the delays ds and n
 -- levels.
-use Rattle.std.specs.Prelude.{ℕ, suc, ◌+◌, ◌≡◌, ◌≢◌, ◌<◌, ◌≤◌, ◌^◌, length, true, false, not, ◌&&◌, nat_le, nat_eq, if◌then◌else◌, is_none, Bool, List, [], ◌∷◌, ◌++◌, map, slice_index, All, Option, None}
+use Rattle.std.specs.Prelude.{ℕ, suc, ◌+◌, ◌≡◌, ◌≢◌, ◌<◌, ◌≤◌, ◌^◌, length, true, not, ◌&&◌, nat_eq, if◌then◌else◌, is_none, Bool, List, [], ◌∷◌, ◌++◌, map, slice_index, All, Option, None}
 use Rattle.st_bits.specs.declared.limits.TheConstants.{MOST_DELAY, WORDS}
 use Rattle.st_state.specs.Machine.{Machine, word}
 use Rattle.st_exec.specs.Ahead.{IsNotAmong}

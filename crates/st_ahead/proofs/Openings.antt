@@ -25,7 +25,7 @@ use Rattle.st_segment.specs.Entries.{entry}
 use Rattle.st_segment.specs.Guesses.{guesses, split_words}
 use Rattle.st_segment.specs.Alone.{RunAhead}
 use Rattle.st_ring.specs.Levels.{LevelsView, AreLevels, AreAhead, AreFull}
-use Rattle.st_next.specs.Words.{words_so_far, asked_so_far, GoesFrom, AreFirstWords}
+use Rattle.st_next.specs.Words.{words_so_far, asked_so_far, IsStart, AreFirstWords}
 use Rattle.st_next.specs.Progress.{IsNext, Rests, reads_so_far}
 use Rattle.st_next.specs.declared.next.Next.{Next}
 use Rattle.st_ahead.specs.Look.{LookView, IsLook, IsOpened}
@@ -82,7 +82,7 @@ no-reads ds f = refl
 
 -- ---- the entry that is prepared next
 
-start-none : (run whole : WordRun) → run ≡ none → GoesFrom run whole
+start-none : (run whole : WordRun) → run ≡ none → IsStart run whole
 start-none run whole e =
     let len : run.len ≡ 0 = ap (λ (r : WordRun). r.len) e in
     record { few = omega arith; first = λ some. absurd (omega arith); none = λ few. ap (λ (r : WordRun). r.first) e }
