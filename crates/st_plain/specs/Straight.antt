@@ -1,6 +1,5 @@
 -- An entry that is planned at once: its words, and what the timetable sees of it.
-use Rattle.std.specs.Prelude.{ℕ, ◌+◌, ◌/◌, ◌≡◌, Bool, true, false, ◌==◌, not, ◌&&◌, is_none, List, [], ◌∷◌, ◌++◌, length}
-use Rattle.st_format.specs.Halves.{is_full}
+use Rattle.std.specs.Prelude.{ℕ, ◌+◌, ◌≡◌, Bool, true, false, ◌&&◌, is_none, List, [], ◌∷◌, ◌++◌, length}
 use Rattle.st_state.specs.Machine.{Machine}
 use Rattle.st_prep.specs.Plan.{sight_of, needs, prepared_entry, side_of}
 use Rattle.st_prep.specs.Reading.{Reading, outcome, words_read, own_words, is_execute}
@@ -27,10 +26,6 @@ pub record IsReadOver (c : ℕ → ℕ) (r q : Reading) (ws : List ℕ) : Type 0
 abbrev pub if_more : Bool → ℕ → List ℕ
 if_more true w = w ∷ []
 if_more false w = []
-
--- the instruction at the half-word address h, whose first half-word this is, stands in two words
-abbrev pub is_in_two : ℕ → ℕ → Bool
-is_in_two h first = is_full first && not ((h + 1) / 2 == h / 2)
 
 -- ---- the entry
 
