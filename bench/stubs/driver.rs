@@ -53,7 +53,7 @@ fn tell<const N: usize>(state: State, delays: Delays, budget: u64) {
         told += 1;
         done = next.done;
         tick = next.tick;
-        if let RunEvent::Done { address, p, r } = next.what {
+        if let RunEvent::Done { address, p, r } = next.event {
             rows = rows.wrapping_mul(31).wrapping_add(p * 3 + r * 5 + tick * 7 + u64::from(address));
         }
     }

@@ -4,7 +4,6 @@ pub mod RunLemmas
 pub mod BorderLemmas
 pub mod EntryLemmas
 pub mod StallLemmas
-pub mod ProgramLemmas
 pub mod LoopLemmas
 pub mod PassLemmas
 pub mod TurnLemmas

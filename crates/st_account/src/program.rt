@@ -7,7 +7,6 @@ ghost use Rattle.st_asm.specs.Assembly.{assembly_parts, assembly};
 ghost use Rattle.st_asm.specs.Sound.{IsAssemblySound};
 ghost use Rattle.st_card.specs.Cards.{cards_of};
 ghost use Rattle.st_card.specs.Faults.{name_of};
-ghost use Rattle.st_card.specs.Limits.{IsWithinLimits};
 ghost use Rattle.st_exch.specs.Reader.{reader_cards};
 ghost use Rattle.st_io.specs.Lines.{WritesLines};
 ghost use Rattle.st_lines.specs.Origins.{origin_at};
@@ -22,14 +21,13 @@ use crate::origins::first_cards;
 use crate::running::{Ready, write_ledger};
 use crate::status::Status;
 use st_asm::{AsmError, Assembled, assemble_cards};
-use st_banks::Delays;
 use st_bits::NoMemory;
 use st_bits::limits::LONGEST_JOB;
-use st_card::{Card, Controls, Fault, split};
-use st_exch::Hopper;
+use st_card::{Controls, Fault, split};
 use st_io::{Failed, ReadError, Sink, Source, read_all};
 use st_lines::{Origins, put};
 use st_report::line_fault;
+use st_run::{delays_asked, reader_of_job};
 use st_state::State;
 use std::alloc::Global;
 
@@ -82,27 +80,6 @@ fn refuse<K: Sink>(out: &mut K, card: u32, fault: Fault) -> Status
     }
 }
 
-// The delays of storage that are asked for, ready for use.
-fn delays(alloc: Global, controls: &Controls) -> Result<Delays, NoMemory>
-    requires some { 1 ≤ length controls.now.delays }
-    requires limits { IsWithinLimits controls.now }
-    ensures { IfOk result (λ delays. delays.list ≡ controls.now.delays) }
-{
-    match Delays::new(alloc, controls.delays.as_slice()) {
-        Ok(delays) => Ok(delays),
-        Err(_) => Err(NoMemory),
-    }
-}
-
-// The reader of a job with these cards; its cards have eight words.
-fn reader(alloc: Global, job: &[u8], cards: &[Card]) -> Result<Hopper, NoMemory>
-    requires { cards.now ≡ cards_of job.now }
-    ensures value { IfOk result (λ hopper. hopper ≡ reader_cards job.now) }
-    ensures shape { IfOk result (All IsCard) }
-{
-    Hopper::of_cards(alloc, job, cards)
-}
-
 // Room for as many words as storage has.
 fn words(alloc: Global, image: &[u64]) -> Result<Vec<u64>, NoMemory>
     ensures { IfOk result (λ words. words.items ≡ image.now) }
@@ -143,8 +120,8 @@ fn prepare(
     let state = State::new(alloc, image.as_slice(), start)?;
     let words = words(alloc, image.as_slice())?;
     let table = first_cards(alloc, listing.as_slice())?;
-    let reader = reader(alloc, job.text, job.cards)?;
-    let delays = delays(alloc, &controls)?;
+    let reader = reader_of_job(alloc, job.text, job.cards)?;
+    let delays = delays_asked(alloc, &controls)?;
     let ready = Ready {
         state,
         words,

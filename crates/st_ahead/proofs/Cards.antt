@@ -14,7 +14,7 @@ use Rattle.st_exec.specs.Transfer.{all_stored, read_in}
 use Rattle.st_exec.proofs.Unchanged.{stored-other}
 use Rattle.st_rows.specs.Rows.{opening_front}
 use Rattle.st_rows.specs.declared.front.Front.{Front}
-use Rattle.st_ahead.specs.Look.{LookView, IsOpened}
+use Rattle.st_ahead.specs.Forecast.{LookaheadView, IsOpened}
 use Rattle.st_ahead.specs.Inside.{answers_before, overlap_of, IsBetween, IsInside}
 use Rattle.st_ahead.proofs.Standing.{inside-fresh}
 
@@ -73,14 +73,14 @@ read-below s w card above =
 
 -- ---- all of it
 
-card-opened : (s u : Machine) (f : Front) (v : LookView) → AreAlikeBelow s u → IsOpened None s f v → IsOpened None u f v
+card-opened : (s u : Machine) (f : Front) (v : LookaheadView) → AreAlikeBelow s u → IsOpened None s f v → IsOpened None u f v
 unfolding place_of
 card-opened s u f v alike o = assumption (o.index ∙ sym (index-below s u alike), o.place ∙ ap (λ h. place-at h) (sym alike.ic))
   where
     place-at : ℕ → Place
     place-at h = record { counter = h; address = h; table = None }
 
-card-hazard_free : (halt : Bool) (n : ℕ) (ds : List ℕ) (s u : Machine) (t b : Option ℕ) (now : ℕ) (owed over fresh : Bool) (v : LookView)
+card-hazard_free : (halt : Bool) (n : ℕ) (ds : List ℕ) (s u : Machine) (t b : Option ℕ) (now : ℕ) (owed over fresh : Bool) (v : LookaheadView)
     → IsInside (overlap_of n ds s t b now owed over halt fresh v) fresh v → over ≡ true → fresh ≡ true → IsMachine u → (IsMachine s → AreAlikeBelow s u)
     → IsInside (overlap_of n ds u t b now owed over halt fresh v) fresh v
 card-hazard_free halt n ds s u t b now owed false fresh v is ends done m alike = absurd (cc ends)
@@ -88,11 +88,11 @@ card-hazard_free halt n ds s u t b now owed true false v is ends done m alike = 
 card-hazard_free halt n ds s u t b now false true true v is ends done m alike = absurd (cc ((is.settled refl).0))
 card-hazard_free halt n ds s u (Some i) b now true true true v is ends done m alike = absurd (cc ((is.done refl).0))
 card-hazard_free halt n ds s u None b now true true true v is ends done m alike =
-    let between : IsBetween now None s v = is.looking in
+    let between : IsBetween now None s v = is.lookahead in
     inside-fresh halt true n ds u b now v is.some is.few is.in_time
     (assumption (card-opened s u (opening_front (answers_before now v) v.front.c) v (alike between.machine) between.opened)) (λ e. absurd (cc e)) (is.done refl).1
 
-pub card-inside : (halt : Bool) (n : ℕ) (ds : List ℕ) (s u : Machine) (t b : Option ℕ) (now : ℕ) (owed over fresh : Bool) (v : LookView) (order : Option Order) (card : List ℕ)
+pub card-inside : (halt : Bool) (n : ℕ) (ds : List ℕ) (s u : Machine) (t b : Option ℕ) (now : ℕ) (owed over fresh : Bool) (v : LookaheadView) (order : Option Order) (card : List ℕ)
     → IsInside (overlap_of n ds s t b now owed over halt fresh v) fresh v → over ≡ true → fresh ≡ true → order ≡ s.reader → IsSome order
     → IfSome order (λ o. u ≡ read_in s o.word (Some card)) → IsMachine u
     → IsInside (overlap_of n ds u t b now owed over halt fresh v) fresh v

@@ -26,7 +26,7 @@ use Rattle.st_next.specs.Known.{IsStateBefore}
 use Rattle.st_next.specs.Words.{asked_so_far}
 use Rattle.st_next.specs.Progress.{IsPlanned, reads_so_far}
 use Rattle.st_next.specs.declared.next.Next.{Next}
-use Rattle.st_ahead.specs.Look.{LookView, IsNextIf, count, is_open}
+use Rattle.st_ahead.specs.Forecast.{LookaheadView, IsNextIf, count, is_open}
 use Rattle.st_ahead.specs.Going.{IsGoing, BecomesLevel}
 use Rattle.st_ahead.proofs.Further.{going-late, next-known}
 
@@ -109,7 +109,7 @@ reads-formed ds n k u f next is planned =
 
 -- ---- all of it
 
-pub planned-open : (b : Bool) (ds : List ℕ) (n rest : ℕ) (t : Option ℕ) (s : Machine) (v : LookView) → IsNextIf b ds n rest t s v
+pub planned-open : (b : Bool) (ds : List ℕ) (n rest : ℕ) (t : Option ℕ) (s : Machine) (v : LookaheadView) → IsNextIf b ds n rest t s v
     → v.next.planned ≡ true → b ≡ true
 planned-open true ds n rest t s v is planned = refl
 planned-open false ds n rest t s v is planned = let unplanned : v.next.planned ≡ false = is.0 in absurd (cc (planned, unplanned))
@@ -119,7 +119,7 @@ unfolding guesses
 none-guessed zero t s none = refl
 none-guessed (suc k) t s none = absurd (cc none)
 
-pub becomes-level : (ds : List ℕ) (n now : ℕ) (t : Option ℕ) (s : Machine) (f : Front) (v : LookView) → 1 ≤ n → n ≤ 8 → AreDelaysUpTo 255 ds
+pub becomes-level : (ds : List ℕ) (n now : ℕ) (t : Option ℕ) (s : Machine) (f : Front) (v : LookaheadView) → 1 ≤ n → n ≤ 8 → AreDelaysUpTo 255 ds
     → count v ≤ n → now < 2 ^ 63 → IsGoing ds n now (now + 1) t s f v → v.next.planned ≡ true → v.next.formed.p ≡ now
     → RunAhead (count v) t s → IsStateBefore now v.front.past v.levels.x s (guesses (count v) t s) → BecomesLevel ds n now t s f v
 becomes-level ds n now t s f v some most are few early is planned due run before =

@@ -30,7 +30,7 @@ use Rattle.st_next.specs.declared.next.Next.{Next}
 use Rattle.st_next.proofs.Resting.{address-late}
 use Rattle.st_next.proofs.Starting.{new-reads}
 use Rattle.st_next.proofs.Whole.{served-so-far}
-use Rattle.st_ahead.specs.Look.{LookView, IsNextIf, count, is_open, asked_ahead, reads_ahead}
+use Rattle.st_ahead.specs.Forecast.{LookaheadView, IsNextIf, count, is_open, asked_ahead, reads_ahead}
 use Rattle.st_ahead.specs.Going.{IsGoing}
 use Rattle.st_ahead.proofs.Served.{served-ahead}
 
@@ -42,7 +42,7 @@ rests-sooner now sooner t u f next early rests = λ un. elim (rests un) [
   | inr is ↦ inr (is.0, is.1, is.2, omega (arith, early, is.3))
 ]
 
-pub next-sooner : (b : Bool) (ds : List ℕ) (n now sooner : ℕ) (t : Option ℕ) (s : Machine) (v : LookView) → sooner ≤ now
+pub next-sooner : (b : Bool) (ds : List ℕ) (n now sooner : ℕ) (t : Option ℕ) (s : Machine) (v : LookaheadView) → sooner ≤ now
     → IsNextIf b ds n now t s v → IsNextIf b ds n sooner t s v
 next-sooner true ds n now sooner t s v early is =
     (is.0, rests-sooner now sooner (table_behind (count v) t) (guesses (count v) t s) v.front v.next early is.1)
@@ -50,28 +50,28 @@ next-sooner false ds n now sooner t s v early is = is
 
 -- ---- it is planned already
 
-pub next-planned : (b : Bool) (ds : List ℕ) (n now later : ℕ) (t : Option ℕ) (s : Machine) (v : LookView) → v.next.planned ≡ true
+pub next-planned : (b : Bool) (ds : List ℕ) (n now later : ℕ) (t : Option ℕ) (s : Machine) (v : LookaheadView) → v.next.planned ≡ true
     → IsNextIf b ds n now t s v → IsNextIf b ds n later t s v
 next-planned true ds n now later t s v planned is = (is.0, λ un. absurd (cc (planned, un)))
 next-planned false ds n now later t s v planned is = is
 
-pub going-planned : (ds : List ℕ) (n now rest later : ℕ) (t : Option ℕ) (s : Machine) (f : Front) (v : LookView) → v.next.planned ≡ true
+pub going-planned : (ds : List ℕ) (n now rest later : ℕ) (t : Option ℕ) (s : Machine) (f : Front) (v : LookaheadView) → v.next.planned ≡ true
     → IsGoing ds n now rest t s f v → IsGoing ds n now later t s f v
 going-planned ds n now rest later t s f v planned is = assumption (next-planned (is_open v) ds n rest later t s v planned is.next)
 
 -- ---- behind a level that is done alone nothing is known of it
 
-closed-on : (b : Bool) (ds : List ℕ) (n now later : ℕ) (t : Option ℕ) (s : Machine) (v : LookView) → b ≡ false
+closed-on : (b : Bool) (ds : List ℕ) (n now later : ℕ) (t : Option ℕ) (s : Machine) (v : LookaheadView) → b ≡ false
     → IsNextIf b ds n now t s v → IsNextIf b ds n later t s v
 closed-on true ds n now later t s v closed is = absurd (cc closed)
 closed-on false ds n now later t s v closed is = is
 
-pub going-closed : (ds : List ℕ) (n now rest later : ℕ) (t : Option ℕ) (s : Machine) (f : Front) (v : LookView) → is_open v ≡ false
+pub going-closed : (ds : List ℕ) (n now rest later : ℕ) (t : Option ℕ) (s : Machine) (f : Front) (v : LookaheadView) → is_open v ≡ false
     → IsGoing ds n now rest t s f v → IsGoing ds n now later t s f v
 going-closed ds n now rest later t s f v closed is = assumption (closed-on (is_open v) ds n rest later t s v closed is.next)
 
 -- and nothing is asked for
-pub going-still : (ds : List ℕ) (n now rest later : ℕ) (t : Option ℕ) (s : Machine) (f : Front) (v : LookView) (next : Next) (log : List Made)
+pub going-still : (ds : List ℕ) (n now rest later : ℕ) (t : Option ℕ) (s : Machine) (f : Front) (v : LookaheadView) (next : Next) (log : List Made)
     → next ≡ v.next → log ≡ v.log → is_open v ≡ false → IsGoing ds n now rest t s f v
     → IsGoing ds n now later t s f (record { levels = v.levels; front = v.front; log = log; next = next })
 going-still ds n now rest later t s f v next log same kept closed is = rw (same, kept) (going-closed ds n now rest later t s f v closed is)
@@ -102,18 +102,18 @@ youngest-late now f last (q ∷ qs) late order some =
     omega (arith, before.1)
 
 pub going-late : (ds : List ℕ) (n now rest : ℕ) → ((g : Front) (e : Entry) → IsEntryInTime e → g.c < (row_of_entry ds n g e).c)
-    → (t : Option ℕ) (s : Machine) (f : Front) (v : LookView) → IsGoing ds n now rest t s f v → 1 ≤ count v → now < v.front.c
+    → (t : Option ℕ) (s : Machine) (f : Front) (v : LookaheadView) → IsGoing ds n now rest t s f v → 1 ≤ count v → now < v.front.c
 going-late ds n now rest later t s f v is some =
     let beside = levels-beside ds n now t s f v.front v.levels.ring v.levels.plans is.ahead.levels in
     let order = done-order ds n now later entry-ranges f.c t s f v.front v.levels.ring v.levels.plans is.machine is.indicator is.ahead.levels (omega arith) in
     youngest-late now f v.front v.levels.plans is.not_done order (omega (arith, beside, some))
 
-pub next-known : (ds : List ℕ) (n now rest : ℕ) (t : Option ℕ) (s : Machine) (f : Front) (v : LookView) → IsGoing ds n now rest t s f v
+pub next-known : (ds : List ℕ) (n now rest : ℕ) (t : Option ℕ) (s : Machine) (f : Front) (v : LookaheadView) → IsGoing ds n now rest t s f v
     → is_open v ≡ true → IsNext ds n (table_behind (count v) t) (guesses (count v) t s) v.front v.next
     × Rests rest (table_behind (count v) t) (guesses (count v) t s) v.front v.next
 next-known ds n now rest t s f v is opened = subst (λ (b : Bool). IsNextIf b ds n rest t s v) opened is.next
 
-pub known : (ds : List ℕ) (n now rest done : ℕ) (t : Option ℕ) (s : Machine) (f : Front) (v : LookView) → IsGoing ds n now rest t s f v
+pub known : (ds : List ℕ) (n now rest done : ℕ) (t : Option ℕ) (s : Machine) (f : Front) (v : LookaheadView) → IsGoing ds n now rest t s f v
     → is_open v ≡ true → IsStateBefore done v.front.past v.levels.x s (guesses (count v) t s)
     → IsKnown ds n done v.front v.levels.x s v.next
 known ds n now rest done t s f v is opened before = record {
@@ -124,7 +124,7 @@ known ds n now rest done t s f v is opened before = record {
   is_next = (next-known ds n now rest t s f v is opened).0;
 }
 
-pub going-front : (ds : List ℕ) (n now rest : ℕ) (t : Option ℕ) (s : Machine) (f : Front) (v : LookView) → IsGoing ds n now rest t s f v
+pub going-front : (ds : List ℕ) (n now rest : ℕ) (t : Option ℕ) (s : Machine) (f : Front) (v : LookaheadView) → IsGoing ds n now rest t s f v
     → n ≤ 8 → count v ≤ n → now < 2 ^ 63 → IsFrontInTime v.front
 going-front ds n now rest t s f v is most few early =
     let early : v.front.c ≤ 2 ^ 63 + 2 ^ 20 = omega (arith, is.early) in
@@ -132,14 +132,14 @@ going-front ds n now rest t s f v is most few early =
 
 -- ---- the bus behind all reads is that of the next entry's words
 
-bus-next : (b : Bool) (ds : List ℕ) (n now : ℕ) (t : Option ℕ) (s : Machine) (v : LookView) → IsNextIf b ds n now t s v
+bus-next : (b : Bool) (ds : List ℕ) (n now : ℕ) (t : Option ℕ) (s : Machine) (v : LookaheadView) → IsNextIf b ds n now t s v
     → bus_after_reads ds (reads_so_far ds v.front v.next) v.front.bus ≡ v.next.words.bus
 unfolding bus_after_reads
 bus-next true ds n now t s v is = served-so-far ds n (table_behind (count v) t) (guesses (count v) t s) v.front v.next is.0
 bus-next false ds n now t s v is =
     ap (λ reads. bus_after_reads ds reads v.front.bus) (new-reads ds v.front v.next is.1 is.2 is.0) ∙ ap (λ (w : Fetching). w.bus) (sym is.3)
 
-pub bus-ahead : (ds : List ℕ) (n tick now : ℕ) (t : Option ℕ) (s : Machine) (f : Front) (v : LookView) → IsNextIf (is_open v) ds n now t s v
+pub bus-ahead : (ds : List ℕ) (n tick now : ℕ) (t : Option ℕ) (s : Machine) (f : Front) (v : LookaheadView) → IsNextIf (is_open v) ds n now t s v
     → AreAhead ds n tick t s f v.front v.levels → bus_after_reads ds (reads_ahead ds n t s f v) f.bus ≡ v.next.words.bus
 bus-ahead ds n tick now t s f v is ahead =
     served-append ds (asked_ahead ds n (count v) t s f) (reads_so_far ds v.front v.next) f.bus
@@ -159,7 +159,7 @@ logged-more ds now before so_far after added b d log new is bus kept h =
 
 -- ---- it is known further
 
-pub known-further : (ds : List ℕ) (n now later : ℕ) (t : Option ℕ) (s : Machine) (f : Front) (v : LookView) (next : Next) (log : List Made)
+pub known-further : (ds : List ℕ) (n now later : ℕ) (t : Option ℕ) (s : Machine) (f : Front) (v : LookaheadView) (next : Next) (log : List Made)
     → is_open v ≡ true → v.next.planned ≡ false → IsStateBefore (later - 1) v.front.past v.levels.x s (guesses (count v) t s)
     → GoesOnTo ds n (later - 1) v.front v.levels.x s v.next next later → IsReadFurther ds v.front v.next next v.log log
     → IsGoing ds n now now t s f v

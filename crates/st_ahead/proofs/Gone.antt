@@ -17,7 +17,7 @@ use Rattle.st_ring.specs.declared.plans.Plan.{Plan}
 use Rattle.st_ring.proofs.LevelLemmas.{levels-beside}
 use Rattle.st_ring.proofs.OrderLemmas.{done-order}
 use Rattle.st_ring.proofs.RestLemmas.{ahead-rests}
-use Rattle.st_ahead.specs.Look.{LookView, IsLook, IsOutlook, count, is_open}
+use Rattle.st_ahead.specs.Forecast.{LookaheadView, IsLookahead, IsOutlook, count, is_open}
 use Rattle.st_ahead.specs.Going.{IsGoing, HasGone, WaitsFor}
 use Rattle.st_ahead.proofs.Due.{done-behind}
 use Rattle.st_ahead.proofs.Further.{next-planned, next-sooner}
@@ -77,7 +77,7 @@ module _ (ds : List ℕ) (n tick : ℕ) where
       due-below f last (q ∷ qs) each one = let first = All-first f last q qs each in omega (arith, first)
 
 -- it is not tick 0
-pub due-first : (ds : List ℕ) (n tick due : ℕ) (t : Option ℕ) (s : Machine) (f : Front) (v : LookView) → IsGoing ds n tick tick t s f v
+pub due-first : (ds : List ℕ) (n tick due : ℕ) (t : Option ℕ) (s : Machine) (f : Front) (v : LookaheadView) → IsGoing ds n tick tick t s f v
     → due ≡ due_of v.levels.plans → 1 ≤ due
 due-first ds n tick due t s f v is at =
     first-by v.levels.plans is.not_done at
@@ -88,7 +88,7 @@ due-first ds n tick due t s f v is at =
 
 -- ---- to the next preparation
 
-pub going-at : (ds : List ℕ) (n tick rest now later : ℕ) (t : Option ℕ) (s : Machine) (f : Front) (v : LookView) → tick ≤ now → now < due_of v.levels.plans
+pub going-at : (ds : List ℕ) (n tick rest now later : ℕ) (t : Option ℕ) (s : Machine) (f : Front) (v : LookaheadView) → tick ≤ now → now < due_of v.levels.plans
     → v.next.planned ≡ true → v.next.formed.p ≡ now → IsGoing ds n tick rest t s f v → IsGoing ds n now later t s f v
 going-at ds n tick rest now later t s f v behind before planned due is =
     let ahead_ = ahead-rests tick now behind ds n t s f v.front v.levels is.ahead in
@@ -99,7 +99,7 @@ going-at ds n tick rest now later t s f v behind before planned due is =
 
 -- ---- to the end: the next entry is not prepared before it
 
-going-gone : (ds : List ℕ) (n tick rest now : ℕ) (t : Option ℕ) (s : Machine) (f : Front) (v : LookView) → tick ≤ now → now < due_of v.levels.plans
+going-gone : (ds : List ℕ) (n tick rest now : ℕ) (t : Option ℕ) (s : Machine) (f : Front) (v : LookaheadView) → tick ≤ now → now < due_of v.levels.plans
     → now + 1 ≤ rest → (v.next.planned ≡ true → now < v.next.formed.p) → IsGoing ds n tick rest t s f v → IsOutlook ds n now (now + 1) t s f v
 going-gone ds n tick rest now t s f v behind before known late is =
     let ahead_ = ahead-rests tick now behind ds n t s f v.front v.levels is.ahead in
@@ -114,7 +114,7 @@ waits-late due last now p waits before early = omega (arith, by-contra)
     by-contra : p ≤ now → ⊥
     by-contra low = waits (omega (arith, low, before)) (omega (arith, low, early))
 
-gone-due : (ds : List ℕ) (n since tick last due : ℕ) (t : Option ℕ) (s : Machine) (f : Front) (v : LookView) → since ≤ tick → tick ≤ last → last < 2 ^ 63
+gone-due : (ds : List ℕ) (n since tick last due : ℕ) (t : Option ℕ) (s : Machine) (f : Front) (v : LookaheadView) → since ≤ tick → tick ≤ last → last < 2 ^ 63
     → due ≡ due_of v.levels.plans → due ≤ last → WaitsFor due last v → IsGoing ds n tick due t s f v → HasGone ds n since last t s f v (Some due)
 gone-due ds n since tick last due t s f v behind soon early is_due before waits is =
     let some = due-some ds n tick t s f v.front v.levels.ring v.levels.plans is.ahead.levels (omega (arith, is_due, before, early)) in
@@ -127,19 +127,19 @@ gone-due ds n since tick last due t s f v behind soon early is_due before waits 
       soon = before;
       some = some;
       row_is = sym c ∙ sym is_due;
-      look =
+      lookahead =
           subst (λ (x : ℕ). IsOutlook ds n (due - 1) x t s f v) at
           (going-gone ds n tick due (due - 1) t s f v (omega (arith, late)) (omega (arith, is_due, at)) (omega (arith, at))
           (λ planned. waits-late due last (due - 1) v.next.formed.p (waits planned) (omega (arith, at)) (omega (arith, before))) is);
     }
 
-gone-far : (ds : List ℕ) (n since tick last due : ℕ) (t : Option ℕ) (s : Machine) (f : Front) (v : LookView) → tick ≤ last
+gone-far : (ds : List ℕ) (n since tick last due : ℕ) (t : Option ℕ) (s : Machine) (f : Front) (v : LookaheadView) → tick ≤ last
     → due ≡ due_of v.levels.plans → last < due → WaitsFor due last v → IsGoing ds n tick due t s f v → HasGone ds n since last t s f v None
 gone-far ds n since tick last due t s f v soon is_due before waits is =
     going-gone ds n tick due last t s f v soon (omega (arith, is_due, before)) (omega (arith, before))
     (λ planned. waits-late due last last v.next.formed.p (waits planned) before (omega arith)) is
 
-pub gone-by : (b : Bool) (ds : List ℕ) (n since tick last due : ℕ) (t : Option ℕ) (s : Machine) (f : Front) (v : LookView) → nat_le due last ≡ b → since ≤ tick → tick ≤ last
+pub gone-by : (b : Bool) (ds : List ℕ) (n since tick last due : ℕ) (t : Option ℕ) (s : Machine) (f : Front) (v : LookaheadView) → nat_le due last ≡ b → since ≤ tick → tick ≤ last
     → last < 2 ^ 63 → due ≡ due_of v.levels.plans → WaitsFor due last v → IsGoing ds n tick due t s f v
     → HasGone ds n since last t s f v (if b then Some due else None)
 gone-by true ds n since tick last due t s f v e behind soon early is_due waits is =
@@ -148,21 +148,21 @@ gone-by false ds n since tick last due t s f v e behind soon early is_due waits 
     gone-far ds n since tick last due t s f v soon is_due (leb-false due last e) waits is
 
 -- where it was not done by then, all ticks up to `last` are passed
-pub gone-on : (o : Option ℕ) (ds : List ℕ) (n since last : ℕ) (t : Option ℕ) (s : Machine) (f : Front) (v : LookView) → last < (row_of_entry ds n f (entry t s)).c
+pub gone-on : (o : Option ℕ) (ds : List ℕ) (n since last : ℕ) (t : Option ℕ) (s : Machine) (f : Front) (v : LookaheadView) → last < (row_of_entry ds n f (entry t s)).c
     → HasGone ds n since last t s f v o → IsOutlook ds n last (last + 1) t s f v
 gone-on None ds n since last t s f v late h = h
 gone-on (Some due) ds n since last t s f v late h = absurd (omega (arith, late, h.soon, h.row_is))
 
 -- ---- with slots filled
 
-pub outlook-of : (ds : List ℕ) (n tick now : ℕ) (t : Option ℕ) (s : Machine) (f : Front) (v : LookView) → IsLook ds n tick now t s f v
+pub outlook-of : (ds : List ℕ) (n tick now : ℕ) (t : Option ℕ) (s : Machine) (f : Front) (v : LookaheadView) → IsLookahead ds n tick now t s f v
     → IsOutlook ds n tick now t s f v
 outlook-of ds n tick now t s f v is = is.outlook
 
 -- ---- the oldest entry is done later
 
-oldest-by : (ds : List ℕ) (n tick now k : ℕ) (t : Option ℕ) (s : Machine) (f : Front) (v : LookView) → count v ≡ k → 1 ≤ n → AreDelaysUpTo 255 ds → tick ≤ now
-    → IsLook ds n tick now t s f v → prepared_before now (ahead ds n n t s f) ≡ ahead ds n (count v) t s f → tick < (row_of_entry ds n f (entry t s)).c
+oldest-by : (ds : List ℕ) (n tick now k : ℕ) (t : Option ℕ) (s : Machine) (f : Front) (v : LookaheadView) → count v ≡ k → 1 ≤ n → AreDelaysUpTo 255 ds → tick ≤ now
+    → IsLookahead ds n tick now t s f v → prepared_before now (ahead ds n n t s f) ≡ ahead ds n (count v) t s f → tick < (row_of_entry ds n f (entry t s)).c
 oldest-by ds n tick now zero t s f v none some are soon is levels =
     let p = none-prepared ds n n (count v) now t s f some none levels in
     omega (arith, p, soon, cases.done-behind ds n f (entry t s) are (entry-ranges t s is.outlook.machine is.outlook.indicator) is.outlook.oldest)
@@ -170,17 +170,17 @@ oldest-by ds n tick now (suc k) t s f v one some are soon is levels =
     due-late ds n tick t s f v.front v.levels.ring v.levels.plans is.outlook.ahead.levels is.outlook.not_done (omega (arith, one)) (row_of_entry ds n f (entry t s)).c
     (sym (due-row ds n tick t s f v.front v.levels.ring v.levels.plans is.outlook.ahead.levels (omega (arith, one))))
 
-pub oldest-late : (ds : List ℕ) (n tick now : ℕ) (t : Option ℕ) (s : Machine) (f : Front) (v : LookView) → 1 ≤ n → AreDelaysUpTo 255 ds → tick ≤ now
-    → IsLook ds n tick now t s f v → prepared_before now (ahead ds n n t s f) ≡ ahead ds n (count v) t s f → tick < (row_of_entry ds n f (entry t s)).c
+pub oldest-late : (ds : List ℕ) (n tick now : ℕ) (t : Option ℕ) (s : Machine) (f : Front) (v : LookaheadView) → 1 ≤ n → AreDelaysUpTo 255 ds → tick ≤ now
+    → IsLookahead ds n tick now t s f v → prepared_before now (ahead ds n n t s f) ≡ ahead ds n (count v) t s f → tick < (row_of_entry ds n f (entry t s)).c
 oldest-late ds n tick now t s f v some are soon is levels = oldest-by ds n tick now (count v) t s f v refl some are soon is levels
 
 -- ---- no entry becomes a level at a tick
 
-pub look-rests : (ds : List ℕ) (n now : ℕ) (t : Option ℕ) (s : Machine) (f : Front) (v : LookView) → v.next.planned ≡ true → now < v.next.formed.p
-    → IsLook ds n now now t s f v → IsLook ds n now (now + 1) t s f v
-look-rests ds n now t s f v planned late looks =
-    let is = looks.outlook in
+pub lookahead-rests : (ds : List ℕ) (n now : ℕ) (t : Option ℕ) (s : Machine) (f : Front) (v : LookaheadView) → v.next.planned ≡ true → now < v.next.formed.p
+    → IsLookahead ds n now now t s f v → IsLookahead ds n now (now + 1) t s f v
+lookahead-rests ds n now t s f v planned late lookahead =
+    let is = lookahead.outlook in
     let start : f.c ≤ (now + 1) + 9 = omega (arith, is.start) in
     let early : v.front.c ≤ (now + 1) + 9 + most_ticks_of_entry * count v = omega (arith, is.early) in
     let late : v.next.planned ≡ true → (now + 1) ≤ v.next.formed.p = λ yes. omega (arith, late) in
-    record { outlook = assumption (All-weaker (λ (x : Level). x.p < now) (λ x. x.p < now + 1) (λ x h. omega (arith, h)) v.levels.ring is.prepared, next-planned (is_open v) ds n now (now + 1) t s v planned is.next); full = looks.full }
+    record { outlook = assumption (All-weaker (λ (x : Level). x.p < now) (λ x. x.p < now + 1) (λ x h. omega (arith, h)) v.levels.ring is.prepared, next-planned (is_open v) ds n now (now + 1) t s v planned is.next); full = lookahead.full }

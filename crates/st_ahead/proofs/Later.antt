@@ -33,7 +33,7 @@ use Rattle.st_next.specs.Words.{asked_so_far}
 use Rattle.st_next.specs.Progress.{IsNext, IsPlanned, Rests, reads_so_far}
 use Rattle.st_next.specs.declared.next.Next.{Next}
 use Rattle.st_next.proofs.Resting.{address-late, rest-left}
-use Rattle.st_ahead.specs.Look.{LookView, IsOutlook, IsNextIf, count, is_open, asked_ahead}
+use Rattle.st_ahead.specs.Forecast.{LookaheadView, IsOutlook, IsNextIf, count, is_open, asked_ahead}
 use Rattle.st_ahead.proofs.Further.{bus-ahead, some-by}
 
 -- no words
@@ -157,10 +157,10 @@ closed-by true b e = absurd (cc e)
 closed-by false true e = (refl, refl)
 closed-by false false e = absurd (cc e)
 
-pub look-later : (ds : List ℕ) (n tick now : ℕ) (t : Option ℕ) (s : Machine) (f : Front) (v : LookView) → AreOrdered ds n
+pub lookahead-later : (ds : List ℕ) (n tick now : ℕ) (t : Option ℕ) (s : Machine) (f : Front) (v : LookaheadView) → AreOrdered ds n
     → now ≤ tick + 1 → IsOutlook ds n tick now t s f v → All (λ q. (f.c < q.c) × (q.c ≤ v.front.c)) v.levels.plans
     → IsLater ds n now v.front (entry (table_behind (count v) t) (guesses (count v) t s)) v.next
-look-later ds n tick now t s f v ordered soon is order = by-open (is_open v) refl is.next
+lookahead-later ds n tick now t s f v ordered soon is order = by-open (is_open v) refl is.next
   where
     by-open : (b : Bool) → is_open v ≡ b → IsNextIf b ds n now t s v
         → IsLater ds n now v.front (entry (table_behind (count v) t) (guesses (count v) t s)) v.next
@@ -255,7 +255,7 @@ few-so-far ds f next =
     few-if true = omega (arith, few-side f.past next.entry.side next.formed.a, at-most-one next.entry.side)
     few-if false = omega arith
 
-few-next : (b : Bool) (ds : List ℕ) (n now : ℕ) (t : Option ℕ) (s : Machine) (v : LookView) → IsNextIf b ds n now t s v
+few-next : (b : Bool) (ds : List ℕ) (n now : ℕ) (t : Option ℕ) (s : Machine) (v : LookaheadView) → IsNextIf b ds n now t s v
     → IsEntryInTime (entry (table_behind (count v) t) (guesses (count v) t s)) → length (reads_so_far ds v.front v.next) ≤ 5
 few-next true ds n now t s v is range =
     omega (
@@ -324,7 +324,7 @@ few-ahead ds n tick now t s f last (level ∷ second ∷ levels) (q ∷ qs) more
           );
     }
 
-pub banks-left : (ds : List ℕ) (n tick now : ℕ) (t : Option ℕ) (s : Machine) (f : Front) (v : LookView) → AreOrdered ds n → AreDelaysUpTo 255 ds
+pub banks-left : (ds : List ℕ) (n tick now : ℕ) (t : Option ℕ) (s : Machine) (f : Front) (v : LookaheadView) → AreOrdered ds n → AreDelaysUpTo 255 ds
     → now ≤ tick + 1 → count v ≤ n → 1 ≤ count v → IsOutlook ds n tick now t s f v
     → All (λ q. (f.c < q.c) × (q.c ≤ v.front.c)) v.levels.plans → f.bus.free ≤ now
     → IsEntryInTime (entry (table_behind (count v) t) (guesses (count v) t s))
@@ -335,7 +335,7 @@ unfolding ahead reads_before
 banks-left ds n tick now t s f v ordered are soon few some is order free range =
     let k = table_behind (count v) t in
     let u = guesses (count v) t s in
-    let later = look-later ds n tick now t s f v ordered soon is order in
+    let later = lookahead-later ds n tick now t s f v ordered soon is order in
     let first : (row_of_entry ds n f (entry t s)).p < now = oldest-prepared ds n tick now t s f v.front v.levels.ring v.levels.plans is.ahead.levels is.prepared some in
     let made = asked_ahead ds n (count v) t s f in
     let so_far = reads_so_far ds v.front v.next in

@@ -3,7 +3,7 @@ use Rattle.std.proofs.Common.{◌<◌, ◌≤◌, ◌+◌, arith, sym, ◌∙◌
 use Rattle.std.proofs.lemmas.List.Elements.{All-weaker}
 use Rattle.st_ring.specs.declared.plans.Plan.{Plan}
 use Rattle.st_ahead.proofs.OpenLevels.{levels-run}
-use Rattle.st_ahead.specs.Look.{count, is_open, IsNextIf}
+use Rattle.st_ahead.specs.Forecast.{count, is_open, IsNextIf}
 use Rattle.st_ahead.proofs.Due.{becomes-level, planned-open}
 use Rattle.st_segment.specs.Entries.{entry}
 use Rattle.st_segment.specs.Guesses.{guesses, table_behind}
@@ -11,13 +11,13 @@ use Rattle.st_segment.proofs.EntryRanges.{entry-ranges}
 use Rattle.st_segment.proofs.GuessLemmas.{behind-indicator, guesses-machine}
 use Rattle.st_next.proofs.Contents.{words-entry, contents-same}
 use Rattle.st_ahead.proofs.Further.{next-known}
-use Rattle.st_ahead.proofs.Settling.{look-goes}
-use Rattle.st_ahead.proofs.Openings.{opening-looks}
+use Rattle.st_ahead.proofs.Settling.{lookahead-goes}
+use Rattle.st_ahead.proofs.Openings.{opening-lookahead}
 use Rattle.st_rows.specs.Rows.{row_of_entry, tick_c}
-use Rattle.st_ahead.proofs.SameLook.{look-same, opened-same, look-ahead}
+use Rattle.st_ahead.proofs.SameLookahead.{lookahead-same, opened-same, lookahead-ahead}
 use Rattle.st_ahead.proofs.Gone.{outlook-of}
-use Rattle.st_ahead.proofs.Later.{AreOrdered, look-later, banks-left, made-soon}
-use Rattle.st_ahead.specs.Laws.{OpenLevelsRunAhead, NextEntriesAreKnown, PlannedEntriesBecomeLevels, InstructionWordsAreThoseOfTheRun, OpeningsLook, SignalsLeaveLooks, LooksAreLevels, TheBanksAreLeft}
+use Rattle.st_ahead.proofs.Later.{AreOrdered, lookahead-later, banks-left, made-soon}
+use Rattle.st_ahead.specs.Laws.{OpenLevelsRunAhead, NextEntriesAreKnown, PlannedEntriesBecomeLevels, InstructionWordsAreThoseOfTheRun, OpeningsLookAhead, SignalsLeaveLookaheads, LookaheadsAreLevels, TheBanksAreLeft}
 use Rattle.st_ring.proofs.Laws.{levels_are_the_entries_ahead, levels_come_in_order, levels_that_are_not_done_run_ahead, writers_are_seen}
 use Rattle.st_segment.proofs.Laws.{entries_are_in_range, guesses_go_on, guesses_leave_the_rest, index_words_run_ahead}
 use Rattle.st_rows.proofs.Laws.{buses_are_free_in_time, reads_are_wanted_in_time, rows_are_in_order}
@@ -47,13 +47,13 @@ planned_entries_become_levels = λ ds n now t s f v some most are few early is p
 
 pub instruction_words_are_those_of_the_run : InstructionWordsAreThoseOfTheRun
 instruction_words_are_those_of_the_run = record {
-  held = λ ds n now w t s f v few look opened above done.
-      let is = look-goes ds n now t s f v look in
+  held = λ ds n now w t s f v few lookahead opened above done.
+      let is = lookahead-goes ds n now t s f v lookahead in
       let run = open_levels_run_ahead ds n now t s f v is.ahead is.prepared is.not_done opened in
       let before = next_entries_are_known ds n now now t s f v is.machine is.indicator is.ahead is.not_done few run in
       sym (before.storage w above done);
-  words = λ ds n now t s f v few look opened done.
-      let is = look-goes ds n now t s f v look in
+  words = λ ds n now t s f v few lookahead opened done.
+      let is = lookahead-goes ds n now t s f v lookahead in
       let run = open_levels_run_ahead ds n now t s f v is.ahead is.prepared is.not_done opened in
       let before = next_entries_are_known ds n now now t s f v is.machine is.indicator is.ahead is.not_done few run in
       let next = (next-known ds n now now t s f v is opened).0 in
@@ -63,28 +63,28 @@ instruction_words_are_those_of_the_run = record {
       (entry-ranges k u before.machine (behind-indicator (count v) t is.indicator)) in
       contents-same ds now v.front v.levels.x s u v.next.own v.next.target before words
       (subst (λ (a : ℕ). a ≤ now) next.read_on.awaited done);
-  fetched = λ ds n tick now t s f v look planned.
-      let opened = planned-open (is_open v) ds n now t s v look.outlook.next planned in
-      let next = (subst (λ (b : Bool). IsNextIf b ds n now t s v) opened look.outlook.next).0 in
+  fetched = λ ds n tick now t s f v lookahead planned.
+      let opened = planned-open (is_open v) ds n now t s v lookahead.outlook.next planned in
+      let next = (subst (λ (b : Bool). IsNextIf b ds n now t s v) opened lookahead.outlook.next).0 in
       (next.planned planned).found;
 }
 
-pub openings_look : OpeningsLook
-openings_look = opening-looks
+pub openings_look_ahead : OpeningsLookAhead
+openings_look_ahead = opening-lookahead
 
-pub signals_leave_looks : SignalsLeaveLooks
-signals_leave_looks = record {
-  look = λ ds n tick now s u f v some most are is late done m beside.
-      look-same ds n tick now s u f v
-      (look-ahead ds n tick now (λ g e alone.
+pub signals_leave_lookaheads : SignalsLeaveLookaheads
+signals_leave_lookaheads = record {
+  lookahead = λ ds n tick now s u f v some most are is late done m beside.
+      lookahead-same ds n tick now s u f v
+      (lookahead-ahead ds n tick now (λ g e alone.
       let a : g.c < (row_of_entry ds n g e).a = rows_are_in_order.alone ds n g e alone in
       let p : (row_of_entry ds n g e).a < (row_of_entry ds n g e).p = rows_are_in_order.prepared ds n g e in
       omega arith) None s f v is late (omega arith)) is m beside;
   opening = opened-same;
 }
 
-pub looks_are_levels : LooksAreLevels
-looks_are_levels = λ ds n tick now t s f v some most are soon few is.
+pub lookaheads_are_levels : LookaheadsAreLevels
+lookaheads_are_levels = λ ds n tick now t s f v some most are soon few is.
     let ordered : AreOrdered ds n = record {
       alone = rows_are_in_order.alone ds n;
       prepared = rows_are_in_order.prepared ds n;
@@ -92,7 +92,7 @@ looks_are_levels = λ ds n tick now t s f v some most are soon few is.
       behind = reads_are_wanted_in_time.«data» ds n;
     } in
     let order = levels_come_in_order.completed ds n tick t s f v.front v.levels is.outlook.machine is.outlook.indicator is.outlook.ahead in
-    let later = look-later ds n tick now t s f v ordered soon (outlook-of ds n tick now t s f v is) order in
+    let later = lookahead-later ds n tick now t s f v ordered soon (outlook-of ds n tick now t s f v is) order in
     (levels_are_the_entries_ahead.prepared ds n tick now n t s f v.front v.levels is.outlook.ahead is.outlook.prepared later.prepared few).0
 
 pub the_banks_are_left : TheBanksAreLeft

@@ -1,9 +1,9 @@
 pub mod Openings
-pub mod SameLook
+pub mod SameLookahead
 pub mod OpenLevels
 pub mod Later
 pub mod LevelTicks
-pub mod DoneLooks
+pub mod DoneLookahead
 pub mod TickCases
 pub mod Standing
 pub mod Settling

@@ -28,7 +28,7 @@ use Rattle.st_ring.specs.Levels.{LevelsView, AreLevels, AreAhead, AreFull}
 use Rattle.st_next.specs.Words.{words_so_far, asked_so_far, IsStart, AreFirstWords}
 use Rattle.st_next.specs.Progress.{IsNext, Rests, reads_so_far}
 use Rattle.st_next.specs.declared.next.Next.{Next}
-use Rattle.st_ahead.specs.Look.{LookView, IsLook, IsOpened}
+use Rattle.st_ahead.specs.Forecast.{LookaheadView, IsLookahead, IsOpened}
 
 abbrev none : WordRun
 none = record { first = 0; len = 0 }
@@ -127,12 +127,12 @@ next-none ds n now t s f next place no_own no_target unplanned words late alone 
 
 -- ---- all of it
 
-pub opening-looks : (ds : List ℕ) (n tick now start : ℕ) (t : Option ℕ) (s : Machine) (banks : LastAnswers) (v : LookView)
+pub opening-lookahead : (ds : List ℕ) (n tick now start : ℕ) (t : Option ℕ) (s : Machine) (banks : LastAnswers) (v : LookaheadView)
     → IsOpened t s (opening_front banks start) v → IsMachine s → IfSome t (λ i. i < 64)
     → All (λ b. b ≤ start + 255) banks.ticks → now ≤ start → start ≤ now + 9
-    → IsLook ds n tick now t s (opening_front banks start) v
+    → IsLookahead ds n tick now t s (opening_front banks start) v
 unfolding guesses ahead
-opening-looks ds n tick now start t s banks v is machine some early before soon =
+opening-lookahead ds n tick now start t s banks v is machine some early before soon =
     let f = opening_front banks start in
     let tight = opening-tight start banks early in
     let front : v.front ≡ f = is.front in

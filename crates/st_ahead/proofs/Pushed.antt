@@ -21,7 +21,7 @@ use Rattle.st_segment.specs.Guesses.{guesses, table_behind}
 use Rattle.st_ring.specs.Levels.{AreAhead, AreNotDone}
 use Rattle.st_next.specs.Progress.{reads_so_far}
 use Rattle.st_next.proofs.Starting.{new-next, new-rests, new-reads}
-use Rattle.st_ahead.specs.Look.{LookView, IsNextIf, count, is_open, asked_ahead, reads_ahead}
+use Rattle.st_ahead.specs.Forecast.{LookaheadView, IsNextIf, count, is_open, asked_ahead, reads_ahead}
 use Rattle.st_ahead.specs.Going.{IsGoing, BecomesLevel}
 use Rattle.st_ahead.proofs.Further.{bus-ahead, logged-more}
 use Rattle.st_ahead.proofs.Due.{reads-formed}
@@ -45,7 +45,7 @@ wanted-alone : (alone : Bool) (p c : ℕ) → alone ≡ false → (if alone then
 wanted-alone false p c is = refl
 wanted-alone true p c is = absurd (cc is)
 
-module _ (ds : List ℕ) (n now : ℕ) (t : Option ℕ) (s : Machine) (f : Front) (v w : LookView) where
+module _ (ds : List ℕ) (n now : ℕ) (t : Option ℕ) (s : Machine) (f : Front) (v w : LookaheadView) where
   abbrev k : Option ℕ
   k = table_behind (count v) t
 

@@ -23,7 +23,7 @@ use Rattle.st_ahead.specs.Calls.{is_done, row_done, machine_after_completion, ma
 use Rattle.st_ahead.specs.RunTo.{ArePassed, may_come_from_outside}
 use Rattle.st_ahead.specs.RowsDone.{Queue, queue_with, rows_in_ticks}
 use Rattle.st_ahead.specs.Running.{IsAwake, GoesFrom, HasPassed}
-use Rattle.st_ahead.specs.Look.{LookView, IsLook, IsOutlook, count}
+use Rattle.st_ahead.specs.Forecast.{LookaheadView, IsLookahead, IsOutlook, count}
 use Rattle.st_ahead.specs.Going.{IsGoing, IsDueAt}
 use Rattle.st_ahead.specs.Inside.{answers_before}
 use Rattle.st_ahead.specs.declared.events.Row.{Row}
@@ -31,7 +31,7 @@ use Rattle.st_ahead.specs.declared.events.Settled.TheVariants.{Goes}
 use Rattle.st_ahead.proofs.Idling.{are-idle, goes-passed, passed-none}
 use Rattle.st_ahead.proofs.Passing.{passed-join, passed-one, passed-any, goes-answers}
 use Rattle.st_ahead.proofs.LevelTicks.{done-after, done-later}
-use Rattle.st_ahead.proofs.Settling.{look-runs}
+use Rattle.st_ahead.proofs.Settling.{lookahead-runs}
 use Rattle.st_ahead.proofs.NotedRows.{queue-both, queue-none, rows-join, rows-none, row-one}
 use Rattle.st_ahead.proofs.Standing.{same-answers, same-row, told}
 use Rattle.st_ring.proofs.OrderLemmas.{after-c}
@@ -100,7 +100,7 @@ move ds n count k j now to at t x s u f g same there are =
 -- from the tick `now` on all ticks are passed up to a tick, `last` at the latest; v runs ahead of
 -- the state u, and k says whether its next entry is a table instruction
 pub record IsRunning (ds : List ℕ) (n count last now : ℕ) (t : Option ℕ) (s : Machine) (f : Front)
-    (k : Option ℕ) (u : Machine) (v : LookView) : Type 0 where
+    (k : Option ℕ) (u : Machine) (v : LookaheadView) : Type 0 where
   pub tick : ℕ
   pub front : Front
   pub passed : ArePassed count (tick + 1 - now) (machine_between_ticks ds n s t f now)
@@ -110,7 +110,7 @@ pub record IsRunning (ds : List ℕ) (n count last now : ℕ) (t : Option ℕ) (
   pub awake : IsAwake k u
   pub going : IsGoing ds n tick tick k u front v
 
-pub running-idle : (ds : List ℕ) (n count last now to : ℕ) (t k : Option ℕ) (s u : Machine) (f : Front) (v : LookView)
+pub running-idle : (ds : List ℕ) (n count last now to : ℕ) (t k : Option ℕ) (s u : Machine) (f : Front) (v : LookaheadView)
     (is : IsRunning ds n count last now t s f k u v) → is.tick < to → to ≤ (row_of_entry ds n is.front (entry k u)).c
     → ArePassed count (to - now) (machine_between_ticks ds n s t f now) (machine_between_ticks ds n u k is.front to)
 running-idle ds n count last now to t k s u f v is later soon =
@@ -119,7 +119,7 @@ running-idle ds n count last now to t k s u f v is later soon =
     (passed-join count (is.tick + 1 - now) (to - (is.tick + 1)) _ _ _ is.passed (passed-any count (to - (is.tick + 1)) _ _ idle))
 
 -- no entry is done in them
-pub rows-idle : (ds : List ℕ) (n count last now to : ℕ) (t k : Option ℕ) (s u : Machine) (f : Front) (v : LookView)
+pub rows-idle : (ds : List ℕ) (n count last now to : ℕ) (t k : Option ℕ) (s u : Machine) (f : Front) (v : LookaheadView)
     (is : IsRunning ds n count last now t s f k u v) → is.tick < to → to ≤ (row_of_entry ds n is.front (entry k u)).c
     → rows_in_ticks (is.tick + 1 - now) (machine_between_ticks ds n s t f now) ≡ rows_in_ticks (to - now) (machine_between_ticks ds n s t f now)
 rows-idle ds n count last now to t k s u f v is later soon =
@@ -146,36 +146,36 @@ start-by ds n count zero t s f m some awake =
 start-by ds n count (suc now) t s f m some awake =
     move ds n count 0 _ (suc now) (suc now) _ t t s s f f (omega arith) (omega arith) (passed-none count (machine_between_ticks ds n s t f (suc now)))
 
-pub running-starts : (ds : List ℕ) (n count last now : ℕ) (t : Option ℕ) (s : Machine) (f : Front) (v : LookView)
+pub running-starts : (ds : List ℕ) (n count last now : ℕ) (t : Option ℕ) (s : Machine) (f : Front) (v : LookaheadView)
     → GoesFrom ds n last now t s f v → IsRunning ds n count last now t s f t s v
 running-starts ds n count last now t s f v is = record {
   tick = now - 1;
   front = f;
-  passed = start-by ds n count now t s f is.look.outlook.machine is.look.outlook.indicator is.awake;
+  passed = start-by ds n count now t s f is.lookahead.outlook.machine is.lookahead.outlook.indicator is.awake;
   behind = omega arith;
   soon = omega (arith, is.soon);
   awake = is.awake;
-  going = look-runs ds n now t s f v is.look;
+  going = lookahead-runs ds n now t s f v is.lookahead;
 }
 
 -- so it runs, and of the entries that are done the rows wait
-pub record IsNoting (ds : List ℕ) (n count last now : ℕ) (t : Option ℕ) (s : Machine) (f : Front) (k : Option ℕ) (u : Machine) (v : LookView)
+pub record IsNoting (ds : List ℕ) (n count last now : ℕ) (t : Option ℕ) (s : Machine) (f : Front) (k : Option ℕ) (u : Machine) (v : LookaheadView)
     (old new : Queue) : Type 0 where
   pub run : IsRunning ds n count last now t s f k u v
   pub noted : new ≡ queue_with (rows_in_ticks (run.tick + 1 - now) (machine_between_ticks ds n s t f now)) old
 
-pub noting-starts : (ds : List ℕ) (n count last now : ℕ) (t : Option ℕ) (s : Machine) (f : Front) (v : LookView) (q : Queue)
+pub noting-starts : (ds : List ℕ) (n count last now : ℕ) (t : Option ℕ) (s : Machine) (f : Front) (v : LookaheadView) (q : Queue)
     → GoesFrom ds n last now t s f v → IsNoting ds n count last now t s f t s v q q
 unfolding running-starts
 noting-starts ds n count last now t s f v q is = record {
   run = running-starts ds n count last now t s f v is;
   noted = queue-none q ∙ ap {A = List Row} (λ xs. queue_with xs q)
-      (sym (rows-none (now - 1 + 1 - now) _ _ (start-by ds n 0 now t s f is.look.outlook.machine is.look.outlook.indicator is.awake)));
+      (sym (rows-none (now - 1 + 1 - now) _ _ (start-by ds n 0 now t s f is.lookahead.outlook.machine is.lookahead.outlook.indicator is.awake)));
 }
 
 -- ---- behind an entry that is done it goes on
 
-going-done : (ds : List ℕ) (n due : ℕ) (s : Machine) (f : Front) (v : LookView) → f.c ≡ due → IsOutlook ds n (due - 1) due None s f v
+going-done : (ds : List ℕ) (n due : ℕ) (s : Machine) (f : Front) (v : LookaheadView) → f.c ≡ due → IsOutlook ds n (due - 1) due None s f v
     → IsGoing ds n due due None s f v
 going-done ds n due s f v at is =
     let ahead_ = ahead-rests (due - 1) due (omega arith) ds n None s f v.front v.levels is.ahead in
@@ -187,7 +187,7 @@ missed-none : (b : Bool) (h : ℕ) → (if b then Some h else None) ≡ None →
 missed-none true h e = absurd (cc e)
 missed-none false h e = refl
 
-module _ (ds : List ℕ) (n count last now due : ℕ) (t k : Option ℕ) (s u x : Machine) (f : Front) (v w new : LookView) (done : Completed)
+module _ (ds : List ℕ) (n count last now due : ℕ) (t k : Option ℕ) (s u x : Machine) (f : Front) (v w new : LookaheadView) (done : Completed)
     (is : IsRunning ds n count last now t s f k u v) (at : IsDueAt ds n is.tick last k u is.front w due)
     (state : x ≡ state_after_execution k u) (told : IsCompleted ds n k u is.front done) where
   pub running-on : IsOutlook ds n (due - 1) due None (guess k u) (front_after_entry ds n is.front (entry k u)) new
@@ -223,7 +223,7 @@ unfolding state_ahead oldest_row
 row-between n ds s u t f tick number done counted address p r =
     same-row number done.address done.p done.r tick _ _ _ _ counted address p r
 
-module _ (ds : List ℕ) (n count last now due : ℕ) (t k : Option ℕ) (s u x : Machine) (f : Front) (v w new : LookView) (done : Completed)
+module _ (ds : List ℕ) (n count last now due : ℕ) (t k : Option ℕ) (s u x : Machine) (f : Front) (v w new : LookaheadView) (done : Completed)
     (is : IsRunning ds n count last now t s f k u v) (at : IsDueAt ds n is.tick last k u is.front w due)
     (told_of : IsCompleted ds n k u is.front done) (counted : x.done ≡ u.done + 1) where
   abbrev start : Overlap
@@ -256,7 +256,7 @@ module _ (ds : List ℕ) (n count last now due : ℕ) (t k : Option ℕ) (s u x 
       ∙ queue-both (rows_in_ticks (is.tick + 1 - now) start) (row ∷ []) old
       ∙ ap {A = List Row} (λ xs. queue_with xs old) rows-on
 
-module _ (ds : List ℕ) (n count last now due : ℕ) (t k : Option ℕ) (s u x : Machine) (f : Front) (v w new : LookView) (done : Completed) (old mid : Queue)
+module _ (ds : List ℕ) (n count last now due : ℕ) (t k : Option ℕ) (s u x : Machine) (f : Front) (v w new : LookaheadView) (done : Completed) (old mid : Queue)
     (is : IsNoting ds n count last now t s f k u v old mid) (at : IsDueAt ds n is.run.tick last k u is.run.front w due)
     (state : x ≡ state_after_execution k u) (told_of : IsCompleted ds n k u is.run.front done) where
   pub noting-on : IsOutlook ds n (due - 1) due None (guess k u) (front_after_entry ds n is.run.front (entry k u)) new
@@ -275,18 +275,18 @@ module _ (ds : List ℕ) (n count last now due : ℕ) (t k : Option ℕ) (s u x 
 
 -- ---- it ends
 
-pub running-ends : (ds : List ℕ) (n count last now : ℕ) (t k : Option ℕ) (s u : Machine) (f : Front) (v w : LookView)
-    (is : IsRunning ds n count last now t s f k u v) → last < (row_of_entry ds n is.front (entry k u)).c → IsLook ds n last (last + 1) k u is.front w
+pub running-ends : (ds : List ℕ) (n count last now : ℕ) (t k : Option ℕ) (s u : Machine) (f : Front) (v w : LookaheadView)
+    (is : IsRunning ds n count last now t s f k u v) → last < (row_of_entry ds n is.front (entry k u)).c → IsLookahead ds n last (last + 1) k u is.front w
     → HasPassed ds n count last now t s f k u w
-running-ends ds n count last now t k s u f v w is late look = record {
+running-ends ds n count last now t k s u f v w is late lookahead = record {
   front = is.front;
   passed = running-idle ds n count last now (last + 1) t k s u f v is (omega (arith, is.soon)) (omega (arith, late));
   awake = is.awake;
-  look = look;
+  lookahead = lookahead;
 }
 
 -- the answers of the banks at the end of a segment
-pub banks-between : (ds : List ℕ) (n now : ℕ) (t : Option ℕ) (s : Machine) (f : Front) (v : LookView)
+pub banks-between : (ds : List ℕ) (n now : ℕ) (t : Option ℕ) (s : Machine) (f : Front) (v : LookaheadView)
     → (made_before ds now (reads_of_entry ds n f (entry t s) ++ reads_before ds n now (ahead ds n (suc n) None (guess t s) (front_after_entry ds n f (entry t s)))) f.bus).banks.ticks
     ≡ (answers_before now v).ticks
     → banks_at_its_end (machine_between_ticks ds n s t f now) ≡ answers_before now v

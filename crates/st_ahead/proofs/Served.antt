@@ -14,7 +14,7 @@ use Rattle.st_segment.specs.Guesses.{guesses, table_behind}
 use Rattle.st_segment.proofs.GuessLemmas.{behind-none}
 use Rattle.st_ring.specs.Levels.{AreLevels}
 use Rattle.st_ring.specs.declared.plans.Plan.{Plan}
-use Rattle.st_ahead.specs.Look.{asked_ahead}
+use Rattle.st_ahead.specs.Forecast.{asked_ahead}
 
 module _ (ds : List ℕ) (n tick : ℕ) where
   pub served-ahead : (t : Option ℕ) (s : Machine) (f last : Front) (ring : List Level) (plans : List Plan)

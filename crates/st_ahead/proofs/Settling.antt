@@ -18,10 +18,10 @@ use Rattle.st_segment.specs.Ahead.{ahead, prepared_before}
 use Rattle.st_ring.proofs.LevelLemmas.{length-ahead}
 use Rattle.st_ahead.specs.Overlap.{Overlap, state_ahead, with_counter, levels_of, interrupt_due, idle_banks}
 use Rattle.st_ahead.specs.Calls.{drop_count, machine_after_segment, machine_after_pass, machine_after_settling, answer, settled_by, answer_by}
-use Rattle.st_ahead.specs.Look.{LookView, IsLook, IsOpened, count, is_open}
+use Rattle.st_ahead.specs.Forecast.{LookaheadView, IsLookahead, IsOpened, count, is_open}
 use Rattle.st_ahead.specs.Going.{IsGoing}
-use Rattle.st_ahead.specs.Inside.{overlap_of, answers_before, IsBetween, IsInside, IsInTime, IsLooking}
-use Rattle.st_ahead.proofs.Openings.{opening-looks}
+use Rattle.st_ahead.specs.Inside.{overlap_of, answers_before, IsBetween, IsInside, IsInTime, IsLookaheadOf}
+use Rattle.st_ahead.proofs.Openings.{opening-lookahead}
 use Rattle.st_ahead.specs.declared.events.Settled.TheVariants.{Goes, Interrupt, Missed, Waits}
 use Rattle.st_ahead.proofs.Further.{next-sooner}
 use Rattle.st_ahead.proofs.Standing.{opened-answers, opened-front, same-fields, inside-fresh, inside-between}
@@ -29,7 +29,7 @@ use Rattle.st_rows.specs.Ranges.{most_ticks_of_entry}
 
 -- ---- what is due where no entry was done
 
-pub quiet-inside : (halt : Bool) (n : ℕ) (ds : List ℕ) (s : Machine) (t b : Option ℕ) (now : ℕ) (owed over fresh : Bool) (v : LookView)
+pub quiet-inside : (halt : Bool) (n : ℕ) (ds : List ℕ) (s : Machine) (t b : Option ℕ) (now : ℕ) (owed over fresh : Bool) (v : LookaheadView)
     → IsInside (overlap_of n ds s t b now owed over halt fresh v) fresh v → (overlap_of n ds s t b now owed over halt fresh v).closing ≡ None
     → (interrupt_due (overlap_of n ds s t b now owed over halt fresh v) ≡ None) × (rests s ≡ false) × (b ≡ None)
 quiet-inside halt n ds s t b now owed over false v is e = is.quiet refl
@@ -130,14 +130,14 @@ settled-goes m x due goes right is = rw (due, goes, right) is
 
 -- ---- the levels that are dropped
 
-pub levels-counted : (halt : Bool) (n : ℕ) (ds : List ℕ) (s : Machine) (t b : Option ℕ) (now : ℕ) (fresh : Bool) (v : LookView)
+pub levels-counted : (halt : Bool) (n : ℕ) (ds : List ℕ) (s : Machine) (t b : Option ℕ) (now : ℕ) (fresh : Bool) (v : LookaheadView)
     → prepared_before now (ahead ds n n t (with_counter b s) (oldest_front v.levels.plans v.front)) ≡ ahead ds n (count v) t (with_counter b s) (oldest_front v.levels.plans v.front)
     → length (levels_of (overlap_of n ds s t b now true false halt fresh v)) ≡ count v
 unfolding levels_of state_ahead
 levels-counted halt n ds s t b now fresh v levels =
     ap length levels ∙ length-ahead ds n (count v) t (with_counter b s) (oldest_front v.levels.plans v.front)
 
-pub end-hazard_free : (halt : Bool) (n : ℕ) (ds : List ℕ) (s : Machine) (b : Option ℕ) (now : ℕ) (v w : LookView)
+pub end-hazard_free : (halt : Bool) (n : ℕ) (ds : List ℕ) (s : Machine) (b : Option ℕ) (now : ℕ) (v w : LookaheadView)
     → IsInside (overlap_of n ds s None b now true false halt true v) true v → IsMachine s → count v ≤ n
     → length (levels_of (overlap_of n ds s None b now true false halt true v)) ≡ count v
     → IsOpened None s (opening_front (answers_before now v) (now + 1 + count v)) w
@@ -168,18 +168,18 @@ end-hazard_free halt n ds s b now v w is m most levels opened early =
     )
 
 -- where the segment has ended already
-pub end-again : (halt : Bool) (n : ℕ) (ds : List ℕ) (s : Machine) (t b : Option ℕ) (now : ℕ) (owed over fresh : Bool) (v : LookView) → over ≡ true
+pub end-again : (halt : Bool) (n : ℕ) (ds : List ℕ) (s : Machine) (t b : Option ℕ) (now : ℕ) (owed over fresh : Bool) (v : LookaheadView) → over ≡ true
     → (0 ≡ drop_count (overlap_of n ds s t b now owed over halt fresh v))
     × (overlap_of n ds s t b now owed over halt fresh v ≡ machine_after_segment (overlap_of n ds s t b now owed over halt fresh v))
 unfolding drop_count machine_after_segment
 end-again halt n ds s t b now owed true fresh v e = (refl, refl)
 end-again halt n ds s t b now owed false fresh v e = absurd (cc e)
 
-pub end-first : (halt : Bool) (n : ℕ) (ds : List ℕ) (s : Machine) (t b : Option ℕ) (now : ℕ) (owed over fresh : Bool) (v w : LookView)
+pub end-first : (halt : Bool) (n : ℕ) (ds : List ℕ) (s : Machine) (t b : Option ℕ) (now : ℕ) (owed over fresh : Bool) (v w : LookaheadView)
     → IsInside (overlap_of n ds s t b now owed over halt fresh v) fresh v → IsMachine s → owed ≡ true → over ≡ false → fresh ≡ true → count v ≤ n
-    → (IsLook ds n now now t (with_counter b s) (oldest_front v.levels.plans v.front) v
+    → (IsLookahead ds n now now t (with_counter b s) (oldest_front v.levels.plans v.front) v
     → prepared_before now (ahead ds n n t (with_counter b s) (oldest_front v.levels.plans v.front)) ≡ ahead ds n (count v) t (with_counter b s) (oldest_front v.levels.plans v.front))
-    → (IsLook ds n now now t (with_counter b s) (oldest_front v.levels.plans v.front) v → IsOpened None s (opening_front (answers_before now v) (now + 1 + count v)) w)
+    → (IsLookahead ds n now now t (with_counter b s) (oldest_front v.levels.plans v.front) v → IsOpened None s (opening_front (answers_before now v) (now + 1 + count v)) w)
     → All (λ x. x ≤ now + 1 + count v + 255) (answers_before now v).ticks
     → IsInside (overlap_of n ds s t b now owed true halt fresh w) fresh w
     × (count v ≡ drop_count (overlap_of n ds s t b now owed over halt fresh v))
@@ -190,10 +190,10 @@ end-first halt n ds s t b now true true fresh v w is m owes ends done most level
 end-first halt n ds s t b now true false false v w is m owes ends done most levels opened early = absurd (cc done)
 end-first halt n ds s (Some i) b now true false true v w is m owes ends done most levels opened early = absurd (cc ((is.done refl).0))
 end-first halt n ds s None b now true false true v w is m owes ends done most levels opened early =
-    end-hazard_free halt n ds s b now v w is m most (levels-counted halt n ds s None b now true v (levels is.looking)) (opened is.looking) early
+    end-hazard_free halt n ds s b now v w is m most (levels-counted halt n ds s None b now true v (levels is.lookahead)) (opened is.lookahead) early
 
 -- where no entry was done at the tick
-given-hazard_free : (halt : Bool) (n : ℕ) (ds : List ℕ) (s : Machine) (t b : Option ℕ) (now : ℕ) (v w : LookView)
+given-hazard_free : (halt : Bool) (n : ℕ) (ds : List ℕ) (s : Machine) (t b : Option ℕ) (now : ℕ) (v w : LookaheadView)
     → IsInside (overlap_of n ds s t b now true false halt false v) false v → IsMachine s → count v ≤ n
     → length (levels_of (overlap_of n ds s t b now true false halt false v)) ≡ count v
     → IsOpened t s (opening_front idle_banks (now + 1 + count v)) w
@@ -219,7 +219,7 @@ given-hazard_free halt n ds s t b now v w is m most levels opened =
       record {
         some = is.some;
         few = few;
-        looking = between;
+        lookahead = between;
         indicator = is.indicator;
         in_time = is.in_time;
         settled = λ e. absurd (cc e);
@@ -231,12 +231,12 @@ given-hazard_free halt n ds s t b now v w is m most levels opened =
       same-fields halt ds n s s t b b _ _ now true true None None refl refl (front ∙ ap (λ k. opening_front idle_banks (now + 1 + k)) (sym levels)) refl,
     )
 
-pub given-up : (halt : Bool) (n : ℕ) (ds : List ℕ) (s : Machine) (t b : Option ℕ) (now : ℕ) (owed over fresh : Bool) (v w : LookView)
+pub given-up : (halt : Bool) (n : ℕ) (ds : List ℕ) (s : Machine) (t b : Option ℕ) (now : ℕ) (owed over fresh : Bool) (v w : LookaheadView)
     → IsInside (overlap_of n ds s t b now owed over halt fresh v) fresh v → IsMachine s → owed ≡ true → over ≡ false
     → (overlap_of n ds s t b now owed over halt fresh v).closing ≡ None → count v ≤ n
-    → (IsLook ds n now now t (with_counter b s) (oldest_front v.levels.plans v.front) v
+    → (IsLookahead ds n now now t (with_counter b s) (oldest_front v.levels.plans v.front) v
     → prepared_before now (ahead ds n n t (with_counter b s) (oldest_front v.levels.plans v.front)) ≡ ahead ds n (count v) t (with_counter b s) (oldest_front v.levels.plans v.front))
-    → (IsLook ds n now now t (with_counter b s) (oldest_front v.levels.plans v.front) v → IsOpened t s (opening_front idle_banks (now + 1 + count v)) w)
+    → (IsLookahead ds n now now t (with_counter b s) (oldest_front v.levels.plans v.front) v → IsOpened t s (opening_front idle_banks (now + 1 + count v)) w)
     → IsInside (overlap_of n ds s t b now owed true halt fresh w) fresh w
     × (count v ≡ drop_count (overlap_of n ds s t b now owed over halt fresh v))
     × (overlap_of n ds s t b now owed true halt fresh w ≡ machine_after_segment (overlap_of n ds s t b now owed over halt fresh v))
@@ -245,48 +245,48 @@ given-up halt n ds s t b now false over fresh v w is m owes ends none most level
 given-up halt n ds s t b now true true fresh v w is m owes ends none most levels opened = absurd (cc ends)
 given-up halt n ds s t b now true false true v w is m owes ends none most levels opened = absurd (cc none)
 given-up halt n ds s t b now true false false v w is m owes ends none most levels opened =
-    given-hazard_free halt n ds s t b now v w is m most (levels-counted halt n ds s t b now false v (levels is.looking)) (opened is.looking)
+    given-hazard_free halt n ds s t b now v w is m most (levels-counted halt n ds s t b now false v (levels is.lookahead)) (opened is.lookahead)
 
 -- what it asks for: the number of the tick, and the indicator that was taken, are within their ranges
-pub giving-up : (halt : Bool) (n : ℕ) (ds : List ℕ) (s : Machine) (t b : Option ℕ) (now : ℕ) (owed over fresh : Bool) (v : LookView)
+pub giving-up : (halt : Bool) (n : ℕ) (ds : List ℕ) (s : Machine) (t b : Option ℕ) (now : ℕ) (owed over fresh : Bool) (v : LookaheadView)
     → IsInside (overlap_of n ds s t b now owed over halt fresh v) fresh v → owed ≡ true → (now < 2 ^ 63) × IfSome t (λ i. i < 64)
 giving-up halt n ds s t b now false over fresh v is owes = absurd (cc owes)
 giving-up halt n ds s t b now true over fresh v is owes = (is.in_time, is.indicator)
 
 -- what the end of one asks for
-pub record IsEnding (n : ℕ) (ds : List ℕ) (s : Machine) (t b : Option ℕ) (now : ℕ) (v : LookView) : Type 0 where
-  pub look : IsLook ds n now now t (with_counter b s) (oldest_front v.levels.plans v.front) v
+pub record IsEnding (n : ℕ) (ds : List ℕ) (s : Machine) (t b : Option ℕ) (now : ℕ) (v : LookaheadView) : Type 0 where
+  pub lookahead : IsLookahead ds n now now t (with_counter b s) (oldest_front v.levels.plans v.front) v
   pub done : (oldest_front v.levels.plans v.front).c ≡ now
   pub early : now < 2 ^ 63
 
-pub ending : (halt : Bool) (n : ℕ) (ds : List ℕ) (s : Machine) (t b : Option ℕ) (now : ℕ) (owed over fresh : Bool) (v : LookView)
+pub ending : (halt : Bool) (n : ℕ) (ds : List ℕ) (s : Machine) (t b : Option ℕ) (now : ℕ) (owed over fresh : Bool) (v : LookaheadView)
     → IsInside (overlap_of n ds s t b now owed over halt fresh v) fresh v → owed ≡ true → over ≡ false → fresh ≡ true
     → IsEnding n ds s t b now v
 unfolding state_ahead
 ending halt n ds s t b now false over fresh v is owes ends done = absurd (cc owes)
 ending halt n ds s t b now true true fresh v is owes ends done = absurd (cc ends)
 ending halt n ds s t b now true false false v is owes ends done = absurd (cc done)
-ending halt n ds s t b now true false true v is owes ends done = record { look = is.looking; done = (is.done refl).2 refl; early = is.in_time }
+ending halt n ds s t b now true false true v is owes ends done = record { lookahead = is.lookahead; done = (is.done refl).2 refl; early = is.in_time }
 
-pub fresh-closing : (halt : Bool) (n : ℕ) (ds : List ℕ) (s : Machine) (t b : Option ℕ) (now : ℕ) (owed over fresh : Bool) (v : LookView)
+pub fresh-closing : (halt : Bool) (n : ℕ) (ds : List ℕ) (s : Machine) (t b : Option ℕ) (now : ℕ) (owed over fresh : Bool) (v : LookaheadView)
     → IsSome (overlap_of n ds s t b now owed over halt fresh v).closing → fresh ≡ true
 fresh-closing halt n ds s t b now owed over true v some = refl
 fresh-closing halt n ds s t b now owed over false v some = absurd (cc some)
 
 -- ---- the end of a run
 
-same-looking : (over halt : Bool) (n : ℕ) (ds : List ℕ) (s : Machine) (t b : Option ℕ) (now : ℕ) (owed fresh : Bool) (v : LookView)
-    → IsLooking over (overlap_of n ds s t b now owed over halt fresh v) v → IsLooking over (overlap_of n ds s t b now owed over true fresh v) v
+same-lookahead : (over halt : Bool) (n : ℕ) (ds : List ℕ) (s : Machine) (t b : Option ℕ) (now : ℕ) (owed fresh : Bool) (v : LookaheadView)
+    → IsLookaheadOf over (overlap_of n ds s t b now owed over halt fresh v) v → IsLookaheadOf over (overlap_of n ds s t b now owed over true fresh v) v
 unfolding state_ahead
-same-looking true halt n ds s t b now owed fresh v is = is
-same-looking false halt n ds s t b now owed fresh v is = is
+same-lookahead true halt n ds s t b now owed fresh v is = is
+same-lookahead false halt n ds s t b now owed fresh v is = is
 
-pub stop-inside : (halt : Bool) (n : ℕ) (ds : List ℕ) (s : Machine) (t b : Option ℕ) (now : ℕ) (owed over fresh : Bool) (v : LookView)
+pub stop-inside : (halt : Bool) (n : ℕ) (ds : List ℕ) (s : Machine) (t b : Option ℕ) (now : ℕ) (owed over fresh : Bool) (v : LookaheadView)
     → IsInside (overlap_of n ds s t b now owed over halt fresh v) fresh v → owed ≡ true → IsInside (overlap_of n ds s t b now owed over true fresh v) fresh v
 stop-inside halt n ds s t b now owed over fresh v is owes = record {
   some = is.some;
   few = is.few;
-  looking = same-looking over halt n ds s t b now owed fresh v is.looking;
+  lookahead = same-lookahead over halt n ds s t b now owed fresh v is.lookahead;
   indicator = is.indicator;
   in_time = is.in_time;
   settled = λ e. absurd (cc (sym e ∙ owes));
@@ -302,7 +302,7 @@ owed-early true now e early = early
 owed-early false now e early = absurd (cc e)
 
 -- the next segment is open
-pub pass-inside : (halt : Bool) (n : ℕ) (ds : List ℕ) (s : Machine) (t b : Option ℕ) (now : ℕ) (owed over fresh : Bool) (v : LookView)
+pub pass-inside : (halt : Bool) (n : ℕ) (ds : List ℕ) (s : Machine) (t b : Option ℕ) (now : ℕ) (owed over fresh : Bool) (v : LookaheadView)
     → IsInside (overlap_of n ds s t b now owed over halt fresh v) fresh v → halt ≡ false → owed ≡ true → over ≡ true
     → interrupt_due (overlap_of n ds s t b now owed over halt fresh v) ≡ None → rests s ≡ false
     → IsInside (overlap_of n ds s t None (now + 1) false false halt false v) false v
@@ -311,12 +311,12 @@ unfolding state_ahead
 pass-inside halt n ds s t b now false over fresh v is off owes ends due goes = absurd (cc owes)
 pass-inside halt n ds s t b now true false fresh v is off owes ends due goes = absurd (cc ends)
 pass-inside halt n ds s t b now true true fresh v is off owes ends due goes =
-    let between : IsBetween now t s v = is.looking in
+    let between : IsBetween now t s v = is.lookahead in
     let later : now + 1 ≤ v.front.c = between.later in
     let soon : v.front.c ≤ now + 1 + 9 = omega (arith, between.soon) in
-    let look = opening-looks ds n now (now + 1) v.front.c t s (answers_before now v) v between.opened between.machine is.indicator between.banks later soon in (
+    let lookahead = opening-lookahead ds n now (now + 1) v.front.c t s (answers_before now v) v between.opened between.machine is.indicator between.banks later soon in (
       inside-between halt n ds s t now v is.some is.few off is.in_time
-          (subst (λ (f : Front). IsLook ds n now (now + 1) t s f v) (sym (opened-front t s (opening_front (answers_before now v) v.front.c) v between.opened)) look) is.indicator due goes,
+          (subst (λ (f : Front). IsLookahead ds n now (now + 1) t s f v) (sym (opened-front t s (opening_front (answers_before now v) v.front.c) v between.opened)) lookahead) is.indicator due goes,
       refl,
     )
 
@@ -330,7 +330,7 @@ pending-of true p i e = e
 pending-of false p i e = absurd (cc e)
 
 -- an interrupt is taken
-pub interrupt-inside : (halt : Bool) (n : ℕ) (ds : List ℕ) (s : Machine) (b : Option ℕ) (now : ℕ) (owed over fresh : Bool) (v : LookView) (i : ℕ)
+pub interrupt-inside : (halt : Bool) (n : ℕ) (ds : List ℕ) (s : Machine) (b : Option ℕ) (now : ℕ) (owed over fresh : Bool) (v : LookaheadView) (i : ℕ)
     → IsInside (overlap_of n ds s None b now owed over halt fresh v) fresh v → halt ≡ false → owed ≡ true → over ≡ true
     → i < 64 → interrupt s ≡ Some i
     → let w = record v { next = record v.next { place = place_of s (Some i) } } in
@@ -341,19 +341,19 @@ interrupt-inside halt n ds s b now false over fresh v i is off owes ends few due
 interrupt-inside halt n ds s b now true false fresh v i is off owes ends few due = absurd (cc ends)
 interrupt-inside halt n ds s b now true true fresh v i is off owes ends few due =
     let w = record v { next = record v.next { place = place_of s (Some i) } } in
-    let between : IsBetween now None s v = is.looking in
+    let between : IsBetween now None s v = is.lookahead in
     let o = between.opened in
     let opened : IsOpened (Some i) s (opening_front (answers_before now v) v.front.c) w = assumption in
     let later : now + 1 ≤ v.front.c = between.later in
     let soon : v.front.c ≤ now + 1 + 9 = omega (arith, between.soon) in
-    let look = opening-looks ds n now (now + 1) v.front.c (Some i) s (answers_before now v) w opened between.machine few between.banks later soon in (
+    let lookahead = opening-lookahead ds n now (now + 1) v.front.c (Some i) s (answers_before now v) w opened between.machine few between.banks later soon in (
       inside-between halt n ds s (Some i) now w is.some is.few off is.in_time
-          (subst (λ (f : Front). IsLook ds n now (now + 1) (Some i) s f w) (sym (opened-front (Some i) s (opening_front (answers_before now v) v.front.c) w opened)) look)
+          (subst (λ (f : Front). IsLookahead ds n now (now + 1) (Some i) s f w) (sym (opened-front (Some i) s (opening_front (answers_before now v) v.front.c) w opened)) lookahead)
           few refl (rest-not s.waiting (pending s) i (pending-of s.enabled (pending s) i due)),
       refl,
     )
 
-pub interrupt-taken : (halt : Bool) (n : ℕ) (ds : List ℕ) (s : Machine) (t b : Option ℕ) (now : ℕ) (owed over fresh : Bool) (v w : LookView) (i : ℕ) → t ≡ None
+pub interrupt-taken : (halt : Bool) (n : ℕ) (ds : List ℕ) (s : Machine) (t b : Option ℕ) (now : ℕ) (owed over fresh : Bool) (v w : LookaheadView) (i : ℕ) → t ≡ None
     → IsInside (overlap_of n ds s t b now owed over halt fresh v) fresh v → halt ≡ false → owed ≡ true → over ≡ true
     → i < 64 → interrupt s ≡ Some i
     → {place : Place} → place ≡ place_of s (Some i) → w ≡ record v { next = record v.next { place = place } }
@@ -361,53 +361,53 @@ pub interrupt-taken : (halt : Bool) (n : ℕ) (ds : List ℕ) (s : Machine) (t b
     × (overlap_of n ds s (Some i) None (now + 1) false false halt false w ≡ machine_after_pass (record (overlap_of n ds s t b now owed over halt fresh v) { taken = Some i }))
 interrupt-taken halt n ds s (Some j) b now owed over fresh v w i none is off owes ends few due at there = absurd (cc none)
 interrupt-taken halt n ds s None b now owed over fresh v w i none is off owes ends few due at there =
-    let P : LookView → Type 0 = λ x. IsInside (overlap_of n ds s (Some i) None (now + 1) false false halt false x) false x
+    let P : LookaheadView → Type 0 = λ x. IsInside (overlap_of n ds s (Some i) None (now + 1) false false halt false x) false x
     × (overlap_of n ds s (Some i) None (now + 1) false false halt false x ≡ machine_after_pass (record (overlap_of n ds s None b now owed over halt fresh v) { taken = Some i })) in
     subst P (sym (there ∙ ap (λ p. record v { next = record v.next { place = p } }) at))
     (interrupt-inside halt n ds s b now owed over fresh v i is off owes ends few due)
 
 -- ---- what runs ahead goes on
 
-pub look-goes : (ds : List ℕ) (n now : ℕ) (t : Option ℕ) (s : Machine) (f : Front) (v : LookView) → IsLook ds n now now t s f v
+pub lookahead-goes : (ds : List ℕ) (n now : ℕ) (t : Option ℕ) (s : Machine) (f : Front) (v : LookaheadView) → IsLookahead ds n now now t s f v
     → IsGoing ds n now now t s f v
-look-goes ds n now t s f v looks =
-    let is = looks.outlook in
+lookahead-goes ds n now t s f v lookahead =
+    let is = lookahead.outlook in
     let start : f.c ≤ (now + 1) + 9 = omega (arith, is.start) in
     let early : v.front.c ≤ (now + 1) + 9 + most_ticks_of_entry * count v = omega (arith, is.early) in
     assumption (All-weaker (λ (level : Level). level.p < now) (λ level. level.p < now + 1) (λ level h. omega arith) v.levels.ring is.prepared)
 
 -- the same before a tick that is not made
-pub look-runs : (ds : List ℕ) (n now : ℕ) (t : Option ℕ) (s : Machine) (f : Front) (v : LookView) → IsLook ds n (now - 1) now t s f v
+pub lookahead-runs : (ds : List ℕ) (n now : ℕ) (t : Option ℕ) (s : Machine) (f : Front) (v : LookaheadView) → IsLookahead ds n (now - 1) now t s f v
     → IsGoing ds n (now - 1) (now - 1) t s f v
-look-runs ds n now t s f v looks =
-    let is = looks.outlook in
+lookahead-runs ds n now t s f v lookahead =
+    let is = lookahead.outlook in
     let start : f.c ≤ (now - 1 + 1) + 9 = omega (arith, is.start) in
     let early : v.front.c ≤ (now - 1 + 1) + 9 + most_ticks_of_entry * count v = omega (arith, is.early) in
     let late : v.next.planned ≡ true → (now - 1) ≤ v.next.formed.p = λ planned. omega (arith, is.late planned) in
     assumption (All-weaker (λ (level : Level). level.p < now) (λ level. level.p < now - 1 + 1) (λ level h. omega (arith, h)) v.levels.ring is.prepared, next-sooner (is_open v) ds n now (now - 1) t s v (omega arith) is.next)
 
-pub going-look : (halt : Bool) (n : ℕ) (ds : List ℕ) (s : Machine) (t b : Option ℕ) (now : ℕ) (owed over fresh : Bool) (v : LookView)
+pub going-lookahead : (halt : Bool) (n : ℕ) (ds : List ℕ) (s : Machine) (t b : Option ℕ) (now : ℕ) (owed over fresh : Bool) (v : LookaheadView)
     → IsInside (overlap_of n ds s t b now owed over halt fresh v) fresh v → owed ≡ true → over ≡ false → b ≡ None
-    → IsLook ds n now now t s (oldest_front v.levels.plans v.front) v × (now < 2 ^ 63)
+    → IsLookahead ds n now now t s (oldest_front v.levels.plans v.front) v × (now < 2 ^ 63)
 unfolding state_ahead
-going-look halt n ds s t b now false over fresh v is owes ends right = absurd (cc owes)
-going-look halt n ds s t b now true true fresh v is owes ends right = absurd (cc ends)
-going-look halt n ds s t (Some h) now true false fresh v is owes ends right = absurd (cc right)
-going-look halt n ds s t None now true false fresh v is owes ends right = (is.looking, is.in_time)
+going-lookahead halt n ds s t b now false over fresh v is owes ends right = absurd (cc owes)
+going-lookahead halt n ds s t b now true true fresh v is owes ends right = absurd (cc ends)
+going-lookahead halt n ds s t (Some h) now true false fresh v is owes ends right = absurd (cc right)
+going-lookahead halt n ds s t None now true false fresh v is owes ends right = (is.lookahead, is.in_time)
 
-pub go-inside : (halt : Bool) (n : ℕ) (ds : List ℕ) (s : Machine) (t b : Option ℕ) (now : ℕ) (owed over fresh : Bool) (v w : LookView)
+pub go-inside : (halt : Bool) (n : ℕ) (ds : List ℕ) (s : Machine) (t b : Option ℕ) (now : ℕ) (owed over fresh : Bool) (v w : LookaheadView)
     → IsInside (overlap_of n ds s t b now owed over halt fresh v) fresh v → halt ≡ false → owed ≡ true → over ≡ false → b ≡ None
     → interrupt_due (overlap_of n ds s t b now owed over halt fresh v) ≡ None → rests s ≡ false
-    → IsLook ds n now (now + 1) t s (oldest_front v.levels.plans v.front) w
+    → IsLookahead ds n now (now + 1) t s (oldest_front v.levels.plans v.front) w
     → oldest_front w.levels.plans w.front ≡ oldest_front v.levels.plans v.front
     → IsInside (overlap_of n ds s t b (now + 1) false over halt false w) false w
     × (overlap_of n ds s t b (now + 1) false over halt false w ≡ machine_after_pass (overlap_of n ds s t b now owed over halt fresh v))
 unfolding state_ahead
-go-inside halt n ds s t b now false over fresh v w is off owes ends right due goes look front = absurd (cc owes)
-go-inside halt n ds s t b now true true fresh v w is off owes ends right due goes look front = absurd (cc ends)
-go-inside halt n ds s t (Some h) now true false fresh v w is off owes ends right due goes look front = absurd (cc right)
-go-inside halt n ds s t None now true false fresh v w is off owes ends right due goes look front = (
-  inside-between halt n ds s t now w is.some is.few off is.in_time (subst (λ (f : Front). IsLook ds n now (now + 1) t s f w) (sym front) look) is.indicator due goes,
+go-inside halt n ds s t b now false over fresh v w is off owes ends right due goes lookahead front = absurd (cc owes)
+go-inside halt n ds s t b now true true fresh v w is off owes ends right due goes lookahead front = absurd (cc ends)
+go-inside halt n ds s t (Some h) now true false fresh v w is off owes ends right due goes lookahead front = absurd (cc right)
+go-inside halt n ds s t None now true false fresh v w is off owes ends right due goes lookahead front = (
+  inside-between halt n ds s t now w is.some is.few off is.in_time (subst (λ (f : Front). IsLookahead ds n now (now + 1) t s f w) (sym front) lookahead) is.indicator due goes,
   same-fields halt ds n s s t None None _ _ (now + 1) false false None None refl refl front refl,
 )
 

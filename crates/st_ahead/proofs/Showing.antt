@@ -15,25 +15,25 @@ use Rattle.st_ring.specs.declared.plans.Plan.{Plan}
 use Rattle.st_ring.proofs.LevelLemmas.{length-ahead}
 use Rattle.st_ahead.specs.Overlap.{Overlap, state_ahead, levels_of, last_tick_made}
 use Rattle.st_ahead.specs.Shown.{IsLevelOf, AreLevelsOf, lent_index_words}
-use Rattle.st_ahead.specs.Look.{LookView, IsLook, count}
+use Rattle.st_ahead.specs.Forecast.{LookaheadView, IsLookahead, count}
 use Rattle.st_ahead.specs.Inside.{answers_before, overlap_of, IsBetween, IsInside}
-use Rattle.st_ahead.proofs.Openings.{opening-looks}
+use Rattle.st_ahead.proofs.Openings.{opening-lookahead}
 use Rattle.st_ahead.proofs.Standing.{opened-front}
 
 -- ---- what runs ahead, at each moment
 
 -- it is there also where a segment has ended
-pub look-inside : (halt : Bool) (n : ℕ) (ds : List ℕ) (s : Machine) (t b : Option ℕ) (now : ℕ) (owed over fresh : Bool) (v : LookView)
+pub lookahead-inside : (halt : Bool) (n : ℕ) (ds : List ℕ) (s : Machine) (t b : Option ℕ) (now : ℕ) (owed over fresh : Bool) (v : LookaheadView)
     → IsInside (overlap_of n ds s t b now owed over halt fresh v) fresh v
-    → IsLook ds n (last_tick_made (overlap_of n ds s t b now owed over halt fresh v)) now t (state_ahead (overlap_of n ds s t b now owed over halt fresh v)) (oldest_front v.levels.plans v.front) v
+    → IsLookahead ds n (last_tick_made (overlap_of n ds s t b now owed over halt fresh v)) now t (state_ahead (overlap_of n ds s t b now owed over halt fresh v)) (oldest_front v.levels.plans v.front) v
 unfolding state_ahead
-look-inside halt n ds s t b now owed false fresh v is = is.looking
-look-inside halt n ds s t b now owed true fresh v is =
-    let between : IsBetween now t s v = is.looking in
+lookahead-inside halt n ds s t b now owed false fresh v is = is.lookahead
+lookahead-inside halt n ds s t b now owed true fresh v is =
+    let between : IsBetween now t s v = is.lookahead in
     let later : now + 1 ≤ v.front.c = between.later in
     let tick = last_tick_made (overlap_of n ds s t b now owed true halt fresh v) in
-    let look = opening-looks ds n tick now v.front.c t s (answers_before now v) v between.opened between.machine is.indicator between.banks (omega (arith, later)) between.soon in
-    subst (λ (f : Front). IsLook ds n tick now t s f v) (sym (opened-front t s (opening_front (answers_before now v) v.front.c) v between.opened)) look
+    let lookahead = opening-lookahead ds n tick now v.front.c t s (answers_before now v) v between.opened between.machine is.indicator between.banks (omega (arith, later)) between.soon in
+    subst (λ (f : Front). IsLookahead ds n tick now t s f v) (sym (opened-front t s (opening_front (answers_before now v) v.front.c) v between.opened)) lookahead
 
 pub soon-last : (owed : Bool) (now : ℕ) → now ≤ (if owed then now else now - 1) + 1
 soon-last true now = omega arith
@@ -53,24 +53,24 @@ levels-zip ds n tick t s f last (level ∷ levels) (q ∷ qs) is full = (
 )
 
 -- the levels are those that a machine stands for
-pub record IsShowing (m : Overlap) (v : LookView) : Type 0 where
-  pub look : IsLook m.delays m.levels (last_tick_made m) m.now m.taken (state_ahead m) m.front v
+pub record IsShowing (m : Overlap) (v : LookaheadView) : Type 0 where
+  pub lookahead : IsLookahead m.delays m.levels (last_tick_made m) m.now m.taken (state_ahead m) m.front v
   pub levels : levels_of m ≡ ahead m.delays m.levels (count v) m.taken (state_ahead m) m.front
 
-pub showing : (m : Overlap) (v : LookView) → IsLook m.delays m.levels (last_tick_made m) m.now m.taken (state_ahead m) m.front v
+pub showing : (m : Overlap) (v : LookaheadView) → IsLookahead m.delays m.levels (last_tick_made m) m.now m.taken (state_ahead m) m.front v
     → prepared_before m.now (ahead m.delays m.levels m.levels m.taken (state_ahead m) m.front) ≡ ahead m.delays m.levels (count v) m.taken (state_ahead m) m.front
     → IsShowing m v
 unfolding levels_of
-showing m v look levels = record { look = look; levels = levels }
+showing m v lookahead levels = record { lookahead = lookahead; levels = levels }
 
-pub showing-ring : (m : Overlap) (v : LookView) → IsShowing m v → AreLevelsOf m v.levels.ring
+pub showing-ring : (m : Overlap) (v : LookaheadView) → IsShowing m v → AreLevelsOf m v.levels.ring
 showing-ring m v is =
     subst (λ (levels : List Ahead). AllZip (IsLevelOf m.delays m.levels (last_tick_made m)) v.levels.ring levels) (sym is.levels)
-    (levels-zip m.delays m.levels (last_tick_made m) m.taken (state_ahead m) m.front v.front v.levels.ring v.levels.plans is.look.outlook.ahead.levels is.look.full)
+    (levels-zip m.delays m.levels (last_tick_made m) m.taken (state_ahead m) m.front v.front v.levels.ring v.levels.plans is.lookahead.outlook.ahead.levels is.lookahead.full)
 
-pub showing-count : (m : Overlap) (v : LookView) → IsShowing m v → length (levels_of m) ≡ count v
+pub showing-count : (m : Overlap) (v : LookaheadView) → IsShowing m v → length (levels_of m) ≡ count v
 showing-count m v is = ap length is.levels ∙ length-ahead m.delays m.levels (count v) m.taken (state_ahead m) m.front
 
-pub showing-index : (m : Overlap) (v : LookView) → IsShowing m v → v.levels.x ≡ lent_index_words m
+pub showing-index : (m : Overlap) (v : LookaheadView) → IsShowing m v → v.levels.x ≡ lent_index_words m
 unfolding lent_index_words
-showing-index m v is = is.look.outlook.ahead.index ∙ ap (λ k. split_words k m.taken (state_ahead m)) (sym (showing-count m v is))
+showing-index m v is = is.lookahead.outlook.ahead.index ∙ ap (λ k. split_words k m.taken (state_ahead m)) (sym (showing-count m v is))

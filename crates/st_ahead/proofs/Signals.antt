@@ -10,9 +10,9 @@ use Rattle.st_rows.specs.Rows.{opening_front}
 use Rattle.st_rows.specs.declared.front.Front.{Front}
 use Rattle.st_ring.specs.Levels.{oldest_front, AreNotDone}
 use Rattle.st_ahead.specs.Overlap.{state_ahead, with_counter}
-use Rattle.st_ahead.specs.Look.{LookView, IsLook}
+use Rattle.st_ahead.specs.Forecast.{LookaheadView, IsLookahead}
 use Rattle.st_ahead.specs.Inside.{answers_before, overlap_of, IsBetween, IsInside}
-use Rattle.st_ahead.proofs.SameLook.{opened-same}
+use Rattle.st_ahead.proofs.SameLookahead.{opened-same}
 use Rattle.st_ahead.proofs.Standing.{off-if, inside-fresh}
 
 -- ---- the counter of a guess
@@ -27,12 +27,12 @@ counted-machine (Some h) s u was is = assumption
 
 -- ---- all of it
 
-abbrev LooksOn : List ℕ → ℕ → ℕ → LookView → Type 0
-LooksOn ds n now v = (x y : Machine) (f : Front) → IsLook ds n now now None x f v → AreNotDone now v.levels → f.c ≡ now
-    → IsMachine y → AreAlikeBesideOrders x y → IsLook ds n now now None y f v
+abbrev LooksAhead : List ℕ → ℕ → ℕ → LookaheadView → Type 0
+LooksAhead ds n now v = (x y : Machine) (f : Front) → IsLookahead ds n now now None x f v → AreNotDone now v.levels → f.c ≡ now
+    → IsMachine y → AreAlikeBesideOrders x y → IsLookahead ds n now now None y f v
 
-before-first : (halt : Bool) (n : ℕ) (ds : List ℕ) (s u : Machine) (t b : Option ℕ) (now : ℕ) (over fresh : Bool) (v : LookView)
-    → IsInside (overlap_of n ds s t b now false over halt fresh v) fresh v → now ≡ 0 → IsMachine u → AreAlikeBesideOrders s u → LooksOn ds n now v
+before-first : (halt : Bool) (n : ℕ) (ds : List ℕ) (s u : Machine) (t b : Option ℕ) (now : ℕ) (over fresh : Bool) (v : LookaheadView)
+    → IsInside (overlap_of n ds s t b now false over halt fresh v) fresh v → now ≡ 0 → IsMachine u → AreAlikeBesideOrders s u → LooksAhead ds n now v
     → IsInside (overlap_of n ds u t b now false over halt fresh v) fresh v
 unfolding state_ahead
 before-first halt n ds s u t b now true fresh v is start m alike on = absurd (cc ((is.settled refl).1))
@@ -43,14 +43,14 @@ before-first halt n ds s u None None now false false v is start m alike on =
     let f = oldest_front v.levels.plans v.front in
     let un = is.unstarted refl start in
     let last : now - 1 ≡ now = omega (arith, start) in
-    let look : IsLook ds n now now None s f v = subst (λ (x : ℕ). IsLook ds n x now None s f v) last is.looking in
-    let next = on s u f look look.outlook.not_done (un.3 ∙ sym start) m alike in
+    let lookahead : IsLookahead ds n now now None s f v = subst (λ (x : ℕ). IsLookahead ds n x now None s f v) last is.lookahead in
+    let next = on s u f lookahead lookahead.outlook.not_done (un.3 ∙ sym start) m alike in
     let enabled : u.enabled ≡ false = alike.enabled ∙ un.0 in
     let waiting : u.waiting ≡ false = alike.waiting ∙ un.1 in
     record {
       some = is.some;
       few = is.few;
-      looking = subst (λ (x : ℕ). IsLook ds n x now None u f v) (sym last) next;
+      lookahead = subst (λ (x : ℕ). IsLookahead ds n x now None u f v) (sym last) next;
       indicator = tt;
       in_time = is.in_time;
       settled = is.settled;
@@ -59,31 +59,31 @@ before-first halt n ds s u None None now false false v is start m alike on =
       unstarted = λ e g. (enabled, waiting, refl, un.3);
     }
 
-behind-done : (halt : Bool) (n : ℕ) (ds : List ℕ) (s u : Machine) (t b : Option ℕ) (now : ℕ) (over fresh : Bool) (v : LookView)
-    → IsInside (overlap_of n ds s t b now true over halt fresh v) fresh v → fresh ≡ true → IsMachine u → AreAlikeBesideOrders s u → LooksOn ds n now v
+behind-done : (halt : Bool) (n : ℕ) (ds : List ℕ) (s u : Machine) (t b : Option ℕ) (now : ℕ) (over fresh : Bool) (v : LookaheadView)
+    → IsInside (overlap_of n ds s t b now true over halt fresh v) fresh v → fresh ≡ true → IsMachine u → AreAlikeBesideOrders s u → LooksAhead ds n now v
     → IsInside (overlap_of n ds u t b now true over halt fresh v) fresh v
 unfolding state_ahead
 behind-done halt n ds s u t b now over false v is done m alike on = absurd (cc done)
 behind-done halt n ds s u (Some i) b now over true v is done m alike on = absurd (cc ((is.done refl).0))
 behind-done halt n ds s u None b now true true v is done m alike on =
-    let between : IsBetween now None s v = is.looking in
+    let between : IsBetween now None s v = is.lookahead in
     inside-fresh halt true n ds u b now v is.some is.few is.in_time
     (assumption (opened-same None s u (opening_front (answers_before now v) v.front.c) v between.opened alike)) (λ e. absurd (cc e)) (is.done refl).1
 behind-done halt n ds s u None b now false true v is done m alike on =
     let f = oldest_front v.levels.plans v.front in
-    let look : IsLook ds n now now None (with_counter b s) f v = is.looking in
-    let next = on (with_counter b s) (with_counter b u) f look look.outlook.not_done ((is.done refl).2 refl)
-    (counted-machine b s u look.outlook.machine m) (counted-alike b s u alike) in
+    let lookahead : IsLookahead ds n now now None (with_counter b s) f v = is.lookahead in
+    let next = on (with_counter b s) (with_counter b u) f lookahead lookahead.outlook.not_done ((is.done refl).2 refl)
+    (counted-machine b s u lookahead.outlook.machine m) (counted-alike b s u alike) in
     inside-fresh halt false n ds u b now v is.some is.few is.in_time next (λ e. (is.done refl).2 refl) (is.done refl).1
 
 done-fresh : (fresh : Bool) (banks : LastAnswers) → IsSome (if fresh then Some banks else None) → fresh ≡ true
 done-fresh true banks some = refl
 done-fresh false banks some = absurd (cc some)
 
-pub signal-inside : (halt : Bool) (n : ℕ) (ds : List ℕ) (s u : Machine) (t b : Option ℕ) (now : ℕ) (owed over fresh : Bool) (v : LookView)
+pub signal-inside : (halt : Bool) (n : ℕ) (ds : List ℕ) (s u : Machine) (t b : Option ℕ) (now : ℕ) (owed over fresh : Bool) (v : LookaheadView)
     → IsInside (overlap_of n ds s t b now owed over halt fresh v) fresh v
     → ((owed ≡ false) × (now ≡ 0)) ⊎ ((owed ≡ true) × IsSome (overlap_of n ds s t b now owed over halt fresh v).closing)
-    → IsMachine u → AreAlikeBesideOrders s u → LooksOn ds n now v
+    → IsMachine u → AreAlikeBesideOrders s u → LooksAhead ds n now v
     → IsInside (overlap_of n ds u t b now owed over halt fresh v) fresh v
 signal-inside halt n ds s u t b now false over fresh v is (inl turn) m alike on = before-first halt n ds s u t b now over fresh v is turn.1 m alike on
 signal-inside halt n ds s u t b now true over fresh v is (inl turn) m alike on = absurd (cc turn.0)

@@ -23,10 +23,10 @@ use Rattle.st_ring.specs.declared.plans.Plan.{Plan}
 use Rattle.st_ring.specs.declared.level.Level.{Level}
 use Rattle.st_ahead.specs.Overlap.{Overlap, machine_at_start, state_ahead, with_counter, oldest_row, banks_at_its_end, interrupt_due}
 use Rattle.st_ahead.specs.Calls.{is_done, row_done, machine_after_completion, machine_after_tick}
-use Rattle.st_ahead.specs.Look.{LookView, IsLook, IsOpened}
+use Rattle.st_ahead.specs.Forecast.{LookaheadView, IsLookahead, IsOpened}
 use Rattle.st_ahead.specs.Ticked.{IsTicked, IsDoneAt}
-use Rattle.st_ahead.specs.Inside.{overlap_of, answers_before, IsLooking, IsInside}
-use Rattle.st_ahead.proofs.Openings.{opening-looks}
+use Rattle.st_ahead.specs.Inside.{overlap_of, answers_before, IsLookaheadOf, IsInside}
+use Rattle.st_ahead.proofs.Openings.{opening-lookahead}
 use Rattle.st_ring.proofs.OrderLemmas.{after-c}
 
 -- ---- tests
@@ -62,15 +62,15 @@ told number address p r c = record { number = number; address = address; p = p; 
 
 -- ---- fronts
 
-pub opened-front : (t : Option ℕ) (s : Machine) (f : Front) (v : LookView) → IsOpened t s f v → oldest_front v.levels.plans v.front ≡ f
+pub opened-front : (t : Option ℕ) (s : Machine) (f : Front) (v : LookaheadView) → IsOpened t s f v → oldest_front v.levels.plans v.front ≡ f
 opened-front t s f v is = subst (λ (plans : List Plan). oldest_front plans v.front ≡ f) (sym is.plans) is.front
 
 -- the answers of the banks by the log and the bus
-pub answers-same : (now : ℕ) (v w : LookView) → w.log ≡ v.log → w.next.words ≡ v.next.words → answers_before now w ≡ answers_before now v
+pub answers-same : (now : ℕ) (v w : LookaheadView) → w.log ≡ v.log → w.next.words ≡ v.next.words → answers_before now w ≡ answers_before now v
 answers-same now v w log words = rw (log, words) refl
 
 -- at an opening nothing is to be taken back
-pub opened-answers : (now : ℕ) (t : Option ℕ) (s : Machine) (banks : LastAnswers) (start : ℕ) (v : LookView) → IsOpened t s (opening_front banks start) v
+pub opened-answers : (now : ℕ) (t : Option ℕ) (s : Machine) (banks : LastAnswers) (start : ℕ) (v : LookaheadView) → IsOpened t s (opening_front banks start) v
     → answers_before now v ≡ banks
 unfolding answers_left
 opened-answers now t s banks start v is = rw (is.log, is.next.3) refl
@@ -78,13 +78,13 @@ opened-answers now t s banks start v is = rw (is.log, is.next.3) refl
 -- ---- a machine and what runs ahead of it
 
 -- where an entry was done at a tick that is not settled
-pub inside-fresh : (halt over : Bool) (n : ℕ) (ds : List ℕ) (s : Machine) (b : Option ℕ) (now : ℕ) (v : LookView) → 1 ≤ n → n ≤ 8 → now < 2 ^ 63
-    → IsLooking over (overlap_of n ds s None b now true over halt true v) v → (over ≡ false → (oldest_front v.levels.plans v.front).c ≡ now)
+pub inside-fresh : (halt over : Bool) (n : ℕ) (ds : List ℕ) (s : Machine) (b : Option ℕ) (now : ℕ) (v : LookaheadView) → 1 ≤ n → n ≤ 8 → now < 2 ^ 63
+    → IsLookaheadOf over (overlap_of n ds s None b now true over halt true v) v → (over ≡ false → (oldest_front v.levels.plans v.front).c ≡ now)
     → All (λ x. x ≤ now + 255) (answers_before now v).ticks → IsInside (overlap_of n ds s None b now true over halt true v) true v
-inside-fresh halt over n ds s b now v some few early looking done near = record {
+inside-fresh halt over n ds s b now v some few early lookahead done near = record {
   some = some;
   few = few;
-  looking = looking;
+  lookahead = lookahead;
   indicator = tt;
   in_time = early;
   settled = λ e. absurd (cc e);
@@ -94,15 +94,15 @@ inside-fresh halt over n ds s b now v some few early looking done near = record 
 }
 
 -- between two ticks, behind the first
-pub inside-between : (halt : Bool) (n : ℕ) (ds : List ℕ) (s : Machine) (t : Option ℕ) (now : ℕ) (v : LookView) → 1 ≤ n → n ≤ 8 → halt ≡ false → now < 2 ^ 63
-    → IsLook ds n now (now + 1) t s (oldest_front v.levels.plans v.front) v → IfSome t (λ i. i < 64)
+pub inside-between : (halt : Bool) (n : ℕ) (ds : List ℕ) (s : Machine) (t : Option ℕ) (now : ℕ) (v : LookaheadView) → 1 ≤ n → n ≤ 8 → halt ≡ false → now < 2 ^ 63
+    → IsLookahead ds n now (now + 1) t s (oldest_front v.levels.plans v.front) v → IfSome t (λ i. i < 64)
     → interrupt_due (overlap_of n ds s t None (now + 1) false false halt false v) ≡ None → rests s ≡ false
     → IsInside (overlap_of n ds s t None (now + 1) false false halt false v) false v
 unfolding state_ahead
-inside-between halt n ds s t now v some few off early look indicator due goes = record {
+inside-between halt n ds s t now v some few off early lookahead indicator due goes = record {
   some = some;
   few = few;
-  looking = let last : now ≡ now + 1 - 1 = omega arith in subst (λ (x : ℕ). IsLook ds n x (now + 1) t s (oldest_front v.levels.plans v.front) v) last look;
+  lookahead = let last : now ≡ now + 1 - 1 = omega arith in subst (λ (x : ℕ). IsLookahead ds n x (now + 1) t s (oldest_front v.levels.plans v.front) v) last lookahead;
   indicator = indicator;
   in_time = omega (arith, early);
   settled = λ e. (refl, refl, off);
@@ -113,18 +113,18 @@ inside-between halt n ds s t now v some few off early look indicator due goes = 
 
 -- ---- before the first tick
 
-pub started-inside : (n : ℕ) (ds : List ℕ) (s : Machine) (v : LookView) → 1 ≤ n → n ≤ 8 → IsMachine s → s.enabled ≡ false → s.waiting ≡ false
+pub started-inside : (n : ℕ) (ds : List ℕ) (s : Machine) (v : LookaheadView) → 1 ≤ n → n ≤ 8 → IsMachine s → s.enabled ≡ false → s.waiting ≡ false
     → IsOpened None s (opening_front (record { ticks = replicate BANKS 0 }) 0) v
     → IsInside (overlap_of n ds s None None 0 false false false false v) false v × (overlap_of n ds s None None 0 false false false false v ≡ machine_at_start ds n s)
 unfolding state_ahead
 started-inside n ds s v some few m enabled waiting is =
     let banks : LastAnswers = record { ticks = replicate BANKS 0 } in
     let front = opened-front None s (opening_front banks 0) v is in
-    let look = opening-looks ds n 0 0 0 None s banks v is m tt (All-replicate (λ (b : ℕ). b ≤ 0 + 255) BANKS 0 (omega arith)) (omega arith) (omega arith) in (
+    let lookahead = opening-lookahead ds n 0 0 0 None s banks v is m tt (All-replicate (λ (b : ℕ). b ≤ 0 + 255) BANKS 0 (omega arith)) (omega arith) (omega arith) in (
       record {
         some = some;
         few = few;
-        looking = subst (λ (f : Front). IsLook ds n 0 0 None s f v) (sym front) look;
+        lookahead = subst (λ (f : Front). IsLookahead ds n 0 0 None s f v) (sym front) lookahead;
         indicator = tt;
         in_time = omega arith;
         settled = λ e. (refl, refl, refl);
@@ -138,13 +138,13 @@ started-inside n ds s v some few m enabled waiting is =
 -- ---- between two ticks
 
 -- where nothing is owed
-pub record IsIdle (n : ℕ) (ds : List ℕ) (s : Machine) (t b : Option ℕ) (now : ℕ) (over done : Bool) (v : LookView) : Type 0 where
+pub record IsIdle (n : ℕ) (ds : List ℕ) (s : Machine) (t b : Option ℕ) (now : ℕ) (over done : Bool) (v : LookaheadView) : Type 0 where
   pub ended : over ≡ false
   pub fresh : done ≡ false
   pub behind : b ≡ None
-  pub look : IsLook ds n (now - 1) now t s (oldest_front v.levels.plans v.front) v
+  pub lookahead : IsLookahead ds n (now - 1) now t s (oldest_front v.levels.plans v.front) v
 
-pub idle : (halt : Bool) (n : ℕ) (ds : List ℕ) (s : Machine) (t b : Option ℕ) (now : ℕ) (owed ended fresh : Bool) (v : LookView)
+pub idle : (halt : Bool) (n : ℕ) (ds : List ℕ) (s : Machine) (t b : Option ℕ) (now : ℕ) (owed ended fresh : Bool) (v : LookaheadView)
     → IsInside (overlap_of n ds s t b now owed ended halt fresh v) fresh v → owed ≡ false → IsIdle n ds s t b now ended fresh v
 unfolding state_ahead
 idle halt n ds s t b now true ended fresh v is e = absurd (cc e)
@@ -156,7 +156,7 @@ idle halt n ds s t b now false false false v is e =
       ended = refl;
       fresh = refl;
       behind = behind;
-      look = subst (λ (c : Option ℕ). IsLook ds n (now - 1) now t (with_counter c s) (oldest_front v.levels.plans v.front) v) behind is.looking;
+      lookahead = subst (λ (c : Option ℕ). IsLookahead ds n (now - 1) now t (with_counter c s) (oldest_front v.levels.plans v.front) v) behind is.lookahead;
     }
 
 -- a level was prepared at a tick before
@@ -166,7 +166,7 @@ not-first now (level ∷ levels) each some = let early : level.p < now = All-hea
 
 -- ---- a tick
 
-pub passed-hazard_free : (halt : Bool) (n : ℕ) (ds : List ℕ) (s u : Machine) (t : Option ℕ) (now : ℕ) (v w : LookView)
+pub passed-hazard_free : (halt : Bool) (n : ℕ) (ds : List ℕ) (s u : Machine) (t : Option ℕ) (now : ℕ) (v w : LookaheadView)
     → IsInside (overlap_of n ds s t None now false false halt false v) false v → now < 2 ^ 63
     → IsTicked ds n now t s (oldest_front v.levels.plans v.front) v u w None
     → oldest_front w.levels.plans w.front ≡ oldest_front v.levels.plans v.front
@@ -181,9 +181,9 @@ passed-hazard_free halt n ds s u t now v w is early by front =
       record {
         some = is.some;
         few = is.few;
-        looking =
-            subst (λ (x : Machine). IsLook ds n now now t x (oldest_front w.levels.plans w.front) w) (sym by.0)
-            (subst (λ (g : Front). IsLook ds n now now t s g w) (sym front) by.2);
+        lookahead =
+            subst (λ (x : Machine). IsLookahead ds n now now t x (oldest_front w.levels.plans w.front) w) (sym by.0)
+            (subst (λ (g : Front). IsLookahead ds n now now t s g w) (sym front) by.2);
         indicator = is.indicator;
         in_time = early;
         settled = λ e. absurd (cc e);
@@ -199,7 +199,7 @@ passed-hazard_free halt n ds s u t now v w is early by front =
       same-fields halt ds n u s t None None _ f now true false None None by.0 refl front refl ∙ sym (cond-false _ _ _ late),
     )
 
-pub passed-tick : (halt : Bool) (n : ℕ) (ds : List ℕ) (s u : Machine) (t b : Option ℕ) (now : ℕ) (owed ended fresh : Bool) (v w : LookView)
+pub passed-tick : (halt : Bool) (n : ℕ) (ds : List ℕ) (s u : Machine) (t b : Option ℕ) (now : ℕ) (owed ended fresh : Bool) (v w : LookaheadView)
     → IsInside (overlap_of n ds s t b now owed ended halt fresh v) fresh v → owed ≡ false → now < 2 ^ 63
     → IsTicked ds n now t s (oldest_front v.levels.plans v.front) v u w None
     → oldest_front w.levels.plans w.front ≡ oldest_front v.levels.plans v.front
@@ -221,7 +221,7 @@ pub guess-seen : (t : Option ℕ) (s u : Machine) (b : Bool) (missed : Option �
 guess-seen t s u true missed is state told right wrong = rw (told, state) (sym (wrong is))
 guess-seen t s u false missed is state told right wrong = rw (told, state) (sym (right is))
 
-pub done-hazard_free : (halt : Bool) (n : ℕ) (ds : List ℕ) (s u : Machine) (t : Option ℕ) (now : ℕ) (v w : LookView) (done : Completed)
+pub done-hazard_free : (halt : Bool) (n : ℕ) (ds : List ℕ) (s u : Machine) (t : Option ℕ) (now : ℕ) (v w : LookaheadView) (done : Completed)
     → IsInside (overlap_of n ds s t None now false false halt false v) false v → now < 2 ^ 63
     → IsDoneAt ds n now t s (oldest_front v.levels.plans v.front) v u w done
     → oldest_front w.levels.plans w.front ≡ front_after_entry ds n (oldest_front v.levels.plans v.front) (entry t s)
@@ -238,8 +238,8 @@ done-hazard_free halt n ds s u t now v w done is early by front banks near guess
     let same : answers_before now w ≡ answers_before now v = answers-same now v w by.log by.bus in
     let left : Some (answers_before now w) ≡ Some (banks_at_its_end (overlap_of n ds s t None now false false halt false v)) = ap Some (same ∙ sym banks) in (
       inside-fresh halt false n ds u done.missed now w is.some is.few early
-          (subst (λ (x : Machine). IsLook ds n now now None x (oldest_front w.levels.plans w.front) w) (sym guessed)
-          (subst (λ (g : Front). IsLook ds n now now None (guess t s) g w) (sym front) by.look))
+          (subst (λ (x : Machine). IsLookahead ds n now now None x (oldest_front w.levels.plans w.front) w) (sym guessed)
+          (subst (λ (g : Front). IsLookahead ds n now now None (guess t s) g w) (sym front) by.lookahead))
           (λ going. ap (λ (x : Front). x.c) front ∙ after-c ds n f (entry t s) ∙ by.due)
           (subst (λ (x : LastAnswers). All (λ b. b ≤ now + 255) x.ticks) (sym same) near),
       due,
@@ -247,7 +247,7 @@ done-hazard_free halt n ds s u t now v w done is early by front banks near guess
           ∙ sym (cond-true _ _ _ due),
     )
 
-pub done-tick : (halt : Bool) (n : ℕ) (ds : List ℕ) (s u : Machine) (t b : Option ℕ) (now : ℕ) (owed ended fresh : Bool) (v w : LookView) (done : Completed)
+pub done-tick : (halt : Bool) (n : ℕ) (ds : List ℕ) (s u : Machine) (t b : Option ℕ) (now : ℕ) (owed ended fresh : Bool) (v w : LookaheadView) (done : Completed)
     → IsInside (overlap_of n ds s t b now owed ended halt fresh v) fresh v → owed ≡ false → now < 2 ^ 63
     → IsDoneAt ds n now t s (oldest_front v.levels.plans v.front) v u w done
     → oldest_front w.levels.plans w.front ≡ front_after_entry ds n (oldest_front v.levels.plans v.front) (entry t s)
@@ -269,14 +269,14 @@ pub same-row : (number address p r c number' address' p' r' : ℕ) → number �
     → told number address p r c ≡ told number' address' p' r' c
 same-row number address p r c number' address' p' r' a b d e = rw (a, b, d, e) refl
 
-row-hazard_free : (halt : Bool) (n : ℕ) (ds : List ℕ) (s u : Machine) (t : Option ℕ) (now : ℕ) (v w : LookView) (done : Completed)
+row-hazard_free : (halt : Bool) (n : ℕ) (ds : List ℕ) (s u : Machine) (t : Option ℕ) (now : ℕ) (v w : LookaheadView) (done : Completed)
     → IsDoneAt ds n now t s (oldest_front v.levels.plans v.front) v u w done → (state_after_execution t s).done ≡ s.done + 1
     → told u.done done.address done.p done.r now ≡ row_done (overlap_of n ds s t None now false false halt false v)
 unfolding state_ahead oldest_row
 row-hazard_free halt n ds s u t now v w done by number =
     same-row u.done done.address done.p done.r now _ _ _ _ (ap (λ (x : Machine). x.done) by.state ∙ number) by.told.address by.told.p by.told.r
 
-pub row-tick : (halt : Bool) (n : ℕ) (ds : List ℕ) (s u : Machine) (t b : Option ℕ) (now : ℕ) (owed ended fresh : Bool) (v w : LookView) (done : Completed)
+pub row-tick : (halt : Bool) (n : ℕ) (ds : List ℕ) (s u : Machine) (t b : Option ℕ) (now : ℕ) (owed ended fresh : Bool) (v w : LookaheadView) (done : Completed)
     → IsInside (overlap_of n ds s t b now owed ended halt fresh v) fresh v → owed ≡ false
     → IsDoneAt ds n now t s (oldest_front v.levels.plans v.front) v u w done → (state_after_execution t s).done ≡ s.done + 1
     → told u.done done.address done.p done.r now ≡ row_done (overlap_of n ds s t b now owed ended halt fresh v)
@@ -294,7 +294,7 @@ same-answers x y h = ap (λ (ticks : List ℕ). from-ticks ticks) h
     from-ticks : List ℕ → LastAnswers
     from-ticks ticks = record { ticks = ticks }
 
-pub banks-at : (halt : Bool) (n : ℕ) (ds : List ℕ) (s : Machine) (t : Option ℕ) (now : ℕ) (v : LookView)
+pub banks-at : (halt : Bool) (n : ℕ) (ds : List ℕ) (s : Machine) (t : Option ℕ) (now : ℕ) (v : LookaheadView)
     → (let f = oldest_front v.levels.plans v.front in
     (made_before ds now (reads_of_entry ds n f (entry t s) ++ reads_before ds n now (ahead ds n (suc n) None (guess t s) (front_after_entry ds n f (entry t s)))) f.bus).banks.ticks
     ≡ (answers_before now v).ticks)

@@ -12,24 +12,24 @@ use Rattle.st_ahead.specs.Overlap.{Overlap, state_ahead, with_counter, machine_b
 use Rattle.st_ahead.specs.Calls.{machine_after_completion, machine_after_tick, answer}
 use Rattle.st_ahead.specs.RunTo.{may_come_from_outside, ArePassed, StopsAt}
 use Rattle.st_ahead.specs.Running.{GoesFrom, HasPassed, HasStopped}
-use Rattle.st_ahead.specs.Look.{LookView, IsLook}
+use Rattle.st_ahead.specs.Forecast.{LookaheadView, IsLookahead}
 use Rattle.st_ahead.specs.Inside.{overlap_of, IsInside}
 use Rattle.st_ahead.proofs.Runs.{is-due, ticked-done, row-between}
 use Rattle.st_ahead.proofs.Standing.{idle, same-fields, told, inside-fresh, inside-between}
 use Rattle.st_ring.proofs.OrderLemmas.{after-c}
 
 -- a machine that nothing is owed of may go on
-pub start-inside : (halt : Bool) (n : ℕ) (ds : List ℕ) (s : Machine) (t b : Option ℕ) (now last : ℕ) (owed ended fresh : Bool) (v : LookView)
+pub start-inside : (halt : Bool) (n : ℕ) (ds : List ℕ) (s : Machine) (t b : Option ℕ) (now last : ℕ) (owed ended fresh : Bool) (v : LookaheadView)
     → IsInside (overlap_of n ds s t b now owed ended halt fresh v) fresh v → owed ≡ false → now ≤ last
     → GoesFrom ds n last now t s (oldest_front v.levels.plans v.front) v
 start-inside halt n ds s t b now last true ended fresh v is e soon = absurd (cc e)
 start-inside halt n ds s t b now last false ended true v is e soon = absurd (cc ((is.settled refl).0))
 start-inside halt n ds s t b now last false ended false v is e soon =
     let quiet = is.quiet refl in
-    record { look = (idle halt n ds s t b now false ended false v is e).look; soon = soon; awake = record { due = quiet.0; goes = quiet.1 } }
+    record { lookahead = (idle halt n ds s t b now false ended false v is e).lookahead; soon = soon; awake = record { due = quiet.0; goes = quiet.1 } }
 
 -- and is a machine between two ticks
-pub settled-between : (halt : Bool) (n : ℕ) (ds : List ℕ) (s : Machine) (t b : Option ℕ) (now : ℕ) (owed ended fresh : Bool) (v : LookView)
+pub settled-between : (halt : Bool) (n : ℕ) (ds : List ℕ) (s : Machine) (t b : Option ℕ) (now : ℕ) (owed ended fresh : Bool) (v : LookaheadView)
     → IsInside (overlap_of n ds s t b now owed ended halt fresh v) fresh v → owed ≡ false
     → machine_between_ticks ds n s t (oldest_front v.levels.plans v.front) now ≡ overlap_of n ds s t b now owed ended halt fresh v
 settled-between halt n ds s t b now true ended fresh v is e = absurd (cc e)
@@ -40,19 +40,19 @@ settled-between false n ds s t (Some h) now false false false v is e = absurd (c
 settled-between false n ds s t None now false false false v is e = refl
 
 -- all ticks up to `last` are passed
-passed-hazard_free : (n : ℕ) (ds : List ℕ) (s u : Machine) (t k : Option ℕ) (now last count : ℕ) (v w : LookView)
+passed-hazard_free : (n : ℕ) (ds : List ℕ) (s u : Machine) (t k : Option ℕ) (now last count : ℕ) (v w : LookaheadView)
     → IsInside (overlap_of n ds s t None now false false false false v) false v → last < 2 ^ 63
     → (is : HasPassed ds n count last now t s (oldest_front v.levels.plans v.front) k u w) → oldest_front w.levels.plans w.front ≡ is.front
     → IsInside (overlap_of n ds u k None (last + 1) false false false false w) false w
     × ArePassed count (last + 1 - now) (overlap_of n ds s t None now false false false false v) (overlap_of n ds u k None (last + 1) false false false false w)
 unfolding state_ahead
 passed-hazard_free n ds s u t k now last count v w is early by front = (
-  inside-between false n ds u k last w is.some is.few refl early (subst (λ (g : Front). IsLook ds n last (last + 1) k u g w) (sym front) by.look)
-      by.look.outlook.indicator by.awake.due by.awake.goes,
+  inside-between false n ds u k last w is.some is.few refl early (subst (λ (g : Front). IsLookahead ds n last (last + 1) k u g w) (sym front) by.lookahead)
+      by.lookahead.outlook.indicator by.awake.due by.awake.goes,
   subst (λ (g : Front). ArePassed count (last + 1 - now) (overlap_of n ds s t None now false false false false v) (machine_between_ticks ds n u k g (last + 1))) (sym front) by.passed,
 )
 
-pub passed-machine : (halt : Bool) (n : ℕ) (ds : List ℕ) (s u : Machine) (t k b : Option ℕ) (now last count : ℕ) (owed ended fresh : Bool) (v w : LookView)
+pub passed-machine : (halt : Bool) (n : ℕ) (ds : List ℕ) (s u : Machine) (t k b : Option ℕ) (now last count : ℕ) (owed ended fresh : Bool) (v w : LookaheadView)
     → IsInside (overlap_of n ds s t b now owed ended halt fresh v) fresh v → owed ≡ false → last < 2 ^ 63
     → (is : HasPassed ds n count last now t s (oldest_front v.levels.plans v.front) k u w) → oldest_front w.levels.plans w.front ≡ is.front
     → IsInside (overlap_of n ds u k b (last + 1) owed ended halt fresh w) fresh w
@@ -65,7 +65,7 @@ passed-machine false n ds s u t k (Some h) now last count false false false v w 
 passed-machine false n ds s u t k None now last count false false false v w is e early by front = passed-hazard_free n ds s u t k now last count v w is early by front
 
 -- an entry is done, behind which something may come
-stopped-hazard_free : (n : ℕ) (ds : List ℕ) (s u : Machine) (t : Option ℕ) (now last count tick number : ℕ) (v w : LookView) (done : Completed)
+stopped-hazard_free : (n : ℕ) (ds : List ℕ) (s u : Machine) (t : Option ℕ) (now last count tick number : ℕ) (v w : LookaheadView) (done : Completed)
     → IsInside (overlap_of n ds s t None now false false false false v) false v → last < 2 ^ 63
     → (is : HasStopped ds n count last now t s (oldest_front v.levels.plans v.front) None u w tick done)
     → oldest_front w.levels.plans w.front ≡ front_after_entry ds n is.front (entry is.table is.state)
@@ -84,8 +84,8 @@ stopped-hazard_free n ds s u t now last count tick number v w done is early by f
     (ap Some (sym by.banks))
     ∙ sym (ticked-done ds n tick by.table by.state f at.due) in (
       inside-fresh false false n ds u done.missed tick w is.some is.few (omega (arith, early, by.soon))
-          (subst (λ (x : Machine). IsLook ds n tick tick None x (oldest_front w.levels.plans w.front) w) (sym guessed)
-          (subst (λ (g : Front). IsLook ds n tick tick None (guess by.table by.state) g w) (sym front) at.look))
+          (subst (λ (x : Machine). IsLookahead ds n tick tick None x (oldest_front w.levels.plans w.front) w) (sym guessed)
+          (subst (λ (g : Front). IsLookahead ds n tick tick None (guess by.table by.state) g w) (sym front) at.lookahead))
           (λ going. ap (λ (x : Front). x.c) front ∙ after-c ds n f (entry by.table by.state) ∙ at.due) by.near,
       record {
         ticks = tick - now;
@@ -99,7 +99,7 @@ stopped-hazard_free n ds s u t now last count tick number v w done is early by f
       },
     )
 
-pub stopped-machine : (halt : Bool) (n : ℕ) (ds : List ℕ) (s u : Machine) (t k b : Option ℕ) (now last count tick number : ℕ) (owed ended fresh : Bool) (v w : LookView) (done : Completed)
+pub stopped-machine : (halt : Bool) (n : ℕ) (ds : List ℕ) (s u : Machine) (t k b : Option ℕ) (now last count tick number : ℕ) (owed ended fresh : Bool) (v w : LookaheadView) (done : Completed)
     → IsInside (overlap_of n ds s t b now owed ended halt fresh v) fresh v → owed ≡ false → last < 2 ^ 63
     → (is : HasStopped ds n count last now t s (oldest_front v.levels.plans v.front) k u w tick done)
     → oldest_front w.levels.plans w.front ≡ front_after_entry ds n is.front (entry is.table is.state)

@@ -14,7 +14,7 @@ use Rattle.st_segment.specs.Ahead.{Ahead, ahead, next_ahead}
 use Rattle.st_ring.specs.Levels.{AreLevels, IsLevel}
 use Rattle.st_ring.specs.declared.plans.Plan.{Plan}
 use Rattle.st_ahead.specs.Overlap.{Overlap, state_ahead, levels_of, last_tick_made}
-use Rattle.st_ahead.specs.Look.{LookView, count}
+use Rattle.st_ahead.specs.Forecast.{LookaheadView, count}
 use Rattle.st_ahead.specs.Shown.{word_before_change, level_shown, view_at_tick, lent_index_words}
 use Rattle.st_ahead.specs.declared.events.LevelView.{LevelView}
 use Rattle.st_ahead.specs.declared.events.View.{View}
@@ -85,7 +85,7 @@ some-kept address p index number kept word ready a b = rw (a, b) refl
 
 -- ---- all of them
 
-pub showing-level : (m : Overlap) (v : LookView) (k : ℕ) → IsShowing m v
+pub showing-level : (m : Overlap) (v : LookaheadView) (k : ℕ) → IsShowing m v
     → get_or (map (λ a. Some (level_shown (last_tick_made m) a)) (ahead m.delays m.levels (count v) m.taken (state_ahead m) m.front)) k None
     ≡ get_or (view_at_tick m).levels k None
 unfolding view_at_tick
@@ -93,7 +93,7 @@ showing-level m v k is =
     ap (λ levels. get_or (map (λ (a : Ahead). Some (level_shown (last_tick_made m) a)) levels) k None) (sym is.levels)
     ∙ more-none (map (λ a. Some (level_shown (last_tick_made m) a)) (levels_of m)) (8 - length (levels_of m)) k
 
-pub showing-eight : (m : Overlap) (v : LookView) → IsShowing m v → count v ≤ 8 → length (view_at_tick m).levels ≡ 8
+pub showing-eight : (m : Overlap) (v : LookaheadView) → IsShowing m v → count v ≤ 8 → length (view_at_tick m).levels ≡ 8
 unfolding view_at_tick
 showing-eight m v is few =
     let shows = map (λ (a : Ahead). Some (level_shown (last_tick_made m) a)) (levels_of m) in

@@ -9,32 +9,32 @@ use Rattle.st_segment.specs.Guesses.{guesses, table_behind}
 use Rattle.st_segment.specs.Alone.{RunAhead}
 use Rattle.st_next.specs.Known.{IsStateBefore}
 use Rattle.st_next.specs.Progress.{IsNext}
-use Rattle.st_ahead.specs.Look.{LookView, IsForecast, IsOutlook, count}
+use Rattle.st_ahead.specs.Forecast.{LookaheadView, IsForecast, IsOutlook, count}
 
 -- the next entry is not prepared before the tick `due` and up to the tick `last`, as far as it is
 -- planned
-abbrev pub WaitsFor : ℕ → ℕ → LookView → Type 0
+abbrev pub WaitsFor : ℕ → ℕ → LookaheadView → Type 0
 WaitsFor due last v = v.next.planned ≡ true → v.next.formed.p < due → v.next.formed.p ≤ last → ⊥
 
 module _ (ds : List ℕ) (n : ℕ) where
   -- up to the tick `now` entries are prepared and done, and nothing more of the next one can be
   -- known before the tick `rest`
-  abbrev pub IsGoing : ℕ → ℕ → Option ℕ → Machine → Front → LookView → Type 0
+  abbrev pub IsGoing : ℕ → ℕ → Option ℕ → Machine → Front → LookaheadView → Type 0
   IsGoing now rest t s f v = IsForecast ds n now (now + 1) now rest t s f v
 
   -- there is such a front, and t
-  pub record Goes (now rest : ℕ) (s : Machine) (v : LookView) : Type 0 where
+  pub record Goes (now rest : ℕ) (s : Machine) (v : LookaheadView) : Type 0 where
     pub table : Option ℕ
     pub front : Front
     pub going : IsGoing now rest table s front v
 
   -- it goes on so from some tick, `last` at the latest
-  pub record Reaches (last : ℕ) (s : Machine) (v : LookView) : Type 0 where
+  pub record Reaches (last : ℕ) (s : Machine) (v : LookaheadView) : Type 0 where
     pub tick : ℕ
     pub goes : Goes tick tick s v
     pub soon : tick ≤ last
 
-  module _ (since last : ℕ) (t : Option ℕ) (s : Machine) (f : Front) (v : LookView) where
+  module _ (since last : ℕ) (t : Option ℕ) (s : Machine) (f : Front) (v : LookaheadView) where
     -- the same of this front and t, from the tick `since` at the earliest
     pub record GoesUpTo : Type 0 where
       pub tick : ℕ
@@ -49,7 +49,7 @@ module _ (ds : List ℕ) (n : ℕ) where
       pub soon : due ≤ last
       pub some : 1 ≤ count v
       pub row_is : (row_of_entry ds n f (entry t s)).c ≡ due
-      pub look : IsOutlook ds n (due - 1) due t s f v
+      pub lookahead : IsOutlook ds n (due - 1) due t s f v
 
     -- what runs ahead goes on up to the completion of the oldest entry, or up to the tick `last`
     abbrev pub HasGone : Option ℕ → Type 0
@@ -59,7 +59,7 @@ module _ (ds : List ℕ) (n : ℕ) where
   -- the next entry becomes a level at this tick, its P: no level is done alone, and there is room
   -- for one more; where it is done alone, all entries before it are done
   pub record BecomesLevel (now : ℕ) (t : Option ℕ) (s : Machine) (f : Front)
-      (v : LookView) : Type 0 where
+      (v : LookaheadView) : Type 0 where
     pub run : RunAhead (count v) t s
     pub before : IsStateBefore now v.front.past v.levels.x s (guesses (count v) t s)
     pub is_next : IsNext ds n (table_behind (count v) t) (guesses (count v) t s) v.front v.next

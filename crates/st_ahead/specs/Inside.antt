@@ -8,16 +8,16 @@ use Rattle.st_rows.specs.Notes.{answers_left}
 use Rattle.st_rows.specs.Rows.{opening_front}
 use Rattle.st_ring.specs.Levels.{oldest_front}
 use Rattle.st_ahead.specs.Overlap.{Overlap, state_ahead, interrupt_due, last_tick_made}
-use Rattle.st_ahead.specs.Look.{LookView, IsLook, IsOpened}
+use Rattle.st_ahead.specs.Forecast.{LookaheadView, IsLookahead, IsOpened}
 use Rattle.st_segment.specs.Entries.{IsTable}
 
 -- the last answers of the banks by the reads that are accepted before the tick
-abbrev pub answers_before : ℕ → LookView → LastAnswers
+abbrev pub answers_before : ℕ → LookaheadView → LastAnswers
 answers_before now v = record { ticks = answers_left now v.log v.next.words.bus.banks.ticks }
 
 -- what it stands for, by what it keeps; `fresh` says whether an entry was done at this tick
 abbrev pub overlap_of : ℕ → List ℕ → Machine → Option ℕ → Option ℕ → ℕ → Bool → Bool → Bool → Bool →
-    LookView → Overlap
+    LookaheadView → Overlap
 overlap_of n delays state taken behind now owed ended stopped fresh v = record {
   delays = delays;
   levels = n;
@@ -33,7 +33,7 @@ overlap_of n delays state taken behind now owed ended stopped fresh v = record {
 }
 
 -- the segment has ended at the tick `now`, and v is what the next one opens with
-pub record IsBetween (now : ℕ) (t : Option ℕ) (s : Machine) (v : LookView) : Type 0 where
+pub record IsBetween (now : ℕ) (t : Option ℕ) (s : Machine) (v : LookaheadView) : Type 0 where
   pub machine : IsMachine s
   pub opened : IsOpened t s (opening_front (answers_before now v) v.front.c) v
   pub banks : All (λ b. b ≤ v.front.c + MOST_DELAY) (answers_before now v).ticks
@@ -41,10 +41,10 @@ pub record IsBetween (now : ℕ) (t : Option ℕ) (s : Machine) (v : LookView) :
   pub soon : v.front.c ≤ now + 9
 
 -- what runs ahead, or the opening of the next segment where one has ended at this tick
-abbrev pub IsLooking : Bool → Overlap → LookView → Type 0
-IsLooking false m v = IsLook m.delays m.levels (last_tick_made m) m.now m.taken
+abbrev pub IsLookaheadOf : Bool → Overlap → LookaheadView → Type 0
+IsLookaheadOf false m v = IsLookahead m.delays m.levels (last_tick_made m) m.now m.taken
     (state_ahead m) m.front v
-IsLooking true m v = IsBetween m.now m.taken m.state v
+IsLookaheadOf true m v = IsBetween m.now m.taken m.state v
 
 -- the number of the tick is within its range
 abbrev pub IsInTime : Bool → ℕ → Type 0
@@ -52,10 +52,10 @@ IsInTime true now = now < 2 ^ 63
 IsInTime false now = now ≤ 2 ^ 63
 
 -- a machine and what runs ahead of it; before the first tick nothing is enabled, and nothing waits
-pub record IsInside (m : Overlap) (fresh : Bool) (v : LookView) : Type 0 where
+pub record IsInside (m : Overlap) (fresh : Bool) (v : LookaheadView) : Type 0 where
   pub some : 1 ≤ m.levels
   pub few : m.levels ≤ 8
-  pub looking : IsLooking m.ended m v
+  pub lookahead : IsLookaheadOf m.ended m v
   pub indicator : IsTable m.taken
   pub in_time : IsInTime m.owed m.now
   pub settled : m.owed ≡ false → (fresh ≡ false) × (m.ended ≡ false) × (m.stopped ≡ false)

@@ -10,7 +10,7 @@ use Rattle.st_segment.specs.Guesses.{guesses, table_behind}
 use Rattle.st_segment.specs.Alone.{RunAhead, words_of_run}
 use Rattle.st_ring.specs.Levels.{AreAhead, AreNotDone}
 use Rattle.st_next.specs.Known.{IsStateBefore}
-use Rattle.st_ahead.specs.Look.{LookView, IsLook, is_open, count, IsOutlook, IsOpened}
+use Rattle.st_ahead.specs.Forecast.{LookaheadView, IsLookahead, is_open, count, IsOutlook, IsOpened}
 use Rattle.st_ahead.specs.Going.{IsGoing, BecomesLevel}
 use Rattle.st_banks.specs.declared.answers.LastAnswers.{LastAnswers}
 use Rattle.st_prep.specs.BesideOrders.{AreAlikeBesideOrders}
@@ -24,14 +24,14 @@ use Rattle.st_segment.specs.Ahead.{ahead, prepared_before, reads_before}
 -- None of the levels is done alone, where the next entry can be known.
 abbrev pub OpenLevelsRunAhead : Type 0
 OpenLevelsRunAhead = (ds : List ℕ) (n now : ℕ) (t : Option ℕ) (s : Machine) (f : Front)
-    (v : LookView) →
+    (v : LookaheadView) →
     AreAhead ds n now t s f v.front v.levels → All (λ level. level.p < now + 1) v.levels.ring →
     AreNotDone now v.levels → is_open v ≡ true → RunAhead (count v) t s
 
 -- So the state before the next entry agrees with the one that stands in all that it is known by.
 abbrev pub NextEntriesAreKnown : Type 0
 NextEntriesAreKnown = (ds : List ℕ) (n tick now : ℕ) (t : Option ℕ) (s : Machine) (f : Front)
-    (v : LookView) →
+    (v : LookaheadView) →
     IsMachine s → IfSome t (λ i. i < 64) → AreAhead ds n tick t s f v.front v.levels →
     AreNotDone now v.levels → count v ≤ 8 → RunAhead (count v) t s →
     IsStateBefore now v.front.past v.levels.x s (guesses (count v) t s)
@@ -39,7 +39,7 @@ NextEntriesAreKnown = (ds : List ℕ) (n tick now : ℕ) (t : Option ℕ) (s : M
 -- An entry that is planned becomes a level at its tick.
 abbrev pub PlannedEntriesBecomeLevels : Type 0
 PlannedEntriesBecomeLevels = (ds : List ℕ) (n now : ℕ) (t : Option ℕ) (s : Machine) (f : Front)
-    (v : LookView) →
+    (v : LookaheadView) →
     1 ≤ n → n ≤ 8 → AreDelaysUpTo MOST_DELAY ds → count v ≤ n → now < 2 ^ 63 →
     IsGoing ds n now (now + 1) t s f v → v.next.planned ≡ true → v.next.formed.p ≡ now →
     BecomesLevel ds n now t s f v
@@ -50,44 +50,47 @@ PlannedEntriesBecomeLevels = (ds : List ℕ) (n now : ℕ) (t : Option ℕ) (s :
 -- asked for of the next entry, which its contents are taken from then (`words`); and what was
 -- fetched of an entry that is planned is what stands in the run at its place (`fetched`).
 pub record InstructionWordsAreThoseOfTheRun : Type 0 where
-  pub held : (ds : List ℕ) (n now w : ℕ) (t : Option ℕ) (s : Machine) (f : Front) (v : LookView) →
-      count v ≤ 8 → IsLook ds n now now t s f v → is_open v ≡ true → 32 ≤ w →
+  pub held : (ds : List ℕ) (n now w : ℕ) (t : Option ℕ) (s : Machine) (f : Front)
+      (v : LookaheadView) →
+      count v ≤ 8 → IsLookahead ds n now now t s f v → is_open v ≡ true → 32 ≤ w →
       latest_done v.front.past w ≤ now →
       word s w ≡ word (guesses (count v) t s) w
-  pub words : (ds : List ℕ) (n now : ℕ) (t : Option ℕ) (s : Machine) (f : Front) (v : LookView) →
-      count v ≤ 8 → IsLook ds n now now t s f v → is_open v ≡ true → v.next.words.awaited ≤ now →
+  pub words : (ds : List ℕ) (n now : ℕ) (t : Option ℕ) (s : Machine) (f : Front)
+      (v : LookaheadView) →
+      count v ≤ 8 → IsLookahead ds n now now t s f v → is_open v ≡ true →
+      v.next.words.awaited ≤ now →
       let words = words_of_run v.next.own ++ words_of_run v.next.target in
       map (word s) words ≡ map (word (guesses (count v) t s)) words
   pub fetched : (ds : List ℕ) (n tick now : ℕ) (t : Option ℕ) (s : Machine) (f : Front)
-      (v : LookView) →
-      IsLook ds n tick now t s f v → v.next.planned ≡ true →
+      (v : LookaheadView) →
+      IsLookahead ds n tick now t s f v → v.next.planned ≡ true →
       let u = guesses (count v) t s in
       v.next.fetched ≡ fetched_at u (place_of u (table_behind (count v) t))
 
 -- What is opened at the start of a segment runs ahead of nothing, at each tick up to the start.
-abbrev pub OpeningsLook : Type 0
-OpeningsLook = (ds : List ℕ) (n tick now start : ℕ) (t : Option ℕ) (s : Machine)
-    (banks : LastAnswers) (v : LookView) →
+abbrev pub OpeningsLookAhead : Type 0
+OpeningsLookAhead = (ds : List ℕ) (n tick now start : ℕ) (t : Option ℕ) (s : Machine)
+    (banks : LastAnswers) (v : LookaheadView) →
     IsOpened t s (opening_front banks start) v → IsMachine s → IfSome t (λ i. i < 64) →
     All (λ b. b ≤ start + MOST_DELAY) banks.ticks → now ≤ start → start ≤ now + 9 →
-    IsLook ds n tick now t s (opening_front banks start) v
+    IsLookahead ds n tick now t s (opening_front banks start) v
 
 -- A signal and an order without a card leave what runs ahead, once the entry before it is done; and
 -- an opening.
-pub record SignalsLeaveLooks : Type 0 where
-  pub look : (ds : List ℕ) (n tick now : ℕ) (s u : Machine) (f : Front) (v : LookView) →
-      1 ≤ n → n ≤ 8 → AreDelaysUpTo MOST_DELAY ds → IsLook ds n tick now None s f v →
+pub record SignalsLeaveLookaheads : Type 0 where
+  pub lookahead : (ds : List ℕ) (n tick now : ℕ) (s u : Machine) (f : Front) (v : LookaheadView) →
+      1 ≤ n → n ≤ 8 → AreDelaysUpTo MOST_DELAY ds → IsLookahead ds n tick now None s f v →
       AreNotDone now v.levels → f.c ≡ now →
-      IsMachine u → AreAlikeBesideOrders s u → IsLook ds n tick now None u f v
-  pub opening : (t : Option ℕ) (s u : Machine) (f : Front) (v : LookView) →
+      IsMachine u → AreAlikeBesideOrders s u → IsLookahead ds n tick now None u f v
+  pub opening : (t : Option ℕ) (s u : Machine) (f : Front) (v : LookaheadView) →
       IsOpened t s f v → AreAlikeBesideOrders s u → IsOpened t u f v
 
 -- The levels are the entries that are prepared before the tick.
-abbrev pub LooksAreLevels : Type 0
-LooksAreLevels = (ds : List ℕ) (n tick now : ℕ) (t : Option ℕ) (s : Machine) (f : Front)
-    (v : LookView) →
+abbrev pub LookaheadsAreLevels : Type 0
+LookaheadsAreLevels = (ds : List ℕ) (n tick now : ℕ) (t : Option ℕ) (s : Machine) (f : Front)
+    (v : LookaheadView) →
     1 ≤ n → n ≤ 8 → AreDelaysUpTo MOST_DELAY ds → now ≤ tick + 1 → count v ≤ n →
-    IsLook ds n tick now t s f v →
+    IsLookahead ds n tick now t s f v →
     prepared_before now (ahead ds n n t s f) ≡ ahead ds n (count v) t s f
 
 -- At the completion of the oldest entry the reads that are left, once those are taken back that are
@@ -95,7 +98,7 @@ LooksAreLevels = (ds : List ℕ) (n tick now : ℕ) (t : Option ℕ) (s : Machin
 -- what they ask for is answered soon.
 abbrev pub TheBanksAreLeft : Type 0
 TheBanksAreLeft = (ds : List ℕ) (n tick now : ℕ) (t : Option ℕ) (s : Machine) (f : Front)
-    (v : LookView) →
+    (v : LookaheadView) →
     1 ≤ n → n ≤ 8 → AreDelaysUpTo MOST_DELAY ds → now ≡ tick + 1 → count v ≤ n → 1 ≤ count v →
     IsOutlook ds n tick now t s f v →
     (row_of_entry ds n f (entry t s)).c ≡ now →

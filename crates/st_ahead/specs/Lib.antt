@@ -1,7 +1,7 @@
 pub mod Overlap
 pub mod Calls
 pub mod Shown
-pub mod Look
+pub mod Forecast
 pub mod Ticked
 pub mod Inside
 pub mod Going

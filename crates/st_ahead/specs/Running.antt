@@ -8,10 +8,10 @@ use Rattle.st_ring.specs.declared.levels.Completed.{Completed}
 use Rattle.st_ahead.specs.Overlap.{machine_between_ticks, banks_at_its_end}
 use Rattle.st_ahead.specs.Calls.{machine_after_tick, answer}
 use Rattle.st_ahead.specs.RunTo.{may_come_from_outside, ArePassed}
-use Rattle.st_ahead.specs.Look.{LookView, IsLook}
+use Rattle.st_ahead.specs.Forecast.{LookaheadView, IsLookahead}
 use Rattle.st_ahead.specs.Ticked.{IsDoneAt}
 use Rattle.st_ahead.specs.Inside.{answers_before}
-use Rattle.st_ahead.specs.declared.look_run.Stop.{Stop}
+use Rattle.st_ahead.specs.declared.lookahead_run.Stop.{Stop}
 use Rattle.st_ahead.specs.declared.events.Settled.TheVariants.{Goes}
 use Rattle.st_segment.specs.Entries.{IsTable}
 
@@ -22,20 +22,20 @@ pub record IsAwake (t : Option ℕ) (s : Machine) : Type 0 where
 
 -- it goes on from the tick `now`, `last` at the latest
 pub record GoesFrom (ds : List ℕ) (n last now : ℕ) (t : Option ℕ) (s : Machine) (f : Front)
-    (v : LookView) : Type 0 where
-  pub look : IsLook ds n (now - 1) now t s f v
+    (v : LookaheadView) : Type 0 where
+  pub lookahead : IsLookahead ds n (now - 1) now t s f v
   pub soon : now ≤ last
   pub awake : IsAwake t s
 
 module _ (ds : List ℕ) (n count last now : ℕ) (t : Option ℕ) (s : Machine) (f : Front)
-    (k : Option ℕ) (u : Machine) (v : LookView) where
+    (k : Option ℕ) (u : Machine) (v : LookaheadView) where
   -- all ticks up to `last` are passed
   pub record HasPassed : Type 0 where
     pub front : Front
     pub passed : ArePassed count (last + 1 - now) (machine_between_ticks ds n s t f now)
         (machine_between_ticks ds n u k front (last + 1))
     pub awake : IsAwake k u
-    pub look : IsLook ds n last (last + 1) k u front v
+    pub lookahead : IsLookahead ds n last (last + 1) k u front v
 
   -- the ticks before the tick `tick` are passed, and at that one an entry is done behind which
   -- something may come
@@ -43,7 +43,7 @@ module _ (ds : List ℕ) (n count last now : ℕ) (t : Option ℕ) (s : Machine)
     pub table : Option ℕ
     pub state : Machine
     pub front : Front
-    pub ahead : LookView
+    pub ahead : LookaheadView
     pub passed : ArePassed count (tick - now) (machine_between_ticks ds n s t f now)
         (machine_between_ticks ds n state table front tick)
     pub soon : tick ≤ last

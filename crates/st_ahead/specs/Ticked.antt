@@ -7,17 +7,18 @@ use Rattle.st_rows.specs.declared.front.Front.{Front}
 use Rattle.st_segment.specs.Entries.{entry}
 use Rattle.st_ring.specs.Levels.{IsCompleted}
 use Rattle.st_ring.specs.declared.levels.Completed.{Completed}
-use Rattle.st_ahead.specs.Look.{LookView, IsLook}
+use Rattle.st_ahead.specs.Forecast.{LookaheadView, IsLookahead}
 
-module _ (ds : List ℕ) (n now : ℕ) (t : Option ℕ) (s : Machine) (f : Front) (v : LookView)
-    (u : Machine) (w : LookView) where
+module _ (ds : List ℕ) (n now : ℕ) (t : Option ℕ) (s : Machine) (f : Front) (v : LookaheadView)
+    (u : Machine) (w : LookaheadView) where
   -- the oldest entry is done at it: u is the state after its step, and w runs ahead of the guess of
   -- that
   pub record IsDoneAt (done : Completed) : Type 0 where
     pub due : (row_of_entry ds n f (entry t s)).c ≡ now
     pub told : IsCompleted ds n t s f done
     pub state : u ≡ state_after_execution t s
-    pub look : IsLook ds n now now None (guess t s) (front_after_entry ds n f (entry t s)) w
+    pub lookahead : IsLookahead ds n now now None (guess t s)
+        (front_after_entry ds n f (entry t s)) w
     pub log : w.log ≡ v.log
     pub bus : w.next.words ≡ v.next.words
 
@@ -25,5 +26,5 @@ module _ (ds : List ℕ) (n now : ℕ) (t : Option ℕ) (s : Machine) (f : Front
   -- before it, w runs ahead of that as v did, and operands may have come
   abbrev pub IsTicked : Option Completed → Type 0
   IsTicked None =
-      (u ≡ s) × ((row_of_entry ds n f (entry t s)).c ≢ now) × IsLook ds n now now t s f w
+      (u ≡ s) × ((row_of_entry ds n f (entry t s)).c ≢ now) × IsLookahead ds n now now t s f w
   IsTicked (Some done) = IsDoneAt done

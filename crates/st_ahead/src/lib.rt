@@ -3,17 +3,17 @@
 #![tactic(auto, using(st_bits::specs::Storage::words_of_storage_is))]
 
 mod events;
-mod look;
-mod look_going;
-mod look_run;
-mod look_shown;
-mod look_steps;
-mod look_tick;
+mod lookahead;
+mod lookahead_going;
+mod lookahead_run;
+mod lookahead_shown;
+mod lookahead_steps;
+mod lookahead_tick;
 mod machine;
 mod present;
 mod row_queue;
 
 pub use events::{Event, LevelView, Row, Settled, View};
-pub use look::Lookahead;
+pub use lookahead::Lookahead;
 pub use machine::Machine;
 pub use row_queue::RowQueue;

@@ -2,8 +2,8 @@
 ghost use Rattle.std.specs.Prelude.{◌≡◌, ◌<◌, ◌≤◌, ◌^◌, true, false, is_some, IsSome, IfSome, None, Some, option_map, get_or, length, ◌||◌};
 
 use crate::events::{Event, LevelView, Row, Settled, View};
-use crate::look::Lookahead;
-use crate::look_run::Limits;
+use crate::lookahead::Lookahead;
+use crate::lookahead_run::Limits;
 use crate::present::Present;
 use crate::row_queue::RowQueue;
 use st_banks::{Delays, LastAnswers};
@@ -26,7 +26,7 @@ pub struct Machine<const N: usize> {
     ended: bool,
     stopped: bool,
     fresh: bool,
-    look: Lookahead<N>,
+    lookahead: Lookahead<N>,
 }
 
 // Clauses see what it stands for.
@@ -37,10 +37,10 @@ impl<const N: usize> Model for Machine<N> {
     ghost Value = { Overlap };
 
     ghost view = { λ a. overlap_of N a.delays.list a.present.state a.present.taken a.behind a.now
-        a.owed a.ended a.stopped a.fresh a.look };
+        a.owed a.ended a.stopped a.fresh a.lookahead };
 
     ghost invariant = { λ a. IsInside (overlap_of N a.delays.list a.present.state a.present.taken
-        a.behind a.now a.owed a.ended a.stopped a.fresh a.look) a.fresh a.look };
+        a.behind a.now a.owed a.ended a.stopped a.fresh a.lookahead) a.fresh a.lookahead };
 }
 
 impl<const N: usize> Machine<N> {
@@ -65,7 +65,7 @@ impl<const N: usize> Machine<N> {
         ensures value { result ≡ machine_at_start delays.list N state }
         ensures machine { IsMachine state }
     {
-        let look = Lookahead::new(&state, None, LastAnswers::new(), 0);
+        let lookahead = Lookahead::new(&state, None, LastAnswers::new(), 0);
         Machine {
             delays,
             present: Present { state, taken: None },
@@ -75,7 +75,7 @@ impl<const N: usize> Machine<N> {
             ended: false,
             stopped: false,
             fresh: false,
-            look,
+            lookahead,
         }
     }
 
@@ -90,7 +90,7 @@ impl<const N: usize> Machine<N> {
         ensures after { self.new ≡ machine_after_tick self.old }
     {
         let now = self.now;
-        let done = self.look.tick(&mut self.present.state, now);
+        let done = self.lookahead.tick(&mut self.present.state, now);
         let number = done_in(&self.present.state);
         self.owed = true;
         let Some(done) = done else {
@@ -132,7 +132,7 @@ impl<const N: usize> Machine<N> {
         }
         let limits = Limits { count, last };
         let stop = self
-            .look
+            .lookahead
             .run_to(limits, &mut self.present, rows, &self.delays);
         let number = done_in(&self.present.state);
         let Some(stop) = stop else {
@@ -194,7 +194,7 @@ impl<const N: usize> Machine<N> {
             return;
         }
         let now = self.now;
-        self.look.go_on(now, &self.present.state, &self.delays);
+        self.lookahead.go_on(now, &self.present.state, &self.delays);
         self.owed = false;
         self.fresh = false;
         self.now += 1;
@@ -274,7 +274,7 @@ impl<const N: usize> Machine<N> {
             return 0;
         }
         let now = self.now;
-        let dropped = self.look.end(&self.present.state, None, now);
+        let dropped = self.lookahead.end(&self.present.state, None, now);
         self.ended = true;
         dropped
     }
@@ -294,7 +294,7 @@ impl<const N: usize> Machine<N> {
         let place = place_of(&self.present.state, Some(indicator));
         let done = done_in(&self.present.state);
         let ic = counter_of(&self.present.state);
-        self.look.stand(place);
+        self.lookahead.stand(place);
         self.present.taken = Some(indicator);
         self.behind = None;
         self.owed = false;
@@ -385,7 +385,7 @@ impl<const N: usize> Machine<N> {
         }
         let now = self.now;
         let dropped = self
-            .look
+            .lookahead
             .give_up(&self.present.state, self.present.taken, now);
         self.ended = true;
         dropped
@@ -449,14 +449,14 @@ impl<const N: usize> Machine<N> {
         ensures levels { AreLevelsOf self.entry.now result.now }
         ensures few { length result.now ≤ 8 }
     {
-        self.look.ring()
+        self.lookahead.ring()
     }
 
     /// The index words as the levels have changed them.
     pub fn index(&self) -> &[u64; 16]
         ensures { result.now ≡ lent_index_words self.entry.now }
     {
-        self.look.index()
+        self.lookahead.index()
     }
 
     /// What is shown of the machine.
@@ -504,7 +504,7 @@ impl<const N: usize> Machine<N> {
         ensures eight { length (view_at_tick self.entry.now).levels ≡ 8 }
     {
         let tick = self.last_tick();
-        self.look.level(k, tick)
+        self.lookahead.level(k, tick)
     }
 
     /// The committed state.

@@ -20,7 +20,7 @@ use Rattle.st_rows.proofs.Parts.{a-p, asked-parts}
 use Rattle.st_segment.specs.Entries.{entry}
 use Rattle.st_segment.specs.Guesses.{table_behind}
 use Rattle.st_segment.specs.Ahead.{ahead, reads_before}
-use Rattle.st_ahead.specs.Look.{asked_ahead}
+use Rattle.st_ahead.specs.Forecast.{asked_ahead}
 use Rattle.st_ahead.specs.Overlap.{Overlap}
 use Rattle.st_refine.specs.Laws.{AreFirstReads}
 use Rattle.st_refine.specs.Openings.{Opening, Outside, StandsAt, state_after, front_at, reads_after, banks_behind, reads_of_segment}

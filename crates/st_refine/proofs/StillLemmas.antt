@@ -34,7 +34,7 @@ use Rattle.st_refine.proofs.Kept.{IsKept, fresh-of, kept}
 use Rattle.st_refine.proofs.SplitLemmas.{seen-machine, shown-index, shown-none, shows}
 use Rattle.st_refine.proofs.RefinedLemmas.{empty-levels}
 use Rattle.st_ahead.proofs.Signals.{counted-alike}
-use Rattle.st_ahead.proofs.SameLook.{guess-same}
+use Rattle.st_ahead.proofs.SameLookahead.{guess-same}
 
 -- ---- entries that are prepared before the last one is done are not done alone
 

@@ -3,7 +3,7 @@ pub mod Refined
 pub mod Openings
 pub mod Laws
 pub use Rattle.st_ahead.specs.Calls
-pub use Rattle.st_ahead.specs.Look
+pub use Rattle.st_ahead.specs.Forecast
 pub use Rattle.st_ahead.specs.Overlap
 pub use Rattle.st_ahead.specs.RunTo
 pub use Rattle.st_ahead.specs.Shown

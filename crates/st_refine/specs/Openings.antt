@@ -12,7 +12,7 @@ use Rattle.st_rows.specs.declared.front.Front.{Front}
 use Rattle.st_segment.specs.Entries.{entry}
 use Rattle.st_segment.specs.Guesses.{table_behind}
 use Rattle.st_segment.specs.Ahead.{next_ahead, reads_to_end, banks_at_end, front_behind_end}
-use Rattle.st_ahead.specs.Look.{asked_ahead}
+use Rattle.st_ahead.specs.Forecast.{asked_ahead}
 use Rattle.st_ahead.specs.Overlap.{Overlap, last_tick_made, idle_banks}
 
 -- ---- changes from outside

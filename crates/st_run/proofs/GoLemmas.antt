@@ -11,12 +11,12 @@ use Rattle.st_ahead.specs.declared.events.Row.{Row}
 use Rattle.st_run.specs.Moments.{Moment, Standing, next_row, next_moment}
 use Rattle.st_run.specs.TimedRun.{completion, timed_from, timed_behind}
 use Rattle.st_run.specs.Order.{AreRising}
-use Rattle.st_run.specs.Told.{Done, Told, told_of, told_of_events}
+use Rattle.st_run.specs.ReportedEvents.{Done, TimedReportedEvent, timed_reported_event, reported_events}
 use Rattle.st_run.specs.Together.{Together, IsBeforeEntry, standing_of, moment_of}
 use Rattle.st_run.specs.Telling.{AreInTime, IsShown, IsLeft}
 use Rattle.st_run.specs.Ticking.{AreMade, AreTicked, at_completion}
 use Rattle.st_run.proofs.Turns.{behind-done, behind-none}
-use Rattle.st_run.proofs.ToldLemmas.{once}
+use Rattle.st_run.proofs.ReportedLemmas.{once}
 use Rattle.st_run.proofs.TickLemmas.{ready-table, row-same}
 use Rattle.st_run.proofs.MomentLemmas.{moment-next, behind-next, row-before}
 use Rattle.st_run.proofs.LeftLemmas.{next-done, next-tick, oldest-in_time}
@@ -54,7 +54,7 @@ tick-before t now h early =
     assumption
 
 module _ (left tick : ℕ) (snaps : List ℕ) (t new : Together) (before : IsBeforeEntry t) (rising : AreRising (t.machine.now - 1) snaps)
-    (in_time : AreInTime (told_of_events (timed_behind t.machine.delays t.machine.levels left (standing_of tick t) snaps))) where
+    (in_time : AreInTime (reported_events (timed_behind t.machine.delays t.machine.levels left (standing_of tick t) snaps))) where
   abbrev o : Overlap
   o = t.machine
 
@@ -66,7 +66,7 @@ module _ (left tick : ℕ) (snaps : List ℕ) (t new : Together) (before : IsBef
 
   -- a snapshot
   shown-by : (xs : List ℕ) → AreRising (o.now - 1) xs
-      → AreInTime (told_of_events (timed_behind o.delays o.levels left p xs)) → AreMade (AreTicked None (slice_get xs 0)) t new → IsShown left tick xs new
+      → AreInTime (reported_events (timed_behind o.delays o.levels left p xs)) → AreMade (AreTicked None (slice_get xs 0)) t new → IsShown left tick xs new
   unfolding AreRising
   shown-by [] up all made = absurd made.ticked
   shown-by (x ∷ xs) up all made =
@@ -101,10 +101,10 @@ module _ (left tick : ℕ) (snaps : List ℕ) (t new : Together) (before : IsBef
     late-next : IfSome (slice_get snaps 0) (λ x. next.tick ≤ x)
     late-next = subst {A = ℕ} (λ k. IfSome (slice_get snaps 0) (λ x. k ≤ x)) (sym (next-tick left tick snaps t before in_time)) late
 
-    all-told : told_of_events (timed_behind o.delays o.levels left p snaps)
-        ≡ told_of (completion o.delays o.levels p) ∷ told_of_events (timed_from o.delays o.levels left next snaps)
-    unfolding told_of_events
-    all-told = ap told_of_events (behind-completes o.delays o.levels left p snaps late-next)
+    all-told : reported_events (timed_behind o.delays o.levels left p snaps)
+        ≡ timed_reported_event (completion o.delays o.levels p) ∷ reported_events (timed_from o.delays o.levels left next snaps)
+    unfolding reported_events
+    all-told = ap reported_events (behind-completes o.delays o.levels left p snaps late-next)
 
     row-c : row.c ≡ (oldest_row o).c
     row-c = ap {A = Row} (λ r. r.c) made.ticked.2
@@ -117,9 +117,9 @@ module _ (left tick : ℕ) (snaps : List ℕ) (t new : Together) (before : IsBef
       soon = oldest-in_time left tick snaps t before in_time;
       rising = rising-first (o.now - 1) (oldest_row o).c snaps rising late;
       in_time =
-          subst {A = Moment} (λ m. AreInTime (told_of_events (timed_from o.delays o.levels left m snaps))) (sym moment-is)
-          (All-tail (λ (y : Told). (y.tick < 2 ^ 63) × (y.done < 2 ^ 63)) (told_of (completion o.delays o.levels p))
-          (told_of_events (timed_from o.delays o.levels left next snaps)) (subst {A = List Told} AreInTime all-told in_time));
+          subst {A = Moment} (λ m. AreInTime (reported_events (timed_from o.delays o.levels left m snaps))) (sym moment-is)
+          (All-tail (λ (y : TimedReportedEvent). (y.tick < 2 ^ 63) × (y.done < 2 ^ 63)) (timed_reported_event (completion o.delays o.levels p))
+          (reported_events (timed_from o.delays o.levels left next snaps)) (subst {A = List TimedReportedEvent} AreInTime all-told in_time));
     }
 
     pub go-leaves : IsLeft left snaps row.c new
@@ -128,10 +128,10 @@ module _ (left tick : ℕ) (snaps : List ℕ) (t new : Together) (before : IsBef
         (subst {A = Together} (λ u. IsLeft left snaps (oldest_row o).c u) (sym new-done) done-left)
 
     -- the row that is told
-    abbrev told_row : Row → Told
+    abbrev told_row : Row → TimedReportedEvent
     told_row r = once r.number r.c (Done r.address r.p r.r r.c)
 
-    row-told : told_row (row_done (at_completion o)) ≡ told_of (completion o.delays o.levels p)
+    row-told : told_row (row_done (at_completion o)) ≡ timed_reported_event (completion o.delays o.levels p)
     unfolding address
     row-told =
         let s = o.state in
@@ -148,15 +148,15 @@ module _ (left tick : ℕ) (snaps : List ℕ) (t new : Together) (before : IsBef
         (next_row o.delays o.levels p).r (next_row o.delays o.levels p).c))
         (ap {A = FrontRow} (λ r. r.c) (sym rows) ∙ sym (next-tick left tick snaps t before in_time))
 
-    pub go-tells : (rest : List Told)
-        → told_of_events (timed_from new.machine.delays new.machine.levels left (moment_of new) snaps) ≡ rest
-        → told_of_events (timed_behind o.delays o.levels left p snaps) ≡ told_row row ∷ rest
+    pub go-tells : (rest : List TimedReportedEvent)
+        → reported_events (timed_from new.machine.delays new.machine.levels left (moment_of new) snaps) ≡ rest
+        → reported_events (timed_behind o.delays o.levels left p snaps) ≡ told_row row ∷ rest
     unfolding machine_after_completion
     go-tells rest same =
-        let behind : told_of_events (timed_from o.delays o.levels left next snaps) ≡ rest =
-        ap {A = Moment} (λ m. told_of_events (timed_from o.delays o.levels left m snaps)) (sym moment-is)
-        ∙ ap {A = Together} (λ u. told_of_events (timed_from u.machine.delays u.machine.levels left (moment_of u) snaps)) (sym new-done)
+        let behind : reported_events (timed_from o.delays o.levels left next snaps) ≡ rest =
+        ap {A = Moment} (λ m. reported_events (timed_from o.delays o.levels left m snaps)) (sym moment-is)
+        ∙ ap {A = Together} (λ u. reported_events (timed_from u.machine.delays u.machine.levels left (moment_of u) snaps)) (sym new-done)
         ∙ same in
         all-told
-        ∙ ap {A = List Told} (λ xs. told_of (completion o.delays o.levels p) ∷ xs) behind
-        ∙ ap {A = Told} (λ y. y ∷ rest) (sym row-told ∙ ap told_row (sym made.ticked.2))
+        ∙ ap {A = List TimedReportedEvent} (λ xs. timed_reported_event (completion o.delays o.levels p) ∷ xs) behind
+        ∙ ap {A = TimedReportedEvent} (λ y. y ∷ rest) (sym row-told ∙ ap told_row (sym made.ticked.2))

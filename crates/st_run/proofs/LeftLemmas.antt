@@ -11,15 +11,15 @@ use Rattle.st_ahead.specs.Overlap.{state_ahead, oldest_row, levels_of}
 use Rattle.st_run.specs.Moments.{Moment, Standing, next_scene, next_state, ends_segment, has_card, has_waited, standing_at, entries_at_moment, next_moment}
 use Rattle.st_run.specs.TimedRun.{events_between, last_events, timed_from, timed_behind}
 use Rattle.st_run.specs.Order.{AreRising}
-use Rattle.st_run.specs.Told.{Told, told_of_events}
+use Rattle.st_run.specs.ReportedEvents.{TimedReportedEvent, reported_events}
 use Rattle.st_run.specs.Together.{Together, scene_of, IsBeforeEntry, standing_of, moment_of, AreTexts}
-use Rattle.st_run.specs.Telling.{Waiting, whats, at_once, told_at_end, rest_of, IsTurn, IsRun, AreInTime, IsLeft}
+use Rattle.st_run.specs.Telling.{Waiting, waiting_events, at_once, told_at_end, rest_of, IsTurn, IsRun, AreInTime, IsLeft}
 use Rattle.st_run.specs.Leaving.{IsDecided, RunGoesOn}
 use Rattle.st_run.specs.declared.leaving.Decided.{Decided}
 use Rattle.st_run.specs.declared.turn.Turn.{Turn}
 use Rattle.st_run.specs.declared.turn.Turn.TheVariants as turns
 use Rattle.st_run.proofs.Turns.{timed-rests, timed-budget, timed-goes_on, nothing-ahead}
-use Rattle.st_run.proofs.ToldLemmas.{told-append, dropped_at, told-between, told-last, told-completion}
+use Rattle.st_run.proofs.ReportedLemmas.{told-append, dropped_at, told-between, told-last, told-completion}
 use Rattle.st_run.proofs.MomentLemmas.{still, ready-still, row-before}
 use Rattle.st_run.proofs.ChoiceLemmas.{IsWay}
 
@@ -50,13 +50,13 @@ module _ (ds : List ℕ) (n left tick : ℕ) (m : Moment) (snaps : List ℕ) (d 
   printed = option_map (λ x. x.bytes) d.text
 
   goes-told : left ≢ 0 → rests (next_state m) ≡ false → RunGoesOn m d t
-      → told_of_events (timed_from ds n left m snaps) ≡ rest_of turns.Before (left - 1) tick snaps (waits drops printed d.taken) t
+      → reported_events (timed_from ds n left m snaps) ≡ rest_of turns.Before (left - 1) tick snaps (waits drops printed d.taken) t
   unfolding rest_of
   goes-told some awake g =
       let s = next_state m in
       let p = standing_at m in
       let k = left - 1 in
-      let rest = told_of_events (timed_behind ds n k p snaps) in
+      let rest = reported_events (timed_behind ds n k p snaps) in
       let state : s ≡ t.machine.state = ap {A = Standing} (λ q. q.scene.machine) (sym g.standing) in
       let waiting : waits (dropped_if (ends_segment m) m) printed (interrupt s) ≡ waits drops printed d.taken =
       ap {A = Bool} (λ b. waits (dropped_if b m) printed (interrupt s)) (sym g.ends)
@@ -64,20 +64,20 @@ module _ (ds : List ℕ) (n left tick : ℕ) (m : Moment) (snaps : List ℕ) (d 
       ∙ ap {A = Option ℕ} (λ o. waits drops printed o) (sym g.taken) in
       let stand : p ≡ standing_of tick t =
       sym g.standing ∙ ap {A = ℕ} (λ x. standing_of x t) (sym tick_is) in
-      ap told_of_events (timed-goes_on ds n left m snaps some awake)
+      ap reported_events (timed-goes_on ds n left m snaps some awake)
       ∙ told-append (events_between m) (timed_behind ds n k p snaps)
-      ∙ ap {A = List Told} (λ xs. xs ++ rest) (told-between m printed text)
-      ∙ ap {A = Waiting} (λ w. map (at_once m.tick s) (whats w s) ++ rest) waiting
-      ∙ ap {A = Machine} (λ u. map (at_once m.tick u) (whats (waits drops printed d.taken) u) ++ rest) state
-      ∙ ap {A = ℕ} (λ x. map (at_once x t.machine.state) (whats (waits drops printed d.taken) t.machine.state) ++ rest) (sym tick_is)
-      ∙ ap {A = List Told} (λ xs. map (at_once tick t.machine.state) (whats (waits drops printed d.taken) t.machine.state) ++ xs)
-      (ap {A = Standing} (λ q. told_of_events (timed_behind ds n k q snaps)) stand
-      ∙ ap {A = List ℕ} (λ es. told_of_events (timed_behind es n k (standing_of tick t) snaps)) (sym delays)
-      ∙ ap {A = ℕ} (λ l. told_of_events (timed_behind t.machine.delays l k (standing_of tick t) snaps)) (sym levels))
+      ∙ ap {A = List TimedReportedEvent} (λ xs. xs ++ rest) (told-between m printed text)
+      ∙ ap {A = Waiting} (λ w. map (at_once m.tick s) (waiting_events w s) ++ rest) waiting
+      ∙ ap {A = Machine} (λ u. map (at_once m.tick u) (waiting_events (waits drops printed d.taken) u) ++ rest) state
+      ∙ ap {A = ℕ} (λ x. map (at_once x t.machine.state) (waiting_events (waits drops printed d.taken) t.machine.state) ++ rest) (sym tick_is)
+      ∙ ap {A = List TimedReportedEvent} (λ xs. map (at_once tick t.machine.state) (waiting_events (waits drops printed d.taken) t.machine.state) ++ xs)
+      (ap {A = Standing} (λ q. reported_events (timed_behind ds n k q snaps)) stand
+      ∙ ap {A = List ℕ} (λ es. reported_events (timed_behind es n k (standing_of tick t) snaps)) (sym delays)
+      ∙ ap {A = ℕ} (λ l. reported_events (timed_behind t.machine.delays l k (standing_of tick t) snaps)) (sym levels))
 
   stops-told : (resting : Bool) → resting ≡ rests (next_state m) → (resting ≡ false → left ≡ 0) → d.ends ≡ true → d.taken ≡ None
       → scene_of t ≡ next_scene m
-      → told_of_events (timed_from ds n left m snaps) ≡ rest_of (turns.AtEnd resting) (left - 1) tick snaps (waits drops printed d.taken) t
+      → reported_events (timed_from ds n left m snaps) ≡ rest_of (turns.AtEnd resting) (left - 1) tick snaps (waits drops printed d.taken) t
   unfolding rest_of
   stops-told resting same none ends void g =
       let s = next_state m in
@@ -86,16 +86,16 @@ module _ (ds : List ℕ) (n left tick : ℕ) (m : Moment) (snaps : List ℕ) (d 
       ap {A = Bool} (λ b. waits (dropped_if b m) printed None) (sym ends)
       ∙ ap {A = List (ℕ × ℕ)} (λ xs. waits xs printed None) (sym dropped)
       ∙ ap {A = Option ℕ} (λ o. waits drops printed o) (sym void) in
-      ap told_of_events (ends-here ds n left m snaps resting same none)
+      ap reported_events (ends-here ds n left m snaps resting same none)
       ∙ told-last m printed snaps text
-      ∙ ap {A = Waiting} (λ w. map (at_once m.tick s) (whats w s) ++ told_at_end (rests s) m.tick snaps s) waiting
-      ∙ ap {A = Bool} (λ b. map (at_once m.tick s) (whats (waits drops printed d.taken) s) ++ told_at_end b m.tick snaps s) (sym same)
-      ∙ ap {A = Machine} (λ u. map (at_once m.tick u) (whats (waits drops printed d.taken) u) ++ told_at_end resting m.tick snaps u) state
-      ∙ ap {A = ℕ} (λ x. map (at_once x t.machine.state) (whats (waits drops printed d.taken) t.machine.state)
+      ∙ ap {A = Waiting} (λ w. map (at_once m.tick s) (waiting_events w s) ++ told_at_end (rests s) m.tick snaps s) waiting
+      ∙ ap {A = Bool} (λ b. map (at_once m.tick s) (waiting_events (waits drops printed d.taken) s) ++ told_at_end b m.tick snaps s) (sym same)
+      ∙ ap {A = Machine} (λ u. map (at_once m.tick u) (waiting_events (waits drops printed d.taken) u) ++ told_at_end resting m.tick snaps u) state
+      ∙ ap {A = ℕ} (λ x. map (at_once x t.machine.state) (waiting_events (waits drops printed d.taken) t.machine.state)
       ++ told_at_end resting x snaps t.machine.state) (sym tick_is)
 
   way-told : (turn : Turn) → IsWay turn left m d t
-      → told_of_events (timed_from ds n left m snaps) ≡ rest_of turn (left - 1) tick snaps (waits drops printed d.taken) t
+      → reported_events (timed_from ds n left m snaps) ≡ rest_of turn (left - 1) tick snaps (waits drops printed d.taken) t
   way-told turns.Before way = goes-told way.0 way.1 way.2
   way-told (turns.AtEnd resting) way = stops-told resting way.0 way.1 way.2 way.3 way.4.0
   way-told turns.Over way = absurd way
@@ -148,7 +148,7 @@ module _ (left tick : ℕ) (snaps : List ℕ) (old t : Together) (d : Decided) (
     (is : IsLeft left snaps tick old) (decided : IsDecided left (moment_of old) d t)
     (delays : t.machine.delays ≡ old.machine.delays) (levels : t.machine.levels ≡ old.machine.levels)
     (dropped : drops ≡ (if d.ends then map dropped_at (levels_of old.machine) else [])) where
-  pub left-told : told_of_events (timed_from old.machine.delays old.machine.levels left (moment_of old) snaps)
+  pub left-told : reported_events (timed_from old.machine.delays old.machine.levels left (moment_of old) snaps)
       ≡ rest_of d.turn (left - 1) tick snaps (waits drops (option_map (λ x. x.bytes) d.text) d.taken) t
   left-told =
       way-told old.machine.delays old.machine.levels left tick (moment_of old) snaps d drops t decided.text is.tick_is delays levels dropped
@@ -164,13 +164,13 @@ module _ (left tick : ℕ) (snaps : List ℕ) (old t : Together) (d : Decided) (
         taken =
             way-taken old.machine.delays old.machine.levels left tick m snaps d drops t decided.text is.tick_is delays levels dropped
             d.turn decided.way;
-        in_time = subst {A = List Told} AreInTime left-told is.in_time;
+        in_time = subst {A = List TimedReportedEvent} AreInTime left-told is.in_time;
       }
 
 -- ---- an entry is done
 
 module _ (left tick : ℕ) (snaps : List ℕ) (t : Together) (before : IsBeforeEntry t)
-    (in_time : AreInTime (told_of_events (timed_behind t.machine.delays t.machine.levels left (standing_of tick t) snaps))) where
+    (in_time : AreInTime (reported_events (timed_behind t.machine.delays t.machine.levels left (standing_of tick t) snaps))) where
   abbrev p : Standing
   p = standing_of tick t
 
@@ -187,7 +187,7 @@ module _ (left tick : ℕ) (snaps : List ℕ) (t : Together) (before : IsBeforeE
 
   next-in_time : (next.tick < 2 ^ 63) × (next.scene.machine.done < 2 ^ 63)
   next-in_time =
-      told-completion (λ (y : Told). (y.tick < 2 ^ 63) × (y.done < 2 ^ 63)) t.machine.delays t.machine.levels left p snaps in_time
+      told-completion (λ (y : TimedReportedEvent). (y.tick < 2 ^ 63) × (y.done < 2 ^ 63)) t.machine.delays t.machine.levels left p snaps in_time
 
   pub oldest-in_time : (oldest_row t.machine).c < 2 ^ 63
   oldest-in_time = omega (arith, next-in_time.0, next-tick)

@@ -16,13 +16,14 @@ pub mod EachEvent
 pub mod Bounds
 pub mod TickLemmas
 pub mod WaitingLemmas
-pub mod ToldLemmas
+pub mod ReportedLemmas
 pub mod SeenLemmas
 pub mod MomentLemmas
 pub mod ProgressLemmas
 pub mod LeftLemmas
 pub mod GoLemmas
 pub mod NextLemmas
+pub mod ReaderLemmas
 pub mod StartLemmas
 pub mod ViewLemmas
 pub mod EndedLemmas

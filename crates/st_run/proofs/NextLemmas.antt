@@ -3,29 +3,29 @@ use Rattle.std.specs.Prelude.{map, IsSome}
 use Rattle.std.proofs.Common.{◌≡◌, ℕ, ◌<◌, ◌^◌, Bool, List, [], ◌∷◌, ◌++◌, sym, ◌∙◌, ap, subst}
 use Rattle.std.proofs.lemmas.List.Elements.{All-tail}
 use Rattle.st_ahead.specs.Overlap.{levels_of}
-use Rattle.st_run.specs.Told.{What, Told}
+use Rattle.st_run.specs.ReportedEvents.{ReportedEvent, TimedReportedEvent}
 use Rattle.st_run.specs.Together.{Together}
-use Rattle.st_run.specs.Telling.{Waiting, whats, at_once, rest_of, rest_by, told_at_end, IsRun, AreInTime}
+use Rattle.st_run.specs.Telling.{Waiting, waiting_events, at_once, rest_of, rest_by, told_at_end, IsRun, AreInTime}
 use Rattle.st_run.specs.declared.turn.Turn.{Turn}
 use Rattle.st_run.specs.declared.turn.Turn.TheVariants as turns
 use Rattle.st_run.proofs.ProgressLemmas.{Quiet, rest-quiet}
 
-module _ (turn : Turn) (left tick : ℕ) (snaps : List ℕ) (w v : Waiting) (t : Together) (x y : What)
-    (first : whats w t.machine.state ≡ x ∷ whats v t.machine.state) (same : x ≡ y) where
+module _ (turn : Turn) (left tick : ℕ) (snaps : List ℕ) (w v : Waiting) (t : Together) (x y : ReportedEvent)
+    (first : waiting_events w t.machine.state ≡ x ∷ waiting_events v t.machine.state) (same : x ≡ y) where
   pub next-tells : rest_of turn left tick snaps w t ≡ at_once tick t.machine.state y ∷ rest_of turn left tick snaps v t
   unfolding rest_of
   next-tells =
       let s = t.machine.state in
-      ap {A = List What} (λ xs. map (at_once tick s) xs ++ rest_by turn left tick snaps t) first
-      ∙ ap {A = What} (λ z. at_once tick s z ∷ (map (at_once tick s) (whats v s) ++ rest_by turn left tick snaps t)) same
+      ap {A = List ReportedEvent} (λ xs. map (at_once tick s) xs ++ rest_by turn left tick snaps t) first
+      ∙ ap {A = ReportedEvent} (λ z. at_once tick s z ∷ (map (at_once tick s) (waiting_events v s) ++ rest_by turn left tick snaps t)) same
 
   pub next-keeps : IsRun turn left tick snaps w t → (IsSome v.taken → IsSome w.taken) → IsRun turn left tick snaps v t
   next-keeps is kept = record {
     stands = is.stands;
     taken = λ some. is.taken (kept some);
     in_time =
-        All-tail (λ (z : Told). (z.tick < 2 ^ 63) × (z.done < 2 ^ 63)) (at_once tick t.machine.state y) (rest_of turn left tick snaps v t)
-        (subst {A = List Told} AreInTime next-tells is.in_time);
+        All-tail (λ (z : TimedReportedEvent). (z.tick < 2 ^ 63) × (z.done < 2 ^ 63)) (at_once tick t.machine.state y) (rest_of turn left tick snaps v t)
+        (subst {A = List TimedReportedEvent} AreInTime next-tells is.in_time);
   }
 
 -- where nothing waits the turn decides
@@ -48,4 +48,4 @@ module _ (turn : Turn) (left tick : ℕ) (snaps : List ℕ) (w v : Waiting) (t :
   end-levels rests same = (turn-run (turns.AtEnd rests) same).stands
 
   pub end-in_time : (rests : Bool) → turn ≡ turns.AtEnd rests → AreInTime (told_at_end rests tick snaps t.machine.state)
-  end-in_time rests same = subst {A = List Told} AreInTime (turn-rest (turns.AtEnd rests) same) is.in_time
+  end-in_time rests same = subst {A = List TimedReportedEvent} AreInTime (turn-rest (turns.AtEnd rests) same) is.in_time

@@ -10,7 +10,7 @@ use Rattle.st_exch.specs.Printer.{line_of_words}
 use Rattle.st_exec.specs.Step.{rests}
 use Rattle.st_run.specs.Run.{Scene, Transition, PlainEvent, and_then, uneventful, with_device, with_order_at_rest, with_wait}
 use Rattle.st_run.specs.Together.{AreTexts}
-use Rattle.st_run.specs.Told.{what_happens}
+use Rattle.st_run.specs.ReportedEvents.{reported_plain_event}
 use Rattle.st_run.specs.Outside.{Coming, ArePrinted, HasHappened, scene_at, joined_of, ends_by}
 use Rattle.st_run.specs.declared.between.Interlude.{Interlude}
 use Rattle.st_run.proofs.SignalLemmas.{wait-none}
@@ -48,8 +48,8 @@ printed-joined (Some words) u (x ∷ z ∷ xs) ys first second few = absurd (ome
 
 -- it is told as text
 pub printed-texts : (t : Option (List ℕ)) (xs : List PlainEvent) → ArePrinted t xs → AreTexts (option_map line_of_words t) xs
-printed-texts None xs is = ap (map what_happens) (sym is)
-printed-texts (Some words) xs is = ap (map what_happens) (sym is.1)
+printed-texts None xs is = ap (map reported_plain_event) (sym is)
+printed-texts (Some words) xs is = ap (map reported_plain_event) (sym is.1)
 
 words-none : (t : Option (List ℕ)) → option_or t None ≡ t
 words-none None = refl

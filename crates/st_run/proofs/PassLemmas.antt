@@ -15,11 +15,11 @@ use Rattle.st_ahead.proofs.NotedRows.{queue-shut, row-one, row-late, rows-first,
 use Rattle.st_run.specs.Moments.{Moment}
 use Rattle.st_run.specs.TimedRun.{timed_from, timed_behind}
 use Rattle.st_run.specs.Order.{AreRising}
-use Rattle.st_run.specs.Told.{Told, told_of_events}
+use Rattle.st_run.specs.ReportedEvents.{TimedReportedEvent, reported_events}
 use Rattle.st_run.specs.Between.{IsQuiet}
 use Rattle.st_run.specs.Leaving.{IsDecided, nothing_decided}
 use Rattle.st_run.specs.Together.{Together, IsBeforeEntry, standing_of, moment_of}
-use Rattle.st_run.specs.Telling.{Waiting, whats, row_told, rows_then, AreLeftOut, HasGoneFar, IsLeft, IsRun, AreInTime, rest_of}
+use Rattle.st_run.specs.Telling.{Waiting, waiting_events, row_told, rows_then, AreLeftOut, HasGoneFar, IsLeft, IsRun, AreInTime, rest_of}
 use Rattle.st_run.specs.Ticking.{AreMade, AreTicked, at_completion, last_for}
 use Rattle.st_run.specs.declared.turn.Turn.TheVariants as turns
 use Rattle.st_run.proofs.TickLemmas.{tick-passes, tick-early, tick-done, done-completed}
@@ -32,8 +32,8 @@ use Rattle.st_run.proofs.GoLemmas.{tick-before, go-leaves, go-tells}
 use Rattle.st_run.specs.Outside.{signal_due}
 
 -- what is still to be told before the next entry
-abbrev rest_told : ℕ → ℕ → Together → List Told
-rest_told left tick t = told_of_events (timed_behind t.machine.delays t.machine.levels left (standing_of tick t) [])
+abbrev rest_told : ℕ → ℕ → Together → List TimedReportedEvent
+rest_told left tick t = reported_events (timed_behind t.machine.delays t.machine.levels left (standing_of tick t) [])
 
 rising-none : (k : ℕ) → AreRising k []
 unfolding AreRising
@@ -67,9 +67,9 @@ fewer count done test = grind (arith, nat_tests)
 -- ---- one entry
 
 -- rows are told before others
-rows-both : (xs ys : List Row) (rest : List Told) → rows_then (xs ++ ys) rest ≡ rows_then xs (rows_then ys rest)
+rows-both : (xs ys : List Row) (rest : List TimedReportedEvent) → rows_then (xs ++ ys) rest ≡ rows_then xs (rows_then ys rest)
 rows-both [] ys rest = refl
-rows-both (x ∷ xs) ys rest = ap (λ (more : List Told). row_told x ∷ more) (rows-both xs ys rest)
+rows-both (x ∷ xs) ys rest = ap (λ (more : List TimedReportedEvent). row_told x ∷ more) (rows-both xs ys rest)
 
 -- entries were done, between which nothing came and fewer than `count` by then, in k ticks which
 -- leave the machine `new`
@@ -105,7 +105,7 @@ module _ (left tick : ℕ) (t : Together) (before : IsBeforeEntry t) (in_time : 
   one-left =
       go-leaves left tick [] t behind before (rising-none (o.now - 1)) in_time (row_done o) None refl made
 
-  pub one-told : (rest : List Told) → told_of_events (timed_from behind.machine.delays behind.machine.levels left (moment_of behind) []) ≡ rest
+  pub one-told : (rest : List TimedReportedEvent) → reported_events (timed_from behind.machine.delays behind.machine.levels left (moment_of behind) []) ≡ rest
       → rest_told left tick t ≡ row_told (row_done o) ∷ rest
   unfolding machine_after_completion
   one-told rest same =
@@ -167,7 +167,7 @@ module _ (left tick : ℕ) (t : Together) (before : IsBeforeEntry t) (in_time : 
       left_now = left - 1;
       tick_now = (row_done o).c;
       before = keeps.stands.0;
-      in_time = subst {A = List Told} AreInTime rest-is keeps.in_time;
+      in_time = subst {A = List TimedReportedEvent} AreInTime rest-is keeps.in_time;
       tells =
           one-told (rest_told (left - 1) (row_done o).c next)
           (left-told left (row_done o).c [] behind next nothing_decided [] one-left decided parts.delays parts.levels refl ∙ rest-is)
@@ -232,7 +232,7 @@ all-passed (suc k) count left tick t new before in_time few signals are =
       before = rest.before;
       in_time = rest.in_time;
       tells =
-          first.tells ∙ ap {A = List Told} (λ xs. rows_then these xs) rest.tells
+          first.tells ∙ ap {A = List TimedReportedEvent} (λ xs. rows_then these xs) rest.tells
           ∙ sym (rows-both these those (rest_told rest.left_now rest.tick_now (record t { machine = new })))
           ∙ ap {A = List Row} (λ xs. rows_then xs (rest_told rest.left_now rest.tick_now (record t { machine = new }))) (sym all);
       number = rest.number ∙ first.number;
@@ -248,7 +248,7 @@ pub record PassedUpTo (count left tick : ℕ) (t new : Together) (row : Row) : T
   pub number : left_now + row.number ≡ left + t.machine.state.done + 1
   pub more : t.machine.state.done + 1 ≤ row.number
   pub leaves : IsLeft left_now [] row.c new
-  pub tells : (rest : List Told) → told_of_events (timed_from new.machine.delays new.machine.levels left_now (moment_of new) []) ≡ rest
+  pub tells : (rest : List TimedReportedEvent) → reported_events (timed_from new.machine.delays new.machine.levels left_now (moment_of new) []) ≡ rest
       → rest_told left tick t ≡ rows_then (rows_in_ticks (row.c - t.machine.now) t.machine) (row_told row ∷ rest)
   pub short : length (rows_in_ticks (row.c - t.machine.now) t.machine) ≤ count - t.machine.state.done - 1
 
@@ -275,9 +275,9 @@ module _ (count left tick : ℕ) (t new : Together) (before : IsBeforeEntry t) (
         short = subst {A = ℕ} (λ k. length (rows_in_ticks k t.machine) ≤ count - t.machine.state.done - 1) ticks all.short;
         tells = λ rest same.
             all.tells
-            ∙ ap {A = List Told} (λ xs. rows_then (rows_in_ticks stop.ticks t.machine) xs)
+            ∙ ap {A = List TimedReportedEvent} (λ xs. rows_then (rows_in_ticks stop.ticks t.machine) xs)
             (one-told all.left_now all.tick_now here all.before all.in_time stop.done rest
-            (ap {A = Together} (λ u. told_of_events (timed_from u.machine.delays u.machine.levels all.left_now (moment_of u) [])) (sym is) ∙ same)
+            (ap {A = Together} (λ u. reported_events (timed_from u.machine.delays u.machine.levels all.left_now (moment_of u) [])) (sym is) ∙ same)
             ∙ ap {A = Row} (λ r. row_told r ∷ rest) (sym row_is))
             ∙ ap {A = ℕ} (λ k. rows_then (rows_in_ticks k t.machine) (row_told row ∷ rest)) ticks;
       }
@@ -298,12 +298,12 @@ pub record AreAhead (left tick : ℕ) (t : Together) : Type 0 where
   pub in_time : AreInTime (rest_told left tick t)
 
 pub ahead-is : (left tick : ℕ) (snaps : List ℕ) (w : Waiting) (t : Together) → IsRun turns.Before left tick snaps w t
-    → ((s : Machine) → whats w s ≡ []) → snaps ≡ [] → AreAhead left tick t
+    → ((s : Machine) → waiting_events w s ≡ []) → snaps ≡ [] → AreAhead left tick t
 ahead-is left tick snaps w t is quiet none = record {
   before = is.stands.0;
   in_time =
-      subst {A = List ℕ} (λ xs. AreInTime (told_of_events (timed_behind t.machine.delays t.machine.levels left (standing_of tick t) xs))) none
-      (subst {A = List Told} AreInTime (rest-quiet turns.Before left tick snaps w t quiet) is.in_time);
+      subst {A = List ℕ} (λ xs. AreInTime (reported_events (timed_behind t.machine.delays t.machine.levels left (standing_of tick t) xs))) none
+      (subst {A = List TimedReportedEvent} AreInTime (rest-quiet turns.Before left tick snaps w t quiet) is.in_time);
 }
 
 pub far-row : (count left tick : ℕ) (t new : Together) → AreAhead left tick t → count ≤ t.machine.state.done + left + 1
@@ -320,25 +320,25 @@ module _ (count left tick : ℕ) (snaps : List ℕ) (t new : Together) (row : Ro
   far-left =
       subst {A = List ℕ} (λ xs. IsLeft k xs row.c new) (sym none) (subst {A = ℕ} (λ x. IsLeft x [] row.c new) same far.leaves)
 
-  pub far-told : (done most : ℕ) (rest : List Told) (before after : Queue) → done ≡ t.machine.state.done → count ≤ most
-      → told_of_events (timed_from new.machine.delays new.machine.levels k (moment_of new) snaps) ≡ rest
+  pub far-told : (done most : ℕ) (rest : List TimedReportedEvent) (before after : Queue) → done ≡ t.machine.state.done → count ≤ most
+      → reported_events (timed_from new.machine.delays new.machine.levels k (moment_of new) snaps) ≡ rest
       → after ≡ queue_with (rows_in_ticks (row.c - t.machine.now) t.machine) before
       → HasGoneFar done most row
-      (told_of_events (timed_behind t.machine.delays t.machine.levels left (standing_of tick t) snaps)) rest before after
+      (reported_events (timed_behind t.machine.delays t.machine.levels left (standing_of tick t) snaps)) rest before after
   far-told done most rest before after are few tells waits = record {
     out = record {
       passed = rows_in_ticks (row.c - t.machine.now) t.machine;
-      rest = ap {A = List ℕ} (λ xs. told_of_events (timed_behind t.machine.delays t.machine.levels left (standing_of tick t) xs)) none
+      rest = ap {A = List ℕ} (λ xs. reported_events (timed_behind t.machine.delays t.machine.levels left (standing_of tick t) xs)) none
           ∙ far.tells rest
-          (ap {A = ℕ} (λ x. told_of_events (timed_from new.machine.delays new.machine.levels x (moment_of new) [])) same
-          ∙ ap {A = List ℕ} (λ xs. told_of_events (timed_from new.machine.delays new.machine.levels k (moment_of new) xs)) (sym none) ∙ tells);
+          (ap {A = ℕ} (λ x. reported_events (timed_from new.machine.delays new.machine.levels x (moment_of new) [])) same
+          ∙ ap {A = List ℕ} (λ xs. reported_events (timed_from new.machine.delays new.machine.levels k (moment_of new) xs)) (sym none) ∙ tells);
     };
     waits = waits;
     few = omega (arith, far.short, are, few);
   }
 
 -- what has gone far is left out, where there is no room
-pub far-passed : (o : Option Row) (done most : ℕ) (all old new : List Told) (before next : Queue) → all ≡ old → before.room ≡ 0
+pub far-passed : (o : Option Row) (done most : ℕ) (all old new : List TimedReportedEvent) (before next : Queue) → all ≡ old → before.room ≡ 0
     → MatchOption o ⊥ (λ row. HasGoneFar done most row old new before next)
     → (next ≡ before) × MatchOption o (new ≡ all) (λ row. AreLeftOut row all new)
 far-passed None done most all old new before next same shut far = absurd far
@@ -346,7 +346,7 @@ far-passed (Some row) done most all old new before next same shut far =
     (far.waits ∙ queue-shut _ before shut, record { passed = far.out.passed; rest = same ∙ far.out.rest })
 
 -- and waits, where there is room
-pub far-waits : (done : ℕ) (row : Row) (old new : List Told) (before after : Queue) → HasGoneFar done (done + 64) row old new before after
+pub far-waits : (done : ℕ) (row : Row) (old new : List TimedReportedEvent) (before after : Queue) → HasGoneFar done (done + 64) row old new before after
     → before ≡ record { rows = []; room = 64 } → old ≡ rows_then (queue_with (row ∷ []) after).rows new
 far-waits done row old new before after far empty =
     let few : length far.out.passed ≤ 63 = omega (arith, far.few) in

@@ -16,28 +16,28 @@ use Rattle.st_run.specs.Events.{Level, snapshot, level_at, with_index_words}
 use Rattle.st_run.specs.Moments.{next_row, entries_at_moment, next_moment}
 use Rattle.st_run.specs.TimedRun.{ticks_before, snapshot_at, timed_behind}
 use Rattle.st_run.specs.Order.{AreRising}
-use Rattle.st_run.specs.Told.{What, Dropped, Interrupted, Shown, Ended, Told, told_of, told_of_events, Printed}
+use Rattle.st_run.specs.ReportedEvents.{ReportedEvent, Dropped, Interrupted, Shown, Ended, TimedReportedEvent, timed_reported_event, reported_events, Printed}
 use Rattle.st_run.specs.Together.{Together, scene_of, IsBeforeEntry, standing_of}
-use Rattle.st_run.specs.Told.{what_happens}
+use Rattle.st_run.specs.ReportedEvents.{reported_plain_event}
 use Rattle.st_run.specs.Run.{interrupts_by}
-use Rattle.st_run.specs.Telling.{Waiting, whats, at_once, told_at_end, rest_of, rest_by, state_told, ahead_of, IsRun, AreInTime, IsShown}
+use Rattle.st_run.specs.Telling.{Waiting, waiting_events, at_once, told_at_end, rest_of, rest_by, state_told, ahead_of, IsRun, AreInTime, IsShown}
 use Rattle.st_run.specs.declared.turn.Turn.{Turn}
 use Rattle.st_run.specs.declared.turn.Turn.TheVariants as turns
 use Rattle.st_run.proofs.Turns.{behind-snapshot, same-words}
-use Rattle.st_run.proofs.ToldLemmas.{once}
+use Rattle.st_run.proofs.ReportedLemmas.{once}
 use Rattle.st_run.proofs.MomentLemmas.{still, ready-still, row-before}
 use Rattle.std.specs.Option.{option_to_list}
 
 -- ---- nothing waits
 
 abbrev pub Quiet : Waiting → Type 0
-Quiet w = (s : Machine) → whats w s ≡ []
+Quiet w = (s : Machine) → waiting_events w s ≡ []
 
-not-end : (xs : List What) (x : What) → xs ++ x ∷ [] ≡ [] → ⊥
+not-end : (xs : List ReportedEvent) (x : ReportedEvent) → xs ++ x ∷ [] ≡ [] → ⊥
 not-end [] x none = cc
 not-end (y ∷ ys) x none = cc
 
-quiet-by : (o : Option ℕ) (xs : List What) (s : Machine) → xs ++ map what_happens (interrupts_by o s) ≡ [] → o ≡ None
+quiet-by : (o : Option ℕ) (xs : List ReportedEvent) (s : Machine) → xs ++ map reported_plain_event (interrupts_by o s) ≡ [] → o ≡ None
 quiet-by None xs s none = refl
 quiet-by (Some i) xs s none = absurd (not-end xs (Interrupted i s) none)
 
@@ -47,7 +47,7 @@ none-some (Some i) P none some = absurd (cc none)
 
 -- so no interrupt does
 pub quiet-taken : (w : Waiting) (s : Machine) (P : Type 0) → Quiet w → IsSome w.taken → P
-unfolding whats
+unfolding waiting_events
 quiet-taken w s P quiet some =
     none-some w.taken P
     (quiet-by w.taken (map (λ (d : ℕ × ℕ). Dropped d.0 d.1) (reverse w.drops) ++ map Printed (option_to_list w.text)) s (quiet s)) some
@@ -56,7 +56,7 @@ pub rest-quiet : (turn : Turn) (left tick : ℕ) (snaps : List ℕ) (w : Waiting
     → rest_of turn left tick snaps w t ≡ rest_by turn left tick snaps t
 unfolding rest_of
 rest-quiet turn left tick snaps w t quiet =
-    ap (λ (xs : List What). map (at_once tick t.machine.state) xs ++ rest_by turn left tick snaps t) (quiet t.machine.state)
+    ap (λ (xs : List ReportedEvent). map (at_once tick t.machine.state) xs ++ rest_by turn left tick snaps t) (quiet t.machine.state)
 
 -- ---- what is shown where nothing is ahead
 
@@ -80,7 +80,7 @@ ahead-none o none = ap (map (level_at (last_tick_made o))) none
 -- ---- a snapshot before the next entry
 
 shown-still : (ds : List ℕ) (n : ℕ) (c : Scene) (f : Front) (tick x : ℕ)
-    → told_of (snapshot_at ds n (record { scene = c; tick = tick; front = f }) x)
+    → timed_reported_event (snapshot_at ds n (record { scene = c; tick = tick; front = f }) x)
     ≡ once c.machine.done tick
     (Shown x (state_told (still ds n c.machine f (x + 1))) (ahead_of (still ds n c.machine f (x + 1))))
 unfolding snapshot lent_index_words levels_of state_ahead
@@ -91,10 +91,10 @@ shown-still ds n c f tick x =
     (Shown x (with_index_words (split_words (length levels) (interrupt c.machine) c.machine) c.machine) (map (level_at k) levels))) same
 
 pub show-told : (left tick x : ℕ) (xs : List ℕ) (t : Together) → IsBeforeEntry t → t.machine.now ≡ x + 1
-    → told_of_events (timed_behind t.machine.delays t.machine.levels left (standing_of tick t) (x ∷ xs))
+    → reported_events (timed_behind t.machine.delays t.machine.levels left (standing_of tick t) (x ∷ xs))
     ≡ at_once tick t.machine.state (Shown x (state_told t.machine) (ahead_of t.machine))
-    ∷ told_of_events (timed_behind t.machine.delays t.machine.levels left (standing_of tick t) xs)
-unfolding told_of_events next_moment
+    ∷ reported_events (timed_behind t.machine.delays t.machine.levels left (standing_of tick t) xs)
+unfolding reported_events next_moment
 show-told left tick x xs t h now =
     let o = t.machine in
     let ds = o.delays in
@@ -104,8 +104,8 @@ show-told left tick x xs t h now =
     let early : x < (next_moment ds n p).tick = omega (arith, h.ready.early, now, ap (λ r. r.c) row) in
     let machine : o ≡ still ds n o.state o.front (x + 1) =
     ready-still o h.ready ∙ ap {A = ℕ} (λ k. still ds n o.state o.front k) now in
-    ap told_of_events (behind-snapshot ds n left p x xs early)
-    ∙ ap (λ (y : Told). y ∷ told_of_events (timed_behind ds n left p xs))
+    ap reported_events (behind-snapshot ds n left p x xs early)
+    ∙ ap (λ (y : TimedReportedEvent). y ∷ reported_events (timed_behind ds n left p xs))
     (shown-still ds n (scene_of t) o.front tick x
     ∙ ap {A = Overlap} (λ q. once o.state.done tick (Shown x (state_told q) (ahead_of q))) (sym machine))
 
@@ -120,13 +120,13 @@ module _ (left tick x : ℕ) (xs snaps : List ℕ) (w : Waiting) (t : Together) 
   shown_first : IsShown left tick (x ∷ xs) t
   shown_first = subst {A = List ℕ} (λ k. IsShown left tick k t) first shown
 
-  pub show-tells : told_of_events (timed_behind t.machine.delays t.machine.levels left (standing_of tick t) snaps)
+  pub show-tells : reported_events (timed_behind t.machine.delays t.machine.levels left (standing_of tick t) snaps)
       ≡ at_once tick t.machine.state (Shown x (state_told t.machine) (ahead_of t.machine)) ∷ rest_of turn left tick xs w t
   show-tells =
       let p = standing_of tick t in
-      ap {A = List ℕ} (λ k. told_of_events (timed_behind t.machine.delays t.machine.levels left p k)) first
+      ap {A = List ℕ} (λ k. reported_events (timed_behind t.machine.delays t.machine.levels left p k)) first
       ∙ show-told left tick x xs t shown_first.before shown_first.first.0
-      ∙ ap {A = List Told} (λ rest. at_once tick t.machine.state (Shown x (state_told t.machine) (ahead_of t.machine)) ∷ rest)
+      ∙ ap {A = List TimedReportedEvent} (λ rest. at_once tick t.machine.state (Shown x (state_told t.machine) (ahead_of t.machine)) ∷ rest)
       (sym (rest-quiet turns.Before left tick xs w t quiet)
       ∙ ap {A = Turn} (λ k. rest_of k left tick xs w t) (sym before))
 
@@ -137,9 +137,9 @@ module _ (left tick x : ℕ) (xs snaps : List ℕ) (w : Waiting) (t : Together) 
         stands = (shown.before, rising-same x t.machine.now xs shown_first.first.0 shown_first.first.1);
         taken = quiet-taken w t.machine.state (levels_of t.machine ≡ []) quiet;
         in_time =
-            let all = subst {A = List Told} AreInTime show-tells shown.in_time in
+            let all = subst {A = List TimedReportedEvent} AreInTime show-tells shown.in_time in
             subst {A = Turn} (λ k. AreInTime (rest_of k left tick xs w t)) before
-            (All-tail (λ (y : Told). (y.tick < 2 ^ 63) × (y.done < 2 ^ 63)) _ (rest_of turn left tick xs w t) all);
+            (All-tail (λ (y : TimedReportedEvent). (y.tick < 2 ^ 63) × (y.done < 2 ^ 63)) _ (rest_of turn left tick xs w t) all);
       } in
       subst {A = Turn} (λ k. IsRun k left tick xs w t) (sym before) run
 
@@ -167,14 +167,14 @@ module _ (rests : Bool) (left tick : ℕ) (snaps : List ℕ) (w : Waiting) (t : 
   end-tells late =
       due-none rests tick snaps state late
       ∙ ap {A = Machine} (λ s. at_once tick state (Ended rests s) ∷ []) (sym (seen-none t.machine none))
-      ∙ ap {A = List Told} (λ rest. at_once tick state (Ended rests (state_told t.machine)) ∷ rest)
+      ∙ ap {A = List TimedReportedEvent} (λ rest. at_once tick state (Ended rests (state_told t.machine)) ∷ rest)
       (sym (rest-quiet turns.Over left tick snaps w t quiet))
 
   pub end-keeps : IsRun turns.Over left tick snaps w t
   end-keeps = record {
     stands = none;
     taken = quiet-taken w state (levels_of t.machine ≡ []) quiet;
-    in_time = subst {A = List Told} AreInTime (sym (rest-quiet turns.Over left tick snaps w t quiet)) (All-nil _);
+    in_time = subst {A = List TimedReportedEvent} AreInTime (sym (rest-quiet turns.Over left tick snaps w t quiet)) (All-nil _);
   }
 
   module _ (x : ℕ) (xs : List ℕ) (turn : Turn) (first : snaps ≡ x ∷ xs) (due : x ≤ tick) (at_end : turn ≡ turns.AtEnd rests) where
@@ -186,17 +186,17 @@ module _ (rests : Bool) (left tick : ℕ) (snaps : List ℕ) (w : Waiting) (t : 
         ∙ ap {A = Machine} (λ s. at_once tick state (Shown x s []) ∷ told_at_end rests tick xs state) (sym (seen-none t.machine none))
         ∙ ap {A = List Level} (λ ls. at_once tick state (Shown x (state_told t.machine) ls) ∷ told_at_end rests tick xs state)
         (sym (ahead-none t.machine none))
-        ∙ ap {A = List Told} (λ rest. at_once tick state (Shown x (state_told t.machine) (ahead_of t.machine)) ∷ rest)
+        ∙ ap {A = List TimedReportedEvent} (λ rest. at_once tick state (Shown x (state_told t.machine) (ahead_of t.machine)) ∷ rest)
         (sym (rest-quiet (turns.AtEnd rests) left tick xs w t quiet)
         ∙ ap {A = Turn} (λ k. rest_of k left tick xs w t) (sym at_end))
 
     pub last-keeps : IsRun turn left tick xs w t
     last-keeps =
-        let all = subst {A = List Told} AreInTime last-tells in_time in
+        let all = subst {A = List TimedReportedEvent} AreInTime last-tells in_time in
         subst {A = Turn} (λ k. IsRun k left tick xs w t) (sym at_end) (record {
           stands = none;
           taken = quiet-taken w state (levels_of t.machine ≡ []) quiet;
           in_time =
               subst {A = Turn} (λ k. AreInTime (rest_of k left tick xs w t)) at_end
-              (All-tail (λ (y : Told). (y.tick < 2 ^ 63) × (y.done < 2 ^ 63)) _ (rest_of turn left tick xs w t) all);
+              (All-tail (λ (y : TimedReportedEvent). (y.tick < 2 ^ 63) × (y.done < 2 ^ 63)) _ (rest_of turn left tick xs w t) all);
         })

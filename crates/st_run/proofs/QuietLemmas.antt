@@ -10,8 +10,8 @@ use Rattle.st_run.specs.Run.{Scene, Transition, with_due_signals, with_due_order
 use Rattle.st_run.specs.Together.{Together, scene_of, moment_of, IsBehindEntry}
 use Rattle.st_run.specs.Between.{IsChoice, IsQuiet}
 use Rattle.st_run.specs.Leaving.{IsDecided, nothing_decided}
-use Rattle.st_run.specs.Telling.{Waiting, whats, rest_of, IsRun, AreInTime}
-use Rattle.st_run.specs.Told.{Told, what_happens}
+use Rattle.st_run.specs.Telling.{Waiting, waiting_events, rest_of, IsRun, AreInTime}
+use Rattle.st_run.specs.ReportedEvents.{TimedReportedEvent, reported_plain_event}
 use Rattle.st_run.specs.Moments.{has_waited}
 use Rattle.st_exec.specs.Step.{rests}
 use Rattle.st_run.specs.declared.turn.Turn.{Turn}
@@ -86,7 +86,7 @@ module _ (left : ℕ) (b n : Together) (is : IsBehindEntry b) (some : left ≢ 0
       let waited = ap (λ (r : Transition). rests r.scene.machine) (none-due c signals quiet.reader quiet.printer quiet.awake) ∙ quiet.awake in
       record {
         scene = ap (λ (r : Transition). r.scene) (sym none);
-        told = ap (λ (r : Transition). map what_happens r.happened) (sym none);
+        told = ap (λ (r : Transition). map reported_plain_event r.happened) (sym none);
         since = since-none b.machine;
         ends =
             none-over (length b.cards) (has_waited (moment_of b)) waited
@@ -135,7 +135,7 @@ module _ (left : ℕ) (old : Together) (m k : Overlap) (xs : List Signal) (cards
 -- ---- what waits is nothing, whichever way
 
 pub none-quiet : Quiet (waits [] None None)
-unfolding whats
+unfolding waiting_events
 none-quiet s = refl
 
 pub quiet-rest : (turn : Turn) (left tick : ℕ) (snaps : List ℕ) (w : Waiting) (t : Together) → Quiet w
@@ -148,5 +148,5 @@ pub quiet-run : (turn : Turn) (left tick : ℕ) (snaps : List ℕ) (w : Waiting)
 quiet-run turn left tick snaps w t quiet is = record {
   stands = is.stands;
   taken = quiet-taken w t.machine.state _ quiet;
-  in_time = subst {A = List Told} AreInTime (quiet-rest turn left tick snaps w t quiet) is.in_time;
+  in_time = subst {A = List TimedReportedEvent} AreInTime (quiet-rest turn left tick snaps w t quiet) is.in_time;
 }

@@ -4,7 +4,7 @@ use Rattle.std.proofs.lemmas.Bool.{eqb-true}
 use Rattle.std.proofs.Common.{◌≡◌, length, arith, List, [], ◌∷◌, Option, None, Some, refl, sym, ◌∙◌, ap}
 use Rattle.st_ahead.specs.RowsDone.{Queue}
 use Rattle.st_ahead.specs.declared.events.Row.{Row}
-use Rattle.st_run.specs.Told.{Told}
+use Rattle.st_run.specs.ReportedEvents.{TimedReportedEvent}
 use Rattle.st_run.specs.Telling.{row_told, rows_then, AreLeftOut}
 
 -- none waits
@@ -14,7 +14,7 @@ none-waits (row ∷ rows) b is empty =
     let none : length (row ∷ rows) ≡ 0 = eqb-true (length (row ∷ rows)) 0 (sym is ∙ empty) in
     let no : ⊥ = omega (arith, none) in absurd no
 
-pub told-behind : {X : Type 0} (o : Option X) (rows new : List Row) (rest more : List Told) (tell : X → Told) → rows ≡ [] → new ≡ rows
+pub told-behind : {X : Type 0} (o : Option X) (rows new : List Row) (rest more : List TimedReportedEvent) (tell : X → TimedReportedEvent) → rows ≡ [] → new ≡ rows
     → MatchOption o (rest ≡ []) (λ x. rest ≡ tell x ∷ more)
     → MatchOption o (rows_then rows rest ≡ []) (λ x. rows_then rows rest ≡ tell x ∷ rows_then new more)
 told-behind None [] [] rest more tell none same told = told
@@ -22,7 +22,7 @@ told-behind (Some x) [] [] rest more tell none same told = told
 told-behind o [] (y ∷ ys) rest more tell none same told = absurd (cc same)
 told-behind o (y ∷ ys) new rest more tell none same told = absurd (cc none)
 
-pub passed-behind : (o : Option Row) (rows new : List Row) (rest more : List Told) → rows ≡ [] → new ≡ rows
+pub passed-behind : (o : Option Row) (rows new : List Row) (rest more : List TimedReportedEvent) → rows ≡ [] → new ≡ rows
     → MatchOption o (more ≡ rest) (λ row. AreLeftOut row rest more)
     → MatchOption o (rows_then new more ≡ rows_then rows rest) (λ row. AreLeftOut row (rows_then rows rest) (rows_then new more))
 passed-behind None [] [] rest more none same passed = passed
@@ -31,7 +31,7 @@ passed-behind o [] (y ∷ ys) rest more none same passed = absurd (cc same)
 passed-behind o (y ∷ ys) new rest more none same passed = absurd (cc none)
 
 -- the first one that does
-pub row-next : (o : Option Row) (mid new : Queue) (rest old : List Told) → old ≡ rows_then mid.rows rest
+pub row-next : (o : Option Row) (mid new : Queue) (rest old : List TimedReportedEvent) → old ≡ rows_then mid.rows rest
     → MatchOption o (mid.rows ≡ []) (λ row. mid.rows ≡ row ∷ new.rows) → MatchOption o (new ≡ mid) (λ row. new.room ≡ mid.room)
     → MatchOption o (rows_then new.rows rest ≡ old) (λ row. old ≡ row_told row ∷ rows_then new.rows rest)
 row-next None mid new rest old is none same = ap {A = Queue} (λ q. rows_then q.rows rest) same ∙ sym is

@@ -18,9 +18,9 @@ use Rattle.st_run.specs.Scenes.{IsScene}
 use Rattle.st_run.specs.Moments.{Standing, moment_at_start, next_state, has_card, has_waited, ends_segment, next_segment, next_front, standing_at}
 use Rattle.st_run.specs.TimedRun.{drops, happening_at, events_between, timed_behind, timed_run}
 use Rattle.st_run.specs.Order.{AreRising}
-use Rattle.st_run.specs.Told.{Told, told_of, told_of_events}
+use Rattle.st_run.specs.ReportedEvents.{TimedReportedEvent, timed_reported_event, reported_events}
 use Rattle.st_run.specs.Together.{Together, IsBeforeEntry}
-use Rattle.st_run.specs.Telling.{Waiting, whats, rest_of, IsRun, AreInTime}
+use Rattle.st_run.specs.Telling.{Waiting, waiting_events, rest_of, IsRun, AreInTime}
 use Rattle.st_run.specs.declared.turn.Turn.TheVariants as turns
 use Rattle.st_run.proofs.ProgressLemmas.{Quiet, rest-quiet}
 use Rattle.st_run.proofs.Turns.{timed-goes_on}
@@ -149,19 +149,19 @@ module _ (c : Scene) (is : IsIdle c.machine) where
 
 -- ---- all comes in time
 
-told-all : (P : Told → Type 0) (xs : List Timed) → All (λ (x : Timed). P (told_of x)) xs → All P (told_of_events xs)
-unfolding told_of_events
+told-all : (P : TimedReportedEvent → Type 0) (xs : List Timed) → All (λ (x : Timed). P (timed_reported_event x)) xs → All P (reported_events xs)
+unfolding reported_events
 told-all P [] all = All-nil P
 told-all P (x ∷ xs) all =
-    All-cons P (told_of x) (told_of_events xs) (All-head (λ (y : Timed). P (told_of y)) x xs all)
-    (told-all P xs (All-tail (λ (y : Timed). P (told_of y)) x xs all))
+    All-cons P (timed_reported_event x) (reported_events xs) (All-head (λ (y : Timed). P (timed_reported_event y)) x xs all)
+    (told-all P xs (All-tail (λ (y : Timed). P (timed_reported_event y)) x xs all))
 
 pub run-in_time : (ds : List ℕ) (n budget : ℕ) (c : Scene) (snaps : List ℕ) → AreDelaysUpTo 255 ds → n ≤ 8 → IsScene c
-    → c.machine.done ≡ 0 → budget ≤ 10000000 → AreInTime (told_of_events (timed_run ds n budget c snaps))
+    → c.machine.done ≡ 0 → budget ≤ 10000000 → AreInTime (reported_events (timed_run ds n budget c snaps))
 run-in_time ds n budget c snaps are levels is none few =
     let timely = run-time 255 n ds are levels budget c snaps is in
     let less = timed-done ds n budget 10000000 (moment_at_start c) snaps (omega arith) in
-    told-all (λ (y : Told). (y.tick < 2 ^ 63) × (y.done < 2 ^ 63)) (timed_run ds n budget c snaps)
+    told-all (λ (y : TimedReportedEvent). (y.tick < 2 ^ 63) × (y.done < 2 ^ 63)) (timed_run ds n budget c snaps)
     (λ k d inside.
     let early = timely k d inside in
     let low = less k d inside in
@@ -206,15 +206,15 @@ module _ (ds : List ℕ) (n : ℕ) (c : Scene) (idle : IsIdle c.machine) (is : I
   }
 
   pub none-quiet : Quiet none
-  unfolding whats
+  unfolding waiting_events
   none-quiet s = refl
 
   pub start-told : (budget : ℕ) (snaps : List ℕ) → 1 ≤ budget
       → rest_of turns.Before (budget - 1) 0 snaps none (with_scene (opened ds n c) (due c idle))
-      ≡ told_of_events (timed_run ds n budget c snaps)
+      ≡ reported_events (timed_run ds n budget c snaps)
   start-told budget snaps some =
       rest-quiet turns.Before (budget - 1) 0 snaps none (with_scene (opened ds n c) (due c idle)) none-quiet
-      ∙ ap told_of_events (sym (run-idle c idle ds n budget snaps (omega arith)))
+      ∙ ap reported_events (sym (run-idle c idle ds n budget snaps (omega arith)))
 
   pub start-run : (budget : ℕ) (snaps : List ℕ) → 1 ≤ n → n ≤ 8 → AreDelaysUpTo 255 ds → 1 ≤ budget → budget ≤ 10000000
       → c.machine.done ≡ 0 → IsStrictlyIncreasing snaps
@@ -223,6 +223,6 @@ module _ (ds : List ℕ) (n : ℕ) (c : Scene) (idle : IsIdle c.machine) (is : I
     stands = (opened-before some few are, increasing-rises snaps up);
     taken = λ none. absurd (cc none);
     in_time =
-        subst {A = List Told} AreInTime (sym (start-told budget snaps one))
+        subst {A = List TimedReportedEvent} AreInTime (sym (start-told budget snaps one))
         (run-in_time ds n budget c snaps are few is zero_done most);
   }

@@ -3,38 +3,38 @@ use Rattle.std.specs.Prelude.{map, reverse, is_some, option_map}
 use Rattle.std.proofs.Common.{◌≡◌, ℕ, ◌<◌, ◌≤◌, false, true, length, arith, List, [], ◌∷◌, ◌++◌, Option, None, Some, refl, ◌∙◌, ap}
 use Rattle.std.proofs.lemmas.List.{reverse-append}
 use Rattle.st_state.specs.Machine.{Machine}
-use Rattle.st_run.specs.Told.{Dropped, Printed, Interrupted}
+use Rattle.st_run.specs.ReportedEvents.{Dropped, Printed, Interrupted}
 use Rattle.std.specs.Option.{option_to_list}
-use Rattle.st_run.specs.Told.{what_happens}
+use Rattle.st_run.specs.ReportedEvents.{reported_plain_event}
 use Rattle.st_run.specs.Run.{interrupts_by}
-use Rattle.st_run.specs.Telling.{Waiting, whats}
+use Rattle.st_run.specs.Telling.{Waiting, waiting_events}
 
 reverse-push : (drops : List (ℕ × ℕ)) (d : ℕ × ℕ) → reverse (drops ++ d ∷ []) ≡ d ∷ reverse drops
 reverse-push drops d = reverse-append drops (d ∷ [])
 
 -- the youngest entry that is dropped comes first
-pub whats-drop : (w : Waiting) (drops : List (ℕ × ℕ)) (d : ℕ × ℕ) (s : Machine) → w.drops ≡ drops ++ d ∷ []
-    → whats w s ≡ Dropped d.0 d.1 ∷ whats (record w { drops = drops }) s
-unfolding whats
-whats-drop w drops d s same =
-    ap (λ xs. map (λ (e : ℕ × ℕ). Dropped e.0 e.1) xs ++ map Printed (option_to_list w.text) ++ map what_happens (interrupts_by w.taken s)) (ap reverse same ∙ reverse-push drops d)
+pub waiting_events-drop : (w : Waiting) (drops : List (ℕ × ℕ)) (d : ℕ × ℕ) (s : Machine) → w.drops ≡ drops ++ d ∷ []
+    → waiting_events w s ≡ Dropped d.0 d.1 ∷ waiting_events (record w { drops = drops }) s
+unfolding waiting_events
+waiting_events-drop w drops d s same =
+    ap (λ xs. map (λ (e : ℕ × ℕ). Dropped e.0 e.1) xs ++ map Printed (option_to_list w.text) ++ map reported_plain_event (interrupts_by w.taken s)) (ap reverse same ∙ reverse-push drops d)
 
 -- then the text
-pub whats-text : (w v : Waiting) (text : List ℕ) (s : Machine) → w.drops ≡ [] → w.text ≡ Some text
-    → v ≡ record { drops = []; text = None; taken = w.taken } → whats w s ≡ Printed text ∷ whats v s
-unfolding whats
-whats-text w v text s none same is = rw (none, same, is) refl
+pub waiting_events-text : (w v : Waiting) (text : List ℕ) (s : Machine) → w.drops ≡ [] → w.text ≡ Some text
+    → v ≡ record { drops = []; text = None; taken = w.taken } → waiting_events w s ≡ Printed text ∷ waiting_events v s
+unfolding waiting_events
+waiting_events-text w v text s none same is = rw (none, same, is) refl
 
 -- then the interrupt
-pub whats-taken : (w v : Waiting) (i : ℕ) (s : Machine) → w.drops ≡ [] → w.text ≡ None → w.taken ≡ Some i
-    → v ≡ record { drops = []; text = None; taken = None } → whats w s ≡ Interrupted i s ∷ whats v s
-unfolding whats
-whats-taken w v i s none empty same is = rw (none, empty, same, is) refl
+pub waiting_events-taken : (w v : Waiting) (i : ℕ) (s : Machine) → w.drops ≡ [] → w.text ≡ None → w.taken ≡ Some i
+    → v ≡ record { drops = []; text = None; taken = None } → waiting_events w s ≡ Interrupted i s ∷ waiting_events v s
+unfolding waiting_events
+waiting_events-taken w v i s none empty same is = rw (none, empty, same, is) refl
 
 -- and then nothing
-pub whats-none : (w : Waiting) (s : Machine) → w.drops ≡ [] → w.text ≡ None → w.taken ≡ None → whats w s ≡ []
-unfolding whats
-whats-none w s none empty same = rw (none, empty, same) refl
+pub waiting_events-none : (w : Waiting) (s : Machine) → w.drops ≡ [] → w.text ≡ None → w.taken ≡ None → waiting_events w s ≡ []
+unfolding waiting_events
+waiting_events-none w s none empty same = rw (none, empty, same) refl
 
 -- a list without items
 pub no-items : (xs : List (ℕ × ℕ)) → (0 < length xs → false ≡ true) → xs ≡ []

@@ -4,7 +4,7 @@ pub mod Moments
 pub mod TimedRun
 pub mod Scenes
 pub mod Order
-pub mod Told
+pub mod ReportedEvents
 pub mod Together
 pub mod Telling
 pub mod Progress

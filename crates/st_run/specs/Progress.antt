@@ -3,11 +3,11 @@ use Rattle.std.specs.Prelude.{ℕ, ◌≡◌, List, []}
 use Rattle.st_state.specs.Machine.{Machine}
 use Rattle.st_run.specs.TimedRun.{timed_from}
 use Rattle.st_run.specs.Together.{moment_of}
-use Rattle.st_run.specs.Told.{Told, told_of_events}
-use Rattle.st_run.specs.Telling.{IsRun, rest_of, rest_by, rows_then, state_told, ahead_of, told_as, whats}
+use Rattle.st_run.specs.ReportedEvents.{TimedReportedEvent, reported_events}
+use Rattle.st_run.specs.Telling.{IsRun, rest_of, rest_by, rows_then, state_told, ahead_of, told_as, waiting_events}
 use Rattle.st_run.specs.declared.progress.Progress.{Progress}
 use Rattle.st_run.specs.declared.teller.Teller.{Teller}
-use Rattle.st_run.specs.declared.told.TimedRunEvent.{TimedRunEvent as ToldNext}
+use Rattle.st_run.specs.declared.run_events.TimedRunEvent.{TimedRunEvent}
 use Rattle.st_run.specs.declared.turn.Turn.TheVariants as turns
 
 module _ {n : ℕ} (run : Progress n) where
@@ -20,27 +20,27 @@ module _ {n : ℕ} (run : Progress n) where
   IsBeforeNext = IsRun turns.Before run.left run.tick run.snaps.now run.waiting run.driven
 
   -- what it still has to tell
-  abbrev pub rest_behind : List Told
+  abbrev pub rest_behind : List TimedReportedEvent
   rest_behind = rest_of run.turn run.left run.tick run.snaps.now run.waiting run.driven
 
   -- nothing waits to be told
   abbrev pub IsTold : Type 0
-  IsTold = (s : Machine) → whats run.waiting s ≡ []
+  IsTold = (s : Machine) → waiting_events run.waiting s ≡ []
 
   -- what is told of the events before the next entry is done, and from it on
-  abbrev pub told_ahead : List Told
+  abbrev pub told_ahead : List TimedReportedEvent
   told_ahead = rest_by turns.Before run.left run.tick run.snaps.now run.driven
 
   -- where an entry has just been done, what is told of the events behind it
-  abbrev pub told_after : List Told
-  told_after = told_of_events (timed_from run.driven.machine.delays run.driven.machine.levels
+  abbrev pub told_after : List TimedReportedEvent
+  told_after = reported_events (timed_from run.driven.machine.delays run.driven.machine.levels
       run.left (moment_of run.driven) run.snaps.now)
 
 -- an answer, by what is shown behind it
-abbrev pub told_by : {n : ℕ} → ToldNext → Progress n → Told
+abbrev pub told_by : {n : ℕ} → TimedRunEvent → Progress n → TimedReportedEvent
 told_by t run = told_as t (state_told run.driven.machine) (ahead_of run.driven.machine)
     run.printed.bytes
 
 -- the rows that wait, and then the rest
-abbrev pub rest_with_rows : {n : ℕ} → Teller n → List Told
+abbrev pub rest_with_rows : {n : ℕ} → Teller n → List TimedReportedEvent
 rest_with_rows teller = rows_then teller.rows.rows (rest_behind teller.progress)

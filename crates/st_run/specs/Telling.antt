@@ -12,17 +12,17 @@ use Rattle.st_run.specs.Events.{Level, level_at, with_index_words}
 use Rattle.st_run.specs.TimedRun.{ticks_before, timed_from, timed_behind}
 use Rattle.st_run.specs.Order.{AreRising}
 use Rattle.st_run.specs.Run.{interrupts_by}
-use Rattle.st_run.specs.Told.{What, what_happens, Done, Dropped, Printed, Interrupted, Shown, Ended, Told, told_of_events}
+use Rattle.st_run.specs.ReportedEvents.{ReportedEvent, reported_plain_event, Done, Dropped, Printed, Interrupted, Shown, Ended, TimedReportedEvent, reported_events}
 use Rattle.st_run.specs.Together.{Together, IsBeforeEntry, IsBehindEntry, standing_of, moment_of}
-use Rattle.st_run.specs.declared.told.TimedRunEvent.{TimedRunEvent as ToldNext}
-use Rattle.st_run.specs.declared.told.RunEvent.{RunEvent as WhatTold}
-use Rattle.st_run.specs.declared.told.RunEvent.TheVariants as tells
+use Rattle.st_run.specs.declared.run_events.TimedRunEvent.{TimedRunEvent}
+use Rattle.st_run.specs.declared.run_events.RunEvent.{RunEvent}
+use Rattle.st_run.specs.declared.run_events.RunEvent.TheVariants as tells
 use Rattle.st_run.specs.declared.turn.Turn.{Turn}
 use Rattle.st_run.specs.declared.turn.Turn.TheVariants as turns
 
 -- what is still to be told, and the state, the levels and the text that are shown
 pub record Telling : Type 0 where
-  pub rest : List Told
+  pub rest : List TimedReportedEvent
   pub seen : Machine
   pub ahead : List Level
   pub text : List ℕ
@@ -32,25 +32,26 @@ pub record Telling : Type 0 where
 -- at a tick, where this state, these levels and this text are shown
 module _ (tick : ℕ) (s : Machine) (levels : List Level) (text : List ℕ) where
   -- what an answer tells
-  abbrev pub what_told : WhatTold → What
-  what_told (tells.Done address p r) = Done address p r tick
-  what_told (tells.Dropped address p) = Dropped address p
-  what_told tells.Printed = Printed text
-  what_told (tells.Interrupted i) = Interrupted i s
-  what_told (tells.Shown at) = Shown at s levels
-  what_told (tells.Ended rests) = Ended rests s
+  abbrev pub reported_answer : RunEvent → ReportedEvent
+  reported_answer (tells.Done address p r) = Done address p r tick
+  reported_answer (tells.Dropped address p) = Dropped address p
+  reported_answer tells.Printed = Printed text
+  reported_answer (tells.Interrupted i) = Interrupted i s
+  reported_answer (tells.Shown at) = Shown at s levels
+  reported_answer (tells.Ended rests) = Ended rests s
 
 -- a row as it is told
-abbrev pub row_told : Row → Told
-row_told row = record { done = row.number; tick = row.c; what = Done row.address row.p row.r row.c }
+abbrev pub row_told : Row → TimedReportedEvent
+row_told row =
+    record { done = row.number; tick = row.c; event = Done row.address row.p row.r row.c }
 
 -- rows that wait to be told, and the rest
-abbrev pub rows_then : List Row → List Told → List Told
+abbrev pub rows_then : List Row → List TimedReportedEvent → List TimedReportedEvent
 rows_then rows rest = map row_told rows ++ rest
 
 -- of what was to be told rows are left out at the front, of which this is the last one, and nothing
 -- else
-pub record AreLeftOut (last : Row) (old new : List Told) : Type 0 where
+pub record AreLeftOut (last : Row) (old new : List TimedReportedEvent) : Type 0 where
   pub passed : List Row
   pub rest : old ≡ rows_then passed (row_told last ∷ new)
 
@@ -63,18 +64,19 @@ pub record Waiting : Type 0 where
   pub taken : Option ℕ
 
 -- all of this in its order
-unfoldable pub whats : Waiting → Machine → List What
-whats w s = map (λ d. Dropped d.0 d.1) (reverse w.drops) ++ map Printed (option_to_list w.text)
-    ++ map what_happens (interrupts_by w.taken s)
+unfoldable pub waiting_events : Waiting → Machine → List ReportedEvent
+waiting_events w s =
+    map (λ d. Dropped d.0 d.1) (reverse w.drops) ++ map Printed (option_to_list w.text)
+    ++ map reported_plain_event (interrupts_by w.taken s)
 
 -- told in a state whose last entry was done at a tick
-abbrev pub at_once : ℕ → Machine → What → Told
-at_once tick s what = record { done = s.done; tick = tick; what = what }
+abbrev pub at_once : ℕ → Machine → ReportedEvent → TimedReportedEvent
+at_once tick s event = record { done = s.done; tick = tick; event = event }
 
 -- ---- all that is still to be told
 
 -- at the end of the run: snapshots up to the last tick, and the end
-unfoldable pub told_at_end : Bool → ℕ → List ℕ → Machine → List Told
+unfoldable pub told_at_end : Bool → ℕ → List ℕ → Machine → List TimedReportedEvent
 told_at_end rests tick snaps s =
     map (λ x. at_once tick s (Shown x s [])) (ticks_before (tick + 1) snaps)
     ++ at_once tick s (Ended rests s) ∷ []
@@ -85,22 +87,23 @@ IsTurn turns.Before snaps t = IsBeforeEntry t × AreRising (t.machine.now - 1) s
 IsTurn _ snaps t = levels_of t.machine ≡ []
 
 -- all that is still to be told comes in time
-abbrev pub AreInTime : List Told → Type 0
+abbrev pub AreInTime : List TimedReportedEvent → Type 0
 AreInTime = All (λ x. (x.tick < 2 ^ 63) × (x.done < 2 ^ 63))
 
 -- by the turn: before the next entry, behind which so many more may be done; at the end, or behind
 -- it
-abbrev pub rest_by : Turn → ℕ → ℕ → List ℕ → Together → List Told
+abbrev pub rest_by : Turn → ℕ → ℕ → List ℕ → Together → List TimedReportedEvent
 rest_by turns.Before left tick snaps t =
-    told_of_events (timed_behind t.machine.delays t.machine.levels left (standing_of tick t) snaps)
+    reported_events (timed_behind t.machine.delays t.machine.levels left (standing_of tick t) snaps)
 rest_by (turns.AtEnd rests) left tick snaps t = told_at_end rests tick snaps t.machine.state
 rest_by turns.Over left tick snaps t = []
 
 module _ (turn : Turn) (left tick : ℕ) (snaps : List ℕ) (w : Waiting) (t : Together) where
   -- what waits to be told, and then that
-  unfoldable pub rest_of : List Told
+  unfoldable pub rest_of : List TimedReportedEvent
   rest_of =
-      map (at_once tick t.machine.state) (whats w t.machine.state) ++ rest_by turn left tick snaps t
+      map (at_once tick t.machine.state) (waiting_events w t.machine.state)
+      ++ rest_by turn left tick snaps t
 
   -- where an interrupt waits to be told nothing is ahead, so that the state is shown in which it is
   -- taken
@@ -120,9 +123,9 @@ abbrev pub ahead_of : Overlap → List Level
 ahead_of m = map (level_at (last_tick_made m)) (levels_of m)
 
 -- an answer, where this state, these levels and this text are shown
-abbrev pub told_as : ToldNext → Machine → List Level → List ℕ → Told
+abbrev pub told_as : TimedRunEvent → Machine → List Level → List ℕ → TimedReportedEvent
 told_as t s levels text =
-    record { done = t.done; tick = t.tick; what = what_told t.tick s levels text t.what }
+    record { done = t.done; tick = t.tick; event = reported_answer t.tick s levels text t.event }
 
 -- a level, of what the machine shows of it
 abbrev pub level_of : LevelView → Level
@@ -160,13 +163,13 @@ pub record IsLeft (left : ℕ) (snaps : List ℕ) (tick : ℕ) (t : Together) : 
   pub tick_is : tick ≡ t.machine.now
   pub soon : tick < 2 ^ 63
   pub rising : AreRising tick snaps
-  pub in_time : AreInTime (told_of_events (timed_from t.machine.delays t.machine.levels left
+  pub in_time : AreInTime (reported_events (timed_from t.machine.delays t.machine.levels left
       (moment_of t) snaps))
 
 -- rows up to this one are left out, and those before it wait as far as there is room; when `done`
 -- were done before the first of them, and `most` at most behind this one or it is the only one
-pub record HasGoneFar (done most : ℕ) (row : Row) (old new : List Told) (before after : Queue)
-    : Type 0 where
+pub record HasGoneFar (done most : ℕ) (row : Row) (old new : List TimedReportedEvent)
+    (before after : Queue) : Type 0 where
   pub out : AreLeftOut row old new
   pub waits : after ≡ queue_with out.passed before
   pub few : length out.passed ≤ most - done - 1

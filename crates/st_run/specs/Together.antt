@@ -11,7 +11,7 @@ use Rattle.st_ahead.specs.Overlap.{Overlap, oldest_row, levels_of, machine_betwe
 use Rattle.st_ahead.specs.Calls.{machine_after_segment, banks_left}
 use Rattle.st_run.specs.Moments.{Moment, Standing}
 use Rattle.st_run.specs.Scenes.{IsScene}
-use Rattle.st_run.specs.Told.{Printed, what_happens}
+use Rattle.st_run.specs.ReportedEvents.{Printed, reported_plain_event}
 
 -- the machine, and what is still to come from outside
 pub record Together : Type 0 where
@@ -85,4 +85,4 @@ pub record IsSince (o : Overlap) (over : Bool) (m : Overlap) : Type 0 where
 
 -- what was printed in between: a text, or nothing
 abbrev pub AreTexts : Option (List ℕ) → List PlainEvent → Type 0
-AreTexts text happened = map Printed (option_to_list text) ≡ map what_happens happened
+AreTexts text happened = map Printed (option_to_list text) ≡ map reported_plain_event happened

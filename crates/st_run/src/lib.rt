@@ -2,6 +2,7 @@
 //! run that tells one after another. `docs/timetable.md` has the rules.
 #![tactic(auto, using(st_bits::specs::Storage::words_of_storage_is))]
 
+mod beginning;
 pub mod between;
 mod coming;
 mod driven;
@@ -10,15 +11,16 @@ mod outside;
 pub mod plain;
 mod progress;
 mod run;
+mod run_events;
 mod seen;
 mod teller;
 mod ticking;
-mod told;
 mod turn;
 mod waiting;
 
+pub use beginning::{delays_asked, reader_of_job};
 pub use coming::Coming;
 pub use outside::Outside;
 pub use run::{Run, RunControls};
+pub use run_events::{RunEvent, TimedRunEvent};
 pub use seen::Seen;
-pub use told::{RunEvent, TimedRunEvent};

@@ -4,14 +4,14 @@ ghost use Rattle.st_ahead.specs.Overlap.{levels_of};
 ghost use Rattle.st_run.specs.Outside.{signal_due};
 ghost use Rattle.st_run.specs.Telling.{told_at_end, AreLeftOut, HasGoneFar, rows_then, IsShown, IsLeft, AreInTime};
 ghost use Rattle.st_run.specs.Progress.{rest_behind, told_ahead, told_after, told_by, IsBeforeNext, IsTold, IsUnderWay};
-ghost use Rattle.st_run.specs.declared.told.RunEvent.TheVariants as tells;
+ghost use Rattle.st_run.specs.declared.run_events.RunEvent.TheVariants as tells;
 ghost use Rattle.st_run.specs.declared.turn.Turn.TheVariants as turns;
 
 use crate::driven::Driven;
 use crate::leaving::{leave, levels_ahead, pass_on};
 use crate::plain::done_in;
+use crate::run_events::{RunEvent, TimedRunEvent};
 use crate::ticking::{run_many, run_until};
-use crate::told::{RunEvent, TimedRunEvent};
 use crate::turn::Turn;
 use crate::waiting::Waiting;
 use arrayvec::{ArrayString, ArrayVec};
@@ -51,8 +51,8 @@ pub(crate) fn tell_next<const N: usize>(
     ensures told { MatchOption result (rest_behind run.old ≡ [])
         (λ t. rest_behind run.old ≡ told_by t run.new ∷ rest_behind run.new) }
 {
-    if let Some(what) = run.waiting.next(&mut run.printed) {
-        return Some(at_once(&run.driven, run.tick, what));
+    if let Some(event) = run.waiting.next(&mut run.printed) {
+        return Some(at_once(&run.driven, run.tick, event));
     }
     match run.turn {
         Turn::Before => Some(go(run, rows)),
@@ -181,17 +181,17 @@ fn count_before(signals: &[Signal], done: u64, left: u64) -> u64
 }
 
 // An entry that is done.
-pub(crate) fn told_of(row: Row) -> TimedRunEvent
+pub(crate) fn event_of_row(row: Row) -> TimedRunEvent
     ensures { result ≡ record {
       done = row.number;
       tick = row.c;
-      what = tells.Done row.address row.p row.r;
+      event = tells.Done row.address row.p row.r;
     } }
 {
     TimedRunEvent {
         done: row.number,
         tick: row.c,
-        what: RunEvent::Done {
+        event: RunEvent::Done {
             address: row.address,
             p: row.p,
             r: row.r,
@@ -216,7 +216,7 @@ fn go<const N: usize>(run: &mut Progress<N>, rows: &mut RowQueue) -> TimedRunEve
         return show(run);
     };
     leave_entry(run, row.c);
-    told_of(row)
+    event_of_row(row)
 }
 
 // The snapshot whose tick was made last.
@@ -292,13 +292,13 @@ fn finish<const N: usize>(run: &mut Progress<N>, rests: bool) -> TimedRunEvent
 }
 
 // Something that is told at the tick at which the last entry was done.
-fn at_once<const N: usize>(driven: &Driven<N>, tick: u64, what: RunEvent) -> TimedRunEvent
-    ensures { result ≡ record { done = driven.now.machine.state.done; tick = tick; what = what } }
+fn at_once<const N: usize>(driven: &Driven<N>, tick: u64, event: RunEvent) -> TimedRunEvent
+    ensures { result ≡ record { done = driven.now.machine.state.done; tick = tick; event = event } }
 {
     TimedRunEvent {
         done: done_of(driven),
         tick,
-        what,
+        event,
     }
 }
 

@@ -5,16 +5,16 @@ ghost use Rattle.std.specs.List.Sorted.{IsStrictlyIncreasing};
 ghost use Rattle.st_bits.specs.declared.limits.TheConstants.{MOST_INSTRUCTIONS};
 ghost use Rattle.st_card.specs.Limits.{is_signal};
 ghost use Rattle.st_refine.specs.Reached.{IsCard};
-ghost use Rattle.st_run.specs.Told.{told_of_events as told_events};
+ghost use Rattle.st_run.specs.ReportedEvents.{reported_events};
 ghost use Rattle.st_run.specs.TimedRun.{timed_run};
 ghost use Rattle.st_run.specs.Telling.{told_as, row_told, AreLeftOut, AreLevelsShown};
 
 use crate::coming::Coming;
 use crate::driven::{Driven, due_signals, view_of};
 use crate::progress::Progress;
+use crate::run_events::TimedRunEvent;
 use crate::seen::Seen;
 use crate::teller::{Teller, next_of, next_row_of, pass_over};
-use crate::told::TimedRunEvent;
 use crate::turn::Turn;
 use crate::waiting::Waiting;
 use arrayvec::ArrayString;
@@ -71,7 +71,7 @@ impl<'a, const N: usize> Run<'a, N> {
     ghost use Rattle.std.specs.List.Sorted.{IsStrictlyIncreasing};
     ghost use Rattle.st_card.specs.Limits.{is_signal};
     ghost use Rattle.st_refine.specs.Reached.{IsCard};
-    ghost use Rattle.st_run.specs.Told.{told_of_events as told_events};
+    ghost use Rattle.st_run.specs.ReportedEvents.{reported_events};
     ghost use Rattle.st_run.specs.TimedRun.{timed_run};
     ghost use Rattle.st_run.specs.Telling.{told_as, row_told, AreLeftOut, AreLevelsShown};
     ghost use Rattle.st_run.specs.Protocol.{ShowsLed, IsViewOfLed};
@@ -98,7 +98,7 @@ impl<'a, const N: usize> Run<'a, N> {
         requires few_done { controls.now.budget ≤ MOST_INSTRUCTIONS }
 
         ensures { let k = controls.now in result.rest
-            ≡ told_events (timed_run delays.list N k.budget
+            ≡ reported_events (timed_run delays.list N k.budget
             (record { machine = state; signals = k.signals.now; cards = cards }) k.snaps.now) }
     {
         let RunControls {

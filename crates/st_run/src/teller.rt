@@ -3,8 +3,8 @@ ghost use Rattle.std.specs.Prelude.{◌≡◌, [], ◌∷◌, MatchOption};
 ghost use Rattle.st_run.specs.Telling.{row_told, AreLeftOut};
 ghost use Rattle.st_run.specs.Progress.{rest_with_rows, told_by, IsUnderWay};
 
-use crate::progress::{Progress, make_rows, pass_entries, tell_next, told_of};
-use crate::told::TimedRunEvent;
+use crate::progress::{Progress, event_of_row, make_rows, pass_entries, tell_next};
+use crate::run_events::TimedRunEvent;
 use st_ahead::{Row, RowQueue};
 
 // How far a run has come, and the rows of entries that were done before, as far as they wait to be
@@ -27,7 +27,7 @@ pub(crate) fn next_of<const N: usize>(teller: &mut Teller<N>) -> Option<TimedRun
         ≡ told_by t teller.new.progress ∷ rest_with_rows teller.new) }
 {
     if let Some(row) = teller.rows.next() {
-        return Some(told_of(row));
+        return Some(event_of_row(row));
     }
     tell_next(&mut teller.progress, &mut teller.rows)
 }

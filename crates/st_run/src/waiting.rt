@@ -3,9 +3,9 @@ ghost use Rattle.std.specs.Prelude.{◌≡◌, ℕ, [], ◌∷◌, None, MatchOp
 ghost use Rattle.std.specs.Option.{IfNone};
 ghost use Rattle.st_state.specs.Machine.{Machine};
 ghost use Rattle.st_run.specs.Events.{Level};
-ghost use Rattle.st_run.specs.Telling.{what_told, whats as whats_of};
+ghost use Rattle.st_run.specs.Telling.{reported_answer, waiting_events};
 
-use crate::told::RunEvent;
+use crate::run_events::RunEvent;
 use arrayvec::{ArrayString, ArrayVec};
 use std::marker::Model;
 
@@ -47,7 +47,7 @@ impl Waiting {
 
     /// Whether nothing waits.
     pub fn is_empty(&self) -> bool
-        ensures { result ≡ true → (s : Machine) → whats_of self.now s ≡ [] }
+        ensures { result ≡ true → (s : Machine) → waiting_events self.now s ≡ [] }
     {
         if self.drops.len() > 0 {
             return false;
@@ -64,13 +64,13 @@ impl Waiting {
     /// What is told next, and no longer waits: the youngest entry that is dropped, the text, which
     /// is then the one that was printed last, or the interrupt.
     pub fn next(&mut self, printed: &mut ArrayString<64>) -> Option<RunEvent>
-        ensures told { (s : Machine) → MatchOption result (whats_of self.old s ≡ [])
-            (λ what. whats_of self.old s ≡ what_told 0 s [] printed.new.bytes what
-            ∷ whats_of self.new s) }
+        ensures told { (s : Machine) → MatchOption result (waiting_events self.old s ≡ [])
+            (λ event. waiting_events self.old s ≡ reported_answer 0 s [] printed.new.bytes event
+            ∷ waiting_events self.new s) }
         ensures shown { (s t : Machine) (tick : ℕ) (levels : List Level) (text : List ℕ) →
             (IsSome self.old.taken → s ≡ t)
-            → IfSome result (λ what. what_told 0 s [] text what
-            ≡ what_told tick t levels text what) }
+            → IfSome result (λ event. reported_answer 0 s [] text event
+            ≡ reported_answer tick t levels text event) }
         ensures taken { IsSome self.new.taken → IsSome self.old.taken }
         ensures none { IfNone result (self.new ≡ self.old) }
     {

@@ -14,5 +14,5 @@ pub use Rattle.st_prep.specs.Ranges
 pub use Rattle.st_run.specs.Order
 pub use Rattle.st_run.specs.Run
 pub use Rattle.st_run.specs.TimedRun
-pub use Rattle.st_run.specs.Told
+pub use Rattle.st_run.specs.ReportedEvents
 pub use Rattle.st_state.specs.Machine

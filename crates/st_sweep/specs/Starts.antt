@@ -2,7 +2,7 @@
 use Rattle.st_card.specs.declared.control_cards.Signal.{Signal}
 use Rattle.std.specs.Prelude.{ℕ, ◌≡◌, false, List, [], ◌∷◌, None}
 use Rattle.st_state.specs.Machine.{Machine, opening_state}
-use Rattle.st_run.specs.Told.{Told}
+use Rattle.st_run.specs.ReportedEvents.{TimedReportedEvent}
 use Rattle.st_sweep.specs.Sweep.{without_cards, ticks}
 
 -- a state and the delays
@@ -27,6 +27,6 @@ abbrev pub ticks_from : Start → ℕ → ℕ → List Signal → ℕ
 ticks_from s n left xs = ticks s.delays n left (without_cards s.machine xs)
 
 -- the tick that is told last, or this one where nothing is told
-unfoldable pub last_told : ℕ → List Told → ℕ
+unfoldable pub last_told : ℕ → List TimedReportedEvent → ℕ
 last_told t [] = t
 last_told t (x ∷ xs) = last_told x.tick xs

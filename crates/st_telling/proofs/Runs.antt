@@ -8,7 +8,7 @@ use Rattle.st_io.specs.Lines.{WritesLines}
 use Rattle.st_io.specs.Event.{Event, at_moment, StoppedAt}
 use Rattle.st_io.proofs.Writing.{wrote_at_moment, stopped_at_moment, wrote_events, events_before, events_after}
 use Rattle.st_io.proofs.Progress.{EventsSoFar, events_none, events_more, events_stopped, events_whole}
-use Rattle.st_run.specs.Told.{Told}
+use Rattle.st_run.specs.ReportedEvents.{TimedReportedEvent}
 use Rattle.st_ahead.specs.declared.events.Row.{Row}
 use Rattle.st_run.specs.Telling.{row_told, rows_then, AreLeftOut}
 use Rattle.st_telling.specs.Report.{report, lines_at, lines_told, done_lines}
@@ -18,45 +18,45 @@ use Rattle.st_telling.specs.declared.moment.Moment.{Moment}
 -- ---- one thing told after another
 
 -- of what is told the first part is written, and the rest is left
-pub record ToldSoFar (s t : OutputState) (asked : Asked) (m now : Moment) (all rest : List Told) : Type 0 where
+pub record ToldSoFar (s t : OutputState) (asked : Asked) (m now : Moment) (all rest : List TimedReportedEvent) : Type 0 where
   pub so_far : EventsSoFar s t (report asked all) (report asked rest)
   pub last : last_moment now rest ≡ last_moment m all
 
-pub told_begins : (s : OutputState) (asked : Asked) (m : Moment) (all : List Told) → ToldSoFar s s asked m m all all
+pub told_begins : (s : OutputState) (asked : Asked) (m : Moment) (all : List TimedReportedEvent) → ToldSoFar s s asked m m all all
 told_begins s asked m all = record { so_far = events_none s (report asked all); last = refl }
 
 -- of what is left out nothing is written
-pub told_skips : (s t : OutputState) (asked : Asked) (m now n : Moment) (all rest more : List Told) → WritesNothing asked now rest n more
+pub told_skips : (s t : OutputState) (asked : Asked) (m now n : Moment) (all rest more : List TimedReportedEvent) → WritesNothing asked now rest n more
     → ToldSoFar s t asked m now all rest → ToldSoFar s t asked m n all more
 told_skips s t asked m now n all rest more skips h = record {
   so_far = subst (λ xs. EventsSoFar s t (report asked all) xs) skips.lines h.so_far;
   last = sym skips.last ∙ h.last;
 }
 
-row-lines : (asked : Asked) (row : Row) → asked.trace ≡ false → asked.chart ≡ false → lines_at asked row.number row.c (row_told row).what ≡ []
+row-lines : (asked : Asked) (row : Row) → asked.trace ≡ false → asked.chart ≡ false → lines_at asked row.number row.c (row_told row).event ≡ []
 row-lines asked row trace chart = rw (trace, chart) refl
 
-row-report : (asked : Asked) (row : Row) (xs : List Told) → asked.trace ≡ false → asked.chart ≡ false
+row-report : (asked : Asked) (row : Row) (xs : List TimedReportedEvent) → asked.trace ≡ false → asked.chart ≡ false
     → report asked (row_told row ∷ xs) ≡ report asked xs
 unfolding report
 row-report asked row xs trace chart = ap (λ lines. at_moment row.number row.c lines ++ report asked xs) (row-lines asked row trace chart)
 
-rows-report : (asked : Asked) (rows : List Row) (new : List Told) → asked.trace ≡ false → asked.chart ≡ false
+rows-report : (asked : Asked) (rows : List Row) (new : List TimedReportedEvent) → asked.trace ≡ false → asked.chart ≡ false
     → report asked (rows_then rows new) ≡ report asked new
 rows-report asked [] new trace chart = refl
 rows-report asked (x ∷ rows) new trace chart = row-report asked x (rows_then rows new) trace chart ∙ rows-report asked rows new trace chart
 
-rows-moment : (m : Moment) (rows new : List Told) (last : Told) → last_moment m (rows ++ last ∷ new) ≡ last_moment (moment_told last) new
+rows-moment : (m : Moment) (rows new : List TimedReportedEvent) (last : TimedReportedEvent) → last_moment m (rows ++ last ∷ new) ≡ last_moment (moment_told last) new
 unfolding last_moment
 rows-moment m [] new last = refl
 rows-moment m (x ∷ rows) new last = rows-moment (moment_told x) rows new last
 
-rows-fewer : (rows new : List Told) (last : Told) → length new ≤ length (rows ++ last ∷ new)
+rows-fewer : (rows new : List TimedReportedEvent) (last : TimedReportedEvent) → length new ≤ length (rows ++ last ∷ new)
 rows-fewer [] new last = omega arith
 rows-fewer (x ∷ rows) new last = let fewer = rows-fewer rows new last in omega (arith, fewer)
 
 -- rows that are only counted
-pub counted_skips : (asked : Asked) (m n : Moment) (last : Row) (old new : List Told) → asked.trace ≡ false → asked.chart ≡ false
+pub counted_skips : (asked : Asked) (m n : Moment) (last : Row) (old new : List TimedReportedEvent) → asked.trace ≡ false → asked.chart ≡ false
     → AreLeftOut last old new → n ≡ moment_told (row_told last) → WritesNothing asked m old n new
 counted_skips asked m n last old new trace chart is same = record {
   lines =
@@ -65,7 +65,7 @@ counted_skips asked m n last old new trace chart is same = record {
   fewer = subst (λ xs. length new ≤ length xs) (sym is.rest) (rows-fewer (map row_told is.passed) new (row_told last));
 }
 
-pub none_skips : (asked : Asked) (m : Moment) (old new : List Told) → new ≡ old → WritesNothing asked m old m new
+pub none_skips : (asked : Asked) (m : Moment) (old new : List TimedReportedEvent) → new ≡ old → WritesNothing asked m old m new
 none_skips asked m old new same = record {
   lines = ap (report asked) (sym same);
   last = ap (last_moment m) (sym same);
@@ -73,12 +73,12 @@ none_skips asked m old new same = record {
 }
 
 -- the next part is written
-pub told_more : (s t u : OutputState) (asked : Asked) (m now n : Moment) (all rest more : List Told) (x : Told) (y : Unit {0})
-    → rest ≡ x ∷ more → n ≡ moment_told x → ToldSoFar s t asked m now all rest → WritesLines t u (lines_at asked n.done n.tick x.what) (Ok y)
+pub told_more : (s t u : OutputState) (asked : Asked) (m now n : Moment) (all rest more : List TimedReportedEvent) (x : TimedReportedEvent) (y : Unit {0})
+    → rest ≡ x ∷ more → n ≡ moment_told x → ToldSoFar s t asked m now all rest → WritesLines t u (lines_at asked n.done n.tick x.event) (Ok y)
     → ToldSoFar s u asked m n all more
 unfolding report last_moment
 told_more s t u asked m now n all rest more x y is same h w =
-    let lines : WritesLines t u (lines_told asked x) (Ok y) = subst (λ (k : Moment). WritesLines t u (lines_at asked k.done k.tick x.what) (Ok y)) same w in
+    let lines : WritesLines t u (lines_told asked x) (Ok y) = subst (λ (k : Moment). WritesLines t u (lines_at asked k.done k.tick x.event) (Ok y)) same w in
     let next : ToldSoFar s u asked m (moment_told x) all more = record {
       so_far = events_more s t u (report asked all) (at_moment x.done x.tick (lines_told asked x)) (report asked more)
           (subst (λ r. EventsSoFar s t (report asked all) (report asked r)) is h.so_far)
@@ -88,13 +88,13 @@ told_more s t u asked m now n all rest more x y is same h w =
     subst (λ (k : Moment). ToldSoFar s u asked m k all more) (sym same) next
 
 -- the writing stops in it
-pub told_stops : (s t u : OutputState) (asked : Asked) (m now n : Moment) (all rest more : List Told) (x : Told) (e : Failed) (r : Result (Unit {0}) Failed)
-    → IsErr r → rest ≡ x ∷ more → n ≡ moment_told x → ToldSoFar s t asked m now all rest → WritesLines t u (lines_at asked n.done n.tick x.what) (Err e)
+pub told_stops : (s t u : OutputState) (asked : Asked) (m now n : Moment) (all rest more : List TimedReportedEvent) (x : TimedReportedEvent) (e : Failed) (r : Result (Unit {0}) Failed)
+    → IsErr r → rest ≡ x ∷ more → n ≡ moment_told x → ToldSoFar s t asked m now all rest → WritesLines t u (lines_at asked n.done n.tick x.event) (Err e)
     → WritesEvents s u (report asked all) (last_moment m all) n r
 unfolding report
 told_stops s t u asked m now n all rest more x e (Ok y) f is same h w = absurd (cc)
 told_stops s t u asked m now n all rest more x e (Err y) f is same h w =
-    let lines : WritesLines t u (lines_told asked x) (Err e) = subst (λ (k : Moment). WritesLines t u (lines_at asked k.done k.tick x.what) (Err e)) same w in
+    let lines : WritesLines t u (lines_told asked x) (Err e) = subst (λ (k : Moment). WritesLines t u (lines_at asked k.done k.tick x.event) (Err e)) same w in
     let next : WritesEvents s u (report asked all) (last_moment m all) (moment_told x) (Err y) = record {
       whole = tt;
       ended = tt;
@@ -105,22 +105,22 @@ told_stops s t u asked m now n all rest more x e (Err y) f is same h w =
     subst (λ (k : Moment). WritesEvents s u (report asked all) (last_moment m all) k (Err y)) (sym same) next
 
 -- the same of a row
-pub row_more : (s t u : OutputState) (asked : Asked) (m now n : Moment) (all rest more : List Told) (row : Row) (y : Unit {0})
+pub row_more : (s t u : OutputState) (asked : Asked) (m now n : Moment) (all rest more : List TimedReportedEvent) (row : Row) (y : Unit {0})
     → rest ≡ row_told row ∷ more → n ≡ moment_told (row_told row) → ToldSoFar s t asked m now all rest
     → WritesLines t u (done_lines asked row.number row.address row.p row.r row.c) (Ok y) → ToldSoFar s u asked m n all more
 row_more s t u asked m now n all rest more row y is same h w =
     told_more s t u asked m now n all rest more (row_told row) y is same h
-    (subst (λ (k : Moment). WritesLines t u (lines_at asked k.done k.tick (row_told row).what) (Ok y)) (sym same) w)
+    (subst (λ (k : Moment). WritesLines t u (lines_at asked k.done k.tick (row_told row).event) (Ok y)) (sym same) w)
 
-pub row_stops : (s t u : OutputState) (asked : Asked) (m now n : Moment) (all rest more : List Told) (row : Row) (e : Failed) (r : Result (Unit {0}) Failed)
+pub row_stops : (s t u : OutputState) (asked : Asked) (m now n : Moment) (all rest more : List TimedReportedEvent) (row : Row) (e : Failed) (r : Result (Unit {0}) Failed)
     → IsErr r → rest ≡ row_told row ∷ more → n ≡ moment_told (row_told row) → ToldSoFar s t asked m now all rest
     → WritesLines t u (done_lines asked row.number row.address row.p row.r row.c) (Err e) → WritesEvents s u (report asked all) (last_moment m all) n r
 row_stops s t u asked m now n all rest more row e r failed is same h w =
     told_stops s t u asked m now n all rest more (row_told row) e r failed is same h
-    (subst (λ (k : Moment). WritesLines t u (lines_at asked k.done k.tick (row_told row).what) (Err e)) (sym same) w)
+    (subst (λ (k : Moment). WritesLines t u (lines_at asked k.done k.tick (row_told row).event) (Err e)) (sym same) w)
 
 -- all is told
-pub told_all : (s t : OutputState) (asked : Asked) (m now : Moment) (all rest : List Told) (y : Unit {0}) → rest ≡ []
+pub told_all : (s t : OutputState) (asked : Asked) (m now : Moment) (all rest : List TimedReportedEvent) (y : Unit {0}) → rest ≡ []
     → ToldSoFar s t asked m now all rest → WritesEvents s t (report asked all) (last_moment m all) now (Ok y)
 unfolding report last_moment
 told_all s t asked m now all rest y none h = record {

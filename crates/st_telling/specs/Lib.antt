@@ -8,6 +8,6 @@ pub use Rattle.st_io.specs.Output
 pub use Rattle.st_report.specs.Line
 pub use Rattle.st_run.specs.Events
 pub use Rattle.st_run.specs.Telling
-pub use Rattle.st_run.specs.Told
+pub use Rattle.st_run.specs.ReportedEvents
 pub use Rattle.st_state.specs.Machine
 pub use Rattle.st_time.specs.Shown

@@ -7,7 +7,7 @@ use Rattle.st_io.specs.Lines.{lines_for}
 use Rattle.st_io.specs.Event.{Event, at_moment}
 use Rattle.st_report.specs.Line.{prt_line, trc_line, row_line, drop_line, int_line, time_line, snap_line, lev_line, end_line, done_line, ticks_line, ic_line, en_line, reg_line, dump_line, mem_line}
 use Rattle.st_run.specs.Events.{Level}
-use Rattle.st_run.specs.Told.{What, Done, Dropped, Printed, Interrupted, Shown, Ended, Told}
+use Rattle.st_run.specs.ReportedEvents.{ReportedEvent, Done, Dropped, Printed, Interrupted, Shown, Ended, TimedReportedEvent}
 
 -- a line that may not be asked for
 abbrev pub line_if : Bool → List ℕ → List (List ℕ)
@@ -65,7 +65,7 @@ end_lines asked done tick rests s =
     end_line rests ∷ done_line done ∷ line_if asked.time (ticks_line tick) ++ block asked.dumps s
 
 -- the lines of what is told when so many instructions are done, the last of them at the tick
-abbrev pub lines_at : Asked → ℕ → ℕ → What → List (List ℕ)
+abbrev pub lines_at : Asked → ℕ → ℕ → ReportedEvent → List (List ℕ)
 lines_at asked done tick (Done address p r c) = done_lines asked done address p r c
 lines_at asked done tick (Dropped address p) = line_if asked.chart (drop_line address p)
 lines_at asked done tick (Printed text) = prt_line text ∷ []
@@ -74,10 +74,10 @@ lines_at asked done tick (Shown at s levels) = snapshot_lines asked done at s le
 lines_at asked done tick (Ended rests s) = end_lines asked done tick rests s
 
 -- those of what is told with its moment
-abbrev pub lines_told : Asked → Told → List (List ℕ)
-lines_told asked t = lines_at asked t.done t.tick t.what
+abbrev pub lines_told : Asked → TimedReportedEvent → List (List ℕ)
+lines_told asked t = lines_at asked t.done t.tick t.event
 
 -- the report of what is told, in order
-unfoldable pub report : Asked → List Told → List Event
+unfoldable pub report : Asked → List TimedReportedEvent → List Event
 report asked [] = []
 report asked (t ∷ ts) = at_moment t.done t.tick (lines_told asked t) ++ report asked ts

@@ -8,23 +8,23 @@ use Rattle.st_io.specs.Event.{Event, lines_of, StoppedAt}
 use Rattle.st_report.specs.Line.{lev_line}
 use Rattle.st_ahead.specs.declared.events.LevelView.{LevelView}
 use Rattle.st_time.specs.Shown.{change_shown}
-use Rattle.st_run.specs.Told.{Told}
+use Rattle.st_run.specs.ReportedEvents.{TimedReportedEvent}
 use Rattle.st_telling.specs.Report.{report}
 use Rattle.st_telling.specs.declared.moment.Moment.{Moment}
 
 -- when something is told
-abbrev pub moment_told : Told → Moment
+abbrev pub moment_told : TimedReportedEvent → Moment
 moment_told t = record { done = t.done; tick = t.tick }
 
 -- the moment of what is told last, or this one where nothing is told
-unfoldable pub last_moment : Moment → List Told → Moment
+unfoldable pub last_moment : Moment → List TimedReportedEvent → Moment
 last_moment m [] = m
 last_moment m (t ∷ ts) = last_moment (moment_told t) ts
 
 -- nothing is written of what is left out from one moment up to a later one, and the same is left to
 -- write
-pub record WritesNothing (asked : Asked) (m : Moment) (old : List Told) (now : Moment)
-    (new : List Told) : Type 0 where
+pub record WritesNothing (asked : Asked) (m : Moment) (old : List TimedReportedEvent) (now : Moment)
+    (new : List TimedReportedEvent) : Type 0 where
   pub lines : report asked old ≡ report asked new
   pub last : last_moment m old ≡ last_moment now new
   pub fewer : length new ≤ length old

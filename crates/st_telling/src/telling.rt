@@ -326,17 +326,17 @@ fn write_told<K: Sink, const N: usize>(
     ensures { WritesLines (K.output out.old) (K.output out.new)
         (lines_told controls.now (told_as told run.now.seen run.now.ahead run.now.text)) result }
 {
-    let TimedRunEvent { done, tick, what } = told;
+    let TimedRunEvent { done, tick, event } = told;
     let moment = Moment { done, tick };
     // Of an entry that is only counted nothing is written.
-    if let RunEvent::Done { .. } = what {
+    if let RunEvent::Done { .. } = event {
         if !is_traced(controls) {
             if !is_charted(controls) {
                 return Ok(());
             }
         }
     }
-    match what {
+    match event {
         RunEvent::Done { address, p, r } => {
             let row = Row {
                 number: done,

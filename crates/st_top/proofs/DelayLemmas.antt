@@ -4,7 +4,7 @@ use Rattle.std.specs.List.{flat_map}
 use Rattle.st_card.specs.Controls.{Asked}
 use Rattle.st_run.specs.Run.{Scene, run}
 use Rattle.st_run.specs.Moments.{moment_at_start}
-use Rattle.st_run.specs.Told.{told_of_events}
+use Rattle.st_run.specs.ReportedEvents.{reported_events}
 use Rattle.st_run.proofs.Untimed.{timed-plain}
 use Rattle.st_top.specs.Marks.{without_marks, lines_unmarked, marked_report, marked_run}
 use Rattle.st_beside.specs.States.{states}
@@ -24,7 +24,7 @@ run-unmarked asked c =
     let xs = events_of_run asked c in
     let lines = happening_lines asked.trace asked.dumps in
     let back = lines_of_steps_back asked (states asked.budget c) (last_state asked c) in
-    unmarked-append (marked_report asked (told_of_events xs)) (without_marks back)
+    unmarked-append (marked_report asked (reported_events xs)) (without_marks back)
     ∙ ap (λ front. front ++ lines_unmarked (without_marks back))
     (report-lines asked xs (counted-run asked.delays LEVELS asked.budget (moment_at_start c) asked.snaps)
     ∙ ap (flat_map lines) (timed-plain asked.delays LEVELS asked.budget (moment_at_start c) asked.snaps))

@@ -14,7 +14,7 @@ use Rattle.st_io.specs.Event.{lines_of, at_moment}
 use Rattle.st_io.proofs.Writing.{lines_of-append, lines_of-at_moment}
 use Rattle.st_object.specs.Object.{Program, read_text}
 use Rattle.st_report.specs.Line.{trc_line, row_line, drop_line, int_line, time_line, end_line, done_line, ticks_line}
-use Rattle.st_run.specs.Told.{What, Done, Dropped, Printed, Interrupted, Shown, Ended, Told, told_of_events}
+use Rattle.st_run.specs.ReportedEvents.{ReportedEvent, Done, Dropped, Printed, Interrupted, Shown, Ended, TimedReportedEvent, reported_events}
 use Rattle.st_top.specs.Listing.{rows_lines, listing_row_line as card_line, symbols_lines, listing}
 use Rattle.st_top.specs.Marks.{Marked, with_marks, without_marks, all_lines, marked_at, marked_lines, marked_report, marked_run, up_to_end, end_card, listed_lines, marked_listing, marked_by, marked_load, marked_output}
 use Rattle.st_top.specs.Output.{output_of, scene_of_assembly, loaded_start}
@@ -54,7 +54,7 @@ lines-before xs ys =
 
 -- ---- the lines of a report
 
-lines-at : (asked : Asked) (done tick : ℕ) (w : What) → all_lines (marked_at asked done tick w) ≡ lines_at asked done tick w
+lines-at : (asked : Asked) (done tick : ℕ) (w : ReportedEvent) → all_lines (marked_at asked done tick w) ≡ lines_at asked done tick w
 lines-at asked done tick (Done address p r c) =
     lines-before (line_if asked.trace (trc_line done address)) (line_if asked.chart (row_line done address p r c))
 lines-at asked done tick (Dropped address p) = lines-marked (line_if asked.chart (drop_line address p))
@@ -65,20 +65,20 @@ lines-at asked done tick (Shown at s levels) = lines-marked (snapshot_lines aske
 lines-at asked done tick (Ended rests s) =
     lines-between (end_line rests ∷ done_line done ∷ []) (line_if asked.time (ticks_line tick)) (block asked.dumps s)
 
-lines-report : (asked : Asked) (ts : List Told) → all_lines (marked_report asked ts) ≡ lines_of (report asked ts)
+lines-report : (asked : Asked) (ts : List TimedReportedEvent) → all_lines (marked_report asked ts) ≡ lines_of (report asked ts)
 unfolding marked_report report
 lines-report asked [] = refl
 lines-report asked (t ∷ ts) =
     let event = at_moment t.done t.tick (lines_told asked t) in
     lines-append (marked_lines asked t) (marked_report asked ts)
-    ∙ ap (λ front. front ++ all_lines (marked_report asked ts)) (lines-at asked t.done t.tick t.what ∙ sym (lines_of-at_moment t.done t.tick (lines_told asked t)))
+    ∙ ap (λ front. front ++ all_lines (marked_report asked ts)) (lines-at asked t.done t.tick t.event ∙ sym (lines_of-at_moment t.done t.tick (lines_told asked t)))
     ∙ ap (λ rest. lines_of event ++ rest) (lines-report asked ts)
     ∙ sym (lines_of-append event (report asked ts))
 
 pub lines-run : (asked : Asked) (start : Scene) → all_lines (marked_run asked start) ≡ lines_of (run_report asked start)
 unfolding marked_run run_report
 lines-run asked start =
-    let ts = told_of_events (events_of_run asked start) in
+    let ts = reported_events (events_of_run asked start) in
     let back = lines_of_steps_back asked (states asked.budget start) (last_state asked start) in
     let e = moment_at_end asked start in
     lines-append (marked_report asked ts) (without_marks back)

@@ -9,7 +9,7 @@ use Rattle.st_io.specs.Event.{at_moment}
 use Rattle.st_run.specs.Run.{Scene}
 use Rattle.st_run.specs.Events.{Timed}
 use Rattle.st_run.specs.Order.{last_completion}
-use Rattle.st_run.specs.Told.{Told, told_of_events}
+use Rattle.st_run.specs.ReportedEvents.{TimedReportedEvent, reported_events}
 use Rattle.st_run.proofs.LastLemmas.{last_done, run-done, run-tick}
 use Rattle.st_telling.specs.Report.{report}
 use Rattle.st_beside.specs.States.{states}
@@ -19,12 +19,12 @@ use Rattle.st_telling.specs.declared.moment.Moment.{Moment}
 use Rattle.st_top.specs.declared.reporting.TheConstants.{LEVELS}
 use Rattle.st_telling.proofs.Runs.{events_cut, events_then}
 
-last-told : (m : Moment) (xs : List Timed) → last_moment m (told_of_events xs) ≡ record { done = last_done m.done xs; tick = last_completion m.tick xs }
-unfolding last_moment told_of_events last_completion last_done
+last-told : (m : Moment) (xs : List Timed) → last_moment m (reported_events xs) ≡ record { done = last_done m.done xs; tick = last_completion m.tick xs }
+unfolding last_moment reported_events last_completion last_done
 last-told m [] = refl
 last-told m (x ∷ xs) = last-told (record { done = x.done; tick = x.tick }) xs
 
-pub last-is : (asked : Asked) (start : Scene) (m : Moment) → last_moment m (told_of_events (events_of_run asked start)) ≡ moment_at_end asked start
+pub last-is : (asked : Asked) (start : Scene) (m : Moment) → last_moment m (reported_events (events_of_run asked start)) ≡ moment_at_end asked start
 unfolding moment_at_end
 last-is asked start m =
     let with_done : ℕ → Moment = λ d. record { done = d; tick = last_completion m.tick (events_of_run asked start) } in
@@ -34,27 +34,27 @@ last-is asked start m =
     ∙ ap with_tick (run-tick asked.delays LEVELS asked.budget start asked.snaps m.tick 0))
 
 -- what a run tells, from its start, and then the lines of the state before its end
-tells-is : (s t : OutputState) (asked : Asked) (start : Scene) (m n : Moment) (rest : List Told) (r : Result (Unit {0}) Failed)
-    → rest ≡ told_of_events (events_of_run asked start) → WritesEvents s t (report asked rest) (last_moment m rest) n r
-    → WritesEvents s t (report asked (told_of_events (events_of_run asked start))) (moment_at_end asked start) n r
+tells-is : (s t : OutputState) (asked : Asked) (start : Scene) (m n : Moment) (rest : List TimedReportedEvent) (r : Result (Unit {0}) Failed)
+    → rest ≡ reported_events (events_of_run asked start) → WritesEvents s t (report asked rest) (last_moment m rest) n r
+    → WritesEvents s t (report asked (reported_events (events_of_run asked start))) (moment_at_end asked start) n r
 tells-is s t asked start m n rest r is w =
-    subst (λ l. WritesEvents s t (report asked (told_of_events (events_of_run asked start))) l n r) (last-is asked start m)
+    subst (λ l. WritesEvents s t (report asked (reported_events (events_of_run asked start))) l n r) (last-is asked start m)
     (subst (λ xs. WritesEvents s t (report asked xs) (last_moment m xs) n r) is w)
 
-pub report_cut : (s t : OutputState) (asked : Asked) (start : Scene) (m n : Moment) (rest : List Told) (e : Failed) (r : Result (Unit {0}) Failed)
-    → IsErr r → rest ≡ told_of_events (events_of_run asked start) → WritesEvents s t (report asked rest) (last_moment m rest) n (Err e)
+pub report_cut : (s t : OutputState) (asked : Asked) (start : Scene) (m n : Moment) (rest : List TimedReportedEvent) (e : Failed) (r : Result (Unit {0}) Failed)
+    → IsErr r → rest ≡ reported_events (events_of_run asked start) → WritesEvents s t (report asked rest) (last_moment m rest) n (Err e)
     → WritesEvents s t (run_report asked start) (moment_at_end asked start) n r
 unfolding run_report
 report_cut s t asked start m n rest e r f is w =
-    events_cut s t (report asked (told_of_events (events_of_run asked start)))
+    events_cut s t (report asked (reported_events (events_of_run asked start)))
     (at_moment (moment_at_end asked start).done (moment_at_end asked start).tick (lines_of_steps_back asked (states asked.budget start) (last_state asked start)))
     (moment_at_end asked start) n e r f (tells-is s t asked start m n rest (Err e) is w)
 
-pub report_then : (s t u : OutputState) (asked : Asked) (start : Scene) (m n : Moment) (rest : List Told) (x : Unit {0}) (r : Result (Unit {0}) Failed)
-    → rest ≡ told_of_events (events_of_run asked start) → WritesEvents s t (report asked rest) (last_moment m rest) n (Ok x)
+pub report_then : (s t u : OutputState) (asked : Asked) (start : Scene) (m n : Moment) (rest : List TimedReportedEvent) (x : Unit {0}) (r : Result (Unit {0}) Failed)
+    → rest ≡ reported_events (events_of_run asked start) → WritesEvents s t (report asked rest) (last_moment m rest) n (Ok x)
     → WritesLines t u (lines_of_steps_back asked (states asked.budget start) (last_state asked start)) r
     → WritesEvents s u (run_report asked start) (moment_at_end asked start) n r
 unfolding run_report
 report_then s t u asked start m n rest x r is w lines =
-    events_then s t u (report asked (told_of_events (events_of_run asked start))) (lines_of_steps_back asked (states asked.budget start) (last_state asked start))
+    events_then s t u (report asked (reported_events (events_of_run asked start))) (lines_of_steps_back asked (states asked.budget start) (last_state asked start))
     (moment_at_end asked start) n x r (tells-is s t asked start m n rest (Ok x) is w) lines

@@ -15,7 +15,7 @@ use Rattle.st_report.specs.Line.{prt_line, trc_line, row_line, drop_line, int_li
 use Rattle.st_run.specs.Events.{TimetableEvent, Timed, Completes, Drops, Shows, Happens, plain_events_of as plain_event, plain_run, drop_of, snapshot}
 use Rattle.st_run.specs.Moments.{Moment, Standing, next_state, standing_at, next_moment, ends_segment}
 use Rattle.st_run.specs.TimedRun.{event_at, ticks_before, snapshots_from, drops, drops_if_ends, happening_at, events_between, snapshot_at, completion, until_done, last_snapshot_at, last_events, timed_from}
-use Rattle.st_run.specs.Told.{told_of_events, told_of, what_of}
+use Rattle.st_run.specs.ReportedEvents.{reported_events, timed_reported_event, reported_event}
 use Rattle.st_run.proofs.DoneLemmas.{settled-done}
 use Rattle.st_top.specs.Marks.{Marked, with_marks, without_marks, lines_unmarked, marked_lines, marked_report}
 use Rattle.st_telling.specs.Report.{line_if, block, snapshot_lines}
@@ -85,7 +85,7 @@ AreCounted [] = Unit {0}
 AreCounted (x ∷ xs) = ComesAt x.done x.event × AreCounted xs
 
 happens-lines : (asked : Asked) (done tick : ℕ) (h : PlainEvent) → HappensAt done h
-    → lines_unmarked (marked_lines asked (record { done = done; tick = tick; what = what_of (Happens h) }))
+    → lines_unmarked (marked_lines asked (record { done = done; tick = tick; event = reported_event (Happens h) }))
     ≡ happening_lines asked.trace asked.dumps h
 unfolding lines_unmarked happening_lines HappensAt
 happens-lines asked done tick (Prints s words) is = refl
@@ -100,7 +100,7 @@ happens-lines asked done tick (Ends s rests) is =
     ∙ ap (λ (d : ℕ). end_line rests ∷ done_line d ∷ block asked.dumps s) is
 
 event-lines : (asked : Asked) (done tick : ℕ) (e : TimetableEvent) → ComesAt done e
-    → lines_unmarked (marked_lines asked (record { done = done; tick = tick; what = what_of e }))
+    → lines_unmarked (marked_lines asked (record { done = done; tick = tick; event = reported_event e }))
     ≡ flat_map (happening_lines asked.trace asked.dumps) (plain_event e)
 unfolding ComesAt happening_lines
 event-lines asked done tick (Completes s address row) is =
@@ -113,13 +113,13 @@ event-lines asked done tick (Happens h) is =
     happens-lines asked done tick h is ∙ sym (append-nil (happening_lines asked.trace asked.dumps h))
 
 pub report-lines : (asked : Asked) (xs : List Timed) → AreCounted xs
-    → lines_unmarked (marked_report asked (told_of_events xs)) ≡ flat_map (happening_lines asked.trace asked.dumps) (plain_run xs)
-unfolding AreCounted marked_report told_of_events plain_run lines_unmarked
+    → lines_unmarked (marked_report asked (reported_events xs)) ≡ flat_map (happening_lines asked.trace asked.dumps) (plain_run xs)
+unfolding AreCounted marked_report reported_events plain_run lines_unmarked
 report-lines asked [] are = refl
 report-lines asked (x ∷ xs) are =
     let lines = happening_lines asked.trace asked.dumps in
-    unmarked-append (marked_lines asked (told_of x)) (marked_report asked (told_of_events xs))
-    ∙ ap (λ front. front ++ lines_unmarked (marked_report asked (told_of_events xs))) (event-lines asked x.done x.tick x.event are.0)
+    unmarked-append (marked_lines asked (timed_reported_event x)) (marked_report asked (reported_events xs))
+    ∙ ap (λ front. front ++ lines_unmarked (marked_report asked (reported_events xs))) (event-lines asked x.done x.tick x.event are.0)
     ∙ ap (λ rest. flat_map lines (plain_event x.event) ++ rest) (report-lines asked xs are.1)
     ∙ sym (flat_map-append lines (plain_event x.event) (plain_run xs))
 

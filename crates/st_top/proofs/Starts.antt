@@ -1,7 +1,5 @@
 -- A run that is prepared starts from the scene that is meant.
 use Rattle.std.proofs.Common.{◌≡◌, ◌<◌, ℕ, [], List, All, refl, sym, ◌∙◌, ap, subst}
-use Rattle.std.specs.Prelude.{Result, Ok, Err, IfOk}
-use Rattle.st_exch.proofs.CardLemmas.{cards-size, cards-below}
 use Rattle.st_card.specs.Controls.{Asked}
 use Rattle.st_state.specs.Machine.{Machine, IsMachine, opening_state}
 use Rattle.st_card.specs.declared.control_cards.Signal.{Signal}
@@ -10,7 +8,7 @@ use Rattle.st_exch.specs.Reader.{reader_cards, texts_in, behind_statements}
 use Rattle.st_run.specs.Reached.{IsCard}
 use Rattle.st_run.specs.Scenes.{IsScene}
 use Rattle.st_run.specs.TimedRun.{timed_run}
-use Rattle.st_run.specs.Told.{Told, told_of_events}
+use Rattle.st_run.specs.ReportedEvents.{TimedReportedEvent, reported_events}
 use Rattle.st_top.specs.StepsBack.{events_of_run}
 use Rattle.st_top.specs.Output.{scene_at_start}
 use Rattle.st_top.specs.declared.reporting.TheConstants.{LEVELS}
@@ -23,14 +21,14 @@ scene_is c m n xs ys cs ds e p q r =
     e ∙ (ap with_machine p ∙ (ap with_signals q ∙ ap with_cards r))
 
 -- what is still to be told, by what the run was made from
-pub rest_is : (rest : List Told) (asked : Asked) (ds snaps : List ℕ) (budget : ℕ) (c start : Scene)
-    → rest ≡ told_of_events (timed_run ds LEVELS budget c snaps) → ds ≡ asked.delays → budget ≡ asked.budget → c ≡ start → snaps ≡ asked.snaps
-    → rest ≡ told_of_events (events_of_run asked start)
+pub rest_is : (rest : List TimedReportedEvent) (asked : Asked) (ds snaps : List ℕ) (budget : ℕ) (c start : Scene)
+    → rest ≡ reported_events (timed_run ds LEVELS budget c snaps) → ds ≡ asked.delays → budget ≡ asked.budget → c ≡ start → snaps ≡ asked.snaps
+    → rest ≡ reported_events (events_of_run asked start)
 rest_is rest asked ds snaps budget c start e delays many scene shots =
-    e ∙ (ap (λ (xs : List ℕ). told_of_events (timed_run xs LEVELS budget c snaps)) delays
-    ∙ (ap (λ (n : ℕ). told_of_events (timed_run asked.delays LEVELS n c snaps)) many
-    ∙ (ap (λ (k : Scene). told_of_events (timed_run asked.delays LEVELS asked.budget k snaps)) scene
-    ∙ ap (λ (xs : List ℕ). told_of_events (timed_run asked.delays LEVELS asked.budget start xs)) shots)))
+    e ∙ (ap (λ (xs : List ℕ). reported_events (timed_run xs LEVELS budget c snaps)) delays
+    ∙ (ap (λ (n : ℕ). reported_events (timed_run asked.delays LEVELS n c snaps)) many
+    ∙ (ap (λ (k : Scene). reported_events (timed_run asked.delays LEVELS asked.budget k snaps)) scene
+    ∙ ap (λ (xs : List ℕ). reported_events (timed_run asked.delays LEVELS asked.budget start xs)) shots)))
 
 pub is_scene : (image : List ℕ) (start : ℕ) (asked : Asked) (job : List ℕ) (m : Machine) (cards : List (List ℕ))
     → m ≡ opening_state image start → IsMachine m → cards ≡ reader_cards job → All IsCard cards → IsScene (scene_at_start image start asked job)
@@ -38,14 +36,6 @@ is_scene image start asked job m cards e is f all = record {
   machine = subst IsMachine e is;
   cards = subst (All IsCard) f all;
 }
-
--- the cards of a job's reader
-are_cards : (job : List ℕ) → All (λ x. x < 256) job → All IsCard (reader_cards job)
-are_cards job bytes = λ k d lt. record { size = cards-size job k d lt; below = cards-below job bytes k d lt }
-
-pub read_cards : {E : Type 0} (job : List ℕ) (r : Result (List (List ℕ)) E) → All (λ x. x < 256) job → IfOk r (λ cards. cards ≡ reader_cards job) → IfOk r (All IsCard)
-read_cards job (Ok cards) bytes e = subst (All IsCard) (sym e) (are_cards job bytes)
-read_cards job (Err x) bytes e = tt
 
 -- the reader of a job without cards
 pub no_cards : reader_cards [] ≡ []

@@ -11,7 +11,7 @@ use Rattle.st_bits.specs.declared.limits.TheConstants.{MOST_DELAY}
 use Rattle.st_run.specs.Run.{Scene}
 use Rattle.st_rows.specs.Ranges.{AreDelaysUpTo}
 use Rattle.st_run.specs.Events.{Timed}
-use Rattle.st_run.specs.Told.{told_of_events, told_of}
+use Rattle.st_run.specs.ReportedEvents.{reported_events, timed_reported_event}
 use Rattle.st_run.specs.Scenes.{IsScene}
 use Rattle.st_run.proofs.Bounds.{run-time}
 use Rattle.st_run.proofs.EndLemmas.{run-ends}
@@ -41,12 +41,12 @@ moment-time b done tick (l ∷ ls) le =
     let first : InTime b (record { line = l; done = done; ticks = tick }) = le in
     All-cons (InTime b) (record { line = l; done = done; ticks = tick }) (at_moment done tick ls) first (moment-time b done tick ls le)
 
-report-time : (b : ℕ) (asked : Asked) (xs : List Timed) → All (TimedInTime b) xs → All (InTime b) (report asked (told_of_events xs))
-unfolding report told_of_events
+report-time : (b : ℕ) (asked : Asked) (xs : List Timed) → All (TimedInTime b) xs → All (InTime b) (report asked (reported_events xs))
+unfolding report reported_events
 report-time b asked [] all = All-nil (InTime b)
 report-time b asked (x ∷ xs) all =
-    All-append (InTime b) (at_moment x.done x.tick (lines_told asked (told_of x))) (report asked (told_of_events xs))
-    (moment-time b x.done x.tick (lines_told asked (told_of x)) (All-head (TimedInTime b) x xs all))
+    All-append (InTime b) (at_moment x.done x.tick (lines_told asked (timed_reported_event x))) (report asked (reported_events xs))
+    (moment-time b x.done x.tick (lines_told asked (timed_reported_event x)) (All-head (TimedInTime b) x xs all))
     (report-time b asked xs (All-tail (TimedInTime b) x xs all))
 
 -- what stopped in a line that is in time is
@@ -79,9 +79,9 @@ module _ (most : ℕ) (asked : Asked) (start : Scene) (are : AreDelaysUpTo most 
       let each : All (TimedInTime b) (events_of_run asked start) = run-time most LEVELS asked.delays are few asked.budget start asked.snaps is in
       let back = lines_of_steps_back asked (states asked.budget start) (last_state asked start) in
       let behind = at_moment (moment_at_end asked start).done (moment_at_end asked start).tick back in
-      All-append (InTime b) (at_moment 0 0 listed) (report asked (told_of_events (events_of_run asked start)) ++ behind)
+      All-append (InTime b) (at_moment 0 0 listed) (report asked (reported_events (events_of_run asked start)) ++ behind)
       (moment-time b 0 0 listed (omega arith))
-      (All-append (InTime b) (report asked (told_of_events (events_of_run asked start))) behind (report-time b asked (events_of_run asked start) each)
+      (All-append (InTime b) (report asked (reported_events (events_of_run asked start))) behind (report-time b asked (events_of_run asked start) each)
       (moment-time b (moment_at_end asked start).done (moment_at_end asked start).tick back end-time))
 
   whole-time : (answer : Answer) → answer.done ≡ (moment_at_end asked start).done → answer.ticks ≡ (moment_at_end asked start).tick → IsIn most answer

@@ -34,7 +34,7 @@ pub use Rattle.st_run.specs.Run
 pub use Rattle.st_run.specs.Scenes
 pub use Rattle.st_run.specs.Telling
 pub use Rattle.st_run.specs.TimedRun
-pub use Rattle.st_run.specs.Told
+pub use Rattle.st_run.specs.ReportedEvents
 pub use Rattle.st_state.specs.Machine
 pub use Rattle.st_sweep.specs.SideBySide
 pub use Rattle.st_telling.specs.Report

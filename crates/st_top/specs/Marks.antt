@@ -11,7 +11,7 @@ use Rattle.st_run.specs.Run.{Scene}
 use Rattle.st_io.specs.Event.{lines_of}
 use Rattle.st_object.specs.Object.{Program, read_text}
 use Rattle.st_report.specs.Line.{prt_line, trc_line, row_line, drop_line, int_line, time_line, end_line, done_line, ticks_line}
-use Rattle.st_run.specs.Told.{What, Done, Dropped, Printed, Interrupted, Shown, Ended, Told, told_of_events}
+use Rattle.st_run.specs.ReportedEvents.{ReportedEvent, Done, Dropped, Printed, Interrupted, Shown, Ended, TimedReportedEvent, reported_events}
 use Rattle.st_top.specs.Listing.{rows_lines, symbols_lines}
 use Rattle.st_top.specs.Output.{output_of, scene_of_assembly, loaded_start}
 use Rattle.st_telling.specs.Report.{line_if, block, snapshot_lines}
@@ -45,7 +45,7 @@ lines_unmarked (m ∷ ms) = if m.varies then lines_unmarked ms else m.line ∷ l
 -- ---- a run
 
 -- the lines of what is told: rows, dropped entries, ticks and snapshots belong to the timetable
-abbrev pub marked_at : Asked → ℕ → ℕ → What → List Marked
+abbrev pub marked_at : Asked → ℕ → ℕ → ReportedEvent → List Marked
 marked_at asked done tick (Done address p r c) =
     without_marks (line_if asked.trace (trc_line done address))
     ++ with_marks (line_if asked.chart (row_line done address p r c))
@@ -62,18 +62,18 @@ marked_at asked done tick (Ended rests s) =
     ++ without_marks (block asked.dumps s)
 
 -- those of what is told with its moment
-abbrev pub marked_lines : Asked → Told → List Marked
-marked_lines asked t = marked_at asked t.done t.tick t.what
+abbrev pub marked_lines : Asked → TimedReportedEvent → List Marked
+marked_lines asked t = marked_at asked t.done t.tick t.event
 
 -- the report of what is told
-unfoldable pub marked_report : Asked → List Told → List Marked
+unfoldable pub marked_report : Asked → List TimedReportedEvent → List Marked
 marked_report asked [] = []
 marked_report asked (t ∷ ts) = marked_lines asked t ++ marked_report asked ts
 
 -- the report of a run, with the state so many steps before its end
 unfoldable pub marked_run : Asked → Scene → List Marked
 marked_run asked start =
-    marked_report asked (told_of_events (events_of_run asked start))
+    marked_report asked (reported_events (events_of_run asked start))
     ++ without_marks (lines_of_steps_back asked (states asked.budget start)
     (last_state asked start))
 

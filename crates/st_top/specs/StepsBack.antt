@@ -8,7 +8,7 @@ use Rattle.st_report.specs.Line.{back_line}
 use Rattle.st_run.specs.Events.{Timed}
 use Rattle.st_run.specs.Order.{last_completion}
 use Rattle.st_run.specs.TimedRun.{timed_run}
-use Rattle.st_run.specs.Told.{told_of_events}
+use Rattle.st_run.specs.ReportedEvents.{reported_events}
 use Rattle.st_beside.specs.States.{states}
 use Rattle.st_telling.specs.Report.{block, report}
 use Rattle.st_telling.specs.declared.moment.Moment.{Moment}
@@ -44,6 +44,6 @@ moment_at_end asked start = record {
 -- the report of a run: what is told, and at the moment of its end the state so many steps before it
 unfoldable pub run_report : Asked → Scene → List Event
 run_report asked start =
-    report asked (told_of_events (events_of_run asked start))
+    report asked (reported_events (events_of_run asked start))
     ++ at_moment (moment_at_end asked start).done (moment_at_end asked start).tick
     (lines_of_steps_back asked (states asked.budget start) (last_state asked start))

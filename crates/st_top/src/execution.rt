@@ -25,13 +25,11 @@ ghost use Rattle.st_asm.specs.Assembly.{assembly_parts};
 ghost use Rattle.st_asm.specs.Sound.{IsAssemblySound, IsSymbol};
 ghost use Rattle.st_card.specs.Cards.{cards_of};
 ghost use Rattle.st_card.specs.Limits.{IsWithinLimits, is_part};
-ghost use Rattle.st_exch.specs.Reader.{reader_cards};
-ghost use Rattle.st_run.specs.Reached.{IsCard};
 ghost use Rattle.st_run.specs.Scenes.{IsScene};
 ghost use Rattle.st_run.specs.Run.{Scene as SceneOf};
 ghost use Rattle.st_io.specs.Event.{at_moment};
 ghost use Rattle.st_object.specs.Object.{IsProgram};
-ghost use Rattle.st_run.specs.Told.{told_of_events};
+ghost use Rattle.st_run.specs.ReportedEvents.{reported_events};
 ghost use Rattle.st_top.specs.Listing.{HasCards, front_lines};
 ghost use Rattle.st_top.specs.StepsBack.{events_of_run, moment_at_end, run_report};
 ghost use Rattle.st_beside.specs.Beside.{IsBesideReady, StandsAtStart};
@@ -45,14 +43,13 @@ use crate::listing::write_front;
 use crate::reporting::{LEVELS, budget, write_report};
 use st_asm::Assembled;
 use st_back::Back;
-use st_banks::Delays;
 use st_beside::MachineBeside;
 use st_bits::NoMemory;
-use st_card::{Card, Controls, Signal};
+use st_card::{Controls, Signal};
 use st_exch::Hopper;
 use st_io::{Failed, Sink};
 use st_object::Image;
-use st_run::{Run, RunControls};
+use st_run::{Run, RunControls, delays_asked, reader_of_job};
 use st_state::State;
 use st_telling::Moment;
 use std::alloc::Global;
@@ -81,7 +78,7 @@ fn write_output<K: Sink>(
     requires ready { IfSome prepared.old.past IsBesideReady }
     requires moment { moment.old ≡ record { done = 0; tick = 0 } }
 
-    ensures { (start : SceneOf) → prepared.old.run.rest ≡ told_of_events
+    ensures { (start : SceneOf) → prepared.old.run.rest ≡ reported_events
         (events_of_run program.now.controls start)
         → StandsAtStart program.now.controls.back start prepared.old.past
         → WritesEvents (K.output out.old) (K.output out.new)
@@ -132,27 +129,6 @@ fn snaps(controls: &Controls) -> &[u64]
     controls.snaps.as_slice()
 }
 
-// The delays of storage that are asked for.
-fn delays(alloc: Global, controls: &Controls) -> Result<Delays, NoMemory>
-    requires some { 1 ≤ length controls.now.delays }
-    requires limits { IsWithinLimits controls.now }
-    ensures { IfOk result (λ delays. delays.list ≡ controls.now.delays) }
-{
-    match Delays::new(alloc, controls.delays.as_slice()) {
-        Ok(delays) => Ok(delays),
-        Err(_) => Err(NoMemory),
-    }
-}
-
-// The reader of a job with these cards; its cards have eight words.
-fn reader(alloc: Global, job: &[u8], cards: &[Card]) -> Result<Hopper, NoMemory>
-    requires { cards.now ≡ cards_of job.now }
-    ensures value { IfOk result (λ hopper. hopper ≡ reader_cards job.now) }
-    ensures shape { IfOk result (All IsCard) }
-{
-    Hopper::of_cards(alloc, job, cards)
-}
-
 // The machine beside a run, where steps back are asked for. It reads the cards of the same job.
 fn beside<'a>(
     alloc: Global,
@@ -198,7 +174,7 @@ fn prepare<'a>(
     requires delays { 1 ≤ length controls.now.delays }
 
     ensures rest { IfOk result (λ prepared. prepared.run.rest
-        ≡ told_of_events (events_of_run controls.now
+        ≡ reported_events (events_of_run controls.now
         (scene_at_start image.now start controls.now job.now.text.now))) }
     ensures beside { IfOk result (λ prepared. StandsAtStart controls.now.back
         (scene_at_start image.now start controls.now job.now.text.now) prepared.past) }
@@ -208,8 +184,8 @@ fn prepare<'a>(
         (λ prepared. IsScene (scene_at_start image.now start controls.now job.now.text.now)) }
 {
     let state = State::new(alloc, image, start)?;
-    let hopper = reader(alloc, job.text, job.cards)?;
-    let delays = delays(alloc, controls)?;
+    let hopper = reader_of_job(alloc, job.text, job.cards)?;
+    let delays = delays_asked(alloc, controls)?;
     let past = beside(alloc, job, image, start, controls)?;
     let asked = RunControls {
         signals: signals(controls),
@@ -234,7 +210,7 @@ fn answer_run<K: Sink>(
     requires fresh { IfSome prepared.old.past (λ b. b.0.machine.done ≡ 0) }
     requires ready { IfSome prepared.old.past IsBesideReady }
 
-    ensures { (start : SceneOf) → prepared.old.run.rest ≡ told_of_events
+    ensures { (start : SceneOf) → prepared.old.run.rest ≡ reported_events
         (events_of_run program.now.controls start)
         → StandsAtStart program.now.controls.back start prepared.old.past
         → Writes result.status (K.output out.old) (K.output out.new)
@@ -276,7 +252,7 @@ fn answer_loaded<K: Sink>(
     requires parts { AllPass is_part controls.now.dumps }
     requires fresh { IfSome prepared.old.past (λ b. b.0.machine.done ≡ 0) }
     requires ready { IfSome prepared.old.past IsBesideReady }
-    ensures { (start : SceneOf) → prepared.old.run.rest ≡ told_of_events
+    ensures { (start : SceneOf) → prepared.old.run.rest ≡ reported_events
         (events_of_run controls.now start)
         → StandsAtStart controls.now.back start prepared.old.past
         → Writes result.status (K.output out.old) (K.output out.new)

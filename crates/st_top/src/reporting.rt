@@ -6,7 +6,7 @@ ghost use Rattle.st_card.specs.Limits.{is_part};
 ghost use Rattle.st_run.specs.Run.{Scene as SceneOf};
 ghost use Rattle.st_io.specs.Lines.{WritesLines};
 ghost use Rattle.st_report.specs.Line.{back_line};
-ghost use Rattle.st_run.specs.Told.{told_of_events};
+ghost use Rattle.st_run.specs.ReportedEvents.{reported_events};
 ghost use Rattle.st_telling.specs.Report.{block};
 ghost use Rattle.st_beside.specs.States.{states};
 ghost use Rattle.st_top.specs.StepsBack.{lines_of_steps_back, last_state, events_of_run, moment_at_end, run_report};
@@ -107,7 +107,7 @@ pub fn write_report<K: Sink>(
     requires parts { AllPass is_part controls.now.dumps }
     requires fresh { IfSome past.old (λ b. b.0.machine.done ≡ 0) }
     requires ready { IfSome past.old IsBesideReady }
-    ensures { (start : SceneOf) → run.old.rest ≡ told_of_events (events_of_run controls.now start)
+    ensures { (start : SceneOf) → run.old.rest ≡ reported_events (events_of_run controls.now start)
         → StandsAtStart controls.now.back start past.old
         → WritesEvents (K.output out.old) (K.output out.new) (run_report controls.now start)
         (moment_at_end controls.now start) moment.new result }

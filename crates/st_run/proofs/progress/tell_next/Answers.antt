@@ -1,6 +1,6 @@
 use Rattle.std.proofs.Common.{◌∷◌, sym, ◌∙◌, ap, arith}
-use Rattle.st_run.specs.Telling.{what_told, state_told, ahead_of, rest_of, state_told, ahead_of, told_as}
-use Rattle.st_run.specs.declared.told.TimedRunEvent.{TimedRunEvent}
+use Rattle.st_run.specs.Telling.{reported_answer, state_told, ahead_of, rest_of, state_told, ahead_of, told_as}
+use Rattle.st_run.specs.declared.run_events.TimedRunEvent.{TimedRunEvent}
 use Rattle.st_run.specs.declared.turn.Turn.TheVariants as turns
 use Rattle.st_run.proofs.ProgressLemmas.{seen-none}
 use Rattle.st_run.proofs.NextLemmas.{next-tells, next-keeps, still-quiet, still-run, turn-run, turn-rest, end-levels, end-in_time}
@@ -11,7 +11,7 @@ returns-in-Some-clause-kept g c =
     let run = c.args.run.now in
     let m = run.driven.machine in
     next-keeps run.turn run.left run.tick run.snaps.now run.waiting c.next.new.self run.driven _
-    (what_told run.tick (state_told m) (ahead_of m) c.next.new.printed.bytes c.in-Some.what) (c.in-Some.ensures.told m.state)
+    (reported_answer run.tick (state_told m) (ahead_of m) c.next.new.printed.bytes c.in-Some.event) (c.in-Some.ensures.told m.state)
     (c.in-Some.ensures.shown m.state (state_told m) run.tick (ahead_of m) c.next.new.printed.bytes (λ some. sym (seen-none m (c.requires.run.taken some))))
     c.requires.run c.in-Some.ensures.taken
 
@@ -20,7 +20,7 @@ returns-in-Some-clause-told g c =
     let run = c.args.run.now in
     let m = run.driven.machine in
     next-tells run.turn run.left run.tick run.snaps.now run.waiting c.next.new.self run.driven _
-    (what_told run.tick (state_told m) (ahead_of m) c.next.new.printed.bytes c.in-Some.what) (c.in-Some.ensures.told m.state)
+    (reported_answer run.tick (state_told m) (ahead_of m) c.next.new.printed.bytes c.in-Some.event) (c.in-Some.ensures.told m.state)
     (c.in-Some.ensures.shown m.state (state_told m) run.tick (ahead_of m) c.next.new.printed.bytes (λ some. sym (seen-none m (c.requires.run.taken some))))
     ∙ ap {A = TimedRunEvent} (λ t. told_as t (state_told m) (ahead_of m) c.next.new.printed.bytes ∷ rest_of run.turn run.left run.tick run.snaps.now c.next.new.self run.driven) (sym c.at_once.ensures)
 

@@ -2,7 +2,7 @@ use Rattle.std.proofs.Common.{◌∷◌, List, sym, ap, ◌∙◌}
 use Rattle.st_ahead.specs.RowsDone.{Queue}
 use Rattle.st_ahead.specs.declared.events.Row.{Row}
 use Rattle.st_run.specs.Telling.{rest_of, rows_then, state_told, ahead_of, told_as}
-use Rattle.st_run.specs.declared.told.TimedRunEvent.{TimedRunEvent as ToldNext}
+use Rattle.st_run.specs.declared.run_events.TimedRunEvent.{TimedRunEvent}
 use Rattle.st_run.proofs.RowLemmas.{told-behind}
 use Rattle.st_run.proofs.teller.next_of.Goals as goal
 
@@ -11,7 +11,7 @@ returns-in-Some-clause-told g c =
     let run = c.args.teller.now.progress in
     let rest = rest_of run.turn run.left run.tick run.snaps.now run.waiting run.driven in
     ap {A = List Row} (λ xs. rows_then xs rest) c.in-Some.ensures.rows
-    ∙ ap {A = ToldNext} (λ t. told_as t (state_told run.driven.machine) (ahead_of run.driven.machine) run.printed.bytes ∷ rows_then c.next.new.self.rows rest) (sym c.told_of.ensures)
+    ∙ ap {A = TimedRunEvent} (λ t. told_as t (state_told run.driven.machine) (ahead_of run.driven.machine) run.printed.bytes ∷ rows_then c.next.new.self.rows rest) (sym c.event_of_row.ensures)
 
 pub returns-clause-told : goal.returns-clause-told
 returns-clause-told g c =

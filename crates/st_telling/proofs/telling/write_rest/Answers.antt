@@ -1,7 +1,7 @@
 use Rattle.std.proofs.Common.{refl, sym, subst}
 use Rattle.std.specs.Prelude.{Ok, Err}
 use Rattle.st_io.specs.Lines.{WritesLines}
-use Rattle.st_run.specs.Telling.{what_told}
+use Rattle.st_run.specs.Telling.{reported_answer}
 use Rattle.st_telling.specs.Report.{lines_at}
 use Rattle.st_telling.specs.declared.moment.Moment.{Moment}
 use Rattle.st_telling.proofs.Runs.{told_begins, told_skips, none_skips, told_more, told_stops, told_all, row_more, row_stops}
@@ -28,7 +28,7 @@ telling-preserved g c =
     let begun = told_skips _ _ c.args.controls.now _ _ _ _ _ _ (none_skips c.args.controls.now _ _ _ c.in_default.ensures) c.telling.invariant in
     let told = c.in-Some-next_told.told in
     let lines = subst {A = Moment} (λ m. WritesLines (g.K.Sink.output c.telling.out) (g.K.Sink.output c.write_told.new.out)
-    (lines_at c.args.controls.now m.done m.tick (what_told told.tick run.seen run.ahead run.text told.what))
+    (lines_at c.args.controls.now m.done m.tick (reported_answer told.tick run.seen run.ahead run.text told.event))
     (Ok c.in_ok-write_told.field-0)) (sym c.moment_of.ensures) c.in_ok-write_told.ensures in
     told_more _ _ _ c.args.controls.now _ _ _ _ _ _ _ _ refl c.moment_of.ensures
     (told_skips _ _ c.args.controls.now _ _ _ _ _ _ c.in-Some-next_told.ensures begun) lines
@@ -39,7 +39,7 @@ returns-in_err-write_told g c =
     let begun = told_skips _ _ c.args.controls.now _ _ _ _ _ _ (none_skips c.args.controls.now _ _ _ c.in_default.ensures) c.telling.invariant in
     let told = c.in-Some-next_told.told in
     let lines = subst {A = Moment} (λ m. WritesLines (g.K.Sink.output c.telling.out) (g.K.Sink.output c.write_told.new.out)
-    (lines_at c.args.controls.now m.done m.tick (what_told told.tick run.seen run.ahead run.text told.what))
+    (lines_at c.args.controls.now m.done m.tick (reported_answer told.tick run.seen run.ahead run.text told.event))
     (Err c.in_err-write_told.field-0.0)) (sym c.moment_of.ensures) c.in_err-write_told.ensures in
     told_stops _ _ _ c.args.controls.now _ _ _ _ _ _ _ _ _ c.from_residual-in_err-write_told.ensures.0 refl c.moment_of.ensures
     (told_skips _ _ c.args.controls.now _ _ _ _ _ _ c.in-Some-next_told.ensures begun) lines

@@ -4,7 +4,7 @@ use Rattle.st_ring.specs.Levels.{oldest_front}
 use Rattle.st_ahead.specs.Overlap.{Overlap, interrupt_due}
 use Rattle.st_ahead.specs.Calls.{machine_after_pass}
 use Rattle.st_ahead.specs.Inside.{overlap_of}
-use Rattle.st_ahead.proofs.Settling.{go-inside, going-look, look-goes}
+use Rattle.st_ahead.proofs.Settling.{go-inside, going-lookahead, lookahead-goes}
 use Rattle.st_ahead.proofs.machine.Machine.go_on.Goals as goal
 use Rattle.st_ring.proofs.Laws.{levels_are_the_entries_ahead}
 
@@ -17,8 +17,8 @@ go_on-requires g c =
     let i = c.self.inside in
     let owes = subst (λ (m : Overlap). m.owed ≡ true) (sym c.self.view_is) c.requires.owed in
     let right = subst (λ (m : Overlap). m.behind ≡ None) (sym c.self.view_is) c.requires.right in
-    let both = going-look i.stopped g.row.N i.delays.list i.present.state i.present.taken i.behind i.now i.owed i.ended i.fresh i.look c.self.invariant owes c.if-self.false right in
-    let f = oldest_front i.look.levels.plans i.look.front in (
+    let both = going-lookahead i.stopped g.row.N i.delays.list i.present.state i.present.taken i.behind i.now i.owed i.ended i.fresh i.lookahead c.self.invariant owes c.if-self.false right in
+    let f = oldest_front i.lookahead.levels.plans i.lookahead.front in (
       omega arith,
       (
         c.self.invariant.some,
@@ -28,7 +28,7 @@ go_on-requires g c =
             both.1,
             record {
               tick = i.now;
-              goes = record { table = i.present.taken; front = f; going = look-goes i.delays.list g.row.N i.now i.present.taken i.present.state f i.look both.0 };
+              goes = record { table = i.present.taken; front = f; going = lookahead-goes i.delays.list g.row.N i.now i.present.taken i.present.state f i.lookahead both.0 };
               soon = omega arith;
             },
           ),
@@ -41,7 +41,7 @@ overflow_add-self g c =
     let i = c.self.inside in
     let owes = subst (λ (m : Overlap). m.owed ≡ true) (sym c.self.view_is) c.requires.owed in
     let right = subst (λ (m : Overlap). m.behind ≡ None) (sym c.self.view_is) c.requires.right in
-    let both = going-look i.stopped g.row.N i.delays.list i.present.state i.present.taken i.behind i.now i.owed i.ended i.fresh i.look c.self.invariant owes c.if-self.false right in
+    let both = going-lookahead i.stopped g.row.N i.delays.list i.present.state i.present.taken i.behind i.now i.owed i.ended i.fresh i.lookahead c.self.invariant owes c.if-self.false right in
     let early : i.now < 2 ^ 63 = both.1 in
     omega (arith, early)
 
@@ -52,14 +52,14 @@ invariant_of-self g c =
     let w = c.go_on.new.self in
     let owes = subst (λ (m : Overlap). m.owed ≡ true) (sym c.self.view_is) c.requires.owed in
     let right = subst (λ (m : Overlap). m.behind ≡ None) (sym c.self.view_is) c.requires.right in
-    let both = going-look i.stopped n i.delays.list i.present.state i.present.taken i.behind i.now i.owed i.ended i.fresh i.look c.self.invariant owes c.if-self.false right in
-    let f = oldest_front i.look.levels.plans i.look.front in
-    let look = c.go_on.ensures i.present.taken f both.0 in
-    (go-inside i.stopped n i.delays.list i.present.state i.present.taken i.behind i.now i.owed i.ended i.fresh i.look w c.self.invariant
+    let both = going-lookahead i.stopped n i.delays.list i.present.state i.present.taken i.behind i.now i.owed i.ended i.fresh i.lookahead c.self.invariant owes c.if-self.false right in
+    let f = oldest_front i.lookahead.levels.plans i.lookahead.front in
+    let lookahead = c.go_on.ensures i.present.taken f both.0 in
+    (go-inside i.stopped n i.delays.list i.present.state i.present.taken i.behind i.now i.owed i.ended i.fresh i.lookahead w c.self.invariant
     (subst (λ (m : Overlap). m.stopped ≡ false) (sym c.self.view_is) c.requires.stands) owes c.if-self.false right
     (subst (λ (m : Overlap). interrupt_due m ≡ None) (sym c.self.view_is) c.requires.due)
     (subst (λ (m : Overlap). rests m.state ≡ false) (sym c.self.view_is) c.requires.goes)
-    look (levels_are_the_entries_ahead.oldest i.delays.list n i.now i.present.taken i.present.state f w.front w.levels look.outlook.ahead)).0
+    lookahead (levels_are_the_entries_ahead.oldest i.delays.list n i.now i.present.taken i.present.state f w.front w.levels lookahead.outlook.ahead)).0
 
 pub returns : goal.returns
 returns g c =
@@ -68,12 +68,12 @@ returns g c =
     let w = c.go_on.new.self in
     let owes = subst (λ (m : Overlap). m.owed ≡ true) (sym c.self.view_is) c.requires.owed in
     let right = subst (λ (m : Overlap). m.behind ≡ None) (sym c.self.view_is) c.requires.right in
-    let both = going-look i.stopped n i.delays.list i.present.state i.present.taken i.behind i.now i.owed i.ended i.fresh i.look c.self.invariant owes c.if-self.false right in
-    let f = oldest_front i.look.levels.plans i.look.front in
-    let look = c.go_on.ensures i.present.taken f both.0 in
+    let both = going-lookahead i.stopped n i.delays.list i.present.state i.present.taken i.behind i.now i.owed i.ended i.fresh i.lookahead c.self.invariant owes c.if-self.false right in
+    let f = oldest_front i.lookahead.levels.plans i.lookahead.front in
+    let lookahead = c.go_on.ensures i.present.taken f both.0 in
     subst (λ (m : Overlap). overlap_of n i.delays.list i.present.state i.present.taken i.behind (i.now + 1) false i.ended i.stopped false w ≡ machine_after_pass m) c.self.view_is
-    (go-inside i.stopped n i.delays.list i.present.state i.present.taken i.behind i.now i.owed i.ended i.fresh i.look w c.self.invariant
+    (go-inside i.stopped n i.delays.list i.present.state i.present.taken i.behind i.now i.owed i.ended i.fresh i.lookahead w c.self.invariant
     (subst (λ (m : Overlap). m.stopped ≡ false) (sym c.self.view_is) c.requires.stands) owes c.if-self.false right
     (subst (λ (m : Overlap). interrupt_due m ≡ None) (sym c.self.view_is) c.requires.due)
     (subst (λ (m : Overlap). rests m.state ≡ false) (sym c.self.view_is) c.requires.goes)
-    look (levels_are_the_entries_ahead.oldest i.delays.list n i.now i.present.taken i.present.state f w.front w.levels look.outlook.ahead)).1
+    lookahead (levels_are_the_entries_ahead.oldest i.delays.list n i.now i.present.taken i.present.state f w.front w.levels lookahead.outlook.ahead)).1

@@ -13,4 +13,4 @@ returns-clause-no g c = λ stale.
     let i = c.self.inside in
     let P : Overlap → Type 0 = λ m. (interrupt_due m ≡ None) × (rests m.state ≡ false) × (m.behind ≡ None) in
     subst P c.self.view_is
-    (quiet-inside i.stopped g.row.N i.delays.list i.present.state i.present.taken i.behind i.now i.owed i.ended i.fresh i.look c.self.invariant (not-fresh i.fresh _ stale))
+    (quiet-inside i.stopped g.row.N i.delays.list i.present.state i.present.taken i.behind i.now i.owed i.ended i.fresh i.lookahead c.self.invariant (not-fresh i.fresh _ stale))

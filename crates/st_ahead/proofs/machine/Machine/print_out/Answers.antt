@@ -10,18 +10,18 @@ use Rattle.st_ahead.specs.Inside.{overlap_of}
 use Rattle.st_ahead.proofs.Signals.{signal-inside}
 use Rattle.st_ahead.proofs.machine.Machine.print_out.Goals as goal
 use Rattle.st_exec.proofs.Laws.{orders_are_passed_over}
-use Rattle.st_ahead.proofs.Laws.{signals_leave_looks}
+use Rattle.st_ahead.proofs.Laws.{signals_leave_lookaheads}
 
 pub invariant_of-self : goal.invariant_of-self
 invariant_of-self g c =
     let n = g.row.N in
     let i = c.self.inside in
     let may = subst MayServe (sym c.self.view_is) c.requires.turn in
-    signal-inside i.stopped n i.delays.list i.present.state c.print_out.new.state i.present.taken i.behind i.now i.owed i.ended i.fresh i.look c.self.invariant
+    signal-inside i.stopped n i.delays.list i.present.state c.print_out.new.state i.present.taken i.behind i.now i.owed i.ended i.fresh i.lookahead c.self.invariant
     (inr (may.0, may.1)) c.print_out.ensures.after
     (subst (λ (u : Machine). AreAlikeBesideOrders i.present.state u) (sym c.print_out.ensures.state) (orders_are_passed_over.printed i.present.state))
-    (λ x y f look late done m alike. signals_leave_looks.look i.delays.list n i.now i.now x y f i.look
-    c.self.invariant.some c.self.invariant.few (delays-are i.delays) look late done m alike)
+    (λ x y f lookahead late done m alike. signals_leave_lookaheads.lookahead i.delays.list n i.now i.now x y f i.lookahead
+    c.self.invariant.some c.self.invariant.few (delays-are i.delays) lookahead late done m alike)
 
 pub returns-clause-words : goal.returns-clause-words
 returns-clause-words g c =
@@ -31,5 +31,5 @@ pub returns-clause-after : goal.returns-clause-after
 returns-clause-after g c =
     let n = g.row.N in
     let i = c.self.inside in
-    subst (λ (m : Overlap). overlap_of n i.delays.list c.print_out.new.state i.present.taken i.behind i.now i.owed i.ended i.stopped i.fresh i.look ≡ printed_by m) c.self.view_is
-    (ap (λ (u : Machine). overlap_of n i.delays.list u i.present.taken i.behind i.now i.owed i.ended i.stopped i.fresh i.look) c.print_out.ensures.state)
+    subst (λ (m : Overlap). overlap_of n i.delays.list c.print_out.new.state i.present.taken i.behind i.now i.owed i.ended i.stopped i.fresh i.lookahead ≡ printed_by m) c.self.view_is
+    (ap (λ (u : Machine). overlap_of n i.delays.list u i.present.taken i.behind i.now i.owed i.ended i.stopped i.fresh i.lookahead) c.print_out.ensures.state)

@@ -5,20 +5,20 @@ use Rattle.std.specs.Prelude.{List}
 use Rattle.st_ahead.specs.Overlap.{Overlap, state_ahead, last_tick_made}
 use Rattle.st_ahead.specs.Shown.{AreLevelsOf}
 use Rattle.st_ahead.specs.Inside.{overlap_of}
-use Rattle.st_ahead.proofs.Showing.{look-inside, soon-last, showing, showing-ring}
+use Rattle.st_ahead.proofs.Showing.{lookahead-inside, soon-last, showing, showing-ring}
 use Rattle.st_ahead.proofs.machine.Machine.ring.Goals as goal
-use Rattle.st_ahead.proofs.Laws.{looks_are_levels}
+use Rattle.st_ahead.proofs.Laws.{lookaheads_are_levels}
 
 pub returns-clause-levels : goal.returns-clause-levels
 returns-clause-levels g c =
     let n = g.row.N in
     let i = c.self.inside in
-    let m = overlap_of n i.delays.list i.present.state i.present.taken i.behind i.now i.owed i.ended i.stopped i.fresh i.look in
-    let look = look-inside i.stopped n i.delays.list i.present.state i.present.taken i.behind i.now i.owed i.ended i.fresh i.look c.self.invariant in
-    let is = showing m i.look look (looks_are_levels i.delays.list n (last_tick_made m) i.now i.present.taken (state_ahead m) m.front i.look
-    c.self.invariant.some c.self.invariant.few (delays-are i.delays) (soon-last i.owed i.now) c.ring.ensures.few look) in
+    let m = overlap_of n i.delays.list i.present.state i.present.taken i.behind i.now i.owed i.ended i.stopped i.fresh i.lookahead in
+    let lookahead = lookahead-inside i.stopped n i.delays.list i.present.state i.present.taken i.behind i.now i.owed i.ended i.fresh i.lookahead c.self.invariant in
+    let is = showing m i.lookahead lookahead (lookaheads_are_levels i.delays.list n (last_tick_made m) i.now i.present.taken (state_ahead m) m.front i.lookahead
+    c.self.invariant.some c.self.invariant.few (delays-are i.delays) (soon-last i.owed i.now) c.ring.ensures.few lookahead) in
     subst (λ (x : Overlap). AreLevelsOf x c.ring.result.now) c.self.view_is
-    (subst (λ (levels : List Level). AreLevelsOf m levels) (sym c.ring.ensures.levels) (showing-ring m i.look is))
+    (subst (λ (levels : List Level). AreLevelsOf m levels) (sym c.ring.ensures.levels) (showing-ring m i.lookahead is))
 
 pub returns-clause-few : goal.returns-clause-few
 returns-clause-few g c = omega (arith, c.ring.ensures.few, c.self.invariant.few, ap length c.ring.ensures.levels)

@@ -11,7 +11,7 @@ use Rattle.st_ahead.specs.RunTo.{ArePassed, StopsAt}
 use Rattle.st_ahead.specs.RowsDone.{queue_with, rows_in_ticks, ticks_passed}
 use Rattle.st_ahead.specs.Running.{HasRunTo}
 use Rattle.st_ahead.specs.Inside.{overlap_of}
-use Rattle.st_ahead.specs.declared.look_run.Stop.{Stop}
+use Rattle.st_ahead.specs.declared.lookahead_run.Stop.{Stop}
 use Rattle.st_ahead.proofs.Idling.{passed-none}
 use Rattle.st_ahead.proofs.NotedRows.{rows-zero}
 use Rattle.st_ahead.proofs.Standing.{guess-seen, told as told_row}
@@ -39,21 +39,21 @@ run_to-stop-requires g c =
     let i = c.self.inside in
     let owes = subst (λ (m : Overlap). m.owed ≡ false) (sym c.self.view_is) c.requires.settled in
     let few = subst (λ (m : Overlap). m.state.done < 2 ^ 63) (sym c.self.view_is) c.requires.done in
-    let start = start-inside i.stopped n i.delays.list i.present.state i.present.taken i.behind i.now c.args.last i.owed i.ended i.fresh i.look c.self.invariant owes (omega (arith, c.if-now-last.false)) in
-    (omega arith, (c.self.invariant.some, (c.self.invariant.few, (few, (oldest_front i.look.levels.plans i.look.front, i.now, start)))))
+    let start = start-inside i.stopped n i.delays.list i.present.state i.present.taken i.behind i.now c.args.last i.owed i.ended i.fresh i.lookahead c.self.invariant owes (omega (arith, c.if-now-last.false)) in
+    (omega arith, (c.self.invariant.some, (c.self.invariant.few, (few, (oldest_front i.lookahead.levels.plans i.lookahead.front, i.now, start)))))
 
 pub invariant_of-self : goal.invariant_of-self
 invariant_of-self g c =
     let n = g.row.N in
     let i = c.self.inside in
-    let v = i.look in
+    let v = i.lookahead in
     let w = c.run_to-stop.new.self in
     let f = oldest_front v.levels.plans v.front in
     let owes = subst (λ (m : Overlap). m.owed ≡ false) (sym c.self.view_is) c.requires.settled in
     let start = start-inside i.stopped n i.delays.list i.present.state i.present.taken i.behind i.now c.args.last i.owed i.ended i.fresh v c.self.invariant owes (omega (arith, c.if-now-last.false)) in
     let by = subst (λ (x : Option Stop). HasRunTo i.delays.list n c.args.count c.args.last i.now i.present.taken i.present.state f c.run_to-stop.new.present.taken c.run_to-stop.new.present.state w x) c.in_default.is
     (c.run_to-stop.ensures f i.now start).0 in
-    let front = levels_are_the_entries_ahead.oldest i.delays.list n c.args.last c.run_to-stop.new.present.taken c.run_to-stop.new.present.state by.front w.front w.levels by.look.outlook.ahead in
+    let front = levels_are_the_entries_ahead.oldest i.delays.list n c.args.last c.run_to-stop.new.present.taken c.run_to-stop.new.present.state by.front w.front w.levels by.lookahead.outlook.ahead in
     let all = passed-machine i.stopped n i.delays.list i.present.state c.run_to-stop.new.present.state i.present.taken c.run_to-stop.new.present.taken i.behind i.now c.args.last c.args.count i.owed i.ended i.fresh v w
     c.self.invariant owes c.requires.last by front in
     all.0
@@ -62,14 +62,14 @@ pub returns-in_default-clause-runs : goal.returns-in_default-clause-runs
 returns-in_default-clause-runs g c =
     let n = g.row.N in
     let i = c.self.inside in
-    let v = i.look in
+    let v = i.lookahead in
     let w = c.run_to-stop.new.self in
     let f = oldest_front v.levels.plans v.front in
     let owes = subst (λ (m : Overlap). m.owed ≡ false) (sym c.self.view_is) c.requires.settled in
     let start = start-inside i.stopped n i.delays.list i.present.state i.present.taken i.behind i.now c.args.last i.owed i.ended i.fresh v c.self.invariant owes (omega (arith, c.if-now-last.false)) in
     let by = subst (λ (x : Option Stop). HasRunTo i.delays.list n c.args.count c.args.last i.now i.present.taken i.present.state f c.run_to-stop.new.present.taken c.run_to-stop.new.present.state w x) c.in_default.is
     (c.run_to-stop.ensures f i.now start).0 in
-    let front = levels_are_the_entries_ahead.oldest i.delays.list n c.args.last c.run_to-stop.new.present.taken c.run_to-stop.new.present.state by.front w.front w.levels by.look.outlook.ahead in
+    let front = levels_are_the_entries_ahead.oldest i.delays.list n c.args.last c.run_to-stop.new.present.taken c.run_to-stop.new.present.state by.front w.front w.levels by.lookahead.outlook.ahead in
     let all = passed-machine i.stopped n i.delays.list i.present.state c.run_to-stop.new.present.state i.present.taken c.run_to-stop.new.present.taken i.behind i.now c.args.last c.args.count i.owed i.ended i.fresh v w
     c.self.invariant owes c.requires.last by front in
     subst (λ (m : Overlap). ArePassed c.args.count (c.args.last + 1 - m.now) m (overlap_of n i.delays.list c.run_to-stop.new.present.state c.run_to-stop.new.present.taken i.behind (c.args.last + 1) i.owed i.ended i.stopped i.fresh w))
@@ -79,7 +79,7 @@ pub invariant_of-self-2 : goal.invariant_of-self-2
 invariant_of-self-2 g c =
     let n = g.row.N in
     let i = c.self.inside in
-    let v = i.look in
+    let v = i.lookahead in
     let w = c.run_to-stop.new.self in
     let f = oldest_front v.levels.plans v.front in
     let owes = subst (λ (m : Overlap). m.owed ≡ false) (sym c.self.view_is) c.requires.settled in
@@ -89,7 +89,7 @@ invariant_of-self-2 g c =
     let stop = c.in-Some.stop in
     let told = by.done_at in
     let front = levels_are_the_entries_ahead.oldest i.delays.list n stop.tick None (guess by.table by.state) (front_after_entry i.delays.list n by.front (entry by.table by.state)) w.front w.levels
-    told.look.outlook.ahead in
+    told.lookahead.outlook.ahead in
     let guessed = guess-seen by.table by.state c.run_to-stop.new.present.state (is_missed (plan by.state by.table) by.state) stop.done.missed refl told.state told.told.missed
     (steps_are_guesses.right by.table by.state by.machine by.indicator) (steps_are_guesses.missed by.table by.state by.machine by.indicator) in
     let counted = c.done_in-number.ensures ∙ ap (λ (m : Machine). m.done) told.state ∙ entries_count_as_one (plan by.state by.table) by.state in
@@ -101,7 +101,7 @@ pub returns-clause-runs : goal.returns-clause-runs
 returns-clause-runs g c =
     let n = g.row.N in
     let i = c.self.inside in
-    let v = i.look in
+    let v = i.lookahead in
     let w = c.run_to-stop.new.self in
     let f = oldest_front v.levels.plans v.front in
     let owes = subst (λ (m : Overlap). m.owed ≡ false) (sym c.self.view_is) c.requires.settled in
@@ -111,7 +111,7 @@ returns-clause-runs g c =
     let stop = c.in-Some.stop in
     let told = by.done_at in
     let front = levels_are_the_entries_ahead.oldest i.delays.list n stop.tick None (guess by.table by.state) (front_after_entry i.delays.list n by.front (entry by.table by.state)) w.front w.levels
-    told.look.outlook.ahead in
+    told.lookahead.outlook.ahead in
     let guessed = guess-seen by.table by.state c.run_to-stop.new.present.state (is_missed (plan by.state by.table) by.state) stop.done.missed refl told.state told.told.missed
     (steps_are_guesses.right by.table by.state by.machine by.indicator) (steps_are_guesses.missed by.table by.state by.machine by.indicator) in
     let counted = c.done_in-number.ensures ∙ ap (λ (m : Machine). m.done) told.state ∙ entries_count_as_one (plan by.state by.table) by.state in
@@ -124,7 +124,7 @@ pub returns-in_default-clause-rows : goal.returns-in_default-clause-rows
 returns-in_default-clause-rows g c =
     let n = g.row.N in
     let i = c.self.inside in
-    let v = i.look in
+    let v = i.lookahead in
     let f = oldest_front v.levels.plans v.front in
     let owes = subst (λ (m : Overlap). m.owed ≡ false) (sym c.self.view_is) c.requires.settled in
     let start = start-inside i.stopped n i.delays.list i.present.state i.present.taken i.behind i.now c.args.last i.owed i.ended i.fresh v c.self.invariant owes (omega (arith, c.if-now-last.false)) in
@@ -140,7 +140,7 @@ pub returns-clause-rows : goal.returns-clause-rows
 returns-clause-rows g c =
     let n = g.row.N in
     let i = c.self.inside in
-    let v = i.look in
+    let v = i.lookahead in
     let f = oldest_front v.levels.plans v.front in
     let owes = subst (λ (m : Overlap). m.owed ≡ false) (sym c.self.view_is) c.requires.settled in
     let start = start-inside i.stopped n i.delays.list i.present.state i.present.taken i.behind i.now c.args.last i.owed i.ended i.fresh v c.self.invariant owes (omega (arith, c.if-now-last.false)) in

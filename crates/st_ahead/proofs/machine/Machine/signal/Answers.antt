@@ -7,22 +7,22 @@ use Rattle.st_ahead.specs.Inside.{overlap_of}
 use Rattle.st_ahead.proofs.Signals.{signal-inside}
 use Rattle.st_ahead.proofs.machine.Machine.signal.Goals as goal
 use Rattle.st_exec.proofs.Laws.{orders_are_passed_over}
-use Rattle.st_ahead.proofs.Laws.{signals_leave_looks}
+use Rattle.st_ahead.proofs.Laws.{signals_leave_lookaheads}
 
 pub invariant_of-self : goal.invariant_of-self
 invariant_of-self g c =
     let n = g.row.N in
     let i = c.self.inside in
     let u = c.signal.new.self in
-    signal-inside i.stopped n i.delays.list i.present.state u i.present.taken i.behind i.now i.owed i.ended i.fresh i.look c.self.invariant
+    signal-inside i.stopped n i.delays.list i.present.state u i.present.taken i.behind i.now i.owed i.ended i.fresh i.lookahead c.self.invariant
     (subst MaySignal (sym c.self.view_is) c.requires.turn).0 c.signal.ensures.after
     (subst (λ x. AreAlikeBesideOrders i.present.state x) (sym c.signal.ensures.value) (orders_are_passed_over.signalled i.present.state c.args.i))
-    (λ x y f look late done m alike. signals_leave_looks.look i.delays.list n i.now i.now x y f i.look
-    c.self.invariant.some c.self.invariant.few (delays-are i.delays) look late done m alike)
+    (λ x y f lookahead late done m alike. signals_leave_lookaheads.lookahead i.delays.list n i.now i.now x y f i.lookahead
+    c.self.invariant.some c.self.invariant.few (delays-are i.delays) lookahead late done m alike)
 
 pub returns : goal.returns
 returns g c =
     let i = c.self.inside in
     let u = c.signal.new.self in
-    subst (λ (m : Overlap). overlap_of g.row.N i.delays.list u i.present.taken i.behind i.now i.owed i.ended i.stopped i.fresh i.look ≡ signalled_by c.args.i m) c.self.view_is
-    (ap (λ x. overlap_of g.row.N i.delays.list x i.present.taken i.behind i.now i.owed i.ended i.stopped i.fresh i.look) c.signal.ensures.value)
+    subst (λ (m : Overlap). overlap_of g.row.N i.delays.list u i.present.taken i.behind i.now i.owed i.ended i.stopped i.fresh i.lookahead ≡ signalled_by c.args.i m) c.self.view_is
+    (ap (λ x. overlap_of g.row.N i.delays.list x i.present.taken i.behind i.now i.owed i.ended i.stopped i.fresh i.lookahead) c.signal.ensures.value)

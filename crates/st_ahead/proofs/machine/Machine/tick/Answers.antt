@@ -8,7 +8,7 @@ use Rattle.st_ring.specs.Levels.{oldest_front}
 use Rattle.st_ring.specs.declared.levels.Completed.{Completed}
 use Rattle.st_ahead.specs.Overlap.{Overlap}
 use Rattle.st_ahead.specs.Calls.{is_done, row_done, machine_after_tick}
-use Rattle.st_ahead.specs.Look.{count}
+use Rattle.st_ahead.specs.Forecast.{count}
 use Rattle.st_ahead.specs.Ticked.{IsTicked}
 use Rattle.st_ahead.specs.Inside.{overlap_of}
 use Rattle.st_ahead.proofs.Gone.{outlook-of}
@@ -16,7 +16,7 @@ use Rattle.st_ahead.proofs.Standing.{idle, not-first, passed-tick, done-tick, gu
 use Rattle.st_ahead.proofs.TickCases.{unprepared}
 use Rattle.st_ahead.proofs.machine.Machine.tick.Goals as goal
 use Rattle.st_ring.proofs.Laws.{levels_are_the_entries_ahead}
-use Rattle.st_ahead.proofs.Laws.{looks_are_levels, the_banks_are_left}
+use Rattle.st_ahead.proofs.Laws.{lookaheads_are_levels, the_banks_are_left}
 use Rattle.st_segment.proofs.Laws.{entries_are_in_range, steps_are_guesses}
 use Rattle.st_exec.proofs.Laws.{entries_count_as_one}
 
@@ -28,7 +28,7 @@ pub invariant_of-self : goal.invariant_of-self
 invariant_of-self g c =
     let n = g.row.N in
     let i = c.self.inside in
-    let v = i.look in
+    let v = i.lookahead in
     let f = oldest_front v.levels.plans v.front in
     let owes = subst (λ (m : Overlap). m.owed ≡ false) (sym c.self.view_is) c.requires.settled in
     let early = subst (λ (m : Overlap). m.now < 2 ^ 63) (sym c.self.view_is) c.requires.tick in
@@ -37,7 +37,7 @@ invariant_of-self g c =
     let u = c.tick-done.new.state in
     let are = delays-are i.delays in
     let by = subst (λ (x : Option Completed). IsTicked i.delays.list n i.now i.present.taken i.present.state f v u w x) c.in_default.is
-    (c.tick-done.ensures.ticked i.delays.list (i.now - 1) i.present.taken f c.self.invariant.some c.self.invariant.few are at.look (not-first i.now v.levels.ring at.look.outlook.prepared)) in
+    (c.tick-done.ensures.ticked i.delays.list (i.now - 1) i.present.taken f c.self.invariant.some c.self.invariant.few are at.lookahead (not-first i.now v.levels.ring at.lookahead.outlook.prepared)) in
     let all = passed-tick i.stopped n i.delays.list i.present.state u i.present.taken i.behind i.now i.owed i.ended i.fresh v w c.self.invariant owes early by
     (levels_are_the_entries_ahead.oldest i.delays.list n i.now i.present.taken i.present.state f w.front w.levels by.2.outlook.ahead) in
     all.0
@@ -46,7 +46,7 @@ pub returns-in_default-clause-event : goal.returns-in_default-clause-event
 returns-in_default-clause-event g c =
     let n = g.row.N in
     let i = c.self.inside in
-    let v = i.look in
+    let v = i.lookahead in
     let f = oldest_front v.levels.plans v.front in
     let owes = subst (λ (m : Overlap). m.owed ≡ false) (sym c.self.view_is) c.requires.settled in
     let early = subst (λ (m : Overlap). m.now < 2 ^ 63) (sym c.self.view_is) c.requires.tick in
@@ -55,7 +55,7 @@ returns-in_default-clause-event g c =
     let u = c.tick-done.new.state in
     let are = delays-are i.delays in
     let by = subst (λ (x : Option Completed). IsTicked i.delays.list n i.now i.present.taken i.present.state f v u w x) c.in_default.is
-    (c.tick-done.ensures.ticked i.delays.list (i.now - 1) i.present.taken f c.self.invariant.some c.self.invariant.few are at.look (not-first i.now v.levels.ring at.look.outlook.prepared)) in
+    (c.tick-done.ensures.ticked i.delays.list (i.now - 1) i.present.taken f c.self.invariant.some c.self.invariant.few are at.lookahead (not-first i.now v.levels.ring at.lookahead.outlook.prepared)) in
     let all = passed-tick i.stopped n i.delays.list i.present.state u i.present.taken i.behind i.now i.owed i.ended i.fresh v w c.self.invariant owes early by
     (levels_are_the_entries_ahead.oldest i.delays.list n i.now i.present.taken i.present.state f w.front w.levels by.2.outlook.ahead) in
     subst (λ (m : Overlap). is_done m ≡ false) c.self.view_is all.1
@@ -64,7 +64,7 @@ pub returns-in_default-clause-after : goal.returns-in_default-clause-after
 returns-in_default-clause-after g c =
     let n = g.row.N in
     let i = c.self.inside in
-    let v = i.look in
+    let v = i.lookahead in
     let f = oldest_front v.levels.plans v.front in
     let owes = subst (λ (m : Overlap). m.owed ≡ false) (sym c.self.view_is) c.requires.settled in
     let early = subst (λ (m : Overlap). m.now < 2 ^ 63) (sym c.self.view_is) c.requires.tick in
@@ -73,7 +73,7 @@ returns-in_default-clause-after g c =
     let u = c.tick-done.new.state in
     let are = delays-are i.delays in
     let by = subst (λ (x : Option Completed). IsTicked i.delays.list n i.now i.present.taken i.present.state f v u w x) c.in_default.is
-    (c.tick-done.ensures.ticked i.delays.list (i.now - 1) i.present.taken f c.self.invariant.some c.self.invariant.few are at.look (not-first i.now v.levels.ring at.look.outlook.prepared)) in
+    (c.tick-done.ensures.ticked i.delays.list (i.now - 1) i.present.taken f c.self.invariant.some c.self.invariant.few are at.lookahead (not-first i.now v.levels.ring at.lookahead.outlook.prepared)) in
     let all = passed-tick i.stopped n i.delays.list i.present.state u i.present.taken i.behind i.now i.owed i.ended i.fresh v w c.self.invariant owes early by
     (levels_are_the_entries_ahead.oldest i.delays.list n i.now i.present.taken i.present.state f w.front w.levels by.2.outlook.ahead) in
     subst (λ (m : Overlap). overlap_of n i.delays.list u i.present.taken i.behind i.now true i.ended i.stopped i.fresh w ≡ machine_after_tick m) c.self.view_is all.2
@@ -82,7 +82,7 @@ pub invariant_of-self-2 : goal.invariant_of-self-2
 invariant_of-self-2 g c =
     let n = g.row.N in
     let i = c.self.inside in
-    let v = i.look in
+    let v = i.lookahead in
     let f = oldest_front v.levels.plans v.front in
     let owes = subst (λ (m : Overlap). m.owed ≡ false) (sym c.self.view_is) c.requires.settled in
     let early = subst (λ (m : Overlap). m.now < 2 ^ 63) (sym c.self.view_is) c.requires.tick in
@@ -91,22 +91,22 @@ invariant_of-self-2 g c =
     let u = c.tick-done.new.state in
     let are = delays-are i.delays in
     let by = subst (λ (x : Option Completed). IsTicked i.delays.list n i.now i.present.taken i.present.state f v u w x) c.in-Some.is
-    (c.tick-done.ensures.ticked i.delays.list (i.now - 1) i.present.taken f c.self.invariant.some c.self.invariant.few are at.look (not-first i.now v.levels.ring at.look.outlook.prepared)) in
+    (c.tick-done.ensures.ticked i.delays.list (i.now - 1) i.present.taken f c.self.invariant.some c.self.invariant.few are at.lookahead (not-first i.now v.levels.ring at.lookahead.outlook.prepared)) in
     let done = c.in-Some.done in
-    let m = at.look.outlook.machine in
-    let t = at.look.outlook.indicator in
+    let m = at.lookahead.outlook.machine in
+    let t = at.lookahead.outlook.indicator in
     let most : count v ≤ n = c.tick-done.ensures.few in
     let few : i.now ≤ i.now - 1 + 1 = omega arith in
-    let levels = looks_are_levels i.delays.list n (i.now - 1) i.now i.present.taken i.present.state f v c.self.invariant.some c.self.invariant.few are few most at.look in
+    let levels = lookaheads_are_levels i.delays.list n (i.now - 1) i.now i.present.taken i.present.state f v c.self.invariant.some c.self.invariant.few are few most at.lookahead in
     let some = some-due (count v) (λ empty. unprepared i.delays.list n (count v) i.now i.present.taken i.present.state f c.self.invariant.some empty are
-    (entries_are_in_range.ranges i.present.taken i.present.state m t) at.look.outlook.oldest levels by.due) in
-    let next = not-first i.now v.levels.ring at.look.outlook.prepared some in
+    (entries_are_in_range.ranges i.present.taken i.present.state m t) at.lookahead.outlook.oldest levels by.due) in
+    let next = not-first i.now v.levels.ring at.lookahead.outlook.prepared some in
     let left = the_banks_are_left i.delays.list n (i.now - 1) i.now i.present.taken i.present.state f v
-    c.self.invariant.some c.self.invariant.few are next most some (outlook-of i.delays.list n (i.now - 1) i.now i.present.taken i.present.state f v at.look) by.due in
+    c.self.invariant.some c.self.invariant.few are next most some (outlook-of i.delays.list n (i.now - 1) i.now i.present.taken i.present.state f v at.lookahead) by.due in
     let banks = banks-at i.stopped n i.delays.list i.present.state i.present.taken i.now v left.0 in
     let guessed = guess-seen i.present.taken i.present.state u (is_missed (plan i.present.state i.present.taken) i.present.state) done.missed refl by.state by.told.missed
     (steps_are_guesses.right i.present.taken i.present.state m t) (steps_are_guesses.missed i.present.taken i.present.state m t) in
-    let front = levels_are_the_entries_ahead.oldest i.delays.list n i.now None (guess i.present.taken i.present.state) (front_after_entry i.delays.list n f (entry i.present.taken i.present.state)) w.front w.levels by.look.outlook.ahead in
+    let front = levels_are_the_entries_ahead.oldest i.delays.list n i.now None (guess i.present.taken i.present.state) (front_after_entry i.delays.list n f (entry i.present.taken i.present.state)) w.front w.levels by.lookahead.outlook.ahead in
     let all = done-tick i.stopped n i.delays.list i.present.state u i.present.taken i.behind i.now i.owed i.ended i.fresh v w done c.self.invariant owes early by front banks left.1 guessed in
     all.0
 
@@ -114,7 +114,7 @@ pub returns-clause-event : goal.returns-clause-event
 returns-clause-event g c =
     let n = g.row.N in
     let i = c.self.inside in
-    let v = i.look in
+    let v = i.lookahead in
     let f = oldest_front v.levels.plans v.front in
     let owes = subst (λ (m : Overlap). m.owed ≡ false) (sym c.self.view_is) c.requires.settled in
     let early = subst (λ (m : Overlap). m.now < 2 ^ 63) (sym c.self.view_is) c.requires.tick in
@@ -123,22 +123,22 @@ returns-clause-event g c =
     let u = c.tick-done.new.state in
     let are = delays-are i.delays in
     let by = subst (λ (x : Option Completed). IsTicked i.delays.list n i.now i.present.taken i.present.state f v u w x) c.in-Some.is
-    (c.tick-done.ensures.ticked i.delays.list (i.now - 1) i.present.taken f c.self.invariant.some c.self.invariant.few are at.look (not-first i.now v.levels.ring at.look.outlook.prepared)) in
+    (c.tick-done.ensures.ticked i.delays.list (i.now - 1) i.present.taken f c.self.invariant.some c.self.invariant.few are at.lookahead (not-first i.now v.levels.ring at.lookahead.outlook.prepared)) in
     let done = c.in-Some.done in
-    let m = at.look.outlook.machine in
-    let t = at.look.outlook.indicator in
+    let m = at.lookahead.outlook.machine in
+    let t = at.lookahead.outlook.indicator in
     let most : count v ≤ n = c.tick-done.ensures.few in
     let few : i.now ≤ i.now - 1 + 1 = omega arith in
-    let levels = looks_are_levels i.delays.list n (i.now - 1) i.now i.present.taken i.present.state f v c.self.invariant.some c.self.invariant.few are few most at.look in
+    let levels = lookaheads_are_levels i.delays.list n (i.now - 1) i.now i.present.taken i.present.state f v c.self.invariant.some c.self.invariant.few are few most at.lookahead in
     let some = some-due (count v) (λ empty. unprepared i.delays.list n (count v) i.now i.present.taken i.present.state f c.self.invariant.some empty are
-    (entries_are_in_range.ranges i.present.taken i.present.state m t) at.look.outlook.oldest levels by.due) in
-    let next = not-first i.now v.levels.ring at.look.outlook.prepared some in
+    (entries_are_in_range.ranges i.present.taken i.present.state m t) at.lookahead.outlook.oldest levels by.due) in
+    let next = not-first i.now v.levels.ring at.lookahead.outlook.prepared some in
     let left = the_banks_are_left i.delays.list n (i.now - 1) i.now i.present.taken i.present.state f v
-    c.self.invariant.some c.self.invariant.few are next most some (outlook-of i.delays.list n (i.now - 1) i.now i.present.taken i.present.state f v at.look) by.due in
+    c.self.invariant.some c.self.invariant.few are next most some (outlook-of i.delays.list n (i.now - 1) i.now i.present.taken i.present.state f v at.lookahead) by.due in
     let banks = banks-at i.stopped n i.delays.list i.present.state i.present.taken i.now v left.0 in
     let guessed = guess-seen i.present.taken i.present.state u (is_missed (plan i.present.state i.present.taken) i.present.state) done.missed refl by.state by.told.missed
     (steps_are_guesses.right i.present.taken i.present.state m t) (steps_are_guesses.missed i.present.taken i.present.state m t) in
-    let front = levels_are_the_entries_ahead.oldest i.delays.list n i.now None (guess i.present.taken i.present.state) (front_after_entry i.delays.list n f (entry i.present.taken i.present.state)) w.front w.levels by.look.outlook.ahead in
+    let front = levels_are_the_entries_ahead.oldest i.delays.list n i.now None (guess i.present.taken i.present.state) (front_after_entry i.delays.list n f (entry i.present.taken i.present.state)) w.front w.levels by.lookahead.outlook.ahead in
     let all = done-tick i.stopped n i.delays.list i.present.state u i.present.taken i.behind i.now i.owed i.ended i.fresh v w done c.self.invariant owes early by front banks left.1 guessed in
     let row = row-tick i.stopped n i.delays.list i.present.state u i.present.taken i.behind i.now i.owed i.ended i.fresh v w done c.self.invariant owes by
     (entries_count_as_one (plan i.present.state i.present.taken) i.present.state) in
@@ -148,7 +148,7 @@ pub returns-clause-after : goal.returns-clause-after
 returns-clause-after g c =
     let n = g.row.N in
     let i = c.self.inside in
-    let v = i.look in
+    let v = i.lookahead in
     let f = oldest_front v.levels.plans v.front in
     let owes = subst (λ (m : Overlap). m.owed ≡ false) (sym c.self.view_is) c.requires.settled in
     let early = subst (λ (m : Overlap). m.now < 2 ^ 63) (sym c.self.view_is) c.requires.tick in
@@ -157,21 +157,21 @@ returns-clause-after g c =
     let u = c.tick-done.new.state in
     let are = delays-are i.delays in
     let by = subst (λ (x : Option Completed). IsTicked i.delays.list n i.now i.present.taken i.present.state f v u w x) c.in-Some.is
-    (c.tick-done.ensures.ticked i.delays.list (i.now - 1) i.present.taken f c.self.invariant.some c.self.invariant.few are at.look (not-first i.now v.levels.ring at.look.outlook.prepared)) in
+    (c.tick-done.ensures.ticked i.delays.list (i.now - 1) i.present.taken f c.self.invariant.some c.self.invariant.few are at.lookahead (not-first i.now v.levels.ring at.lookahead.outlook.prepared)) in
     let done = c.in-Some.done in
-    let m = at.look.outlook.machine in
-    let t = at.look.outlook.indicator in
+    let m = at.lookahead.outlook.machine in
+    let t = at.lookahead.outlook.indicator in
     let most : count v ≤ n = c.tick-done.ensures.few in
     let few : i.now ≤ i.now - 1 + 1 = omega arith in
-    let levels = looks_are_levels i.delays.list n (i.now - 1) i.now i.present.taken i.present.state f v c.self.invariant.some c.self.invariant.few are few most at.look in
+    let levels = lookaheads_are_levels i.delays.list n (i.now - 1) i.now i.present.taken i.present.state f v c.self.invariant.some c.self.invariant.few are few most at.lookahead in
     let some = some-due (count v) (λ empty. unprepared i.delays.list n (count v) i.now i.present.taken i.present.state f c.self.invariant.some empty are
-    (entries_are_in_range.ranges i.present.taken i.present.state m t) at.look.outlook.oldest levels by.due) in
-    let next = not-first i.now v.levels.ring at.look.outlook.prepared some in
+    (entries_are_in_range.ranges i.present.taken i.present.state m t) at.lookahead.outlook.oldest levels by.due) in
+    let next = not-first i.now v.levels.ring at.lookahead.outlook.prepared some in
     let left = the_banks_are_left i.delays.list n (i.now - 1) i.now i.present.taken i.present.state f v
-    c.self.invariant.some c.self.invariant.few are next most some (outlook-of i.delays.list n (i.now - 1) i.now i.present.taken i.present.state f v at.look) by.due in
+    c.self.invariant.some c.self.invariant.few are next most some (outlook-of i.delays.list n (i.now - 1) i.now i.present.taken i.present.state f v at.lookahead) by.due in
     let banks = banks-at i.stopped n i.delays.list i.present.state i.present.taken i.now v left.0 in
     let guessed = guess-seen i.present.taken i.present.state u (is_missed (plan i.present.state i.present.taken) i.present.state) done.missed refl by.state by.told.missed
     (steps_are_guesses.right i.present.taken i.present.state m t) (steps_are_guesses.missed i.present.taken i.present.state m t) in
-    let front = levels_are_the_entries_ahead.oldest i.delays.list n i.now None (guess i.present.taken i.present.state) (front_after_entry i.delays.list n f (entry i.present.taken i.present.state)) w.front w.levels by.look.outlook.ahead in
+    let front = levels_are_the_entries_ahead.oldest i.delays.list n i.now None (guess i.present.taken i.present.state) (front_after_entry i.delays.list n f (entry i.present.taken i.present.state)) w.front w.levels by.lookahead.outlook.ahead in
     let all = done-tick i.stopped n i.delays.list i.present.state u i.present.taken i.behind i.now i.owed i.ended i.fresh v w done c.self.invariant owes early by front banks left.1 guessed in
     subst (λ (m : Overlap). overlap_of n i.delays.list u None done.missed i.now true i.ended i.stopped true w ≡ machine_after_tick m) c.self.view_is all.2

@@ -1,0 +1,159 @@
+//! What runs ahead goes on, from one entry that is prepared to the next one, up to a completion.
+ghost use Rattle.std.specs.Prelude.{◌≡◌, ℕ, ◌+◌, ◌<◌, ◌≤◌, ◌^◌, true, false, nat_le, if◌then◌else◌, Option, None, Some};
+ghost use Rattle.st_rows.specs.declared.front.Front.{Front as FrontOf};
+ghost use Rattle.st_ring.specs.Levels.{due_of};
+
+use crate::lookahead::Lookahead;
+use st_banks::Delays;
+use st_next::Basis;
+use st_prep::{Place, Prepared};
+use st_rows::{FormedEntry, Timing};
+use st_state::State;
+
+impl<const N: usize> Lookahead<N> {
+    ghost use Rattle.st_ahead.specs.Forecast.{count};
+    ghost use Rattle.st_ahead.specs.Going.{IsGoing, Goes, GoesUpTo, Reaches, HasGone, WaitsFor};
+
+    // All that is prepared before the oldest level is done, and up to the tick `last`, below 2^63,
+    // becomes levels, whose slots are empty. The result is the tick at which the oldest one is
+    // done, if that is `last` at the latest; else nothing more happens up to `last`.
+    #[inline(always)]
+    pub(crate) fn go_to(&mut self, last: u64, state: &State, delays: &Delays) -> Option<u64>
+        requires some { 1 ≤ N }
+        requires few { N ≤ 8 }
+        requires early { last < 2 ^ 63 }
+        requires going { Reaches delays.now.list N last state.now self.old }
+
+        // What becomes levels.
+        ensures goes { (t : Option ℕ) (f : FrontOf) (since : ℕ) →
+            GoesUpTo delays.now.list N since last t state.now f self.old →
+            HasGone delays.now.list N since last t state.now f self.new result }
+        ensures before { count self.old ≤ N }
+        ensures few { count self.new ≤ N }
+    {
+        'entries: loop {
+            let due = self.due();
+            self.plan_before(due, last, state, delays);
+            if !self.is_next_before(due, last) {
+                return stop_at(due, last);
+            }
+            let p = self.next_prepared();
+            self.push(p, state, delays);
+        }
+    }
+
+    // The tick at which the oldest level is done, 2^64 - 1 where there is none.
+    #[inline(always)]
+    fn due(&self) -> u64
+        ensures tick { result ≡ due_of self.now.levels.plans }
+        ensures few { count self.now ≤ N }
+    {
+        self.levels.due()
+    }
+
+    // Whether the next entry is planned, and prepared before the tick `due` and up to the tick
+    // `last`.
+    #[inline(always)]
+    fn is_next_before(&self, due: u64, last: u64) -> bool
+        ensures yes { result ≡ true → (self.now.next.planned ≡ true)
+            × (self.now.next.formed.p < due) × (self.now.next.formed.p ≤ last) }
+        ensures no { result ≡ false → WaitsFor due last self.now }
+    {
+        if !self.next.planned {
+            return false;
+        }
+        self.next.formed.p < due && self.next.formed.p <= last
+    }
+
+    // When it is prepared, where it is planned.
+    #[inline(always)]
+    fn next_prepared(&self) -> u64
+        ensures { result ≡ self.now.next.formed.p }
+    {
+        self.next.formed.p
+    }
+
+    // The next entry is planned, which it is as soon as its words are known; the oldest level is
+    // done at the tick `due`.
+    #[inline(always)]
+    fn plan_before<'a>(&mut self, due: u64, last: u64, state: &'a State, delays: &'a Delays)
+        requires some { 1 ≤ N }
+        requires few { N ≤ 8 }
+        requires early { last < 2 ^ 63 }
+        requires due { due ≡ due_of self.old.levels.plans }
+        requires going { Reaches delays.now.list N last state.now self.old }
+
+        ensures going { (t : Option ℕ) (f : FrontOf) (tick : ℕ) →
+            IsGoing delays.now.list N tick tick t state.now f self.old →
+            IsGoing delays.now.list N tick due t state.now f self.new }
+        ensures levels { self.new.levels ≡ self.old.levels }
+    {
+        if self.next.planned {
+            return;
+        }
+        let _last = last;
+        let timing = Timing { delays, levels: N };
+        let basis = Basis {
+            timing,
+            state,
+            front: &self.front,
+            index: self.levels.index(),
+        };
+        self.next.plan_before(due, &basis, &mut self.log);
+    }
+
+    // The next entry becomes a level at the tick `now`, its P.
+    #[inline(always)]
+    fn push(&mut self, now: u64, state: &State, delays: &Delays)
+        requires some { 1 ≤ N }
+        requires few { N ≤ 8 }
+        requires early { now < 2 ^ 63 }
+        requires going { Goes delays.now.list N now (now + 1) state.now self.old }
+        requires planned { self.old.next.planned ≡ true }
+        requires due { self.old.next.formed.p ≡ now }
+
+        ensures going { (t : Option ℕ) (f : FrontOf) →
+            IsGoing delays.now.list N now (now + 1) t state.now f self.old →
+            IsGoing delays.now.list N now now t state.now f self.new }
+        ensures count { count self.new ≡ count self.old + 1 }
+        ensures few { count self.new ≤ N }
+    {
+        self.next.prepare(self.levels.index(), state);
+        let timing = Timing { delays, levels: N };
+        let next = FormedEntry {
+            entry: &self.next.entry,
+            formed: self.next.formed,
+        };
+        let filled = self
+            .front
+            .fill(&timing, &next, &mut self.next.words, &mut self.log);
+        self.levels.push(&self.next.prepared, &self.front, &filled);
+        self.front
+            .pass(&self.next.entry, &filled.row, &self.next.words.bus);
+        let place = place_behind(&self.next.prepared);
+        self.next.restart(place);
+    }
+}
+
+// The tick `due`, if it is `last` at the latest.
+#[inline(always)]
+fn stop_at(due: u64, last: u64) -> Option<u64>
+    ensures { result ≡ (if nat_le due last then Some due else None) }
+{
+    if due <= last { Some(due) } else { None }
+}
+
+// The place behind an entry, by the counter that it is guessed to leave.
+fn place_behind(prepared: &Prepared) -> Place
+    ensures { result ≡ record {
+      counter = prepared.now.following;
+      address = prepared.now.following;
+      table = None;
+    } }
+{
+    Place {
+        counter: prepared.following,
+        address: prepared.following,
+        table: None,
+    }
+}

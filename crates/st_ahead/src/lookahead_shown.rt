@@ -1,0 +1,82 @@
+//! What is shown of what runs ahead, and where its next entry stands.
+ghost use Rattle.std.specs.Prelude.{◌≡◌, ◌≤◌, ℕ, List, map, get_or, Option, None, Some, option_map};
+ghost use Rattle.st_state.specs.Machine.{Machine};
+ghost use Rattle.st_rows.specs.declared.front.Front.{Front as FrontOf};
+ghost use Rattle.st_ahead.specs.Shown.{word_before_change};
+
+use crate::events::LevelView;
+use crate::lookahead::Lookahead;
+use st_prep::{IndexChange, Place};
+use st_ring::SpecRing;
+
+impl<const N: usize> Lookahead<N> {
+    ghost use Rattle.st_ahead.specs.Forecast.{count};
+    ghost use Rattle.st_ahead.specs.Shown.{level_shown};
+    ghost use Rattle.st_ring.specs.Levels.{AreAhead};
+    ghost use Rattle.st_segment.specs.Ahead.{ahead};
+
+    // The next entry stands at this place.
+    pub(crate) fn stand(&mut self, place: Place)
+        ensures { self.new ≡ record self.old { next = record self.old.next { place = place } } }
+    {
+        self.next.place = place;
+    }
+
+    // The levels, oldest first.
+    pub(crate) fn ring(&self) -> &SpecRing<N>
+        ensures levels { result.now ≡ self.now.levels.ring }
+        ensures few { count self.now ≤ N }
+    {
+        self.levels.ring()
+    }
+
+    // The index words that run ahead.
+    pub(crate) fn index(&self) -> &[u64; 16]
+        ensures words { result.now ≡ self.now.levels.x }
+        ensures few { count self.now ≤ N }
+    {
+        self.levels.index()
+    }
+
+    // Level k, counted from the oldest, as it is shown at a tick; none behind the last one.
+    pub(crate) fn level(&self, k: usize, tick: u64) -> Option<LevelView>
+        ensures value { (ds : List ℕ) (n now : ℕ) (t : Option ℕ) (s : Machine) (f : FrontOf) →
+            AreAhead ds n now t s f self.now.front self.now.levels →
+            result ≡ get_or (map (λ a. Some (level_shown tick a))
+            (ahead ds n (count self.now) t s f)) k None }
+        ensures few { count self.now ≤ N }
+    {
+        if k >= self.levels.len() {
+            return None;
+        }
+        let level = self.levels.ring().level(k);
+        let ready = self.levels.plan(k).r <= tick;
+        Some(LevelView {
+            address: level.prepared.place.address,
+            p: level.p,
+            index: number_of(level.prepared.index),
+            kept: kept_of(level.prepared.index),
+            ready,
+        })
+    }
+}
+
+// The number of the index word that is changed early.
+fn number_of(change: Option<IndexChange>) -> Option<u8>
+    ensures { result ≡ option_map (λ c. c.number) change }
+{
+    match change {
+        None => None,
+        Some(change) => Some(change.number),
+    }
+}
+
+// That word before, 0 where none is changed.
+fn kept_of(change: Option<IndexChange>) -> u64
+    ensures { result ≡ word_before_change change }
+{
+    match change {
+        None => 0,
+        Some(change) => change.kept,
+    }
+}

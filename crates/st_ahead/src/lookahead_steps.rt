@@ -1,0 +1,52 @@
+//! What runs ahead goes on to the next tick.
+ghost use Rattle.std.specs.Prelude.{◌≡◌, ℕ, ◌+◌, ◌<◌, ◌≤◌, ◌^◌, true, Option};
+ghost use Rattle.st_rows.specs.declared.front.Front.{Front as FrontOf};
+
+use crate::lookahead::Lookahead;
+use st_banks::Delays;
+use st_state::State;
+
+impl<const N: usize> Lookahead<N> {
+    ghost use Rattle.st_ahead.specs.Forecast.{IsLookahead};
+    ghost use Rattle.st_ahead.specs.Going.{Reaches};
+
+    /// Goes on at the tick `now`, below 2^63, once the entry that is done at it, if there is one,
+    /// is executed: entries that are prepared by now become levels.
+    pub fn go_on(&mut self, now: u64, state: &State, delays: &Delays)
+        requires some { 1 ≤ N }
+        requires few { N ≤ 8 }
+        requires early { now < 2 ^ 63 }
+        requires going { Reaches delays.now.list N now state.now self.old }
+        ensures { (t : Option ℕ) (f : FrontOf) →
+            IsLookahead delays.now.list N now now t state.now f self.old →
+            IsLookahead delays.now.list N now (now + 1) t state.now f self.new }
+    {
+        if self.is_prepared_behind(now) {
+            return;
+        }
+        self.go_further(now, state, delays);
+    }
+
+    // Whether the next entry is planned, and prepared behind the tick `now`.
+    #[inline(always)]
+    fn is_prepared_behind(&self, now: u64) -> bool
+        ensures { result ≡ true → (self.now.next.planned ≡ true) × (now < self.now.next.formed.p) }
+    {
+        self.next.planned && now < self.next.formed.p
+    }
+
+    // The same, whatever is known of the next entry.
+    #[inline(never)]
+    fn go_further(&mut self, now: u64, state: &State, delays: &Delays)
+        requires some { 1 ≤ N }
+        requires few { N ≤ 8 }
+        requires early { now < 2 ^ 63 }
+        requires going { Reaches delays.now.list N now state.now self.old }
+        ensures { (t : Option ℕ) (f : FrontOf) →
+            IsLookahead delays.now.list N now now t state.now f self.old →
+            IsLookahead delays.now.list N now (now + 1) t state.now f self.new }
+    {
+        self.go_to(now, state, delays);
+        self.fill(state, now);
+    }
+}

@@ -1,0 +1,80 @@
+//! What a tick does to what runs ahead.
+ghost use Rattle.std.specs.Prelude.{◌≡◌, ℕ, ◌+◌, ◌<◌, ◌≤◌, ◌^◌, List, Option, None};
+ghost use Rattle.st_bits.specs.declared.limits.TheConstants.{MOST_DELAY};
+ghost use Rattle.st_state.specs.Machine.{Machine, word};
+ghost use Rattle.st_exec.specs.Completion.{state_after_execution, guess};
+ghost use Rattle.st_rows.specs.Ranges.{AreDelaysUpTo};
+ghost use Rattle.st_rows.specs.Rows.{row_of_entry, front_after_entry};
+ghost use Rattle.st_rows.specs.declared.front.Front.{Front as FrontOf};
+ghost use Rattle.st_segment.specs.Entries.{entry};
+ghost use Rattle.st_ring.specs.Levels.{IsCompleted, AreNotDone};
+ghost use Rattle.st_ahead.specs.Forecast.{IsLookahead, IsOutlook, count};
+ghost use Rattle.st_ahead.specs.Ticked.{IsTicked};
+
+use crate::lookahead::Lookahead;
+use st_prep::place_of;
+use st_ring::Completed;
+use st_state::State;
+
+impl<const N: usize> Lookahead<N> {
+    /// Makes the tick `now`: the oldest entry is done if it is due, and executed on the state; and
+    /// operands that come at this tick are put into their levels. At a tick at which the state is
+    /// up to date, with nothing owed.
+    pub fn tick(&mut self, state: &mut State, now: u64) -> Option<Completed>
+        requires few { state.old.done < 2 ^ 63 }
+        ensures ticked { (ds : List ℕ) (tick : ℕ) (t : Option ℕ) (f : FrontOf) → 1 ≤ N → N ≤ 8 →
+            AreDelaysUpTo MOST_DELAY ds →
+            IsLookahead ds N tick now t state.old f self.old →
+            (1 ≤ count self.old → now ≡ tick + 1) →
+            IsTicked ds N now t state.old f self.old state.new self.new result }
+        ensures few { count self.old ≤ N }
+    {
+        if self.levels.is_due(now) {
+            let done = self.complete(state);
+            self.fill(state, now);
+            return Some(done);
+        }
+        if self.levels.len() > 0 {
+            self.fill(state, now);
+        }
+        None
+    }
+
+    // The oldest entry is done. Behind one that is done alone the place of the next one is known
+    // only now.
+    #[inline(always)]
+    pub(crate) fn complete(&mut self, state: &mut State) -> Completed
+        requires some { 0 < count self.old }
+        requires few { state.old.done < 2 ^ 63 }
+        ensures { (ds : List ℕ) (tick now : ℕ) (t : Option ℕ) (f : FrontOf) → AreDelaysUpTo
+            MOST_DELAY ds →
+            IsOutlook ds N tick now t state.old f self.old →
+            (row_of_entry ds N f (entry t state.old)).c ≡ now →
+            (state.new ≡ state_after_execution t state.old) × IsCompleted ds N t state.old f result
+            × IsOutlook ds N tick now None (guess t state.old)
+            (front_after_entry ds N f (entry t state.old)) self.new
+            × (self.new.log ≡ self.old.log) × (self.new.next.words ≡ self.old.next.words) }
+    {
+        let done = self.levels.complete(state);
+        if self.levels.len() == 0 && self.front.serial {
+            self.next.place = place_of(state, None);
+        }
+        done
+    }
+
+    // Operands that are there by the tick `now` are put into their levels, which are prepared by
+    // then and not done. They are the same in the state that the levels run ahead of, which may
+    // have another counter.
+    pub(crate) fn fill(&mut self, state: &State, now: u64)
+        ensures filled { (ds : List ℕ) (tick next : ℕ) (t : Option ℕ) (s : Machine) (f : FrontOf) →
+            AreDelaysUpTo MOST_DELAY ds →
+            IsOutlook ds N tick next t s f self.old → tick ≤ now → next ≤ now + 1 →
+            AreNotDone now self.old.levels →
+            ((w : ℕ) → word state.now w ≡ word s w) →
+            IsLookahead ds N now next t s f self.new × (self.new.log ≡ self.old.log)
+            × (self.new.next ≡ self.old.next) }
+        ensures few { count self.new ≤ N }
+    {
+        self.levels.fill(state, now);
+    }
+}

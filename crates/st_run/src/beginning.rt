@@ -1,0 +1,36 @@
+//! What a run begins with besides its state: the delays that are asked for, and the reader of a
+//! job.
+ghost use Rattle.std.specs.Prelude.{◌≡◌, ◌≤◌, All, IfOk, length};
+ghost use Rattle.st_card.specs.Cards.{cards_of};
+ghost use Rattle.st_card.specs.Limits.{IsWithinLimits};
+ghost use Rattle.st_exch.specs.Reader.{reader_cards};
+ghost use Rattle.st_refine.specs.Reached.{IsCard};
+
+use st_banks::Delays;
+use st_bits::NoMemory;
+use st_card::{Card, Controls};
+use st_exch::Hopper;
+use std::alloc::Global;
+
+/// The delays of storage that control cards ask for, one at least. The one error is that memory ran
+/// out.
+pub fn delays_asked(alloc: Global, controls: &Controls) -> Result<Delays, NoMemory>
+    requires some { 1 ≤ length controls.now.delays }
+    requires limits { IsWithinLimits controls.now }
+    ensures { IfOk result (λ delays. delays.list ≡ controls.now.delays) }
+{
+    match Delays::new(alloc, controls.delays.as_slice()) {
+        Ok(delays) => Ok(delays),
+        Err(_) => Err(NoMemory),
+    }
+}
+
+/// The reader of a job, whose cards are `cards`, all of them and in order. Each card of the reader
+/// has eight words. The one error is that memory ran out.
+pub fn reader_of_job(alloc: Global, job: &[u8], cards: &[Card]) -> Result<Hopper, NoMemory>
+    requires { cards.now ≡ cards_of job.now }
+    ensures value { IfOk result (λ hopper. hopper ≡ reader_cards job.now) }
+    ensures shape { IfOk result (All IsCard) }
+{
+    Hopper::of_cards(alloc, job, cards)
+}

@@ -1,9 +1,0 @@
-use Rattle.std.proofs.Common.{◌<◌, arith}
-use Rattle.std.proofs.lemmas.List.Elements.{All-from_get_or}
-use Rattle.st_top.proofs.Starts.{read_cards}
-use Rattle.st_top.proofs.execution.reader.Goals as goal
-
-pub returns-clause-shape : goal.returns-clause-shape
-returns-clause-shape c =
-    let job = c.args.job.now in
-    read_cards job c.of_cards.result (All-from_get_or (λ x. x < 256) job 0 (λ i few. omega (arith, c.type_inv.job i))) c.of_cards.ensures
