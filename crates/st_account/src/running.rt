@@ -19,7 +19,7 @@ ghost use Rattle.st_account.specs.Text.{lines_from, stalled_from, ledger};
 
 use crate::account::Account;
 use st_banks::Delays;
-use st_card::{Controls, Signal};
+use st_card::Controls;
 use st_exch::Hopper;
 use st_io::{Failed, Sink};
 use st_ledger::{Totals, write_sums};
@@ -43,27 +43,6 @@ pub struct Ready {
     pub delays: Delays,
     /// How many levels the machine has, 1 to 8.
     pub levels: u8,
-}
-
-// The signals that are asked for.
-fn signals(controls: &Controls) -> &[Signal]
-    ensures { result.now ≡ controls.now.signals }
-{
-    controls.signals.as_slice()
-}
-
-// The delays of storage that are asked for.
-fn list(controls: &Controls) -> &[u8]
-    ensures { result.now ≡ controls.now.delays }
-{
-    controls.delays.as_slice()
-}
-
-// The most instructions of a run.
-fn budget(controls: &Controls) -> u64
-    ensures { result ≡ controls.now.budget }
-{
-    controls.budget
 }
 
 // Writes the run, until it ends or so many instructions are done as are asked for. `sums` are then
@@ -107,8 +86,8 @@ fn write_run<K: Sink>(
         levels: levels as usize,
     };
     let mut account = Account::new(state, words, origins);
-    let mut coming = Coming::new(signals(controls), cards);
-    let mut left = budget(controls);
+    let mut coming = Coming::new(controls.signals(), cards);
+    let mut left = controls.budget();
     'entries: loop {
         account.pass(&timing, left, &mut coming);
         if account.is_over(left) {
@@ -141,7 +120,7 @@ pub fn write_ledger<K: Sink>(out: &mut K, ready: Ready, controls: &Controls) -> 
 {
     let mut sums = Totals::default();
     let mut waits = WaitTotals::default();
-    write_machine(out, ready.levels, list(controls))?;
+    write_machine(out, ready.levels, controls.delays())?;
     write_run(out, ready, controls, &mut sums, &mut waits)?;
     write_sums(out, &sums)?;
     write_wait_sums(out, &waits)

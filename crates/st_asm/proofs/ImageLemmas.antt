@@ -3,7 +3,7 @@ use Rattle.std.proofs.Common.{◌≡◌, ◌≤◌, ◌<◌, ◌+◌, ◌*◌, �
 use Rattle.st_bits.specs.Bits.{bits, all_bits, put, words_of}
 use Rattle.st_bits.proofs.Windows.{words_of-all_bits}
 use Rattle.st_asm.specs.Valuing.{image_with}
-use Rattle.st_asm.specs.Sound.{IsImage}
+use Rattle.st_bits.specs.Storage.{IsImage}
 
 -- words whose bits are the old ones with a number put in
 pub image-put : (old new : List ℕ) (place count number : ℕ) → (count ≡ 0 → ⊥) → length new ≡ length old →

@@ -5,7 +5,7 @@ use Rattle.st_strap.specs.WellFormed.{IsWellFormedIfAny}
 use Rattle.st_asm.specs.Forming.{Found}
 use Rattle.st_asm.specs.Naming.{Named}
 use Rattle.st_asm.specs.Valuing.{Laid}
-use Rattle.st_asm.specs.Sound.{IsLocation, IsRow, IsImage, IsSymbol}
+use Rattle.st_asm.specs.Sound.{IsLocation, IsRow, IsSymbol}
 use Rattle.st_asm.specs.declared.line.Line.{Line}
 
 -- a card that was read says a well-formed statement, and its name is printable

@@ -1,7 +1,6 @@
 -- What always holds of what the assembler gives.
-use Rattle.std.specs.Prelude.{◌≡◌, ℕ, ◌+◌, ◌<◌, ◌≤◌, ◌^◌, List, length, slice_index, slice_index_or, All, IsAscii, Option, IfSome}
-use Rattle.st_bits.specs.declared.register.TheConstants.{FIRST_STORAGE_WORD}
-use Rattle.st_bits.specs.Storage.{words_of_storage}
+use Rattle.std.specs.Prelude.{◌≡◌, ℕ, ◌+◌, ◌<◌, ◌≤◌, ◌^◌, List, length, slice_index_or, All, IsAscii, Option, IfSome}
+use Rattle.st_bits.specs.Storage.{IsImage}
 use Rattle.st_card.specs.Limits.{IsWithinLimits}
 use Rattle.st_asm.specs.Assembly.{Assembly}
 use Rattle.st_asm.specs.declared.naming.Symbol.{Symbol}
@@ -16,11 +15,6 @@ pub record IsRow (row : Listed) : Type 0 where
   pub few : row.length ≤ 64
   pub fits : row.bits < 2 ^ row.length
   pub location : IsLocation row.location
-
--- an image has all words of storage, and those of the registers are 0
-pub record IsImage (image : List ℕ) : Type 0 where
-  pub size : length image ≡ words_of_storage
-  pub registers : (w : ℕ) → w < FIRST_STORAGE_WORD → slice_index image w ≡ 0
 
 -- a symbol has a printable name, and its value is a bit address
 pub record IsSymbol (symbol : Symbol) : Type 0 where

@@ -1,6 +1,6 @@
 //! The faults of the value pass.
 
-ghost use Rattle.std.specs.Prelude.{◌≡◌, ◌<◌, ◌≤◌, ◌^◌, unsigned_abs};
+ghost use Rattle.std.specs.Prelude.{◌≡◌, ◌≤◌, ◌^◌};
 ghost use Rattle.st_asm.specs.Checks as spec;
 ghost use Rattle.st_asm.specs.Places.{role_of, IsRole};
 ghost use Rattle.st_strap.specs.WellFormed.{IsWellFormed};

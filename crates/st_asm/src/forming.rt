@@ -1,6 +1,6 @@
 //! The form pass: each card by itself, what the control cards ask for, and where the end is.
 
-ghost use Rattle.std.specs.Prelude.{◌≡◌, ◌<◌, ◌≤◌, length, All, IfOk, IfErr, OnOk, Option};
+ghost use Rattle.std.specs.Prelude.{◌≡◌, ◌≤◌, length, All, IfOk, IfErr, OnOk, Option};
 ghost use Rattle.st_card.specs.Cards.{IsCardOf};
 ghost use Rattle.st_asm.specs.Answers.{Stops, Explains};
 ghost use Rattle.st_asm.specs.Pass.{pass};

@@ -1,6 +1,6 @@
 //! Numbers laid as fields.
 
-ghost use Rattle.std.specs.Prelude.{◌≡◌, ◌+◌, ◌-◌, ◌*◌, ◌^◌, ◌<◌, ◌≤◌, IsTrue};
+ghost use Rattle.std.specs.Prelude.{◌≡◌, ◌*◌, ◌^◌, ◌<◌, ◌≤◌, IsTrue};
 ghost use Rattle.st_asm.specs.Numbers as spec;
 ghost use Rattle.st_strap.specs.WellFormed.{IsNumberForm};
 

@@ -1,13 +1,13 @@
 //! The value pass: the image, the start, and the rows of the listing.
 
-ghost use Rattle.std.specs.Prelude.{◌≡◌, ◌<◌, ◌≤◌, ◌^◌, ◌+◌, ◌*◌, ◌++◌, ◌∷◌, [], All, IfOk, IfErr, OnOk, IsTrue, None, length, unwrap_or, unsigned_abs, if◌then◌else◌};
+ghost use Rattle.std.specs.Prelude.{◌≡◌, ◌<◌, ◌≤◌, ◌^◌, ◌++◌, ◌∷◌, [], All, IfOk, IfErr, OnOk, IsTrue, None, length, unwrap_or, unsigned_abs, if◌then◌else◌};
 ghost use Rattle.st_asm.specs.Answers.{Stops, Explains};
 ghost use Rattle.st_asm.specs.Checks.{value_fault, in_storage};
 ghost use Rattle.st_asm.specs.Valuing as spec;
 ghost use Rattle.st_asm.specs.Forming.{is_end};
 ghost use Rattle.st_asm.specs.Laying.{half_word_bits};
 ghost use Rattle.st_bits.specs.Storage.{words_of_storage};
-ghost use Rattle.st_asm.specs.Sound.{IsImage, IsRow, IsLocation};
+ghost use Rattle.st_asm.specs.Sound.{IsRow, IsLocation};
 ghost use Rattle.st_asm.specs.Kept.{IsSoundLayout};
 ghost use Rattle.st_strap.specs.WellFormed.{IsWellFormed, IsWellFormedIfAny};
 

@@ -1,6 +1,6 @@
 //! A machine that is stopped between two entries, which no run does, against an independent model
 //! of it.
-ghost use Rattle.std.specs.Prelude.{◌≡◌, ◌+◌, ◌-◌, ◌<◌, ◌≤◌, true, false, IfOk};
+ghost use Rattle.std.specs.Prelude.{◌≡◌, ◌+◌, ◌<◌, ◌≤◌, true, false, IfOk};
 
 use crate::blank;
 use st_ahead::{Event, Machine, Settled};

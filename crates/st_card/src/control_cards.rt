@@ -102,6 +102,65 @@ impl Controls {
         }
     }
 
+    /// The most instructions of a run that is asked for; 0 where none is.
+    pub fn budget(&self) -> u64
+        ensures { result ≡ self.now.budget }
+    {
+        self.budget
+    }
+
+    /// The delays of storage that are asked for, in ticks.
+    pub fn delays(&self) -> &[u8]
+        ensures { result.now ≡ self.now.delays }
+    {
+        self.delays.as_slice()
+    }
+
+    /// The signals that are asked for.
+    pub fn signals(&self) -> &[Signal]
+        ensures { result.now ≡ self.now.signals }
+    {
+        self.signals.as_slice()
+    }
+
+    /// The ticks of the snapshots that are asked for.
+    pub fn snaps(&self) -> &[u64]
+        ensures { result.now ≡ self.now.snaps }
+    {
+        self.snaps.as_slice()
+    }
+
+    /// Whether the listing is asked for.
+    pub fn is_listed(&self) -> bool
+        ensures { result ≡ self.now.list }
+    {
+        self.list
+    }
+
+    /// Whether a line for each instruction is asked for.
+    #[inline(always)]
+    pub fn is_traced(&self) -> bool
+        ensures { result ≡ self.now.trace }
+    {
+        self.trace
+    }
+
+    /// Whether ticks are asked for.
+    #[inline(always)]
+    pub fn is_timed(&self) -> bool
+        ensures { result ≡ self.now.time }
+    {
+        self.time
+    }
+
+    /// Whether the timetable is asked for.
+    #[inline(always)]
+    pub fn is_charted(&self) -> bool
+        ensures { result ≡ self.now.chart }
+    {
+        self.chart
+    }
+
     /// Adds what a control card asks for.
     ///
     /// `card` is the card's number, and of its `text` the first 72 characters are read. A card that

@@ -182,7 +182,7 @@ words-read w before (x ∷ xs) few words =
 -- all statements up to the end are read, and none is the end
 pub deck-open : (p : Program) → IsProgram p → AreWords p.words → AreOpen (statements_from 0 0 p.words)
 deck-open p is words =
-    let whole = is.whole in words-read 0 0 p.words (omega (arith, whole, words_of_storage_is)) words
+    let whole = is.image.size in words-read 0 0 p.words (omega (arith, whole, words_of_storage_is)) words
 
 -- the end of a deck
 abbrev pub end_of : Program → Statement

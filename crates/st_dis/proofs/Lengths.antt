@@ -150,7 +150,7 @@ show_cards-short a limits = shows_all IsCard (λ c. control_line Card c) a (card
 -- each card of a deck has at most 72 characters
 pub deck_cards-short : (p : Program) → IsProgram p → AreWords p.words → All IsCard (deck_cards p)
 deck_cards-short p is words =
-    let whole = is.whole in
+    let whole = is.image.size in
     let few : 0 + length p.words < 2 ^ 64 = omega (arith, whole, words_of_storage_is) in
     let end = All-cons IsCard (statement_card (end_text p.start)) []
     (statement_card-short (end_text p.start) (end_text-short p.start is.start)) (All-nil IsCard) in

@@ -180,9 +180,9 @@ words-lead ws done (x ∷ xs) w before location start parts size whole words res
 deck-lead : (p : Program) (location : ℕ) → IsProgram p → AreWords p.words →
     (behind : ℕ) × Lead (deck_statements p) (stand location (replicate words_of_storage 0) 0) (stand behind p.words p.start)
 deck-lead p location is words =
-    let size = is.whole in
+    let size = is.image.size in
     let all = words-lead p.words [] p.words 0 0 location 0 refl refl (omega (arith, size, words_of_storage_is)) (All-nil IsWord) words
-    is.registers (λ some. absurd (some refl)) in
+    is.image.registers (λ some. absurd (some refl)) in
     let first = stand location (replicate words_of_storage 0) 0 in
     let last = stand all.0 p.words 0 in
     let end = stand all.0 p.words p.start in (

@@ -1,5 +1,5 @@
 //! What a effect makes of a state.
-ghost use Rattle.std.specs.Prelude.{◌≡◌, ◌*◌, ◌<◌, IfSome};
+ghost use Rattle.std.specs.Prelude.{◌≡◌, ◌<◌, IfSome};
 ghost use Rattle.st_field.specs.declared.accumulator.Acc.{Acc};
 ghost use Rattle.st_state.specs.Machine.{HasArea};
 ghost use Rattle.st_exec.specs.Outcome.{with_register, with_accumulator, with_registers, with_field, with_result};

@@ -1,5 +1,5 @@
 //! Operations on fields, and connectives.
-ghost use Rattle.std.specs.Prelude.{◌≡◌, ◌+◌, ◌*◌, ◌<◌, ◌≤◌, ◌^◌, IfSome, if◌then◌else◌, true};
+ghost use Rattle.std.specs.Prelude.{◌≡◌, ◌<◌, ◌≤◌, ◌^◌, IfSome, if◌then◌else◌, true};
 ghost use Rattle.st_field.specs.Fields.{IsBinaryShape};
 ghost use Rattle.st_dec.specs.DecimalOperand.{IsDecimalShape};
 ghost use Rattle.st_format.specs.Operations.{writes_field};

@@ -1,5 +1,5 @@
 //! Held words as a plan knows them: words and the ticks of their answers.
-ghost use Rattle.std.specs.Prelude.{◌≡◌, ℕ, replicate, length};
+ghost use Rattle.std.specs.Prelude.{◌≡◌, replicate};
 ghost use Rattle.st_fetch.specs.Planned.{no_word, tick_of as tick_by, asked_for, word_with_answer};
 
 /// An instruction word that was asked for.

@@ -1,5 +1,5 @@
 //! From the bits of an instruction to the instruction.
-ghost use Rattle.std.specs.Prelude.{◌≡◌, ℕ, false, None, Some, if◌then◌else◌};
+ghost use Rattle.std.specs.Prelude.{◌≡◌, ℕ, None, Some, if◌then◌else◌};
 ghost use Rattle.st_format.specs.Halves.{is_full as has_ones};
 ghost use Rattle.st_format.specs.Operations.{full_op as full_op_of};
 ghost use Rattle.st_format.specs.Validity.{is_invalid};

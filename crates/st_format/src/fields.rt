@@ -1,5 +1,5 @@
 //! The fields of an instruction, named by their bits. Bits 32-63 are those of the second half-word.
-ghost use Rattle.std.specs.Prelude.{◌≡◌, ◌+◌, ◌-◌, ◌<◌, ◌≤◌, ◌^◌};
+ghost use Rattle.std.specs.Prelude.{◌≡◌, ◌+◌, ◌<◌, ◌≤◌, ◌^◌};
 ghost use Rattle.st_format.specs.Halves.{half_word_part as part_of, later as later_of, is_full as is_full_of, i_of, address_of, j_of, operation_of, bit_address_of, second_address_of, p_of, length_of, byte_of, offset_of, k_of, words_moved, or_greatest as or_greatest_of};
 
 /// The number of `count` bits of a half-word from bit `first` on.

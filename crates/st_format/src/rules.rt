@@ -1,5 +1,5 @@
 //! Which bits spell no instruction.
-ghost use Rattle.std.specs.Prelude.{◌≡◌, ◌<◌};
+ghost use Rattle.std.specs.Prelude.{◌≡◌};
 ghost use Rattle.st_format.specs.Validity.{breaks_rules as breaks_rules_of, unused_in_kind as unused_in_kind_of, unused_k as unused_k_of, unused_marks as unused_marks_of, misfits, has_misfit as has_misfit_of, misuses_p, has_misused_p as has_misused_p_of, miscounts, has_miscount as has_miscount_of};
 
 use crate::fields::{

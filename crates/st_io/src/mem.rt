@@ -1,5 +1,5 @@
 //! A source and a sink in memory whose failures are planned, for tests.
-ghost use Rattle.std.specs.Prelude.{◌≡◌, ◌+◌, ◌-◌, ◌<◌, ◌≤◌, ◌↔◌, min, length, take, vec_len, vec_capacity, MatchResult, IfOk, OnErr, IsErr, IsTrue};
+ghost use Rattle.std.specs.Prelude.{◌≡◌, ◌+◌, ◌-◌, ◌≤◌, ◌↔◌, min, length, take, vec_len, vec_capacity, MatchResult, IfOk, OnErr, IsErr, IsTrue};
 ghost use Rattle.st_io.specs.Count.{count_after};
 ghost use Rattle.st_io.specs.Input.{Gave, GaveNothing};
 ghost use Rattle.st_io.specs.Output.{Wrote, WroteNothing};

@@ -1,23 +1,12 @@
 //! The lines of the ledger, by the rules of `docs/ledger.md`: one call a line, each with its line
 //! end.
-ghost use Rattle.std.specs.Prelude.{◌≡◌, ◌+◌, ◌<◌, ◌≤◌, ◌++◌, [], length};
-ghost use Rattle.arrayvec.specs.ArrayString.{array_string_len};
-ghost use Rattle.st_text.specs.Bytes.{lf};
+ghost use Rattle.std.specs.Prelude.{◌≡◌, ◌+◌, ◌≤◌, ◌++◌, [], length};
 ghost use Rattle.st_ledger.specs.Lines.{stage_name, row_stage_line, charge_line, sum_line};
 
 use crate::charges::{Charge, Stage};
 use st_report::{KeptDigits, LineFromEnd};
 use st_rows::EntryTicks;
-use st_text::{Line, begun, push_decimal};
-
-// The line with its line end.
-fn ended(mut line: Line) -> Line
-    requires { array_string_len line < 128 }
-    ensures { result.bytes ≡ line.bytes ++ lf }
-{
-    line.push_str("\n");
-    line
-}
+use st_text::{Line, begun, ended, push_decimal};
 
 /// The name of a stage.
 pub fn name_of(stage: Stage) -> &'static str

@@ -1,13 +1,12 @@
 //! The lines of a ledger that tell of the machine and of segments, by the rules of
 //! `docs/ledger.md`: one call a line, each with its line end.
-ghost use Rattle.std.specs.Prelude.{◌≡◌, ◌+◌, ◌*◌, ◌<◌, ◌≤◌, ◌++◌, length, codes, decimal};
+ghost use Rattle.std.specs.Prelude.{◌≡◌, ◌+◌, ◌*◌, ◌≤◌, ◌++◌, length, codes, decimal};
 ghost use Rattle.arrayvec.specs.ArrayString.{array_string_len};
-ghost use Rattle.st_text.specs.Bytes.{lf};
 ghost use Rattle.st_lines.specs.Lines.{ledger_levels_line, numbers_text, delays_line, why_text, start_line, segment_end_line, word_line, missed_line, alone_text, alone_line, suppressed_line, dropped_line, begun_line, level_wait_line};
 
 use st_rows::EntryTicks;
 use st_text::{
-    Line, begun, push_decimal, push_flag, push_half_address, push_hex, push_short_decimal,
+    Line, begun, ended, push_decimal, push_flag, push_half_address, push_hex, push_short_decimal,
 };
 
 /// Why a segment begins.
@@ -34,15 +33,6 @@ pub enum Alone {
     Register,
     /// Its operation is done alone.
     Operation,
-}
-
-// The line with its line end.
-fn ended(mut line: Line) -> Line
-    requires { array_string_len line < 128 }
-    ensures { result.bytes ≡ line.bytes ++ lf }
-{
-    line.push_str("\n");
-    line
 }
 
 /// `LEVELS n`: the machine has n levels.

@@ -1,7 +1,5 @@
 //! The lines that tell what a row waited for, and what kept it back.
-ghost use Rattle.std.specs.Prelude.{◌≡◌, ◌+◌, ◌<◌, ◌≤◌, ◌∷◌, ◌++◌, [], length, codes, decimal, IsOk};
-ghost use Rattle.arrayvec.specs.ArrayString.{array_string_len};
-ghost use Rattle.st_text.specs.Bytes.{lf};
+ghost use Rattle.std.specs.Prelude.{◌≡◌, ◌+◌, ◌≤◌, ◌∷◌, ◌++◌, [], length, codes, decimal, IsOk};
 ghost use Rattle.st_banks.specs.Bank.{bank_of};
 ghost use Rattle.st_io.specs.Lines.{WritesLines};
 ghost use Rattle.st_ledger.specs.Charges.{charges_behind, part_charges};
@@ -22,7 +20,7 @@ use st_reasons::{
     wait_sums,
 };
 use st_report::LineFromEnd;
-use st_text::{Line, begun, push_decimal};
+use st_text::{Line, begun, ended, push_decimal};
 
 // Puts the bank of the word of a read before a line.
 #[inline(always)]
@@ -202,15 +200,6 @@ fn stall_name_of(why: Stall) -> &'static str
         Stall::Bank => "BANK",
         Stall::Storage => "STORAGE",
     }
-}
-
-// The line with its line end.
-fn ended(mut line: Line) -> Line
-    requires { array_string_len line < 128 }
-    ensures { result.bytes ≡ line.bytes ++ lf }
-{
-    line.push_str("\n");
-    line
 }
 
 // `SUM stage why n`: the ticks of one thing that was waited for in a stage.

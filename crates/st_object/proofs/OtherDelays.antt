@@ -225,8 +225,7 @@ unfolding read_text
 again-read text other delays p read same good =
     let is = accepted text p read in
     let program : IsProgram (with_delays p delays) = record {
-      whole = is.program.whole;
-      registers = is.program.registers;
+      image = is.program.image;
       start = is.program.start;
       limits = record {
         budget = is.program.limits.budget;

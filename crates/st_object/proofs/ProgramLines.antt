@@ -203,13 +203,13 @@ pub record Makes (p : Program) : Type 0 where
 pub made_again : (p : Program) → IsProgram p → AreWords p.words → Makes p
 unfolding is_whole
 made_again p is each =
-    let words = add_words p.start 0 0 [] p.words refl (λ i low. is.registers i (omega (arith, low))) (omega (arith, is.whole)) each in
+    let words = add_words p.start 0 0 [] p.words refl (λ i low. is.image.registers i (omega (arith, low))) (omega (arith, is.image.size)) each in
     let ws : List ℕ = words.last in
     let next : AreNext 0 order = (refl, (refl, (refl, (refl, (refl, (refl, (refl, (refl, (refl, (refl, (refl, (refl, (refl, tt))))))))))))) in
     record {
       last = draft_before p ws 13;
       steps = subst (λ (items : List Item). Leads draft_at_start items (draft_before p ws 13)) (whole_lines p) (add_kinds p ws is words.steps order 0 next);
       ended = rw (some_is p.controls.budget is.budget, some_is (length p.controls.delays) is.delays);
-      program = ap (λ (s : List ℕ). record p { words = s; controls = asked_before p ws 13 }) (filled_again ws p.words words.zeros words.filled is.whole)
+      program = ap (λ (s : List ℕ). record p { words = s; controls = asked_before p ws 13 }) (filled_again ws p.words words.zeros words.filled is.image.size)
           ∙ ap (λ (b : Bool). record p { controls = record p.controls { list = b } }) (sym is.unlisted);
     }

@@ -30,8 +30,10 @@ whole_program d draft whole =
     let all = has_all d whole in
     let zeros : ℕ = words_of_storage - length d.words in
     record {
-      whole = omega (arith, draft.few, length-append d.words (replicate zeros 0), length-replicate {A = ℕ} zeros 0);
-      registers = λ w low. zero_kept d.words zeros w (draft.registers w low);
+      image = record {
+        size = omega (arith, draft.few, length-append d.words (replicate zeros 0), length-replicate {A = ℕ} zeros 0);
+        registers = λ w low. zero_kept d.words zeros w (draft.registers w low);
+      };
       start = start_small d.start draft.start;
       limits = draft.limits;
       budget = all.1.0;

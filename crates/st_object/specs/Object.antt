@@ -1,10 +1,9 @@
 -- Object texts, what they hold, and the first bad line of a text that is none.
-use Rattle.std.specs.Prelude.{ℕ, ◌≡◌, ◌≤◌, ◌<◌, ◌+◌, ◌-◌, ◌^◌, false, List, [], ◌∷◌, ◌++◌, length, take, replicate, slice_index, Option, is_some, unwrap_or, Result, Ok, Err, if◌then◌else◌}
+use Rattle.std.specs.Prelude.{ℕ, ◌≡◌, ◌≤◌, ◌<◌, ◌+◌, ◌-◌, ◌^◌, false, List, [], ◌∷◌, ◌++◌, length, take, replicate, Option, is_some, unwrap_or, Result, Ok, Err, if◌then◌else◌}
 use Rattle.std.specs.List.{All, flat_map}
 use Rattle.std.specs.Option.{option_and_then, option_map_or}
 use Rattle.st_text.specs.Bytes.{line_end, lf}
-use Rattle.st_bits.specs.declared.register.TheConstants.{FIRST_STORAGE_WORD}
-use Rattle.st_bits.specs.Storage.{words_of_storage}
+use Rattle.st_bits.specs.Storage.{IsImage, words_of_storage}
 use Rattle.st_card.specs.Controls.{Asked}
 use Rattle.st_card.specs.Limits.{IsWithinLimits}
 use Rattle.st_text.specs.Pieces.{pieces_of}
@@ -23,8 +22,7 @@ pub record Program : Type 0 where
 
 -- what an object text can hold
 pub record IsProgram (p : Program) : Type 0 where
-  pub whole : length p.words ≡ words_of_storage
-  pub registers : (w : ℕ) → w < FIRST_STORAGE_WORD → slice_index p.words w ≡ 0
+  pub image : IsImage p.words
   pub start : p.start < 2 ^ 19
   pub limits : IsWithinLimits p.controls
   pub budget : 1 ≤ p.controls.budget

@@ -1,5 +1,5 @@
 //! What kept a row from being prepared earlier.
-ghost use Rattle.std.specs.Prelude.{◌≡◌, ◌+◌, ◌-◌, ◌≤◌, ◌<◌, ◌∷◌, ◌++◌, [], nat_eq, find, reverse, length, if◌then◌else◌, ◌&&◌, ◌||◌, Some, None, All, unwrap_or};
+ghost use Rattle.std.specs.Prelude.{◌≡◌, ◌-◌, ◌≤◌, nat_eq, find, reverse, All, unwrap_or};
 ghost use Rattle.st_reasons.specs.declared.because.Because.TheVariants.{Prefetch as PrefetchOf};
 ghost use Rattle.std.specs.List.{list_any};
 ghost use Rattle.st_rows.specs.Rows.{done_before};

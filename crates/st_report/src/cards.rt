@@ -5,9 +5,10 @@ ghost use Rattle.arrayvec.specs.ArrayString.{array_string_len};
 ghost use Rattle.st_report.specs.Listing.{blanks, filling, right_in, left_in, laid_text, location_text, IsCardText, listed_line, symbol_line};
 
 use crate::Line;
-use crate::pieces::ended;
 use itoa::Buffer;
-use st_text::{begun, drop_end_blanks, filled_len, push_bit_address, push_hex, push_short_decimal};
+use st_text::{
+    begun, drop_end_blanks, ended, filled_len, push_bit_address, push_hex, push_short_decimal,
+};
 use std::str;
 
 // Appends bytes as they stand.

@@ -4,9 +4,8 @@ ghost use Rattle.std.specs.Prelude.{◌≡◌};
 ghost use Rattle.st_report.specs.Line.{fault_line, soak_line};
 
 use crate::Line;
-use crate::pieces::ended;
 use arrayvec::ArrayString;
-use st_text::{begun, push_decimal, push_short_decimal};
+use st_text::{begun, ended, push_decimal, push_short_decimal};
 
 /// `SOAK number cards`: the seed of a made deck, and how many drawn cards it has.
 pub fn line_soak(number: u64, cards: u32) -> Line

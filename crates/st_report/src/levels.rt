@@ -4,9 +4,10 @@ ghost use Rattle.std.specs.Prelude.{◌≡◌, ◌+◌, ◌≤◌, ◌++◌};
 ghost use Rattle.arrayvec.specs.ArrayString.{array_string_len};
 ghost use Rattle.st_report.specs.Line.{row_line, drop_line, snap_line, change_text, lev_line};
 
-use crate::pieces::ended;
 use crate::{EntryLine, Line};
-use st_text::{begun, push_decimal, push_flag, push_half_address, push_hex, push_short_decimal};
+use st_text::{
+    begun, ended, push_decimal, push_flag, push_half_address, push_hex, push_short_decimal,
+};
 
 /// A row of the timetable: an instruction that is done.
 #[derive(Clone, Copy)]

@@ -1,8 +1,7 @@
 //! The pieces that only the lines of the report have.
 
-ghost use Rattle.std.specs.Prelude.{◌≡◌, ◌+◌, ◌<◌, ◌≤◌, ◌++◌};
+ghost use Rattle.std.specs.Prelude.{◌≡◌, ◌+◌, ◌≤◌, ◌++◌};
 ghost use Rattle.arrayvec.specs.ArrayString.{array_string_len};
-ghost use Rattle.st_text.specs.Bytes.{lf};
 ghost use Rattle.st_report.specs.Line.{two_digits};
 
 use st_text::{Line, push_short_decimal};
@@ -15,13 +14,4 @@ pub(crate) fn push_two_digits(line: &mut Line, n: u8)
 {
     push_short_decimal(line, u32::from(n / 10));
     push_short_decimal(line, u32::from(n % 10));
-}
-
-// The line with its line end.
-pub(crate) fn ended(mut line: Line) -> Line
-    requires { array_string_len line < 128 }
-    ensures { result.bytes ≡ line.bytes ++ lf }
-{
-    line.push_str("\n");
-    line
 }

@@ -3,10 +3,9 @@
 ghost use Rattle.std.specs.Prelude.{◌≡◌};
 ghost use Rattle.st_report.specs.Line.{trc_line, prt_line, int_line, time_line, end_line, done_line, ticks_line, back_line};
 
-use crate::pieces::ended;
 use crate::{EntryLine, Line};
 use arrayvec::ArrayString;
-use st_text::{begun, push_decimal, push_half_address, push_short_decimal};
+use st_text::{begun, ended, push_decimal, push_half_address, push_short_decimal};
 
 /// `TRC n a`: the n-th instruction is done. The address is a half-word address.
 pub fn line_trc(n: u64, address: u32) -> Line

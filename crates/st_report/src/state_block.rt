@@ -4,8 +4,8 @@ ghost use Rattle.std.specs.Prelude.{◌≡◌};
 ghost use Rattle.st_report.specs.Line.{ic_line, en_line, reg_line, dump_line, mem_line};
 
 use crate::Line;
-use crate::pieces::{ended, push_two_digits};
-use st_text::{begun, push_flag, push_half_address, push_hex, push_short_decimal};
+use crate::pieces::push_two_digits;
+use st_text::{begun, ended, push_flag, push_half_address, push_hex, push_short_decimal};
 
 /// `IC a`: the instruction counter, a half-word address, as word.bit.
 pub fn line_ic(ic: u32) -> Line

@@ -32,9 +32,9 @@
 //! `docs/machine.md` has the rules.
 #![tactic(auto, using(st_bits::specs::Storage::words_of_storage_is))]
 
-ghost use Rattle.std.specs.Prelude.{◌≡◌, ℕ, ◌+◌, ◌*◌, ◌<◌, ◌≤◌, ◌^◌, length, slice_index, IfOk, IfSome, IsNone};
+ghost use Rattle.std.specs.Prelude.{◌≡◌, ◌+◌, ◌*◌, ◌<◌, ◌≤◌, ◌^◌, IfOk, IfSome, IsNone};
 ghost use Rattle.st_bits.specs.Registers.{register_word};
-ghost use Rattle.st_bits.specs.Storage.{words_of_storage};
+ghost use Rattle.st_bits.specs.Storage.{IsImage, words_of_storage};
 
 use indicators::{leftmost, turned};
 use st_bits::indicators::{
@@ -92,8 +92,7 @@ impl State {
     /// The state at the start: storage is the image, no register but the mask has a bit that is
     /// one, and the counter is the half-word address `start`.
     pub fn new(alloc: Global, image: &[u64], start: u32) -> Result<State, NoMemory>
-        requires whole { length image.now ≡ words_of_storage }
-        requires registers { (w : ℕ) → w < FIRST_STORAGE_WORD → slice_index image.now w ≡ 0 }
+        requires image { IsImage image.now }
         requires counter { start < 2 ^ 19 }
         ensures value { IfOk result (λ s. s ≡ opening_state image.now start) }
         ensures machine { IfOk result IsMachine }

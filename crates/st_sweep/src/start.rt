@@ -1,9 +1,8 @@
 //! Machines before their first entry, and the ticks of their runs.
-ghost use Rattle.std.specs.Prelude.{◌≡◌, ◌≤◌, ◌<◌, ◌^◌, ℕ, [], ◌∷◌, length, slice_index, IfOk, IfSome, MatchOption};
+ghost use Rattle.std.specs.Prelude.{◌≡◌, ◌≤◌, ◌<◌, ◌^◌, ℕ, [], ◌∷◌, length, IfOk, IfSome, MatchOption};
 ghost use Rattle.std.specs.List.{AllPass};
-ghost use Rattle.st_bits.specs.Storage.{words_of_storage};
+ghost use Rattle.st_bits.specs.Storage.{IsImage};
 ghost use Rattle.st_bits.specs.declared.limits.TheConstants.{LONGEST_LIST, MOST_INSTRUCTIONS};
-ghost use Rattle.st_bits.specs.declared.register.TheConstants.{FIRST_STORAGE_WORD};
 ghost use Rattle.st_card.specs.Limits.{is_signal};
 ghost use Rattle.st_sweep.specs.Starts.{ticks_from, start_of_image, last_told};
 ghost use Rattle.st_sweep.specs.SideBySide.{four_of};
@@ -38,8 +37,7 @@ impl Start {
     /// The machine that begins with this image at this address, and has these delays. The one error
     /// is that memory ran out; no later call takes any.
     pub fn new(alloc: Global, image: &[u64], start: u32, delays: &[u8]) -> Result<Start, NoMemory>
-        requires whole { length image.now ≡ words_of_storage }
-        requires registers { (w : ℕ) → w < FIRST_STORAGE_WORD → slice_index image.now w ≡ 0 }
+        requires image { IsImage image.now }
         requires counter { start < 2 ^ 19 }
         requires some { 1 ≤ length delays.now }
         requires few { length delays.now ≤ LONGEST_LIST }
@@ -105,8 +103,7 @@ pub(crate) struct Four {
 impl Four {
     /// Four times the same machine. The one error is that memory ran out.
     pub fn new(alloc: Global, image: &[u64], start: u32, delays: &[u8]) -> Result<Four, NoMemory>
-        requires whole { length image.now ≡ words_of_storage }
-        requires registers { (w : ℕ) → w < FIRST_STORAGE_WORD → slice_index image.now w ≡ 0 }
+        requires image { IsImage image.now }
         requires counter { start < 2 ^ 19 }
         requires some { 1 ≤ length delays.now }
         requires few { length delays.now ≤ LONGEST_LIST }

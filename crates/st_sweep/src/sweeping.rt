@@ -1,9 +1,8 @@
 //! One job on eight machines, one after the other.
-ghost use Rattle.std.specs.Prelude.{◌≡◌, ◌<◌, ◌≤◌, ◌^◌, ℕ, true, length, slice_index, All, IfOk};
+ghost use Rattle.std.specs.Prelude.{◌≡◌, ◌<◌, ◌≤◌, ◌^◌, true, length, All, IfOk};
 ghost use Rattle.std.specs.List.{AllPass};
-ghost use Rattle.st_bits.specs.Storage.{words_of_storage};
+ghost use Rattle.st_bits.specs.Storage.{IsImage};
 ghost use Rattle.st_bits.specs.declared.limits.TheConstants.{LONGEST_LIST, MOST_INSTRUCTIONS};
-ghost use Rattle.st_bits.specs.declared.register.TheConstants.{FIRST_STORAGE_WORD};
 ghost use Rattle.st_card.specs.Limits.{is_signal};
 ghost use Rattle.st_state.specs.Machine.{opening_state};
 ghost use Rattle.st_sweep.specs.Sweep.{without_cards};
@@ -48,8 +47,7 @@ pub struct Swept {
 
 // Takes all memory, and then runs the job on one machine after the other.
 fn run_all(alloc: Global, job: &SweptJob<'_>) -> Result<Swept, NoMemory>
-    requires whole { length job.now.image.now ≡ words_of_storage }
-    requires registers { (w : ℕ) → w < FIRST_STORAGE_WORD → slice_index job.now.image.now w ≡ 0 }
+    requires image { IsImage job.now.image.now }
     requires counter { job.now.start < 2 ^ 19 }
     requires some_delays { 1 ≤ length job.now.delays.now }
     requires few_delays { length job.now.delays.now ≤ LONGEST_LIST }
@@ -85,8 +83,7 @@ fn run_all(alloc: Global, job: &SweptJob<'_>) -> Result<Swept, NoMemory>
 /// Runs a job on machines of one to eight levels, one after the other. The one error is that memory
 /// ran out; all of it is taken before the first instruction. `docs/timetable.md` has the rules.
 pub fn sweep(alloc: Global, job: &SweptJob<'_>) -> Result<Swept, NoMemory>
-    requires whole { length job.now.image.now ≡ words_of_storage }
-    requires registers { (w : ℕ) → w < FIRST_STORAGE_WORD → slice_index job.now.image.now w ≡ 0 }
+    requires image { IsImage job.now.image.now }
     requires counter { job.now.start < 2 ^ 19 }
     requires some_delays { 1 ≤ length job.now.delays.now }
     requires few_delays { length job.now.delays.now ≤ LONGEST_LIST }

@@ -1,10 +1,10 @@
 //! Which words the entries of a run wrote so far.
-ghost use Rattle.std.specs.Prelude.{◌≡◌, ℕ, ◌+◌, ◌≤◌, List, [], ◌∷◌, IfOk, length, get_or, false};
+ghost use Rattle.std.specs.Prelude.{◌≡◌, ◌+◌, ◌≤◌, List, [], ◌∷◌, IfOk, length, get_or, false};
 ghost use Rattle.st_bits.specs.Storage.{words_of_storage};
 ghost use Rattle.st_prep.specs.Ranges.{IsRuns, AreInside};
 ghost use Rattle.st_rows.specs.declared.entry.WordRuns.{WordRuns};
 ghost use Rattle.st_segment.specs.Entries.{words_to_write};
-ghost use Rattle.st_sweep.specs.HazardFree.{is_among_written, are_written, one_is_written, side_is_written};
+ghost use Rattle.st_sweep.specs.HazardFree.{are_written, one_is_written, side_is_written};
 ghost use Rattle.st_sweep.specs.Marks.{AreMarks, marks_with};
 
 use st_bits::NoMemory;

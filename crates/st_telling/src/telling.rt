@@ -31,33 +31,12 @@ pub fn write_state<K: Sink>(out: &mut K, seen: &Seen<'_>, controls: &Controls) -
     write_block(out, seen, controls.dumps.as_slice())
 }
 
-// Whether a line for each instruction is asked for.
-fn is_traced(controls: &Controls) -> bool
-    ensures { result ≡ controls.now.trace }
-{
-    controls.trace
-}
-
-// Whether the timetable is asked for.
-fn is_charted(controls: &Controls) -> bool
-    ensures { result ≡ controls.now.chart }
-{
-    controls.chart
-}
-
 // Whether something is written of each instruction that is done.
 #[inline(always)]
 fn is_written(controls: &Controls) -> bool
     ensures { result ≡ (controls.now.trace || controls.now.chart) }
 {
     controls.trace || controls.chart
-}
-
-// Whether ticks are asked for.
-fn is_timed(controls: &Controls) -> bool
-    ensures { result ≡ controls.now.time }
-{
-    controls.time
 }
 
 // Writes the line of an instruction that is done, where a trace is asked for. It is put together in
@@ -74,7 +53,7 @@ fn write_trace<K: Sink>(
     ensures { WritesLines (K.output out.old) (K.output out.new)
         (line_if controls.now.trace (trc_line done address)) result }
 {
-    if !is_traced(controls) {
+    if !controls.is_traced() {
         return Ok(());
     }
     fill_trc(line, done, address);
@@ -93,7 +72,7 @@ fn write_row<K: Sink>(
     ensures { WritesLines (K.output out.old) (K.output out.new)
         (line_if controls.now.chart (row_line row.number row.address row.p row.r row.c)) result }
 {
-    if !is_charted(controls) {
+    if !controls.is_charted() {
         return Ok(());
     }
     fill_chart(line, &row);
@@ -126,7 +105,7 @@ fn write_dropped<K: Sink>(
     ensures { WritesLines (K.output out.old) (K.output out.new)
         (line_if controls.now.chart (drop_line address p)) result }
 {
-    if !is_charted(controls) {
+    if !controls.is_charted() {
         return Ok(());
     }
     put(out, &line_drop(address, p))
@@ -153,7 +132,7 @@ fn write_time<K: Sink>(out: &mut K, tick: u64, controls: &Controls) -> Result<()
     ensures { WritesLines (K.output out.old) (K.output out.new)
         (line_if controls.now.time (time_line tick)) result }
 {
-    if !is_timed(controls) {
+    if !controls.is_timed() {
         return Ok(());
     }
     put(out, &line_time(tick))
@@ -268,7 +247,7 @@ fn write_ticks<K: Sink>(out: &mut K, tick: u64, controls: &Controls) -> Result<(
     ensures { WritesLines (K.output out.old) (K.output out.new)
         (line_if controls.now.time (ticks_line tick)) result }
 {
-    if !is_timed(controls) {
+    if !controls.is_timed() {
         return Ok(());
     }
     put(out, &line_ticks(tick))
@@ -330,8 +309,8 @@ fn write_told<K: Sink, const N: usize>(
     let moment = Moment { done, tick };
     // Of an entry that is only counted nothing is written.
     if let RunEvent::Done { .. } = event {
-        if !is_traced(controls) {
-            if !is_charted(controls) {
+        if !controls.is_traced() {
+            if !controls.is_charted() {
                 return Ok(());
             }
         }
@@ -360,10 +339,10 @@ fn write_told<K: Sink, const N: usize>(
 fn pass_counted<const N: usize>(run: &mut Run<'_, N>, moment: &mut Moment, controls: &Controls)
     ensures { WritesNothing controls.now moment.old run.old.rest moment.new run.new.rest }
 {
-    if is_traced(controls) {
+    if controls.is_traced() {
         return;
     }
-    if is_charted(controls) {
+    if controls.is_charted() {
         return;
     }
     if let Some(row) = run.pass_entries() {

@@ -10,8 +10,8 @@ mod words;
 
 pub use blanks::{filled_len, without_end_blanks, without_front_blanks};
 pub use lines::{
-    Line, begun, drop_end_blanks, push_bit_address, push_decimal, push_flag, push_half_address,
-    push_hex, push_short_decimal,
+    Line, begun, drop_end_blanks, ended, push_bit_address, push_decimal, push_flag,
+    push_half_address, push_hex, push_short_decimal,
 };
 pub use numbers::{Reading, number_up_to, read_number};
 pub use pieces::{behind, cut, front};

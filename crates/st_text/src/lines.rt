@@ -3,6 +3,7 @@
 ghost use Rattle.std.specs.Prelude.{◌≡◌, ◌+◌, ◌<◌, ◌≤◌, ◌++◌, length, decimal};
 ghost use Rattle.arrayvec.specs.ArrayString.{array_string_len};
 ghost use Rattle.st_text.specs.Blanks.{without_end_blanks};
+ghost use Rattle.st_text.specs.Bytes.{lf};
 ghost use Rattle.st_text.specs.Numerals.{hex_digit, hex_text, place, bit_address, half_address, flag};
 
 use crate::blanks::filled_len;
@@ -19,6 +20,15 @@ pub fn begun(word: &str) -> Line
 {
     let mut line = Line::new();
     line.push_str(word);
+    line
+}
+
+/// The line with its line end.
+pub fn ended(mut line: Line) -> Line
+    requires { array_string_len line < 128 }
+    ensures { result.bytes ≡ line.bytes ++ lf }
+{
+    line.push_str("\n");
     line
 }
 

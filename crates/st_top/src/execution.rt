@@ -1,26 +1,8 @@
 //! A job that runs: the listing, where it is asked for, and then the report of the run.
-ghost use Rattle.std.specs.Prelude.{
-  ◌≡◌,
-  ◌≤◌,
-  ◌<◌,
-  ◌^◌,
-  ℕ,
-  None,
-  Ok,
-  All,
-  IfOk,
-  IfSome,
-  OnOk,
-  OnErr,
-  [],
-  ◌++◌,
-  length,
-  slice_index,
-};
+ghost use Rattle.std.specs.Prelude.{◌≡◌, ◌≤◌, ◌<◌, ◌^◌, None, Ok, All, IfOk, IfSome, OnOk, OnErr, [], ◌++◌, length};
 ghost use Rattle.std.specs.List.{AllPass};
-ghost use Rattle.st_bits.specs.Storage.{words_of_storage};
+ghost use Rattle.st_bits.specs.Storage.{IsImage};
 ghost use Rattle.st_bits.specs.declared.limits.TheConstants.{MOST_INSTRUCTIONS};
-ghost use Rattle.st_bits.specs.declared.register.TheConstants.{FIRST_STORAGE_WORD};
 ghost use Rattle.st_asm.specs.Assembly.{assembly_parts};
 ghost use Rattle.st_asm.specs.Sound.{IsAssemblySound, IsSymbol};
 ghost use Rattle.st_card.specs.Cards.{cards_of};
@@ -40,12 +22,12 @@ ghost use Rattle.st_top.specs.Answers.{Writes, KeepsTime};
 use crate::answer::{Answer, Status};
 use crate::job::Job;
 use crate::listing::write_front;
-use crate::reporting::{LEVELS, budget, write_report};
+use crate::reporting::{LEVELS, write_report};
 use st_asm::Assembled;
 use st_back::Back;
 use st_beside::MachineBeside;
 use st_bits::NoMemory;
-use st_card::{Controls, Signal};
+use st_card::Controls;
 use st_exch::Hopper;
 use st_io::{Failed, Sink};
 use st_object::Image;
@@ -115,20 +97,6 @@ fn answer_of(written: Result<(), Failed>, moment: Moment) -> Answer
     }
 }
 
-/// The signals that are asked for.
-pub fn signals(controls: &Controls) -> &[Signal]
-    ensures { result.now ≡ controls.now.signals }
-{
-    controls.signals.as_slice()
-}
-
-// The ticks of the snapshots that are asked for.
-fn snaps(controls: &Controls) -> &[u64]
-    ensures { result.now ≡ controls.now.snaps }
-{
-    controls.snaps.as_slice()
-}
-
 // The machine beside a run, where steps back are asked for. It reads the cards of the same job.
 fn beside<'a>(
     alloc: Global,
@@ -137,8 +105,7 @@ fn beside<'a>(
     start: u32,
     controls: &'a Controls,
 ) -> Result<Option<MachineBeside<'a>>, NoMemory>
-    requires whole { length image.now ≡ words_of_storage }
-    requires registers { (w : ℕ) → w < FIRST_STORAGE_WORD → slice_index image.now w ≡ 0 }
+    requires image { IsImage image.now }
     requires counter { start < 2 ^ 19 }
     requires limits { IsWithinLimits controls.now }
 
@@ -154,7 +121,7 @@ fn beside<'a>(
     let machine = State::new(alloc, image, start)?;
     let hopper = Hopper::of_cards(alloc, job.text, job.cards)?;
     let steps = Back::new(alloc, depth)?;
-    Ok(Some(MachineBeside::new(machine, signals(controls), hopper, steps)))
+    Ok(Some(MachineBeside::new(machine, controls.signals(), hopper, steps)))
 }
 
 // Takes all memory of a run: that of an image, a start and controls, with the reader's cards of a
@@ -166,8 +133,7 @@ fn prepare<'a>(
     start: u32,
     controls: &'a Controls,
 ) -> Result<RunWithPast<'a>, NoMemory>
-    requires whole { length image.now ≡ words_of_storage }
-    requires registers { (w : ℕ) → w < FIRST_STORAGE_WORD → slice_index image.now w ≡ 0 }
+    requires image { IsImage image.now }
     requires counter { start < 2 ^ 19 }
     requires limits { IsWithinLimits controls.now }
     requires budget { 1 ≤ controls.now.budget }
@@ -188,9 +154,9 @@ fn prepare<'a>(
     let delays = delays_asked(alloc, controls)?;
     let past = beside(alloc, job, image, start, controls)?;
     let asked = RunControls {
-        signals: signals(controls),
-        snaps: snaps(controls),
-        budget: budget(controls),
+        signals: controls.signals(),
+        snaps: controls.snaps(),
+        budget: controls.budget(),
     };
     let run = Run::new(state, delays, hopper, &asked);
     Ok(RunWithPast { run, past })

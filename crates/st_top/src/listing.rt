@@ -68,13 +68,6 @@ fn write_symbols<K: Sink>(out: &mut K, symbols: &[Symbol]) -> Result<(), Failed>
     Ok(())
 }
 
-// Whether the listing is asked for.
-fn is_listed(controls: &Controls) -> bool
-    ensures { result ≡ controls.now.list }
-{
-    controls.list
-}
-
 // Writes a line for each card of a job, and then one for each symbol.
 fn write_both<K: Sink>(
     out: &mut K,
@@ -120,7 +113,7 @@ fn write_listing<K: Sink>(out: &mut K, job: &Job, program: &Assembled) -> Result
     ensures { WritesLines (K.output out.old) (K.output out.new)
         (listing job.now.text.now (assembly_parts program.now)) result }
 {
-    if !is_listed(&program.controls) {
+    if !program.controls.is_listed() {
         return Ok(());
     }
     write_both(

@@ -68,13 +68,6 @@ fn write_back<K: Sink>(
     write_before(out, steps, past.state(), controls)
 }
 
-/// The most instructions of a run.
-pub fn budget(controls: &Controls) -> u64
-    ensures { result ≡ controls.now.budget }
-{
-    controls.budget
-}
-
 // Makes the run on the machine beside it, and writes the state before the end that is asked for.
 fn write_past<K: Sink>(
     out: &mut K,
@@ -90,7 +83,7 @@ fn write_past<K: Sink>(
         (lines_of_steps_back controls.now (states controls.now.budget start) (last_state
         controls.now start)) result }
 {
-    run_beside(past, budget(controls));
+    run_beside(past, controls.budget());
     write_back(out, past, controls)
 }
 

@@ -1,9 +1,7 @@
 //! A job on machines of one to eight levels, and what is written of it.
-ghost use Rattle.std.specs.Prelude.{◌≡◌, ◌+◌, ◌≤◌, ◌<◌, ◌^◌, ℕ, Ok, [], ◌∷◌, IfOk, length, slice_index};
-ghost use Rattle.st_bits.specs.Storage.{words_of_storage};
-ghost use Rattle.st_bits.specs.declared.register.TheConstants.{FIRST_STORAGE_WORD};
+ghost use Rattle.std.specs.Prelude.{◌≡◌, ◌+◌, ◌≤◌, ◌<◌, ◌^◌, Ok, [], ◌∷◌, IfOk, length};
+ghost use Rattle.st_bits.specs.Storage.{IsImage};
 ghost use Rattle.st_asm.specs.Assembly.{assembly_parts};
-ghost use Rattle.st_asm.specs.Sound.{IsImage};
 ghost use Rattle.st_card.specs.Limits.{IsWithinLimits};
 ghost use Rattle.st_io.specs.Lines.{WritesLines};
 ghost use Rattle.st_report.specs.Line.{calm_line};
@@ -13,8 +11,6 @@ ghost use Rattle.st_top.specs.Output.{output_of_sweep, swept_by};
 ghost use Rattle.st_top.specs.Answers.{Writes, KeepsTime};
 
 use crate::answer::{Answer, Status};
-use crate::execution::signals;
-use crate::reporting::budget;
 use st_asm::Assembled;
 use st_bits::NoMemory;
 use st_card::Controls;
@@ -72,13 +68,6 @@ fn answer_swept<K: Sink>(out: &mut K, swept: Swept) -> Answer
     }
 }
 
-// The delays of storage that are asked for.
-fn delays(controls: &Controls) -> &[u8]
-    ensures { result.now ≡ controls.now.delays }
-{
-    controls.delays.as_slice()
-}
-
 // Runs an image from a start on machines of one to eight levels, with an empty reader.
 fn sweep_image(
     alloc: Global,
@@ -86,8 +75,7 @@ fn sweep_image(
     start: u32,
     controls: &Controls,
 ) -> Result<Swept, NoMemory>
-    requires whole { length image.now ≡ words_of_storage }
-    requires registers { (w : ℕ) → w < FIRST_STORAGE_WORD → slice_index image.now w ≡ 0 }
+    requires image { IsImage image.now }
     requires counter { start < 2 ^ 19 }
     requires limits { IsWithinLimits controls.now }
     requires budget { 1 ≤ controls.now.budget }
@@ -99,9 +87,9 @@ fn sweep_image(
     let job = SweptJob {
         image,
         start,
-        delays: delays(controls),
-        signals: signals(controls),
-        budget: budget(controls),
+        delays: controls.delays(),
+        signals: controls.signals(),
+        budget: controls.budget(),
     };
     sweep(alloc, &job)
 }

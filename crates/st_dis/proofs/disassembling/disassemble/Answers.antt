@@ -7,11 +7,11 @@ use Rattle.st_dis.proofs.disassembling.disassemble.Goals as goal
 
 pub card_count-cards-requires-clause-few : goal.card_count-cards-requires-clause-few
 card_count-cards-requires-clause-few c =
-    let whole = c.requires.whole in omega (arith, whole, words_of_storage_is)
+    let whole = c.requires.image.size in omega (arith, whole, words_of_storage_is)
 
 pub push_deck-requires-clause-few : goal.push_deck-requires-clause-few
 push_deck-requires-clause-few c =
-    let whole = c.requires.whole in omega (arith, whole, words_of_storage_is)
+    let whole = c.requires.image.size in omega (arith, whole, words_of_storage_is)
 
 pub returns-in-Ok-clause-short : goal.returns-in-Ok-clause-short
 returns-in-Ok-clause-short c =

@@ -9,7 +9,7 @@ invariant_of-result c =
     rw c.fix_register.ensures
     (subst P (sym c.in-Ok.ensures.items)
     (is_machine-opening
-    c.args.image.now c.args.start c.requires.whole c.requires.registers
+    c.args.image.now c.args.start c.requires.image.size c.requires.image.registers
     (λ w. (c.type_inv.image w).fits) c.requires.counter))
 
 pub returns-clause-machine : goal.returns-clause-machine

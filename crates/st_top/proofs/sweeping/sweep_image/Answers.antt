@@ -11,5 +11,5 @@ returns-clause-value c =
 
 pub returns-clause-scene : goal.returns-clause-scene
 returns-clause-scene c =
-    sweeps_scene c.args.image.now c.args.start c.args.controls.now c.requires.whole c.requires.registers
+    sweeps_scene c.args.image.now c.args.start c.args.controls.now c.requires.image.size c.requires.image.registers
     (λ w. omega (arith, c.type_inv.image w)) c.requires.counter
