@@ -66,7 +66,7 @@ goes-by None false None m e = refl
 
 pub goes-passed : (m : Overlap) → answer m ≡ Goes → machine_after_settling m ≡ machine_after_pass m
 unfolding answer machine_after_settling
-goes-passed m e = goes-by (interrupt_due m) (rests m.state) m.behind m e
+goes-passed m e = goes-by (interrupt_due m) (rests m.state) m.missed m e
 
 pub late-ticked : (m : Overlap) → is_done m ≡ false → machine_after_tick m ≡ record m { owed = true; closing = None }
 unfolding machine_after_tick

@@ -86,7 +86,7 @@ stopped-comes ds n count now t s f due stops goes =
     let m = machine_after_completion (machine_between_ticks ds n s t f now) in
     let same = ticked-done ds n now t s f due in
     let goes_on : answer m ≡ Goes = ap {A = Overlap} answer (sym same) ∙ goes in
-    let parts = goes-parts (interrupt_due m) m.behind (rests m.state) m goes_on in
+    let parts = goes-parts (interrupt_due m) m.missed (rests m.state) m goes_on in
     ap {A = Overlap} (λ m. may_come_from_outside count m.state) same ∙ true_from_ne_false (may_come_from_outside count (state_after_execution t s)) (λ nothing. stops nothing parts.2 parts.0 parts.1)
 
 -- ---- ticks at which none is

@@ -108,23 +108,23 @@ settled-by-missed : (p : Option ℕ) (m : Overlap) → is_some p ≡ true → ma
 settled-by-missed (Some h) m e = refl
 settled-by-missed None m e = absurd (cc e)
 
-pub answer-missed : (m : Overlap) (d : ℕ) → d ≡ drop_count m → interrupt_due m ≡ None → rests m.state ≡ false → is_some m.behind ≡ true → Missed d ≡ answer m
+pub answer-missed : (m : Overlap) (d : ℕ) → d ≡ drop_count m → interrupt_due m ≡ None → rests m.state ≡ false → is_some m.missed ≡ true → Missed d ≡ answer m
 unfolding answer
-answer-missed m d count due goes missed = rw (due, goes, count) (answer-by-missed m.behind m missed)
+answer-missed m d count due goes missed = rw (due, goes, count) (answer-by-missed m.missed m missed)
 
-pub settled-missed : (m x : Overlap) → interrupt_due m ≡ None → rests m.state ≡ false → is_some m.behind ≡ true → x ≡ machine_after_pass (machine_after_segment m) → x ≡ machine_after_settling m
+pub settled-missed : (m x : Overlap) → interrupt_due m ≡ None → rests m.state ≡ false → is_some m.missed ≡ true → x ≡ machine_after_pass (machine_after_segment m) → x ≡ machine_after_settling m
 unfolding machine_after_settling
-settled-missed m x due goes missed is = rw (due, goes) (is ∙ settled-by-missed m.behind m missed)
+settled-missed m x due goes missed is = rw (due, goes) (is ∙ settled-by-missed m.missed m missed)
 
 pub none-behind : (p : Option ℕ) → is_some p ≡ false → p ≡ None
 none-behind None e = refl
 none-behind (Some h) e = absurd (cc e)
 
-pub answer-goes : (m : Overlap) → interrupt_due m ≡ None → rests m.state ≡ false → m.behind ≡ None → Goes ≡ answer m
+pub answer-goes : (m : Overlap) → interrupt_due m ≡ None → rests m.state ≡ false → m.missed ≡ None → Goes ≡ answer m
 unfolding answer
 answer-goes m due goes right = rw (due, goes, right) refl
 
-pub settled-goes : (m x : Overlap) → interrupt_due m ≡ None → rests m.state ≡ false → m.behind ≡ None → x ≡ machine_after_pass m → x ≡ machine_after_settling m
+pub settled-goes : (m x : Overlap) → interrupt_due m ≡ None → rests m.state ≡ false → m.missed ≡ None → x ≡ machine_after_pass m → x ≡ machine_after_settling m
 unfolding machine_after_settling
 settled-goes m x due goes right is = rw (due, goes, right) is
 
@@ -427,11 +427,11 @@ both-none (Some h) d none = absurd (cc none)
 both-none None (Some i) none = absurd (cc none)
 both-none None None none = (refl, refl)
 
-pub goes-yes : (m : Overlap) (ends waits : Bool) → ends ≡ (is_some m.behind || is_some (interrupt_due m)) → ends ≡ false
-    → waits ≡ rests m.state → not waits ≡ true → (interrupt_due m ≡ None) × (rests m.state ≡ false) × (m.behind ≡ None)
+pub goes-yes : (m : Overlap) (ends waits : Bool) → ends ≡ (is_some m.missed || is_some (interrupt_due m)) → ends ≡ false
+    → waits ≡ rests m.state → not waits ≡ true → (interrupt_due m ≡ None) × (rests m.state ≡ false) × (m.missed ≡ None)
 goes-yes m ends true is none by goes = absurd (cc goes)
 goes-yes m ends false is none by goes =
-    let both = both-none m.behind (interrupt_due m) (sym is ∙ none) in
+    let both = both-none m.missed (interrupt_due m) (sym is ∙ none) in
     (both.0, sym by, both.1)
 
 some-first : (b d r : Bool) → (b || d) ≡ true → (b || d || r) ≡ true
@@ -444,13 +444,13 @@ some-last true d r some = refl
 some-last false true r some = refl
 some-last false false r some = some
 
-pub goes-not : (m : Overlap) (ends : Bool) → ends ≡ (is_some m.behind || is_some (interrupt_due m)) → ends ≡ true
-    → (is_some m.behind || is_some (interrupt_due m) || rests m.state) ≡ true
-goes-not m ends is some = some-first (is_some m.behind) (is_some (interrupt_due m)) (rests m.state) (sym is ∙ some)
+pub goes-not : (m : Overlap) (ends : Bool) → ends ≡ (is_some m.missed || is_some (interrupt_due m)) → ends ≡ true
+    → (is_some m.missed || is_some (interrupt_due m) || rests m.state) ≡ true
+goes-not m ends is some = some-first (is_some m.missed) (is_some (interrupt_due m)) (rests m.state) (sym is ∙ some)
 
 pub goes-no : (m : Overlap) (waits : Bool) → waits ≡ rests m.state → not waits ≡ false
-    → (is_some m.behind || is_some (interrupt_due m) || rests m.state) ≡ true
-goes-no m true by waits = some-last (is_some m.behind) (is_some (interrupt_due m)) (rests m.state) (sym by)
+    → (is_some m.missed || is_some (interrupt_due m) || rests m.state) ≡ true
+goes-no m true by waits = some-last (is_some m.missed) (is_some (interrupt_due m)) (rests m.state) (sym by)
 goes-no m false by waits = absurd (cc waits)
 
 missed-by : (b : Bool) (d : Option ℕ) (r : Bool) → d ≡ None → r ≡ false → (b || is_some d || r) ≡ true → b ≡ true
@@ -460,5 +460,5 @@ missed-by false None true none goes some = absurd (cc goes)
 missed-by false None false none goes some = absurd (cc some)
 
 pub misled : (m : Overlap) → interrupt_due m ≡ None → rests m.state ≡ false
-    → (is_some m.behind || is_some (interrupt_due m) || rests m.state) ≡ true → is_some m.behind ≡ true
-misled m none goes some = missed-by (is_some m.behind) (interrupt_due m) (rests m.state) none goes some
+    → (is_some m.missed || is_some (interrupt_due m) || rests m.state) ≡ true → is_some m.missed ≡ true
+misled m none goes some = missed-by (is_some m.missed) (interrupt_due m) (rests m.state) none goes some

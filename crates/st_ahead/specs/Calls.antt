@@ -41,7 +41,7 @@ unfoldable pub machine_after_completion : Overlap → Overlap
 machine_after_completion m = record m {
   state = state_after_execution m.taken m.state;
   taken = None;
-  behind = missed_counter m;
+  missed = missed_counter m;
   front = front_after_entry m.delays m.levels m.front (oldest_entry m);
   owed = true;
   closing = Some (banks_at_its_end m);
@@ -89,7 +89,7 @@ abbrev pub machine_after_pass : Overlap → Overlap
 machine_after_pass m = record m {
   owed = false;
   ended = false;
-  behind = None;
+  missed = None;
   closing = None;
   now = m.now + 1;
 }
@@ -97,26 +97,26 @@ machine_after_pass m = record m {
 -- the machine once the tick is settled: an interrupt is taken, or the machine waits, or a branch
 -- was missed, or it goes on
 abbrev pub settled_by : Option ℕ → Bool → Option ℕ → Overlap → Overlap
-settled_by (Some i) at_rest behind m = machine_after_pass
+settled_by (Some i) at_rest missed m = machine_after_pass
     (record (machine_after_segment m) { taken = Some i })
-settled_by None true behind m = machine_after_segment m
+settled_by None true missed m = machine_after_segment m
 settled_by None false (Some h) m = machine_after_pass (machine_after_segment m)
 settled_by None false None m = machine_after_pass m
 
 -- what settling answers in each of these cases
 abbrev pub answer_by : Option ℕ → Bool → Option ℕ → Overlap → Settled
-answer_by (Some i) at_rest behind m = Interrupt i m.state.done m.state.ic (drop_count m)
-answer_by None true behind m = Waits
+answer_by (Some i) at_rest missed m = Interrupt i m.state.done m.state.ic (drop_count m)
+answer_by None true missed m = Waits
 answer_by None false (Some h) m = Missed (drop_count m)
 answer_by None false None m = Goes
 
 -- the machine once its tick is settled
 unfoldable pub machine_after_settling : Overlap → Overlap
-machine_after_settling m = settled_by (interrupt_due m) (rests m.state) m.behind m
+machine_after_settling m = settled_by (interrupt_due m) (rests m.state) m.missed m
 
 -- what settling it answers
 unfoldable pub answer : Overlap → Settled
-answer m = answer_by (interrupt_due m) (rests m.state) m.behind m
+answer m = answer_by (interrupt_due m) (rests m.state) m.missed m
 
 -- ---- from outside
 

@@ -18,12 +18,12 @@ answers_before now v = record { ticks = answers_left now v.log v.next.words.bus.
 -- what it stands for, by what it keeps; `fresh` says whether an entry was done at this tick
 abbrev pub overlap_of : ℕ → List ℕ → Machine → Option ℕ → Option ℕ → ℕ → Bool → Bool → Bool → Bool →
     LookaheadView → Overlap
-overlap_of n delays state taken behind now owed ended stopped fresh v = record {
+overlap_of n delays state taken missed now owed ended stopped fresh v = record {
   delays = delays;
   levels = n;
   state = state;
   taken = taken;
-  behind = behind;
+  missed = missed;
   front = oldest_front v.levels.plans v.front;
   now = now;
   owed = owed;
@@ -60,7 +60,7 @@ pub record IsInside (m : Overlap) (fresh : Bool) (v : LookaheadView) : Type 0 wh
   pub in_time : IsInTime m.owed m.now
   pub settled : m.owed ≡ false → (fresh ≡ false) × (m.ended ≡ false) × (m.stopped ≡ false)
   pub quiet : fresh ≡ false →
-      (interrupt_due m ≡ None) × (rests m.state ≡ false) × (m.behind ≡ None)
+      (interrupt_due m ≡ None) × (rests m.state ≡ false) × (m.missed ≡ None)
   pub done : fresh ≡ true →
       (m.taken ≡ None) × All (λ b. b ≤ m.now + MOST_DELAY) (answers_before m.now v).ticks
       × (m.ended ≡ false → m.front.c ≡ m.now)

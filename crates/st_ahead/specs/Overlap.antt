@@ -22,7 +22,7 @@ pub record Overlap : Type 0 where
   pub levels : ℕ
   pub state : Machine
   pub taken : Option ℕ
-  pub behind : Option ℕ
+  pub missed : Option ℕ
   pub front : Front
   pub now : ℕ
   pub owed : Bool
@@ -41,7 +41,7 @@ machine_between_ticks ds n s t f now = record {
   levels = n;
   state = s;
   taken = t;
-  behind = None;
+  missed = None;
   front = f;
   now = now;
   owed = false;
@@ -62,7 +62,7 @@ with_counter (Some h) s = record s { ic = h }
 -- the state that what runs ahead goes on from: behind a missed branch, with the counter of the
 -- guess
 unfoldable pub state_ahead : Overlap → Machine
-state_ahead m = if m.ended then m.state else with_counter m.behind m.state
+state_ahead m = if m.ended then m.state else with_counter m.missed m.state
 
 -- the entry that is done next
 abbrev pub oldest_entry : Overlap → Entry

@@ -10,7 +10,7 @@ use st_banks::{Delays, LastAnswers};
 use st_exec::is_at_rest;
 use st_prep::place_of;
 use st_ring::SpecRing;
-use st_state::State;
+use st_state::{State, counter_in, done_in};
 use std::marker::Model;
 
 /// A machine with N levels, 1 to 8, over storage whose reads take the given delays. Its calls take
@@ -20,11 +20,17 @@ use std::marker::Model;
 pub struct Machine<const N: usize> {
     delays: Delays,
     present: Present,
-    behind: Option<u32>,
+    // The counter behind a branch that was missed at this tick.
+    missed: Option<u32>,
+    // The tick that comes next, or that is not settled yet.
     now: u64,
+    // Whether that tick is not settled yet.
     owed: bool,
+    // Whether the segment has ended at it.
     ended: bool,
+    // Whether the run has ended at it.
     stopped: bool,
+    // Whether an entry was done at it.
     fresh: bool,
     lookahead: Lookahead<N>,
 }
@@ -36,11 +42,11 @@ impl<const N: usize> Model for Machine<N> {
 
     ghost Value = { Overlap };
 
-    ghost view = { λ a. overlap_of N a.delays.list a.present.state a.present.taken a.behind a.now
+    ghost view = { λ a. overlap_of N a.delays.list a.present.state a.present.taken a.missed a.now
         a.owed a.ended a.stopped a.fresh a.lookahead };
 
     ghost invariant = { λ a. IsInside (overlap_of N a.delays.list a.present.state a.present.taken
-        a.behind a.now a.owed a.ended a.stopped a.fresh a.lookahead) a.fresh a.lookahead };
+        a.missed a.now a.owed a.ended a.stopped a.fresh a.lookahead) a.fresh a.lookahead };
 }
 
 impl<const N: usize> Machine<N> {
@@ -69,7 +75,7 @@ impl<const N: usize> Machine<N> {
         Machine {
             delays,
             present: Present { state, taken: None },
-            behind: None,
+            missed: None,
             now: 0,
             owed: false,
             ended: false,
@@ -97,7 +103,7 @@ impl<const N: usize> Machine<N> {
             return Event::Passed;
         };
         self.present.taken = None;
-        self.behind = done.missed;
+        self.missed = done.missed;
         self.fresh = true;
         Event::Done(Row {
             number,
@@ -139,7 +145,7 @@ impl<const N: usize> Machine<N> {
             self.now = last + 1;
             return None;
         };
-        self.behind = stop.done.missed;
+        self.missed = stop.done.missed;
         self.fresh = true;
         self.owed = true;
         self.now = stop.tick;
@@ -185,7 +191,7 @@ impl<const N: usize> Machine<N> {
         requires stands { self.old.stopped ≡ false }
         requires due { interrupt_due_of self.old ≡ None }
         requires goes { rests self.old.state ≡ false }
-        requires right { self.old.behind ≡ None }
+        requires right { self.old.missed ≡ None }
 
         ensures { self.new ≡ machine_after_pass self.old }
     {
@@ -203,8 +209,8 @@ impl<const N: usize> Machine<N> {
     // Whether nothing else comes behind the last tick than that it goes on.
     fn goes_on(&self) -> bool
         ensures yes { result ≡ true → (interrupt_due_of self.entry.now ≡ None)
-            × (rests self.entry.now.state ≡ false) × (self.entry.now.behind ≡ None) }
-        ensures no { result ≡ false → (is_some self.entry.now.behind
+            × (rests self.entry.now.state ≡ false) × (self.entry.now.missed ≡ None) }
+        ensures no { result ≡ false → (is_some self.entry.now.missed
             || is_some (interrupt_due_of self.entry.now)
             || rests self.entry.now.state) ≡ true }
         ensures done { result ≡ false → IsSome self.entry.now.closing }
@@ -223,7 +229,7 @@ impl<const N: usize> Machine<N> {
     fn is_fresh(&self) -> bool
         ensures yes { result ≡ true → IsSome self.entry.now.closing }
         ensures no { result ≡ false → (interrupt_due_of self.entry.now ≡ None)
-            × (rests self.entry.now.state ≡ false) × (self.entry.now.behind ≡ None) }
+            × (rests self.entry.now.state ≡ false) × (self.entry.now.missed ≡ None) }
     {
         self.fresh
     }
@@ -248,15 +254,15 @@ impl<const N: usize> Machine<N> {
 
     // Whether a branch was missed at this tick.
     fn is_misled(&self) -> bool
-        ensures { result ≡ is_some self.entry.now.behind }
+        ensures { result ≡ is_some self.entry.now.missed }
     {
-        self.behind.is_some()
+        self.missed.is_some()
     }
 
     /// Whether an interrupt is due or a branch was missed, so that the next decision ends the
     /// segment.
     pub fn ends(&self) -> bool
-        ensures { result ≡ (is_some self.entry.now.behind
+        ensures { result ≡ (is_some self.entry.now.missed
             || is_some (interrupt_due_of self.entry.now)) }
     {
         self.is_misled() || self.interrupt_due().is_some()
@@ -293,10 +299,10 @@ impl<const N: usize> Machine<N> {
         let dropped = self.end();
         let place = place_of(&self.present.state, Some(indicator));
         let done = done_in(&self.present.state);
-        let ic = counter_of(&self.present.state);
+        let ic = counter_in(&self.present.state);
         self.lookahead.stand(place);
         self.present.taken = Some(indicator);
-        self.behind = None;
+        self.missed = None;
         self.owed = false;
         self.ended = false;
         self.fresh = false;
@@ -320,7 +326,7 @@ impl<const N: usize> Machine<N> {
 
         ensures { self.new ≡ machine_after_pass self.old }
     {
-        self.behind = None;
+        self.missed = None;
         self.owed = false;
         self.ended = false;
         self.fresh = false;
@@ -513,18 +519,4 @@ impl<const N: usize> Machine<N> {
     {
         &self.present.state
     }
-}
-
-// The number of instructions done.
-fn done_in(state: &State) -> u64
-    ensures { result ≡ state.now.done }
-{
-    state.done
-}
-
-// The counter.
-fn counter_of(state: &State) -> u32
-    ensures { result ≡ state.now.ic }
-{
-    state.ic
 }

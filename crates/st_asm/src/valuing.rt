@@ -6,7 +6,6 @@ ghost use Rattle.st_asm.specs.Checks.{value_fault, in_storage};
 ghost use Rattle.st_asm.specs.Valuing as spec;
 ghost use Rattle.st_asm.specs.Forming.{is_end};
 ghost use Rattle.st_asm.specs.Laying.{half_word_bits};
-ghost use Rattle.st_bits.specs.Storage.{words_of_storage};
 ghost use Rattle.st_asm.specs.Sound.{IsRow, IsLocation};
 ghost use Rattle.st_asm.specs.Kept.{IsSoundLayout};
 ghost use Rattle.st_strap.specs.WellFormed.{IsWellFormed, IsWellFormedIfAny};
@@ -18,7 +17,7 @@ use crate::line::Line;
 use crate::places::role_of;
 use crate::stop::{AsmError, PassStop};
 use crate::values::{Values, values_of};
-use st_bits::{WORDS, put_field};
+use st_bits::{number_of_words, put_field};
 use st_expr::Symbols;
 use st_strap::CompactStatement;
 use std::alloc::{AllocError, Global};
@@ -90,13 +89,6 @@ fn empty_layout(alloc: Global) -> Result<Layout, AllocError>
         start: 0,
         rows: Vec::new(alloc),
     })
-}
-
-// The words of storage.
-fn number_of_words() -> usize
-    ensures { result ≡ words_of_storage }
-{
-    WORDS as usize
 }
 
 // A card more.

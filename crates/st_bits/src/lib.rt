@@ -17,4 +17,4 @@ pub use limits::WORDS;
 pub use operations::{BranchOp, ConnKind, HalfOp, VflOp};
 pub use parts::{part, with_part};
 pub use register::fix_register;
-pub use storage::{Ind, NoMemory, indicator};
+pub use storage::{Ind, NoMemory, indicator, number_of_words};

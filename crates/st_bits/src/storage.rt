@@ -1,6 +1,9 @@
 //! Storage as a whole, and the indicators as bits of a word. `docs/machine.md` has the rules.
 ghost use Rattle.std.specs.Prelude.{◌≡◌, ◌<◌};
 ghost use Rattle.st_bits.specs.Indicators.{indicator as indicator_of};
+ghost use Rattle.st_bits.specs.Storage.{words_of_storage};
+
+use crate::limits::WORDS;
 
 /// Memory ran out.
 #[derive(Clone, Copy, Debug, PartialEq, Eq)]
@@ -22,4 +25,12 @@ pub fn indicator(n: u8) -> u64
     ensures { result ≡ indicator_of n }
 {
     1 << (63 - n)
+}
+
+/// How many words storage has.
+#[tactic(auto, using(crate::specs::Storage::words_of_storage_is))]
+pub fn number_of_words() -> usize
+    ensures { result ≡ words_of_storage }
+{
+    WORDS as usize
 }

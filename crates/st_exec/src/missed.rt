@@ -1,6 +1,5 @@
 //! Whether the guess by which an entry was prepared is wrong.
 ghost use Rattle.std.specs.Prelude.{◌≡◌};
-ghost use Rattle.st_state.specs.Interrupts.{indicator_word as turned_of};
 ghost use Rattle.st_prep.specs.Ranges.{IsPrepared};
 ghost use Rattle.st_exec.specs.Completion.{is_missed as is_missed_of};
 
@@ -8,14 +7,7 @@ use st_bits::part;
 use st_bits::register::INDICATORS;
 use st_format::Instr;
 use st_prep::Prepared;
-use st_state::State;
-
-// The indicators with those of `on` turned on and the others of `off` turned off.
-fn turned(indicators: u64, on: u64, off: u64) -> u64
-    ensures { result ≡ turned_of 64 on off indicators }
-{
-    (indicators & !off) | on
-}
+use st_state::{State, turned};
 
 /// Whether the guess of an entry that is prepared of this state is wrong: it is of a branch on an
 /// indicator that is taken, wherever it leads to.

@@ -240,8 +240,8 @@ fn zero_for(word: Option<u32>) -> Option<u64>
     }
 }
 
-// Makes the change of an index word, if there is one.
-fn change_index(index: Option<IndexChange>, x: &mut [u64; 16])
+/// Makes the change of an index word, if there is one.
+pub fn change_index(index: Option<IndexChange>, x: &mut [u64; 16])
     requires { IfSome index IsChange }
     ensures { x.new ≡ words_after x.old index }
 {

@@ -137,7 +137,7 @@ unfolding machine_after_settling
 within-settled most made since m is owed w = elim (closing-cases m.closing) [
   | inl none ↦ let idle : IsIdle m = subst (λ c. IsPhase c m) none is.phase in
       subst (λ (x : Overlap). IsWithin most x made since) (sym (settled-idle_is m idle)) (within-passed most made since m owed w)
-  | inr some ↦ within-settled_fresh (interrupt_due m) m.behind (rests m.state) most made since m is some w
+  | inr some ↦ within-settled_fresh (interrupt_due m) m.missed (rests m.state) most made since m is some w
 ]
 
 within-ticked : (most made since : ℕ) (m : Overlap) → AreDelaysUpTo most m.delays → IsKept m → m.owed ≡ false → IsWithin most m made since
@@ -188,7 +188,7 @@ settled_by-delays None None false m = refl
 
 settled-delays : (m : Overlap) → (machine_after_settling m).delays ≡ m.delays
 unfolding machine_after_settling
-settled-delays m = settled_by-delays (interrupt_due m) m.behind (rests m.state) m
+settled-delays m = settled_by-delays (interrupt_due m) m.missed (rests m.state) m
 
 read-within : (most made since w : ℕ) (m : Overlap) (card : Option (List ℕ)) → IsKept m → IsSome m.closing → IsWithin most m made since
     → IsWithin most (read_in_by w card m) made since
@@ -288,7 +288,7 @@ settled_by-state None None false m = refl
 
 pub settled-state : (m : Overlap) → (machine_after_settling m).state ≡ m.state
 unfolding machine_after_settling
-settled-state m = settled_by-state (interrupt_due m) m.behind (rests m.state) m
+settled-state m = settled_by-state (interrupt_due m) m.missed (rests m.state) m
 
 counted : (most : ℕ) {m : Overlap} {made since : ℕ} → IsReached m made since → AreDelaysUpTo most m.delays → IsCounted (64 * (most + 4)) made since m
 counted most (Starts ds n s can) are = omega arith

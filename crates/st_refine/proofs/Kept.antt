@@ -39,7 +39,7 @@ pub record IsIdle (m : Overlap) : Type 0 where
   pub table : m.taken ≡ interrupt m.state
   pub awake : rests m.state ≡ false
   pub going : m.ended ≡ false
-  pub right : m.behind ≡ None
+  pub right : m.missed ≡ None
   pub early : ticks_made m ≤ next_row m
   pub unstarted : m.owed ≡ false → m.now ≡ 0 → (m.state.enabled ≡ false) × (m.state.waiting ≡ false)
 
@@ -60,7 +60,7 @@ pub record IsKept (m : Overlap) : Type 0 where
   pub delays : AreDelaysUpTo 255 m.delays
   pub machine : IsMachine m.state
   pub indicator : IfSome m.taken (λ i. i < 64)
-  pub counter : IfSome m.behind (λ h. h < 2 ^ 19)
+  pub counter : IfSome m.missed (λ h. h < 2 ^ 19)
   pub phase : IsPhase m.closing m
 
 -- which of the two it is
@@ -150,9 +150,9 @@ seen-by : (over : Bool) (behind : Option ℕ) (s : Machine) → over ≡ false �
 seen-by over None s going right = of_choice (λ u. u ≡ s) over s s refl refl
 seen-by over (Some h) s going right = absurd (cc right)
 
-pub seen-idle : (m : Overlap) → m.ended ≡ false → m.behind ≡ None → state_ahead m ≡ m.state
+pub seen-idle : (m : Overlap) → m.ended ≡ false → m.missed ≡ None → state_ahead m ≡ m.state
 unfolding state_ahead
-seen-idle m going right = seen-by m.ended m.behind m.state going right
+seen-idle m going right = seen-by m.ended m.missed m.state going right
 
 -- the row of the oldest entry is that of the next one of the state
 pub row-idle : (m : Overlap) → IsIdle m → (oldest_row m).c ≡ next_row m
@@ -247,7 +247,7 @@ pub record IsEnded (m e : Overlap) : Type 0 where
   pub levels : e.levels ≡ m.levels
   pub state : e.state ≡ m.state
   pub taken : e.taken ≡ m.taken
-  pub behind : e.behind ≡ m.behind
+  pub behind : e.missed ≡ m.missed
   pub now : e.now ≡ m.now
   pub owed : e.owed ≡ m.owed
   pub ended : e.ended ≡ true
@@ -374,7 +374,7 @@ pub kept-settled : (m : Overlap) → IsKept m → m.owed ≡ true → IsKept (ma
 unfolding machine_after_settling
 kept-settled m is owed = elim (closing-cases m.closing) [
   | inl none ↦ let idle : IsIdle m = subst (λ c. IsPhase c m) none is.phase in subst IsKept (sym (settled-idle_is m idle)) (settled-idle m is idle owed)
-  | inr some ↦ settled-fresh (interrupt_due m) m.behind (rests m.state) m is some refl refl
+  | inr some ↦ settled-fresh (interrupt_due m) m.missed (rests m.state) m is some refl refl
 ]
 
 -- ---- from outside
@@ -460,7 +460,7 @@ settled_by-stopped None None false m = refl
 
 pub settled-stopped : (m : Overlap) → (machine_after_settling m).stopped ≡ m.stopped
 unfolding machine_after_settling
-settled-stopped m = settled_by-stopped (interrupt_due m) m.behind (rests m.state) m
+settled-stopped m = settled_by-stopped (interrupt_due m) m.missed (rests m.state) m
 
 pub ticked-stopped : (m : Overlap) → (machine_after_tick m).stopped ≡ m.stopped
 unfolding machine_after_tick machine_after_completion

@@ -285,7 +285,7 @@ pub stands-goes : (m : Overlap) (j : ℕ) (o : Opening) (xs : List Outside) → 
     → StandsAt o xs j (machine_after_settling m)
 unfolding answer
 stands-goes m j o xs owed is stands =
-    let why = goes-by (interrupt_due m) m.behind (rests m.state) m is in
+    let why = goes-by (interrupt_due m) m.missed (rests m.state) m is in
     subst (StandsAt o xs j) (sym (settled-goes m why)) (stands-passed m j o xs owed stands)
 
 -- ---- the end of a segment
@@ -348,21 +348,21 @@ pub stands-interrupt : (m : Overlap) (i d ic k : ℕ) (o : Opening) (xs : List O
     → StandsAt (record o { table = Some i }) xs 0 (machine_after_settling m)
 unfolding answer
 stands-interrupt m i d ic k o xs is stands =
-    let told = taken-by (interrupt_due m) m.behind (rests m.state) m i d ic k is in
+    let told = taken-by (interrupt_due m) m.missed (rests m.state) m i d ic k is in
     subst (StandsAt (record o { table = Some i }) xs 0) (sym (settled-taken m i told.0)) (with-table o (Some i) xs (machine_after_segment m) stands)
 
 pub stands-missed : (m : Overlap) (k : ℕ) (o : Opening) (xs : List Outside) → m.owed ≡ true → answer m ≡ Missed k → StandsAt o xs 0 (machine_after_segment m)
     → StandsAt o xs 0 (machine_after_settling m)
 unfolding answer machine_after_settling
 stands-missed m k o xs owed is stands =
-    let told = missed-by (interrupt_due m) m.behind (rests m.state) m k is in
-    subst (StandsAt o xs 0) (sym (settled-missed m m.behind told.0 told.1 told.2))
+    let told = missed-by (interrupt_due m) m.missed (rests m.state) m k is in
+    subst (StandsAt o xs 0) (sym (settled-missed m m.missed told.0 told.1 told.2))
     (stands-passed (machine_after_segment m) 0 o xs ((ended-rest m).owed ∙ owed) stands)
 
 pub waits-ended : (m : Overlap) → answer m ≡ Waits → machine_after_settling m ≡ machine_after_segment m
 unfolding answer machine_after_settling
 waits-ended m is =
-    let told = waits-by (interrupt_due m) m.behind (rests m.state) m is in
+    let told = waits-by (interrupt_due m) m.missed (rests m.state) m is in
     rw (told.0, told.1) refl
 
 pub stands-card : (m : Overlap) (w : ℕ) (card : List ℕ) (o : Opening) (xs : List Outside) → StandsAt o xs 0 (machine_after_segment m)

@@ -41,7 +41,7 @@ completed-tick : (m : Overlap) → (view_at_tick (machine_after_completion m)).t
 unfolding machine_after_completion view_at_tick
 completed-tick m = refl
 
-completed-behind : (m : Overlap) → (machine_after_completion m).behind ≡ missed_counter m
+completed-behind : (m : Overlap) → (machine_after_completion m).missed ≡ missed_counter m
 unfolding machine_after_completion
 completed-behind m = refl
 
@@ -101,8 +101,8 @@ pub tick-times : (m : Overlap) → is_done m ≡ true
 unfolding oldest_row front_behind guesses
 tick-times m done = (refl, refl, sym (eqb-true (oldest_row m).c m.now done))
 
-pub tick-missed : (m : Overlap) → is_done m ≡ true → (machine_after_tick m).behind ≡ missed_counter m
-tick-missed m done = ap (λ (x : Overlap). x.behind) (ticked-done m done) ∙ completed-behind m
+pub tick-missed : (m : Overlap) → is_done m ≡ true → (machine_after_tick m).missed ≡ missed_counter m
+tick-missed m done = ap (λ (x : Overlap). x.missed) (ticked-done m done) ∙ completed-behind m
 
 passed-levels : (m : Overlap) → levels_of (record m { owed = true; closing = None }) ≡ levels_of m
 unfolding levels_of state_ahead
@@ -151,15 +151,15 @@ waits-by None None false m is = absurd (cc is)
 
 -- ---- it goes on
 
-pub settled-goes : (m : Overlap) → (interrupt_due m ≡ None) × (rests m.state ≡ false) × (m.behind ≡ None) → machine_after_settling m ≡ machine_after_pass m
+pub settled-goes : (m : Overlap) → (interrupt_due m ≡ None) × (rests m.state ≡ false) × (m.missed ≡ None) → machine_after_settling m ≡ machine_after_pass m
 unfolding machine_after_settling
 settled-goes m why = rw (why.0, why.1, why.2) refl
 
-passed-more : (m : Overlap) → m.behind ≡ None → AddsOneAtMost (levels_of m) (levels_of (machine_after_pass m))
+passed-more : (m : Overlap) → m.missed ≡ None → AddsOneAtMost (levels_of m) (levels_of (machine_after_pass m))
 unfolding levels_of state_ahead
 passed-more m right =
     let new = prepared_before (m.now + 1) (ahead m.delays m.levels m.levels m.taken m.state m.front) in
-    subst (λ s. AddsOneAtMost (prepared_before m.now (ahead m.delays m.levels m.levels m.taken s m.front)) new) (same m.ended m.behind right)
+    subst (λ s. AddsOneAtMost (prepared_before m.now (ahead m.delays m.levels m.levels m.taken s m.front)) new) (same m.ended m.missed right)
     (one-more m.delays m.levels m.now m.levels m.taken m.state m.front)
   where
     same : (b : Bool) (h : Option ℕ) → h ≡ None → m.state ≡ (if b then m.state else with_counter h m.state)
@@ -170,7 +170,7 @@ passed-more m right =
 pub goes-more : (m : Overlap) → answer m ≡ Goes → AddsOneAtMost (levels_of m) (levels_of (machine_after_settling m))
 unfolding answer
 goes-more m is =
-    let why = goes-by (interrupt_due m) m.behind (rests m.state) m is in
+    let why = goes-by (interrupt_due m) m.missed (rests m.state) m is in
     subst (λ (x : Overlap). AddsOneAtMost (levels_of m) (levels_of x)) (sym (settled-goes m why)) (passed-more m why.2)
 
 -- ---- a segment ends
@@ -221,10 +221,10 @@ none-some : (o : Option ℕ) → o ≡ None → IsSome o → ⊥
 none-some None none some = cc some
 none-some (Some h) none some = cc none
 
-closing-missed : (m : Overlap) → IsKept m → IsSome m.behind → IsSome m.closing
+closing-missed : (m : Overlap) → IsKept m → IsSome m.missed → IsSome m.closing
 closing-missed m is missed = elim (closing-cases m.closing) [
   | inl none ↦ let idle : IsIdle m = subst (λ c. IsPhase c m) none is.phase in
-      absurd (none-some m.behind idle.right missed)
+      absurd (none-some m.missed idle.right missed)
   | inr some ↦ some
 ]
 
@@ -236,7 +236,7 @@ closing-rests m is resting = elim (closing-cases m.closing) [
 
 pub settled-taken : (m : Overlap) (i : ℕ) → interrupt_due m ≡ Some i → machine_after_settling m ≡ machine_after_pass (record (machine_after_segment m) { taken = Some i })
 unfolding machine_after_settling
-settled-taken m i due = ap (λ t. settled_by t (rests m.state) m.behind m) due
+settled-taken m i due = ap (λ t. settled_by t (rests m.state) m.missed m) due
 
 pub interrupt-unwinds : (m : Overlap) (made since i d ic k : ℕ) → IsReached m made since → m.owed ≡ true → answer m ≡ Interrupt i d ic k
     → (interrupt m.state ≡ Some i) × (d ≡ m.state.done) × (ic ≡ m.state.ic) × (k ≡ length (levels_of m)) × ((machine_after_settling m).taken ≡ Some i)
@@ -244,7 +244,7 @@ pub interrupt-unwinds : (m : Overlap) (made since i d ic k : ℕ) → IsReached 
 unfolding answer
 interrupt-unwinds m made since i d ic k from owed is =
     let kept_is = kept from in
-    let told = taken-by (interrupt_due m) m.behind (rests m.state) m i d ic k is in
+    let told = taken-by (interrupt_due m) m.missed (rests m.state) m i d ic k is in
     let some = closing-due m i kept_is told.0 in
     let after_it = settled-taken m i told.0 in (
       (due-taken m i told.0).1,
@@ -265,9 +265,9 @@ pub missed-unwinds : (m : Overlap) (made since k : ℕ) → IsReached m made sin
 unfolding answer machine_after_settling
 missed-unwinds m made since k from owed is =
     let kept_is = kept from in
-    let told = missed-by (interrupt_due m) m.behind (rests m.state) m k is in
+    let told = missed-by (interrupt_due m) m.missed (rests m.state) m k is in
     let some = closing-missed m kept_is told.2 in
-    let after_it = settled-missed m m.behind told.0 told.1 told.2 in (
+    let after_it = settled-missed m m.missed told.0 told.1 told.2 in (
       told.3 ∙ dropped-is m kept_is some,
       subst IsUnwound (sym after_it) (unwound-passed m (machine_after_segment m).taken kept_is some),
     )
@@ -277,9 +277,9 @@ pub waits-unwinds : (m : Overlap) (made since : ℕ) → IsReached m made since 
 unfolding answer machine_after_settling
 waits-unwinds m made since from owed is =
     let kept_is = kept from in
-    let told = waits-by (interrupt_due m) m.behind (rests m.state) m is in
+    let told = waits-by (interrupt_due m) m.missed (rests m.state) m is in
     let some = closing-rests m kept_is told.1 in
-    let after_it : settled_by (interrupt_due m) (rests m.state) m.behind m ≡ machine_after_segment m = rw (told.0, told.1) refl in
+    let after_it : settled_by (interrupt_due m) (rests m.state) m.missed m ≡ machine_after_segment m = rw (told.0, told.1) refl in
     (told.1, subst IsUnwound (sym after_it) (unwound-ended m kept_is some))
 
 -- where no entry was done at the tick, the segment has not ended before

@@ -41,30 +41,30 @@ pub seen-machine : (m : Overlap) → IsKept m → IsMachine (state_ahead m)
 unfolding state_ahead
 seen-machine m is = by-end m.ended
   where
-    by-end : (b : Bool) → IsMachine (if b then m.state else with_counter m.behind m.state)
+    by-end : (b : Bool) → IsMachine (if b then m.state else with_counter m.missed m.state)
     by-end true = is.machine
-    by-end false = counted-machine m.behind m.state is.machine is.counter
+    by-end false = counted-machine m.missed m.state is.machine is.counter
 
 pub seen-index : (m : Overlap) → index_words (state_ahead m) ≡ index_words m.state
 unfolding state_ahead
 seen-index m = by-end m.ended
   where
-    by-end : (b : Bool) → index_words (if b then m.state else with_counter m.behind m.state) ≡ index_words m.state
+    by-end : (b : Bool) → index_words (if b then m.state else with_counter m.missed m.state) ≡ index_words m.state
     by-end true = refl
-    by-end false = counted-index m.behind m.state
+    by-end false = counted-index m.missed m.state
 
 seen-by : (over : Bool) (behind : Option ℕ) (h : ℕ) (s : Machine) → over ≡ false → behind ≡ Some h
     → (if over then s else with_counter behind s) ≡ record s { ic = h }
 seen-by true behind h s going missed = absurd (cc going)
 seen-by false behind h s going missed = ap (λ c. with_counter c s) missed
 
-pub seen-missed : (m : Overlap) (h : ℕ) → m.ended ≡ false → m.behind ≡ Some h → state_ahead m ≡ record m.state { ic = h }
+pub seen-missed : (m : Overlap) (h : ℕ) → m.ended ≡ false → m.missed ≡ Some h → state_ahead m ≡ record m.state { ic = h }
 unfolding state_ahead
-seen-missed m h going missed = seen-by m.ended m.behind h m.state going missed
+seen-missed m h going missed = seen-by m.ended m.missed h m.state going missed
 
 pub seen-ended : (m : Overlap) → m.ended ≡ true → state_ahead m ≡ m.state
 unfolding state_ahead
-seen-ended m over = ap (λ b. if b then m.state else with_counter m.behind m.state) over
+seen-ended m over = ap (λ b. if b then m.state else with_counter m.missed m.state) over
 
 pub seen-settled : (m : Overlap) (made since : ℕ) → IsReached m made since → m.owed ≡ false → state_ahead m ≡ m.state
 seen-settled m made since from settled =

@@ -131,9 +131,9 @@ seen-alike : (m : Overlap) (u : Machine) → AreAlikeBesideOrders m.state u → 
 unfolding state_ahead
 seen-alike m u is = by-end m.ended
   where
-    by-end : (b : Bool) → AreAlikeBesideOrders (if b then m.state else with_counter m.behind m.state) (if b then u else with_counter m.behind u)
+    by-end : (b : Bool) → AreAlikeBesideOrders (if b then m.state else with_counter m.missed m.state) (if b then u else with_counter m.missed u)
     by-end true = is
-    by-end false = counted-alike m.behind m.state u is
+    by-end false = counted-alike m.missed m.state u is
 
 still-going : (m : Overlap) (u : Machine) → IsKept m → m.taken ≡ None → m.now ≤ m.front.c → AreAlikeBesideOrders m.state u
     → IsStill m (record m { state = u })

@@ -66,11 +66,8 @@ BanksHaveTheFirstReads = (m : Overlap) (made since j : ℕ) (o : Opening) (chang
     × (banks ≡ (bus_after_reads m.delays first o.front.bus).banks))
 
 -- The number of ticks since the last completion, or since the machine was made, never exceeds 64
--- times (L and four), for any number L that no delay exceeds (`since`); so this number is enough
--- for each instruction done and for one more (`all`), the state counting the instructions that are
--- done. Since the last instruction was done, or since the start, at most 64 times (the longest
--- delay and four) ticks were made; and in all, at most so many for each instruction done and for
--- one more.
+-- times (L and four), for any number L that no delay exceeds (`since`); so the ticks in all are at
+-- most so many for each instruction done and for one more (`all`).
 pub record CompletionsComeInTime : Type 0 where
   pub since : (m : Overlap) (made since most : ℕ) → IsReached m made since →
       AreDelaysUpTo most m.delays →
@@ -84,10 +81,8 @@ pub record CompletionsComeInTime : Type 0 where
 -- operand word in the state before the entry's step (`words`). A slot of an operand word of an
 -- entry other than T and SWAP is filled exactly where the word is a register, or where by the tick
 -- shown its read is answered or, without a read, its latest writer is done (`slots`). The words
--- that are lent are those shown (`index`), and undoing the levels from them gives the committed
--- ones, since each level keeps the word that it replaced (`undone`). What is lent of a machine: its
--- levels with their operands, and index words from which undoing the levels gives those of the
--- state.
+-- that are lent are those shown (`index`), and undoing the levels from them gives those of the
+-- state, since each level keeps the word that it replaced (`undone`).
 pub record LevelsAreLent : Type 0 where
   pub count : (m : Overlap) (ring : List Level) → AreLevelsOf m ring → length ring
       ≡ length (levels_of m)
@@ -116,18 +111,7 @@ pub record LevelsAreLent : Type 0 where
 -- A new machine stands at the opening of the first segment (`start`). At each opening at which a
 -- machine stands, the next tick and a settle with which it goes on leave it standing there, with
 -- one entry more done where the tick completes one (`tick`, `goes`). What changes the state from
--- outside is added to the changes, with the number done at it (`signal`, `unread`, `print`). A call
--- that ends the segment ends it as `end` does, and leaves the machine at the opening of the next
--- one, one tick behind the completion and one more for each level that is dropped (`end`). Where it
--- has ended already at this tick that opening stays (`again`), and so it does at the end of a run
--- (`stop`), behind which no tick may be made (`last`). Behind the end of a segment an interrupt
--- makes the first entry a table instruction (`interrupt`), a missed branch and a wait leave it
--- (`missed`, `waits`), and a card is a change of its first state (`card`). The levels of a machine
--- that stands at an opening are entries behind those that are done, by guessed steps from the
--- state, unless a branch was missed at this tick (`ahead`). Of a segment at whose opening a machine
--- stands, the entries with C up to the tick are done (`done`), and the levels are those with P up
--- to the tick and C behind it (`levels`, `next`); between a tick and its settle those with P at it
--- are not there yet. A machine goes on standing at an opening.
+-- outside is added to the changes, with the number done at it (`signal`, `unread`, `print`).
 pub record OpeningsAreKept : Type 0 where
   pub start : (ds : List ℕ) (n : ℕ) (s : Machine) → StandsAt (first_opening s) [] 0
       (machine_at_start ds n s)
@@ -151,7 +135,12 @@ pub record OpeningsAreKept : Type 0 where
       StandsAt o (changes ++ record { done = m.state.done; change = PrintedOut } ∷ []) j
       (printed_by m)
 
--- Where a segment ends, the machine stands at the opening of the next one.
+-- A call that ends the segment leaves the machine at the opening of the next one, one tick behind
+-- the completion and one more for each level that is dropped (`end`). Where it has ended already at
+-- this tick that opening stays (`again`), and so it does at the end of a run (`stop`), behind which
+-- no tick may be made (`last`). Behind the end of a segment an interrupt makes the first entry a
+-- table instruction (`interrupt`), a missed branch and a wait leave it (`missed`, `waits`), and a
+-- card is a change of its first state (`card`).
 pub record OpeningsFollow : Type 0 where
   pub end : (m : Overlap) (made since j : ℕ) (o : Opening) (changes : List Outside) →
       IsReached m made since → MayServe m →
@@ -179,7 +168,11 @@ pub record OpeningsFollow : Type 0 where
       StandsAt o (changes ++ record { done = m.state.done; change = ReadIn w (Some card) } ∷ []) 0
       (read_in_by w (Some card) m)
 
--- Which entries of a segment are done, and which are levels, is told by their rows.
+-- The levels of a machine that stands at an opening are entries behind those that are done, by
+-- guessed steps from the state, unless a branch was missed at this tick (`ahead`). Of a segment at
+-- whose opening a machine stands, the entries with C up to the tick are done (`done`), and the
+-- levels are those with P up to the tick and C behind it (`levels`, `next`); between a tick and its
+-- settle those with P at it are not there yet.
 pub record RowsTellTheLevels : Type 0 where
   pub done : (m : Overlap) (i j : ℕ) (o : Opening) (changes : List Outside) →
       StandsAt o changes j m → i < j →
@@ -199,12 +192,7 @@ pub record RowsTellTheLevels : Type 0 where
 -- interrupt that was taken (`table`); it removes the oldest level, and there is one (`oldest`); its
 -- row has the new number done, the address of the entry and the tick (`row`), and the P, R and C of
 -- the oldest entry (`times`). The mark of a missed branch is then set, and only then (`missed`).
--- Another tick leaves the state and the levels (`passed`). A settle and the end of a run leave the
--- state (`settle`, `stop`). Where the machine goes on there is one level more at most (`goes`). An
--- interrupt, a missed branch, a card and the end of a run drop as many levels as there were, and
--- leave none, with the index words of the state (`interrupt`, `missed`, `card`, `stop`); none are
--- left before the first tick and in a wait (`start`, `waits`). What comes from outside changes the
--- state as the clauses of these calls say. A tick at which an entry is done is one step.
+-- Another tick leaves the state and the levels (`passed`).
 pub record CompletionsAreSteps : Type 0 where
   pub table : (m : Overlap) (made since : ℕ) → IsReached m made since → m.owed ≡ false →
       m.taken ≡ interrupt m.state
@@ -221,13 +209,17 @@ pub record CompletionsAreSteps : Type 0 where
       × (row.c ≡ (view_at_tick (machine_after_tick m)).tick)
   pub times : (m : Overlap) (row : Row) → IsEvent m (Done row) →
       (row.p ≡ (row_of 0 m).p) × (row.r ≡ (row_of 0 m).r) × (row.c ≡ (row_of 0 m).c)
-  pub missed : (m : Overlap) (row : Row) → IsEvent m (Done row) → (machine_after_tick m).behind
+  pub missed : (m : Overlap) (row : Row) → IsEvent m (Done row) → (machine_after_tick m).missed
       ≡ (if is_missed (plan m.state m.taken) m.state then Some (plan m.state m.taken).following
       else None)
   pub passed : (m : Overlap) → IsEvent m Passed →
       ((machine_after_tick m).state ≡ m.state) × (levels_of (machine_after_tick m) ≡ levels_of m)
 
--- What runs ahead is given up where a segment ends, and is never seen in the state.
+-- A settle and the end of a run leave the state (`settle`, `stop`). Where the machine goes on there
+-- is one level more at most (`goes`). An interrupt, a missed branch, a card and the end of a run
+-- drop as many levels as there were, and leave none, with the index words of the state
+-- (`interrupt`, `missed`, `card`, `stop`); none are left before the first tick and in a wait
+-- (`start`, `waits`).
 pub record LevelsAreUnwound : Type 0 where
   pub settle : (m : Overlap) → (machine_after_settling m).state ≡ m.state
   pub goes : (m : Overlap) → answer m ≡ Goes → AddsOneAtMost (levels_of m)
@@ -249,15 +241,15 @@ pub record LevelsAreUnwound : Type 0 where
       (dropped_by (Some card) m ≡ length (levels_of m)) × IsUnwound (read_in_by w (Some card) m)
   pub start : (ds : List ℕ) (n : ℕ) (s : Machine) → IsUnwound (machine_at_start ds n s)
 
--- The shown levels are the first k places, oldest first (`level`, `behind`), at most as many as the
--- machine has (`few`, `eight`); the number done is the state's (`done`); the index words are those
--- of the state with k entries ahead, the first of them the table instruction where an interrupt was
--- taken (`index`), and with none ahead the committed ones (`none`); each level shows the address of
--- its entry, the number of the index word that it changes and that word before its own step, in the
--- run of guessed steps (`level`); the tick is that of the last tick made, of which the first is
--- number 0 (`tick`). The run goes from the state, or, at a tick at which a branch was missed, from
--- the state with the counter that follows it (`state`, `missed`). What is shown of a machine is its
--- state with the first entries ahead of it, oldest first.
+-- What is shown of a machine is its state with the first entries ahead of it. The shown levels are
+-- the first k places, oldest first (`level`, `behind`), at most as many as the machine has (`few`,
+-- `eight`); the number done is the state's (`done`); the index words are those of the state with k
+-- entries ahead, the first of them the table instruction where an interrupt was taken (`index`),
+-- and with none ahead the committed ones (`none`); each level shows the address of its entry, the
+-- number of the index word that it changes and that word before its own step, in the run of guessed
+-- steps (`level`); the tick is that of the last tick made, of which the first is number 0 (`tick`).
+-- The run goes from the state (`state`, `ended`), or, at a tick at which a branch was missed, from
+-- the state with the counter that follows it (`missed`).
 pub record TheStateIsSplit : Type 0 where
   pub done : (m : Overlap) → (view_at_tick m).done ≡ m.state.done
   pub tick : (m : Overlap) (made since : ℕ) → IsReached m made since → (view_at_tick m).tick ≡ made
@@ -275,13 +267,13 @@ pub record TheStateIsSplit : Type 0 where
       get_or (view_at_tick m).levels k None ≡ None
   pub state : (m : Overlap) (made since : ℕ) → IsReached m made since → m.owed ≡ false →
       state_ahead m ≡ m.state
-  pub missed : (m : Overlap) (h : ℕ) → m.ended ≡ false → m.behind ≡ Some h →
+  pub missed : (m : Overlap) (h : ℕ) → m.ended ≡ false → m.missed ≡ Some h →
       state_ahead m ≡ record m.state { ic = h }
   pub ended : (m : Overlap) → m.ended ≡ true → state_ahead m ≡ m.state
 
 -- A signal, the order of the reader without a card, and that of the printer change the state, each
 -- as its own clause says, and leave what is shown of the levels ahead and of the index words;
--- without a card none is dropped. Signals, and orders that bring no card, leave the levels.
+-- without a card none is dropped.
 pub record SignalsLeaveLevels : Type 0 where
   pub signal : (m : Overlap) (made since i : ℕ) → IsReached m made since → MaySignal m →
       IsStill m (signalled_by i m)

@@ -18,9 +18,9 @@ ghost use Rattle.st_ring.specs.PlannedRows.{row_of_plan};
 use crate::filling::fill_all;
 use crate::plans::{Plan, Plans};
 use crate::ring::SpecRing;
-use crate::slots::{change, missed};
+use crate::slots::missed;
 use st_exec::complete_in;
-use st_prep::{Prepared, index_words};
+use st_prep::{Prepared, change_index, index_words};
 use st_rows::{Filled, Front};
 use st_state::State;
 use std::marker::Model;
@@ -133,7 +133,7 @@ impl<const N: usize> Levels<N> {
             filled.now.fills ≡ fills ds n last (entry i u) →
             AreAhead ds n tick t s f (front_after_entry ds n last (entry i u)) self.new }
     {
-        change(&mut self.x, prepared.index);
+        change_index(prepared.index, &mut self.x);
         self.ring
             .push_prepared(prepared, filled.row.p, [None, None]);
         self.plans.push(front, filled);

@@ -41,14 +41,14 @@ choice-by None false None true m goes = refl
 choice-by None false None false m goes = refl
 
 pub choice-is : (m : Overlap) (over : Bool) → rests m.state ≡ false
-    → choice_of (answer m) over ≡ ((is_some m.behind || over || is_some (interrupt_due m)), interrupt_due m)
+    → choice_of (answer m) over ≡ ((is_some m.missed || over || is_some (interrupt_due m)), interrupt_due m)
 unfolding answer
-choice-is m over goes = choice-by (interrupt_due m) (rests m.state) m.behind over m goes
+choice-is m over goes = choice-by (interrupt_due m) (rests m.state) m.missed over m goes
 
 abbrev IsGoing : ℕ → Bool → Overlap → Overlap → Bool × Option ℕ → Type 0
 IsGoing left over m k r =
     (left ≢ 0) × (rests m.state ≡ false)
-    × ((k ≡ settled_of m) × (r.1 ≡ interrupt_due m) × (r.0 ≡ (is_some m.behind || over || is_some (interrupt_due m))))
+    × ((k ≡ settled_of m) × (r.1 ≡ interrupt_due m) × (r.0 ≡ (is_some m.missed || over || is_some (interrupt_due m))))
 
 pub chosen : (left : ℕ) (over : Bool) (old : Together) (m k : Overlap) (xs : List Signal) (cards : List (List ℕ)) (a : Settled) (r : Bool × Option ℕ)
     → record { machine = m; signals = xs; cards = cards } ≡ old → left ≢ 0 → rests m.state ≡ false
@@ -66,7 +66,7 @@ row-later ds n now f e is late = omega (arith, is.costs.0)
 
 -- the machine before the next entry, of which the front is f
 abbrev going : Overlap → Machine → Option ℕ → Front → Overlap
-going o s t f = record o { state = s; taken = t; front = f; owed = false; ended = false; behind = None; closing = None; now = o.now + 1 }
+going o s t f = record o { state = s; taken = t; front = f; owed = false; ended = false; missed = None; closing = None; now = o.now + 1 }
 
 -- between two ticks, the interrupt taken that is pending
 abbrev between_by : Overlap → Overlap
@@ -105,7 +105,7 @@ now-taken : (over : Bool) (o : Overlap) (s : Machine) → (by_now over o s).take
 now-taken true o s = refl
 now-taken false o s = refl
 
-now-behind : (over : Bool) (o : Overlap) (s : Machine) → (by_now over o s).behind ≡ o.behind
+now-behind : (over : Bool) (o : Overlap) (s : Machine) → (by_now over o s).missed ≡ o.missed
 now-behind true o s = refl
 now-behind false o s = refl
 
@@ -144,14 +144,14 @@ module _ (b t : Together) (text : Option (List ℕ)) (over : Bool) (is : IsBehin
   state-is = ap (λ (c : Scene). c.machine) came.scene
 
   abbrev ends : Bool
-  ends = is_some b.machine.behind || over || is_some (interrupt s)
+  ends = is_some b.machine.missed || over || is_some (interrupt s)
 
   ends-is : ends ≡ ends_segment m
   unfolding ends_segment
   ends-is =
-      ap (λ x. is_some b.machine.behind || x || is_some (interrupt s)) came.ends
-      ∙ ends-by (is_some b.machine.behind) (has_card m) (has_waited m) (is_some (interrupt s))
-      ∙ ap (λ (u : Machine). is_some b.machine.behind || has_card m || has_waited m || is_some (interrupt u)) state-is
+      ap (λ x. is_some b.machine.missed || x || is_some (interrupt s)) came.ends
+      ∙ ends-by (is_some b.machine.missed) (has_card m) (has_waited m) (is_some (interrupt s))
+      ∙ ap (λ (u : Machine). is_some b.machine.missed || has_card m || has_waited m || is_some (interrupt u)) state-is
 
   -- the front behind the decision
   abbrev front : Front
@@ -171,16 +171,16 @@ module _ (b t : Together) (text : Option (List ℕ)) (over : Bool) (is : IsBehin
   due-is : interrupt_due t.machine ≡ interrupt s
   due-is = ap (λ (x : Overlap). if is_none x.taken then interrupt s else None) now-is ∙ ap (λ x. if is_none x then interrupt s else None) (now-taken over b.machine s ∙ is.table)
 
-  behind-is : t.machine.behind ≡ b.machine.behind
-  behind-is = ap (λ (x : Overlap). x.behind) now-is ∙ now-behind over b.machine s
+  behind-is : t.machine.missed ≡ b.machine.missed
+  behind-is = ap (λ (x : Overlap). x.missed) now-is ∙ now-behind over b.machine s
 
   settled-is : rests s ≡ false → settled_of t.machine ≡ going b.machine s (interrupt s) front
   unfolding settled_of
   settled-is goes =
-      ap (λ x. settled_by x (rests s) t.machine.behind t.machine) due-is
-      ∙ ap (λ x. settled_by (interrupt s) x t.machine.behind t.machine) goes
+      ap (λ x. settled_by x (rests s) t.machine.missed t.machine) due-is
+      ∙ ap (λ x. settled_by (interrupt s) x t.machine.missed t.machine) goes
       ∙ ap (λ x. settled_by (interrupt s) false x t.machine) behind-is
-      ∙ going-by (interrupt s) b.machine.behind over b.machine s t.machine now-is (ended-since b t.machine over is came.since) is.table
+      ∙ going-by (interrupt s) b.machine.missed over b.machine s t.machine now-is (ended-since b t.machine over is came.since) is.table
 
   -- the scene behind it
   scene-is : (n : Together) → n ≡ record t { machine = n.machine } → n.machine.state ≡ s → scene_of n ≡ next_scene m
@@ -188,7 +188,7 @@ module _ (b t : Together) (text : Option (List ℕ)) (over : Bool) (is : IsBehin
       ap scene_of rest ∙ ap (λ u. record { machine = u; signals = t.signals; cards = t.cards }) state ∙ came.scene
 
   goes-on : (d : Decided) (n : Together) → n ≡ record t { machine = n.machine } → rests s ≡ false → n.machine ≡ settled_of t.machine
-      → d.taken ≡ interrupt_due t.machine → d.ends ≡ (is_some t.machine.behind || over || is_some (interrupt_due t.machine))
+      → d.taken ≡ interrupt_due t.machine → d.ends ≡ (is_some t.machine.missed || over || is_some (interrupt_due t.machine))
       → RunGoesOn m d n
   goes-on d n rest goes after table end =
       let same : n.machine ≡ going b.machine s (interrupt s) front = after ∙ settled-is goes in
@@ -202,7 +202,7 @@ module _ (b t : Together) (text : Option (List ℕ)) (over : Bool) (is : IsBehin
         ends =
             end
             ∙ ap (λ x. is_some x || over || is_some (interrupt_due t.machine)) behind-is
-            ∙ ap (λ x. is_some b.machine.behind || over || is_some x) due-is
+            ∙ ap (λ x. is_some b.machine.missed || over || is_some x) due-is
             ∙ ends-is;
         taken = table ∙ due-is ∙ ap interrupt state-is;
         now = ap (λ (x : Overlap). x.now) same;

@@ -76,8 +76,8 @@ unfolding levels_of state_ahead
 levels-alike t u is alike =
     let o = t.machine in
     rw (is.going, is.table)
-    (sym (count-alike o.delays o.levels o.now o.levels (with_counter o.behind o.state) (with_counter o.behind u) o.front
-    (counted-machine o.behind o.state is.kept.scene.machine is.counter) (counted-alike o.behind o.state u alike) (omega (arith, is.last))))
+    (sym (count-alike o.delays o.levels o.now o.levels (with_counter o.missed o.state) (with_counter o.missed u) o.front
+    (counted-machine o.missed o.state is.kept.scene.machine is.counter) (counted-alike o.missed o.state u alike) (omega (arith, is.last))))
 
 ended-first : (t : Together) (u : Machine) → IsBehindEntry t → AreAlikeBesideOrders t.machine.state u
     → machine_after_segment (record t.machine { state = u }) ≡ opened t.machine u

@@ -36,7 +36,7 @@ settled-parts None false None o = record { delays = refl; levels = refl }
 choice-parts : (turn : Turn) (left : ℕ) (over : Bool) (o p : Overlap) (d : Decided) → IsChoice turn left over o d p → HasParts o p
 unfolding settled_of
 choice-parts Before left over o p d h =
-    subst {A = Overlap} (λ q. HasParts o q) (sym h.2.0) (settled-parts (interrupt_due o) (rests o.state) o.behind o)
+    subst {A = Overlap} (λ q. HasParts o q) (sym h.2.0) (settled-parts (interrupt_due o) (rests o.state) o.missed o)
 choice-parts (AtEnd resting) left over o p d h =
     subst {A = Overlap} (λ q. HasParts o q) (sym h.4) (record { delays = (ended-parts o).delays; levels = (ended-parts o).levels })
 choice-parts Over left over o p d h = absurd h

@@ -57,7 +57,7 @@ goes-by None None false m goes = (refl, refl)
 goes-quiet : (m : Overlap) (count : ℕ) → answer m ≡ Goes → may_come_from_outside count m.state ≡ false → IsQuiet m
 unfolding answer
 goes-quiet m count goes none =
-    let by = goes-by (interrupt_due m) m.behind (rests m.state) m goes in
+    let by = goes-by (interrupt_due m) m.missed (rests m.state) m goes in
     let three = both-none (nat_le count m.state.done) (is_due m.state.done m.state.reader) (is_due m.state.done m.state.printer) none in
     record { reader = three.1; printer = three.2; awake = by.0; open_still = by.1 }
 

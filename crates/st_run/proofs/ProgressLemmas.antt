@@ -71,7 +71,7 @@ pub seen-none : (o : Overlap) → levels_of o ≡ [] → state_told o ≡ o.stat
 unfolding lent_index_words split_words state_ahead
 seen-none o none =
     ap (λ (xs : List Ahead). with_index_words (split_words (length xs) o.taken (state_ahead o)) o.state) none
-    ∙ ap (λ (xs : List ℕ). with_index_words xs o.state) (index-seen o.ended o.behind o.state)
+    ∙ ap (λ (xs : List ℕ). with_index_words xs o.state) (index-seen o.ended o.missed o.state)
     ∙ same-words o.state
 
 pub ahead-none : (o : Overlap) → levels_of o ≡ [] → ahead_of o ≡ []

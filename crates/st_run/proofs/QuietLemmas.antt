@@ -62,10 +62,10 @@ still-right None due none = refl
 still-right (Some h) due none = absurd (cc none)
 
 pub quiet-due : (m : Overlap) → IsQuiet m → interrupt_due m ≡ None
-quiet-due m quiet = still-due (is_some m.behind) (interrupt_due m) quiet.open_still
+quiet-due m quiet = still-due (is_some m.missed) (interrupt_due m) quiet.open_still
 
-pub quiet-right : (m : Overlap) → IsQuiet m → m.behind ≡ None
-quiet-right m quiet = still-right m.behind (interrupt_due m) quiet.open_still
+pub quiet-right : (m : Overlap) → IsQuiet m → m.missed ≡ None
+quiet-right m quiet = still-right m.missed (interrupt_due m) quiet.open_still
 
 pub quiet-settled : (m : Overlap) → IsQuiet m → machine_after_pass m ≡ settled_of m
 quiet-settled m quiet = still-settled m (quiet-due m quiet) quiet.awake (quiet-right m quiet)
@@ -99,8 +99,8 @@ module _ (left : ℕ) (b n : Together) (is : IsBehindEntry b) (some : left ≢ 0
     quiet.awake,
     (
       after,
-      neither-first (is_some b.machine.behind) (interrupt_due b.machine) quiet.open_still,
-      neither-still (is_some b.machine.behind) (interrupt_due b.machine) quiet.open_still,
+      neither-first (is_some b.machine.missed) (interrupt_due b.machine) quiet.open_still,
+      neither-still (is_some b.machine.missed) (interrupt_due b.machine) quiet.open_still,
     ),
   )
 

@@ -34,7 +34,7 @@ none-due s None same = sym same
 none-due s (Some i) same = refl
 
 -- where nothing comes the tick is settled by passing
-pub still-settled : (m : Overlap) → interrupt_due m ≡ None → rests m.state ≡ false → m.behind ≡ None → machine_after_pass m ≡ machine_after_settling m
+pub still-settled : (m : Overlap) → interrupt_due m ≡ None → rests m.state ≡ false → m.missed ≡ None → machine_after_pass m ≡ machine_after_settling m
 unfolding machine_after_settling
 still-settled m due awake right = rw (due, awake, right) refl
 

@@ -139,11 +139,11 @@ room-is tick xs =
     ap {A = List (Option LevelView)} (λ ys. ys ++ replicate (8 - length xs) None) (sym (map-map (λ (v : LevelView). Some v) (level_shown tick) xs))
     ∙ ap {A = ℕ} (λ k. map (λ (v : LevelView). Some v) (map (level_shown tick) xs) ++ replicate (8 - k) None) (sym (length-map xs (level_shown tick)))
 
-seen-plain : (o : Overlap) → o.ended ≡ false → o.behind ≡ None → o.state ≡ state_ahead o
+seen-plain : (o : Overlap) → o.ended ≡ false → o.missed ≡ None → o.state ≡ state_ahead o
 unfolding state_ahead
 seen-plain o going guessed = rw (going, guessed) refl
 
-same-levels : (o : Overlap) (m : IsMachine o.state) → o.ended ≡ false → o.behind ≡ None → IfSome o.taken (λ i. i < 64)
+same-levels : (o : Overlap) (m : IsMachine o.state) → o.ended ≡ false → o.missed ≡ None → IfSome o.taken (λ i. i < 64)
     → map level_of (map (level_shown (last_tick_made o)) (levels_of o)) ≡ ahead_of o
 unfolding levels_of
 same-levels o m going guessed some =
@@ -158,7 +158,7 @@ view-before t h =
     record {
       views = map (level_shown (last_tick_made o)) (levels_of o);
       room = room-is (last_tick_made o) (levels_of o);
-      same = same-levels o h.kept.scene.machine (ap {A = Overlap} (λ x. x.ended) h.ready.between) (ap {A = Overlap} (λ x. x.behind) h.ready.between) some;
+      same = same-levels o h.kept.scene.machine (ap {A = Overlap} (λ x. x.ended) h.ready.between) (ap {A = Overlap} (λ x. x.missed) h.ready.between) some;
     }
 
 pub view-none : (o : Overlap) → levels_of o ≡ [] → AreLevelsShown (view_at_tick o).levels (ahead_of o)

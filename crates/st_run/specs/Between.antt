@@ -23,7 +23,7 @@ IsDecidedBy Over left s d going ending = ⊥
 abbrev pub IsChoice : Turn → ℕ → Bool → Overlap → Decided → Overlap → Type 0
 IsChoice turn left over old d new = IsDecidedBy turn left old.state d
     ((new ≡ machine_after_settling old) × (d.taken ≡ interrupt_due old)
-    × (d.ends ≡ (is_some old.behind || over || is_some (interrupt_due old))))
+    × (d.ends ≡ (is_some old.missed || over || is_some (interrupt_due old))))
     (new ≡ run_ended old)
 
 -- whether the segment ends and which interrupt is taken, by the answer
@@ -39,4 +39,4 @@ pub record IsQuiet (o : Overlap) : Type 0 where
   pub reader : is_due o.state.done o.state.reader ≡ false
   pub printer : is_due o.state.done o.state.printer ≡ false
   pub awake : rests o.state ≡ false
-  pub open_still : (is_some o.behind || is_some (interrupt_due o)) ≡ false
+  pub open_still : (is_some o.missed || is_some (interrupt_due o)) ≡ false

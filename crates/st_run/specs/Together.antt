@@ -59,7 +59,7 @@ pub record IsBehindEntry (t : Together) : Type 0 where
   pub stands : t.machine.stopped ≡ false
   pub done : IsSome t.machine.closing
   pub table : t.machine.taken ≡ None
-  pub counter : IfSome t.machine.behind (λ h. h < 2 ^ 19)
+  pub counter : IfSome t.machine.missed (λ h. h < 2 ^ 19)
   pub last : t.machine.front.c ≡ t.machine.now
 
 -- the moment at which the run stands then
@@ -68,7 +68,7 @@ moment_of t = record {
   scene = scene_of t;
   tick = t.machine.now;
   front = t.machine.front;
-  missed = is_some t.machine.behind;
+  missed = is_some t.machine.missed;
   dropped = levels_of t.machine;
   banks = banks_left t.machine.closing;
 }

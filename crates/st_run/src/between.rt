@@ -9,9 +9,9 @@ ghost use Rattle.st_run.specs.Outside.{HasHappened, scene_at, joined_of};
 
 use crate::coming::Coming;
 use crate::outside::Outside;
-use crate::plain::{done_in, is_due_at};
+use crate::plain::is_due_at;
 use st_exec::is_at_rest;
-use st_state::Device;
+use st_state::{Device, done_in};
 
 /// What came between two steps.
 #[derive(Clone, Copy, Debug)]

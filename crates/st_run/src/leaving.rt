@@ -11,13 +11,14 @@ ghost use Rattle.st_run.specs.Between.{IsChoice, IsQuiet, choice_of};
 
 use crate::between::{Interlude, between};
 use crate::driven::Driven;
-use crate::plain::{done_in, printer_is_due, reader_is_due};
+use crate::plain::{printer_is_due, reader_is_due};
 use crate::turn::Turn;
 use arrayvec::{ArrayString, ArrayVec};
 use st_ahead::{Machine, Settled};
 use st_exch::print_text;
 use st_exec::is_at_rest;
 use st_ring::SpecRing;
+use st_state::done_in;
 
 // What was decided between two entries.
 #[derive(Clone, Copy, Debug)]

@@ -88,10 +88,3 @@ pub fn is_signal_due(signals: &[Signal], done: u64) -> bool
         [] => false,
     }
 }
-
-/// How many instructions are done.
-pub fn done_in(state: &State) -> u64
-    ensures { result ≡ state.now.done }
-{
-    state.done
-}

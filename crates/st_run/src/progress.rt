@@ -9,7 +9,6 @@ ghost use Rattle.st_run.specs.declared.turn.Turn.TheVariants as turns;
 
 use crate::driven::Driven;
 use crate::leaving::{leave, levels_ahead, pass_on};
-use crate::plain::done_in;
 use crate::run_events::{RunEvent, TimedRunEvent};
 use crate::ticking::{run_many, run_until};
 use crate::turn::Turn;
@@ -17,6 +16,7 @@ use crate::waiting::Waiting;
 use arrayvec::{ArrayString, ArrayVec};
 use st_ahead::{Row, RowQueue};
 use st_card::Signal;
+use st_state::done_in;
 
 // No more instructions are done than this number, 2^63 - 1.
 const MOST: u64 = (1 << 63) - 1;

@@ -47,23 +47,19 @@ pub struct Run<'a, const N: usize> {
 // Clauses see what is still to be told, and what is shown.
 impl<'a, const N: usize> Model for Run<'a, N> {
     ghost use Rattle.std.specs.Prelude.{◌≡◌};
-    ghost use Rattle.st_run.specs.Telling.{Telling, rest_of, rows_then, state_told, ahead_of, IsRun};
+    ghost use Rattle.st_run.specs.Telling.{Telling, state_told, ahead_of};
+    ghost use Rattle.st_run.specs.Progress.{IsUnderWay, rest_with_rows};
 
     ghost Value = { Telling };
 
     ghost view = { λ r. record {
-      rest = rows_then r.teller.rows.rows (rest_of r.teller.progress.turn r.teller.progress.left
-          r.teller.progress.tick r.teller.progress.snaps.now r.teller.progress.waiting
-          r.teller.progress.driven);
+      rest = rest_with_rows r.teller;
       seen = state_told r.teller.progress.driven.machine;
       ahead = ahead_of r.teller.progress.driven.machine;
       text = r.teller.progress.printed.bytes;
     } };
 
-    ghost invariant = { λ r. IsRun r.teller.progress.turn r.teller.progress.left
-        r.teller.progress.tick r.teller.progress.snaps.now r.teller.progress.waiting
-        r.teller.progress.driven
-        × (r.teller.rows.room ≡ 0) };
+    ghost invariant = { λ r. IsUnderWay r.teller.progress × (r.teller.rows.room ≡ 0) };
 }
 
 impl<'a, const N: usize> Run<'a, N> {

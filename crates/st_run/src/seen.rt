@@ -4,7 +4,7 @@ ghost use Rattle.st_bits.specs.declared.limits.TheConstants.{WORDS};
 ghost use Rattle.st_state.specs.Machine.{word as word_of};
 ghost use Rattle.st_run.specs.Events.{with_index_words};
 
-use st_state::State;
+use st_state::{State, counter_in, is_enabled};
 use std::marker::Model;
 
 /// A state, with the index words of what runs ahead of it.
@@ -85,19 +85,4 @@ fn word_with(state: &State, index: &[u64; 16], w: u32) -> u64
         return index[w as usize - 16];
     }
     words[w as usize]
-}
-
-// The counter of a state.
-fn counter_in(state: &State) -> u32
-    ensures value { result ≡ state.now.ic }
-    ensures bound { result < 2 ^ 19 }
-{
-    state.ic
-}
-
-// Whether interrupts are enabled in a state.
-fn is_enabled(state: &State) -> bool
-    ensures { result ≡ state.now.enabled }
-{
-    state.enabled
 }

@@ -1,4 +1,4 @@
-//! The leftmost indicator that is on and not masked.
+//! The leftmost indicator that is on and not masked, and how indicators are turned.
 ghost use Rattle.std.specs.Prelude.{◌≡◌, ◌<◌, IfSome};
 ghost use Rattle.st_state.specs.Interrupts.{first_from, is_pending, indicator_word as turned_of};
 

@@ -36,7 +36,7 @@ ghost use Rattle.std.specs.Prelude.{◌≡◌, ◌+◌, ◌*◌, ◌<◌, ◌≤
 ghost use Rattle.st_bits.specs.Registers.{register_word};
 ghost use Rattle.st_bits.specs.Storage.{IsImage, words_of_storage};
 
-use indicators::{leftmost, turned};
+use indicators::leftmost;
 use st_bits::indicators::{
     ADDRESS_INVALID, CHANNEL_SIGNAL, DATA_FETCH, DATA_STORE, INSTRUCTION_FETCH,
 };
@@ -48,9 +48,12 @@ use std::marker::Model;
 mod devices;
 mod indicators;
 mod protection;
+mod shown;
 
 pub use devices::{Device, Order, is_due};
+pub use indicators::turned;
 pub use protection::Access;
+pub use shown::{counter_in, done_in, is_enabled};
 
 /// The machine between two instructions.
 #[derive(Drop)]

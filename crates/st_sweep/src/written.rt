@@ -1,14 +1,12 @@
 //! Which words the entries of a run wrote so far.
 ghost use Rattle.std.specs.Prelude.{◌≡◌, ◌+◌, ◌≤◌, List, [], ◌∷◌, IfOk, length, get_or, false};
-ghost use Rattle.st_bits.specs.Storage.{words_of_storage};
 ghost use Rattle.st_prep.specs.Ranges.{IsRuns, AreInside};
 ghost use Rattle.st_rows.specs.declared.entry.WordRuns.{WordRuns};
 ghost use Rattle.st_segment.specs.Entries.{words_to_write};
 ghost use Rattle.st_sweep.specs.HazardFree.{are_written, one_is_written, side_is_written};
 ghost use Rattle.st_sweep.specs.Marks.{AreMarks, marks_with};
 
-use st_bits::NoMemory;
-use st_bits::limits::WORDS;
+use st_bits::{NoMemory, number_of_words};
 use st_prep::Words;
 use std::alloc::Global;
 use std::marker::Model;
@@ -29,13 +27,6 @@ impl Model for WrittenWords {
     ghost view = { λ w. w.marks.items };
 
     ghost invariant = { λ w. length w.marks.items ≡ words_of_storage };
-}
-
-// The words of storage.
-fn number_of_words() -> usize
-    ensures { result ≡ words_of_storage }
-{
-    WORDS as usize
 }
 
 // Whether a word has a mark.

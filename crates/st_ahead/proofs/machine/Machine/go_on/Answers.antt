@@ -16,8 +16,8 @@ pub go_on-requires : goal.go_on-requires
 go_on-requires g c =
     let i = c.self.inside in
     let owes = subst (λ (m : Overlap). m.owed ≡ true) (sym c.self.view_is) c.requires.owed in
-    let right = subst (λ (m : Overlap). m.behind ≡ None) (sym c.self.view_is) c.requires.right in
-    let both = going-lookahead i.stopped g.row.N i.delays.list i.present.state i.present.taken i.behind i.now i.owed i.ended i.fresh i.lookahead c.self.invariant owes c.if-self.false right in
+    let right = subst (λ (m : Overlap). m.missed ≡ None) (sym c.self.view_is) c.requires.right in
+    let both = going-lookahead i.stopped g.row.N i.delays.list i.present.state i.present.taken i.missed i.now i.owed i.ended i.fresh i.lookahead c.self.invariant owes c.if-self.false right in
     let f = oldest_front i.lookahead.levels.plans i.lookahead.front in (
       omega arith,
       (
@@ -40,8 +40,8 @@ pub overflow_add-self : goal.overflow_add-self
 overflow_add-self g c =
     let i = c.self.inside in
     let owes = subst (λ (m : Overlap). m.owed ≡ true) (sym c.self.view_is) c.requires.owed in
-    let right = subst (λ (m : Overlap). m.behind ≡ None) (sym c.self.view_is) c.requires.right in
-    let both = going-lookahead i.stopped g.row.N i.delays.list i.present.state i.present.taken i.behind i.now i.owed i.ended i.fresh i.lookahead c.self.invariant owes c.if-self.false right in
+    let right = subst (λ (m : Overlap). m.missed ≡ None) (sym c.self.view_is) c.requires.right in
+    let both = going-lookahead i.stopped g.row.N i.delays.list i.present.state i.present.taken i.missed i.now i.owed i.ended i.fresh i.lookahead c.self.invariant owes c.if-self.false right in
     let early : i.now < 2 ^ 63 = both.1 in
     omega (arith, early)
 
@@ -51,11 +51,11 @@ invariant_of-self g c =
     let i = c.self.inside in
     let w = c.go_on.new.self in
     let owes = subst (λ (m : Overlap). m.owed ≡ true) (sym c.self.view_is) c.requires.owed in
-    let right = subst (λ (m : Overlap). m.behind ≡ None) (sym c.self.view_is) c.requires.right in
-    let both = going-lookahead i.stopped n i.delays.list i.present.state i.present.taken i.behind i.now i.owed i.ended i.fresh i.lookahead c.self.invariant owes c.if-self.false right in
+    let right = subst (λ (m : Overlap). m.missed ≡ None) (sym c.self.view_is) c.requires.right in
+    let both = going-lookahead i.stopped n i.delays.list i.present.state i.present.taken i.missed i.now i.owed i.ended i.fresh i.lookahead c.self.invariant owes c.if-self.false right in
     let f = oldest_front i.lookahead.levels.plans i.lookahead.front in
     let lookahead = c.go_on.ensures i.present.taken f both.0 in
-    (go-inside i.stopped n i.delays.list i.present.state i.present.taken i.behind i.now i.owed i.ended i.fresh i.lookahead w c.self.invariant
+    (go-inside i.stopped n i.delays.list i.present.state i.present.taken i.missed i.now i.owed i.ended i.fresh i.lookahead w c.self.invariant
     (subst (λ (m : Overlap). m.stopped ≡ false) (sym c.self.view_is) c.requires.stands) owes c.if-self.false right
     (subst (λ (m : Overlap). interrupt_due m ≡ None) (sym c.self.view_is) c.requires.due)
     (subst (λ (m : Overlap). rests m.state ≡ false) (sym c.self.view_is) c.requires.goes)
@@ -67,12 +67,12 @@ returns g c =
     let i = c.self.inside in
     let w = c.go_on.new.self in
     let owes = subst (λ (m : Overlap). m.owed ≡ true) (sym c.self.view_is) c.requires.owed in
-    let right = subst (λ (m : Overlap). m.behind ≡ None) (sym c.self.view_is) c.requires.right in
-    let both = going-lookahead i.stopped n i.delays.list i.present.state i.present.taken i.behind i.now i.owed i.ended i.fresh i.lookahead c.self.invariant owes c.if-self.false right in
+    let right = subst (λ (m : Overlap). m.missed ≡ None) (sym c.self.view_is) c.requires.right in
+    let both = going-lookahead i.stopped n i.delays.list i.present.state i.present.taken i.missed i.now i.owed i.ended i.fresh i.lookahead c.self.invariant owes c.if-self.false right in
     let f = oldest_front i.lookahead.levels.plans i.lookahead.front in
     let lookahead = c.go_on.ensures i.present.taken f both.0 in
-    subst (λ (m : Overlap). overlap_of n i.delays.list i.present.state i.present.taken i.behind (i.now + 1) false i.ended i.stopped false w ≡ machine_after_pass m) c.self.view_is
-    (go-inside i.stopped n i.delays.list i.present.state i.present.taken i.behind i.now i.owed i.ended i.fresh i.lookahead w c.self.invariant
+    subst (λ (m : Overlap). overlap_of n i.delays.list i.present.state i.present.taken i.missed (i.now + 1) false i.ended i.stopped false w ≡ machine_after_pass m) c.self.view_is
+    (go-inside i.stopped n i.delays.list i.present.state i.present.taken i.missed i.now i.owed i.ended i.fresh i.lookahead w c.self.invariant
     (subst (λ (m : Overlap). m.stopped ≡ false) (sym c.self.view_is) c.requires.stands) owes c.if-self.false right
     (subst (λ (m : Overlap). interrupt_due m ≡ None) (sym c.self.view_is) c.requires.due)
     (subst (λ (m : Overlap). rests m.state ≡ false) (sym c.self.view_is) c.requires.goes)

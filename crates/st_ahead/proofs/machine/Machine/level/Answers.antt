@@ -15,8 +15,8 @@ pub returns-clause-value : goal.returns-clause-value
 returns-clause-value g c =
     let n = g.row.N in
     let i = c.self.inside in
-    let m = overlap_of n i.delays.list i.present.state i.present.taken i.behind i.now i.owed i.ended i.stopped i.fresh i.lookahead in
-    let lookahead = lookahead-inside i.stopped n i.delays.list i.present.state i.present.taken i.behind i.now i.owed i.ended i.fresh i.lookahead c.self.invariant in
+    let m = overlap_of n i.delays.list i.present.state i.present.taken i.missed i.now i.owed i.ended i.stopped i.fresh i.lookahead in
+    let lookahead = lookahead-inside i.stopped n i.delays.list i.present.state i.present.taken i.missed i.now i.owed i.ended i.fresh i.lookahead c.self.invariant in
     let is = showing m i.lookahead lookahead (lookaheads_are_levels i.delays.list n (last_tick_made m) i.now i.present.taken (state_ahead m) m.front i.lookahead
     c.self.invariant.some c.self.invariant.few (delays-are i.delays) (soon-last i.owed i.now) c.level.ensures.few lookahead) in
     let tick = c.last_tick-tick.ensures ∙ ap (λ (x : Overlap). last_tick_made x) (sym c.self.view_is) in
@@ -29,8 +29,8 @@ pub returns-clause-eight : goal.returns-clause-eight
 returns-clause-eight g c =
     let n = g.row.N in
     let i = c.self.inside in
-    let m = overlap_of n i.delays.list i.present.state i.present.taken i.behind i.now i.owed i.ended i.stopped i.fresh i.lookahead in
-    let lookahead = lookahead-inside i.stopped n i.delays.list i.present.state i.present.taken i.behind i.now i.owed i.ended i.fresh i.lookahead c.self.invariant in
+    let m = overlap_of n i.delays.list i.present.state i.present.taken i.missed i.now i.owed i.ended i.stopped i.fresh i.lookahead in
+    let lookahead = lookahead-inside i.stopped n i.delays.list i.present.state i.present.taken i.missed i.now i.owed i.ended i.fresh i.lookahead c.self.invariant in
     let is = showing m i.lookahead lookahead (lookaheads_are_levels i.delays.list n (last_tick_made m) i.now i.present.taken (state_ahead m) m.front i.lookahead
     c.self.invariant.some c.self.invariant.few (delays-are i.delays) (soon-last i.owed i.now) c.level.ensures.few lookahead) in
     let most : count i.lookahead ≤ n = c.level.ensures.few in

@@ -39,7 +39,7 @@ run_to-stop-requires g c =
     let i = c.self.inside in
     let owes = subst (λ (m : Overlap). m.owed ≡ false) (sym c.self.view_is) c.requires.settled in
     let few = subst (λ (m : Overlap). m.state.done < 2 ^ 63) (sym c.self.view_is) c.requires.done in
-    let start = start-inside i.stopped n i.delays.list i.present.state i.present.taken i.behind i.now c.args.last i.owed i.ended i.fresh i.lookahead c.self.invariant owes (omega (arith, c.if-now-last.false)) in
+    let start = start-inside i.stopped n i.delays.list i.present.state i.present.taken i.missed i.now c.args.last i.owed i.ended i.fresh i.lookahead c.self.invariant owes (omega (arith, c.if-now-last.false)) in
     (omega arith, (c.self.invariant.some, (c.self.invariant.few, (few, (oldest_front i.lookahead.levels.plans i.lookahead.front, i.now, start)))))
 
 pub invariant_of-self : goal.invariant_of-self
@@ -50,11 +50,11 @@ invariant_of-self g c =
     let w = c.run_to-stop.new.self in
     let f = oldest_front v.levels.plans v.front in
     let owes = subst (λ (m : Overlap). m.owed ≡ false) (sym c.self.view_is) c.requires.settled in
-    let start = start-inside i.stopped n i.delays.list i.present.state i.present.taken i.behind i.now c.args.last i.owed i.ended i.fresh v c.self.invariant owes (omega (arith, c.if-now-last.false)) in
+    let start = start-inside i.stopped n i.delays.list i.present.state i.present.taken i.missed i.now c.args.last i.owed i.ended i.fresh v c.self.invariant owes (omega (arith, c.if-now-last.false)) in
     let by = subst (λ (x : Option Stop). HasRunTo i.delays.list n c.args.count c.args.last i.now i.present.taken i.present.state f c.run_to-stop.new.present.taken c.run_to-stop.new.present.state w x) c.in_default.is
     (c.run_to-stop.ensures f i.now start).0 in
     let front = levels_are_the_entries_ahead.oldest i.delays.list n c.args.last c.run_to-stop.new.present.taken c.run_to-stop.new.present.state by.front w.front w.levels by.lookahead.outlook.ahead in
-    let all = passed-machine i.stopped n i.delays.list i.present.state c.run_to-stop.new.present.state i.present.taken c.run_to-stop.new.present.taken i.behind i.now c.args.last c.args.count i.owed i.ended i.fresh v w
+    let all = passed-machine i.stopped n i.delays.list i.present.state c.run_to-stop.new.present.state i.present.taken c.run_to-stop.new.present.taken i.missed i.now c.args.last c.args.count i.owed i.ended i.fresh v w
     c.self.invariant owes c.requires.last by front in
     all.0
 
@@ -66,13 +66,13 @@ returns-in_default-clause-runs g c =
     let w = c.run_to-stop.new.self in
     let f = oldest_front v.levels.plans v.front in
     let owes = subst (λ (m : Overlap). m.owed ≡ false) (sym c.self.view_is) c.requires.settled in
-    let start = start-inside i.stopped n i.delays.list i.present.state i.present.taken i.behind i.now c.args.last i.owed i.ended i.fresh v c.self.invariant owes (omega (arith, c.if-now-last.false)) in
+    let start = start-inside i.stopped n i.delays.list i.present.state i.present.taken i.missed i.now c.args.last i.owed i.ended i.fresh v c.self.invariant owes (omega (arith, c.if-now-last.false)) in
     let by = subst (λ (x : Option Stop). HasRunTo i.delays.list n c.args.count c.args.last i.now i.present.taken i.present.state f c.run_to-stop.new.present.taken c.run_to-stop.new.present.state w x) c.in_default.is
     (c.run_to-stop.ensures f i.now start).0 in
     let front = levels_are_the_entries_ahead.oldest i.delays.list n c.args.last c.run_to-stop.new.present.taken c.run_to-stop.new.present.state by.front w.front w.levels by.lookahead.outlook.ahead in
-    let all = passed-machine i.stopped n i.delays.list i.present.state c.run_to-stop.new.present.state i.present.taken c.run_to-stop.new.present.taken i.behind i.now c.args.last c.args.count i.owed i.ended i.fresh v w
+    let all = passed-machine i.stopped n i.delays.list i.present.state c.run_to-stop.new.present.state i.present.taken c.run_to-stop.new.present.taken i.missed i.now c.args.last c.args.count i.owed i.ended i.fresh v w
     c.self.invariant owes c.requires.last by front in
-    subst (λ (m : Overlap). ArePassed c.args.count (c.args.last + 1 - m.now) m (overlap_of n i.delays.list c.run_to-stop.new.present.state c.run_to-stop.new.present.taken i.behind (c.args.last + 1) i.owed i.ended i.stopped i.fresh w))
+    subst (λ (m : Overlap). ArePassed c.args.count (c.args.last + 1 - m.now) m (overlap_of n i.delays.list c.run_to-stop.new.present.state c.run_to-stop.new.present.taken i.missed (c.args.last + 1) i.owed i.ended i.stopped i.fresh w))
     c.self.view_is all.1
 
 pub invariant_of-self-2 : goal.invariant_of-self-2
@@ -83,7 +83,7 @@ invariant_of-self-2 g c =
     let w = c.run_to-stop.new.self in
     let f = oldest_front v.levels.plans v.front in
     let owes = subst (λ (m : Overlap). m.owed ≡ false) (sym c.self.view_is) c.requires.settled in
-    let start = start-inside i.stopped n i.delays.list i.present.state i.present.taken i.behind i.now c.args.last i.owed i.ended i.fresh v c.self.invariant owes (omega (arith, c.if-now-last.false)) in
+    let start = start-inside i.stopped n i.delays.list i.present.state i.present.taken i.missed i.now c.args.last i.owed i.ended i.fresh v c.self.invariant owes (omega (arith, c.if-now-last.false)) in
     let by = subst (λ (x : Option Stop). HasRunTo i.delays.list n c.args.count c.args.last i.now i.present.taken i.present.state f c.run_to-stop.new.present.taken c.run_to-stop.new.present.state w x) c.in-Some.is
     (c.run_to-stop.ensures f i.now start).0 in
     let stop = c.in-Some.stop in
@@ -93,7 +93,7 @@ invariant_of-self-2 g c =
     let guessed = guess-seen by.table by.state c.run_to-stop.new.present.state (is_missed (plan by.state by.table) by.state) stop.done.missed refl told.state told.told.missed
     (steps_are_guesses.right by.table by.state by.machine by.indicator) (steps_are_guesses.missed by.table by.state by.machine by.indicator) in
     let counted = c.done_in-number.ensures ∙ ap (λ (m : Machine). m.done) told.state ∙ entries_count_as_one (plan by.state by.table) by.state in
-    let all = stopped-machine i.stopped n i.delays.list i.present.state c.run_to-stop.new.present.state i.present.taken c.run_to-stop.new.present.taken i.behind i.now c.args.last c.args.count stop.tick c.done_in-number.result
+    let all = stopped-machine i.stopped n i.delays.list i.present.state c.run_to-stop.new.present.state i.present.taken c.run_to-stop.new.present.taken i.missed i.now c.args.last c.args.count stop.tick c.done_in-number.result
     i.owed i.ended i.fresh v w stop.done c.self.invariant owes c.requires.last by front guessed counted in
     all.0
 
@@ -105,7 +105,7 @@ returns-clause-runs g c =
     let w = c.run_to-stop.new.self in
     let f = oldest_front v.levels.plans v.front in
     let owes = subst (λ (m : Overlap). m.owed ≡ false) (sym c.self.view_is) c.requires.settled in
-    let start = start-inside i.stopped n i.delays.list i.present.state i.present.taken i.behind i.now c.args.last i.owed i.ended i.fresh v c.self.invariant owes (omega (arith, c.if-now-last.false)) in
+    let start = start-inside i.stopped n i.delays.list i.present.state i.present.taken i.missed i.now c.args.last i.owed i.ended i.fresh v c.self.invariant owes (omega (arith, c.if-now-last.false)) in
     let by = subst (λ (x : Option Stop). HasRunTo i.delays.list n c.args.count c.args.last i.now i.present.taken i.present.state f c.run_to-stop.new.present.taken c.run_to-stop.new.present.state w x) c.in-Some.is
     (c.run_to-stop.ensures f i.now start).0 in
     let stop = c.in-Some.stop in
@@ -115,7 +115,7 @@ returns-clause-runs g c =
     let guessed = guess-seen by.table by.state c.run_to-stop.new.present.state (is_missed (plan by.state by.table) by.state) stop.done.missed refl told.state told.told.missed
     (steps_are_guesses.right by.table by.state by.machine by.indicator) (steps_are_guesses.missed by.table by.state by.machine by.indicator) in
     let counted = c.done_in-number.ensures ∙ ap (λ (m : Machine). m.done) told.state ∙ entries_count_as_one (plan by.state by.table) by.state in
-    let all = stopped-machine i.stopped n i.delays.list i.present.state c.run_to-stop.new.present.state i.present.taken c.run_to-stop.new.present.taken i.behind i.now c.args.last c.args.count stop.tick c.done_in-number.result
+    let all = stopped-machine i.stopped n i.delays.list i.present.state c.run_to-stop.new.present.state i.present.taken c.run_to-stop.new.present.taken i.missed i.now c.args.last c.args.count stop.tick c.done_in-number.result
     i.owed i.ended i.fresh v w stop.done c.self.invariant owes c.requires.last by front guessed counted in
     subst (λ (m : Overlap). StopsAt c.args.count c.args.last (told_row c.done_in-number.result stop.done.address stop.done.p stop.done.r stop.tick) m
     (overlap_of n i.delays.list c.run_to-stop.new.present.state c.run_to-stop.new.present.taken stop.done.missed stop.tick true i.ended i.stopped true w)) c.self.view_is all.1
@@ -127,13 +127,13 @@ returns-in_default-clause-rows g c =
     let v = i.lookahead in
     let f = oldest_front v.levels.plans v.front in
     let owes = subst (λ (m : Overlap). m.owed ≡ false) (sym c.self.view_is) c.requires.settled in
-    let start = start-inside i.stopped n i.delays.list i.present.state i.present.taken i.behind i.now c.args.last i.owed i.ended i.fresh v c.self.invariant owes (omega (arith, c.if-now-last.false)) in
+    let start = start-inside i.stopped n i.delays.list i.present.state i.present.taken i.missed i.now c.args.last i.owed i.ended i.fresh v c.self.invariant owes (omega (arith, c.if-now-last.false)) in
     let between = machine_between_ticks i.delays.list n i.present.state i.present.taken f i.now in
     let old = c.args.rows.now in
     let noted = subst (λ (x : Option Stop). c.run_to-stop.new.rows ≡ queue_with (rows_in_ticks (ticks_passed c.args.last i.now (option_map (λ (y : Stop). y.tick) x)) between) old) c.in_default.is
     (c.run_to-stop.ensures f i.now start).1 in
     let same : between ≡ c.args.self.now =
-    settled-between i.stopped n i.delays.list i.present.state i.present.taken i.behind i.now i.owed i.ended i.fresh v c.self.invariant owes ∙ c.self.view_is in
+    settled-between i.stopped n i.delays.list i.present.state i.present.taken i.missed i.now i.owed i.ended i.fresh v c.self.invariant owes ∙ c.self.view_is in
     subst (λ (m : Overlap). c.run_to-stop.new.rows ≡ queue_with (rows_in_ticks (c.args.last + 1 - m.now) m) old) same noted
 
 pub returns-clause-rows : goal.returns-clause-rows
@@ -143,11 +143,11 @@ returns-clause-rows g c =
     let v = i.lookahead in
     let f = oldest_front v.levels.plans v.front in
     let owes = subst (λ (m : Overlap). m.owed ≡ false) (sym c.self.view_is) c.requires.settled in
-    let start = start-inside i.stopped n i.delays.list i.present.state i.present.taken i.behind i.now c.args.last i.owed i.ended i.fresh v c.self.invariant owes (omega (arith, c.if-now-last.false)) in
+    let start = start-inside i.stopped n i.delays.list i.present.state i.present.taken i.missed i.now c.args.last i.owed i.ended i.fresh v c.self.invariant owes (omega (arith, c.if-now-last.false)) in
     let between = machine_between_ticks i.delays.list n i.present.state i.present.taken f i.now in
     let old = c.args.rows.now in
     let noted = subst (λ (x : Option Stop). c.run_to-stop.new.rows ≡ queue_with (rows_in_ticks (ticks_passed c.args.last i.now (option_map (λ (y : Stop). y.tick) x)) between) old) c.in-Some.is
     (c.run_to-stop.ensures f i.now start).1 in
     let same : between ≡ c.args.self.now =
-    settled-between i.stopped n i.delays.list i.present.state i.present.taken i.behind i.now i.owed i.ended i.fresh v c.self.invariant owes ∙ c.self.view_is in
+    settled-between i.stopped n i.delays.list i.present.state i.present.taken i.missed i.now i.owed i.ended i.fresh v c.self.invariant owes ∙ c.self.view_is in
     subst (λ (m : Overlap). c.run_to-stop.new.rows ≡ queue_with (rows_in_ticks (c.in-Some.stop.tick - m.now) m) old) same noted

@@ -32,13 +32,13 @@ invariant_of-self g c =
     let f = oldest_front v.levels.plans v.front in
     let owes = subst (λ (m : Overlap). m.owed ≡ false) (sym c.self.view_is) c.requires.settled in
     let early = subst (λ (m : Overlap). m.now < 2 ^ 63) (sym c.self.view_is) c.requires.tick in
-    let at = idle i.stopped n i.delays.list i.present.state i.present.taken i.behind i.now i.owed i.ended i.fresh v c.self.invariant owes in
+    let at = idle i.stopped n i.delays.list i.present.state i.present.taken i.missed i.now i.owed i.ended i.fresh v c.self.invariant owes in
     let w = c.tick-done.new.self in
     let u = c.tick-done.new.state in
     let are = delays-are i.delays in
     let by = subst (λ (x : Option Completed). IsTicked i.delays.list n i.now i.present.taken i.present.state f v u w x) c.in_default.is
     (c.tick-done.ensures.ticked i.delays.list (i.now - 1) i.present.taken f c.self.invariant.some c.self.invariant.few are at.lookahead (not-first i.now v.levels.ring at.lookahead.outlook.prepared)) in
-    let all = passed-tick i.stopped n i.delays.list i.present.state u i.present.taken i.behind i.now i.owed i.ended i.fresh v w c.self.invariant owes early by
+    let all = passed-tick i.stopped n i.delays.list i.present.state u i.present.taken i.missed i.now i.owed i.ended i.fresh v w c.self.invariant owes early by
     (levels_are_the_entries_ahead.oldest i.delays.list n i.now i.present.taken i.present.state f w.front w.levels by.2.outlook.ahead) in
     all.0
 
@@ -50,13 +50,13 @@ returns-in_default-clause-event g c =
     let f = oldest_front v.levels.plans v.front in
     let owes = subst (λ (m : Overlap). m.owed ≡ false) (sym c.self.view_is) c.requires.settled in
     let early = subst (λ (m : Overlap). m.now < 2 ^ 63) (sym c.self.view_is) c.requires.tick in
-    let at = idle i.stopped n i.delays.list i.present.state i.present.taken i.behind i.now i.owed i.ended i.fresh v c.self.invariant owes in
+    let at = idle i.stopped n i.delays.list i.present.state i.present.taken i.missed i.now i.owed i.ended i.fresh v c.self.invariant owes in
     let w = c.tick-done.new.self in
     let u = c.tick-done.new.state in
     let are = delays-are i.delays in
     let by = subst (λ (x : Option Completed). IsTicked i.delays.list n i.now i.present.taken i.present.state f v u w x) c.in_default.is
     (c.tick-done.ensures.ticked i.delays.list (i.now - 1) i.present.taken f c.self.invariant.some c.self.invariant.few are at.lookahead (not-first i.now v.levels.ring at.lookahead.outlook.prepared)) in
-    let all = passed-tick i.stopped n i.delays.list i.present.state u i.present.taken i.behind i.now i.owed i.ended i.fresh v w c.self.invariant owes early by
+    let all = passed-tick i.stopped n i.delays.list i.present.state u i.present.taken i.missed i.now i.owed i.ended i.fresh v w c.self.invariant owes early by
     (levels_are_the_entries_ahead.oldest i.delays.list n i.now i.present.taken i.present.state f w.front w.levels by.2.outlook.ahead) in
     subst (λ (m : Overlap). is_done m ≡ false) c.self.view_is all.1
 
@@ -68,15 +68,15 @@ returns-in_default-clause-after g c =
     let f = oldest_front v.levels.plans v.front in
     let owes = subst (λ (m : Overlap). m.owed ≡ false) (sym c.self.view_is) c.requires.settled in
     let early = subst (λ (m : Overlap). m.now < 2 ^ 63) (sym c.self.view_is) c.requires.tick in
-    let at = idle i.stopped n i.delays.list i.present.state i.present.taken i.behind i.now i.owed i.ended i.fresh v c.self.invariant owes in
+    let at = idle i.stopped n i.delays.list i.present.state i.present.taken i.missed i.now i.owed i.ended i.fresh v c.self.invariant owes in
     let w = c.tick-done.new.self in
     let u = c.tick-done.new.state in
     let are = delays-are i.delays in
     let by = subst (λ (x : Option Completed). IsTicked i.delays.list n i.now i.present.taken i.present.state f v u w x) c.in_default.is
     (c.tick-done.ensures.ticked i.delays.list (i.now - 1) i.present.taken f c.self.invariant.some c.self.invariant.few are at.lookahead (not-first i.now v.levels.ring at.lookahead.outlook.prepared)) in
-    let all = passed-tick i.stopped n i.delays.list i.present.state u i.present.taken i.behind i.now i.owed i.ended i.fresh v w c.self.invariant owes early by
+    let all = passed-tick i.stopped n i.delays.list i.present.state u i.present.taken i.missed i.now i.owed i.ended i.fresh v w c.self.invariant owes early by
     (levels_are_the_entries_ahead.oldest i.delays.list n i.now i.present.taken i.present.state f w.front w.levels by.2.outlook.ahead) in
-    subst (λ (m : Overlap). overlap_of n i.delays.list u i.present.taken i.behind i.now true i.ended i.stopped i.fresh w ≡ machine_after_tick m) c.self.view_is all.2
+    subst (λ (m : Overlap). overlap_of n i.delays.list u i.present.taken i.missed i.now true i.ended i.stopped i.fresh w ≡ machine_after_tick m) c.self.view_is all.2
 
 pub invariant_of-self-2 : goal.invariant_of-self-2
 invariant_of-self-2 g c =
@@ -86,7 +86,7 @@ invariant_of-self-2 g c =
     let f = oldest_front v.levels.plans v.front in
     let owes = subst (λ (m : Overlap). m.owed ≡ false) (sym c.self.view_is) c.requires.settled in
     let early = subst (λ (m : Overlap). m.now < 2 ^ 63) (sym c.self.view_is) c.requires.tick in
-    let at = idle i.stopped n i.delays.list i.present.state i.present.taken i.behind i.now i.owed i.ended i.fresh v c.self.invariant owes in
+    let at = idle i.stopped n i.delays.list i.present.state i.present.taken i.missed i.now i.owed i.ended i.fresh v c.self.invariant owes in
     let w = c.tick-done.new.self in
     let u = c.tick-done.new.state in
     let are = delays-are i.delays in
@@ -107,7 +107,7 @@ invariant_of-self-2 g c =
     let guessed = guess-seen i.present.taken i.present.state u (is_missed (plan i.present.state i.present.taken) i.present.state) done.missed refl by.state by.told.missed
     (steps_are_guesses.right i.present.taken i.present.state m t) (steps_are_guesses.missed i.present.taken i.present.state m t) in
     let front = levels_are_the_entries_ahead.oldest i.delays.list n i.now None (guess i.present.taken i.present.state) (front_after_entry i.delays.list n f (entry i.present.taken i.present.state)) w.front w.levels by.lookahead.outlook.ahead in
-    let all = done-tick i.stopped n i.delays.list i.present.state u i.present.taken i.behind i.now i.owed i.ended i.fresh v w done c.self.invariant owes early by front banks left.1 guessed in
+    let all = done-tick i.stopped n i.delays.list i.present.state u i.present.taken i.missed i.now i.owed i.ended i.fresh v w done c.self.invariant owes early by front banks left.1 guessed in
     all.0
 
 pub returns-clause-event : goal.returns-clause-event
@@ -118,7 +118,7 @@ returns-clause-event g c =
     let f = oldest_front v.levels.plans v.front in
     let owes = subst (λ (m : Overlap). m.owed ≡ false) (sym c.self.view_is) c.requires.settled in
     let early = subst (λ (m : Overlap). m.now < 2 ^ 63) (sym c.self.view_is) c.requires.tick in
-    let at = idle i.stopped n i.delays.list i.present.state i.present.taken i.behind i.now i.owed i.ended i.fresh v c.self.invariant owes in
+    let at = idle i.stopped n i.delays.list i.present.state i.present.taken i.missed i.now i.owed i.ended i.fresh v c.self.invariant owes in
     let w = c.tick-done.new.self in
     let u = c.tick-done.new.state in
     let are = delays-are i.delays in
@@ -139,8 +139,8 @@ returns-clause-event g c =
     let guessed = guess-seen i.present.taken i.present.state u (is_missed (plan i.present.state i.present.taken) i.present.state) done.missed refl by.state by.told.missed
     (steps_are_guesses.right i.present.taken i.present.state m t) (steps_are_guesses.missed i.present.taken i.present.state m t) in
     let front = levels_are_the_entries_ahead.oldest i.delays.list n i.now None (guess i.present.taken i.present.state) (front_after_entry i.delays.list n f (entry i.present.taken i.present.state)) w.front w.levels by.lookahead.outlook.ahead in
-    let all = done-tick i.stopped n i.delays.list i.present.state u i.present.taken i.behind i.now i.owed i.ended i.fresh v w done c.self.invariant owes early by front banks left.1 guessed in
-    let row = row-tick i.stopped n i.delays.list i.present.state u i.present.taken i.behind i.now i.owed i.ended i.fresh v w done c.self.invariant owes by
+    let all = done-tick i.stopped n i.delays.list i.present.state u i.present.taken i.missed i.now i.owed i.ended i.fresh v w done c.self.invariant owes early by front banks left.1 guessed in
+    let row = row-tick i.stopped n i.delays.list i.present.state u i.present.taken i.missed i.now i.owed i.ended i.fresh v w done c.self.invariant owes by
     (entries_count_as_one (plan i.present.state i.present.taken) i.present.state) in
     subst (λ (m : Overlap). (is_done m ≡ true) × (told c.done_in-number.result done.address done.p done.r i.now ≡ row_done m)) c.self.view_is (all.1, ap (λ k. told k done.address done.p done.r i.now) c.done_in-number.ensures ∙ row)
 
@@ -152,7 +152,7 @@ returns-clause-after g c =
     let f = oldest_front v.levels.plans v.front in
     let owes = subst (λ (m : Overlap). m.owed ≡ false) (sym c.self.view_is) c.requires.settled in
     let early = subst (λ (m : Overlap). m.now < 2 ^ 63) (sym c.self.view_is) c.requires.tick in
-    let at = idle i.stopped n i.delays.list i.present.state i.present.taken i.behind i.now i.owed i.ended i.fresh v c.self.invariant owes in
+    let at = idle i.stopped n i.delays.list i.present.state i.present.taken i.missed i.now i.owed i.ended i.fresh v c.self.invariant owes in
     let w = c.tick-done.new.self in
     let u = c.tick-done.new.state in
     let are = delays-are i.delays in
@@ -173,5 +173,5 @@ returns-clause-after g c =
     let guessed = guess-seen i.present.taken i.present.state u (is_missed (plan i.present.state i.present.taken) i.present.state) done.missed refl by.state by.told.missed
     (steps_are_guesses.right i.present.taken i.present.state m t) (steps_are_guesses.missed i.present.taken i.present.state m t) in
     let front = levels_are_the_entries_ahead.oldest i.delays.list n i.now None (guess i.present.taken i.present.state) (front_after_entry i.delays.list n f (entry i.present.taken i.present.state)) w.front w.levels by.lookahead.outlook.ahead in
-    let all = done-tick i.stopped n i.delays.list i.present.state u i.present.taken i.behind i.now i.owed i.ended i.fresh v w done c.self.invariant owes early by front banks left.1 guessed in
+    let all = done-tick i.stopped n i.delays.list i.present.state u i.present.taken i.missed i.now i.owed i.ended i.fresh v w done c.self.invariant owes early by front banks left.1 guessed in
     subst (λ (m : Overlap). overlap_of n i.delays.list u None done.missed i.now true i.ended i.stopped true w ≡ machine_after_tick m) c.self.view_is all.2

@@ -30,12 +30,12 @@ returns-clause-ahead g c = λ ds n tick t s f last m some h free front form numb
     let i = table_behind (length v.ring) t in
     let p = c.args.prepared.now in
     let filled = c.args.filled.now in
-    let new : LevelsView = record { ring = c.push_prepared.new.self; plans = c.push.new.self; x = c.change.new.x } in
+    let new : LevelsView = record { ring = c.push_prepared.new.self; plans = c.push.new.self; x = c.change_index.new.x } in
     let ring : new.ring ≡ v.ring ++ pushed_level p filled ∷ [] = c.push_prepared.ensures.levels
     ∙ ap (λ (w : LevelsView). w.ring ++ pushed_level p filled ∷ []) c.self.view_is in
     let plans : new.plans ≡ v.plans ++ row_of_plan c.args.front.now filled ∷ [] = c.push.ensures.rows
     ∙ ap (λ (w : LevelsView). w.plans ++ row_of_plan c.args.front.now filled ∷ []) c.self.view_is in
-    let x : new.x ≡ words_after v.x p.index = c.change.ensures
+    let x : new.x ≡ words_after v.x p.index = c.change_index.ensures
     ∙ ap (λ (w : LevelsView). words_after w.x p.index) c.self.view_is in
     push-ahead ds n tick t s f last v new (pushed_level p filled) (row_of_plan c.args.front.now filled) p m some h free form
     (pushed-level ds n tick i u last p c.args.front.now filled front form numbers ticks)
