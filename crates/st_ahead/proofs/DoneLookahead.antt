@@ -28,7 +28,7 @@ use Rattle.st_segment.proofs.EntryRanges.{entry-ranges}
 use Rattle.st_segment.proofs.GuessLemmas.{guess-machine, behind-none}
 use Rattle.st_segment.proofs.StepLemmas.{guess-alone}
 use Rattle.st_ring.specs.Levels.{LevelsView, AreLevels, AreAhead, AreFull}
-use Rattle.st_ring.specs.declared.plans.Plan.{Plan}
+use Rattle.st_ring.specs.declared.plans.PlannedRow.{PlannedRow}
 use Rattle.st_ring.proofs.LevelLemmas.{levels-front}
 use Rattle.st_ring.proofs.OrderLemmas.{after-c}
 use Rattle.st_next.specs.Progress.{IsNext, Rests, reads_so_far}
@@ -95,10 +95,10 @@ lookahead-filled ds n tick now next t s f v levels h ahead full late =
     }
 
 -- without levels there is nothing to fill
-nothing-filled : (ds : List ℕ) (n a b : ℕ) (t : Option ℕ) (s : Machine) (f last : Front) (ring : List Level) (plans : List Plan)
+nothing-filled : (ds : List ℕ) (n a b : ℕ) (t : Option ℕ) (s : Machine) (f last : Front) (ring : List Level) (plans : List PlannedRow)
     → length ring ≡ 0 → AreLevels ds n a t s f last ring plans → AreLevels ds n b t s f last ring plans × All (λ q. b < q.c) plans
 unfolding AreLevels
-nothing-filled ds n a b t s f last [] [] empty h = (h, All-nil (λ (q : Plan). b < q.c))
+nothing-filled ds n a b t s f last [] [] empty h = (h, All-nil (λ (q : PlannedRow). b < q.c))
 nothing-filled ds n a b t s f last [] (q ∷ qs) empty h = absurd h
 nothing-filled ds n a b t s f last (level ∷ levels) plans empty h = absurd (omega (arith, empty))
 
@@ -204,7 +204,7 @@ module _ (ds : List ℕ) (n now : ℕ) (t : Option ℕ) (s u : Machine) (v : Loo
       (subst (λ (i : Option ℕ). NextAt (is_open w) ds n now i (guesses k None (guess t s)) v.front w.next) (sym (behind-none k)) behind)
 
 -- the levels that are left
-levels-left : (ds : List ℕ) (n tick now : ℕ) (t : Option ℕ) (s : Machine) (f last : Front) (ring more : List Level) (plans rows : List Plan)
+levels-left : (ds : List ℕ) (n tick now : ℕ) (t : Option ℕ) (s : Machine) (f last : Front) (ring more : List Level) (plans rows : List PlannedRow)
     → IsMachine s → IfSome t (λ i. i < 64) → 1 ≤ length ring → AreLevels ds n tick t s f last ring plans
     → AreLevels ds n tick None (guess t s) (front_after_entry ds n f (entry t s)) last more rows → All (λ level. level.p < now) ring
     → (length ring ≡ suc (length more)) × All (λ level. level.p < now) more
@@ -219,14 +219,14 @@ levels-left ds n tick now t s f last (level ∷ levels) more (q ∷ qs) rows m s
     )
 
 -- and it is not done before
-oldest-open : (ds : List ℕ) (n tick : ℕ) (t : Option ℕ) (s : Machine) (f last : Front) (ring : List Level) (plans : List Plan)
+oldest-open : (ds : List ℕ) (n tick : ℕ) (t : Option ℕ) (s : Machine) (f last : Front) (ring : List Level) (plans : List PlannedRow)
     → 1 ≤ length ring → AreLevels ds n tick t s f last ring plans → All (λ q. tick < q.c) plans → tick < (row_of_entry ds n f (entry t s)).c
 unfolding AreLevels
 oldest-open ds n tick t s f last [] plans one h each = absurd (omega (arith, one))
 oldest-open ds n tick t s f last (level ∷ levels) [] one h each = absurd h
 oldest-open ds n tick t s f last (level ∷ levels) (q ∷ qs) one h each =
     let c : q.c ≡ (row_of_entry ds n f (entry t s)).c = h.0.c in
-    let later : tick < q.c = All-head (λ (r : Plan). tick < r.c) q qs each in
+    let later : tick < q.c = All-head (λ (r : PlannedRow). tick < r.c) q qs each in
     omega arith
 
 -- its reads are left behind, and noted before those that are left
@@ -327,7 +327,7 @@ pub all-filled : (ds : List ℕ) (n tick now next : ℕ) (t : Option ℕ) (s : M
     → let w = record v { levels = levels } in IsLookahead ds n now next t s f w × (w.log ≡ old.log) × (w.next ≡ old.next)
 all-filled ds n tick now next t s f v old levels is h ahead full plans late = (
   lookahead-filled ds n tick now next t s f v levels (subst (λ (w : LookaheadView). IsOutlook ds n tick next t s f w) (sym is) h) ahead full
-      (subst (λ (rows : List Plan). All (λ q. now < q.c) rows) (sym (plans ∙ ap (λ (w : LookaheadView). w.levels.plans) is)) late),
+      (subst (λ (rows : List PlannedRow). All (λ q. now < q.c) rows) (sym (plans ∙ ap (λ (w : LookaheadView). w.levels.plans) is)) late),
   ap (λ (w : LookaheadView). w.log) is,
   ap (λ (w : LookaheadView). w.next) is,
 )

@@ -21,7 +21,7 @@ use Rattle.st_segment.specs.Alone.{RunAhead}
 use Rattle.st_segment.proofs.EntryRanges.{entry-ranges}
 use Rattle.st_segment.proofs.GuessLemmas.{behind-indicator}
 use Rattle.st_ring.specs.Levels.{AreLevels}
-use Rattle.st_ring.specs.declared.plans.Plan.{Plan}
+use Rattle.st_ring.specs.declared.plans.PlannedRow.{PlannedRow}
 use Rattle.st_next.specs.Known.{IsStateBefore}
 use Rattle.st_next.specs.Words.{asked_so_far}
 use Rattle.st_next.specs.Progress.{IsPlanned, reads_so_far}
@@ -60,7 +60,7 @@ after-p ds n f e = refl
 
 module _ (ds : List ℕ) (n tick : ℕ) where
   -- an older entry lies behind all levels
-  past-behind : (j : ℕ) (d : Past) (t : Option ℕ) (s : Machine) (f last : Front) (ring : List Level) (plans : List Plan)
+  past-behind : (j : ℕ) (d : Past) (t : Option ℕ) (s : Machine) (f last : Front) (ring : List Level) (plans : List PlannedRow)
       → AreLevels ds n tick t s f last ring plans → length ring + j < 8 → get_or last.past (length ring + j) d ≡ get_or f.past j d
   unfolding AreLevels front_after_entry
   past-behind j d t s f last [] [] h few =
@@ -75,7 +75,7 @@ module _ (ds : List ℕ) (n tick : ℕ) where
       ∙ get_or-take 7 f.past j d (omega arith)
 
   -- the oldest of n levels is the entry n before the next one
-  pub full-behind : (now : ℕ) (t : Option ℕ) (s : Machine) (f last : Front) (ring : List Level) (plans : List Plan)
+  pub full-behind : (now : ℕ) (t : Option ℕ) (s : Machine) (f last : Front) (ring : List Level) (plans : List PlannedRow)
       → AreLevels ds n tick t s f last ring plans → All (λ q. now < q.c) plans → 1 ≤ n → n ≤ 8 → length ring ≡ n → now < done_before n last.past
   unfolding AreLevels front_after_entry row_of_entry
   full-behind now t s f last [] plans h late some most full = let no : ⊥ = omega (arith, some, full) in absurd no
@@ -83,7 +83,7 @@ module _ (ds : List ℕ) (n tick : ℕ) where
   full-behind now t s f last (level ∷ levels) (q ∷ qs) h late some most full =
       let none : Past = record { c = 0; writes = no_runs } in
       let e = entry t s in
-      let here : now < q.c = All-head (λ (x : Plan). now < x.c) q qs late in
+      let here : now < q.c = All-head (λ (x : PlannedRow). now < x.c) q qs late in
       let is : q.c ≡ tick_c ds n f e = h.0.c in
       let place : n - 1 ≡ length levels + 0 = omega (arith, full) in
       let kept = past-behind 0 none None (guess t s) (front_after_entry ds n f e) last levels qs h.1 (omega (arith, full, most)) in

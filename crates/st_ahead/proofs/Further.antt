@@ -20,7 +20,7 @@ use Rattle.st_segment.specs.Guesses.{guesses, table_behind}
 use Rattle.st_segment.proofs.EntryRanges.{entry-ranges}
 use Rattle.st_segment.proofs.GuessLemmas.{behind-indicator}
 use Rattle.st_ring.specs.Levels.{AreAhead}
-use Rattle.st_ring.specs.declared.plans.Plan.{Plan}
+use Rattle.st_ring.specs.declared.plans.PlannedRow.{PlannedRow}
 use Rattle.st_ring.proofs.LevelLemmas.{levels-beside}
 use Rattle.st_ring.proofs.OrderLemmas.{done-order}
 use Rattle.st_next.specs.Known.{IsStateBefore}
@@ -93,12 +93,12 @@ some-by (suc k) e = omega arith
 
 -- ---- the youngest level is not done
 
-pub youngest-late : (now : ℕ) (f last : Front) (plans : List Plan) → All (λ q. now < q.c) plans
+pub youngest-late : (now : ℕ) (f last : Front) (plans : List PlannedRow) → All (λ q. now < q.c) plans
     → All (λ q. (f.c < q.c) × (q.c ≤ last.c)) plans → 1 ≤ length plans → now < last.c
 youngest-late now f last [] late order some = absurd (omega arith)
 youngest-late now f last (q ∷ qs) late order some =
-    let here : now < q.c = All-head (λ (x : Plan). now < x.c) q qs late in
-    let before : (f.c < q.c) × (q.c ≤ last.c) = All-head (λ (x : Plan). (f.c < x.c) × (x.c ≤ last.c)) q qs order in
+    let here : now < q.c = All-head (λ (x : PlannedRow). now < x.c) q qs late in
+    let before : (f.c < q.c) × (q.c ≤ last.c) = All-head (λ (x : PlannedRow). (f.c < x.c) × (x.c ≤ last.c)) q qs order in
     omega (arith, before.1)
 
 pub going-late : (ds : List ℕ) (n now rest : ℕ) → ((g : Front) (e : Entry) → IsEntryInTime e → g.c < (row_of_entry ds n g e).c)

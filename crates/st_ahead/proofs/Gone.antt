@@ -13,7 +13,7 @@ use Rattle.st_segment.specs.Entries.{entry}
 use Rattle.st_segment.specs.Ahead.{ahead, prepared_before}
 use Rattle.st_segment.proofs.EntryRanges.{entry-ranges}
 use Rattle.st_ring.specs.Levels.{AreLevels, due_of}
-use Rattle.st_ring.specs.declared.plans.Plan.{Plan}
+use Rattle.st_ring.specs.declared.plans.PlannedRow.{PlannedRow}
 use Rattle.st_ring.proofs.LevelLemmas.{levels-beside}
 use Rattle.st_ring.proofs.OrderLemmas.{done-order}
 use Rattle.st_ring.proofs.RestLemmas.{ahead-rests}
@@ -27,52 +27,52 @@ use Rattle.st_ahead.proofs.TickCases as cases
 
 -- ---- the tick at which the oldest level is done
 
-All-first : (f last : Front) (q : Plan) (qs : List Plan) → All (λ (x : Plan). (f.c < x.c) × (x.c ≤ last.c)) (q ∷ qs) → (f.c < q.c) × (q.c ≤ last.c)
-All-first f last q qs each = All-head (λ (x : Plan). (f.c < x.c) × (x.c ≤ last.c)) q qs each
+All-first : (f last : Front) (q : PlannedRow) (qs : List PlannedRow) → All (λ (x : PlannedRow). (f.c < x.c) × (x.c ≤ last.c)) (q ∷ qs) → (f.c < q.c) × (q.c ≤ last.c)
+All-first f last q qs each = All-head (λ (x : PlannedRow). (f.c < x.c) × (x.c ≤ last.c)) q qs each
 
 module _ (ds : List ℕ) (n tick : ℕ) where
-  pub before-due : (now : ℕ) (t : Option ℕ) (s : Machine) (f last : Front) (ring : List Level) (plans : List Plan) → IsMachine s
+  pub before-due : (now : ℕ) (t : Option ℕ) (s : Machine) (f last : Front) (ring : List Level) (plans : List PlannedRow) → IsMachine s
       → IfSome t (λ i. i < 64) → AreLevels ds n tick t s f last ring plans → now < due_of plans → All (λ q. now < q.c) plans
   unfolding AreLevels
-  before-due now t s f last ring [] m some h late = All-nil (λ (q : Plan). now < q.c)
+  before-due now t s f last ring [] m some h late = All-nil (λ (q : PlannedRow). now < q.c)
   before-due now t s f last [] (q ∷ qs) m some h late = absurd h
   before-due now t s f last (level ∷ levels) (q ∷ qs) m some h late =
       let c : q.c ≡ (row_of_entry ds n f (entry t s)).c = h.0.c in
       let first : now < q.c = late in
       done-after ds n tick now t s f last (level ∷ levels) (q ∷ qs) m some h (omega arith)
 
-  pub due-row : (t : Option ℕ) (s : Machine) (f last : Front) (ring : List Level) (plans : List Plan)
+  pub due-row : (t : Option ℕ) (s : Machine) (f last : Front) (ring : List Level) (plans : List PlannedRow)
       → AreLevels ds n tick t s f last ring plans → 1 ≤ length ring → due_of plans ≡ (row_of_entry ds n f (entry t s)).c
   unfolding AreLevels
   due-row t s f last [] plans h some = absurd (omega (arith, some))
   due-row t s f last (level ∷ levels) [] h some = absurd h
   due-row t s f last (level ∷ levels) (q ∷ qs) h some = h.0.c
 
-  pub due-some : (t : Option ℕ) (s : Machine) (f last : Front) (ring : List Level) (plans : List Plan)
+  pub due-some : (t : Option ℕ) (s : Machine) (f last : Front) (ring : List Level) (plans : List PlannedRow)
       → AreLevels ds n tick t s f last ring plans → due_of plans < 2 ^ 64 - 1 → 1 ≤ length ring
   unfolding AreLevels
   due-some t s f last [] [] h early = absurd (omega (arith, early))
   due-some t s f last [] (q ∷ qs) h early = absurd h
   due-some t s f last (level ∷ levels) plans h early = omega arith
 
-  due-late : (t : Option ℕ) (s : Machine) (f last : Front) (ring : List Level) (plans : List Plan)
+  due-late : (t : Option ℕ) (s : Machine) (f last : Front) (ring : List Level) (plans : List PlannedRow)
       → AreLevels ds n tick t s f last ring plans → All (λ q. tick < q.c) plans → 1 ≤ length ring → (due : ℕ) → due ≡ due_of plans → tick < due
   unfolding AreLevels
   due-late t s f last [] plans h late some due is = absurd (omega (arith, some))
   due-late t s f last (level ∷ levels) [] h late some due is = absurd h
   due-late t s f last (level ∷ levels) (q ∷ qs) h late some due is =
-      let first : tick < q.c = All-head (λ (x : Plan). tick < x.c) q qs late in
+      let first : tick < q.c = All-head (λ (x : PlannedRow). tick < x.c) q qs late in
       let same : due ≡ q.c = is in
       omega (arith, first, same)
 
   -- none of them is done before it, the youngest neither
-  pub due-last : (t : Option ℕ) (s : Machine) (f last : Front) (ring : List Level) (plans : List Plan) → IsMachine s
+  pub due-last : (t : Option ℕ) (s : Machine) (f last : Front) (ring : List Level) (plans : List PlannedRow) → IsMachine s
       → IfSome t (λ i. i < 64) → AreLevels ds n tick t s f last ring plans → 1 ≤ length ring → due_of plans ≤ last.c
   due-last t s f last ring plans m some h one =
       due-below f last plans (done-order ds n tick (λ g e r. done-behind ds n g e r) entry-ranges f.c t s f last ring plans m some h (omega arith))
       (omega (arith, one, levels-beside ds n tick t s f last ring plans h))
     where
-      due-below : (f last : Front) (plans : List Plan) → All (λ q. (f.c < q.c) × (q.c ≤ last.c)) plans → 1 ≤ length plans → due_of plans ≤ last.c
+      due-below : (f last : Front) (plans : List PlannedRow) → All (λ q. (f.c < q.c) × (q.c ≤ last.c)) plans → 1 ≤ length plans → due_of plans ≤ last.c
       due-below f last [] each one = absurd (omega (arith, one))
       due-below f last (q ∷ qs) each one = let first = All-first f last q qs each in omega (arith, first)
 
@@ -82,9 +82,9 @@ pub due-first : (ds : List ℕ) (n tick due : ℕ) (t : Option ℕ) (s : Machine
 due-first ds n tick due t s f v is at =
     first-by v.levels.plans is.not_done at
   where
-    first-by : (plans : List Plan) → All (λ q. tick < q.c) plans → due ≡ due_of plans → 1 ≤ due
+    first-by : (plans : List PlannedRow) → All (λ q. tick < q.c) plans → due ≡ due_of plans → 1 ≤ due
     first-by [] late same = omega (arith, same)
-    first-by (q ∷ qs) late same = let here : tick < q.c = All-head (λ (x : Plan). tick < x.c) q qs late in omega (arith, here, same)
+    first-by (q ∷ qs) late same = let here : tick < q.c = All-head (λ (x : PlannedRow). tick < x.c) q qs late in omega (arith, here, same)
 
 -- ---- to the next preparation
 

@@ -27,7 +27,7 @@ use Rattle.st_segment.specs.Ahead.{ahead, reads_before}
 use Rattle.st_segment.proofs.EntryRanges.{entry-ranges}
 use Rattle.st_segment.proofs.GuessLemmas.{guess-machine, behind-none}
 use Rattle.st_ring.specs.Levels.{AreLevels}
-use Rattle.st_ring.specs.declared.plans.Plan.{Plan}
+use Rattle.st_ring.specs.declared.plans.PlannedRow.{PlannedRow}
 use Rattle.st_ring.proofs.LevelLemmas.{levels-beside}
 use Rattle.st_next.specs.Words.{asked_so_far}
 use Rattle.st_next.specs.Progress.{IsNext, IsPlanned, Rests, reads_so_far}
@@ -144,12 +144,12 @@ module _ (ds : List ℕ) (n now : ℕ) (ordered : AreOrdered ds n) where
 -- ---- behind levels
 
 -- the youngest level is not done by the tick
-last-done : (tick : ℕ) (f last : Front) (plans : List Plan) → All (λ q. tick < q.c) plans
+last-done : (tick : ℕ) (f last : Front) (plans : List PlannedRow) → All (λ q. tick < q.c) plans
     → All (λ q. (f.c < q.c) × (q.c ≤ last.c)) plans → 1 ≤ length plans → tick < last.c
 last-done tick f last [] late order some = absurd (omega arith)
 last-done tick f last (q ∷ qs) late order some =
-    let done : tick < q.c = All-head (λ (x : Plan). tick < x.c) q qs late in
-    let before : (f.c < q.c) × (q.c ≤ last.c) = All-head (λ (x : Plan). (f.c < x.c) × (x.c ≤ last.c)) q qs order in
+    let done : tick < q.c = All-head (λ (x : PlannedRow). tick < x.c) q qs late in
+    let before : (f.c < q.c) × (q.c ≤ last.c) = All-head (λ (x : PlannedRow). (f.c < x.c) × (x.c ≤ last.c)) q qs order in
     omega (arith, before.1)
 
 closed-by : (a b : Bool) → (a || not b) ≡ false → (a ≡ false) × (b ≡ true)
@@ -184,7 +184,7 @@ more-behind true reads more e = refl
 more-behind false reads more e = absurd (cc e)
 
 levels-reads : (ds : List ℕ) (n tick now m : ℕ) (t k : Option ℕ) (s u : Machine) (f last : Front) (ring : List Level)
-    (plans : List Plan) → AreLevels ds n tick t s f last ring plans → All (λ level. level.p < now) ring
+    (plans : List PlannedRow) → AreLevels ds n tick t s f last ring plans → All (λ level. level.p < now) ring
     → k ≡ table_behind (length ring) t → u ≡ guesses (length ring) t s → now ≤ (row_of_entry ds n last (entry k u)).p → length ring < m
     → reads_before ds n now (ahead ds n m t s f) ≡ asked_ahead ds n (length ring) t s f ++ reads_of_entry ds n last (entry k u)
 unfolding AreLevels guesses ahead reads_before
@@ -207,7 +207,7 @@ levels-reads ds n tick now (suc m) t k s u f last (level ∷ levels) (q ∷ qs) 
     ∙ sym (append_assoc (reads_of_entry ds n f (entry t s)) (asked_ahead ds n (length levels) None (guess t s) (front_after_entry ds n f (entry t s))) (reads_of_entry ds n last (entry k u)))
 
 -- the oldest level is prepared
-oldest-prepared : (ds : List ℕ) (n tick now : ℕ) (t : Option ℕ) (s : Machine) (f last : Front) (ring : List Level) (plans : List Plan)
+oldest-prepared : (ds : List ℕ) (n tick now : ℕ) (t : Option ℕ) (s : Machine) (f last : Front) (ring : List Level) (plans : List PlannedRow)
     → AreLevels ds n tick t s f last ring plans → All (λ level. level.p < now) ring → 1 ≤ length ring
     → (row_of_entry ds n f (entry t s)).p < now
 unfolding AreLevels
@@ -282,7 +282,7 @@ record AreFew (ds : List ℕ) (now : ℕ) (reads : List Read) (b : Bus) : Type 0
   few : length rest ≤ 64
   free : (bus_after_reads ds first b).free ≤ now
 
-few-ahead : (ds : List ℕ) (n tick now : ℕ) (t : Option ℕ) (s : Machine) (f last : Front) (ring : List Level) (plans : List Plan) (more : List Read)
+few-ahead : (ds : List ℕ) (n tick now : ℕ) (t : Option ℕ) (s : Machine) (f last : Front) (ring : List Level) (plans : List PlannedRow) (more : List Read)
     → AreDelaysUpTo 255 ds → IsMachine s → IfSome t (λ i. i < 64) → IsTight 255 f → AreLevels ds n tick t s f last ring plans
     → All (λ level. level.p < now) ring → 1 ≤ length ring → length more ≤ 5 → AreFew ds now (asked_ahead ds n (length ring) t s f ++ more) f.bus
 unfolding AreLevels row_of_entry ahead

@@ -1,7 +1,7 @@
 -- What the next entry is known by, while it is not there yet, proved.
 use Rattle.std.proofs.Common.{◌<◌, ◌≤◌, ◌+◌, arith, sym, ◌∙◌, ◌≡◌, true, ℕ, Bool, subst, None, List, All}
 use Rattle.std.proofs.lemmas.List.Elements.{All-weaker}
-use Rattle.st_ring.specs.declared.plans.Plan.{Plan}
+use Rattle.st_ring.specs.declared.plans.PlannedRow.{PlannedRow}
 use Rattle.st_ahead.proofs.OpenLevels.{levels-run}
 use Rattle.st_ahead.specs.Forecast.{count, is_open, IsNextIf}
 use Rattle.st_ahead.proofs.Due.{becomes-level, planned-open}
@@ -26,7 +26,7 @@ pub open_levels_run_ahead : OpenLevelsRunAhead
 open_levels_run_ahead = λ ds n now t s f v is early late opened.
     levels-run ds n now t s f v.front v.levels.ring v.levels.plans is.levels opened (λ two.
     levels_that_are_not_done_run_ahead ds n now (now + 1) t s f v.front v.levels is
-    early (All-weaker (λ (q : Plan). now < q.c) (λ q. now + 1 ≤ q.c) (λ q h. omega arith) v.levels.plans late) two)
+    early (All-weaker (λ (q : PlannedRow). now < q.c) (λ q. now + 1 ≤ q.c) (λ q h. omega arith) v.levels.plans late) two)
 
 pub next_entries_are_known : NextEntriesAreKnown
 next_entries_are_known = λ ds n tick now t s f v m i is late few run. record {

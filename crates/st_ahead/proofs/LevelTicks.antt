@@ -15,7 +15,7 @@ use Rattle.st_segment.specs.Entries.{entry}
 use Rattle.st_segment.proofs.EntryRanges.{entry-ranges}
 use Rattle.st_segment.proofs.GuessLemmas.{guess-machine}
 use Rattle.st_ring.specs.Levels.{AreLevels}
-use Rattle.st_ring.specs.declared.plans.Plan.{Plan}
+use Rattle.st_ring.specs.declared.plans.PlannedRow.{PlannedRow}
 use Rattle.st_ring.proofs.LevelLemmas.{levels-front}
 use Rattle.st_ring.proofs.OrderLemmas.{after-c}
 
@@ -81,14 +81,14 @@ module _ (ds : List ℕ) (n : ℕ) where
   -- ---- levels between two fronts, whatever operands they have
 
   module _ (a b : ℕ) where
-    pub same-count : (t : Option ℕ) (s : Machine) (f last : Front) (ring more : List Level) (plans rows : List Plan) → IsMachine s
+    pub same-count : (t : Option ℕ) (s : Machine) (f last : Front) (ring more : List Level) (plans rows : List PlannedRow) → IsMachine s
         → IfSome t (λ i. i < 64) → AreLevels ds n a t s f last ring plans → AreLevels ds n b t s f last more rows
         → length more ≡ length ring
     same-count t s f last ring more plans rows m some g h =
         same-place (length more) (length ring) t s f m some
         (sym (levels-front ds n b t s f last more rows h) ∙ levels-front ds n a t s f last ring plans g)
 
-    pub prepared-still : (now : ℕ) (t : Option ℕ) (s : Machine) (f last : Front) (ring more : List Level) (plans rows : List Plan)
+    pub prepared-still : (now : ℕ) (t : Option ℕ) (s : Machine) (f last : Front) (ring more : List Level) (plans rows : List PlannedRow)
         → AreLevels ds n a t s f last ring plans → AreLevels ds n b t s f last more rows → length more ≡ length ring
         → All (λ level. level.p < now) ring → All (λ level. level.p < now) more
     unfolding AreLevels
@@ -106,14 +106,14 @@ module _ (ds : List ℕ) (n : ℕ) where
 
   -- ---- where the first of them is done later, all are
 
-  pub done-after : (tick now : ℕ) (t : Option ℕ) (s : Machine) (f last : Front) (ring : List Level) (plans : List Plan) → IsMachine s
+  pub done-after : (tick now : ℕ) (t : Option ℕ) (s : Machine) (f last : Front) (ring : List Level) (plans : List PlannedRow) → IsMachine s
       → IfSome t (λ i. i < 64) → AreLevels ds n tick t s f last ring plans → now < (row_of_entry ds n f (entry t s)).c → All (λ q. now < q.c) plans
   unfolding AreLevels
-  done-after tick now t s f last ring [] m some h late = All-nil (λ (q : Plan). now < q.c)
+  done-after tick now t s f last ring [] m some h late = All-nil (λ (q : PlannedRow). now < q.c)
   done-after tick now t s f last [] (q ∷ qs) m some h late = absurd h
   done-after tick now t s f last (level ∷ levels) (q ∷ qs) m some h late =
       let c : q.c ≡ (row_of_entry ds n f (entry t s)).c = h.0.c in
       let machine = guess-machine t s m some in
-      All-cons (λ (r : Plan). now < r.c) q qs (omega arith)
+      All-cons (λ (r : PlannedRow). now < r.c) q qs (omega arith)
       (done-after tick now None (guess t s) (front_after_entry ds n f (entry t s)) last levels qs machine tt h.1
       (omega (arith, after-c ds n f (entry t s), done-later None (guess t s) (front_after_entry ds n f (entry t s)) machine tt)))

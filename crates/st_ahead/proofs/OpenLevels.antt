@@ -10,10 +10,10 @@ use Rattle.st_ring.specs.declared.level.Level.{Level}
 use Rattle.st_segment.specs.Entries.{entry}
 use Rattle.st_segment.specs.Alone.{RunAhead}
 use Rattle.st_ring.specs.Levels.{AreLevels}
-use Rattle.st_ring.specs.declared.plans.Plan.{Plan}
+use Rattle.st_ring.specs.declared.plans.PlannedRow.{PlannedRow}
 
 -- of one level the front behind it tells whether it is done alone
-one-level : (ds : List ℕ) (n tick : ℕ) (t : Option ℕ) (s : Machine) (f last : Front) (level : Level) (plans : List Plan)
+one-level : (ds : List ℕ) (n tick : ℕ) (t : Option ℕ) (s : Machine) (f last : Front) (level : Level) (plans : List PlannedRow)
     → AreLevels ds n tick t s f last (level ∷ []) plans → last.serial ≡ false → (plan s t).serial ≡ false
 unfolding AreLevels front_after_entry entry
 one-level ds n tick t s f last level [] h alone = absurd h
@@ -21,7 +21,7 @@ one-level ds n tick t s f last level (q ∷ []) h alone = sym (ap (λ (g : Front
 one-level ds n tick t s f last level (q ∷ r ∷ qs) h alone = absurd h.1
 
 -- several levels run ahead, and one does where the front behind it says so
-pub levels-run : (ds : List ℕ) (n tick : ℕ) (t : Option ℕ) (s : Machine) (f last : Front) (ring : List Level) (plans : List Plan)
+pub levels-run : (ds : List ℕ) (n tick : ℕ) (t : Option ℕ) (s : Machine) (f last : Front) (ring : List Level) (plans : List PlannedRow)
     → AreLevels ds n tick t s f last ring plans → ((length ring == 0) || not last.serial) ≡ true
     → (2 ≤ length ring → RunAhead (length ring) t s) → RunAhead (length ring) t s
 unfolding RunAhead

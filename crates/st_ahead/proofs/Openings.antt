@@ -13,7 +13,7 @@ use Rattle.st_fetch.specs.declared.fetched.AskedWord.{AskedWord}
 use Rattle.st_fetch.specs.Planned.{no_word}
 use Rattle.st_rows.specs.Entries.{no_runs}
 use Rattle.st_ring.specs.declared.level.Level.{Level}
-use Rattle.st_ring.specs.declared.plans.Plan.{Plan}
+use Rattle.st_ring.specs.declared.plans.PlannedRow.{PlannedRow}
 use Rattle.st_rows.specs.declared.entry.Entry.{Entry}
 use Rattle.st_rows.specs.declared.fetching.Fetching.{Fetching}
 use Rattle.st_rows.specs.declared.front.Front.{Front}
@@ -144,7 +144,7 @@ opening-lookahead ds n tick now start t s banks v is machine some early before s
         indicator = some;
         ahead = no-levels ds n tick t s f v.front v.levels is.ring is.plans is.index front;
         prepared = rw is.ring (All-nil (λ (level : Level). level.p < now));
-        not_done = rw is.plans (All-nil (λ (q : Plan). tick < q.c));
+        not_done = rw is.plans (All-nil (λ (q : PlannedRow). tick < q.c));
         oldest = tight;
         tight = subst (IsTight 255) (sym front) tight;
         start = soon;

@@ -19,7 +19,7 @@ use Rattle.st_segment.specs.Alone.{RunAhead}
 use Rattle.st_segment.proofs.PassedOver.{entry-same, passed-over}
 use Rattle.st_segment.proofs.SameReading.{same-index, same-place, same-sight}
 use Rattle.st_ring.specs.Levels.{AreNotDone}
-use Rattle.st_ring.specs.declared.plans.Plan.{Plan}
+use Rattle.st_ring.specs.declared.plans.PlannedRow.{PlannedRow}
 use Rattle.st_ring.proofs.AloneLemmas.{AwaitsLast, behind-ahead}
 use Rattle.st_ring.proofs.PassLemmas.{ahead-same, full-same}
 use Rattle.st_next.specs.Words.{AreFirstWords}
@@ -131,7 +131,7 @@ lookahead-ahead ds n tick now awaits t s f v is late done = by-count (count v) r
     by-count zero e = rw e tt
     by-count (suc k) e =
         (behind-ahead ds n tick now awaits t s f v.front v.levels.ring v.levels.plans is.outlook.ahead.levels is.outlook.prepared
-        (All-weaker (λ (q : Plan). now < q.c) (λ (q : Plan). now ≤ q.c) (λ q h. omega arith) v.levels.plans late) done (omega arith)).1
+        (All-weaker (λ (q : PlannedRow). now < q.c) (λ (q : PlannedRow). now ≤ q.c) (λ q h. omega arith) v.levels.plans late) done (omega arith)).1
 
 -- an opening stands in both
 pub opened-same : (t : Option ℕ) (s u : Machine) (f : Front) (v : LookaheadView) → IsOpened t s f v → AreAlikeBesideOrders s u

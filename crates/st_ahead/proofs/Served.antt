@@ -13,11 +13,11 @@ use Rattle.st_segment.specs.Entries.{entry}
 use Rattle.st_segment.specs.Guesses.{guesses, table_behind}
 use Rattle.st_segment.proofs.GuessLemmas.{behind-none}
 use Rattle.st_ring.specs.Levels.{AreLevels}
-use Rattle.st_ring.specs.declared.plans.Plan.{Plan}
+use Rattle.st_ring.specs.declared.plans.PlannedRow.{PlannedRow}
 use Rattle.st_ahead.specs.Forecast.{asked_ahead}
 
 module _ (ds : List ℕ) (n tick : ℕ) where
-  pub served-ahead : (t : Option ℕ) (s : Machine) (f last : Front) (ring : List Level) (plans : List Plan)
+  pub served-ahead : (t : Option ℕ) (s : Machine) (f last : Front) (ring : List Level) (plans : List PlannedRow)
       → AreLevels ds n tick t s f last ring plans → bus_after_reads ds (asked_ahead ds n (length ring) t s f) f.bus ≡ last.bus
   unfolding AreLevels bus_after_reads ahead
   served-ahead t s f last [] [] h = ap (λ (g : Front). g.bus) (sym h)
@@ -29,7 +29,7 @@ module _ (ds : List ℕ) (n tick : ℕ) where
       ∙ ap (bus_after_reads ds rest) (served-asked ds n f (entry t s))
       ∙ served-ahead None (guess t s) (front_after_entry ds n f (entry t s)) last levels qs h.1
 
-  pub asked-more : (t k : Option ℕ) (s u : Machine) (f last : Front) (ring : List Level) (plans : List Plan)
+  pub asked-more : (t k : Option ℕ) (s u : Machine) (f last : Front) (ring : List Level) (plans : List PlannedRow)
       → k ≡ table_behind (length ring) t → u ≡ guesses (length ring) t s → AreLevels ds n tick t s f last ring plans
       → asked_ahead ds n (suc (length ring)) t s f ≡ asked_ahead ds n (length ring) t s f ++ reads_of_entry ds n last (entry k u)
   unfolding AreLevels guesses ahead

@@ -11,7 +11,7 @@ use Rattle.st_segment.specs.Entries.{entry}
 use Rattle.st_segment.specs.Ahead.{Ahead, ahead, prepared_before}
 use Rattle.st_segment.specs.Guesses.{split_words}
 use Rattle.st_ring.specs.Levels.{oldest_front, AreLevels, AreFull}
-use Rattle.st_ring.specs.declared.plans.Plan.{Plan}
+use Rattle.st_ring.specs.declared.plans.PlannedRow.{PlannedRow}
 use Rattle.st_ring.proofs.LevelLemmas.{length-ahead}
 use Rattle.st_ahead.specs.Overlap.{Overlap, state_ahead, levels_of, last_tick_made}
 use Rattle.st_ahead.specs.Shown.{IsLevelOf, AreLevelsOf, lent_index_words}
@@ -41,7 +41,7 @@ soon-last false now = omega arith
 
 -- ---- levels
 
-pub levels-zip : (ds : List ℕ) (n tick : ℕ) (t : Option ℕ) (s : Machine) (f last : Front) (ring : List Level) (plans : List Plan)
+pub levels-zip : (ds : List ℕ) (n tick : ℕ) (t : Option ℕ) (s : Machine) (f last : Front) (ring : List Level) (plans : List PlannedRow)
     → AreLevels ds n tick t s f last ring plans → AreFull ds n tick t s f ring → AllZip (IsLevelOf ds n tick) ring (ahead ds n (length ring) t s f)
 unfolding AreLevels AreFull ahead
 levels-zip ds n tick t s f last [] [] is full = tt

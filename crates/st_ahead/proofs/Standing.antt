@@ -19,7 +19,7 @@ use Rattle.st_rows.specs.Notes.{answers_left}
 use Rattle.st_ahead.specs.declared.events.Row.{Row}
 use Rattle.st_ring.specs.Levels.{oldest_front}
 use Rattle.st_ring.specs.declared.levels.Completed.{Completed}
-use Rattle.st_ring.specs.declared.plans.Plan.{Plan}
+use Rattle.st_ring.specs.declared.plans.PlannedRow.{PlannedRow}
 use Rattle.st_ring.specs.declared.level.Level.{Level}
 use Rattle.st_ahead.specs.Overlap.{Overlap, machine_at_start, state_ahead, with_counter, oldest_row, banks_at_its_end, interrupt_due}
 use Rattle.st_ahead.specs.Calls.{is_done, row_done, machine_after_completion, machine_after_tick}
@@ -63,7 +63,7 @@ told number address p r c = record { number = number; address = address; p = p; 
 -- ---- fronts
 
 pub opened-front : (t : Option ℕ) (s : Machine) (f : Front) (v : LookaheadView) → IsOpened t s f v → oldest_front v.levels.plans v.front ≡ f
-opened-front t s f v is = subst (λ (plans : List Plan). oldest_front plans v.front ≡ f) (sym is.plans) is.front
+opened-front t s f v is = subst (λ (plans : List PlannedRow). oldest_front plans v.front ≡ f) (sym is.plans) is.front
 
 -- the answers of the banks by the log and the bus
 pub answers-same : (now : ℕ) (v w : LookaheadView) → w.log ≡ v.log → w.next.words ≡ v.next.words → answers_before now w ≡ answers_before now v

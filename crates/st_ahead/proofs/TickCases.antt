@@ -15,7 +15,7 @@ use Rattle.st_ring.specs.declared.level.Level.{Level}
 use Rattle.st_segment.specs.Ahead.{Ahead, ahead, prepared_before}
 use Rattle.st_segment.specs.Entries.{entry}
 use Rattle.st_ring.specs.Levels.{AreLevels, is_oldest_due}
-use Rattle.st_ring.specs.declared.plans.Plan.{Plan}
+use Rattle.st_ring.specs.declared.plans.PlannedRow.{PlannedRow}
 
 -- ---- a level that is not due
 
@@ -23,7 +23,7 @@ not-both : (b : Bool) → b ≡ false → b ≡ true → ⊥
 not-both true e g = cc e
 not-both false e g = cc g
 
-pub due-later : (ds : List ℕ) (n tick now : ℕ) (t : Option ℕ) (s : Machine) (f last : Front) (ring : List Level) (plans : List Plan)
+pub due-later : (ds : List ℕ) (n tick now : ℕ) (t : Option ℕ) (s : Machine) (f last : Front) (ring : List Level) (plans : List PlannedRow)
     → AreLevels ds n tick t s f last ring plans → All (λ q. tick < q.c) plans → is_oldest_due plans now ≡ false → now ≡ tick + 1 → 1 ≤ length ring
     → now < (row_of_entry ds n f (entry t s)).c
 unfolding AreLevels
@@ -31,7 +31,7 @@ due-later ds n tick now t s f last [] plans h each due next some = absurd (omega
 due-later ds n tick now t s f last (level ∷ levels) [] h each due next some = absurd h
 due-later ds n tick now t s f last (level ∷ levels) (q ∷ qs) h each due next some =
     let c : q.c ≡ (row_of_entry ds n f (entry t s)).c = h.0.c in
-    let late : tick < q.c = All-head (λ (r : Plan). tick < r.c) q qs each in
+    let late : tick < q.c = All-head (λ (r : PlannedRow). tick < r.c) q qs each in
     let other : q.c ≢ now = λ same. not-both (q.c == now) due (eq-eqb q.c now same) in
     omega (arith, other)
 

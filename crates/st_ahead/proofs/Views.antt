@@ -12,7 +12,7 @@ use Rattle.st_ring.specs.declared.level.Level.{Level}
 use Rattle.st_segment.specs.Entries.{entry}
 use Rattle.st_segment.specs.Ahead.{Ahead, ahead, next_ahead}
 use Rattle.st_ring.specs.Levels.{AreLevels, IsLevel}
-use Rattle.st_ring.specs.declared.plans.Plan.{Plan}
+use Rattle.st_ring.specs.declared.plans.PlannedRow.{PlannedRow}
 use Rattle.st_ahead.specs.Overlap.{Overlap, state_ahead, levels_of, last_tick_made}
 use Rattle.st_ahead.specs.Forecast.{LookaheadView, count}
 use Rattle.st_ahead.specs.Shown.{word_before_change, level_shown, view_at_tick, lent_index_words}
@@ -40,7 +40,7 @@ at prepared p r tick = record {
 same-shown : (a b : Prepared) (p q r x tick : ℕ) → a ≡ b → p ≡ q → r ≡ x → at a p r tick ≡ at b q x tick
 same-shown a b p q r x tick e g h = rw (e, g, h) refl
 
-one-shown : (ds : List ℕ) (n tick now : ℕ) (t : Option ℕ) (s : Machine) (f : Front) (level : Level) (q : Plan) → IsLevel ds n tick t s f level q
+one-shown : (ds : List ℕ) (n tick now : ℕ) (t : Option ℕ) (s : Machine) (f : Front) (level : Level) (q : PlannedRow) → IsLevel ds n tick t s f level q
     → at level.prepared level.p q.r now ≡ level_shown now (next_ahead ds n t s f)
 one-shown ds n tick now t s f level q is =
     same-shown level.prepared (plan s t) level.p (row_of_entry ds n f (entry t s)).p q.r (row_of_entry ds n f (entry t s)).r now is.prepared is.p is.r
@@ -53,7 +53,7 @@ none-shown ds n now zero k t s f few = refl
 none-shown ds n now (suc m) zero t s f few = absurd (omega (arith, few))
 none-shown ds n now (suc m) (suc k) t s f few = none-shown ds n now m k None (guess t s) (front_after_entry ds n f (entry t s)) (omega (arith, few))
 
-pub some-shown : (ds : List ℕ) (n tick now k : ℕ) (t : Option ℕ) (s : Machine) (f last : Front) (ring : List Level) (plans : List Plan) (level : Level) (q : Plan)
+pub some-shown : (ds : List ℕ) (n tick now k : ℕ) (t : Option ℕ) (s : Machine) (f last : Front) (ring : List Level) (plans : List PlannedRow) (level : Level) (q : PlannedRow)
     → AreLevels ds n tick t s f last ring plans → slice_get ring k ≡ Some level → slice_get plans k ≡ Some q
     → Some (at level.prepared level.p q.r now) ≡ get_or (map (λ a. Some (level_shown now a)) (ahead ds n (length ring) t s f)) k None
 unfolding AreLevels ahead

@@ -167,7 +167,7 @@ impl Outside for Noted {
 
 // What comes between two steps: signals and orders that are due, and what ends a wait. Nothing is
 // printed.
-fn settle(past: &mut MachineBeside)
+fn pass_interlude(past: &mut MachineBeside)
     requires { IsBesideReady past.old }
     ensures { IsMoved past.old past.new (run.interlude past.old.0).scene }
 {
@@ -201,7 +201,7 @@ fn run_to_end(past: &mut MachineBeside, budget: u64)
 {
     let mut left = budget;
     'running: loop {
-        settle(past);
+        pass_interlude(past);
         if is_resting(past) {
             return;
         }

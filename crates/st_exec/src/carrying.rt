@@ -1,4 +1,4 @@
-//! What a effect makes of a state.
+//! What an effect makes of a state.
 ghost use Rattle.std.specs.Prelude.{◌≡◌, ◌<◌, IfSome};
 ghost use Rattle.st_field.specs.declared.accumulator.Acc.{Acc};
 ghost use Rattle.st_state.specs.Machine.{HasArea};
@@ -94,7 +94,7 @@ fn leave(left: &Done, a: u32, n: u8, state: &mut State)
     put_field(left.field, a, n, state);
 }
 
-/// Does a effect.
+/// Does an effect.
 pub fn carry_out(effect: &Effect, state: &mut State)
     requires { CanBeDone effect.now }
     ensures { state.new ≡ carried_out effect.now state.old }

@@ -1,7 +1,7 @@
 -- What a reading gives after the contents of the first words that it reads.
 use Rattle.std.proofs.Common.{◌≡◌, ℕ, ◌-◌, ◌≤◌, Bool, true, false, List, [], ◌∷◌, ◌++◌, length, map, refl, sym, ap, arith}
 use Rattle.st_prep.specs.declared.entries.Fetched.{Fetched}
-use Rattle.st_prep.specs.declared.entries.Fetching.TheVariants.{Next, Found as FoundAll}
+use Rattle.st_prep.specs.declared.entries.Fetching.TheVariants.{Next, Found}
 use Rattle.st_prep.specs.Reading.{Reading, Finds, Reads, outcome, words_read, own_words, left_after, fetching_of}
 
 -- no word of the entry's own stands behind one of the target
@@ -63,7 +63,7 @@ given-target (Finds f) c w e first = refl
 given-target (Reads true v r) c w e first = first
 given-target (Reads false v r) c w e first = absurd (cc)
 
-pub given-found : (s : Reading) (c : ℕ → ℕ) (f : Fetched) → fetching_of s ≡ FoundAll f
+pub given-found : (s : Reading) (c : ℕ → ℕ) (f : Fetched) → fetching_of s ≡ Found f
     → (words_read s c ≡ []) × (f ≡ outcome s c)
 unfolding fetching_of words_read outcome
 given-found (Finds g) c f e = let same : g ≡ f = cc in (refl, sym same)

@@ -3,7 +3,7 @@ use Rattle.std.proofs.Common.{◌≡◌, ℕ, ◌+◌, ◌≤◌, Bool, true, fa
 use Rattle.std.specs.Prelude.{is_some}
 use Rattle.st_state.specs.Machine.{Machine, word}
 use Rattle.st_prep.specs.declared.entries.Fetched.{Fetched}
-use Rattle.st_prep.specs.declared.entries.Fetching.TheVariants.{Next, Found as FoundAll}
+use Rattle.st_prep.specs.declared.entries.Fetching.TheVariants.{Next, Found}
 use Rattle.st_prep.specs.Fetch.{index_words, place_of, words_fetched}
 use Rattle.st_prep.specs.Plan.{plan, sight}
 use Rattle.st_prep.specs.Reading.{left_after, fetching_of, words_read, own_words, is_execute}
@@ -65,7 +65,7 @@ module _ (t : Option ℕ) (u : Machine) where
       (omega (arith, none, rest.own, own-counted, length-first own target))
 
   pub gives-all : (own target : WordRun) (f : Fetched) → AreFirstWords own target (entry t u)
-      → fetching_of (left_after (reading_at t u) (contents_of own target)) ≡ FoundAll f
+      → fetching_of (left_after (reading_at t u) (contents_of own target)) ≡ Found f
       → IsAll own target (entry t u) × (f ≡ words_fetched u (place_of u t))
   unfolding words_fetched
   gives-all own target f are e =

@@ -5,33 +5,33 @@ use Rattle.st_format.specs.Formats.{decoded_entry}
 use Rattle.st_state.specs.Boundary.{forbidden_by}
 use Rattle.st_state.specs.declared.protection.Access.TheVariants.{Fetch}
 use Rattle.st_prep.specs.declared.entries.Place.{Place}
-use Rattle.st_prep.specs.declared.fetching.Found.{Found}
+use Rattle.st_prep.specs.declared.fetching.FoundInstruction.{FoundInstruction}
 use Rattle.st_prep.specs.EarlyChange.{effective}
-use Rattle.st_prep.specs.Reading.{Reading, Finds, Reads, outcome, words_read, own_words, half_of, Use, with_second, with_first, read_after, instruction_at, is_execute, with_target, fetched_alone, own_use, reading_at_place}
+use Rattle.st_prep.specs.Reading.{Reading, Finds, Reads, outcome, words_read, own_words, half_of, Continuation, with_second, with_first, read_after, instruction_at, is_execute, with_target, fetched_alone, own_use, reading_at_place}
 use Rattle.st_prep.proofs.Choices.{of_choice}
 use Rattle.st_next.proofs.Fronts.{OwnFirst, none-first}
 
 -- ---- a property of readings that holds after words of one kind, where it holds of each use
 
 module _ (P : Reading → Type 0) (t : Bool) (reads : (w : ℕ) (r : ℕ → Reading) → ((content : ℕ) → P (r content)) → P (Reads t w r)) (b : ℕ) (en : Bool) where
-  abbrev Uses : Use → Type 0
-  Uses k = (f : Found) → P (k f)
+  abbrev Uses : Continuation → Type 0
+  Uses k = (f : FoundInstruction) → P (k f)
 
-  of-second : (f : Option ℕ) (first h v content : ℕ) (k : Use) → Uses k → P (with_second f t first h v content k)
+  of-second : (f : Option ℕ) (first h v content : ℕ) (k : Continuation) → Uses k → P (with_second f t first h v content k)
   of-second (Some i) first h v content k all = all _
   of-second None first h v content k all = of_choice P (h / 2 == v) _ _ (all _) (reads (h / 2) _ (λ c. all _))
 
-  of-first : (h content : ℕ) (k : Use) → Uses k → P (with_first t b en h content k)
+  of-first : (h content : ℕ) (k : Continuation) → Uses k → P (with_first t b en h content k)
   unfolding with_first
   of-first h content k all =
       of_choice P ((decoded_entry (half_of content h) 0).halves == 2) _ _
       (of-second (forbidden_by b en Fetch ((h + 1) / 2)) (half_of content h) (h + 1) (h / 2) content k all) (all _)
 
-  of-after : (f : Option ℕ) (h : ℕ) (k : Use) → Uses k → P (read_after f t b en h k)
+  of-after : (f : Option ℕ) (h : ℕ) (k : Continuation) → Uses k → P (read_after f t b en h k)
   of-after (Some i) h k all = all _
   of-after None h k all = reads (h / 2) _ (λ c. of-first h c k all)
 
-  pub of-at : (h : ℕ) (k : Use) → Uses k → P (instruction_at t b en h k)
+  pub of-at : (h : ℕ) (k : Continuation) → Uses k → P (instruction_at t b en h k)
   unfolding instruction_at
   of-at h k all = of-after (forbidden_by b en Fetch (h / 2)) h k all
 
@@ -45,15 +45,15 @@ module _ (c : ℕ → ℕ) where
   unfolding own_words
   no_own-reads w r all = all (c w)
 
-  no_own-finds : (own : Decoded) (f : Found) → NoOwn (Finds (with_target own f))
+  no_own-finds : (own : Decoded) (f : FoundInstruction) → NoOwn (Finds (with_target own f))
   unfolding own_words
   no_own-finds own f = refl
 
-  no_own-alone : (f : Found) → NoOwn (Finds (fetched_alone f))
+  no_own-alone : (f : FoundInstruction) → NoOwn (Finds (fetched_alone f))
   unfolding own_words
   no_own-alone f = refl
 
-  no_own-use : (x : List ℕ) (b : ℕ) (en : Bool) (f : Found) → NoOwn (own_use x b en f)
+  no_own-use : (x : List ℕ) (b : ℕ) (en : Bool) (f : FoundInstruction) → NoOwn (own_use x b en f)
   unfolding own_use
   no_own-use x b en own =
       of_choice NoOwn (is_execute own.decoded.instr) _ _
@@ -89,20 +89,20 @@ module _ (c : ℕ → ℕ) where
   unfolding outcome
   is_of-reads own w r all = all (c w)
 
-  is_of-finds : (own : Decoded) (f : Found) → IsOf own (Finds (with_target own f))
+  is_of-finds : (own : Decoded) (f : FoundInstruction) → IsOf own (Finds (with_target own f))
   unfolding outcome
   is_of-finds own f = refl
 
-  executes-alone : (f : Found) → Executes (Finds (fetched_alone f))
+  executes-alone : (f : FoundInstruction) → Executes (Finds (fetched_alone f))
   unfolding words_read own_words
   executes-alone f = inl (omega arith)
 
-  executes-use_if : (b : Bool) (r : Reading) (f : Found) → is_execute f.decoded.instr ≡ b → IsOf f.decoded r
+  executes-use_if : (b : Bool) (r : Reading) (f : FoundInstruction) → is_execute f.decoded.instr ≡ b → IsOf f.decoded r
       → Executes (if b then r else Finds (fetched_alone f))
   executes-use_if true r f e is = inr (ap (λ (d : Decoded). is_execute d.instr) is ∙ e)
   executes-use_if false r f e is = executes-alone f
 
-  executes-use : (x : List ℕ) (b : ℕ) (en : Bool) (f : Found) → Executes (own_use x b en f)
+  executes-use : (x : List ℕ) (b : ℕ) (en : Bool) (f : FoundInstruction) → Executes (own_use x b en f)
   unfolding own_use
   executes-use x b en own =
       executes-use_if (is_execute own.decoded.instr) _ own refl

@@ -4,17 +4,17 @@ use Rattle.std.specs.Option.{IfSome}
 use Rattle.st_format.specs.Formats.{decoded_entry, instruction_of}
 use Rattle.st_state.specs.Machine.{Machine, word}
 use Rattle.st_prep.specs.declared.entries.Fetched.{Fetched}
-use Rattle.st_prep.specs.declared.entries.Fetching.TheVariants.{Found as FoundAll}
-use Rattle.st_prep.specs.Reading.{Use, Finds, left_after, fetching_of, fetched_plain, instruction_at, is_execute, reading_at_place, allowed_found}
+use Rattle.st_prep.specs.declared.entries.Fetching.TheVariants.{Found}
+use Rattle.st_prep.specs.Reading.{Continuation, Finds, left_after, fetching_of, fetched_plain, instruction_at, is_execute, reading_at_place, allowed_found}
 use Rattle.st_prep.proofs.GivenLemmas.{known-found}
 use Rattle.st_prep.specs.declared.entries.Place.{Place}
 
 -- what is not EX and is known whole is all that is fetched
 pub halves-found : (o : Option (ℕ × ℕ)) (s : Machine) (place : Place) (contents words : List ℕ) → contents ≡ words
-    → IfSome o (λ r. (k : Use) (f : Fetched) → k (allowed_found r.0 r.1) ≡ Finds f
-    → fetching_of (left_after (instruction_at false (word s 3) s.enabled place.address k) contents) ≡ FoundAll f)
+    → IfSome o (λ r. (k : Continuation) (f : Fetched) → k (allowed_found r.0 r.1) ≡ Finds f
+    → fetching_of (left_after (instruction_at false (word s 3) s.enabled place.address k) contents) ≡ Found f)
     → IfSome o (λ r. (x : List ℕ) → is_execute (instruction_of r.0 r.1) ≡ false
-    → fetching_of (left_after (reading_at_place x (word s 3) s.enabled place) words) ≡ FoundAll (fetched_plain (decoded_entry r.0 r.1)))
+    → fetching_of (left_after (reading_at_place x (word s 3) s.enabled place) words) ≡ Found (fetched_plain (decoded_entry r.0 r.1)))
 halves-found None s place contents words same h = h
 halves-found (Some r) s place contents words same h = λ x other.
     ap (λ (cs : List ℕ). fetching_of (left_after (reading_at_place x (word s 3) s.enabled place) cs)) (sym same)

@@ -4,7 +4,7 @@ use Rattle.st_bits.specs.declared.limits.TheConstants.{MOST_DELAY}
 use Rattle.st_state.specs.Machine.{Machine, word}
 use Rattle.st_prep.specs.declared.entries.Fetched.{Fetched}
 use Rattle.st_prep.specs.declared.entries.Prepared.{Prepared}
-use Rattle.st_prep.specs.declared.entries.Fetching.TheVariants.{Found as FoundAll}
+use Rattle.st_prep.specs.declared.entries.Fetching.TheVariants.{Found}
 use Rattle.st_prep.specs.Plan.{sight_of, needs, plan}
 use Rattle.st_prep.specs.Reading.{reading_at_place, left_after, fetching_of}
 use Rattle.st_rows.specs.Asked.{Read, reads_of_entry, bus_after_reads}
@@ -73,7 +73,7 @@ prepared_as fd x s next =
 -- it goes without its index-side word
 pub record IsPreparedBy (now : ℕ) (x : List ℕ) (s : Machine) (next : Next) : Type 0 where
   pub found : fetching_of (left_after (reading_at_place x (word s 3) s.enabled next.place)
-      (map (word s) (words_of_run next.own ++ words_of_run next.target))) ≡ FoundAll next.fetched
+      (map (word s) (words_of_run next.own ++ words_of_run next.target))) ≡ Found next.fetched
   pub done : next.words.awaited ≤ now
   pub prepared : next ≡ prepared_as next.fetched x s next
 

@@ -8,7 +8,7 @@ use Rattle.st_rows.specs.declared.entry.Entry.{Entry}
 use Rattle.st_rows.specs.declared.fetching.Fetching.{Fetching}
 use Rattle.st_rows.specs.declared.front.Front.{Front}
 
--- ---- the words so far: a front of the entry's own words, and then of those of its target
+-- ---- the words so far: the first of the entry's own words, and then of those of its target
 
 -- an entry that has these instruction words, and no other words
 abbrev pub words_alone : WordRun → WordRun → Entry

@@ -5,7 +5,7 @@ ghost use Rattle.st_fetch.specs.Planned.{tick_of};
 ghost use Rattle.st_state.specs.Machine.{word};
 ghost use Rattle.st_prep.specs.Ranges.{HasFields, IsPlace, IsFetched, IsFetching, IsPrepared};
 ghost use Rattle.st_prep.specs.Reading.{reading_at_place, left_after, fetching_of as given_of, fetched_plain, is_execute};
-ghost use Rattle.st_prep.specs.declared.entries.Fetching.TheVariants.{Found as FoundAll};
+ghost use Rattle.st_prep.specs.declared.entries.Fetching.TheVariants.{Found};
 ghost use Rattle.st_format.specs.Formats.{decoded_entry, instruction_of, spelled_as};
 ghost use Rattle.st_rows.specs.Asked.{word_asked};
 ghost use Rattle.st_rows.specs.Notes.{log_after_reads};
@@ -400,7 +400,7 @@ impl Next {
         ensures found { IfSome result (λ r. (x : List ℕ) → given_of (left_after
             (reading_at_place x (word state.now 3) state.now.enabled self.now.place)
             (map (word state.now) (words_of_run self.now.own ++ words_of_run self.now.target)))
-            ≡ FoundAll (fetched_plain (decoded_entry r.first r.second))) }
+            ≡ Found (fetched_plain (decoded_entry r.first r.second))) }
         ensures format { IfSome result (λ r. spelled_as r.format r.first r.second
             ≡ instruction_of r.first r.second) }
     {
@@ -417,7 +417,7 @@ impl Next {
             given_of (left_after (reading_at_place x (word state.now 3) state.now.enabled
             self.now.place)
             (map (word state.now) (words_of_run self.now.own ++ words_of_run self.now.target)))
-            ≡ FoundAll (fetched_plain (decoded_entry r.0 r.1))) }
+            ≡ Found (fetched_plain (decoded_entry r.0 r.1))) }
     {
         if self.target.len != 0 {
             return None;

@@ -5,7 +5,7 @@ use Rattle.std.proofs.lemmas.List.{append-nil, take_all, drop_all}
 use Rattle.st_format.specs.Formats.{decoded_entry, instruction_of}
 use Rattle.st_state.specs.Machine.{Machine, word}
 use Rattle.st_prep.specs.Fetch.{index_words, reading_of, words_fetched}
-use Rattle.st_prep.specs.Reading.{Reading, Reads, Use, Finds, outcome, words_read, own_words, half_of, fetched_plain, with_second, with_first, read_after, instruction_at, is_execute, own_use, reading_at_place, allowed_found}
+use Rattle.st_prep.specs.Reading.{Reading, Reads, Continuation, Finds, outcome, words_read, own_words, half_of, fetched_plain, with_second, with_first, read_after, instruction_at, is_execute, own_use, reading_at_place, allowed_found}
 use Rattle.st_prep.specs.declared.entries.Place.{Place}
 use Rattle.st_prep.specs.declared.entries.Fetched.{Fetched}
 use Rattle.st_prep.specs.declared.entries.Prepared.{Prepared}
@@ -33,7 +33,7 @@ chosen-other c true r q p ws e h = cc
 chosen-other c false r q p ws e h = h
 
 -- it stands in the next word, which may be fetched
-pub lead-next : (c : ℕ → ℕ) (f : Option ℕ) (first h v content x half : ℕ) (k : Use) → f ≡ None → (h / 2 == v) ≡ false → x ≡ c (h / 2)
+pub lead-next : (c : ℕ → ℕ) (f : Option ℕ) (first h v content x half : ℕ) (k : Continuation) → f ≡ None → (h / 2 == v) ≡ false → x ≡ c (h / 2)
     → half ≡ half_of x h → IsReadOver c (with_second f false first h v content k) (k (allowed_found first half)) (h / 2 ∷ [])
 lead-next c None first h v content x half k e other is part =
     chosen-other c (h / 2 == v) _ _ _ _ other
@@ -43,7 +43,7 @@ lead-next c None first h v content x half k e other is part =
 lead-next c (Some i) first h v content x half k e other is part = cc
 
 -- the first word may be fetched
-pub lead-first : (c : ℕ → ℕ) (f : Option ℕ) (b : ℕ) (en : Bool) (h x : ℕ) (k : Use) (q : Reading) (ws : List ℕ) → f ≡ None → x ≡ c (h / 2)
+pub lead-first : (c : ℕ → ℕ) (f : Option ℕ) (b : ℕ) (en : Bool) (h x : ℕ) (k : Continuation) (q : Reading) (ws : List ℕ) → f ≡ None → x ≡ c (h / 2)
     → IsReadOver c (with_first false b en h x k) q ws → IsReadOver c (read_after f false b en h k) q (h / 2 ∷ ws)
 lead-first c None b en h x k q ws e is lead =
     lead-read c (h / 2) _ q ws (subst (λ y. IsReadOver c (with_first false b en h y k) q ws) is lead)
@@ -56,7 +56,7 @@ not-chosen true r q h = cc
 not-chosen false r q h = refl
 
 lead-plain : (x : List ℕ) (b : ℕ) (en : Bool) (place : Place) (c : ℕ → ℕ) (first second : ℕ) (ws : List ℕ)
-    → ((k : Use) → IsReadOver c (instruction_at false b en place.address k) (k (allowed_found first second)) ws)
+    → ((k : Continuation) → IsReadOver c (instruction_at false b en place.address k) (k (allowed_found first second)) ws)
     → is_execute (instruction_of first second) ≡ false → IsReadOver c (reading_at_place x b en place) (Finds (fetched_plain (decoded_entry first second))) ws
 unfolding reading_at_place own_use
 lead-plain x b en place c first second ws lead other =
@@ -84,7 +84,7 @@ module _ (c : ℕ → ℕ) (r : Reading) (f : Fetched) (ws : List ℕ) (lead : I
 
 -- an entry that is planned by its half-words, and the words that they come from, is planned by what is fetched
 module _ (s : Machine) (x : List ℕ) (q : Place) (first second : ℕ) (ws : List ℕ) (own target : WordRun) (p : Prepared) (e : Planned)
-    (lead : (k : Use) → IsReadOver (word s) (instruction_at false (word s 3) s.enabled q.address k) (k (allowed_found first second)) ws)
+    (lead : (k : Continuation) → IsReadOver (word s) (instruction_at false (word s 3) s.enabled q.address k) (k (allowed_found first second)) ws)
     (other : is_execute (instruction_of first second) ≡ false) (o : own ≡ run_of ws) (t : target ≡ run_of []) where
   here : IsReadOver (word s) (reading_of s q) (Finds (fetched_plain (decoded_entry first second))) ws
   here = lead-plain (index_words s) (word s 3) s.enabled q (word s) first second ws lead other

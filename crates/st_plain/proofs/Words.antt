@@ -4,7 +4,7 @@ use Rattle.std.proofs.Common.{◌≡◌, ℕ, zero, suc, ◌+◌, ◌-◌, ◌�
 use Rattle.std.proofs.lemmas.List.{append-nil, drop-take}
 use Rattle.st_prep.specs.Reading.{Reading, Finds, Reads, fetching_of, left_after, words_read, own_words}
 use Rattle.st_prep.specs.declared.entries.Fetched.{Fetched}
-use Rattle.st_prep.specs.declared.entries.Fetching.TheVariants.{Next, Found as FoundAll}
+use Rattle.st_prep.specs.declared.entries.Fetching.TheVariants.{Next, Found}
 use Rattle.st_prep.proofs.ReadingLemmas.{left_after-none, left_after-more}
 
 same_word : (v w : ℕ) (t u : Bool) → Next v t ≡ Next w u → v ≡ w
@@ -61,12 +61,12 @@ module _ (r : Reading) (c : ℕ → ℕ) (cs ds : List ℕ) (w x : ℕ) (t : Boo
       omega (arith, so_far, here, there, one)
 
 -- nothing is left to be read where all is found
-pub found-words : (l : Reading) (c : ℕ → ℕ) (f : Fetched) → fetching_of l ≡ FoundAll f → words_read l c ≡ []
+pub found-words : (l : Reading) (c : ℕ → ℕ) (f : Fetched) → fetching_of l ≡ Found f → words_read l c ≡ []
 unfolding fetching_of words_read
 found-words (Finds g) c f e = refl
 found-words (Reads u v r) c f e = cc
 
-pub found-own : (l : Reading) (c : ℕ → ℕ) (f : Fetched) → fetching_of l ≡ FoundAll f → own_words l c ≡ 0
+pub found-own : (l : Reading) (c : ℕ → ℕ) (f : Fetched) → fetching_of l ≡ Found f → own_words l c ≡ 0
 unfolding fetching_of own_words
 found-own (Finds g) c f e = refl
 found-own (Reads u v r) c f e = cc
@@ -84,7 +84,7 @@ take-take (suc k) (suc n) [] few = refl
 take-take (suc k) (suc n) (x ∷ xs) few = ap (λ ys. x ∷ ys) (take-take k n xs (omega arith))
 
 module _ (r : Reading) (c : ℕ → ℕ) (cs read : List ℕ) (n own : ℕ) (f : Fetched) (few : own ≤ n)
-    (found : fetching_of (left_after r cs) ≡ FoundAll f) (so_far : words_read r c ≡ take n read ++ words_read (left_after r cs) c)
+    (found : fetching_of (left_after r cs) ≡ Found f) (so_far : words_read r c ≡ take n read ++ words_read (left_after r cs) c)
     (own_so_far : own_words r c ≡ own + own_words (left_after r cs) c) where
   all-read : words_read r c ≡ take n read
   all-read = so_far ∙ ap (λ ws. take n read ++ ws) (found-words (left_after r cs) c f found) ∙ append-nil (take n read)

@@ -10,9 +10,9 @@ use Rattle.st_state.specs.Machine.{Machine, word}
 use Rattle.st_state.specs.Boundary.{forbidden_by, is_invalid_word, is_protected}
 use Rattle.st_state.specs.declared.protection.Access.TheVariants.{Fetch}
 use Rattle.st_prep.specs.declared.entries.Place.{Place}
-use Rattle.st_prep.specs.declared.fetching.Found.{Found}
+use Rattle.st_prep.specs.declared.fetching.FoundInstruction.{FoundInstruction}
 use Rattle.st_prep.specs.EarlyChange.{effective}
-use Rattle.st_prep.specs.Reading.{Reading, Finds, Reads, outcome, half_of, Use, with_second, with_first, read_after, instruction_at, is_execute, with_target, fetched_alone, own_use, reading_at_place}
+use Rattle.st_prep.specs.Reading.{Reading, Finds, Reads, outcome, half_of, Continuation, with_second, with_first, read_after, instruction_at, is_execute, with_target, fetched_alone, own_use, reading_at_place}
 use Rattle.st_prep.specs.Fetch.{words_fetched}
 use Rattle.st_prep.specs.Ranges.{HasFields, IsFoundInRange, IsFetched}
 use Rattle.st_prep.proofs.Choices.{of_choice}
@@ -49,14 +49,14 @@ abbrev pub Fits : Reading → Type 0
 Fits r = (c : ℕ → ℕ) → IsFetched (outcome r c)
 
 -- a use to which all that is found is of use
-abbrev pub UseFits : Use → Type 0
-UseFits k = (f : Found) → IsFoundInRange f → Fits (k f)
+abbrev pub UseFits : Continuation → Type 0
+UseFits k = (f : FoundInstruction) → IsFoundInRange f → Fits (k f)
 
 fits-read : (t : Bool) (w : ℕ) (r : ℕ → Reading) → ((c : ℕ) → Fits (r c)) → Fits (Reads t w r)
 unfolding outcome
 fits-read t w r h c = h (c w) c
 
-with_second-fits : (f : Option ℕ) (t : Bool) (first h v content : ℕ) (k : Use) → first < 2 ^ 32
+with_second-fits : (f : Option ℕ) (t : Bool) (first h v content : ℕ) (k : Continuation) → first < 2 ^ 32
     → IfSome f (λ i. i < 64) → UseFits k → Fits (with_second f t first h v content k)
 with_second-fits (Some i) t first h v content k below some fits =
     fits _ (record { shape = fields-decoded first 0 below (omega arith); fault = some })
@@ -66,7 +66,7 @@ with_second-fits None t first h v content k below some fits =
     (fits-read t (h / 2) _
     (λ c. fits _ (record { shape = fields-decoded first (half_of c h) below (half-below c h); fault = tt })))
 
-with_first-fits : (t : Bool) (b : ℕ) (en : Bool) (h content : ℕ) (k : Use) → UseFits k
+with_first-fits : (t : Bool) (b : ℕ) (en : Bool) (h content : ℕ) (k : Continuation) → UseFits k
     → Fits (with_first t b en h content k)
 unfolding with_first
 with_first-fits t b en h content k fits =
@@ -75,12 +75,12 @@ with_first-fits t b en h content k fits =
     (with_second-fits _ t first (h + 1) (h / 2) content k (half-below content h) (fetch_fault b en ((h + 1) / 2)) fits)
     (fits _ (record { shape = fields-decoded first 0 (half-below content h) (omega arith); fault = tt }))
 
-read_after-fits : (f : Option ℕ) (t : Bool) (b : ℕ) (en : Bool) (h : ℕ) (k : Use) → IfSome f (λ i. i < 64) → UseFits k
+read_after-fits : (f : Option ℕ) (t : Bool) (b : ℕ) (en : Bool) (h : ℕ) (k : Continuation) → IfSome f (λ i. i < 64) → UseFits k
     → Fits (read_after f t b en h k)
 read_after-fits (Some i) t b en h k some fits = fits _ (record { shape = tt; fault = some })
 read_after-fits None t b en h k some fits = fits-read t (h / 2) _ (λ c. with_first-fits t b en h c k fits)
 
-instruction-fits : (t : Bool) (b : ℕ) (en : Bool) (h : ℕ) (k : Use) → UseFits k → Fits (instruction_at t b en h k)
+instruction-fits : (t : Bool) (b : ℕ) (en : Bool) (h : ℕ) (k : Continuation) → UseFits k → Fits (instruction_at t b en h k)
 unfolding instruction_at
 instruction-fits t b en h k fits = read_after-fits _ t b en h k (fetch_fault b en (h / 2)) fits
 
@@ -93,7 +93,7 @@ with_target-fits ex own target some c = record {
   fault = some.fault;
 }
 
-alone-fits : (own : Found) → IsFoundInRange own → Fits (Finds (fetched_alone own))
+alone-fits : (own : FoundInstruction) → IsFoundInRange own → Fits (Finds (fetched_alone own))
 unfolding outcome
 alone-fits own some c = record { own = some.shape; target = tt; fault = some.fault }
 

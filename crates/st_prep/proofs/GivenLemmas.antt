@@ -7,10 +7,10 @@ use Rattle.st_format.specs.Formats.{decoded_entry, instruction_of}
 use Rattle.st_prep.specs.declared.entries.Place.{Place}
 use Rattle.st_prep.specs.declared.entries.Fetched.{Fetched}
 use Rattle.st_prep.specs.declared.entries.Fetching.{Fetching}
-use Rattle.st_prep.specs.declared.entries.Fetching.TheVariants.{Next, Found as FoundAll}
-use Rattle.st_prep.specs.declared.fetching.Found.{Found}
+use Rattle.st_prep.specs.declared.entries.Fetching.TheVariants.{Next, Found}
+use Rattle.st_prep.specs.declared.fetching.FoundInstruction.{FoundInstruction}
 use Rattle.st_prep.specs.declared.fetching.Part.TheVariants.{Has}
-use Rattle.st_prep.specs.Reading.{Reading, Finds, Reads, left_after, fetching_of, given_by, half_of, Use, with_second, with_first, read_after, with_target, instruction_at, is_execute, own_use, reading_at_place, fetched_plain, allowed_found}
+use Rattle.st_prep.specs.Reading.{Reading, Finds, Reads, left_after, fetching_of, given_by, half_of, Continuation, with_second, with_first, read_after, with_target, instruction_at, is_execute, own_use, reading_at_place, fetched_plain, allowed_found}
 
 abbrev pub of : Reading → List ℕ → Fetching
 of r contents = fetching_of (left_after r contents)
@@ -32,12 +32,12 @@ unfolding left_after fetching_of
 reads_none t w r [] none = refl
 reads_none t w r (c ∷ cs) none = absurd (omega arith)
 
-pub at-wants : (f : Option ℕ) (t : Bool) (b : ℕ) (en : Bool) (h : ℕ) (k : Use) (cs : List ℕ) → f ≡ None → length cs ≡ 0
+pub at-wants : (f : Option ℕ) (t : Bool) (b : ℕ) (en : Bool) (h : ℕ) (k : Continuation) (cs : List ℕ) → f ≡ None → length cs ≡ 0
     → of (read_after f t b en h k) cs ≡ Next (h / 2) t
 at-wants None t b en h k cs e none = reads_none t (h / 2) _ cs none
 at-wants (Some j) t b en h k cs e none = cc
 
-pub at-first : (f : Option ℕ) (t : Bool) (b : ℕ) (en : Bool) (h : ℕ) (k : Use) (cs : List ℕ) → f ≡ None → 1 ≤ length cs
+pub at-first : (f : Option ℕ) (t : Bool) (b : ℕ) (en : Bool) (h : ℕ) (k : Continuation) (cs : List ℕ) → f ≡ None → 1 ≤ length cs
     → of (read_after f t b en h k) cs ≡ of (with_first t b en h (get_or cs 0 0) k) (drop 1 cs)
 at-first None t b en h k cs e some = reads_next t (h / 2) _ cs some
 at-first (Some j) t b en h k cs e some = cc
@@ -55,14 +55,14 @@ second-there : (same : Bool) (t : Bool) (w : ℕ) (here : Reading) (r : ℕ → 
 second-there true t w here r cs e = cc
 second-there false t w here r cs e = refl
 
-pub second-same : (f : Option ℕ) (t : Bool) (first h v content : ℕ) (k : Use) (cs : List ℕ) → f ≡ None
+pub second-same : (f : Option ℕ) (t : Bool) (first h v content : ℕ) (k : Continuation) (cs : List ℕ) → f ≡ None
     → (h / 2 == v) ≡ true
     → of (with_second f t first h v content k) (drop 1 cs)
     ≡ given_by t (Has (record { decoded = decoded_entry first (half_of content h); fault = None }) 1) cs k
 second-same None t first h v content k cs e same = second-here (h / 2 == v) t (h / 2) _ _ (drop 1 cs) same
 second-same (Some j) t first h v content k cs e same = cc
 
-pub second-wants : (f : Option ℕ) (t : Bool) (first h v content : ℕ) (k : Use) (cs : List ℕ) → f ≡ None
+pub second-wants : (f : Option ℕ) (t : Bool) (first h v content : ℕ) (k : Continuation) (cs : List ℕ) → f ≡ None
     → (h / 2 == v) ≡ false → length (drop 1 cs) ≡ 0
     → of (with_second f t first h v content k) (drop 1 cs) ≡ Next (h / 2) t
 second-wants None t first h v content k cs e other none =
@@ -79,7 +79,7 @@ rest-rest [] = refl
 rest-rest (c ∷ []) = refl
 rest-rest (c ∷ d ∷ cs) = refl
 
-pub second-has : (f : Option ℕ) (t : Bool) (first h v content : ℕ) (k : Use) (cs : List ℕ) → f ≡ None
+pub second-has : (f : Option ℕ) (t : Bool) (first h v content : ℕ) (k : Continuation) (cs : List ℕ) → f ≡ None
     → (h / 2 == v) ≡ false → 1 ≤ length (drop 1 cs)
     → of (with_second f t first h v content k) (drop 1 cs)
     ≡ given_by t (Has (record { decoded = decoded_entry first (half_of (get_or cs 1 0) h); fault = None }) 2) cs k
@@ -91,27 +91,27 @@ second-has None t first h v content k cs e other some =
 second-has (Some j) t first h v content k cs e other some = cc
 
 -- what is found by the contents does not look at the rest of them
-pub found-of : (r : Reading) (f : Fetched) (cs : List ℕ) → r ≡ Finds f → of r cs ≡ FoundAll f
+pub found-of : (r : Reading) (f : Fetched) (cs : List ℕ) → r ≡ Finds f → of r cs ≡ Found f
 unfolding left_after fetching_of
 found-of r f cs e = ap (λ r. fetching_of (left_after r cs)) e
 
 -- the same, where the second half-word is the one that is used
-pub found-second : (r : Fetching) (first made second : ℕ) (k : Use) (f : Fetched) (cs : List ℕ)
+pub found-second : (r : Fetching) (first made second : ℕ) (k : Continuation) (f : Fetched) (cs : List ℕ)
     → r ≡ of (k (record { decoded = decoded_entry first made; fault = None })) cs → second ≡ made
-    → k (record { decoded = decoded_entry first second; fault = None }) ≡ Finds f → r ≡ FoundAll f
+    → k (record { decoded = decoded_entry first second; fault = None }) ≡ Finds f → r ≡ Found f
 found-second r first made second k f cs is same found =
     is
     ∙ ap (λ x. of (k (record { decoded = decoded_entry first x; fault = None })) cs) (sym same)
     ∙ found-of (k (record { decoded = decoded_entry first second; fault = None })) f cs found
 
-found-first : (two : Bool) (r q : Reading) (f : Fetched) (cs : List ℕ) → two ≡ false → q ≡ Finds f → of (if two then r else q) cs ≡ FoundAll f
+found-first : (two : Bool) (r q : Reading) (f : Fetched) (cs : List ℕ) → two ≡ false → q ≡ Finds f → of (if two then r else q) cs ≡ Found f
 found-first true r q f cs h found = cc
 found-first false r q f cs h found = found-of q f cs found
 
 -- an instruction of one half-word
-pub found-short : (b : ℕ) (en : Bool) (h content first : ℕ) (k : Use) (f : Fetched) (cs : List ℕ) → first ≡ half_of content h
+pub found-short : (b : ℕ) (en : Bool) (h content first : ℕ) (k : Continuation) (f : Fetched) (cs : List ℕ) → first ≡ half_of content h
     → ((decoded_entry first 0).halves == 2) ≡ false → k (record { decoded = decoded_entry first 0; fault = None }) ≡ Finds f
-    → of (with_first false b en h content k) cs ≡ FoundAll f
+    → of (with_first false b en h content k) cs ≡ Found f
 unfolding with_first
 found-short b en h content first k f cs same short found =
     found-first ((decoded_entry (half_of content h) 0).halves == 2) _ _ f cs
@@ -121,7 +121,7 @@ found-short b en h content first k f cs same short found =
 -- ---- the target of EX
 
 pub other-found : (e : Bool) (r : Reading) (f : Fetched) (cs : List ℕ) → e ≡ false
-    → of (if e then r else Finds f) cs ≡ FoundAll f
+    → of (if e then r else Finds f) cs ≡ Found f
 unfolding left_after fetching_of
 other-found true r f cs h = cc
 other-found false r f cs h = refl
@@ -132,9 +132,9 @@ chosen-found false r f h = refl
 
 -- what is not EX and may be fetched is all that is fetched, where the contents tell all of it
 pub known-found : (x : List ℕ) (b : ℕ) (en : Bool) (place : Place) (cs : List ℕ) (first second : ℕ)
-    → ((k : Use) (f : Fetched) → k (allowed_found first second) ≡ Finds f → of (instruction_at false b en place.address k) cs ≡ FoundAll f)
+    → ((k : Continuation) (f : Fetched) → k (allowed_found first second) ≡ Finds f → of (instruction_at false b en place.address k) cs ≡ Found f)
     → is_execute (instruction_of first second) ≡ false
-    → of (reading_at_place x b en place) cs ≡ FoundAll (fetched_plain (decoded_entry first second))
+    → of (reading_at_place x b en place) cs ≡ Found (fetched_plain (decoded_entry first second))
 unfolding reading_at_place own_use
 known-found x b en place cs first second found h =
     found (own_use x b en) (fetched_plain (decoded_entry first second)) (chosen-found (is_execute (instruction_of first second)) _ _ h)
@@ -144,8 +144,8 @@ pub target-given : (e : Bool) (r : Reading) (f : Fetched) (cs : List ℕ) → e 
 target-given true r f cs h = refl
 target-given false r f cs h = cc
 
-pub target-found : (ex : Decoded) (found : Found) (n : ℕ) (cs : List ℕ)
-    → given_by true (Has found n) cs (λ target. Finds (with_target ex target)) ≡ FoundAll (with_target ex found)
+pub target-found : (ex : Decoded) (found : FoundInstruction) (n : ℕ) (cs : List ℕ)
+    → given_by true (Has found n) cs (λ target. Finds (with_target ex target)) ≡ Found (with_target ex found)
 unfolding left_after fetching_of
 target-found ex found n cs = refl
 

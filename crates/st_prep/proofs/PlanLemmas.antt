@@ -15,9 +15,9 @@ use Rattle.st_prep.specs.declared.entries.Place.{Place}
 use Rattle.st_format.specs.declared.instruction.Decoded.{Decoded}
 use Rattle.st_format.specs.Formats.{decoded_entry}
 use Rattle.st_prep.specs.declared.entries.Fetched.{Fetched}
-use Rattle.st_prep.specs.declared.fetching.Found.{Found}
+use Rattle.st_prep.specs.declared.fetching.FoundInstruction.{FoundInstruction}
 use Rattle.st_prep.specs.EarlyChange.{effective}
-use Rattle.st_prep.specs.Reading.{Reading, Finds, outcome, half_of, Use, with_second, with_first, read_after, instruction_at, is_execute, with_target, fetched_alone, own_use, reading_at_place}
+use Rattle.st_prep.specs.Reading.{Reading, Finds, outcome, half_of, Continuation, with_second, with_first, read_after, instruction_at, is_execute, with_target, fetched_alone, own_use, reading_at_place}
 use Rattle.st_prep.specs.Fetch.{index_words, address_by, place_of, words_fetched}
 use Rattle.st_prep.specs.Plan.{Sight, needs, prepared_entry, sight, state_at_entry, side_word, side_of, plan, IsSeen}
 use Rattle.st_prep.specs.Ranges.{IsPlace, IsPrepared}
@@ -121,37 +121,37 @@ prepared-plan s v r h e =
 abbrev pub TargetsExecute : Reading → (ℕ → ℕ) → Type 0
 TargetsExecute r c = is_some (outcome r c).target ≡ true → is_execute (outcome r c).instr.instr ≡ true
 
-with_second-executes : (f : Option ℕ) (t : Bool) (first h v content : ℕ) (k : Use) (c : ℕ → ℕ)
-    → ((f : Found) → TargetsExecute (k f) c) → TargetsExecute (with_second f t first h v content k) c
+with_second-executes : (f : Option ℕ) (t : Bool) (first h v content : ℕ) (k : Continuation) (c : ℕ → ℕ)
+    → ((f : FoundInstruction) → TargetsExecute (k f) c) → TargetsExecute (with_second f t first h v content k) c
 unfolding outcome
 with_second-executes (Some i) t first h v content k c each = each _
 with_second-executes None t first h v content k c each =
     of_choice (λ r. TargetsExecute r c) (h / 2 == v) _ _ (each _) (each _)
 
-read_after-executes : (f : Option ℕ) (t : Bool) (b : ℕ) (en : Bool) (h : ℕ) (k : Use) (c : ℕ → ℕ)
-    → ((f : Found) → TargetsExecute (k f) c) → TargetsExecute (read_after f t b en h k) c
+read_after-executes : (f : Option ℕ) (t : Bool) (b : ℕ) (en : Bool) (h : ℕ) (k : Continuation) (c : ℕ → ℕ)
+    → ((f : FoundInstruction) → TargetsExecute (k f) c) → TargetsExecute (read_after f t b en h k) c
 unfolding outcome with_first
 read_after-executes (Some i) t b en h k c each = each _
 read_after-executes None t b en h k c each =
     of_choice (λ r. TargetsExecute r c) ((decoded_entry (half_of (c (h / 2)) h) 0).halves == 2) _ _
     (with_second-executes _ t _ (h + 1) (h / 2) _ k c each) (each _)
 
-at-executes : (t : Bool) (b : ℕ) (en : Bool) (h : ℕ) (k : Use) (c : ℕ → ℕ) → ((f : Found) → TargetsExecute (k f) c)
+at-executes : (t : Bool) (b : ℕ) (en : Bool) (h : ℕ) (k : Continuation) (c : ℕ → ℕ) → ((f : FoundInstruction) → TargetsExecute (k f) c)
     → TargetsExecute (instruction_at t b en h k) c
 unfolding instruction_at
 at-executes t b en h k c each = read_after-executes _ t b en h k c each
 
 -- EX with whatever target
-with_target-executes : (ex : Decoded) (c : ℕ → ℕ) (target : Found) → is_execute ex.instr ≡ true
+with_target-executes : (ex : Decoded) (c : ℕ → ℕ) (target : FoundInstruction) → is_execute ex.instr ≡ true
     → TargetsExecute (Finds (with_target ex target)) c
 unfolding outcome
 with_target-executes ex c target e h = e
 
-alone-executes : (own : Found) (c : ℕ → ℕ) → TargetsExecute (Finds (fetched_alone own)) c
+alone-executes : (own : FoundInstruction) (c : ℕ → ℕ) → TargetsExecute (Finds (fetched_alone own)) c
 unfolding outcome
 alone-executes own c h = cc
 
-own-executes : (e : Bool) (own : Found) (x : List ℕ) (b : ℕ) (en : Bool) (c : ℕ → ℕ) → is_execute own.decoded.instr ≡ e
+own-executes : (e : Bool) (own : FoundInstruction) (x : List ℕ) (b : ℕ) (en : Bool) (c : ℕ → ℕ) → is_execute own.decoded.instr ≡ e
     → TargetsExecute
     (if e then instruction_at true b en (effective x own.decoded.instr / 32) (λ target. Finds (with_target own.decoded target))
     else Finds (fetched_alone own)) c
@@ -159,7 +159,7 @@ own-executes true own x b en c e =
     at-executes true b en (effective x own.decoded.instr / 32) _ c (λ target. with_target-executes own.decoded c target e)
 own-executes false own x b en c e = alone-executes own c
 
-own_use-executes : (x : List ℕ) (b : ℕ) (en : Bool) (c : ℕ → ℕ) (own : Found) → TargetsExecute (own_use x b en own) c
+own_use-executes : (x : List ℕ) (b : ℕ) (en : Bool) (c : ℕ → ℕ) (own : FoundInstruction) → TargetsExecute (own_use x b en own) c
 unfolding own_use
 own_use-executes x b en c own = own-executes (is_execute own.decoded.instr) own x b en c refl
 

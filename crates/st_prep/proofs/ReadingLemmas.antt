@@ -10,11 +10,11 @@ use Rattle.st_state.specs.Boundary.{is_invalid_word, address_invalid, forbidden_
 use Rattle.st_state.specs.declared.protection.Access.TheVariants.{Fetch}
 use Rattle.st_prep.specs.declared.entries.Place.{Place}
 use Rattle.st_prep.specs.declared.entries.Fetched.{Fetched}
-use Rattle.st_prep.specs.declared.entries.Fetching.TheVariants.{Next, Found as FoundAll}
-use Rattle.st_prep.specs.declared.fetching.Found.{Found}
+use Rattle.st_prep.specs.declared.entries.Fetching.TheVariants.{Next, Found}
+use Rattle.st_prep.specs.declared.fetching.FoundInstruction.{FoundInstruction}
 use Rattle.st_prep.specs.EarlyChange.{effective}
 use Rattle.st_prep.specs.Fetch.{index_words, words_fetched}
-use Rattle.st_prep.specs.Reading.{Reading, Finds, Reads, outcome, words_read, own_words, left_after, fetching_of, half_of, Use, with_second, with_first, read_after, instruction_at, is_execute, with_target, own_use, reading_at_place}
+use Rattle.st_prep.specs.Reading.{Reading, Finds, Reads, outcome, words_read, own_words, left_after, fetching_of, half_of, Continuation, with_second, with_first, read_after, instruction_at, is_execute, with_target, own_use, reading_at_place}
 use Rattle.st_format.proofs.Spelled.{or-right}
 use Rattle.st_prep.proofs.Choices.{of_choice, test-none}
 use Rattle.st_prep.proofs.RunLemmas.{allowed-inside}
@@ -53,14 +53,14 @@ not_fewer : (n : ℕ) (ws : List ℕ) → AreFew n ws → AreFew (n + 1) ws
 not_fewer n ws h = record { few = omega (arith, h.few); above = h.above; inside = h.inside }
 
 -- a use that reads so many words
-abbrev pub ReadsFew : ℕ → (ℕ → ℕ) → Use → Type 0
-ReadsFew n c k = (f : Found) → AreFew n (words_read (k f) c)
+abbrev pub ReadsFew : ℕ → (ℕ → ℕ) → Continuation → Type 0
+ReadsFew n c k = (f : FoundInstruction) → AreFew n (words_read (k f) c)
 
 fetch-above : (b : ℕ) (en : Bool) (w : ℕ) → forbidden_by b en Fetch w ≡ None → 32 ≤ w
 unfolding forbidden_by
 fetch-above b en w h = ltb-false w 32 (or-right (nat_le words_of_storage w) _ (test-none (is_invalid_word Fetch w) address_invalid _ h))
 
-few-second : (f : Option ℕ) (t : Bool) (b : ℕ) (en : Bool) (first h v content n : ℕ) (c : ℕ → ℕ) (k : Use)
+few-second : (f : Option ℕ) (t : Bool) (b : ℕ) (en : Bool) (first h v content n : ℕ) (c : ℕ → ℕ) (k : Continuation)
     → forbidden_by b en Fetch (h / 2) ≡ f → ReadsFew n c k → AreFew (n + 1) (words_read (with_second f t first h v content k) c)
 unfolding words_read
 few-second (Some i) t b en first h v content n c k e few = not_fewer n _ (few _)
@@ -68,7 +68,7 @@ few-second None t b en first h v content n c k e few =
     of_choice (λ r. AreFew (n + 1) (words_read r c)) (h / 2 == v) _ _ (not_fewer n _ (few _))
     (one_more n (h / 2) _ (fetch-above b en (h / 2) e) (allowed-inside b en Fetch (h / 2) e) (few _))
 
-few-first : (t : Bool) (b : ℕ) (en : Bool) (h content n : ℕ) (c : ℕ → ℕ) (k : Use) → ReadsFew n c k
+few-first : (t : Bool) (b : ℕ) (en : Bool) (h content n : ℕ) (c : ℕ → ℕ) (k : Continuation) → ReadsFew n c k
     → AreFew (n + 1) (words_read (with_first t b en h content k) c)
 unfolding with_first
 few-first t b en h content n c k few =
@@ -76,7 +76,7 @@ few-first t b en h content n c k few =
     (few-second (forbidden_by b en Fetch ((h + 1) / 2)) t b en (half_of content h) (h + 1) (h / 2) content n c k refl few)
     (not_fewer n _ (few _))
 
-few-after : (f : Option ℕ) (t : Bool) (b : ℕ) (en : Bool) (h n : ℕ) (c : ℕ → ℕ) (k : Use) → forbidden_by b en Fetch (h / 2) ≡ f
+few-after : (f : Option ℕ) (t : Bool) (b : ℕ) (en : Bool) (h n : ℕ) (c : ℕ → ℕ) (k : Continuation) → forbidden_by b en Fetch (h / 2) ≡ f
     → ReadsFew n c k → AreFew (n + 1 + 1) (words_read (read_after f t b en h k) c)
 unfolding words_read
 few-after (Some i) t b en h n c k e few = not_fewer (n + 1) _ (not_fewer n _ (few _))
@@ -84,7 +84,7 @@ few-after None t b en h n c k e few =
     one_more (n + 1) (h / 2) _ (fetch-above b en (h / 2) e) (allowed-inside b en Fetch (h / 2) e)
     (few-first t b en h (c (h / 2)) n c k few)
 
-few-at : (t : Bool) (b : ℕ) (en : Bool) (h n : ℕ) (c : ℕ → ℕ) (k : Use) → ReadsFew n c k
+few-at : (t : Bool) (b : ℕ) (en : Bool) (h n : ℕ) (c : ℕ → ℕ) (k : Continuation) → ReadsFew n c k
     → AreFew (n + 1 + 1) (words_read (instruction_at t b en h k) c)
 unfolding instruction_at
 few-at t b en h n c k few = few-after (forbidden_by b en Fetch (h / 2)) t b en h n c k refl few
@@ -115,8 +115,8 @@ unfolding own_words
 own-read true w r c = omega arith
 own-read false w r c = omega arith
 
-abbrev pub OwnFew : ℕ → (ℕ → ℕ) → Use → Type 0
-OwnFew n c k = (f : Found) → own_words (k f) c ≤ n
+abbrev pub OwnFew : ℕ → (ℕ → ℕ) → Continuation → Type 0
+OwnFew n c k = (f : FoundInstruction) → own_words (k f) c ≤ n
 
 own-more : (t : Bool) (m n : ℕ) → m ≤ n → own_one t + m ≤ own_one t + n
 own-more t m n h = omega arith
@@ -124,28 +124,28 @@ own-more t m n h = omega arith
 own-same : (t : Bool) (m n : ℕ) → m ≤ n → m ≤ own_one t + n
 own-same t m n h = omega arith
 
-own-second : (f : Option ℕ) (t : Bool) (first h v content n : ℕ) (c : ℕ → ℕ) (k : Use) → OwnFew n c k
+own-second : (f : Option ℕ) (t : Bool) (first h v content n : ℕ) (c : ℕ → ℕ) (k : Continuation) → OwnFew n c k
     → own_words (with_second f t first h v content k) c ≤ own_one t + n
 own-second (Some i) t first h v content n c k few = own-same t _ n (few _)
 own-second None t first h v content n c k few =
     of_choice (λ r. own_words r c ≤ own_one t + n) (h / 2 == v) _ _ (own-same t _ n (few _))
     (rw (own-read t (h / 2) _ c) (own-more t _ n (few _)))
 
-own-first : (t : Bool) (b : ℕ) (en : Bool) (h content n : ℕ) (c : ℕ → ℕ) (k : Use) → OwnFew n c k
+own-first : (t : Bool) (b : ℕ) (en : Bool) (h content n : ℕ) (c : ℕ → ℕ) (k : Continuation) → OwnFew n c k
     → own_words (with_first t b en h content k) c ≤ own_one t + n
 unfolding with_first
 own-first t b en h content n c k few =
     of_choice (λ r. own_words r c ≤ own_one t + n) ((decoded_entry (half_of content h) 0).halves == 2) _ _
     (own-second _ t _ (h + 1) (h / 2) content n c k few) (own-same t _ n (few _))
 
-own-after : (f : Option ℕ) (t : Bool) (b : ℕ) (en : Bool) (h n : ℕ) (c : ℕ → ℕ) (k : Use) → OwnFew n c k
+own-after : (f : Option ℕ) (t : Bool) (b : ℕ) (en : Bool) (h n : ℕ) (c : ℕ → ℕ) (k : Continuation) → OwnFew n c k
     → own_words (read_after f t b en h k) c ≤ own_one t + (own_one t + n)
 own-after (Some i) t b en h n c k few = own-same t _ (own_one t + n) (own-same t _ n (few _))
 own-after None t b en h n c k few =
     let there : own_words (with_first t b en h (c (h / 2)) k) c ≤ own_one t + n = own-first t b en h (c (h / 2)) n c k few in
     rw (own-read t (h / 2) (λ content. with_first t b en h content k) c) (omega (arith, there))
 
-own-at : (t : Bool) (b : ℕ) (en : Bool) (h n : ℕ) (c : ℕ → ℕ) (k : Use) → OwnFew n c k
+own-at : (t : Bool) (b : ℕ) (en : Bool) (h n : ℕ) (c : ℕ → ℕ) (k : Continuation) → OwnFew n c k
     → own_words (instruction_at t b en h k) c ≤ own_one t + (own_one t + n)
 unfolding instruction_at
 own-at t b en h n c k few = own-after _ t b en h n c k few
@@ -214,7 +214,7 @@ pub record IsLeft (r s : Reading) (c : ℕ → ℕ) (n : ℕ) : Type 0 where
 same_word : (v w : ℕ) (t u : Bool) → Next v t ≡ Next w u → v ≡ w
 same_word v w t u e = cc
 
-same_found : (f g : Fetched) → FoundAll f ≡ FoundAll g → f ≡ g
+same_found : (f g : Fetched) → Found f ≡ Found g → f ≡ g
 same_found f g e = cc
 
 pub next-left : (r s : Reading) (c : ℕ → ℕ) (n w : ℕ) (t : Bool) → fetching_of r ≡ Next w t → IsLeft r s c n
@@ -232,7 +232,7 @@ next-left (Reads u v r) s c n w t e h =
       },
     )
 
-pub found-left : (r s : Reading) (c : ℕ → ℕ) (n : ℕ) (f : Fetched) → fetching_of r ≡ FoundAll f → IsLeft r s c n → f ≡ outcome s c
+pub found-left : (r s : Reading) (c : ℕ → ℕ) (n : ℕ) (f : Fetched) → fetching_of r ≡ Found f → IsLeft r s c n → f ≡ outcome s c
 unfolding fetching_of outcome
 found-left (Finds g) s c n f e h = sym (same_found g f e) ∙ h.same
 found-left (Reads u v r) s c n f e h = cc

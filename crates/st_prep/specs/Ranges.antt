@@ -9,8 +9,8 @@ use Rattle.st_format.specs.Formats.{IsShape, is_valid}
 use Rattle.st_prep.specs.declared.entries.Place.{Place}
 use Rattle.st_prep.specs.declared.entries.Fetched.{Fetched}
 use Rattle.st_prep.specs.declared.entries.Fetching.{Fetching}
-use Rattle.st_prep.specs.declared.entries.Fetching.TheVariants.{Next, Found as FoundAll}
-use Rattle.st_prep.specs.declared.fetching.Found.{Found}
+use Rattle.st_prep.specs.declared.entries.Fetching.TheVariants.{Next, Found}
+use Rattle.st_prep.specs.declared.fetching.FoundInstruction.{FoundInstruction}
 use Rattle.st_prep.specs.declared.fetching.Part.{Part}
 use Rattle.st_prep.specs.declared.fetching.Part.TheVariants.{Wants, Has}
 use Rattle.st_prep.specs.declared.entries.Needs.{Needs}
@@ -32,7 +32,7 @@ HasFields (Invalid first second full) = Unit {0}
 HasFields instr = IsShape instr
 
 -- an instruction, and an indicator
-pub record IsFoundInRange (f : Found) : Type 0 where
+pub record IsFoundInRange (f : FoundInstruction) : Type 0 where
   pub shape : HasFields f.decoded.instr
   pub fault : IfSome f.fault (λ i. i < 64)
 
@@ -50,7 +50,7 @@ pub record IsFetched (f : Fetched) : Type 0 where
 -- the next word lies in storage, or what is fetched is in its ranges
 abbrev pub IsFetching : Fetching → Type 0
 IsFetching (Next w target) = w < words_of_storage
-IsFetching (FoundAll f) = IsFetched f
+IsFetching (Found f) = IsFetched f
 
 -- two runs of at most sixteen words, which start at word addresses
 pub record IsRuns (w : Words) : Type 0 where

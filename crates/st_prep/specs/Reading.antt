@@ -13,8 +13,8 @@ use Rattle.st_state.specs.declared.protection.Access.TheVariants.{Fetch}
 use Rattle.st_prep.specs.declared.entries.Place.{Place}
 use Rattle.st_prep.specs.declared.entries.Fetched.{Fetched}
 use Rattle.st_prep.specs.declared.entries.Fetching.{Fetching}
-use Rattle.st_prep.specs.declared.entries.Fetching.TheVariants.{Next, Found as FoundAll}
-use Rattle.st_prep.specs.declared.fetching.Found.{Found}
+use Rattle.st_prep.specs.declared.entries.Fetching.TheVariants.{Next, Found}
+use Rattle.st_prep.specs.declared.fetching.FoundInstruction.{FoundInstruction}
 use Rattle.st_prep.specs.declared.fetching.Part.{Part}
 use Rattle.st_prep.specs.declared.fetching.Part.TheVariants.{Wants, Has}
 use Rattle.st_prep.specs.EarlyChange.{effective}
@@ -51,7 +51,7 @@ left_after (Reads target w r) (c ∷ contents) = left_after (r c) contents
 
 -- what it gives: the next word, or what is found
 unfoldable pub fetching_of : Reading → Fetching
-fetching_of (Finds f) = FoundAll f
+fetching_of (Finds f) = Found f
 fetching_of (Reads target w r) = Next w target
 
 -- how many words an index-side word is
@@ -70,16 +70,16 @@ abbrev pub no_instr : Decoded
 no_instr = record { instr = Invalid 0 0 false; halves = 1 }
 
 -- the instruction that two half-words spell which may be fetched
-abbrev pub allowed_found : ℕ → ℕ → Found
+abbrev pub allowed_found : ℕ → ℕ → FoundInstruction
 allowed_found first second = record { decoded = decoded_entry first second; fault = None }
 
 -- what an instruction is read for
-abbrev pub Use : Type 0
-Use = Found → Reading
+abbrev pub Continuation : Type 0
+Continuation = FoundInstruction → Reading
 
 -- the second half-word of an instruction, at h; it may stand in the word v of the first one, which
 -- was read
-abbrev pub with_second : Option ℕ → Bool → ℕ → ℕ → ℕ → ℕ → Use → Reading
+abbrev pub with_second : Option ℕ → Bool → ℕ → ℕ → ℕ → ℕ → Continuation → Reading
 with_second (Some i) target first h v content use_it =
     use_it (record { decoded = decoded_entry first 0; fault = Some i })
 with_second None target first h v content use_it =
@@ -93,7 +93,7 @@ with_second None target first h v content use_it =
     }))
 
 -- the instruction at h, the content of its first word being read
-unfoldable pub with_first : Bool → ℕ → Bool → ℕ → ℕ → Use → Reading
+unfoldable pub with_first : Bool → ℕ → Bool → ℕ → ℕ → Continuation → Reading
 with_first target bounds enabled h content use_it =
     let first = half_of content h in
     let own = decoded_entry first 0 in
@@ -102,14 +102,14 @@ with_first target bounds enabled h content use_it =
     (h / 2) content use_it
     else use_it (record { decoded = own; fault = None })
 
-abbrev pub read_after : Option ℕ → Bool → ℕ → Bool → ℕ → Use → Reading
+abbrev pub read_after : Option ℕ → Bool → ℕ → Bool → ℕ → Continuation → Reading
 read_after (Some i) target bounds enabled h use_it = use_it
     (record { decoded = no_instr; fault = Some i })
 read_after None target bounds enabled h use_it =
     Reads target (h / 2) (λ c. with_first target bounds enabled h c use_it)
 
 -- the instruction at the half-word address h
-unfoldable pub instruction_at : Bool → ℕ → Bool → ℕ → Use → Reading
+unfoldable pub instruction_at : Bool → ℕ → Bool → ℕ → Continuation → Reading
 instruction_at target bounds enabled h use_it =
     read_after (forbidden_by bounds enabled Fetch (h / 2)) target bounds enabled h use_it
 
@@ -125,7 +125,7 @@ is_execute (Half op address j i) = is_execute_op op
 is_execute _ = false
 
 -- EX with its target
-abbrev pub with_target : Decoded → Found → Fetched
+abbrev pub with_target : Decoded → FoundInstruction → Fetched
 with_target ex target = record {
   instr = ex;
   target = if is_none target.fault then Some target.decoded else None;
@@ -133,7 +133,7 @@ with_target ex target = record {
 }
 
 -- another instruction
-abbrev pub fetched_alone : Found → Fetched
+abbrev pub fetched_alone : FoundInstruction → Fetched
 fetched_alone own = record { instr = own.decoded; target = None; fault = own.fault }
 
 -- another instruction whose words may be fetched
@@ -141,7 +141,7 @@ abbrev pub fetched_plain : Decoded → Fetched
 fetched_plain own = record { instr = own; target = None; fault = None }
 
 -- what the own instruction is read for: of EX its target is read then
-unfoldable pub own_use : List ℕ → ℕ → Bool → Use
+unfoldable pub own_use : List ℕ → ℕ → Bool → Continuation
 own_use x bounds enabled own =
     if is_execute own.decoded.instr
     then instruction_at true bounds enabled (effective x own.decoded.instr / 32)
@@ -154,7 +154,7 @@ reading_at_place x bounds enabled place = instruction_at false bounds enabled pl
     (own_use x bounds enabled)
 
 -- what is given once so much of an instruction is known, by the contents
-abbrev pub given_by : Bool → Part → List ℕ → Use → Fetching
+abbrev pub given_by : Bool → Part → List ℕ → Continuation → Fetching
 given_by target (Wants w) contents use_it = Next w target
 given_by target (Has found n) contents use_it = fetching_of
     (left_after (use_it found) (drop n contents))

@@ -53,9 +53,9 @@ pub struct Words {
     pub first: u32,
     /// The word address of the second run.
     pub first2: u32,
-    /// The number of its words, 0 to 16.
+    /// The number of words of the first run, 0 to 16.
     pub len: u8,
-    /// The number of its words, 0 to 16.
+    /// The number of words of the second run, 0 to 16.
     pub len2: u8,
 }
 

@@ -5,8 +5,8 @@ ghost use Rattle.st_state.specs.Boundary.{forbidden_by};
 ghost use Rattle.st_state.specs.declared.protection.Access.{Access};
 ghost use Rattle.st_prep.specs.Fetch.{index_words as index_words_of, place_of as place_by, address_by};
 ghost use Rattle.st_prep.specs.declared.entries.Fetched.{Fetched as FetchedOf};
-ghost use Rattle.st_prep.specs.declared.entries.Fetching.TheVariants.{Found as FoundAll};
-ghost use Rattle.st_prep.specs.Reading.{Use, Finds, outcome, left_after, fetching_of, half_of as half_by, no_instr as no_instr_of, with_second as with_second_of, with_first as with_first_of, instruction_at, is_execute as is_execute_of, with_target as with_target_of, own_use, reading_at_place, given_by, allowed_found};
+ghost use Rattle.st_prep.specs.declared.entries.Fetching.TheVariants.{Found};
+ghost use Rattle.st_prep.specs.Reading.{Continuation, Finds, outcome, left_after, fetching_of, half_of as half_by, no_instr as no_instr_of, with_second as with_second_of, with_first as with_first_of, instruction_at, is_execute as is_execute_of, with_target as with_target_of, own_use, reading_at_place, given_by, allowed_found};
 ghost use Rattle.st_prep.specs.Ranges.{HasFields, IsPlace, IsPart, IsFoundInRange, IsFetched, IsFetching};
 
 use crate::addresses::effective_address;
@@ -18,7 +18,7 @@ use st_state::{Access, State};
 
 /// What is found at a half-word address.
 #[derive(Clone, Copy, Debug, PartialEq, Eq)]
-pub struct Found {
+pub struct FoundInstruction {
     /// The instruction, with zeros for what may not be fetched.
     pub decoded: Decoded,
     /// The indicator that forbids one of its words.
@@ -29,9 +29,14 @@ pub struct Found {
 #[derive(Clone, Copy, Debug, PartialEq, Eq)]
 pub enum Part {
     /// This word has to be read.
-    Wants { word: u32 },
+    Wants {
+        word: u32,
+    },
     /// All of it, by so many of the contents.
-    Has { found: Found, used: usize },
+    Has {
+        found: FoundInstruction,
+        used: usize,
+    },
 }
 
 /// The sixteen index words of a state.
@@ -100,7 +105,7 @@ fn no_instr() -> Decoded
 fn with_second(first: u32, h: u32, contents: &[u64], state: &State) -> Part
     requires address { h < 2 ^ 19 }
     requires some { 1 ≤ length contents.now }
-    ensures value { (t : Bool) (k : Use) → fetching_of (left_after (with_second_of
+    ensures value { (t : Bool) (k : Continuation) → fetching_of (left_after (with_second_of
         (forbidden_by (word state.now 3) state.now.enabled Access.Fetch ((h + 1) / 2)) t first
         (h + 1) (h / 2) (slice_index contents.now 0) k) (drop 1 contents.now))
         ≡ given_by t result contents.now k }
@@ -125,7 +130,7 @@ fn has(decoded: Decoded, fault: Option<u8>, used: usize) -> Part
     ensures { result ≡ Part.Has (record { decoded = decoded; fault = fault }) used }
 {
     Part::Has {
-        found: Found { decoded, fault },
+        found: FoundInstruction { decoded, fault },
         used,
     }
 }
@@ -134,7 +139,7 @@ fn has(decoded: Decoded, fault: Option<u8>, used: usize) -> Part
 fn with_first(h: u32, contents: &[u64], state: &State) -> Part
     requires address { h < 2 ^ 19 }
     requires some { 1 ≤ length contents.now }
-    ensures value { (t : Bool) (k : Use) →
+    ensures value { (t : Bool) (k : Continuation) →
         fetching_of (left_after (with_first_of t (word state.now 3)
         state.now.enabled h (slice_index contents.now 0) k) (drop 1 contents.now))
         ≡ given_by t result contents.now k }
@@ -153,7 +158,7 @@ fn with_first(h: u32, contents: &[u64], state: &State) -> Part
 #[tactic(auto, unfolding(crate::specs::Reading::instruction_at))]
 fn part_at(h: u32, contents: &[u64], state: &State) -> Part
     requires { h < 2 ^ 19 }
-    ensures value { (t : Bool) (k : Use) →
+    ensures value { (t : Bool) (k : Continuation) →
         fetching_of (left_after (instruction_at t (word state.now 3)
         state.now.enabled h k) contents.now) ≡ given_by t result contents.now k }
     ensures shape { IsPart (length contents.now) result }
@@ -176,7 +181,7 @@ pub fn is_execute(instr: &Instr) -> bool
 }
 
 // EX with the target that it points to.
-fn with_target(ex: Decoded, target: Found) -> Fetched
+fn with_target(ex: Decoded, target: FoundInstruction) -> Fetched
     requires ex { HasFields ex.instr }
     requires target { IsFoundInRange target }
     ensures value { result ≡ with_target_of ex target }
@@ -195,7 +200,7 @@ fn with_target(ex: Decoded, target: Found) -> Fetched
 
 // EX, whose target is read, as far as the contents behind its own tell.
 #[inline(never)]
-fn fetch_target(own: Found, x: &[u64; 16], contents: &[u64], state: &State) -> Fetching
+fn fetch_target(own: FoundInstruction, x: &[u64; 16], contents: &[u64], state: &State) -> Fetching
     requires own { IsFoundInRange own }
     requires execute { is_execute_of own.decoded.instr ≡ true }
     ensures value { result ≡ fetching_of (left_after (own_use x.now
@@ -212,7 +217,7 @@ fn fetch_target(own: Found, x: &[u64; 16], contents: &[u64], state: &State) -> F
 
 // The entry with this own instruction, as far as the contents behind it tell.
 #[inline(always)]
-fn own_or_target(own: Found, x: &[u64; 16], contents: &[u64], state: &State) -> Fetching
+fn own_or_target(own: FoundInstruction, x: &[u64; 16], contents: &[u64], state: &State) -> Fetching
     requires { IsFoundInRange own }
     ensures value { result ≡ fetching_of (left_after (own_use x.now
         (word state.now 3) state.now.enabled
@@ -237,10 +242,10 @@ fn second_known(h: u32, contents: &[u64], state: &State) -> Option<u32>
     requires some { 1 ≤ length contents.now }
     requires allowed { forbidden_by (word state.now 3) state.now.enabled Access.Fetch (h / 2)
         ≡ None }
-    ensures { IfSome result (λ second. (first : ℕ) (k : Use) (f : FetchedOf) →
+    ensures { IfSome result (λ second. (first : ℕ) (k : Continuation) (f : FetchedOf) →
         k (allowed_found first second) ≡ Finds f → fetching_of (left_after (with_second_of
         (forbidden_by (word state.now 3) state.now.enabled Access.Fetch ((h + 1) / 2)) false first
-        (h + 1) (h / 2) (slice_index contents.now 0) k) (drop 1 contents.now)) ≡ FoundAll f) }
+        (h + 1) (h / 2) (slice_index contents.now 0) k) (drop 1 contents.now)) ≡ Found f) }
 {
     if (h + 1) / 2 == h / 2 {
         return Some(half_of(contents[0], h + 1));
@@ -262,10 +267,10 @@ fn halves_of(h: u32, contents: &[u64], state: &State) -> Option<(u32, u32)>
     requires some { 1 ≤ length contents.now }
     requires allowed { forbidden_by (word state.now 3) state.now.enabled Access.Fetch (h / 2)
         ≡ None }
-    ensures { IfSome result (λ r. (k : Use) (f : FetchedOf) →
+    ensures { IfSome result (λ r. (k : Continuation) (f : FetchedOf) →
         k (allowed_found r.0 r.1) ≡ Finds f → fetching_of
         (left_after (with_first_of false (word state.now 3)
-        state.now.enabled h (slice_index contents.now 0) k) (drop 1 contents.now)) ≡ FoundAll f) }
+        state.now.enabled h (slice_index contents.now 0) k) (drop 1 contents.now)) ≡ Found f) }
 {
     let first = half_of(contents[0], h);
     if length_in_halves(first) == 2 {
@@ -286,10 +291,10 @@ fn halves_of(h: u32, contents: &[u64], state: &State) -> Option<(u32, u32)>
 pub fn halves_known(h: u32, contents: &[u64], state: &State) -> Option<(u32, u32)>
     requires address { h < 2 ^ 19 }
     requires some { 1 ≤ length contents.now }
-    ensures { IfSome result (λ r. (k : Use) (f : FetchedOf) →
+    ensures { IfSome result (λ r. (k : Continuation) (f : FetchedOf) →
         k (allowed_found r.0 r.1) ≡ Finds f → fetching_of
         (left_after (instruction_at false (word state.now 3)
-        state.now.enabled h k) contents.now) ≡ FoundAll f) }
+        state.now.enabled h k) contents.now) ≡ Found f) }
 {
     match state.may(Access::Fetch, h / 2) {
         Some(_) => None,

@@ -23,7 +23,7 @@ use Rattle.st_segment.specs.Ahead.{Ahead, next_ahead, ahead, front_behind}
 use Rattle.st_segment.proofs.GuessLemmas.{behind-none}
 use Rattle.st_ring.specs.Slots.{fill_tick, is_there, slot_of, slots_of, IsKeptSlot as IsSlotKept}
 use Rattle.st_ring.specs.Levels.{AreLevels}
-use Rattle.st_ring.specs.declared.plans.Plan.{Plan}
+use Rattle.st_ring.specs.declared.plans.PlannedRow.{PlannedRow}
 use Rattle.st_ring.proofs.UndoLemmas.{levels-keep}
 use Rattle.st_ahead.specs.Overlap.{Overlap, state_ahead, oldest_row, levels_of, last_tick_made}
 use Rattle.st_ahead.specs.Shown.{IsLevelOf, AreLevelsOf, lent_index_words, view_at_tick}
@@ -136,7 +136,7 @@ ring-slot m ring level k slot are there two =
 -- ---- undoing
 
 -- the planned rows beside them
-rows_of : List ℕ → ℕ → ℕ → Option ℕ → Machine → Front → List Plan
+rows_of : List ℕ → ℕ → ℕ → Option ℕ → Machine → Front → List PlannedRow
 rows_of ds n zero t s f = []
 rows_of ds n (suc k) t s f =
     let r = row_of_entry ds n f (entry t s) in

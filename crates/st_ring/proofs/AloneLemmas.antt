@@ -11,7 +11,7 @@ use Rattle.st_ring.specs.declared.level.Level.{Level}
 use Rattle.st_segment.specs.Entries.{entry}
 use Rattle.st_segment.specs.Alone.{RunAhead}
 use Rattle.st_ring.specs.Levels.{IsLevel, AreLevels}
-use Rattle.st_ring.specs.declared.plans.Plan.{Plan}
+use Rattle.st_ring.specs.declared.plans.PlannedRow.{PlannedRow}
 
 -- an entry is prepared behind the completion of the last one where one of the two is done alone
 abbrev pub AwaitsLast : List ℕ → ℕ → Front → Entry → Type 0
@@ -36,7 +36,7 @@ after-done ds n f e = refl
 
 -- behind a level that is not done, none is done alone, nor is that one
 module _ (ds : List ℕ) (n tick now : ℕ) (awaits : (f : Front) (e : Entry) → AwaitsLast ds n f e) where
-  neither_of : (t : Option ℕ) (s : Machine) (f : Front) (level : Level) (q : Plan) → IsLevel ds n tick t s f level q
+  neither_of : (t : Option ℕ) (s : Machine) (f : Front) (level : Level) (q : PlannedRow) → IsLevel ds n tick t s f level q
       → level.p < now → now ≤ f.c → ((plan s t).serial ≡ false) × (f.serial ≡ false)
   neither_of t s f level q h early open_c =
       let is : level.p ≡ (row_of_entry ds n f (entry t s)).p = h.p in
@@ -44,7 +44,7 @@ module _ (ds : List ℕ) (n tick now : ℕ) (awaits : (f : Front) (e : Entry) �
       let late : f.c < (row_of_entry ds n f (entry t s)).p = awaits f (entry t s) some in omega arith) in
       (sym (entry-serial t s) ∙ both.0, both.1)
 
-  pub behind-ahead : (t : Option ℕ) (s : Machine) (f last : Front) (ring : List Level) (plans : List Plan)
+  pub behind-ahead : (t : Option ℕ) (s : Machine) (f last : Front) (ring : List Level) (plans : List PlannedRow)
       → AreLevels ds n tick t s f last ring plans → All (λ level. level.p < now) ring → All (λ q. now ≤ q.c) plans
       → now ≤ f.c → 1 ≤ length ring → (f.serial ≡ false) × RunAhead (length ring) t s
   unfolding AreLevels RunAhead
@@ -55,21 +55,21 @@ module _ (ds : List ℕ) (n tick now : ℕ) (awaits : (f : Front) (e : Entry) �
       (own.1, (own.0, tt))
   behind-ahead t s f last (level ∷ next ∷ levels) (q ∷ qs) h early late open_c some =
       let own = neither_of t s f level q h.0 (All-head (λ (x : Level). x.p < now) level (next ∷ levels) early) open_c in
-      let done : now ≤ q.c = All-head (λ (x : Plan). now ≤ x.c) q qs late in
+      let done : now ≤ q.c = All-head (λ (x : PlannedRow). now ≤ x.c) q qs late in
       let same : (front_after_entry ds n f (entry t s)).c ≡ q.c = after-done ds n f (entry t s) ∙ sym h.0.c in
       let rest = behind-ahead None (guess t s) (front_after_entry ds n f (entry t s)) last (next ∷ levels) qs h.1
-      (All-tail (λ (x : Level). x.p < now) level (next ∷ levels) early) (All-tail (λ (x : Plan). now ≤ x.c) q qs late) (omega arith) (omega arith) in
+      (All-tail (λ (x : Level). x.p < now) level (next ∷ levels) early) (All-tail (λ (x : PlannedRow). now ≤ x.c) q qs late) (omega arith) (omega arith) in
       (own.1, (own.0, rest.1))
 
-  pub two-ahead : (t : Option ℕ) (s : Machine) (f last : Front) (ring : List Level) (plans : List Plan)
+  pub two-ahead : (t : Option ℕ) (s : Machine) (f last : Front) (ring : List Level) (plans : List PlannedRow)
       → AreLevels ds n tick t s f last ring plans → All (λ level. level.p < now) ring → All (λ q. now ≤ q.c) plans
       → 2 ≤ length ring → RunAhead (length ring) t s
   unfolding AreLevels RunAhead
   two-ahead t s f last [] plans h early late two = absurd (omega arith)
   two-ahead t s f last (level ∷ levels) [] h early late two = absurd h
   two-ahead t s f last (level ∷ levels) (q ∷ qs) h early late two =
-      let done : now ≤ q.c = All-head (λ (x : Plan). now ≤ x.c) q qs late in
+      let done : now ≤ q.c = All-head (λ (x : PlannedRow). now ≤ x.c) q qs late in
       let same : (front_after_entry ds n f (entry t s)).c ≡ q.c = after-done ds n f (entry t s) ∙ sym h.0.c in
       let rest = behind-ahead None (guess t s) (front_after_entry ds n f (entry t s)) last levels qs h.1
-      (All-tail (λ (x : Level). x.p < now) level levels early) (All-tail (λ (x : Plan). now ≤ x.c) q qs late) (omega arith) (omega arith) in
+      (All-tail (λ (x : Level). x.p < now) level levels early) (All-tail (λ (x : PlannedRow). now ≤ x.c) q qs late) (omega arith) (omega arith) in
       (sym (after-serial ds n t s f) ∙ rest.0, rest.1)

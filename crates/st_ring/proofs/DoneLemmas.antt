@@ -14,7 +14,7 @@ use Rattle.st_segment.specs.Alone.{RunAhead}
 use Rattle.st_segment.proofs.GuessLemmas.{behind-none}
 use Rattle.st_segment.proofs.IndexLemmas.{guess-past, split-change}
 use Rattle.st_ring.specs.Levels.{IsLevel, AreLevels, AreAhead, AreFull}
-use Rattle.st_ring.specs.declared.plans.Plan.{Plan}
+use Rattle.st_ring.specs.declared.plans.PlannedRow.{PlannedRow}
 
 pub split-behind : (k : ℕ) (t : Option ℕ) (s : Machine) → split_words (suc (suc k)) t s ≡ split_words (suc k) None (guess t s)
 unfolding split_words guesses
@@ -40,7 +40,7 @@ unfolding RunAhead
 nothing-ahead t s = tt
 
 pub levels-behind : (ds : List ℕ) (n tick : ℕ) (t : Option ℕ) (s : Machine) (f last : Front) (level : Level) (ring : List Level)
-    (plans : List Plan) (x y : List ℕ) → IsMachine s → IfSome t (λ i. i < 64)
+    (plans : List PlannedRow) (x y : List ℕ) → IsMachine s → IfSome t (λ i. i < 64)
     → AreLevels ds n tick t s f last (level ∷ ring) plans → x ≡ split_words (suc (length ring)) t s → RunAhead (length ring) t s
     → ((plan s t).serial ≡ false → y ≡ x) → ((plan s t).serial ≡ true → y ≡ index_words (guess t s))
     → AreAhead ds n tick None (guess t s) (front_after_entry ds n f (entry t s)) last (record { ring = ring; plans = drop 1 plans; x = y })
@@ -59,12 +59,12 @@ levels-behind ds n tick t s f last level (next ∷ ring) (q ∷ qs) x y m some h
 }
 
 pub first-is : (ds : List ℕ) (n tick : ℕ) (t : Option ℕ) (s : Machine) (f last : Front) (level : Level) (ring : List Level)
-    (plans : List Plan) (q : Plan) → AreLevels ds n tick t s f last (level ∷ ring) plans → slice_get plans 0 ≡ Some q
+    (plans : List PlannedRow) (q : PlannedRow) → AreLevels ds n tick t s f last (level ∷ ring) plans → slice_get plans 0 ≡ Some q
     → IsLevel ds n tick t s f level q
 unfolding AreLevels
 first-is ds n tick t s f last level ring [] q h first = absurd h
 first-is ds n tick t s f last level ring (r ∷ rs) q h first =
-    let same : r ≡ q = cc first in subst (λ (p : Plan). IsLevel ds n tick t s f level p) same h.0
+    let same : r ≡ q = cc first in subst (λ (p : PlannedRow). IsLevel ds n tick t s f level p) same h.0
 
 -- they have all words that are there
 pub full-behind : (ds : List ℕ) (n tick : ℕ) (t : Option ℕ) (s : Machine) (f : Front) (level : Level) (ring : List Level)

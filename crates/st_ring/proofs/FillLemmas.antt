@@ -27,7 +27,7 @@ use Rattle.st_segment.proofs.GuessLemmas.{guess-machine}
 use Rattle.st_segment.proofs.RestLemmas.{storage-kept}
 use Rattle.st_ring.specs.Levels.{have_of, IsLevel, AreLevels, AreFull}
 use Rattle.st_ring.specs.Slots.{fill_tick, is_there, slot_of, IsKeptSlot, put_of, coming, came_at, level_with_slot, level_with_words}
-use Rattle.st_ring.specs.declared.plans.Plan.{Plan}
+use Rattle.st_ring.specs.declared.plans.PlannedRow.{PlannedRow}
 use Rattle.st_ring.proofs.WriterLemmas.{take-latest, not-latest}
 
 -- ---- a word comes no earlier than its latest writer is done
@@ -229,7 +229,7 @@ module _ (ds : List ℕ) (n tick now most : ℕ) (m : Machine) (are : AreDelaysU
             agrees w word_by.0 (take-latest j f.past w now due)
       ]
 
-  have-filled : (j : ℕ) (t : Option ℕ) (u : Machine) (f : Front) (level : Level) (q : Plan) → IsMachine u → IfSome t (λ i. i < 64)
+  have-filled : (j : ℕ) (t : Option ℕ) (u : Machine) (f : Front) (level : Level) (q : PlannedRow) → IsMachine u → IfSome t (λ i. i < 64)
       → Agrees now m (take j f.past) u → ((plan u t).serial ≡ true → (w : ℕ) → w < 32 → word m w ≡ word u w)
       → IsLevel ds n tick t u f level q → (level_with_words q.fills m now level).have ≡ have_of ds n now t u f
   have-filled j t u f level q machine some agrees low h =
@@ -245,7 +245,7 @@ module _ (ds : List ℕ) (n tick now most : ℕ) (m : Machine) (are : AreDelaysU
       (slot-filled ticks p m u tick now 0 x behind h.have.kept_first (slot-same ticks p m u now 0 (word-there j 0 t u f machine some agrees low (omega arith))))
       (slot-filled ticks p m u tick now 1 y behind h.have.kept_second (slot-same ticks p m u now 1 (word-there j 1 t u f machine some agrees low (omega arith))))
 
-  level-filled : (t : Option ℕ) (u : Machine) (f : Front) (level : Level) (q : Plan)
+  level-filled : (t : Option ℕ) (u : Machine) (f : Front) (level : Level) (q : PlannedRow)
       → (level_with_words q.fills m now level).have ≡ have_of ds n now t u f
       → IsLevel ds n tick t u f level q → IsLevel ds n now t u f (level_with_words q.fills m now level) q
   level-filled t u f level q full h =
@@ -270,10 +270,10 @@ module _ (ds : List ℕ) (n tick now most : ℕ) (m : Machine) (are : AreDelaysU
       let both = not-latest ds n j now w t u f few late early in
       agrees w above both.1 ∙ sym (guess-leaves t u w machine some above both.0)
 
-  pub levels-filled : (j : ℕ) (t : Option ℕ) (u : Machine) (f last : Front) (ring : List Level) (plans : List Plan) (new : List Level)
+  pub levels-filled : (j : ℕ) (t : Option ℕ) (u : Machine) (f last : Front) (ring : List Level) (plans : List PlannedRow) (new : List Level)
       → IsMachine u → IfSome t (λ i. i < 64) → AreLevels ds n tick t u f last ring plans → All (λ q. now < q.c) plans
       → j + length ring ≤ 8 → Agrees now m (take j f.past) u → HasLow (length ring) m t u
-      → ((k : ℕ) (level : Level) (q : Plan) → slice_get ring k ≡ Some level → slice_get plans k ≡ Some q
+      → ((k : ℕ) (level : Level) (q : PlannedRow) → slice_get ring k ≡ Some level → slice_get plans k ≡ Some q
       → slice_get new k ≡ Some (level_with_words q.fills m now level))
       → length new ≡ length ring → AreLevels ds n now t u f last new plans × AreFull ds n now t u f new
   unfolding AreLevels AreFull HasLow
@@ -284,12 +284,12 @@ module _ (ds : List ℕ) (n tick now most : ℕ) (m : Machine) (are : AreDelaysU
   levels-filled j t u f last (level ∷ levels) (q ∷ qs) [] machine some h each room agrees low same len = absurd (omega arith)
   levels-filled j t u f last (level ∷ levels) (q ∷ qs) (x ∷ new) machine some h each room agrees low same len =
       let first : x ≡ level_with_words q.fills m now level = cc (same 0 level q refl refl) in
-      let open_c : now < q.c = All-head (λ (r : Plan). now < r.c) q qs each in
+      let open_c : now < q.c = All-head (λ (r : PlannedRow). now < r.c) q qs each in
       let done : q.c ≡ (row_of_entry ds n f (entry t u)).c = h.0.c in
       let late : now < (row_of_entry ds n f (entry t u)).c = omega arith in
       let full = have-filled j t u f level q machine some agrees low.0 h.0 in
       let rest = levels-filled (suc j) None (guess t u) (front_after_entry ds n f (entry t u)) last levels qs new (guess-machine t u machine some) tt h.1
-      (All-tail (λ (r : Plan). now < r.c) q qs each) (omega arith)
+      (All-tail (λ (r : PlannedRow). now < r.c) q qs each) (omega arith)
       (agrees-next j t u f machine some (omega arith) late agrees) low.1 (λ k. same (suc k)) (omega arith) in (
         (subst (λ (y : Level). IsLevel ds n now t u f y q) (sym first) (level-filled t u f level q full h.0), rest.0),
         (ap (λ (y : Level). y.have) first ∙ full, rest.1),
@@ -310,9 +310,9 @@ low-by (suc (suc k)) m t u same ahead = low-free (suc (suc k)) m t u (ahead (ome
 abbrev pub IsReady : Level → Type 0
 IsReady level = IsPrepared level.prepared
 
-pub all-next : (m : Machine) (now : ℕ) (ring : List Level) (plans : List Plan) (new : List Level) → All IsReady ring
+pub all-next : (m : Machine) (now : ℕ) (ring : List Level) (plans : List PlannedRow) (new : List Level) → All IsReady ring
     → length plans ≡ length ring → length new ≡ length ring
-    → ((k : ℕ) (level : Level) (q : Plan) → slice_get ring k ≡ Some level → slice_get plans k ≡ Some q
+    → ((k : ℕ) (level : Level) (q : PlannedRow) → slice_get ring k ≡ Some level → slice_get plans k ≡ Some q
     → slice_get new k ≡ Some (level_with_words q.fills m now level)) → All IsReady new
 all-next m now [] plans [] each beside len same = each
 all-next m now [] plans (x ∷ new) each beside len same = absurd (omega arith)

@@ -13,11 +13,11 @@ use Rattle.st_segment.specs.Guesses.{guesses, table_behind}
 use Rattle.st_segment.specs.Ahead.{ahead, front_behind, next_ahead, prepared_before}
 use Rattle.st_segment.proofs.GuessLemmas.{behind-none}
 use Rattle.st_ring.specs.Levels.{IsLevel, AreLevels, oldest_front}
-use Rattle.st_ring.specs.declared.plans.Plan.{Plan}
+use Rattle.st_ring.specs.declared.plans.PlannedRow.{PlannedRow}
 
 -- ---- as many planned rows as levels
 
-pub levels-beside : (ds : List ℕ) (n tick : ℕ) (t : Option ℕ) (s : Machine) (f last : Front) (ring : List Level) (plans : List Plan)
+pub levels-beside : (ds : List ℕ) (n tick : ℕ) (t : Option ℕ) (s : Machine) (f last : Front) (ring : List Level) (plans : List PlannedRow)
     → AreLevels ds n tick t s f last ring plans → length plans ≡ length ring
 unfolding AreLevels
 levels-beside ds n tick t s f last [] [] h = refl
@@ -28,7 +28,7 @@ levels-beside ds n tick t s f last (level ∷ levels) (q ∷ qs) h =
 
 -- ---- the front behind them
 
-pub levels-front : (ds : List ℕ) (n tick : ℕ) (t : Option ℕ) (s : Machine) (f last : Front) (ring : List Level) (plans : List Plan)
+pub levels-front : (ds : List ℕ) (n tick : ℕ) (t : Option ℕ) (s : Machine) (f last : Front) (ring : List Level) (plans : List PlannedRow)
     → AreLevels ds n tick t s f last ring plans → last ≡ front_behind ds n (length ring) t s f
 unfolding AreLevels front_behind
 levels-front ds n tick t s f last [] [] h = h
@@ -39,15 +39,15 @@ levels-front ds n tick t s f last (level ∷ levels) (q ∷ qs) h =
 
 -- ---- one more of them
 
-first-level : (ds : List ℕ) (n tick : ℕ) (t k : Option ℕ) (s u : Machine) (f last : Front) (level : Level) (q : Plan)
+first-level : (ds : List ℕ) (n tick : ℕ) (t k : Option ℕ) (s u : Machine) (f last : Front) (level : Level) (q : PlannedRow)
     → k ≡ t → u ≡ s → last ≡ f → IsLevel ds n tick k u last level q → IsLevel ds n tick t s f level q
 first-level ds n tick t k s u f last level q table state front h =
     subst (λ (i : Option ℕ). IsLevel ds n tick i s f level q) table
     (subst (λ (m : Machine). IsLevel ds n tick k m f level q) state
     (subst (λ (g : Front). IsLevel ds n tick k u g level q) front h))
 
-pub levels-append : (ds : List ℕ) (n tick : ℕ) (t k : Option ℕ) (s u : Machine) (f last : Front) (ring : List Level) (plans : List Plan)
-    (level : Level) (q : Plan) → k ≡ table_behind (length ring) t → u ≡ guesses (length ring) t s
+pub levels-append : (ds : List ℕ) (n tick : ℕ) (t k : Option ℕ) (s u : Machine) (f last : Front) (ring : List Level) (plans : List PlannedRow)
+    (level : Level) (q : PlannedRow) → k ≡ table_behind (length ring) t → u ≡ guesses (length ring) t s
     → AreLevels ds n tick t s f last ring plans → IsLevel ds n tick k u last level q
     → AreLevels ds n tick t s f (front_after_entry ds n last (entry k u)) (ring ++ level ∷ []) (plans ++ q ∷ [])
 unfolding AreLevels guesses
@@ -68,7 +68,7 @@ levels-append ds n tick t k s u f last (first ∷ levels) (r ∷ rs) level q tab
 -- ---- those that are prepared before a tick
 
 pub levels-prepared : (ds : List ℕ) (n tick now m : ℕ) (t k : Option ℕ) (s u : Machine) (f last : Front) (ring : List Level)
-    (plans : List Plan) → AreLevels ds n tick t s f last ring plans → All (λ level. level.p < now) ring
+    (plans : List PlannedRow) → AreLevels ds n tick t s f last ring plans → All (λ level. level.p < now) ring
     → k ≡ table_behind (length ring) t → u ≡ guesses (length ring) t s → now ≤ (row_of_entry ds n last (entry k u)).p → length ring ≤ m
     → prepared_before now (ahead ds n m t s f) ≡ ahead ds n (length ring) t s f
 unfolding AreLevels guesses ahead prepared_before
@@ -97,7 +97,7 @@ length-ahead ds n (suc k) t s f = ap suc (length-ahead ds n k None (guess t s) (
 
 -- ---- the front before them
 
-pub levels-oldest : (ds : List ℕ) (n tick : ℕ) (t : Option ℕ) (s : Machine) (f last : Front) (ring : List Level) (plans : List Plan)
+pub levels-oldest : (ds : List ℕ) (n tick : ℕ) (t : Option ℕ) (s : Machine) (f last : Front) (ring : List Level) (plans : List PlannedRow)
     → AreLevels ds n tick t s f last ring plans → oldest_front plans last ≡ f
 unfolding AreLevels
 levels-oldest ds n tick t s f last [] [] h = h

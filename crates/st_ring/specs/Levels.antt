@@ -11,18 +11,18 @@ use Rattle.st_segment.specs.Entries.{entry}
 use Rattle.st_segment.specs.Guesses.{split_words}
 use Rattle.st_segment.specs.Alone.{RunAhead}
 use Rattle.st_ring.specs.Slots.{slot_of, slots_of, AreKept}
-use Rattle.st_ring.specs.declared.plans.Plan.{Plan}
+use Rattle.st_ring.specs.declared.plans.PlannedRow.{PlannedRow}
 use Rattle.st_ring.specs.declared.levels.Completed.{Completed}
 
 -- what is seen of them: the ring, the planned rows beside it, and the index words that run ahead
 pub record LevelsView : Type 0 where
   pub ring : List Level
-  pub plans : List Plan
+  pub plans : List PlannedRow
   pub x : List ℕ
 
 -- what is always kept of them: a planned row beside each level, at most n levels, 1 to 8, and each
 -- entry in its ranges
-pub record AreLevelsSound (n : ℕ) (ring : List Level) (plans : List Plan) : Type 0 where
+pub record AreLevelsSound (n : ℕ) (ring : List Level) (plans : List PlannedRow) : Type 0 where
   pub beside : length plans ≡ length ring
   pub few : length ring ≤ n
   pub some : 1 ≤ n
@@ -37,7 +37,7 @@ module _ (ds : List ℕ) (n tick : ℕ) where
   -- a level is the next entry of the state s behind the front f, prepared; t says whether it is a
   -- table instruction. It has no other operand words than those that are there at the tick
   pub record IsLevel (t : Option ℕ) (s : Machine) (f : Front) (level : Level)
-      (q : Plan) : Type 0 where
+      (q : PlannedRow) : Type 0 where
     pub prepared : level.prepared ≡ plan s t
     pub p : level.p ≡ (row_of_entry ds n f (entry t s)).p
     pub have : AreKept level.have (slot_of (fills ds n f (entry t s)) (plan s t) s tick)
@@ -48,7 +48,8 @@ module _ (ds : List ℕ) (n tick : ℕ) where
 
   -- levels, oldest first, are the next entries by guessed steps, and `last` is the front behind
   -- them
-  unfoldable pub AreLevels : Option ℕ → Machine → Front → Front → List Level → List Plan → Type 0
+  unfoldable pub AreLevels : Option ℕ → Machine → Front → Front → List Level →
+      List PlannedRow → Type 0
   AreLevels t s f last [] [] = last ≡ f
   AreLevels t s f last (level ∷ levels) (q ∷ qs) =
       IsLevel t s f level q
@@ -73,17 +74,17 @@ abbrev pub AreNotDone : ℕ → LevelsView → Type 0
 AreNotDone now v = All (λ q. now < q.c) v.plans
 
 -- the tick at which the oldest of them is done, 2^64 - 1 where there is none
-abbrev pub due_of : List Plan → ℕ
+abbrev pub due_of : List PlannedRow → ℕ
 due_of [] = 2 ^ 64 - 1
 due_of (q ∷ qs) = q.c
 
 -- the oldest of them is done at this tick
-abbrev pub is_oldest_due : List Plan → ℕ → Bool
+abbrev pub is_oldest_due : List PlannedRow → ℕ → Bool
 is_oldest_due [] now = false
 is_oldest_due (q ∷ qs) now = q.c == now
 
 -- the front of the oldest entry that is not done, given that behind the levels
-abbrev pub oldest_front : List Plan → Front → Front
+abbrev pub oldest_front : List PlannedRow → Front → Front
 oldest_front [] last = last
 oldest_front (q ∷ qs) last = q.front.value
 

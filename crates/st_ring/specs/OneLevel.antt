@@ -1,4 +1,4 @@
--- Levels of the look-ahead.
+-- Levels of the lookahead.
 use Rattle.std.specs.Prelude.{ℕ, ◌<◌, max, List, slice_set, Option, Some, IfSome}
 use Rattle.st_prep.specs.declared.entries.Prepared.{Prepared}
 use Rattle.st_ring.specs.declared.level.Level.{Level}

@@ -1,11 +1,11 @@
 -- The planned row of an entry.
 use Rattle.st_rows.specs.declared.front.Filled.{Filled}
 use Rattle.st_rows.specs.declared.front.Front.{Front}
-use Rattle.st_ring.specs.declared.plans.Plan.{Plan}
+use Rattle.st_ring.specs.declared.plans.PlannedRow.{PlannedRow}
 
 -- the planned row of an entry behind a front, whose operands are there as `filled` says
-abbrev pub row_of_plan : Front → Filled → Plan
-row_of_plan f filled = record {
+abbrev pub planned_row : Front → Filled → PlannedRow
+planned_row f filled = record {
   front = record { marker = record {}; value = f };
   r = filled.row.r;
   c = filled.row.c;

@@ -1,12 +1,12 @@
 //! Operand words that come into the slots of levels.
 ghost use Rattle.std.specs.Prelude.{◌≡◌, ◌≢◌, ℕ, ◌+◌, ◌<◌, ◌≤◌, true, length, slice_get, slice_set, All, None, Some, Option};
 ghost use Rattle.st_prep.specs.Ranges.{IsPrepared};
-ghost use Rattle.st_ring.specs.declared.level.Level.{Level as Row};
+ghost use Rattle.st_ring.specs.declared.level.Level.{Level as LevelOf};
 ghost use Rattle.st_ring.specs.Slots.{fill_tick as fill_tick_of, slot_of, coming as coming_of, came_at as came_at_of, level_with_slot, level_with_words};
-ghost use Rattle.st_ring.specs.declared.plans.Plan.{Plan as PlanOf};
+ghost use Rattle.st_ring.specs.declared.plans.PlannedRow.{PlannedRow as PlannedRowOf};
 
 use crate::level::Level;
-use crate::plans::{Plan, Plans};
+use crate::plans::{PlannedRow, PlannedRowRing};
 use crate::ring::SpecRing;
 use crate::slots::is_transmission;
 use st_bits::register::FIRST_STORAGE_WORD;
@@ -89,7 +89,7 @@ fn are_none(first: Option<u64>, second: Option<u64>) -> bool
 fn put<const N: usize>(ring: &mut SpecRing<N>, k: usize, slot: u8, word: Option<u64>, tick: u64)
     requires level { k < length ring.old }
     requires slot { slot < 2 }
-    ensures levels { (level : Row) → slice_get ring.old k ≡ Some level
+    ensures levels { (level : LevelOf) → slice_get ring.old k ≡ Some level
         → ring.new ≡ slice_set ring.old k (level_with_slot level slot word tick) }
     ensures len { length ring.new ≡ length ring.old }
 {
@@ -102,14 +102,14 @@ fn put<const N: usize>(ring: &mut SpecRing<N>, k: usize, slot: u8, word: Option<
 fn fill_level<const N: usize>(
     ring: &mut SpecRing<N>,
     k: usize,
-    plan: &Plan,
+    plan: &PlannedRow,
     state: &State,
     now: u64,
 )
     requires level { k < length ring.old }
-    requires prepared { (level : Row) → slice_get ring.old k ≡ Some level →
+    requires prepared { (level : LevelOf) → slice_get ring.old k ≡ Some level →
         IsPrepared level.prepared }
-    ensures levels { (level : Row) → slice_get ring.old k ≡ Some level
+    ensures levels { (level : LevelOf) → slice_get ring.old k ≡ Some level
         → slice_get ring.new k ≡ Some (level_with_words plan.now.fills state.now now level) }
     ensures others { (i : ℕ) → i ≢ k → slice_get ring.new i ≡ slice_get ring.old i }
     ensures len { length ring.new ≡ length ring.old }
@@ -129,13 +129,14 @@ fn fill_level<const N: usize>(
 // Puts the words that come by the tick `now` into the slots of all levels.
 pub(crate) fn fill_all<const N: usize>(
     ring: &mut SpecRing<N>,
-    plans: &Plans,
+    plans: &PlannedRowRing,
     state: &State,
     now: u64,
 )
     requires beside { length plans.now ≡ length ring.old }
     requires prepared { All (λ level. IsPrepared level.prepared) ring.old }
-    ensures levels { (k : ℕ) (level : Row) (q : PlanOf) → slice_get ring.old k ≡ Some level →
+    ensures levels { (k : ℕ) (level : LevelOf) (q : PlannedRowOf) →
+        slice_get ring.old k ≡ Some level →
         slice_get plans.now k ≡ Some q
         → slice_get ring.new k ≡ Some (level_with_words q.fills state.now now level) }
     ensures len { length ring.new ≡ length ring.old }

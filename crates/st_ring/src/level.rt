@@ -1,4 +1,4 @@
-//! A level of the look-ahead.
+//! A level of the lookahead.
 ghost use Rattle.std.specs.Prelude.{◌≡◌, ◌<◌};
 ghost use Rattle.st_ring.specs.OneLevel.{level_with_word as filled_of, prepared_at};
 

@@ -13,10 +13,10 @@ ghost use Rattle.st_segment.specs.Entries.{entry};
 ghost use Rattle.st_segment.specs.Guesses.{guesses, table_behind};
 ghost use Rattle.st_segment.specs.Alone.{RunAhead};
 ghost use Rattle.st_ring.specs.Levels.{LevelsView, AreLevelsSound, AreAhead, AreFull, AreNotDone, IsCompleted, due_of, is_oldest_due as is_due_of};
-ghost use Rattle.st_ring.specs.PlannedRows.{row_of_plan};
+ghost use Rattle.st_ring.specs.PlannedRows.{planned_row};
 
 use crate::filling::fill_all;
-use crate::plans::{Plan, Plans};
+use crate::plans::{PlannedRow, PlannedRowRing};
 use crate::ring::SpecRing;
 use crate::slots::missed;
 use st_exec::complete_in;
@@ -42,7 +42,7 @@ pub struct Completed {
 #[derive(Drop)]
 pub struct Levels<const N: usize> {
     ring: SpecRing<N>,
-    plans: Plans,
+    plans: PlannedRowRing,
     x: [u64; 16],
 }
 
@@ -66,7 +66,7 @@ impl<const N: usize> Levels<N> {
     {
         Levels {
             ring: SpecRing::new(),
-            plans: Plans::new(),
+            plans: PlannedRowRing::new(),
             x,
         }
     }
@@ -97,7 +97,7 @@ impl<const N: usize> Levels<N> {
     }
 
     /// The planned row of level k, counted from the oldest, which is 0. There is one.
-    pub fn plan(&self, k: usize) -> &Plan
+    pub fn plan(&self, k: usize) -> &PlannedRow
         requires { k < length self.now.ring }
         ensures { slice_get self.now.plans k ≡ Some result.now }
     {
@@ -115,7 +115,7 @@ impl<const N: usize> Levels<N> {
           r = filled.now.row.p;
           have = None ∷ None ∷ [];
         }) ∷ [] }
-        ensures plans { self.new.plans ≡ self.old.plans ++ row_of_plan front.now filled.now ∷ [] }
+        ensures plans { self.new.plans ≡ self.old.plans ++ planned_row front.now filled.now ∷ [] }
         ensures index { self.new.x ≡ words_after self.old.x prepared.now.index }
         ensures few { length self.new.ring ≤ N }
         ensures not_done { (now : ℕ) → AreNotDone now self.old → now < filled.now.row.c →

@@ -1,4 +1,4 @@
-//! The levels of the look-ahead: entries that are prepared and not done, oldest first, in a ring,
+//! The levels of the lookahead: entries that are prepared and not done, oldest first, in a ring,
 //! with their operands, their planned rows, and the index words that run ahead; and how their
 //! changes of index words are undone. `docs/timetable.md` has the rules.
 #![tactic(auto, using(st_bits::specs::Storage::words_of_storage_is))]
@@ -12,5 +12,5 @@ mod slots;
 
 pub use level::Level;
 pub use levels::{Completed, Levels};
-pub use plans::{Plan, Plans};
+pub use plans::{PlannedRow, PlannedRowRing};
 pub use ring::SpecRing;

@@ -1,6 +1,6 @@
 //! The planned rows of the levels, oldest first.
 ghost use Rattle.std.specs.Prelude.{◌≡◌, ◌+◌, ◌<◌, ◌≤◌, [], ◌∷◌, ◌++◌, length, drop, slice_get, Some};
-ghost use Rattle.st_ring.specs.PlannedRows.{row_of_plan};
+ghost use Rattle.st_ring.specs.PlannedRows.{planned_row};
 
 use st_rows::{Filled, Front};
 use std::marker::Model;
@@ -11,7 +11,7 @@ const SLOTS: usize = 8;
 
 /// The planned row of a level.
 #[derive(Drop)]
-pub struct Plan {
+pub struct PlannedRow {
     /// The front that the row was computed from, which clauses alone read.
     pub front: Snapshot<Front>,
     /// When the operands of the level are there.
@@ -25,31 +25,31 @@ pub struct Plan {
 
 /// The planned rows of at most eight levels. Contracts see their list, oldest first.
 #[derive(Drop)]
-pub struct Plans {
-    slots: [Plan; SLOTS],
+pub struct PlannedRowRing {
+    slots: [PlannedRow; SLOTS],
     head: usize,
     len: usize,
 }
 
 // Clauses see the rows, oldest first.
-impl Model for Plans {
+impl Model for PlannedRowRing {
     ghost use Rattle.std.specs.Prelude.{List};
     ghost use Rattle.st_fetch.specs.Queue.{window, IsRing};
-    ghost use Rattle.st_ring.specs.declared.plans.Plan.{Plan as Row};
+    ghost use Rattle.st_ring.specs.declared.plans.PlannedRow.{PlannedRow as PlannedRowOf};
 
-    ghost Value = { List Row };
+    ghost Value = { List PlannedRowOf };
 
     ghost view = { λ ring. window ring.head ring.len ring.slots };
 
     ghost invariant = { λ ring. IsRing 8 ring.head ring.len ring.slots };
 }
 
-impl Plans {
+impl PlannedRowRing {
     /// No rows.
-    pub fn new() -> Plans
+    pub fn new() -> PlannedRowRing
         ensures { result ≡ [] }
     {
-        Plans {
+        PlannedRowRing {
             slots: [
                 no_plan(),
                 no_plan(),
@@ -77,7 +77,7 @@ impl Plans {
     /// the youngest then. There is room.
     pub fn push(&mut self, front: &Front, filled: &Filled)
         requires { length self.old < 8 }
-        ensures rows { self.new ≡ self.old ++ row_of_plan front.now filled.now ∷ [] }
+        ensures rows { self.new ≡ self.old ++ planned_row front.now filled.now ∷ [] }
         ensures len { length self.new ≡ length self.old + 1 }
     {
         let at = (self.head + self.len) % SLOTS;
@@ -86,7 +86,7 @@ impl Plans {
     }
 
     /// Row k, counted from the oldest, which is 0. There is one.
-    pub fn get(&self, k: usize) -> &Plan
+    pub fn get(&self, k: usize) -> &PlannedRow
         requires { k < length self.now }
         ensures { slice_get self.now k ≡ Some result.now }
     {
@@ -112,8 +112,8 @@ impl Plans {
 }
 
 // What stands in a slot without a row.
-fn no_plan() -> Plan {
-    Plan {
+fn no_plan() -> PlannedRow {
+    PlannedRow {
         front: Snapshot::of(&Front::default()),
         r: 0,
         c: 0,
@@ -122,8 +122,8 @@ fn no_plan() -> Plan {
 }
 
 // The slot becomes the row of an entry behind `front`, whose operands are there as `filled` says.
-fn plan_into(slot: &mut Plan, front: &Front, filled: &Filled)
-    ensures { slot.new ≡ row_of_plan front.now filled.now }
+fn plan_into(slot: &mut PlannedRow, front: &Front, filled: &Filled)
+    ensures { slot.new ≡ planned_row front.now filled.now }
 {
     slot.front = Snapshot::of(front);
     slot.r = filled.row.r;

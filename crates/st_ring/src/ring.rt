@@ -1,6 +1,6 @@
-//! The levels of the look-ahead, oldest first.
+//! The levels of the lookahead, oldest first.
 ghost use Rattle.std.specs.Prelude.{◌≡◌, ℕ, ◌+◌, ◌<◌, ◌≤◌, List, [], ◌∷◌, ◌++◌, length, drop, slice_get, slice_set, MatchOption, IfSome, Some};
-ghost use Rattle.st_ring.specs.declared.level.Level.{Level as Row};
+ghost use Rattle.st_ring.specs.declared.level.Level.{Level as LevelOf};
 ghost use Rattle.st_ring.specs.OneLevel.{HasNumber, level_with_word as filled_of, prepared_at};
 ghost use Rattle.st_ring.specs.Unwinding.{index_words_after, Kept, put_back as put_back_of, unwound};
 
@@ -23,10 +23,10 @@ pub struct SpecRing<const N: usize> {
 impl<const N: usize> Model for SpecRing<N> {
     ghost use Rattle.std.specs.Prelude.{List};
     ghost use Rattle.st_fetch.specs.Queue.{window};
-    ghost use Rattle.st_ring.specs.declared.level.Level.{Level as Row};
+    ghost use Rattle.st_ring.specs.declared.level.Level.{Level as LevelOf};
     ghost use Rattle.st_ring.specs.LevelRing.{IsLevelRing};
 
-    ghost Value = { List Row };
+    ghost Value = { List LevelOf };
 
     ghost view = { λ ring. window ring.head ring.len ring.slots };
 
@@ -134,7 +134,7 @@ impl<const N: usize> SpecRing<N> {
     pub fn fill(&mut self, k: usize, slot: u8, word: u64, tick: u64)
         requires level { k < length self.old }
         requires slot { slot < 2 }
-        ensures levels { (level : Row) → slice_get self.old k ≡ Some level
+        ensures levels { (level : LevelOf) → slice_get self.old k ≡ Some level
             → self.new ≡ slice_set self.old k (filled_of level slot word tick) }
         ensures len { length self.new ≡ length self.old }
     {

@@ -51,7 +51,7 @@ runs_asked past reads p =
     operands_asked past p reads.one.first reads.one.len
     ++ operands_asked past p reads.two.first reads.two.len
 
--- the following words
+-- a following word
 abbrev pub inside_asked : Bus → ℕ → ℕ → List Read
 inside_asked b w p = if nat_lt w words_of_storage then word_asked (tick_of b.held.words w) w p
     else []

@@ -1,4 +1,4 @@
--- What holds of each run with its timetable.
+-- How many instructions a run does, and how near to one another they are completed.
 use Rattle.std.specs.Prelude.{ℕ, ◌+◌, ◌*◌, ◌≤◌, List, [], ◌∷◌, All, ⊤}
 use Rattle.st_rows.specs.Ranges.{AreDelaysUpTo}
 use Rattle.st_run.specs.Run.{Scene, run}

@@ -141,8 +141,6 @@ pub record AreLevelsShown (shown : List (Option LevelView)) (levels : List Level
   pub room : shown ≡ map (λ v. Some v) views ++ replicate (8 - length views) None
   pub same : map level_of views ≡ levels
 
--- ---- what a run keeps
-
 -- ---- on the way from one thing that is told to the next
 
 -- the tick before was that of the first snapshot

@@ -44,7 +44,7 @@ module _ (ds : List ℕ) (n : ℕ) where
     row = row_of_entry ds n f (entry table s);
   }
 
-  -- the next k entries by guessed steps, on a machine with the delays ds and with n levels
+  -- the next k entries by guessed steps
   unfoldable pub ahead : ℕ → Option ℕ → Machine → Front → List Ahead
   ahead zero table s f = []
   ahead (suc k) table s f =

@@ -14,7 +14,7 @@ use Rattle.st_rows.specs.Levels.{AreEqual, IsUnwritten, IsRunUnwritten, IsHazard
 use Rattle.st_rows.specs.declared.entry.WordRun.{WordRun}
 use Rattle.st_rows.specs.declared.entry.WordRuns.{WordRuns}
 use Rattle.st_segment.specs.Entries.{above_registers, words_to_read, side_to_read, entry}
-use Rattle.st_sweep.specs.HazardFree.{are_equal, is_among_written, are_written, one_is_written, side_is_written, next_writes, next_side, is_hazard_free_entry, is_quiet, is_hazard_free_behind}
+use Rattle.st_sweep.specs.HazardFree.{are_equal, is_among_written, are_written, one_is_written, side_is_written, next_writes, next_side, is_hazard_free_entry, is_hazard_free_interlude, is_hazard_free_behind}
 
 -- ---- delays
 
@@ -131,8 +131,8 @@ awake : (after before : Bool) → (after || not before) ≡ true → after ≡ f
 awake true before h going = absurd (cc)
 awake false before h going = not-true before h
 
-pub quiet-is : (c : Scene) → is_quiet c ≡ true → IsQuiet c
-unfolding is_quiet
+pub quiet-is : (c : Scene) → is_hazard_free_interlude c ≡ true → IsQuiet c
+unfolding is_hazard_free_interlude
 quiet-is c h =
     let parts = and_parts _ _ h in
     record {
@@ -159,7 +159,7 @@ unfolding is_hazard_free_behind entry
 hazard_free-goes_on earlier left c h going =
     let s = (interlude c).scene.machine in
     let later = is_hazard_free_behind (next_writes s ∷ earlier) left (scene_after_step (interlude c).scene) in
-    let parts = and_parts (is_quiet c) (rests s || is_hazard_free_entry earlier s && later) h in
+    let parts = and_parts (is_hazard_free_interlude c) (rests s || is_hazard_free_entry earlier s && later) h in
     let both = and_parts (is_hazard_free_entry earlier s) later (goes_on (rests s) (is_hazard_free_entry earlier s) later parts.1 going) in
     record {
       quiet = quiet-is c parts.0;

@@ -14,7 +14,7 @@ use Rattle.st_exec.proofs.StepLemmas.{step-done}
 use Rattle.st_run.proofs.Runs.{run-rests, run-budget, run-goes_on}
 use Rattle.st_rows.specs.declared.entry.WordRuns.{WordRuns}
 use Rattle.st_run.proofs.DoneLemmas.{settled-done}
-use Rattle.st_sweep.specs.HazardFree.{side_is_written, one_is_written, next_writes, is_hazard_free_entry, is_quiet, is_hazard_free_behind}
+use Rattle.st_sweep.specs.HazardFree.{side_is_written, one_is_written, next_writes, is_hazard_free_entry, is_hazard_free_interlude, is_hazard_free_behind}
 use Rattle.st_sweep.specs.Marks.{AreMarks}
 use Rattle.st_sweep.specs.Sweep.{without_cards}
 
@@ -48,11 +48,11 @@ pub record IsSoFar (whole : Bool) (last : ℕ) (so : Bool) (left : ℕ) (s : Mac
 
 -- at its end
 hazard_free-ends : (earlier : List WordRuns) (left : ℕ) (c : Scene) → (left ≡ 0) ⊎ (rests (interlude c).scene.machine ≡ true)
-    → is_hazard_free_behind earlier left c ≡ is_quiet c
+    → is_hazard_free_behind earlier left c ≡ is_hazard_free_interlude c
 unfolding is_hazard_free_behind
 hazard_free-ends earlier zero c end = refl
 hazard_free-ends earlier (suc left) c (inl none) = let no : ⊥ = omega arith in absurd no
-hazard_free-ends earlier (suc left) c (inr resting) = rw resting (and-right (is_quiet c))
+hazard_free-ends earlier (suc left) c (inr resting) = rw resting (and-right (is_hazard_free_interlude c))
   where
     and-right : (b : Bool) → (b && true) ≡ b
     and-right true = refl
@@ -68,12 +68,12 @@ hazard_free_on earlier left d =
     is_hazard_free_entry earlier d.machine && is_hazard_free_behind (next_writes d.machine ∷ earlier) left (scene_after_step d)
 
 hazard_free-goes_on : (earlier : List WordRuns) (left : ℕ) (c : Scene) → left ≢ 0 → rests (interlude c).scene.machine ≡ false
-    → is_hazard_free_behind earlier left c ≡ (is_quiet c && hazard_free_on earlier (left - 1) (interlude c).scene)
+    → is_hazard_free_behind earlier left c ≡ (is_hazard_free_interlude c && hazard_free_on earlier (left - 1) (interlude c).scene)
 unfolding is_hazard_free_behind
 hazard_free-goes_on earlier zero c some going = absurd (some refl)
 hazard_free-goes_on earlier (suc left) c some going =
     let one : left ≡ suc left - 1 = omega arith in
-    rw going (ap (λ k. is_quiet c && hazard_free_on earlier k (interlude c).scene) one)
+    rw going (ap (λ k. is_hazard_free_interlude c && hazard_free_on earlier k (interlude c).scene) one)
 
 regroup : (a b c d : Bool) → (((a && b) && c) && d) ≡ (a && (b && (c && d)))
 regroup true true c d = refl
@@ -82,7 +82,7 @@ regroup false b c d = refl
 
 module _ (whole : Bool) (last : ℕ) (hazard_free quiet : Bool) (left : ℕ) (s t : Machine) (xs ys : List Signal) (marks : List Bool)
     (is : IsSoFar whole last hazard_free left s xs marks) (came : (interlude (without_cards s xs)).scene ≡ without_cards t ys)
-    (still : quiet ≡ is_quiet (without_cards s xs)) where
+    (still : quiet ≡ is_hazard_free_interlude (without_cards s xs)) where
   module _ (end : (left ≡ 0) ⊎ (rests t ≡ true)) where
     at_end : (left ≡ 0) ⊎ (rests (interlude (without_cards s xs)).scene.machine ≡ true)
     at_end = subst (λ m. (left ≡ 0) ⊎ (rests m ≡ true)) (ap (λ c. c.machine) (sym came)) end
@@ -121,7 +121,7 @@ module _ (whole : Bool) (last : ℕ) (hazard_free quiet : Bool) (left : ℕ) (s 
           hazard_free =
               ap (λ b. b && later) all ∙ regroup hazard_free quiet entry later
               ∙ ap (λ b. hazard_free && (b && (entry && later))) still
-              ∙ ap (λ b. hazard_free && (is_quiet c && b)) (sym on)
+              ∙ ap (λ b. hazard_free && (is_hazard_free_interlude c && b)) (sym on)
               ∙ ap (λ b. hazard_free && b) (sym (hazard_free-goes_on e left c some goes_on))
               ∙ is.hazard_free;
           done =

@@ -6,7 +6,7 @@ use Rattle.st_exec.specs.Step.{rests}
 use Rattle.st_card.specs.declared.control_cards.Signal.{Signal}
 use Rattle.st_run.specs.Run.{Scene, with_due_signals, with_due_orders, interlude}
 use Rattle.st_run.specs.Outside.{Coming, scene_at}
-use Rattle.st_sweep.specs.HazardFree.{is_quiet}
+use Rattle.st_sweep.specs.HazardFree.{is_hazard_free_interlude}
 use Rattle.st_sweep.specs.Sweep.{without_cards}
 
 none-left : (cards : List (List ℕ)) → length cards ≤ 0 → cards ≡ []
@@ -25,8 +25,8 @@ module _ (s t : Machine) (xs ys : List Signal) (x y : Coming) (is : x ≡ record
 
   pub settled-quiet : (waited : Bool)
       → waited ≡ rests (with_due_orders (with_due_signals (scene_at s x))).scene.machine
-      → is_quiet (without_cards s xs) ≡ (rests t || not waited)
-  unfolding is_quiet
+      → is_hazard_free_interlude (without_cards s xs) ≡ (rests t || not waited)
+  unfolding is_hazard_free_interlude
   settled-quiet waited wait =
       ap (λ (after : Scene). not (nat_lt (length after.cards) 0) && (rests after.machine || not (rests (with_due_orders (with_due_signals (without_cards s xs))).scene.machine))) settled-scene
       ∙ ap (λ (b : Bool). rests t || not b)

@@ -62,8 +62,8 @@ is_hazard_free_entry earlier s =
 -- ---- what comes between two entries
 
 -- no card is put into storage, and where the machine waits, nothing comes that ends the wait
-unfoldable pub is_quiet : Scene → Bool
-is_quiet c =
+unfoldable pub is_hazard_free_interlude : Scene → Bool
+is_hazard_free_interlude c =
     let after = (interlude c).scene in
     not (nat_lt (length after.cards) (length c.cards))
     && (rests after.machine
@@ -74,10 +74,10 @@ is_quiet c =
 -- the run from a scene on, in which so many entries may still be done, behind earlier entries that
 -- write these words
 unfoldable pub is_hazard_free_behind : List WordRuns → ℕ → Scene → Bool
-is_hazard_free_behind earlier zero c = is_quiet c
+is_hazard_free_behind earlier zero c = is_hazard_free_interlude c
 is_hazard_free_behind earlier (suc left) c =
     let s = (interlude c).scene.machine in
-    is_quiet c
+    is_hazard_free_interlude c
     && (rests s
     || is_hazard_free_entry earlier s && is_hazard_free_behind (next_writes s ∷ earlier) left
     (scene_after_step (interlude c).scene))

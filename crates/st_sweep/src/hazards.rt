@@ -12,7 +12,7 @@ ghost use Rattle.st_sweep.specs.HazardFree.{are_equal as are_equal_of, next_writ
 ghost use Rattle.st_sweep.specs.Marks.{AreMarks};
 ghost use Rattle.st_sweep.specs.Sweep.{without_cards};
 
-use crate::settling::settle;
+use crate::interlude::pass_interlude;
 use crate::written::WrittenWords;
 use st_card::Signal;
 use st_exec::{complete_in, interrupt, is_at_rest, is_missed};
@@ -47,7 +47,7 @@ fn goes_straight(taken: Option<u8>, p: &Prepared, state: &State) -> bool
 
 // Whether all of this is so: the entry goes straight on, and neither its index-side word nor an
 // operand word was written.
-fn is_fresh(straight: bool, side: bool, words: bool) -> bool
+fn is_hazard_free(straight: bool, side: bool, words: bool) -> bool
     ensures { result ≡ (straight && not side && not words) }
 {
     straight && !side && !words
@@ -70,7 +70,7 @@ fn step(state: &mut State, written: &mut WrittenWords) -> bool
     let words = written.has_words(p.reads);
     written.put(p.writes);
     complete_in(&p, state);
-    is_fresh(straight, side, words)
+    is_hazard_free(straight, side, words)
 }
 
 // Whether both are so.
@@ -109,7 +109,7 @@ pub(crate) fn run_plain(
     let mut hazard_free = true;
     let mut left = budget;
     'entries: loop {
-        let between = settle(state, rest);
+        let between = pass_interlude(state, rest);
         rest = between.signals;
         hazard_free = both(hazard_free, between.quiet);
         if left == 0 {

@@ -2,7 +2,7 @@
 #![tactic(auto, using(st_bits::specs::Storage::words_of_storage_is))]
 
 mod hazards;
-mod settling;
+mod interlude;
 mod start;
 mod sweeping;
 mod written;

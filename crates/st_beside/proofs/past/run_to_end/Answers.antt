@@ -11,28 +11,28 @@ running-init c = record {
 
 pub step-requires-clause-few : goal.step-requires-clause-few
 step-requires-clause-few c =
-    let few = states_few c.running.left c.args.budget c.running.past c.settle.new.past c.settle.ensures c.running.invariant.counted in
+    let few = states_few c.running.left c.args.budget c.running.past c.pass_interlude.new.past c.pass_interlude.ensures c.running.invariant.counted in
     omega (arith, few, c.requires.limit)
 
 pub returns-then-is_resting-clause-end : goal.returns-then-is_resting-clause-end
 returns-then-is_resting-clause-end c = λ depth h.
-    states_rest depth c.args.budget c.args.past.now.0 c.running.left c.running.past c.settle.new.past
-    c.settle.ensures (sym c.is_resting.ensures ∙ c.if-is_resting.true) (c.running.invariant.states depth h)
+    states_rest depth c.args.budget c.args.past.now.0 c.running.left c.running.past c.pass_interlude.new.past
+    c.pass_interlude.ensures (sym c.is_resting.ensures ∙ c.if-is_resting.true) (c.running.invariant.states depth h)
 
 pub returns-then-left-eq0-clause-end : goal.returns-then-left-eq0-clause-end
 returns-then-left-eq0-clause-end c = λ depth h.
-    states_used depth c.args.budget c.args.past.now.0 c.running.left c.running.past c.settle.new.past
-    c.settle.ensures c.if-left-eq0.true (c.running.invariant.states depth h)
+    states_used depth c.args.budget c.args.past.now.0 c.running.left c.running.past c.pass_interlude.new.past
+    c.pass_interlude.ensures c.if-left-eq0.true (c.running.invariant.states depth h)
 
 pub running-preserved : goal.running-preserved
 running-preserved c =
     let going = sym c.is_resting.ensures ∙ c.if-is_resting.false in
     let made = c.step.ensures going in
     record {
-      counted = states_count c.running.left c.args.budget c.running.past c.settle.new.past
-          c.step.new.past c.if-left-eq0.false c.settle.ensures made c.running.invariant.counted;
+      counted = states_count c.running.left c.args.budget c.running.past c.pass_interlude.new.past
+          c.step.new.past c.if-left-eq0.false c.pass_interlude.ensures made c.running.invariant.counted;
       ready = made.ready;
       states = λ depth h.
-          states_next depth c.args.budget c.args.past.now.0 c.running.left c.running.past c.settle.new.past
-          c.step.new.past c.if-left-eq0.false going c.settle.ensures made (c.running.invariant.states depth h);
+          states_next depth c.args.budget c.args.past.now.0 c.running.left c.running.past c.pass_interlude.new.past
+          c.step.new.past c.if-left-eq0.false going c.pass_interlude.ensures made (c.running.invariant.states depth h);
     }

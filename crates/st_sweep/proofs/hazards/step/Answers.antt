@@ -14,7 +14,7 @@ pub returns-clause-entry : goal.returns-clause-entry
 returns-clause-entry c = λ earlier are. (
   subst (λ w. AreMarks (words_to_write w ∷ earlier) c.put.new.self)
       (ap (λ (p : Prepared). p.writes) (c.plan_in-side.ensures.value ∙ ap (λ (t : Option ℕ). plan c.args.state.now t) c.interrupt-taken.ensures.value)) (c.put.ensures earlier are),
-  c.is_fresh.ensures
+  c.is_hazard_free.ensures
       ∙ entry-hazard_free earlier _ _ _ _ _ _ _ c.interrupt-taken.ensures.value c.plan_in-side.ensures.value c.plan_in-side.ensures.side
       c.goes_straight-straight.ensures (c.has_side-side.ensures earlier are) (c.has_words-words.ensures earlier are),
 )

@@ -5,7 +5,7 @@ use Rattle.st_ring.specs.declared.level.Level.{Level}
 use Rattle.st_segment.specs.Alone.{RunAhead}
 use Rattle.st_segment.specs.Guesses.{split_words}
 use Rattle.st_ring.specs.Levels.{LevelsView, AreLevels}
-use Rattle.st_ring.specs.declared.plans.Plan.{Plan}
+use Rattle.st_ring.specs.declared.plans.PlannedRow.{PlannedRow}
 use Rattle.st_ring.proofs.FillLemmas.{levels-filled, low-by, all-next}
 use Rattle.st_ring.proofs.levels.Levels.fill.Goals as goal
 use Rattle.st_ring.proofs.Laws.{levels_that_are_not_done_run_ahead}
@@ -31,15 +31,15 @@ returns-clause-ahead g c = λ ds n tick most t s f last are m some h behind prep
     let len : length new ≡ length v.ring = c.fill_all.ensures.len ∙ ap (λ (r : List Level). length r) ring in
     let few : length v.ring ≤ 8 = omega (arith, ap (λ (r : List Level). length r) ring, c.self.invariant.few, c.self.invariant.most) in
     let soon = All-weaker (λ (level : Level). level.p ≤ c.args.now) (λ level. level.p < c.args.now + 1) (λ level p. omega (arith, p)) v.ring prepared in
-    let late = All-weaker (λ (q : Plan). c.args.now < q.c) (λ q. c.args.now + 1 ≤ q.c) (λ q c_late. omega (arith, c_late)) v.plans open_c in
+    let late = All-weaker (λ (q : PlannedRow). c.args.now < q.c) (λ q. c.args.now + 1 ≤ q.c) (λ q c_late. omega (arith, c_late)) v.plans open_c in
     let low = low-by (length v.ring) c.args.state.now t s agrees
     (λ two. levels_that_are_not_done_run_ahead ds n tick (c.args.now + 1) t s f last v h soon late two) in
     let next = levels-filled ds n tick c.args.now most c.args.state.now are behind 0 t s f last v.ring v.plans new m some h.levels open_c (omega arith)
     (λ w above early. agrees w) low
     (λ k level q at beside. c.fill_all.ensures.levels k level q (ap (λ (r : List Level). slice_get r k) ring ∙ at)
-    (ap (λ (r : List Plan). slice_get r k) plans ∙ beside)) len in (
+    (ap (λ (r : List PlannedRow). slice_get r k) plans ∙ beside)) len in (
       record {
-        levels = subst (λ (r : List Plan). AreLevels ds n c.args.now t s f last new r) (sym plans) next.0;
+        levels = subst (λ (r : List PlannedRow). AreLevels ds n c.args.now t s f last new r) (sym plans) next.0;
         index = ap (λ (w : LevelsView). w.x) c.self.view_is ∙ h.index ∙ ap (λ k. split_words k t s) (sym len);
         run_ahead = subst (λ k. RunAhead (k - 1) t s) (sym len) h.run_ahead;
       },

@@ -5,8 +5,8 @@ use Rattle.st_prep.specs.Ranges.{IsPrepared}
 use Rattle.st_ring.specs.declared.level.Level.{Level}
 use Rattle.st_segment.specs.Guesses.{guesses, table_behind}
 use Rattle.st_ring.specs.Levels.{LevelsView}
-use Rattle.st_ring.specs.PlannedRows.{row_of_plan}
-use Rattle.st_ring.specs.declared.plans.Plan.{Plan}
+use Rattle.st_ring.specs.PlannedRows.{planned_row}
+use Rattle.st_ring.specs.declared.plans.PlannedRow.{PlannedRow}
 use Rattle.st_ring.proofs.PushLemmas.{pushed_level, pushed-level, push-ahead}
 use Rattle.st_ring.proofs.levels.Levels.push.Goals as goal
 
@@ -33,19 +33,19 @@ returns-clause-ahead g c = λ ds n tick t s f last m some h free front form numb
     let new : LevelsView = record { ring = c.push_prepared.new.self; plans = c.push.new.self; x = c.change_index.new.x } in
     let ring : new.ring ≡ v.ring ++ pushed_level p filled ∷ [] = c.push_prepared.ensures.levels
     ∙ ap (λ (w : LevelsView). w.ring ++ pushed_level p filled ∷ []) c.self.view_is in
-    let plans : new.plans ≡ v.plans ++ row_of_plan c.args.front.now filled ∷ [] = c.push.ensures.rows
-    ∙ ap (λ (w : LevelsView). w.plans ++ row_of_plan c.args.front.now filled ∷ []) c.self.view_is in
+    let plans : new.plans ≡ v.plans ++ planned_row c.args.front.now filled ∷ [] = c.push.ensures.rows
+    ∙ ap (λ (w : LevelsView). w.plans ++ planned_row c.args.front.now filled ∷ []) c.self.view_is in
     let x : new.x ≡ words_after v.x p.index = c.change_index.ensures
     ∙ ap (λ (w : LevelsView). words_after w.x p.index) c.self.view_is in
-    push-ahead ds n tick t s f last v new (pushed_level p filled) (row_of_plan c.args.front.now filled) p m some h free form
+    push-ahead ds n tick t s f last v new (pushed_level p filled) (planned_row c.args.front.now filled) p m some h free form
     (pushed-level ds n tick i u last p c.args.front.now filled front form numbers ticks)
     ring plans x
 
 pub returns-clause-not_done : goal.returns-clause-not_done
 returns-clause-not_done g c = λ now each late.
-    let P : Plan → Type 0 = λ q. now < q.c in
-    let old = subst (λ (rows : List Plan). All P rows) (sym (ap (λ (w : LevelsView). w.plans) c.self.view_is)) each in
-    subst (λ (rows : List Plan). All P rows) (sym c.push.ensures.rows) (All-push P c.self.inside.plans _ old late)
+    let P : PlannedRow → Type 0 = λ q. now < q.c in
+    let old = subst (λ (rows : List PlannedRow). All P rows) (sym (ap (λ (w : LevelsView). w.plans) c.self.view_is)) each in
+    subst (λ (rows : List PlannedRow). All P rows) (sym c.push.ensures.rows) (All-push P c.self.inside.plans _ old late)
 
 pub returns-clause-few : goal.returns-clause-few
 returns-clause-few g c =

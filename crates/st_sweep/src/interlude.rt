@@ -3,7 +3,7 @@ ghost use Rattle.std.specs.Prelude.{◌≡◌, ◌||◌, not};
 ghost use Rattle.std.specs.List.{AllPass};
 ghost use Rattle.st_card.specs.Limits.{is_signal};
 ghost use Rattle.st_run.specs.Run.{interlude};
-ghost use Rattle.st_sweep.specs.HazardFree.{is_quiet};
+ghost use Rattle.st_sweep.specs.HazardFree.{is_hazard_free_interlude};
 ghost use Rattle.st_sweep.specs.Sweep.{without_cards};
 
 use st_card::Signal;
@@ -31,12 +31,12 @@ fn is_kept(before: bool, after: bool) -> bool
 }
 
 // Signals and orders come that are due, and what ends a wait.
-pub(crate) fn settle<'a>(state: &mut State, signals: &'a [Signal]) -> InterludeEnd<'a>
+pub(crate) fn pass_interlude<'a>(state: &mut State, signals: &'a [Signal]) -> InterludeEnd<'a>
     requires { AllPass is_signal signals.now }
     ensures rest { AllPass is_signal result.signals.now }
     ensures came { (interlude (without_cards state.old signals.now)).scene
         ≡ without_cards state.new result.signals.now }
-    ensures quiet { result.quiet ≡ is_quiet (without_cards state.old signals.now) }
+    ensures quiet { result.quiet ≡ is_hazard_free_interlude (without_cards state.old signals.now) }
 {
     let mut coming = Coming::new(signals, Hopper::empty());
     let came = between(state, &mut coming);

@@ -2,7 +2,7 @@ use Rattle.std.proofs.Common.{ℕ, List, sym, ◌∙◌, ap}
 use Rattle.std.specs.Prelude.{◌||◌, not}
 use Rattle.st_run.specs.Outside.{Coming}
 use Rattle.st_sweep.proofs.Stages.{settled-scene, settled-quiet}
-use Rattle.st_sweep.proofs.settling.settle.Goals as goal
+use Rattle.st_sweep.proofs.interlude.pass_interlude.Goals as goal
 
 pub returns-clause-came : goal.returns-clause-came
 returns-clause-came c =

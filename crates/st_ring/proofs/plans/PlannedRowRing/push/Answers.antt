@@ -1,7 +1,7 @@
 use Rattle.std.proofs.Common.{◌<◌, List, [], ◌∷◌, ◌++◌, length, ap, ap₂, ◌∙◌, arith, rules}
 use Rattle.st_fetch.proofs.Windows.{length-window, window-push}
-use Rattle.st_ring.specs.declared.plans.Plan.{Plan}
-use Rattle.st_ring.proofs.plans.Plans.push.Goals as goal
+use Rattle.st_ring.specs.declared.plans.PlannedRow.{PlannedRow}
+use Rattle.st_ring.proofs.plans.PlannedRowRing.push.Goals as goal
 
 -- the write is behind the youngest row
 pub returns-clause-rows : goal.returns-clause-rows
@@ -11,4 +11,4 @@ returns-clause-rows c =
     let same = ap length c.self.view_is in
     let room : q.len < 8 = omega (arith, counted, same) in
     window-push 8 q.head q.len q.slots c.self.invariant.inside (omega arith) (search rules) _ room
-    ∙ ap₂ (λ (rows : List Plan) (row : Plan). rows ++ row ∷ []) c.self.view_is c.plan_into.ensures
+    ∙ ap₂ (λ (rows : List PlannedRow) (row : PlannedRow). rows ++ row ∷ []) c.self.view_is c.plan_into.ensures

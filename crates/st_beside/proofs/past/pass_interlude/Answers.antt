@@ -3,7 +3,7 @@ use Rattle.st_run.specs.Run.{interlude}
 use Rattle.st_run.specs.Outside.{scene_at}
 use Rattle.st_beside.specs.Beside.{Beside, IsBesideReady, IsMoved}
 use Rattle.st_beside.proofs.Besides.{moved_between}
-use Rattle.st_beside.proofs.past.settle.Goals as goal
+use Rattle.st_beside.proofs.past.pass_interlude.Goals as goal
 
 pub between-requires : goal.between-requires
 between-requires c = subst {A = Beside} IsBesideReady (sym c.past.view_is) c.requires

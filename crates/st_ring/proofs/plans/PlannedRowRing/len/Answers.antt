@@ -1,6 +1,6 @@
 use Rattle.std.proofs.Common.{length, sym, ap, ◌∙◌, arith}
 use Rattle.st_fetch.proofs.Windows.{length-window}
-use Rattle.st_ring.proofs.plans.Plans.len.Goals as goal
+use Rattle.st_ring.proofs.plans.PlannedRowRing.len.Goals as goal
 
 pub returns-clause-value : goal.returns-clause-value
 returns-clause-value c =

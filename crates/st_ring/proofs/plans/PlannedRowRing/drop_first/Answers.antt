@@ -1,7 +1,7 @@
 use Rattle.std.proofs.Common.{◌<◌, List, length, drop, ap, ◌∙◌, arith, rules}
 use Rattle.st_fetch.proofs.Windows.{length-window, window-pop}
-use Rattle.st_ring.specs.declared.plans.Plan.{Plan}
-use Rattle.st_ring.proofs.plans.Plans.drop_first.Goals as goal
+use Rattle.st_ring.specs.declared.plans.PlannedRow.{PlannedRow}
+use Rattle.st_ring.proofs.plans.PlannedRowRing.drop_first.Goals as goal
 
 pub returns-clause-rows : goal.returns-clause-rows
 returns-clause-rows c =
@@ -10,4 +10,4 @@ returns-clause-rows c =
     let same = ap length c.self.view_is in
     let some : 0 < q.len = omega (arith, counted, same) in
     window-pop 8 q.head q.len q.slots c.self.invariant.inside (omega arith) (search rules) some
-    ∙ ap (λ (rows : List Plan). drop 1 rows) c.self.view_is
+    ∙ ap (λ (rows : List PlannedRow). drop 1 rows) c.self.view_is
