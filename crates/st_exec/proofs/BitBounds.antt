@@ -5,7 +5,7 @@ use Rattle.std.proofs.lemmas.Nat.Bits.{bit_at-lt}
 use Rattle.std.proofs.lemmas.List.{get_or-drop, length-take}
 use Rattle.std.proofs.Math.Nat.{pow-succ', pow-le-pow_right}
 use Rattle.st_bits.specs.Bits.{bits, num, all_bits, field, put}
-use Rattle.st_state.proofs.Turned.{one_more as one_digit}
+use Rattle.st_state.proofs.TurnedLemmas.{one_more as one_digit}
 use Rattle.st_conn.specs.Connective.{by_weight}
 
 -- each item is zero or one

@@ -19,7 +19,7 @@ use Rattle.st_state.specs.Machine.{Machine, IsMachine, HasArea, word, state_with
 use Rattle.st_state.specs.Interrupts.{indicator_word, state_with_indicators}
 use Rattle.st_state.specs.declared.devices.Order.{Order}
 use Rattle.st_state.proofs.Kept.{is_machine-with_word}
-use Rattle.st_state.proofs.Turned.{turned_below}
+use Rattle.st_state.proofs.TurnedLemmas.{turned_below}
 use Rattle.st_field.specs.declared.accumulator.Acc.{Acc}
 use Rattle.st_prep.specs.declared.entries.IndexChange.{IndexChange}
 use Rattle.st_prep.specs.declared.entries.Prepared.{Prepared}

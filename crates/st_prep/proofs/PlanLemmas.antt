@@ -10,7 +10,7 @@ use Rattle.st_state.specs.Machine.{Machine, IsMachine, word}
 use Rattle.st_bits.specs.Indicators.{indicator}
 use Rattle.st_state.specs.Interrupts.{indicator_word}
 use Rattle.st_state.proofs.Kept.{is_machine-with_word}
-use Rattle.st_state.proofs.Turned.{turned_below, turned-masks}
+use Rattle.st_state.proofs.TurnedLemmas.{turned_below, turned-masks}
 use Rattle.st_prep.specs.declared.entries.Place.{Place}
 use Rattle.st_format.specs.declared.instruction.Decoded.{Decoded}
 use Rattle.st_format.specs.Formats.{decoded_entry}

@@ -9,7 +9,7 @@ use Rattle.st_state.specs.Machine.{Machine, IsMachine, HasArea, state_with_store
 use Rattle.st_state.specs.Interrupts.{state_with_signal, indicator_word}
 use Rattle.st_state.specs.declared.devices.Order.{Order}
 use Rattle.st_state.proofs.Kept.{is_machine-with_word}
-use Rattle.st_state.proofs.Turned.{turned_below}
+use Rattle.st_state.proofs.TurnedLemmas.{turned_below}
 use Rattle.st_prep.proofs.PlanLemmas.{fixed-indicators}
 use Rattle.st_exec.specs.Transfer.{all_stored, read_in, printed_out}
 use Rattle.st_exec.proofs.MachineKept.{kept-stored}

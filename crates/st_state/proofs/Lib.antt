@@ -1,4 +1,4 @@
 pub mod Kept
 pub mod Leftmost
 pub mod Placed
-pub mod Turned
+pub mod TurnedLemmas

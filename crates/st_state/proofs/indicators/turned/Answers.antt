@@ -1,4 +1,4 @@
-use Rattle.st_state.proofs.Turned.{turned-masks}
+use Rattle.st_state.proofs.TurnedLemmas.{turned-masks}
 use Rattle.st_state.proofs.indicators.turned.Goals as goal
 
 pub returns : goal.returns
