@@ -9,6 +9,6 @@ mod report;
 mod timetable;
 
 pub use caption::{CARD_LIMIT, first_text, second_text, third_text, title, widest, with_dots};
-pub use plain::{push_decimal, push_plain};
+pub use plain::{plain_byte, push_decimal, push_plain};
 pub use report::ReportAddress;
-pub use timetable::{DrawnEntry, RowRange, Told, first_tick, read_timetable};
+pub use timetable::{DrawnEntry, ReadTimetable, RowRange, first_tick, read_timetable};
