@@ -106,11 +106,9 @@ abbrev pub first_moment_tick : List LogMoment → ℕ
 first_moment_tick [] = 0
 first_moment_tick (m ∷ ms) = m.tick
 
--- the bytes of a log of moments
-unfoldable pub log_of : List ℕ → List LogMoment → List ℕ
-log_of report ms = log_front (first_moment_tick ms) ++ moments_lines report
-    (first_moment_tick ms) ms
-
 -- the bytes of a log of entries
 unfoldable pub log : List ℕ → List DrawnEntry → List ℕ
-log report entries = log_of report (happenings entries)
+log report entries =
+    let ms = happenings entries in
+    let start = first_moment_tick ms in
+    log_front start ++ moments_lines report start ms
