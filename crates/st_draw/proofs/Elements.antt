@@ -1,13 +1,9 @@
 -- The bytes of elements that stand one after another.
-use Rattle.std.proofs.Common.{◌≡◌, ◌<◌, ◌+◌, ◌∙◌, sym, arith, length, [], ◌∷◌, ◌++◌, List, refl, append_assoc, ℕ}
+use Rattle.std.proofs.Common.{◌≡◌, sym, [], ◌∷◌, ◌++◌, List, refl, append_assoc, ℕ}
 use Rattle.std.proofs.lemmas.List.{append-nil}
-use Rattle.st_draw.specs.Drawing.{mark, grid, row_elements, rows_elements}
 use Rattle.st_draw.specs.Element.{Element, element_text, elements_text}
-use Rattle.st_draw.specs.declared.sheet.Sheet.{Sheet}
-use Rattle.st_entries.specs.declared.timetable.DrawnEntry.{DrawnEntry}
 
 pub elements_append : (a b : List Element) → elements_text (a ++ b) ≡ elements_text a ++ elements_text b
-unfolding elements_text
 elements_append [] b = refl
 elements_append (e ∷ es) b = let rest = elements_append es b in rw rest (simp append_assoc refl)
 
@@ -23,5 +19,4 @@ elements_behind s mid a b so_far = rw so_far (sym (elements_joined s a b))
 
 -- one element behind bytes
 pub elements_one : (s : List ℕ) (e : Element) → s ++ elements_text (e ∷ []) ≡ s ++ element_text e
-unfolding elements_text
 elements_one s e = simp append-nil refl

@@ -1,7 +1,7 @@
 -- The picture of a timetable: its elements in order, and its bytes.
 use Rattle.std.specs.Prelude.{ℕ, ◌+◌, ◌-◌, ◌*◌, ◌^◌, ◌≤◌, ◌<◌, max, List, [], ◌∷◌, ◌++◌, length, map, codes, decimal}
 use Rattle.st_draw.specs.Axis.{axis, x_of_tick, marks}
-use Rattle.st_entries.specs.Caption.{caption_number, second_text, third_text, title, widest}
+use Rattle.st_entries.specs.Caption.{first_text, second_text, third_text, title, widest}
 use Rattle.st_draw.specs.Element.{Element, Box, Bar, Line, Text, Card, elements_text}
 use Rattle.st_entries.specs.Phases.{Phase, WaitsForOperands, WaitsForTurn, Executes, IsDropped, Span, spans, least_width}
 use Rattle.st_draw.specs.declared.axis.Room.{Room}
@@ -74,7 +74,7 @@ bars sheet y entry = map (λ s. bar sheet y (title entry) s) (spans entry) ++ up
 -- what stands in front of an entry's bars
 unfoldable pub caption : List ℕ → ℕ → DrawnEntry → List Element
 caption report y entry =
-    Text (codes "n") 48 (y + 12) (caption_number entry)
+    Text (codes "n") 48 (y + 12) (first_text entry)
     ∷ Text (codes "n") 110 (y + 12) (second_text entry)
     ∷ Card 120 (y + 12) (third_text report entry) ∷ []
 

@@ -1,7 +1,7 @@
 -- The picture of a timetable as lines of text.
 use Rattle.std.specs.Prelude.{ℕ, ◌+◌, ◌-◌, nat_lt, max, if◌then◌else◌, List, [], ◌∷◌, ◌++◌, length, replicate, codes, decimal}
 use Rattle.st_draw.specs.Axis.{axis, x_of_tick, marks}
-use Rattle.st_entries.specs.Caption.{caption_number, second_text, third_text, widest, with_dots}
+use Rattle.st_entries.specs.Caption.{first_text, second_text, third_text, widest, with_dots}
 use Rattle.st_entries.specs.Plain.{plain_text}
 use Rattle.st_draw.specs.Drawing.{remark}
 use Rattle.st_entries.specs.Phases.{first_tick, Phase, WaitsForOperands, WaitsForTurn, Executes, IsDropped, Span, spans, least_width}
@@ -60,7 +60,7 @@ strokes axis entry = replicate (column axis (first_tick entry)) 32 ++ strokes_of
 -- the line of an entry
 unfoldable pub entry_line : Page → List ℕ → DrawnEntry → List ℕ
 entry_line page report entry =
-    text_columns page.places (caption_number entry) (second_text entry)
+    text_columns page.places (first_text entry) (second_text entry)
     (with_dots (third_text report entry))
     ++ strokes page.axis entry ++ codes "\n"
 

@@ -44,8 +44,8 @@ timetable_with part n entry t =
     record all { entries = entries_with part n entry all.entries }
 
 -- how many rows are behind a part after a row
-abbrev pub counted_later : RowRange → ℕ → ℕ → ℕ
-counted_later part n later = if nat_lt part.to n then count_after later 1 else later
+abbrev pub later_rows : RowRange → ℕ → ℕ → ℕ
+later_rows part n later = if nat_lt part.to n then count_after later 1 else later
 
 -- what one more thing tells
 abbrev pub after_item : RowRange → Timetable → TimetableLine → Timetable
@@ -53,7 +53,7 @@ after_item part t (Row n a p r c) =
     record (timetable_with part n (Done n a p r (turn_of t.end r c) c) t) {
       row = n;
       end = c;
-      later = counted_later part n t.later;
+      later = later_rows part n t.later;
     }
 after_item part t (Drop a p) =
     record t { dropped = entries_with part t.row (Dropped a p t.end) t.dropped }

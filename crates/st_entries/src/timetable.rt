@@ -129,7 +129,7 @@ fn push_entry(
 
 // How many rows are behind a part after a row.
 fn count_later(part: RowRange, n: u64, later: u64) -> u64
-    ensures { result ≡ spec.counted_later part n later }
+    ensures { result ≡ spec.later_rows part n later }
 {
     if part.to < n {
         later.saturating_add(1)

@@ -1,5 +1,5 @@
 -- A stable sort by ticks puts moments in order.
-use Rattle.std.proofs.Common.{◌≡◌, ◌∙◌, ◌≤◌, ◌<◌, ℕ, zero, suc, sym, refl, ap, nat_le, nat_cmp, is_lt, cond, if◌then◌else◌, Bool, true, false, List, [], ◌∷◌, filter, zero-le, suc-le-suc, inl, inr, arith}
+use Rattle.std.proofs.Common.{◌≡◌, ◌∙◌, ◌≤◌, ℕ, zero, suc, sym, refl, ap, nat_le, nat_cmp, is_lt, cond, if◌then◌else◌, Bool, true, false, List, [], ◌∷◌, filter, zero-le, suc-le-suc, inl, inr, arith}
 use Rattle.std.proofs.lemmas.Bool.{leb-false, cond-true, cond-false, cases_Bool}
 use Rattle.std.proofs.lemmas.Bool.Decides.{nat_tests}
 use Rattle.std.specs.List.Sorted.{ties, IsNonDecreasingBy, IsStableByKey}

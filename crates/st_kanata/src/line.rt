@@ -1,5 +1,5 @@
 //! The lines of a log, each by itself.
-#![tactic(auto, unfolding(crate::specs::Log::heading, crate::specs::Log::label_line, crate::specs::Log::log_end_line, crate::specs::Log::log_entry_line, crate::specs::Log::log_front, crate::specs::Log::log_label, crate::specs::Log::passing, crate::specs::Log::stage_line))]
+#![tactic(auto, unfolding(crate::specs::Log::heading, crate::specs::Log::label_line, crate::specs::Log::log_end_line, crate::specs::Log::log_entry_line, crate::specs::Log::log_front, crate::specs::Log::log_label, crate::specs::Log::cycles_line, crate::specs::Log::stage_line))]
 
 ghost use Rattle.std.specs.Prelude.{◌≡◌, ◌++◌, IfOk};
 ghost use Rattle.st_kanata.specs.Log as spec;
@@ -26,8 +26,8 @@ pub fn push_opening(out: &mut Vec<u8>, tick: u64) -> Result<(), AllocError>
 }
 
 /// Appends that ticks pass, where they do.
-pub fn push_passing(out: &mut Vec<u8>, from: u64, to: u64) -> Result<(), AllocError>
-    ensures { IfOk result (λ _. out.new.items ≡ out.old.items ++ spec.passing from to) }
+pub fn push_cycles(out: &mut Vec<u8>, from: u64, to: u64) -> Result<(), AllocError>
+    ensures { IfOk result (λ _. out.new.items ≡ out.old.items ++ spec.cycles_line from to) }
 {
     if from == to {
         return Ok(());

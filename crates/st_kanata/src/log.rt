@@ -3,7 +3,7 @@ ghost use Rattle.std.specs.Prelude.{◌≡◌, ◌++◌, IfOk};
 ghost use Rattle.st_kanata.specs.Log as spec;
 
 use crate::line::{
-    label, push_end_line, push_entry_line, push_label_line, push_opening, push_passing, push_stage,
+    label, push_cycles, push_end_line, push_entry_line, push_label_line, push_opening, push_stage,
 };
 use crate::moments::{LogMoment, LogStep, happenings};
 use st_entries::DrawnEntry;
@@ -46,8 +46,8 @@ fn row_number(entry: DrawnEntry) -> u64
 }
 
 // Whether an entry was retired, 0, or flushed, 1.
-fn manner(entry: DrawnEntry) -> &'static [u8]
-    ensures { result.now ≡ spec.manner entry }
+fn retire_type(entry: DrawnEntry) -> &'static [u8]
+    ensures { result.now ≡ spec.retire_type entry }
 {
     match entry {
         DrawnEntry::Done { .. } => b"0",
@@ -88,7 +88,7 @@ fn push_end(out: &mut Vec<u8>, number: u64, entry: DrawnEntry) -> Result<(), All
     ensures { IfOk result (λ _. out.new.items ≡ out.old.items ++ spec.log_end_lines number entry) }
 {
     push_stage(out, b"E", number, last_stage(entry))?;
-    push_end_line(out, number, row_number(entry), manner(entry))
+    push_end_line(out, number, row_number(entry), retire_type(entry))
 }
 
 // Appends the lines of what happens to an entry.
@@ -120,7 +120,7 @@ fn push_moment(
     ensures { IfOk result (λ _. out.new.items ≡ out.old.items
         ++ spec.moment_lines report.now tick moment.now) }
 {
-    push_passing(out, tick, moment.tick)?;
+    push_cycles(out, tick, moment.tick)?;
     push_step(alloc, out, report, moment)
 }
 
