@@ -1,6 +1,5 @@
 pub mod Axes
 pub mod Elements
 pub mod Laws
-pub mod Lines
 pub mod Statuses
 pub mod WellFormedElements

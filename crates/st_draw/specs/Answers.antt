@@ -37,18 +37,16 @@ picture_of Svg report entries shown later = svg report entries shown later
 picture_of Text report entries shown later = page_text report entries shown later
 picture_of Kanata report entries shown later = log report entries
 
--- the bytes of a picture of these entries, of which some are rows or none
-abbrev pub picture_bytes : PictureKind → List ℕ → List DrawnEntry → ℕ → List ℕ
-picture_bytes kind report entries later = picture_of kind report
-    (visible_entries (rows_in entries) entries) (rows_in entries) later
-
 -- the entries of a report that are asked for
 abbrev pub entries_asked : Choice → List ℕ → List DrawnEntry
 entries_asked choice report = (timetable choice.part report).entries
 
 -- the picture of a report that is asked for
 unfoldable pub picture : Choice → List ℕ → List ℕ
-picture choice report = picture_bytes choice.kind report (entries_asked choice report)
+picture choice report =
+    let entries = entries_asked choice report in
+    let shown = rows_in entries in
+    picture_of choice.kind report (visible_entries shown entries) shown
     (timetable choice.part report).later
 
 -- the status of a picture that was written: that a report has no rows is told

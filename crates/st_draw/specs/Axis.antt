@@ -33,25 +33,15 @@ step_from (suc fuel) unit span =
     else if nat_le span (25 * unit) then 5 * unit
     else step_from fuel (10 * unit) span
 
--- the step of an axis: 1, 2 or 5 with zeros behind it
-abbrev pub round_step : ℕ → ℕ
-round_step span = step_from 20 1 span
-
--- the last multiple of a step up to a tick
-abbrev pub round_tick : ℕ → ℕ → ℕ
-round_tick tick step = tick / step * step
-
--- an axis from the last round tick before the entries to their last tick, and at least so many
--- ticks long
-abbrev pub axis_over : ℕ → ℕ → ℕ → Axis
-axis_over low high least =
-    let step = round_step (high - low) in
-    let start = round_tick low step in
-    record { start = start; last = high; step = step; span = max least (high - start) }
-
--- the axis of entries
+-- the axis of entries: from the last round tick before them to their last tick, and at least so
+-- many ticks long; its step is 1, 2 or 5 with zeros behind it, and round ticks are multiples of it
 unfoldable pub axis : List DrawnEntry → ℕ → Axis
-axis entries least = axis_over (lowest_tick entries) (highest_tick entries) least
+axis entries least =
+    let low = lowest_tick entries in
+    let high = highest_tick entries in
+    let step = step_from 20 1 (high - low) in
+    let start = low / step * step in
+    record { start = start; last = high; step = step; span = max least (high - start) }
 
 -- where a tick stands: within the room, in proportion
 unfoldable pub x_of_tick : Room → Axis → ℕ → ℕ

@@ -1,11 +1,11 @@
 -- The picture of a timetable: its elements in order, and its bytes.
 use Rattle.std.specs.Prelude.{ℕ, ◌+◌, ◌-◌, ◌*◌, ◌^◌, ◌≤◌, ◌<◌, max, List, [], ◌∷◌, ◌++◌, length, map, codes, decimal}
 use Rattle.st_draw.specs.Axis.{axis, x_of_tick, marks}
-use Rattle.st_entries.specs.Caption.{caption_number, second_text, third_text, title, widest}
+use Rattle.st_entries.specs.Caption.{first_text, second_text, third_text, title, widest}
 use Rattle.st_draw.specs.Element.{Element, Box, Bar, Line, Text, Card, elements_text}
 use Rattle.st_entries.specs.Phases.{Phase, WaitsForOperands, WaitsForTurn, Executes, IsDropped, Span, spans, least_width}
 use Rattle.st_draw.specs.declared.axis.Room.{Room}
-use Rattle.st_draw.specs.declared.drawing.Sheet.{Sheet}
+use Rattle.st_draw.specs.declared.sheet.Sheet.{Sheet}
 use Rattle.st_entries.specs.declared.timetable.DrawnEntry.{DrawnEntry}
 use Rattle.st_entries.specs.declared.timetable.DrawnEntry.TheVariants.{Done, Dropped, Taken, Shown}
 
@@ -37,7 +37,7 @@ mark sheet tick =
     ∷ Text (codes "m") (x_of sheet tick) 22 (decimal tick) ∷ []
 
 -- round ticks
-unfoldable pub grid : Sheet → List ℕ → List Element
+abbrev pub grid : Sheet → List ℕ → List Element
 grid sheet [] = []
 grid sheet (tick ∷ ticks) = mark sheet tick ++ grid sheet ticks
 
@@ -74,7 +74,7 @@ bars sheet y entry = map (λ s. bar sheet y (title entry) s) (spans entry) ++ up
 -- what stands in front of an entry's bars
 unfoldable pub caption : List ℕ → ℕ → DrawnEntry → List Element
 caption report y entry =
-    Text (codes "n") 48 (y + 12) (caption_number entry)
+    Text (codes "n") 48 (y + 12) (first_text entry)
     ∷ Text (codes "n") 110 (y + 12) (second_text entry)
     ∷ Card 120 (y + 12) (third_text report entry) ∷ []
 
@@ -83,7 +83,7 @@ unfoldable pub row_elements : Sheet → List ℕ → ℕ → DrawnEntry → List
 row_elements sheet report y entry = caption report y entry ++ bars sheet y entry
 
 -- the rows of entries, one below the other from y on
-unfoldable pub rows_elements : Sheet → List ℕ → ℕ → List DrawnEntry → List Element
+abbrev pub rows_elements : Sheet → List ℕ → ℕ → List DrawnEntry → List Element
 rows_elements sheet report y [] = []
 rows_elements sheet report y (e ∷ es) = row_elements sheet report y e
     ++ rows_elements sheet report (y + 16) es
@@ -139,14 +139,11 @@ ground sheet entries = Box (codes "p") 0 0 640 (sheet.bottom + 60) ∷ notice sh
 unfoldable pub chart : Sheet → List ℕ → List DrawnEntry → List Element
 chart sheet report entries = grid sheet (marks sheet.axis) ++ rows_elements sheet report 36 entries
 
--- the elements on a sheet
-abbrev pub drawing_on : Sheet → List ℕ → List DrawnEntry → ℕ → ℕ → List Element
-drawing_on sheet report entries shown later =
-    ground sheet entries ++ chart sheet report entries ++ foot sheet.bottom (remark shown later)
-
 -- the elements of a picture, in order
 unfoldable pub drawing : List ℕ → List DrawnEntry → ℕ → ℕ → List Element
-drawing report entries shown later = drawing_on (sheet report entries) report entries shown later
+drawing report entries shown later =
+    let on = sheet report entries in
+    ground on entries ++ chart on report entries ++ foot on.bottom (remark shown later)
 
 -- what the classes of elements look like, and the hatch of what is dropped
 unfoldable pub styles : List ℕ

@@ -73,6 +73,6 @@ element_text (Card x y text) =
     element_front (codes "<text") (codes "c") ++ corner x y ++ card_content text
 
 -- the bytes of elements, one after another
-unfoldable pub elements_text : List Element → List ℕ
+abbrev pub elements_text : List Element → List ℕ
 elements_text [] = []
 elements_text (e ∷ es) = element_text e ++ elements_text es

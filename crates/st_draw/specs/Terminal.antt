@@ -1,7 +1,7 @@
 -- The picture of a timetable as lines of text.
 use Rattle.std.specs.Prelude.{ℕ, ◌+◌, ◌-◌, nat_lt, max, if◌then◌else◌, List, [], ◌∷◌, ◌++◌, length, replicate, codes, decimal}
 use Rattle.st_draw.specs.Axis.{axis, x_of_tick, marks}
-use Rattle.st_entries.specs.Caption.{caption_number, second_text, third_text, widest, with_dots}
+use Rattle.st_entries.specs.Caption.{first_text, second_text, third_text, widest, with_dots}
 use Rattle.st_entries.specs.Plain.{plain_text}
 use Rattle.st_draw.specs.Drawing.{remark}
 use Rattle.st_entries.specs.Phases.{first_tick, Phase, WaitsForOperands, WaitsForTurn, Executes, IsDropped, Span, spans, least_width}
@@ -10,17 +10,13 @@ use Rattle.st_draw.specs.declared.terminal.Page.{Page}
 use Rattle.st_entries.specs.declared.timetable.DrawnEntry.{DrawnEntry}
 use Rattle.st_entries.specs.declared.timetable.DrawnEntry.TheVariants.{Done, Dropped, Taken, Shown}
 
--- a byte, n times over
-abbrev pub byte_times : ℕ → ℕ → List ℕ
-byte_times n c = replicate n c
-
 -- a text at the right of n places
 unfoldable pub text_at_right : ℕ → List ℕ → List ℕ
-text_at_right n text = byte_times (n - length text) 32 ++ text
+text_at_right n text = replicate (n - length text) 32 ++ text
 
 -- a text at the left of n places
 unfoldable pub text_at_left : ℕ → List ℕ → List ℕ
-text_at_left n text = plain_text text ++ byte_times (n - length text) 32
+text_at_left n text = plain_text text ++ replicate (n - length text) 32
 
 -- three texts in columns, the last one at the left of so many places
 unfoldable pub text_columns : ℕ → List ℕ → List ℕ → List ℕ → List ℕ
@@ -41,7 +37,7 @@ phase_byte IsDropped = 120
 
 -- the bar of a phase
 abbrev pub stroke : Axis → Span → List ℕ
-stroke axis s = byte_times (max (least_width s.phase) (column axis s.to - column axis s.from))
+stroke axis s = replicate (max (least_width s.phase) (column axis s.to - column axis s.from))
     (phase_byte s.phase)
 
 -- the bars of phases, one behind the other
@@ -58,25 +54,25 @@ sign (Shown t) = codes "|"
 
 -- the bars of an entry behind blanks up to its first tick, or its sign
 unfoldable pub strokes : Axis → DrawnEntry → List ℕ
-strokes axis entry = byte_times (column axis (first_tick entry)) 32 ++ strokes_of axis (spans entry)
+strokes axis entry = replicate (column axis (first_tick entry)) 32 ++ strokes_of axis (spans entry)
     ++ sign entry
 
 -- the line of an entry
 unfoldable pub entry_line : Page → List ℕ → DrawnEntry → List ℕ
 entry_line page report entry =
-    text_columns page.places (caption_number entry) (second_text entry)
+    text_columns page.places (first_text entry) (second_text entry)
     (with_dots (third_text report entry))
     ++ strokes page.axis entry ++ codes "\n"
 
 -- the lines of entries
-unfoldable pub entry_lines : Page → List ℕ → List DrawnEntry → List ℕ
+abbrev pub entry_lines : Page → List ℕ → List DrawnEntry → List ℕ
 entry_lines page report [] = []
 entry_lines page report (e ∷ es) = entry_line page report e ++ entry_lines page report es
 
 -- a text behind a line, from a place on; nothing where it would touch the line
 abbrev pub put_at : ℕ → List ℕ → List ℕ → List ℕ
 put_at place line text = if nat_lt (length line) place then line
-    ++ byte_times (place - length line) 32 ++ text else line
+    ++ replicate (place - length line) 32 ++ text else line
 
 -- a round tick behind a line, in its column
 abbrev pub line_with_tick : Page → List ℕ → ℕ → List ℕ
@@ -84,7 +80,7 @@ line_with_tick page line tick = put_at (19 + page.places + column page.axis tick
     (decimal tick)
 
 -- round ticks behind a line, each in its column, but those that would touch the one before
-unfoldable pub scale : Page → List ℕ → List ℕ → List ℕ
+abbrev pub scale : Page → List ℕ → List ℕ → List ℕ
 scale page line [] = line
 scale page line (tick ∷ ticks) = scale page (line_with_tick page line tick) ticks
 

@@ -8,9 +8,13 @@ use Rattle.st_draw.specs.declared.words.Choice.{Choice}
 use Rattle.st_draw.specs.declared.words.PictureKind.{PictureKind}
 use Rattle.st_draw.specs.declared.words.PictureKind.TheVariants.{Svg, Text, Kanata}
 
+-- how many rows are drawn at most
+abbrev pub row_limit : ℕ
+row_limit = 200
+
 -- the rows that are drawn where no word names them
 abbrev pub first_part : RowRange
-first_part = record { from = 1; to = 200 }
+first_part = record { from = 1; to = row_limit }
 
 -- the kind of picture that a word is
 abbrev pub kind_named : List ℕ → Option PictureKind
@@ -20,10 +24,11 @@ kind_named word =
     else if pointwise nat_eq word (codes "kanata") then Some Kanata
     else None
 
--- the part from a row to a row: at least one row, and at most 200
+-- the part from a row to a row: at least one row, and no more than are drawn
 abbrev pub part_between : ℕ → ℕ → Option RowRange
 part_between from to =
-    if nat_le 1 from && nat_le from to then Some (record { from = from; to = min to (from + 199) })
+    if nat_le 1 from && nat_le from to
+    then Some (record { from = from; to = min to (from + (row_limit - 1)) })
     else None
 
 -- the part that two words name

@@ -1,91 +1,25 @@
 //! The picture of a timetable.
+#![tactic(auto, unfolding(crate::specs::Drawing::bars, crate::specs::Drawing::caption, crate::specs::Drawing::chart, crate::specs::Drawing::drawing, crate::specs::Drawing::ending_keys, crate::specs::Drawing::foot, crate::specs::Drawing::legend, crate::specs::Drawing::line_keys, crate::specs::Drawing::mark, crate::specs::Drawing::picture_front, crate::specs::Drawing::remark, crate::specs::Drawing::row_elements, crate::specs::Drawing::svg, crate::specs::Drawing::waiting_keys), using(crate::proofs::Elements::elements_joined, crate::proofs::Elements::elements_one))]
+
 ghost use Rattle.std.specs.Prelude.{◌≡◌, ◌+◌, ◌^◌, ◌≤◌, ◌<◌, ◌++◌, IfOk, codes, decimal, max, ◌-◌};
 ghost use Rattle.st_draw.specs.Element.{elements_text, element_text, Line, Text};
 ghost use Rattle.st_draw.specs.Drawing as spec;
 ghost use Rattle.st_draw.specs.Drawing.{IsSheet};
 
-use crate::axis::{Axis, Room, at, axis_of, marks_of};
-use crate::element::{Area, Point, push_bar, push_box, push_card, push_line, push_text};
-use st_entries::{DrawnEntry, first_text, push_decimal, second_text, third_text, title, widest};
+use crate::attributes::Area;
+use crate::axis::{Room, marks_of};
+use crate::element::{Point, push_bar, push_card, push_line, push_text};
+use crate::frame::{push_box_key, push_ground, push_line_key};
+use crate::opening::{preamble, styles};
+use crate::sheet::{Sheet, across, sheet_of};
+use st_entries::{DrawnEntry, first_text, push_decimal, second_text, third_text, title};
 use std::alloc::{AllocError, Global};
-
-/// What all rows of a picture share.
-#[derive(Clone, Copy)]
-pub struct Sheet {
-    /// The room of the axis.
-    pub room: Room,
-    /// The ticks that are shown.
-    pub axis: Axis,
-    /// The lower end of the rows.
-    pub bottom: u128,
-}
-
-// What the classes of elements look like, and the hatch of what is dropped.
-const STYLES: &[u8; 489] =
-    b"\">\n<defs><pattern id=\"h\" width=\"5\" height=\"5\" patternUnits=\"userSpaceOnUse\" patternTransform=\"rotate(45)\">\
-    <rect width=\"5\" height=\"5\" fill=\"#fff\"/><rect width=\"2\" height=\"5\" fill=\"#8a3b12\"/></pattern></defs>\n\
-    <style>text{font:11px monospace;fill:#111;white-space:pre}.n{text-anchor:end}.m{text-anchor:middle;fill:#555}\
-    .p{fill:#fff}.g{stroke:#ddd}.w{fill:#b5d0eb}.t{fill:#6f9ccb}.e{fill:#17365a}\
-    .d{fill:url(#h);stroke:#8a3b12}\
-    .i{stroke:#b3261e}.s{stroke:#2e7d32;stroke-dasharray:2 3}</style>\n";
 
 // An entry, and the upper edge of its row.
 #[derive(Clone, Copy)]
 struct DrawnRow {
     y: u128,
     entry: DrawnEntry,
-}
-
-// The words before the height of a picture.
-const PREAMBLE: &[u8; 78] =
-    b"<svg xmlns=\"http://www.w3.org/2000/svg\" xml:space=\"preserve\" viewBox=\"0 0 640 ";
-
-// The words before the height of a picture, as a text.
-#[tactic(auto, unfolding(crate::specs::Drawing::preamble))]
-fn preamble() -> &'static [u8]
-    ensures { result.now ≡ spec.preamble }
-{
-    PREAMBLE
-}
-
-// What the classes of elements look like, as a text.
-#[tactic(auto, unfolding(crate::specs::Drawing::styles))]
-fn styles() -> &'static [u8]
-    ensures { result.now ≡ spec.styles }
-{
-    STYLES
-}
-
-// The room of the axis, behind cards of so many characters.
-fn room_behind(characters: u16) -> Room
-    requires { characters ≤ 40 }
-    ensures { result ≡ spec.room_behind characters }
-{
-    Room {
-        left: 124 + 7 * characters,
-        width: 504 - 7 * characters,
-    }
-}
-
-// The sheet of entries.
-#[tactic(auto, unfolding(crate::specs::Drawing::sheet))]
-fn sheet_of(report: &[u8], entries: &[DrawnEntry]) -> Sheet
-    ensures value { result ≡ spec.sheet report.now entries.now }
-    ensures good { IsSheet result }
-{
-    Sheet {
-        room: room_behind(widest(report, entries) as u16),
-        axis: axis_of(entries, 1),
-        bottom: 36 + 16 * entries.len() as u128,
-    }
-}
-
-// Where a tick stands on a sheet.
-fn across(sheet: &Sheet, tick: u64) -> u128
-    requires { IsSheet sheet.now }
-    ensures { result ≡ spec.x_of sheet.now tick }
-{
-    u128::from(at(sheet.room, sheet.axis, tick))
 }
 
 // Appends a line down the sheet.
@@ -113,7 +47,6 @@ fn push_number(alloc: Global, out: &mut Vec<u8>, x: u128, n: u64) -> Result<(), 
 }
 
 // Appends a round tick: a line down the sheet and its number above.
-#[tactic(auto, unfolding(crate::specs::Drawing::mark, crate::specs::Element::elements_text))]
 fn push_mark(alloc: Global, out: &mut Vec<u8>, sheet: &Sheet, tick: u64) -> Result<(), AllocError>
     requires { IsSheet sheet.now }
     ensures { IfOk result (λ _. out.new.items ≡ out.old.items
@@ -159,7 +92,6 @@ fn push_along(out: &mut Vec<u8>, class: &[u8], room: Room, y: u128) -> Result<()
 }
 
 // Appends a tick of its own: a line in its row and one down the sheet.
-#[tactic(auto, unfolding(crate::specs::Element::elements_text))]
 fn push_upright(
     out: &mut Vec<u8>,
     class: &[u8],
@@ -190,7 +122,6 @@ fn bar(y: u128, least: u128, from: u128, to: u128) -> Area
 }
 
 // Appends what stands in the row of an entry: a bar for each of its phases, or its lines.
-#[tactic(auto, unfolding(crate::specs::Drawing::bars, crate::specs::Element::elements_text))]
 fn push_bars(
     alloc: Global,
     out: &mut Vec<u8>,
@@ -229,7 +160,6 @@ fn push_bars(
 }
 
 // Appends what stands in front of an entry's bars.
-#[tactic(auto, unfolding(crate::specs::Drawing::caption, crate::specs::Element::elements_text))]
 fn push_caption(
     alloc: Global,
     out: &mut Vec<u8>,
@@ -250,7 +180,6 @@ fn push_caption(
 }
 
 // Appends the row of an entry at y.
-#[tactic(auto, unfolding(crate::specs::Drawing::row_elements), using(crate::proofs::Elements::elements_joined))]
 fn push_row(
     alloc: Global,
     out: &mut Vec<u8>,
@@ -289,67 +218,7 @@ fn push_rows(
     Ok(())
 }
 
-// Appends what an element of the legend means, that stands at (x, y).
-fn push_meaning(out: &mut Vec<u8>, x: u16, y: u128, meaning: &[u8]) -> Result<(), AllocError>
-    requires { y < 2 ^ 71 }
-    ensures { IfOk result (λ _. out.new.items ≡ out.old.items
-        ++ element_text (Text (codes "c") (x + 26) (y + 9) meaning.now)) }
-{
-    let spot = Point {
-        x: u128::from(x) + 26,
-        y: y + 9,
-    };
-    push_text(out, b"c", spot, meaning)
-}
-
-// Appends what a box of the legend means.
-#[tactic(auto, unfolding(crate::specs::Drawing::box_key, crate::specs::Element::elements_text))]
-fn push_box_key(
-    out: &mut Vec<u8>,
-    class: &[u8],
-    x: u16,
-    y: u128,
-    meaning: &[u8],
-) -> Result<(), AllocError>
-    requires { y < 2 ^ 71 }
-    ensures { IfOk result (λ _. out.new.items ≡ out.old.items
-        ++ elements_text (spec.box_key class.now x y meaning.now)) }
-{
-    let area = Area {
-        x: u128::from(x),
-        y,
-        across: 20,
-        down: 10,
-    };
-    push_box(out, class, area)?;
-    push_meaning(out, x, y, meaning)
-}
-
-// Appends what a line of the legend means.
-#[tactic(auto, unfolding(crate::specs::Drawing::line_key, crate::specs::Element::elements_text))]
-fn push_line_key(
-    out: &mut Vec<u8>,
-    class: &[u8],
-    x: u16,
-    y: u128,
-    meaning: &[u8],
-) -> Result<(), AllocError>
-    requires { y < 2 ^ 71 }
-    ensures { IfOk result (λ _. out.new.items ≡ out.old.items
-        ++ elements_text (spec.line_key class.now x y meaning.now)) }
-{
-    let area = Area {
-        x: u128::from(x),
-        y: y + 5,
-        across: u128::from(x) + 20,
-        down: y + 5,
-    };
-    push_line(out, class, area)?;
-    push_meaning(out, x, y, meaning)
-}
-
 // Appends what the boxes of those that wait mean.
-#[tactic(auto, unfolding(crate::specs::Drawing::waiting_keys), using(crate::proofs::Elements::elements_joined))]
 fn push_waiting_keys(out: &mut Vec<u8>, y: u128) -> Result<(), AllocError>
     requires { y < 2 ^ 71 }
     ensures { IfOk result (λ _. out.new.items ≡ out.old.items
@@ -360,7 +229,6 @@ fn push_waiting_keys(out: &mut Vec<u8>, y: u128) -> Result<(), AllocError>
 }
 
 // Appends what the boxes of those that wait no longer mean.
-#[tactic(auto, unfolding(crate::specs::Drawing::ending_keys), using(crate::proofs::Elements::elements_joined))]
 fn push_ending_keys(out: &mut Vec<u8>, y: u128) -> Result<(), AllocError>
     requires { y < 2 ^ 71 }
     ensures { IfOk result (λ _. out.new.items ≡ out.old.items
@@ -371,7 +239,6 @@ fn push_ending_keys(out: &mut Vec<u8>, y: u128) -> Result<(), AllocError>
 }
 
 // Appends what the lines mean.
-#[tactic(auto, unfolding(crate::specs::Drawing::line_keys), using(crate::proofs::Elements::elements_joined))]
 fn push_line_keys(out: &mut Vec<u8>, y: u128) -> Result<(), AllocError>
     requires { y < 2 ^ 71 }
     ensures { IfOk result (λ _. out.new.items ≡ out.old.items
@@ -382,7 +249,6 @@ fn push_line_keys(out: &mut Vec<u8>, y: u128) -> Result<(), AllocError>
 }
 
 // Appends the legend.
-#[tactic(auto, unfolding(crate::specs::Drawing::legend), using(crate::proofs::Elements::elements_joined))]
 fn push_legend(out: &mut Vec<u8>, y: u128) -> Result<(), AllocError>
     requires { y < 2 ^ 70 + 8 }
     ensures { IfOk result (λ _. out.new.items ≡ out.old.items ++ elements_text (spec.legend y)) }
@@ -393,7 +259,6 @@ fn push_legend(out: &mut Vec<u8>, y: u128) -> Result<(), AllocError>
 }
 
 /// How many rows are shown, and how many follow.
-#[tactic(auto, unfolding(crate::specs::Drawing::remark))]
 pub fn remark(alloc: Global, shown: u64, later: u64) -> Result<Vec<u8>, AllocError>
     ensures { IfOk result (λ text. text.items ≡ spec.remark shown later) }
 {
@@ -405,30 +270,7 @@ pub fn remark(alloc: Global, shown: u64, later: u64) -> Result<Vec<u8>, AllocErr
     Ok(text)
 }
 
-// Appends the ground of the picture, and what is said beside the axis: what its numbers are, or
-// that there is no entry.
-#[tactic(auto, unfolding(crate::specs::Drawing::ground, crate::specs::Drawing::notice, crate::specs::Element::elements_text))]
-fn push_ground(out: &mut Vec<u8>, sheet: &Sheet, entries: &[DrawnEntry]) -> Result<(), AllocError>
-    requires { IsSheet sheet.now }
-    ensures { IfOk result (λ _. out.new.items ≡ out.old.items
-        ++ elements_text (spec.ground sheet.now entries.now)) }
-{
-    let area = Area {
-        x: 0,
-        y: 0,
-        across: 640,
-        down: sheet.bottom + 60,
-    };
-    push_box(out, b"p", area)?;
-    if entries.is_empty() {
-        return push_text(out, b"c", Point { x: 12, y: 20 }, b"no rows");
-    }
-    let x = u128::from(sheet.room.left.saturating_sub(48));
-    push_text(out, b"m", Point { x, y: 22 }, b"ticks")
-}
-
 // Appends the axis and the rows.
-#[tactic(auto, unfolding(crate::specs::Drawing::chart), using(crate::proofs::Elements::elements_joined))]
 fn push_chart(
     alloc: Global,
     out: &mut Vec<u8>,
@@ -446,7 +288,6 @@ fn push_chart(
 }
 
 // Appends the legend and the remark under it.
-#[tactic(auto, unfolding(crate::specs::Drawing::foot), using(crate::proofs::Elements::elements_joined, crate::proofs::Elements::elements_one))]
 fn push_foot(out: &mut Vec<u8>, bottom: u128, remark: &[u8]) -> Result<(), AllocError>
     requires { bottom < 2 ^ 70 }
     ensures { IfOk result (λ _. out.new.items ≡ out.old.items
@@ -461,7 +302,6 @@ fn push_foot(out: &mut Vec<u8>, bottom: u128, remark: &[u8]) -> Result<(), Alloc
 }
 
 // Appends the front of a picture of a height.
-#[tactic(auto, unfolding(crate::specs::Drawing::picture_front))]
 fn push_opening(out: &mut Vec<u8>, height: u128) -> Result<(), AllocError>
     ensures { IfOk result (λ _. out.new.items ≡ out.old.items ++ spec.picture_front height) }
 {
@@ -471,7 +311,6 @@ fn push_opening(out: &mut Vec<u8>, height: u128) -> Result<(), AllocError>
 }
 
 /// Draws entries: `shown` of them are rows, and `later` rows follow.
-#[tactic(auto, unfolding(crate::specs::Drawing::svg, crate::specs::Drawing::drawing), using(crate::proofs::Elements::elements_joined))]
 pub fn draw_svg(
     alloc: Global,
     report: &[u8],

@@ -1,78 +1,19 @@
 //! The elements of a picture.
+#![tactic(auto, unfolding(crate::specs::Element::box_title, crate::specs::Element::card_content, crate::specs::Element::content, crate::specs::Element::element_text, crate::specs::Element::shown_card, crate::specs::Element::title_end))]
+
 ghost use Rattle.std.specs.Prelude.{◌≡◌, ◌++◌, IfOk};
-ghost use Rattle.st_draw.specs.Element.{attribute, element_front, corner, size, ends, content, title_end, box_title, shown_card, card_content, element_text, Box, Bar, Line, Text, Card};
+ghost use Rattle.st_draw.specs.Element.{content, title_end, box_title, shown_card, card_content, element_text, Box, Bar, Line, Text, Card};
 
+use crate::attributes::{Area, push_corner, push_ends, push_front, push_size};
 use crate::escape::push_escaped;
-use st_entries::{CARD_LIMIT, push_decimal};
+use st_entries::CARD_LIMIT;
 use std::alloc::AllocError;
-
-/// Where an element stands, and how far it reaches, or where a line ends.
-#[derive(Clone, Copy)]
-pub struct Area {
-    /// The left edge.
-    pub x: u128,
-    /// The upper edge.
-    pub y: u128,
-    /// The width, or the right end of a line.
-    pub across: u128,
-    /// The height, or the lower end of a line.
-    pub down: u128,
-}
 
 /// Where a text stands: one of its ends or its middle, and the line under it.
 #[derive(Clone, Copy)]
 pub struct Point {
     pub x: u128,
     pub y: u128,
-}
-
-// Appends a number as the value of an attribute.
-fn push_attribute(out: &mut Vec<u8>, name: &[u8], n: u128) -> Result<(), AllocError>
-    ensures { IfOk result (λ _. out.new.items ≡ out.old.items ++ attribute name.now n) }
-{
-    out.extend_from_slice(name)?;
-    out.extend_from_slice(b"=\"")?;
-    push_decimal(out, n)?;
-    out.extend_from_slice(b"\"")
-}
-
-// Appends the front of an element, with its class.
-#[tactic(auto, unfolding(crate::specs::Element::element_front))]
-fn push_front(out: &mut Vec<u8>, name: &[u8], class: &[u8]) -> Result<(), AllocError>
-    ensures { IfOk result (λ _. out.new.items ≡ out.old.items ++ element_front name.now class.now) }
-{
-    out.extend_from_slice(name)?;
-    out.extend_from_slice(b" class=\"")?;
-    out.extend_from_slice(class)?;
-    out.extend_from_slice(b"\"")
-}
-
-// Appends where an element stands.
-fn push_corner(out: &mut Vec<u8>, x: u128, y: u128) -> Result<(), AllocError>
-    ensures { IfOk result (λ _. out.new.items ≡ out.old.items ++ corner x y) }
-{
-    push_attribute(out, b" x", x)?;
-    push_attribute(out, b" y", y)
-}
-
-// Appends how far a box reaches.
-fn push_size(out: &mut Vec<u8>, width: u128, height: u128) -> Result<(), AllocError>
-    ensures { IfOk result (λ _. out.new.items ≡ out.old.items ++ size width height) }
-{
-    push_attribute(out, b" width", width)?;
-    push_attribute(out, b" height", height)
-}
-
-// Appends where a line begins and ends.
-#[tactic(auto, unfolding(crate::specs::Element::ends))]
-fn push_ends(out: &mut Vec<u8>, area: Area) -> Result<(), AllocError>
-    ensures { IfOk result (λ _. out.new.items ≡ out.old.items
-        ++ ends area.x area.y area.across area.down) }
-{
-    push_attribute(out, b" x1", area.x)?;
-    push_attribute(out, b" y1", area.y)?;
-    push_attribute(out, b" x2", area.across)?;
-    push_attribute(out, b" y2", area.down)
 }
 
 // The end of a title and of its box.
@@ -121,7 +62,6 @@ fn push_content(out: &mut Vec<u8>, text: &[u8]) -> Result<(), AllocError>
 }
 
 /// Appends a box.
-#[tactic(auto, unfolding(crate::specs::Element::element_text))]
 pub fn push_box(out: &mut Vec<u8>, class: &[u8], area: Area) -> Result<(), AllocError>
     ensures { IfOk result (λ _. out.new.items ≡ out.old.items
         ++ element_text (Box class.now area.x area.y area.across area.down)) }
@@ -133,7 +73,6 @@ pub fn push_box(out: &mut Vec<u8>, class: &[u8], area: Area) -> Result<(), Alloc
 }
 
 /// Appends a box that says something when it is pointed at.
-#[tactic(auto, unfolding(crate::specs::Element::element_text))]
 pub fn push_bar(out: &mut Vec<u8>, class: &[u8], area: Area, title: &[u8]) -> Result<(), AllocError>
     ensures { IfOk result (λ _. out.new.items ≡ out.old.items
         ++ element_text (Bar class.now area.x area.y area.across area.down title.now)) }
@@ -145,7 +84,6 @@ pub fn push_bar(out: &mut Vec<u8>, class: &[u8], area: Area, title: &[u8]) -> Re
 }
 
 /// Appends a line.
-#[tactic(auto, unfolding(crate::specs::Element::element_text))]
 pub fn push_line(out: &mut Vec<u8>, class: &[u8], area: Area) -> Result<(), AllocError>
     ensures { IfOk result (λ _. out.new.items ≡ out.old.items
         ++ element_text (Line class.now area.x area.y area.across area.down)) }
@@ -156,7 +94,6 @@ pub fn push_line(out: &mut Vec<u8>, class: &[u8], area: Area) -> Result<(), Allo
 }
 
 /// Appends a text, whose left end, right end or middle stands at x by its class.
-#[tactic(auto, unfolding(crate::specs::Element::element_text))]
 pub fn push_text(
     out: &mut Vec<u8>,
     class: &[u8],
@@ -172,7 +109,6 @@ pub fn push_text(
 }
 
 /// Appends a card.
-#[tactic(auto, unfolding(crate::specs::Element::element_text))]
 pub fn push_card(out: &mut Vec<u8>, spot: Point, text: &[u8]) -> Result<(), AllocError>
     ensures { IfOk result (λ _. out.new.items ≡ out.old.items
         ++ element_text (Card spot.x spot.y text.now)) }

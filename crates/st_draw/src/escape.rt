@@ -2,6 +2,7 @@
 ghost use Rattle.std.specs.Prelude.{◌≡◌, ◌++◌, IfOk};
 ghost use Rattle.st_draw.specs.Escape as spec;
 
+use st_entries::plain_byte;
 use std::alloc::AllocError;
 
 // Appends a byte as it may stand there.
@@ -12,8 +13,7 @@ fn push_escaped_byte(out: &mut Vec<u8>, byte: u8) -> Result<(), AllocError>
         b'<' => out.extend_from_slice(b"&lt;"),
         b'>' => out.extend_from_slice(b"&gt;"),
         b'&' => out.extend_from_slice(b"&amp;"),
-        b' '..=b'~' => out.extend_from_slice(&[byte]),
-        _ => out.extend_from_slice(b"?"),
+        _ => out.extend_from_slice(&[plain_byte(byte)]),
     }
 }
 

@@ -73,11 +73,11 @@ fn picture(alloc: Global, choice: Choice, report: &[u8]) -> Result<(Vec<u8>, Sta
     ensures bytes { IfOk result (λ made. made.0.items ≡ spec.picture choice report.now) }
     ensures status { IfOk result (λ made. made.1 ≡ spec.picture_status choice report.now) }
 {
-    let told = read_timetable(alloc, choice.part, report)?;
-    let all = told.entries.as_slice();
+    let read = read_timetable(alloc, choice.part, report)?;
+    let all = read.entries.as_slice();
     let shown = rows_in(all);
     let entries = visible(shown, all);
-    let out = picture_of(alloc, choice.kind, report, entries, (shown, told.later))?;
+    let out = picture_of(alloc, choice.kind, report, entries, (shown, read.later))?;
     Ok((out, status_with(shown)))
 }
 

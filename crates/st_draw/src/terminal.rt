@@ -1,5 +1,5 @@
 //! The picture of a timetable as lines of text.
-ghost use Rattle.std.specs.Prelude.{◌≡◌, ◌-◌, ◌≤◌, ◌++◌, IfOk, max};
+ghost use Rattle.std.specs.Prelude.{◌≡◌, ◌-◌, ◌≤◌, ◌++◌, IfOk, max, replicate};
 ghost use Rattle.st_draw.specs.Terminal as spec;
 
 use crate::axis::{Axis, Room, at, axis_of, marks_of};
@@ -21,7 +21,7 @@ pub struct Page {
 
 // Appends a byte, so many times over.
 fn push_many(out: &mut Vec<u8>, count: usize, byte: u8) -> Result<(), AllocError>
-    ensures { IfOk result (λ _. out.new.items ≡ out.old.items ++ spec.byte_times count byte) }
+    ensures { IfOk result (λ _. out.new.items ≡ out.old.items ++ replicate count byte) }
 {
     for _ in 0..count {
         out.push(byte)?;
@@ -84,7 +84,7 @@ fn push_stroke(
 ) -> Result<(), AllocError>
     requires { 1 ≤ axis.now.span }
     ensures { IfOk result (λ _. out.new.items ≡ out.old.items
-        ++ spec.byte_times (max mark.1
+        ++ replicate (max mark.1
         (spec.column axis.now to - spec.column axis.now from)) mark.0) }
 {
     let width = column(axis, to).saturating_sub(column(axis, from));

@@ -24,8 +24,14 @@ pub struct Choice {
     pub part: RowRange,
 }
 
+// How many rows are drawn at most.
+const ROW_LIMIT: u64 = 200;
+
 // The rows that are drawn where no word names them.
-const FIRST_PART: RowRange = RowRange { from: 1, to: 200 };
+const FIRST_PART: RowRange = RowRange {
+    from: 1,
+    to: ROW_LIMIT,
+};
 
 // The kind of picture that a word is.
 fn kind_named(word: &str) -> Option<PictureKind>
@@ -39,7 +45,7 @@ fn kind_named(word: &str) -> Option<PictureKind>
     }
 }
 
-// The part from a row to a row: at least one row, and at most 200.
+// The part from a row to a row: at least one row, and no more than are drawn.
 fn part_between(from: u64, to: u64) -> Option<RowRange>
     ensures { result ≡ spec.part_between from to }
 {
@@ -48,7 +54,7 @@ fn part_between(from: u64, to: u64) -> Option<RowRange>
     }
     Some(RowRange {
         from,
-        to: to.min(from.saturating_add(199)),
+        to: to.min(from.saturating_add(ROW_LIMIT - 1)),
     })
 }
 

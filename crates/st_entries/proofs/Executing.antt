@@ -119,8 +119,8 @@ pub executing_once : (part : RowRange) (report : List ℕ) (tick : ℕ) → Comp
     → executing_at tick (timetable part report).entries ≤ 1
 unfolding timetable
 executing_once part report tick rise =
-    let told = after_lines part timetable_at_start (pieces_of 10 report) in
+    let read = after_lines part timetable_at_start (pieces_of 10 report) in
     let is = lines_once part tick timetable_at_start (pieces_of 10 report) rise (record { one = omega arith; over = λ past. refl; dropped = refl }) in
-    let both = executing_append tick told.entries (reverse told.dropped) in
-    let none = executing_reverse tick told.dropped in
+    let both = executing_append tick read.entries (reverse read.dropped) in
+    let none = executing_reverse tick read.dropped in
     omega (arith, both, none, is.one, is.dropped)

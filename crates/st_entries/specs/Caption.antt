@@ -22,12 +22,12 @@ indicator_text i = if nat_lt i 64 then take 4 (drop (4 * i) indicator_names) els
 abbrev pub place_text : ReportAddress → List ℕ
 place_text place = decimal place.word ++ codes "." ++ decimal place.bit
 
--- the number of an entry that is done, or what else it is
-unfoldable pub caption_number : DrawnEntry → List ℕ
-caption_number (Done n a p r t c) = decimal n
-caption_number (Dropped a p end) = codes "drop"
-caption_number (Taken i t) = codes "INT"
-caption_number (Shown t) = codes "SNAP"
+-- the first text of an entry: its number, where it is done, or what else it is
+unfoldable pub first_text : DrawnEntry → List ℕ
+first_text (Done n a p r t c) = decimal n
+first_text (Dropped a p end) = codes "drop"
+first_text (Taken i t) = codes "INT"
+first_text (Shown t) = codes "SNAP"
 
 -- where an entry stands in storage; the number of an indicator; the tick of a snapshot
 unfoldable pub second_text : DrawnEntry → List ℕ

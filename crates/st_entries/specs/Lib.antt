@@ -8,5 +8,6 @@ pub mod Report
 pub mod Timetable
 pub use Rattle.st_io.specs.Count
 pub use Rattle.st_text.specs.Blanks
+pub use Rattle.st_text.specs.Bytes
 pub use Rattle.st_text.specs.Number
 pub use Rattle.st_text.specs.Pieces

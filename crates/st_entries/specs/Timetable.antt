@@ -9,9 +9,9 @@ use Rattle.st_entries.specs.declared.report.TimetableLine.TheVariants.{Row, Drop
 use Rattle.st_entries.specs.declared.timetable.DrawnEntry.{DrawnEntry}
 use Rattle.st_entries.specs.declared.timetable.DrawnEntry.TheVariants.{Done, Dropped, Taken, Shown}
 use Rattle.st_entries.specs.declared.timetable.RowRange.{RowRange}
-use Rattle.st_entries.specs.declared.timetable.Told.{Told}
+use Rattle.st_entries.specs.declared.timetable.ReadTimetable.{ReadTimetable}
 
--- what the lines told so far: the entries of the part; those of its last segment that were dropped,
+-- what was read so far: the entries of the part; those of its last segment that were dropped,
 -- the youngest first; the number and the last tick of the last row; how many rows are behind the
 -- part
 pub record Timetable : Type 0 where
@@ -21,7 +21,7 @@ pub record Timetable : Type 0 where
   pub end : ℕ
   pub later : ℕ
 
--- nothing told yet; what comes before any row counts to the first one
+-- nothing read yet; what comes before any row counts to the first one
 abbrev pub timetable_at_start : Timetable
 timetable_at_start = record { entries = []; dropped = []; row = 1; end = 0; later = 0 }
 
@@ -37,17 +37,15 @@ entries_with part n entry entries = if is_in_part part n then entries ++ entry �
 abbrev pub with_dropped : Timetable → Timetable
 with_dropped t = record t { entries = t.entries ++ reverse t.dropped; dropped = [] }
 
--- an entry behind all that were told
+-- an entry behind all that were read
 abbrev pub timetable_with : RowRange → ℕ → DrawnEntry → Timetable → Timetable
-timetable_with part n entry t = record t {
-  entries = entries_with part n entry
-      (t.entries ++ reverse t.dropped);
-  dropped = [];
-}
+timetable_with part n entry t =
+    let all = with_dropped t in
+    record all { entries = entries_with part n entry all.entries }
 
 -- how many rows are behind a part after a row
-abbrev pub counted_later : RowRange → ℕ → ℕ → ℕ
-counted_later part n later = if nat_lt part.to n then count_after later 1 else later
+abbrev pub later_rows : RowRange → ℕ → ℕ → ℕ
+later_rows part n later = if nat_lt part.to n then count_after later 1 else later
 
 -- what one more thing tells
 abbrev pub after_item : RowRange → Timetable → TimetableLine → Timetable
@@ -55,12 +53,10 @@ after_item part t (Row n a p r c) =
     record (timetable_with part n (Done n a p r (turn_of t.end r c) c) t) {
       row = n;
       end = c;
-      later = counted_later part n t.later;
+      later = later_rows part n t.later;
     }
-after_item part t (Drop a p) = record t {
-  dropped = entries_with part t.row
-      (Dropped a p t.end) t.dropped;
-}
+after_item part t (Drop a p) =
+    record t { dropped = entries_with part t.row (Dropped a p t.end) t.dropped }
 after_item part t (Interrupt i) = timetable_with part t.row (Taken i t.end) t
 after_item part t (Snapshot tick) = timetable_with part t.row (Shown tick) t
 
@@ -83,8 +79,8 @@ unfoldable pub timetable : RowRange → List ℕ → Timetable
 timetable part report = with_dropped (after_lines part timetable_at_start (pieces_of 10 report))
 
 -- what the code keeps of it
-abbrev pub kept_by : Told → Timetable
-kept_by t = record {
+abbrev pub timetable_of : ReadTimetable → Timetable
+timetable_of t = record {
   entries = t.entries.items;
   dropped = t.dropped.items;
   row = t.row;

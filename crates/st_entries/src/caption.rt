@@ -59,7 +59,7 @@ fn place_text(alloc: Global, place: ReportAddress) -> Result<Vec<u8>, AllocError
 /// The first text of an entry: its number, where it is done, else what it is (`drop`, `INT` or
 /// `SNAP`).
 pub fn first_text(alloc: Global, entry: DrawnEntry) -> Result<Vec<u8>, AllocError>
-    ensures { IfOk result (λ text. text.items ≡ spec.caption_number entry) }
+    ensures { IfOk result (λ text. text.items ≡ spec.first_text entry) }
 {
     match entry {
         DrawnEntry::Done { number, .. } => decimal_text(alloc, number),

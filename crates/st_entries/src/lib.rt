@@ -1,6 +1,6 @@
 //! The entries of the timetable that a report tells, and their texts. `docs/chart.md` has the
 //! rules. What takes memory fails for want of it alone.
-#![tactic(auto, unfolding(crate::specs::Caption::caption_number, crate::specs::Caption::indicator_names, crate::specs::Caption::indicator_text, crate::specs::Caption::second_text, crate::specs::Caption::third_text, crate::specs::Caption::title, crate::specs::Caption::with_dots, crate::specs::Caption::words_with_number, crate::specs::Label::card_text, crate::specs::Label::is_listed, crate::specs::Label::label, crate::specs::Label::lays, crate::specs::Report::dropped_item, crate::specs::Report::item, crate::specs::Report::number_in_report, crate::specs::Report::place_in_report, crate::specs::Report::row_item, crate::specs::Report::word_in_line, crate::specs::Timetable::timetable))]
+#![tactic(auto, unfolding(crate::specs::Caption::first_text, crate::specs::Caption::indicator_names, crate::specs::Caption::indicator_text, crate::specs::Caption::second_text, crate::specs::Caption::third_text, crate::specs::Caption::title, crate::specs::Caption::with_dots, crate::specs::Caption::words_with_number, crate::specs::Label::card_text, crate::specs::Label::is_listed, crate::specs::Label::label, crate::specs::Label::lays, crate::specs::Report::dropped_item, crate::specs::Report::item, crate::specs::Report::number_in_report, crate::specs::Report::place_in_report, crate::specs::Report::row_item, crate::specs::Report::word_in_line, crate::specs::Timetable::timetable))]
 
 mod caption;
 mod label;
@@ -9,6 +9,6 @@ mod report;
 mod timetable;
 
 pub use caption::{CARD_LIMIT, first_text, second_text, third_text, title, widest, with_dots};
-pub use plain::{push_decimal, push_plain};
+pub use plain::{plain_byte, push_decimal, push_plain};
 pub use report::ReportAddress;
-pub use timetable::{DrawnEntry, RowRange, Told, first_tick, read_timetable};
+pub use timetable::{DrawnEntry, ReadTimetable, RowRange, first_tick, read_timetable};

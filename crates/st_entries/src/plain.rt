@@ -12,8 +12,8 @@ pub fn push_decimal(out: &mut Vec<u8>, n: u128) -> Result<(), AllocError>
     out.extend_from_slice(Buffer::new().format(n).as_bytes())
 }
 
-// A byte as a terminal may show it.
-fn plain_byte(byte: u8) -> u8
+/// A byte as a terminal may show it: what is no printable character of ASCII is a question mark.
+pub fn plain_byte(byte: u8) -> u8
     ensures { result ≡ spec.plain_byte byte }
 {
     match byte {
@@ -22,8 +22,7 @@ fn plain_byte(byte: u8) -> u8
     }
 }
 
-/// Appends a text as a terminal may show it: what is no printable character of ASCII is a question
-/// mark.
+/// Appends a text as a terminal may show it.
 pub fn push_plain(out: &mut Vec<u8>, text: &[u8]) -> Result<(), AllocError>
     ensures { IfOk result (λ _. out.new.items ≡ out.old.items ++ spec.plain_text text.now) }
 {

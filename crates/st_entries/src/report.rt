@@ -38,8 +38,8 @@ pub enum TimetableLine {
     },
 }
 
-/// The k-th piece of a text that is cut at a byte, counted from 0.
-pub fn piece(text: &[u8], at: u8, k: usize) -> &[u8]
+// The k-th piece of a text that is cut at a byte, counted from 0.
+fn piece(text: &[u8], at: u8, k: usize) -> &[u8]
     ensures { result.now ≡ spec.piece at text.now k }
 {
     match cut(text, at) {
@@ -50,8 +50,8 @@ pub fn piece(text: &[u8], at: u8, k: usize) -> &[u8]
     }
 }
 
-/// The k-th word of a line, counted from 0.
-pub fn word(line: &[u8], k: usize) -> &[u8]
+// The k-th word of a line, counted from 0.
+fn word(line: &[u8], k: usize) -> &[u8]
     ensures { result.now ≡ spec.word_in_line line.now k }
 {
     piece(line, b' ', k)

@@ -2,7 +2,7 @@
 ghost use Rattle.std.specs.Prelude.{◌≡◌, ◌++◌, IfOk, [], reverse};
 ghost use Rattle.st_entries.specs.Phases.{first_tick as first_tick_of};
 ghost use Rattle.st_entries.specs.Timetable as spec;
-ghost use Rattle.st_entries.specs.Timetable.{kept_by};
+ghost use Rattle.st_entries.specs.Timetable.{timetable_of};
 ghost use Rattle.st_text.specs.Pieces.{pieces_of};
 
 use crate::report::{ReportAddress, TimetableLine, item_of};
@@ -48,9 +48,9 @@ pub enum DrawnEntry {
     },
 }
 
-/// What the lines told so far.
+/// What was read of a timetable, in the lines so far.
 #[derive(Drop)]
-pub struct Told {
+pub struct ReadTimetable {
     /// The entries of the part.
     pub entries: Vec<DrawnEntry>,
     /// Those of the last segment that were dropped, the youngest first.
@@ -82,8 +82,8 @@ fn is_in(part: RowRange, n: u64) -> bool
     part.from <= n && n <= part.to
 }
 
-// Puts an entry that goes with a row behind the others, where the part has that row.
-fn keep(
+// Appends an entry that goes with a row, where the part has that row.
+fn push_in_part(
     part: RowRange,
     n: u64,
     entry: DrawnEntry,
@@ -98,8 +98,11 @@ fn keep(
     Ok(())
 }
 
-// Puts the dropped entries behind the others, the oldest first.
-fn settle(entries: &mut Vec<DrawnEntry>, dropped: &mut Vec<DrawnEntry>) -> Result<(), AllocError>
+// Appends the dropped entries, the oldest first.
+fn push_dropped(
+    entries: &mut Vec<DrawnEntry>,
+    dropped: &mut Vec<DrawnEntry>,
+) -> Result<(), AllocError>
     ensures entries { IfOk result (λ _. entries.new.items
         ≡ entries.old.items ++ reverse dropped.old.items) }
     ensures none { IfOk result (λ _. dropped.new.items ≡ []) }
@@ -110,18 +113,23 @@ fn settle(entries: &mut Vec<DrawnEntry>, dropped: &mut Vec<DrawnEntry>) -> Resul
     Ok(())
 }
 
-// Puts an entry behind all that were told.
-fn join(part: RowRange, n: u64, entry: DrawnEntry, told: &mut Told) -> Result<(), AllocError>
-    ensures { IfOk result (λ _. kept_by told.new ≡ spec.timetable_with part n entry
-        (kept_by told.old)) }
+// Appends an entry behind all that were read.
+fn push_entry(
+    part: RowRange,
+    n: u64,
+    entry: DrawnEntry,
+    read: &mut ReadTimetable,
+) -> Result<(), AllocError>
+    ensures { IfOk result (λ _. timetable_of read.new ≡ spec.timetable_with part n entry
+        (timetable_of read.old)) }
 {
-    settle(&mut told.entries, &mut told.dropped)?;
-    keep(part, n, entry, &mut told.entries)
+    push_dropped(&mut read.entries, &mut read.dropped)?;
+    push_in_part(part, n, entry, &mut read.entries)
 }
 
 // How many rows are behind a part after a row.
 fn count_later(part: RowRange, n: u64, later: u64) -> u64
-    ensures { result ≡ spec.counted_later part n later }
+    ensures { result ≡ spec.later_rows part n later }
 {
     if part.to < n {
         later.saturating_add(1)
@@ -131,11 +139,16 @@ fn count_later(part: RowRange, n: u64, later: u64) -> u64
 }
 
 // Takes in one more thing.
-fn take_item(part: RowRange, told: &mut Told, item: TimetableLine) -> Result<(), AllocError>
-    ensures { IfOk result (λ _. kept_by told.new ≡ spec.after_item part (kept_by told.old) item) }
+fn take_item(
+    part: RowRange,
+    read: &mut ReadTimetable,
+    item: TimetableLine,
+) -> Result<(), AllocError>
+    ensures { IfOk result (λ _. timetable_of read.new
+        ≡ spec.after_item part (timetable_of read.old) item) }
 {
-    let row = told.row;
-    let end = told.end;
+    let row = read.row;
+    let end = read.end;
     match item {
         TimetableLine::Row {
             number,
@@ -152,10 +165,10 @@ fn take_item(part: RowRange, told: &mut Told, item: TimetableLine) -> Result<(),
                 turn: ready.max(end.min(complete)),
                 complete,
             };
-            join(part, number, entry, told)?;
-            told.row = number;
-            told.end = complete;
-            told.later = count_later(part, number, told.later);
+            push_entry(part, number, entry, read)?;
+            read.row = number;
+            read.end = complete;
+            read.later = count_later(part, number, read.later);
             Ok(())
         }
         TimetableLine::Drop { place, prepared } => {
@@ -164,56 +177,60 @@ fn take_item(part: RowRange, told: &mut Told, item: TimetableLine) -> Result<(),
                 prepared,
                 end,
             };
-            keep(part, row, entry, &mut told.dropped)
+            push_in_part(part, row, entry, &mut read.dropped)
         }
         TimetableLine::Interrupt { indicator } => {
             let entry = DrawnEntry::Taken {
                 indicator,
                 tick: end,
             };
-            join(part, row, entry, told)
+            push_entry(part, row, entry, read)
         }
-        TimetableLine::Snapshot { tick } => join(part, row, DrawnEntry::Shown { tick }, told),
+        TimetableLine::Snapshot { tick } => push_entry(part, row, DrawnEntry::Shown { tick }, read),
     }
 }
 
 // Takes in one more line.
-fn take_line(part: RowRange, told: &mut Told, line: &[u8]) -> Result<(), AllocError>
-    ensures { IfOk result (λ _. kept_by told.new
-        ≡ spec.after_line part (kept_by told.old) line.now) }
+fn take_line(part: RowRange, read: &mut ReadTimetable, line: &[u8]) -> Result<(), AllocError>
+    ensures { IfOk result (λ _. timetable_of read.new
+        ≡ spec.after_line part (timetable_of read.old) line.now) }
 {
     match item_of(line) {
-        Some(item) => take_item(part, told, item),
+        Some(item) => take_item(part, read, item),
         None => Ok(()),
     }
 }
 
 // Takes in all lines.
-fn take_lines(part: RowRange, told: &mut Told, report: &[u8]) -> Result<(), AllocError>
-    ensures { IfOk result (λ _. kept_by told.new
-        ≡ spec.after_lines part (kept_by told.old) (pieces_of 10 report.now)) }
+fn take_lines(part: RowRange, read: &mut ReadTimetable, report: &[u8]) -> Result<(), AllocError>
+    ensures { IfOk result (λ _. timetable_of read.new
+        ≡ spec.after_lines part (timetable_of read.old) (pieces_of 10 report.now)) }
 {
     let mut rest = report;
     'lines: while let Some((line, after)) = cut(rest, b'\n') {
-        take_line(part, told, line)?;
+        take_line(part, read, line)?;
         rest = after;
     }
-    take_line(part, told, rest)
+    take_line(part, read, rest)
 }
 
 /// The timetable that the lines of a report tell, as far as a part of its rows is asked for. A line
 /// that says nothing of it is passed over.
-pub fn read_timetable(alloc: Global, part: RowRange, report: &[u8]) -> Result<Told, AllocError>
-    ensures { IfOk result (λ told. kept_by told ≡ spec.timetable part report.now) }
+pub fn read_timetable(
+    alloc: Global,
+    part: RowRange,
+    report: &[u8],
+) -> Result<ReadTimetable, AllocError>
+    ensures { IfOk result (λ read. timetable_of read ≡ spec.timetable part report.now) }
 {
-    let mut told = Told {
+    let mut read = ReadTimetable {
         entries: Vec::new(alloc),
         dropped: Vec::new(alloc),
         row: 1,
         end: 0,
         later: 0,
     };
-    take_lines(part, &mut told, report)?;
-    settle(&mut told.entries, &mut told.dropped)?;
-    Ok(told)
+    take_lines(part, &mut read, report)?;
+    push_dropped(&mut read.entries, &mut read.dropped)?;
+    Ok(read)
 }

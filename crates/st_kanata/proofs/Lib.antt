@@ -1,3 +1,3 @@
 pub mod Forward
 pub mod Laws
-pub mod Merging
+pub mod Sorting

@@ -1,6 +1,6 @@
 -- A log of what happens to the entries of a timetable, for a pipeline viewer.
 use Rattle.std.specs.Prelude.{ℕ, ◌-◌, nat_eq, if◌then◌else◌, List, [], ◌∷◌, ◌++◌, codes, decimal}
-use Rattle.st_entries.specs.Caption.{caption_number, second_text, third_text, with_dots}
+use Rattle.st_entries.specs.Caption.{first_text, second_text, third_text, with_dots}
 use Rattle.st_kanata.specs.Moments.{happenings}
 use Rattle.st_entries.specs.Plain.{plain_text}
 use Rattle.st_kanata.specs.declared.moments.LogMoment.{LogMoment}
@@ -17,9 +17,9 @@ heading = codes "Kanata\t0004\nC=\t"
 unfoldable pub log_front : ℕ → List ℕ
 log_front tick = heading ++ decimal tick ++ codes "\n"
 
--- that ticks pass, where they do
-unfoldable pub passing : ℕ → ℕ → List ℕ
-passing from to = if nat_eq from to then [] else codes "C\t" ++ decimal (to - from) ++ codes "\n"
+-- that ticks pass, where they do; the viewer calls them cycles
+unfoldable pub cycles_line : ℕ → ℕ → List ℕ
+cycles_line from to = if nat_eq from to then [] else codes "C\t" ++ decimal (to - from) ++ codes "\n"
 
 -- that the entry with a number appears
 unfoldable pub log_entry_line : ℕ → List ℕ
@@ -40,7 +40,7 @@ log_end_line k n how = codes "R\t" ++ decimal k ++ codes "\t" ++ decimal n ++ co
 
 -- the label of an entry: its three texts, the last one with dots where it is too long
 unfoldable pub log_label : List ℕ → DrawnEntry → List ℕ
-log_label report e = caption_number e ++ codes " " ++ second_text e ++ codes " "
+log_label report e = first_text e ++ codes " " ++ second_text e ++ codes " "
     ++ with_dots (third_text report e)
 
 -- the stage in which an entry begins: waiting for its operands, dropped, an interrupt, a snapshot
@@ -65,11 +65,11 @@ row_number (Taken i t) = 0
 row_number (Shown t) = 0
 
 -- whether an entry was retired, 0, or flushed, 1
-abbrev pub manner : DrawnEntry → List ℕ
-manner (Done n a p r t c) = codes "0"
-manner (Dropped a p end) = codes "1"
-manner (Taken i t) = codes "0"
-manner (Shown t) = codes "0"
+abbrev pub retire_type : DrawnEntry → List ℕ
+retire_type (Done n a p r t c) = codes "0"
+retire_type (Dropped a p end) = codes "1"
+retire_type (Taken i t) = codes "0"
+retire_type (Shown t) = codes "0"
 
 -- the lines of an entry that begins
 unfoldable pub begin_lines : List ℕ → ℕ → DrawnEntry → List ℕ
@@ -83,7 +83,7 @@ change_lines k from to = stage_line (codes "E") k from ++ stage_line (codes "S")
 -- the lines of an entry that ends
 unfoldable pub log_end_lines : ℕ → DrawnEntry → List ℕ
 log_end_lines k e = stage_line (codes "E") k (last_stage e)
-    ++ log_end_line k (row_number e) (manner e)
+    ++ log_end_line k (row_number e) (retire_type e)
 
 -- the lines of what happens to an entry
 abbrev pub step_lines : List ℕ → ℕ → LogStep → DrawnEntry → List ℕ
@@ -94,7 +94,7 @@ step_lines report k End e = log_end_lines k e
 
 -- the lines of a moment that comes after a tick, or at it
 unfoldable pub moment_lines : List ℕ → ℕ → LogMoment → List ℕ
-moment_lines report tick m = passing tick m.tick ++ step_lines report m.number m.step m.entry
+moment_lines report tick m = cycles_line tick m.tick ++ step_lines report m.number m.step m.entry
 
 -- the lines of moments that come after a tick, or at it, one after another
 abbrev pub moments_lines : List ℕ → ℕ → List LogMoment → List ℕ
@@ -106,11 +106,9 @@ abbrev pub first_moment_tick : List LogMoment → ℕ
 first_moment_tick [] = 0
 first_moment_tick (m ∷ ms) = m.tick
 
--- the bytes of a log of moments
-unfoldable pub log_of : List ℕ → List LogMoment → List ℕ
-log_of report ms = log_front (first_moment_tick ms) ++ moments_lines report
-    (first_moment_tick ms) ms
-
 -- the bytes of a log of entries
 unfoldable pub log : List ℕ → List DrawnEntry → List ℕ
-log report entries = log_of report (happenings entries)
+log report entries =
+    let ms = happenings entries in
+    let start = first_moment_tick ms in
+    log_front start ++ moments_lines report start ms

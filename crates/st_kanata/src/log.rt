@@ -2,106 +2,12 @@
 ghost use Rattle.std.specs.Prelude.{◌≡◌, ◌++◌, IfOk};
 ghost use Rattle.st_kanata.specs.Log as spec;
 
-use crate::moments::{LogMoment, LogStep, happenings};
-use st_entries::{
-    DrawnEntry, first_text, push_decimal, push_plain, second_text, third_text, with_dots,
+use crate::line::{
+    label, push_cycles, push_end_line, push_entry_line, push_label_line, push_opening, push_stage,
 };
+use crate::moments::{LogMoment, LogStep, happenings};
+use st_entries::DrawnEntry;
 use std::alloc::{AllocError, Global};
-
-// The name of the log's format, and what stands before the tick at which it starts.
-fn heading() -> &'static [u8]
-    ensures { result.now ≡ spec.heading }
-{
-    b"Kanata\t0004\nC=\t"
-}
-
-// Appends the name of the log's format, and the tick at which it starts.
-fn push_opening(out: &mut Vec<u8>, tick: u64) -> Result<(), AllocError>
-    ensures { IfOk result (λ _. out.new.items ≡ out.old.items ++ spec.log_front tick) }
-{
-    out.extend_from_slice(heading())?;
-    push_decimal(out, u128::from(tick))?;
-    out.extend_from_slice(b"\n")
-}
-
-// Appends that ticks pass, where they do.
-fn push_passing(out: &mut Vec<u8>, from: u64, to: u64) -> Result<(), AllocError>
-    ensures { IfOk result (λ _. out.new.items ≡ out.old.items ++ spec.passing from to) }
-{
-    if from == to {
-        return Ok(());
-    }
-    out.extend_from_slice(b"C\t")?;
-    push_decimal(out, u128::from(to.saturating_sub(from)))?;
-    out.extend_from_slice(b"\n")
-}
-
-// Appends that the entry with a number appears.
-#[tactic(auto, unfolding(crate::specs::Log::log_entry_line))]
-fn push_entry_line(out: &mut Vec<u8>, number: u64) -> Result<(), AllocError>
-    ensures { IfOk result (λ _. out.new.items ≡ out.old.items ++ spec.log_entry_line number) }
-{
-    out.extend_from_slice(b"I\t")?;
-    push_decimal(out, u128::from(number))?;
-    out.extend_from_slice(b"\t")?;
-    push_decimal(out, u128::from(number))?;
-    out.extend_from_slice(b"\t0\n")
-}
-
-// Appends what stands beside it in the viewer.
-#[tactic(auto, unfolding(crate::specs::Log::label_line))]
-fn push_label_line(out: &mut Vec<u8>, number: u64, text: &[u8]) -> Result<(), AllocError>
-    ensures { IfOk result (λ _. out.new.items ≡ out.old.items ++ spec.label_line number text.now) }
-{
-    out.extend_from_slice(b"L\t")?;
-    push_decimal(out, u128::from(number))?;
-    out.extend_from_slice(b"\t0\t")?;
-    push_plain(out, text)?;
-    out.extend_from_slice(b"\n")
-}
-
-// Appends that a stage of it begins, `S`, or ends, `E`.
-#[tactic(auto, unfolding(crate::specs::Log::stage_line))]
-fn push_stage(out: &mut Vec<u8>, sign: &[u8], number: u64, stage: &[u8]) -> Result<(), AllocError>
-    ensures { IfOk result (λ _. out.new.items ≡ out.old.items
-        ++ spec.stage_line sign.now number stage.now) }
-{
-    out.extend_from_slice(sign)?;
-    out.extend_from_slice(b"\t")?;
-    push_decimal(out, u128::from(number))?;
-    out.extend_from_slice(b"\t0\t")?;
-    out.extend_from_slice(stage)?;
-    out.extend_from_slice(b"\n")
-}
-
-// Appends that it is done with, as a row or as none: retired, 0, or flushed, 1.
-fn push_end_line(out: &mut Vec<u8>, number: u64, row: u64, how: &[u8]) -> Result<(), AllocError>
-    ensures { IfOk result (λ _. out.new.items ≡ out.old.items
-        ++ spec.log_end_line number row how.now) }
-{
-    out.extend_from_slice(b"R\t")?;
-    push_decimal(out, u128::from(number))?;
-    out.extend_from_slice(b"\t")?;
-    push_decimal(out, u128::from(row))?;
-    out.extend_from_slice(b"\t")?;
-    out.extend_from_slice(how)?;
-    out.extend_from_slice(b"\n")
-}
-
-// The label of an entry: its three texts, the last one with dots where it is too long.
-#[tactic(auto, unfolding(crate::specs::Log::log_label))]
-fn label(alloc: Global, report: &[u8], entry: DrawnEntry) -> Result<Vec<u8>, AllocError>
-    ensures { IfOk result (λ text. text.items ≡ spec.log_label report.now entry) }
-{
-    let mut text = first_text(alloc, entry)?;
-    let second = second_text(alloc, entry)?;
-    let third = with_dots(alloc, third_text(report, entry))?;
-    text.extend_from_slice(b" ")?;
-    text.extend_from_slice(second.as_slice())?;
-    text.extend_from_slice(b" ")?;
-    text.extend_from_slice(third.as_slice())?;
-    Ok(text)
-}
 
 // The stage in which an entry begins: waiting for its operands, dropped, an interrupt, a snapshot.
 fn first_stage(entry: DrawnEntry) -> &'static [u8]
@@ -140,8 +46,8 @@ fn row_number(entry: DrawnEntry) -> u64
 }
 
 // Whether an entry was retired, 0, or flushed, 1.
-fn manner(entry: DrawnEntry) -> &'static [u8]
-    ensures { result.now ≡ spec.manner entry }
+fn retire_type(entry: DrawnEntry) -> &'static [u8]
+    ensures { result.now ≡ spec.retire_type entry }
 {
     match entry {
         DrawnEntry::Done { .. } => b"0",
@@ -182,7 +88,7 @@ fn push_end(out: &mut Vec<u8>, number: u64, entry: DrawnEntry) -> Result<(), All
     ensures { IfOk result (λ _. out.new.items ≡ out.old.items ++ spec.log_end_lines number entry) }
 {
     push_stage(out, b"E", number, last_stage(entry))?;
-    push_end_line(out, number, row_number(entry), manner(entry))
+    push_end_line(out, number, row_number(entry), retire_type(entry))
 }
 
 // Appends the lines of what happens to an entry.
@@ -214,7 +120,7 @@ fn push_moment(
     ensures { IfOk result (λ _. out.new.items ≡ out.old.items
         ++ spec.moment_lines report.now tick moment.now) }
 {
-    push_passing(out, tick, moment.tick)?;
+    push_cycles(out, tick, moment.tick)?;
     push_step(alloc, out, report, moment)
 }
 

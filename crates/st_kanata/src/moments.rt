@@ -1,6 +1,5 @@
 //! What happens to the entries of a timetable, in the order of ticks.
-ghost use Rattle.std.specs.Prelude.{◌≡◌, ◌++◌, ◌∷◌, [], IfOk, List};
-ghost use Rattle.st_kanata.specs.declared.moments.LogMoment.{LogMoment};
+ghost use Rattle.std.specs.Prelude.{◌≡◌, ◌++◌, ◌∷◌, [], IfOk};
 ghost use Rattle.st_kanata.specs.Moments as spec;
 
 use st_entries::{DrawnEntry, first_tick};
@@ -169,55 +168,21 @@ fn moments_of(alloc: Global, begins: &[LogMoment]) -> Result<Vec<LogMoment>, All
     Ok(out)
 }
 
-// Two lists in order as one: the earlier of the two first moments comes first, the left one where
-// they come at one tick.
-fn merge(
-    alloc: Global,
-    left: &[LogMoment],
-    right: &[LogMoment],
-) -> Result<Vec<LogMoment>, AllocError>
-    ensures { IfOk result (λ out. (a b : List LogMoment) → left.now ≡ spec.in_order a
-        → right.now ≡ spec.in_order b → out.items ≡ spec.in_order (a ++ b)) }
+// Puts moments in the order of their ticks; those of one tick keep their order.
+fn sort(moments: &mut Vec<LogMoment>) -> Result<(), AllocError>
+    ensures { IfOk result (λ _. moments.new.items ≡ spec.in_order moments.old.items) }
 {
-    let mut out = Vec::new(alloc);
-    let mut ours = left;
-    let mut theirs = right;
-    'moments: while let [first, firsts @ ..] = ours {
-        let [other, others @ ..] = theirs else {
-            out.extend_from_slice(ours)?;
-            return Ok(out);
-        };
-        if first.tick <= other.tick {
-            out.push(*first)?;
-            ours = firsts;
-            continue 'moments;
-        }
-        out.push(*other)?;
-        theirs = others;
-    }
-    out.extend_from_slice(theirs)?;
-    Ok(out)
-}
-
-// Moments in the order of their ticks; those of one tick keep their order.
-fn in_order(alloc: Global, moments: &[LogMoment]) -> Result<Vec<LogMoment>, AllocError>
-    ensures { IfOk result (λ out. out.items ≡ spec.in_order moments.now) }
-{
-    if moments.len() <= 1 {
-        return Vec::from_slice(alloc, moments);
-    }
-    let (front, back) = moments.split_at(moments.len() / 2);
-    let front = in_order(alloc, front)?;
-    let back = in_order(alloc, back)?;
-    merge(alloc, front.as_slice(), back.as_slice())
+    moments.sort_by_key(|moment| moment.tick)?;
+    Ok(())
 }
 
 /// What happens to entries, in the order of ticks; they are numbered from 0 on as they begin.
 pub fn happenings(alloc: Global, entries: &[DrawnEntry]) -> Result<Vec<LogMoment>, AllocError>
     ensures { IfOk result (λ out. out.items ≡ spec.happenings entries.now) }
 {
-    let begins = begins_of(alloc, entries)?;
-    let begins = in_order(alloc, begins.as_slice())?;
-    let moments = moments_of(alloc, begins.as_slice())?;
-    in_order(alloc, moments.as_slice())
+    let mut begins = begins_of(alloc, entries)?;
+    sort(&mut begins)?;
+    let mut moments = moments_of(alloc, begins.as_slice())?;
+    sort(&mut moments)?;
+    Ok(moments)
 }

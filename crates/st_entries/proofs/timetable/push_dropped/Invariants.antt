@@ -1,6 +1,6 @@
 -- What is left of the dropped entries goes behind the others, its last one first.
 use Rattle.std.proofs.Common.{◌≡◌, ◌++◌, length, reverse}
-use Rattle.st_entries.proofs.timetable.settle.Given as goal
+use Rattle.st_entries.proofs.timetable.push_dropped.Given as goal
 
 abbrev pub invariant-entries : goal.invariant-entries
 invariant-entries l = l.entries.items ++ reverse l.dropped.items ≡ l.fn.entries.items ++ reverse l.fn.dropped.items

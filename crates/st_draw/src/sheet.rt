@@ -1,0 +1,49 @@
+//! The sheet on which the rows of a picture stand.
+ghost use Rattle.std.specs.Prelude.{◌≡◌, ◌≤◌};
+ghost use Rattle.st_draw.specs.Drawing as spec;
+ghost use Rattle.st_draw.specs.Drawing.{IsSheet};
+
+use crate::axis::{Axis, Room, at, axis_of};
+use st_entries::{DrawnEntry, widest};
+
+/// What all rows of a picture share.
+#[derive(Clone, Copy)]
+pub struct Sheet {
+    /// The room of the axis.
+    pub room: Room,
+    /// The ticks that are shown.
+    pub axis: Axis,
+    /// The lower end of the rows.
+    pub bottom: u128,
+}
+
+// The room of the axis, behind cards of so many characters.
+fn room_behind(characters: u16) -> Room
+    requires { characters ≤ 40 }
+    ensures { result ≡ spec.room_behind characters }
+{
+    Room {
+        left: 124 + 7 * characters,
+        width: 504 - 7 * characters,
+    }
+}
+
+/// The sheet of entries.
+pub fn sheet_of(report: &[u8], entries: &[DrawnEntry]) -> Sheet
+    ensures value { result ≡ spec.sheet report.now entries.now }
+    ensures good { IsSheet result }
+{
+    Sheet {
+        room: room_behind(widest(report, entries) as u16),
+        axis: axis_of(entries, 1),
+        bottom: 36 + 16 * entries.len() as u128,
+    }
+}
+
+/// Where a tick stands on a sheet.
+pub fn across(sheet: &Sheet, tick: u64) -> u128
+    requires { IsSheet sheet.now }
+    ensures { result ≡ spec.x_of sheet.now tick }
+{
+    u128::from(at(sheet.room, sheet.axis, tick))
+}
