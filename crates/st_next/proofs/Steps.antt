@@ -1,24 +1,22 @@
 -- One step of the entry that is prepared next, whatever the state before it is.
 use Rattle.std.proofs.Common.{◌≡◌, ℕ, zero, suc, ◌≤◌, ◌<◌, max, Bool, true, false, List, ◌++◌, map, inl, inr, Option, refl, sym, subst, ◌∙◌, ap, arith}
-use Rattle.std.specs.Prelude.{IfSome, option_map, is_none, ◌&&◌}
+use Rattle.std.specs.Prelude.{IfSome}
 use Rattle.st_state.specs.Machine.{Machine, word}
 use Rattle.st_prep.specs.declared.entries.Fetched.{Fetched}
 use Rattle.st_prep.specs.declared.entries.Fetching.{Fetching as Giving}
 use Rattle.st_prep.specs.declared.entries.Fetching.TheVariants.{Next as GivenWord, Found as GivenAll}
 use Rattle.st_prep.specs.declared.entries.Place.{Place}
 use Rattle.st_prep.specs.Fetch.{index_words, place_of, words_fetched as fetched_at}
-use Rattle.st_prep.specs.Plan.{Sight, sight_of, sight, needs, prepared_entry}
+use Rattle.st_prep.specs.Plan.{Sight, sight_of, sight, needs}
 use Rattle.st_prep.specs.Reading.{reading_at_place, left_after, fetching_of}
 use Rattle.st_rows.specs.Rows.{fetch_word, wanted_from, tick_a, bus_a, tick_p}
 use Rattle.st_rows.specs.declared.entry.WordRun.{WordRun}
-use Rattle.st_rows.specs.declared.entry.WordRuns.{WordRuns}
-use Rattle.st_rows.specs.declared.entry.Entry.{Entry}
 use Rattle.st_rows.specs.declared.fetching.Fetching.{Fetching}
 use Rattle.st_rows.specs.declared.front.Front.{Front}
 use Rattle.st_segment.specs.Alone.{words_of_run}
-use Rattle.st_segment.specs.Entries.{reading_at, entry, side_to_read, words_to_read, words_to_write}
+use Rattle.st_segment.specs.Entries.{reading_at, entry, entry_with}
 use Rattle.st_segment.proofs.EntryRanges.{entry-ranges}
-use Rattle.st_segment.proofs.KnownEarly.{known-early}
+use Rattle.st_segment.proofs.KnownEarly.{entry-seen}
 use Rattle.st_next.specs.Words.{run_with_word}
 use Rattle.st_next.specs.Known.{IsStateBefore}
 use Rattle.st_next.specs.Progress.{IsReadOn, IsPlanned, preparation_without_side, Rests}
@@ -47,46 +45,9 @@ sight-same now f x s u t p fd is place found =
     ∙ ap (λ on. sight_with (place_of u t) (fetched_at u (place_of u t)) (index_words u) (word u 3) on) (sym is.enabled)
 
 -- so is the entry
-abbrev entry_with : WordRun → WordRun → Option ℕ → WordRuns → WordRuns → ℕ → Bool → Bool → Entry
-entry_with own target side reads writes cost serial follows = record {
-  own = own;
-  target = target;
-  side = side;
-  reads = reads;
-  writes = writes;
-  cost = cost;
-  serial = serial;
-  follows = follows;
-}
-
-same_fields : (o p g h : WordRun) (a b : Option ℕ) (r q v w : WordRuns) (m n : ℕ) (c d e f : Bool) → o ≡ p → g ≡ h → a ≡ b → r ≡ q → v ≡ w → m ≡ n → c ≡ d → e ≡ f
-    → entry_with o g a r v m c e ≡ entry_with p h b q w n d f
-same_fields o p g h a b r q v w m n c d e f e1 e2 e3 e4 e5 e6 e7 e8 = cc
-
-abbrev pub entry_seen : WordRun → WordRun → Sight → Entry
-entry_seen own target v =
-    let p = preparation_without_side v in
-    entry_with own target (side_to_read (needs v).index_read) (words_to_read p.reads) (words_to_write p.writes) p.cost p.serial
-    (is_none v.place.table && is_none v.fetched.fault)
-
-follows-same : (t : Option ℕ) (u : Machine) → let v = sight u (place_of u t) in (is_none v.place.table && is_none v.fetched.fault) ≡ (entry t u).follows
-unfolding entry sight place_of
-follows-same t u = refl
-
-entry-whole : (t : Option ℕ) (u : Machine) (own target : WordRun) → own ≡ (entry t u).own → target ≡ (entry t u).target
-    → entry_seen own target (sight u (place_of u t)) ≡ entry t u
-entry-whole t u own target o g =
-    let v = sight u (place_of u t) in
-    let q = option_map (λ w. 0) (needs v).index_read in
-    let k = known-early t u q in
-    same_fields own (entry t u).own target (entry t u).target (side_to_read (needs v).index_read) (entry t u).side
-    (words_to_read (prepared_entry v q).reads) (entry t u).reads (words_to_write (prepared_entry v q).writes) (entry t u).writes
-    (prepared_entry v q).cost (entry t u).cost (prepared_entry v q).serial (entry t u).serial _ (entry t u).follows
-    o g (sym k.4) (sym k.0) (sym k.1) (sym k.2) (sym k.3) (follows-same t u)
-
 pub entry-same : (t : Option ℕ) (u : Machine) (own target : WordRun) (v : Sight) → own ≡ (entry t u).own → target ≡ (entry t u).target
-    → v ≡ sight u (place_of u t) → entry_seen own target v ≡ entry t u
-entry-same t u own target v o g e = ap (λ v. entry_seen own target v) e ∙ entry-whole t u own target o g
+    → v ≡ sight u (place_of u t) → entry_with own target (needs v) (preparation_without_side v) v.place.table v.fetched.fault ≡ entry t u
+entry-same t u own target v o g e = rw (o, g, e) (sym (entry-seen t u _))
 
 -- an entry that is prepared so far is planned
 pub record IsPlannedAs (ds : List ℕ) (n : ℕ) (f : Front) (before after : Next) : Type 0 where

@@ -1,5 +1,5 @@
 -- How the entry that is prepared next goes on, and what it takes for granted.
-use Rattle.std.specs.Prelude.{ℕ, ◌≡◌, ◌+◌, ◌-◌, ◌^◌, ◌≤◌, true, ◌&&◌, List, ◌++◌, All, map, Option, is_none}
+use Rattle.std.specs.Prelude.{ℕ, ◌≡◌, ◌+◌, ◌-◌, ◌^◌, ◌≤◌, true, List, ◌++◌, All, map, Option}
 use Rattle.st_bits.specs.declared.limits.TheConstants.{MOST_DELAY}
 use Rattle.st_state.specs.Machine.{Machine, word}
 use Rattle.st_prep.specs.declared.entries.Fetched.{Fetched}
@@ -16,7 +16,7 @@ use Rattle.st_rows.specs.declared.fetching.Fetching.{Fetching}
 use Rattle.st_rows.specs.declared.front.Front.{Front}
 use Rattle.st_rows.specs.declared.log.Made.{Made}
 use Rattle.st_segment.specs.Alone.{words_of_run}
-use Rattle.st_segment.specs.Entries.{entry, side_to_read, words_to_read, words_to_write, IsTable}
+use Rattle.st_segment.specs.Entries.{entry, entry_with, IsTable}
 use Rattle.st_next.specs.Known.{IsStateBefore}
 use Rattle.st_next.specs.Progress.{IsNext, Rests, reads_so_far, preparation_without_side}
 use Rattle.st_next.specs.declared.next.Next.{Next}
@@ -51,16 +51,8 @@ pub record IsEarly (f : Front) (words : Fetching) : Type 0 where
 
 -- an entry as the timetable sees it, by what is fetched, what it needs and what it is prepared to
 abbrev pub as_entry : Next → Entry
-as_entry next = record {
-  own = next.own;
-  target = next.target;
-  side = side_to_read next.needs.index_read;
-  reads = words_to_read next.prepared.reads;
-  writes = words_to_write next.prepared.writes;
-  cost = next.prepared.cost;
-  serial = next.prepared.serial;
-  follows = is_none next.place.table && is_none next.fetched.fault;
-}
+as_entry next = entry_with next.own next.target next.needs next.prepared next.place.table
+    next.fetched.fault
 
 -- an entry of which this is fetched, prepared as far as it goes without its index-side word
 abbrev pub prepared_as : Fetched → List ℕ → Machine → Next → Next

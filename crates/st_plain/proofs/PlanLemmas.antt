@@ -1,15 +1,14 @@
 -- The next entry of a state as it is planned, and as the timetable sees it.
-use Rattle.std.specs.Prelude.{is_none, ◌&&◌}
-use Rattle.std.proofs.Common.{◌≡◌, ℕ, List, Option, take, drop, subst, ◌∙◌, ap}
+use Rattle.std.proofs.Common.{◌≡◌, ℕ, List, Option, take, drop, refl, subst, ◌∙◌}
 use Rattle.st_state.specs.Machine.{Machine, word}
 use Rattle.st_prep.specs.Fetch.{index_words, place_of, reading_of, words_fetched}
-use Rattle.st_prep.specs.Plan.{sight, needs, plan}
+use Rattle.st_prep.specs.Plan.{sight, plan}
 use Rattle.st_prep.specs.Reading.{words_read, own_words}
 use Rattle.st_prep.specs.declared.entries.Place.{Place}
 use Rattle.st_prep.specs.declared.entries.Prepared.{Prepared}
 use Rattle.st_segment.specs.Entries.{run_of, instruction_words, own_count, entry}
 use Rattle.st_plain.specs.Looking.{side_at, executes_at, executed_code, known_at}
-use Rattle.st_plain.specs.Straight.{entry_shown, IsEntryPlanned}
+use Rattle.st_plain.specs.Straight.{IsEntryPlanned}
 use Rattle.st_plain.specs.declared.entries.Planned.{Planned}
 
 -- it is planned at this place, by all that it reads
@@ -33,10 +32,5 @@ module _ (s : Machine) (table : Option ℕ) (q : Place) (x : List ℕ) (p : Prep
   known-planned = there.known
 
   pub entry-planned : e.entry ≡ entry table s
-  unfolding entry instruction_words own_count entry_shown sight place_of
-  entry-planned =
-      let q = place_of s table in
-      let r = reading_of s q in
-      there.entry
-      ∙ ap (λ p. entry_shown (run_of (take (own_words r (word s)) (words_read r (word s)))) (run_of (drop (own_words r (word s)) (words_read r (word s))))
-      (needs (sight s q)) p (is_none table && is_none (words_fetched s q).fault)) plan-planned
+  unfolding entry instruction_words own_count sight place_of
+  entry-planned = there.entry ∙ rw plan-planned refl

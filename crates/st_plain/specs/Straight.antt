@@ -1,15 +1,13 @@
 -- An entry that is planned at once: its words, and what the timetable sees of it.
-use Rattle.std.specs.Prelude.{ℕ, ◌+◌, ◌≡◌, Bool, true, false, ◌&&◌, is_none, List, [], ◌∷◌, ◌++◌, length}
+use Rattle.std.specs.Prelude.{ℕ, ◌+◌, ◌≡◌, Bool, true, false, List, [], ◌∷◌, ◌++◌, length}
 use Rattle.st_state.specs.Machine.{Machine}
 use Rattle.st_prep.specs.Plan.{sight_of, needs, prepared_entry, side_of}
 use Rattle.st_prep.specs.Reading.{Reading, outcome, words_read, own_words, is_execute}
 use Rattle.st_prep.specs.declared.entries.Place.{Place}
 use Rattle.st_prep.specs.declared.entries.Fetched.{Fetched}
-use Rattle.st_prep.specs.declared.entries.Needs.{Needs}
 use Rattle.st_prep.specs.declared.entries.Prepared.{Prepared}
-use Rattle.st_segment.specs.Entries.{words_to_read, words_to_write, side_to_read}
+use Rattle.st_segment.specs.Entries.{entry_with}
 use Rattle.st_rows.specs.declared.entry.WordRun.{WordRun}
-use Rattle.st_rows.specs.declared.entry.Entry.{Entry}
 use Rattle.st_plain.specs.Looking.{code_found}
 use Rattle.st_plain.specs.declared.entries.Planned.{Planned}
 
@@ -29,27 +27,12 @@ if_more false w = []
 
 -- ---- the entry
 
--- what the timetable sees of an entry, by its runs of instruction words, by what it needs and what
--- it is
-unfoldable pub entry_shown : WordRun → WordRun → Needs → Prepared → Bool → Entry
-entry_shown own target n p follows = record {
-  own = own;
-  target = target;
-  side = side_to_read n.index_read;
-  reads = words_to_read p.reads;
-  writes = words_to_write p.writes;
-  cost = p.cost;
-  serial = p.serial;
-  follows = follows;
-}
-
 -- the entry at a place of a state is planned, by what is fetched there, by its runs of instruction
 -- words and by the index words
 pub record IsEntryPlanned (s : Machine) (x : List ℕ) (q : Place) (f : Fetched)
     (own target : WordRun) (p : Prepared) (e : Planned) : Type 0 where
   pub plan : let v = sight_of q f x s in p ≡ prepared_entry v (side_of s v)
-  pub entry : e.entry ≡ entry_shown own target (needs (sight_of q f x s)) p
-      (is_none q.table && is_none f.fault)
+  pub entry : e.entry ≡ entry_with own target (needs (sight_of q f x s)) p q.table f.fault
   pub known : e.known ≡ record {
     side = (needs (sight_of q f x s)).index_read;
     execute = is_execute f.instr.instr;

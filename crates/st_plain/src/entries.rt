@@ -1,5 +1,5 @@
 //! The next entry of a state, as the timetable sees it.
-ghost use Rattle.std.specs.Prelude.{◌≡◌, ℕ, ◌+◌, ◌/◌, ◌<◌, ◌≤◌, ◌^◌, ◌∷◌, ◌&&◌, false, None, is_none, if◌then◌else◌, IfSome, length, take, drop};
+ghost use Rattle.std.specs.Prelude.{◌≡◌, ℕ, ◌+◌, ◌/◌, ◌<◌, ◌≤◌, ◌^◌, ◌∷◌, false, None, if◌then◌else◌, IfSome, length, take, drop};
 ghost use Rattle.st_format.specs.Formats.{decoded_entry, instruction_of, spelled_as};
 ghost use Rattle.st_state.specs.Boundary.{forbidden_by};
 ghost use Rattle.st_state.specs.Machine.{IsMachine, word};
@@ -10,8 +10,8 @@ ghost use Rattle.st_prep.specs.Ranges.{HasFields, IsPlace, IsFetched, IsNeeds, I
 ghost use Rattle.st_prep.specs.Reading.{Use, words_read, own_words, half_of as half_by, with_second as with_second_of, with_first as with_first_of, instruction_at, is_execute as is_execute_of, fetched_plain, allowed_found};
 ghost use Rattle.st_plain.specs.Looking.{known_at};
 ghost use Rattle.st_rows.specs.Ranges.{IsEntryInTime};
-ghost use Rattle.st_plain.specs.Straight.{IsReadOver, if_more, entry_shown, IsEntryPlanned};
-ghost use Rattle.st_segment.specs.Entries.{run_of as run_by, entry as entry_of};
+ghost use Rattle.st_plain.specs.Straight.{IsReadOver, if_more, IsEntryPlanned};
+ghost use Rattle.st_segment.specs.Entries.{run_of as run_by, entry as entry_of, entry_with};
 
 use crate::known::{Code, Known, code_found, code_in};
 use st_bits::part;
@@ -91,13 +91,6 @@ fn find(place: &Place, x: &[u64; 16], state: &State) -> Found
             }
         }
     }
-}
-
-// Whether following words are asked for.
-fn asks_for_following(table: Option<u8>, fault: Option<u8>) -> bool
-    ensures { result ≡ (is_none table && is_none fault) }
-{
-    table.is_none() && fault.is_none()
 }
 
 // Prepares the entry at `p.place` once more, by its index-side word, which it asks for.
@@ -276,10 +269,9 @@ pub struct Planned {
 
 // What is known of an entry that is found and prepared; `table` has the indicator of its interrupt.
 #[inline(always)]
-#[tactic(auto, unfolding(crate::specs::Straight::entry_shown))]
 fn show(found: &Found, table: Option<u8>, code: Option<Code>, needs: Needs, p: &Prepared) -> Planned
-    ensures entry { result.entry ≡ entry_shown found.now.own found.now.target needs p.now
-        (is_none table && is_none found.now.fetched.fault) }
+    ensures entry { result.entry ≡ entry_with found.now.own found.now.target needs p.now table
+        found.now.fetched.fault }
     ensures known { result.known ≡ record {
       side = needs.index_read;
       execute = is_execute_of found.now.fetched.instr.instr;
@@ -295,7 +287,7 @@ fn show(found: &Found, table: Option<u8>, code: Option<Code>, needs: Needs, p: &
             writes: words_to_write(p.writes),
             cost: p.cost,
             serial: p.serial,
-            follows: asks_for_following(table, found.fetched.fault),
+            follows: table.is_none() && found.fetched.fault.is_none(),
         },
         known: Known {
             side: needs.index_read,

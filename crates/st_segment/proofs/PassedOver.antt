@@ -7,8 +7,8 @@ use Rattle.st_state.specs.Machine.{Machine, IsMachine, with_word, state_with_sto
 use Rattle.st_prep.specs.BesideOrders.{AreAlikeBesideOrders}
 use Rattle.st_prep.specs.declared.entries.IndexChange.{IndexChange}
 use Rattle.st_prep.specs.declared.entries.Prepared.{Prepared}
-use Rattle.st_prep.specs.Fetch.{index_words, place_of}
-use Rattle.st_prep.specs.Plan.{sight, plan}
+use Rattle.st_prep.specs.Fetch.{index_words}
+use Rattle.st_prep.specs.Plan.{plan}
 use Rattle.st_prep.proofs.BesideLemmas.{plan-beside_ahead}
 use Rattle.st_prep.proofs.PlanLemmas.{plan-prepared}
 use Rattle.st_exec.specs.Completion.{with_change, state_with_early_changes, guessed_state, guess}
@@ -18,24 +18,20 @@ use Rattle.st_exec.proofs.UnwrittenLemmas.{guessed-machine}
 use Rattle.st_rows.specs.Rows.{row_of_entry, front_after_entry}
 use Rattle.st_rows.specs.declared.entry.Entry.{Entry}
 use Rattle.st_rows.specs.declared.front.Front.{Front}
-use Rattle.st_segment.specs.Entries.{instruction_words, own_count, entry}
+use Rattle.st_segment.specs.Entries.{entry}
 use Rattle.st_segment.specs.Guesses.{guesses, table_behind, after_early_change, split_words}
 use Rattle.st_segment.specs.Ahead.{next_ahead, ahead}
 use Rattle.st_segment.specs.Alone.{RunAhead, IsSameAhead}
-use Rattle.st_segment.proofs.KnownEarly.{entry_seen, entry-seen}
+use Rattle.st_segment.proofs.KnownEarly.{entry-seen}
 use Rattle.st_segment.proofs.SameReading.{same-index, same-sight, same-instruction}
 
 -- ---- the next entry
 
 pub entry-same : (t : Option ℕ) (s u : Machine) → AreAlikeBesideOrders s u → entry t u ≡ entry t s
+unfolding entry
 entry-same t s u h =
     let words = same-instruction s u t h in
-    let v = sight u (place_of u t) in
-    entry-seen t u
-    ∙ ap (λ ws. entry_seen t ws (own_count t u) v) words.0
-    ∙ ap (λ n. entry_seen t (instruction_words t s) n v) words.1
-    ∙ ap (entry_seen t (instruction_words t s) (own_count t s)) (same-sight s u t h)
-    ∙ sym (entry-seen t s)
+    entry-seen t u None ∙ rw (words.0, words.1, same-sight s u t h) (sym (entry-seen t s None))
 
 pub plan-same : (s u : Machine) → AreAlikeBesideOrders s u → (plan s None).serial ≡ false → plan u None ≡ plan s None
 plan-same s u h free = plan-beside_ahead s u None h free

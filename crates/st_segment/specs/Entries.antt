@@ -1,10 +1,12 @@
 -- The next entry of a state, as the timetable sees it.
-use Rattle.std.specs.Prelude.{ℕ, ◌-◌, suc, Bool, ◌&&◌, nat_le, if◌then◌else◌, is_none, List, [], ◌∷◌, length, take, drop, Option, None, Some, IfSome, ◌<◌}
+use Rattle.std.specs.Prelude.{ℕ, ◌-◌, suc, ◌&&◌, nat_le, if◌then◌else◌, is_none, List, [], ◌∷◌, length, take, drop, Option, None, Some, IfSome, ◌<◌}
 use Rattle.st_bits.specs.declared.register.TheConstants.{FIRST_STORAGE_WORD}
 use Rattle.st_state.specs.Machine.{Machine, word}
 use Rattle.st_prep.specs.Fetch.{place_of, reading_of, words_fetched}
 use Rattle.st_prep.specs.Plan.{needs, sight, plan}
 use Rattle.st_prep.specs.Reading.{Reading, words_read, own_words}
+use Rattle.st_prep.specs.declared.entries.Needs.{Needs}
+use Rattle.st_prep.specs.declared.entries.Prepared.{Prepared}
 use Rattle.st_prep.specs.declared.entries.Words.{Words}
 use Rattle.st_rows.specs.declared.entry.WordRun.{WordRun}
 use Rattle.st_rows.specs.declared.entry.WordRuns.{WordRuns}
@@ -41,7 +43,24 @@ unfoldable pub side_to_read : Option ℕ → Option ℕ
 side_to_read None = None
 side_to_read (Some w) = if nat_le FIRST_STORAGE_WORD w then Some w else None
 
--- ---- instruction words
+-- ---- from what is found and prepared
+
+-- an entry by its instruction words, its own and those of the target of EX, by what it needs and
+-- how it is prepared, and by two indicators: of the interrupt whose table instruction it is, and of
+-- a word of it that may not be fetched. Following words are asked for where there is neither
+abbrev pub entry_with : WordRun → WordRun → Needs → Prepared → Option ℕ → Option ℕ → Entry
+entry_with own target n p table fault = record {
+  own = own;
+  target = target;
+  side = side_to_read n.index_read;
+  reads = words_to_read p.reads;
+  writes = words_to_write p.writes;
+  cost = p.cost;
+  serial = p.serial;
+  follows = is_none table && is_none fault;
+}
+
+-- ---- from a state
 
 -- the indicator by which an interrupt was taken, 0 to 63, where an entry is its table instruction
 abbrev pub IsTable : Option ℕ → Type 0
@@ -60,22 +79,9 @@ module _ (table : Option ℕ) (s : Machine) where
   unfoldable pub own_count : ℕ
   own_count = own_words reading_at (word s)
 
-  -- ---- the entry
-
-  -- following words are asked for but by a table instruction, and where an instruction word may not
-  -- be fetched
-  abbrev pub asks_for_following : Bool
-  asks_for_following = is_none table && is_none (words_fetched s (place_of s table)).fault
-
   -- the next entry of a state, or its table instruction
   unfoldable pub entry : Entry
-  entry = record {
-    own = run_of (take own_count instruction_words);
-    target = run_of (drop own_count instruction_words);
-    side = side_to_read (needs (sight s (place_of s table))).index_read;
-    reads = words_to_read (plan s table).reads;
-    writes = words_to_write (plan s table).writes;
-    cost = (plan s table).cost;
-    serial = (plan s table).serial;
-    follows = asks_for_following;
-  }
+  entry = let place = place_of s table in
+      entry_with (run_of (take own_count instruction_words))
+      (run_of (drop own_count instruction_words)) (needs (sight s place)) (plan s table) table
+      (words_fetched s place).fault
