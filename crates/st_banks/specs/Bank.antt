@@ -1,11 +1,11 @@
 -- The banks of storage: which words are in each, and until when it is busy.
 use Rattle.std.specs.Prelude.{ℕ, ◌+◌, ◌%◌, max, nat_lt, nat_le, if◌then◌else◌, List, replicate, slice_index, slice_set, Option, None, Some}
 use Rattle.st_banks.specs.Delay.{answer_tick}
-use Rattle.st_banks.specs.declared.answers.TheConstants.{BANKS}
+use Rattle.st_banks.specs.declared.answers.TheConstants.{BANKS, LOW_WORDS}
 
--- the bank of a word: the first 65,536 words lie in four banks in turn, the others in two
+-- the bank of a word: the first words lie in four banks in turn, the others in two
 unfoldable pub bank_of : ℕ → ℕ
-bank_of w = if nat_lt w 65536 then w % 4 else 4 + w % 2
+bank_of w = if nat_lt w LOW_WORDS then w % 4 else 4 + w % 2
 
 -- of the last answers of all banks, by their numbers, that of the bank that the word is in
 abbrev pub last_of : List ℕ → ℕ → ℕ

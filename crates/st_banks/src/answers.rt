@@ -5,8 +5,8 @@ ghost use Rattle.st_banks.specs.Bank.{bank_of as bank_by};
 /// The number of banks.
 pub const BANKS: usize = 6;
 
-// The number of words that lie in the first four banks.
-const LOW_WORDS: u32 = 65_536;
+/// The number of words that lie in the first four banks.
+pub const LOW_WORDS: u32 = 65_536;
 
 /// The tick of each bank's last answer, 0 before its first read. Contracts see the list of them.
 #[derive(Clone, Copy, Debug, Default, PartialEq, Eq)]
@@ -57,9 +57,10 @@ impl LastAnswers {
     }
 }
 
-// The bank of the word `w`.
+/// The bank of the word `w`.
+#[inline(always)]
 #[tactic(auto, unfolding(crate::specs::Bank::bank_of))]
-fn bank_of(w: u32) -> usize
+pub fn bank_of(w: u32) -> usize
     ensures value { result ≡ bank_by w }
     ensures bound { result < BANKS }
 {
