@@ -1,5 +1,6 @@
 //! What is asked of a state and of an entry on the way from one entry to the next.
-ghost use Rattle.std.specs.Prelude.{◌≡◌, ◌+◌, ◌<◌, ◌≤◌, ◌^◌, ◌||◌, [], not, nat_eq, if◌then◌else◌, is_some, option_map, Some, None, IfSome};
+ghost use Rattle.std.specs.Prelude.{◌≡◌, ◌+◌, ◌<◌, ◌≤◌, ◌^◌, ◌||◌, [], not, nat_eq, if◌then◌else◌, is_some, option_map, Some, None};
+ghost use Rattle.st_bits.specs.Indicators.{IsIndicatorIfAny};
 ghost use Rattle.st_bits.specs.declared.limits.TheConstants.{MOST_DELAY, MOST_INSTRUCTIONS};
 ghost use Rattle.st_prep.specs.Plan.{plan as plan_of};
 ghost use Rattle.st_prep.specs.Ranges.{IsPrepared};
@@ -93,7 +94,7 @@ pub(crate) fn count_on(
     last: &mut Last,
     log: &mut Log,
 )
-    requires indicator { IfSome taken (λ i. i < 64) }
+    requires indicator { IsIndicatorIfAny taken }
     requires tight { IsTight MOST_DELAY last.old.front }
     requires early { last.old.front.c ≤ 2 ^ 63 }
     requires past { last.old.past ≡ last.old.front.past }

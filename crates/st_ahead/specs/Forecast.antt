@@ -1,6 +1,7 @@
 -- What a machine keeps of what runs ahead: its levels, the front behind them, the log of reads, and
 -- the entry that is prepared next.
 use Rattle.std.specs.Prelude.{ℕ, ◌≡◌, ◌+◌, ◌*◌, ◌≤◌, ◌<◌, Bool, true, false, not, ◌||◌, ◌==◌, List, [], ◌++◌, length, All, flat_map, Option}
+use Rattle.st_bits.specs.Indicators.{IsIndicatorIfAny}
 use Rattle.st_bits.specs.declared.limits.TheConstants.{MOST_DELAY}
 use Rattle.st_state.specs.Machine.{Machine, IsMachine}
 use Rattle.st_prep.specs.Fetch.{index_words, place_of}
@@ -9,7 +10,6 @@ use Rattle.st_rows.specs.Ranges.{IsTight, most_ticks_of_entry}
 use Rattle.st_rows.specs.Asked.{Read, reads_of_entry}
 use Rattle.st_rows.specs.declared.front.Front.{Front}
 use Rattle.st_rows.specs.declared.log.Made.{Made}
-use Rattle.st_segment.specs.Entries.{IsTable}
 use Rattle.st_segment.specs.Ahead.{Ahead, ahead}
 use Rattle.st_segment.specs.Guesses.{guesses, table_behind}
 use Rattle.st_ring.specs.Levels.{LevelsView, AreAhead, AreFull, AreNotDone}
@@ -55,7 +55,7 @@ reads_ahead ds n t s f v = asked_ahead ds n (count v) t s f ++ reads_so_far ds v
 pub record IsForecast (ds : List ℕ) (n tick now first rest : ℕ) (t : Option ℕ) (s : Machine)
     (f : Front) (v : LookaheadView) : Type 0 where
   pub machine : IsMachine s
-  pub indicator : IsTable t
+  pub indicator : IsIndicatorIfAny t
   pub ahead : AreAhead ds n tick t s f v.front v.levels
   pub prepared : All (λ level. level.p < now) v.levels.ring
   pub not_done : AreNotDone tick v.levels

@@ -1,10 +1,11 @@
 -- What runs ahead while a machine goes on by one tick, between its steps.
 use Rattle.std.specs.Prelude.{ℕ, ◌≡◌, ◌+◌, ◌-◌, ◌^◌, ◌≤◌, ◌<◌, true, List, Option, None, Some}
+use Rattle.st_bits.specs.Indicators.{IsIndicatorIfAny}
 use Rattle.st_state.specs.Machine.{Machine}
 use Rattle.st_rows.specs.Ranges.{IsEntryInTime}
 use Rattle.st_rows.specs.Rows.{row_of_entry}
 use Rattle.st_rows.specs.declared.front.Front.{Front}
-use Rattle.st_segment.specs.Entries.{entry, IsTable}
+use Rattle.st_segment.specs.Entries.{entry}
 use Rattle.st_segment.specs.Guesses.{guesses, table_behind}
 use Rattle.st_segment.specs.Alone.{RunAhead}
 use Rattle.st_next.specs.Known.{IsStateBefore}
@@ -63,7 +64,7 @@ module _ (ds : List ℕ) (n : ℕ) where
     pub run : RunAhead (count v) t s
     pub before : IsStateBefore now v.front.past v.levels.x s (guesses (count v) t s)
     pub is_next : IsNext ds n (table_behind (count v) t) (guesses (count v) t s) v.front v.next
-    pub indicator : IsTable (table_behind (count v) t)
+    pub indicator : IsIndicatorIfAny (table_behind (count v) t)
     pub range : IsEntryInTime v.next.entry
     pub alone : v.next.entry.serial ≡ true → guesses (count v) t s ≡ s
     pub room : count v < n

@@ -1,5 +1,6 @@
 -- What a machine keeps, so that it stands for what it does.
 use Rattle.std.specs.Prelude.{ℕ, ◌≡◌, ◌+◌, ◌<◌, ◌≤◌, ◌^◌, Bool, true, false, if◌then◌else◌, All, List, Option, None, Some}
+use Rattle.st_bits.specs.Indicators.{IsIndicatorIfAny}
 use Rattle.st_bits.specs.declared.limits.TheConstants.{MOST_DELAY}
 use Rattle.st_state.specs.Machine.{Machine, IsMachine}
 use Rattle.st_banks.specs.declared.answers.LastAnswers.{LastAnswers}
@@ -9,7 +10,6 @@ use Rattle.st_rows.specs.Rows.{opening_front}
 use Rattle.st_ring.specs.Levels.{oldest_front}
 use Rattle.st_ahead.specs.Overlap.{Overlap, state_ahead, interrupt_due, last_tick_made}
 use Rattle.st_ahead.specs.Forecast.{LookaheadView, IsLookahead, IsOpened}
-use Rattle.st_segment.specs.Entries.{IsTable}
 
 -- the last answers of the banks by the reads that are accepted before the tick
 abbrev pub answers_before : ℕ → LookaheadView → LastAnswers
@@ -56,7 +56,7 @@ pub record IsInside (m : Overlap) (fresh : Bool) (v : LookaheadView) : Type 0 wh
   pub some : 1 ≤ m.levels
   pub few : m.levels ≤ 8
   pub lookahead : IsLookaheadOf m.ended m v
-  pub indicator : IsTable m.taken
+  pub indicator : IsIndicatorIfAny m.taken
   pub in_time : IsInTime m.owed m.now
   pub settled : m.owed ≡ false → (fresh ≡ false) × (m.ended ≡ false) × (m.stopped ≡ false)
   pub quiet : fresh ≡ false →

@@ -1,5 +1,6 @@
 -- What the next entry is known by, while it is not there yet.
-use Rattle.std.specs.Prelude.{◌≡◌, ℕ, ◌+◌, ◌<◌, ◌≤◌, ◌^◌, true, List, ◌++◌, map, Option, IfSome, All, suc, None}
+use Rattle.std.specs.Prelude.{◌≡◌, ℕ, ◌+◌, ◌<◌, ◌≤◌, ◌^◌, true, List, ◌++◌, map, Option, All, suc, None}
+use Rattle.st_bits.specs.Indicators.{IsIndicatorIfAny}
 use Rattle.st_bits.specs.declared.limits.TheConstants.{MOST_DELAY}
 use Rattle.st_state.specs.Machine.{Machine, IsMachine, word}
 use Rattle.st_prep.specs.Fetch.{place_of, words_fetched as fetched_at}
@@ -32,7 +33,7 @@ OpenLevelsRunAhead = (ds : List ℕ) (n now : ℕ) (t : Option ℕ) (s : Machine
 abbrev pub NextEntriesAreKnown : Type 0
 NextEntriesAreKnown = (ds : List ℕ) (n tick now : ℕ) (t : Option ℕ) (s : Machine) (f : Front)
     (v : LookaheadView) →
-    IsMachine s → IfSome t (λ i. i < 64) → AreAhead ds n tick t s f v.front v.levels →
+    IsMachine s → IsIndicatorIfAny t → AreAhead ds n tick t s f v.front v.levels →
     AreNotDone now v.levels → count v ≤ 8 → RunAhead (count v) t s →
     IsStateBefore now v.front.past v.levels.x s (guesses (count v) t s)
 
@@ -71,7 +72,7 @@ pub record InstructionWordsAreThoseOfTheRun : Type 0 where
 abbrev pub OpeningsLookAhead : Type 0
 OpeningsLookAhead = (ds : List ℕ) (n tick now start : ℕ) (t : Option ℕ) (s : Machine)
     (banks : LastAnswers) (v : LookaheadView) →
-    IsOpened t s (opening_front banks start) v → IsMachine s → IfSome t (λ i. i < 64) →
+    IsOpened t s (opening_front banks start) v → IsMachine s → IsIndicatorIfAny t →
     All (λ b. b ≤ start + MOST_DELAY) banks.ticks → now ≤ start → start ≤ now + 9 →
     IsLookahead ds n tick now t s (opening_front banks start) v
 

@@ -1,5 +1,6 @@
 -- What runs ahead of a machine that makes ticks and goes on behind each.
 use Rattle.std.specs.Prelude.{ℕ, ◌≡◌, ◌+◌, ◌-◌, ◌≤◌, true, false, All, List, Option, None, Some, is_none, if◌then◌else◌}
+use Rattle.st_bits.specs.Indicators.{IsIndicatorIfAny}
 use Rattle.st_bits.specs.declared.limits.TheConstants.{MOST_DELAY}
 use Rattle.st_state.specs.Machine.{Machine, IsMachine}
 use Rattle.st_exec.specs.Step.{interrupt, rests}
@@ -13,7 +14,6 @@ use Rattle.st_ahead.specs.Ticked.{IsDoneAt}
 use Rattle.st_ahead.specs.Inside.{answers_before}
 use Rattle.st_ahead.specs.declared.lookahead_run.Stop.{Stop}
 use Rattle.st_ahead.specs.declared.events.Settled.TheVariants.{Goes}
-use Rattle.st_segment.specs.Entries.{IsTable}
 
 -- no interrupt is due, and it is not at rest
 pub record IsAwake (t : Option ℕ) (s : Machine) : Type 0 where
@@ -49,7 +49,7 @@ module _ (ds : List ℕ) (n count last now : ℕ) (t : Option ℕ) (s : Machine)
     pub soon : tick ≤ last
     pub none_taken : k ≡ None
     pub machine : IsMachine state
-    pub indicator : IsTable table
+    pub indicator : IsIndicatorIfAny table
     pub done_at : IsDoneAt ds n tick table state front ahead u v done
     pub banks : banks_at_its_end (machine_between_ticks ds n state table front tick)
         ≡ answers_before tick v

@@ -1,6 +1,7 @@
 //! What runs ahead of a state: levels, the front behind them, a log of reads, and the entry that is
 //! prepared next.
-ghost use Rattle.std.specs.Prelude.{◌≡◌, ℕ, ◌+◌, ◌<◌, ◌≤◌, ◌-◌, ◌^◌, Option, IfSome, All, List};
+ghost use Rattle.std.specs.Prelude.{◌≡◌, ℕ, ◌+◌, ◌≤◌, ◌-◌, ◌^◌, Option, All, List};
+ghost use Rattle.st_bits.specs.Indicators.{IsIndicatorIfAny};
 ghost use Rattle.st_bits.specs.declared.limits.TheConstants.{MOST_DELAY};
 ghost use Rattle.st_state.specs.Machine.{Machine, IsMachine};
 ghost use Rattle.st_prep.specs.Fetch.{index_words as index_words_of};
@@ -52,7 +53,7 @@ impl<const N: usize> Lookahead<N> {
     pub fn new(state: &State, table: Option<u8>, banks: LastAnswers, start: u64) -> Lookahead<N>
         requires some { 1 ≤ N }
         requires few { N ≤ 8 }
-        requires indicator { IfSome table (λ i. i < 64) }
+        requires indicator { IsIndicatorIfAny table }
         requires early { start ≤ 2 ^ 64 - 1024 }
         requires banks { All (λ t. t ≤ start + MOST_DELAY) banks.ticks }
 
@@ -74,7 +75,7 @@ impl<const N: usize> Lookahead<N> {
     /// is dropped; the banks keep their last answers by the reads that are accepted before `now`,
     /// and the others are taken back. The result is the number of levels dropped.
     pub fn end(&mut self, state: &State, table: Option<u8>, now: u64) -> u8
-        requires indicator { IfSome table (λ i. i < 64) }
+        requires indicator { IsIndicatorIfAny table }
         requires early { now ≤ 2 ^ 64 - 2048 }
         requires near { All (λ b. b ≤ now + MOST_DELAY) (answers_before now self.old).ticks }
 
@@ -101,7 +102,7 @@ impl<const N: usize> Lookahead<N> {
     /// The same at a tick `now`, at most 2^64 - 2,048, at which no entry is done: nothing is kept
     /// of the reads, and the banks are idle. The result is the number of levels dropped.
     pub fn give_up(&mut self, state: &State, table: Option<u8>, now: u64) -> u8
-        requires indicator { IfSome table (λ i. i < 64) }
+        requires indicator { IsIndicatorIfAny table }
         requires early { now ≤ 2 ^ 64 - 2048 }
 
         // The levels are dropped, and the front starts anew.

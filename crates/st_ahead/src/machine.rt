@@ -1,5 +1,6 @@
 //! The overlapped machine, and the calls that drive it.
 ghost use Rattle.std.specs.Prelude.{◌≡◌, ◌<◌, ◌≤◌, ◌^◌, true, false, is_some, IsSome, IfSome, None, Some, option_map, get_or, length, ◌||◌};
+ghost use Rattle.st_bits.specs.Indicators.{IsIndicatorIfAny};
 
 use crate::events::{Event, LevelView, Row, Settled, View};
 use crate::lookahead::Lookahead;
@@ -237,7 +238,7 @@ impl<const N: usize> Machine<N> {
     // The interrupt that is taken before the next entry.
     fn interrupt_due(&self) -> Option<u8>
         ensures value { result ≡ interrupt_due_of self.entry.now }
-        ensures bound { IfSome result (λ i. i < 64) }
+        ensures bound { IsIndicatorIfAny result }
     {
         if self.present.taken.is_some() {
             return None;

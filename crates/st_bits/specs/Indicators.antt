@@ -1,6 +1,10 @@
 -- Indicators as the bits of a word.
-use Rattle.std.specs.Prelude.{ℕ, ◌+◌, ◌-◌, ◌^◌, Bool, ◌==◌, List, [], ◌∷◌}
+use Rattle.std.specs.Prelude.{ℕ, ◌+◌, ◌-◌, ◌<◌, ◌^◌, Bool, ◌==◌, List, [], ◌∷◌, Option, IfSome}
 use Rattle.st_bits.specs.Bits.{part}
+
+-- an indicator, if there is one, is one of 0 to 63
+abbrev pub IsIndicatorIfAny : Option ℕ → Type 0
+IsIndicatorIfAny i = IfSome i (λ n. n < 64)
 
 -- the word with indicator n, 0 to 63, on and no other
 abbrev pub indicator : ℕ → ℕ

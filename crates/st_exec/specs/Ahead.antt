@@ -1,6 +1,7 @@
 -- What an entry that is not done alone leaves of a state, so that entries behind it can be prepared
 -- before it is done.
 use Rattle.std.specs.Prelude.{ℕ, ◌≡◌, ◌+◌, ◌<◌, ◌≤◌, ◌⊎◌, Bool, true, false, length}
+use Rattle.st_bits.specs.declared.register.TheConstants.{COUNTS, MASK, FIRST_STORAGE_WORD}
 use Rattle.st_format.specs.declared.instruction.Instr.{Instr}
 use Rattle.st_format.specs.declared.instruction.Instr.TheVariants.{IndBranch}
 use Rattle.st_state.specs.Machine.{Machine, word}
@@ -19,9 +20,9 @@ pub record IsNotAmong (i : ℕ) (w : Words) : Type 0 where
 pub record IsPast (p : Prepared) (s t : Machine) : Type 0 where
   pub size : length t.words ≡ length s.words
   pub index : index_words t ≡ words_after (index_words s) p.index
-  pub storage : (w : ℕ) → 32 ≤ w → IsNotAmong w p.writes → word t w ≡ word s w
-  pub low : (w : ℕ) → w < 7 → word t w ≡ word s w
-  pub mask : word t 12 ≡ word s 12
+  pub storage : (w : ℕ) → FIRST_STORAGE_WORD ≤ w → IsNotAmong w p.writes → word t w ≡ word s w
+  pub low : (w : ℕ) → w < COUNTS → word t w ≡ word s w
+  pub mask : word t MASK ≡ word s MASK
   pub enabled : t.enabled ≡ s.enabled
   pub waiting : t.waiting ≡ s.waiting
   pub reader : t.reader ≡ s.reader

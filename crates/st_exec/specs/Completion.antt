@@ -1,6 +1,7 @@
 -- What an entry that is prepared makes of a state: its early change, its effect, and the counter
 -- after it.
 use Rattle.std.specs.Prelude.{ℕ, ◌+◌, ◌%◌, Bool, false, not, ◌&&◌, ◌==◌, if◌then◌else◌, Option, None, Some}
+use Rattle.st_bits.specs.declared.register.TheConstants.{FIRST_INDEX_WORD, INDICATORS}
 use Rattle.st_bits.specs.Bits.{part}
 use Rattle.st_format.specs.Formats.{bit_of}
 use Rattle.st_format.specs.declared.instruction.Instr.{Instr}
@@ -18,7 +19,7 @@ use Rattle.st_exec.specs.Effect.{effect, carried_out}
 -- an index word is changed
 abbrev pub with_change : Option IndexChange → Machine → Machine
 with_change None s = s
-with_change (Some c) s = state_with_store s (16 + c.number) c.word
+with_change (Some c) s = state_with_store s (FIRST_INDEX_WORD + c.number) c.word
 
 -- and then the indicators, or the one of a fault
 unfoldable pub state_with_early_changes : Prepared → Machine → Machine
@@ -29,7 +30,8 @@ state_with_early_changes p s = state_with_indicators p.ind (with_change p.index 
 -- whether a branch on a bit or on an indicator is taken: where what it tests equals its sense
 unfoldable pub is_taken : Instr → ℕ → Machine → Bool
 is_taken (BitBranch sense change address i second) e t = field_at t e 1 == bit_of sense
-is_taken (IndBranch sense off address i second) e t = part (word t 11) (e % 64) 1 == bit_of sense
+is_taken (IndBranch sense off address i second) e t =
+    part (word t INDICATORS) (e % 64) 1 == bit_of sense
 is_taken _ e t = false
 
 -- where it branches to

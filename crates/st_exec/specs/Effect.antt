@@ -1,5 +1,6 @@
 -- What an operation does once its operands are there.
 use Rattle.std.specs.Prelude.{ℕ, zero, suc, ◌+◌, ◌*◌, ◌/◌, ◌%◌, ◌≤◌, ◌<◌, ◌^◌, ◌==◌, Bool, true, false, if◌then◌else◌, Option, Some, is_some, IfSome}
+use Rattle.st_bits.specs.declared.indicators.TheConstants.{CHANNEL_BUSY_REJECT}
 use Rattle.st_bits.specs.Bits.{bits}
 use Rattle.st_bits.specs.Storage.{words_of_storage}
 use Rattle.st_bits.specs.declared.operations.HalfOp.{HalfOp}
@@ -104,7 +105,7 @@ machine_with_order true order t = record t { printer = Some order }
 -- a device that has an order takes no other: CBJ comes on
 abbrev pub state_with_order : Bool → Order → Machine → Machine
 state_with_order write order t =
-    if is_some (order_standing write t) then state_with_signal t 8
+    if is_some (order_standing write t) then state_with_signal t CHANNEL_BUSY_REJECT
     else machine_with_order write order t
 
 unfoldable pub carried_out : Effect → Machine → Machine

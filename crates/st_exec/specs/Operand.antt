@@ -1,5 +1,6 @@
 -- What an operation takes: a field of storage or the address itself, and the accumulator.
 use Rattle.std.specs.Prelude.{ℕ, ◌≡◌, ◌+◌, ◌*◌, ◌<◌, ◌≤◌, ◌^◌, ◌==◌, List, slice_index, if◌then◌else◌}
+use Rattle.st_bits.specs.declared.register.TheConstants.{LEFT_HALF, RIGHT_HALF, SIGN_BYTE}
 use Rattle.st_bits.specs.Bits.{all_bits, field, num, part}
 use Rattle.st_state.specs.Machine.{Machine, word}
 use Rattle.st_field.specs.declared.accumulator.Acc.{Acc}
@@ -37,4 +38,7 @@ operand_bits p e n s = if p == 1 then part e 40 n else field_at s e n
 
 -- the accumulator and its sign byte
 abbrev pub accumulator : Machine → Acc
-accumulator s = record { mag = word s 8 * 2 ^ 64 + word s 9; sb = part (word s 10) 0 8 }
+accumulator s = record {
+  mag = word s LEFT_HALF * 2 ^ 64 + word s RIGHT_HALF;
+  sb = part (word s SIGN_BYTE) 0 8;
+}

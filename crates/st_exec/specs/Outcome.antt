@@ -1,6 +1,7 @@
 -- What an operation on a field leaves in the accumulator, the other registers, the indicators and
 -- the field.
 use Rattle.std.specs.Prelude.{ℕ, ◌*◌, ◌/◌, ◌%◌, ◌^◌, Bool, true, false, if◌then◌else◌, Option, None, Some}
+use Rattle.st_bits.specs.declared.register.TheConstants.{COUNTS, LEFT_HALF, RIGHT_HALF, SIGN_BYTE, INDICATORS, REMAINDER, FACTOR, TRANSIT}
 use Rattle.st_bits.specs.Bits.{bits}
 use Rattle.st_bits.specs.declared.operations.ConnKind.{ConnKind}
 use Rattle.st_bits.specs.declared.operations.VflOp.{VflOp}
@@ -39,7 +40,8 @@ result_by true op a x h ft ind = decimal_result op a x h ind
 -- an operation on the field at bit e
 unfoldable pub operation_outcome : Bool → VflOp → Shape → ℕ → ℕ → Machine → Done
 operation_outcome d op h p e t =
-    result_by d op (accumulator t) (bits_taken op p e h.length t) h (word t 14) (word t 11)
+    result_by d op (accumulator t) (bits_taken op p e h.length t) h (word t FACTOR)
+    (word t INDICATORS)
 
 -- a connective of it
 unfoldable pub connects : ConnKind → ℕ → ℕ → ℕ → ℕ → ℕ → Machine → Done
@@ -53,18 +55,18 @@ abbrev pub with_register : ℕ → Option ℕ → Machine → Machine
 with_register w None t = t
 with_register w (Some x) t = state_with_store t w x
 
--- the accumulator in words 8 and 9, and the sign byte in word 10
+-- the accumulator in its two words, and its sign byte
 abbrev pub with_accumulator : Acc → Machine → Machine
 with_accumulator a t =
-    state_with_store (state_with_store (state_with_store t 8 (a.mag / 2 ^ 64)) 9
-    (a.mag % 2 ^ 64)) 10 (a.sb * 2 ^ 56)
+    state_with_store (state_with_store (state_with_store t LEFT_HALF (a.mag / 2 ^ 64)) RIGHT_HALF
+    (a.mag % 2 ^ 64)) SIGN_BYTE (a.sb * 2 ^ 56)
 
 -- all the registers
 unfoldable pub with_registers : Done → Machine → Machine
 with_registers o t =
-    with_register 7 o.counts
-    (with_register 15 o.tr
-    (with_register 14 o.ft (with_register 13 o.rm (with_accumulator o.acc t))))
+    with_register COUNTS o.counts
+    (with_register TRANSIT o.tr
+    (with_register FACTOR o.ft (with_register REMAINDER o.rm (with_accumulator o.acc t))))
 
 -- the n bits of storage from bit a on, where the field is written
 abbrev pub with_field : Option ℕ → ℕ → ℕ → Machine → Machine

@@ -1,5 +1,6 @@
 //! What is done before the operands of an entry are read.
 ghost use Rattle.std.specs.Prelude.{◌≡◌, ◌<◌, IfSome};
+ghost use Rattle.st_bits.specs.Indicators.{IsIndicatorIfAny};
 ghost use Rattle.st_prep.specs.Plan.{state_at_entry};
 ghost use Rattle.st_prep.specs.Ranges.{IsPrepared};
 ghost use Rattle.st_exec.specs.Completion.{with_change, state_with_early_changes as early_of};
@@ -11,7 +12,7 @@ use st_state::State;
 
 /// Takes the interrupt that executes a table instruction: its indicator goes off, and a wait ends.
 pub fn take(table: Option<u8>, state: &mut State)
-    requires { IfSome table (λ i. i < 64) }
+    requires { IsIndicatorIfAny table }
     ensures { state.new ≡ state_at_entry table state.old }
 {
     let Some(i) = table else {

@@ -1,5 +1,6 @@
 //! One entry from its preparation to its completion.
-ghost use Rattle.std.specs.Prelude.{◌≡◌, ℕ, ◌+◌, ◌-◌, ◌<◌, ◌≤◌, ◌^◌, IfSome, slice_index};
+ghost use Rattle.std.specs.Prelude.{◌≡◌, ℕ, ◌+◌, ◌-◌, ◌<◌, ◌≤◌, ◌^◌, slice_index};
+ghost use Rattle.st_bits.specs.Indicators.{IsIndicatorIfAny};
 ghost use Rattle.st_state.specs.Machine.{word as word_of};
 ghost use Rattle.st_prep.specs.Ranges.{IsRuns, AreInside};
 ghost use Rattle.st_exec.specs.Operand.{AreOperands};
@@ -47,7 +48,7 @@ pub fn read_operands(words: Words, state: &State) -> [u64; 32]
 /// Executes the next entry of a state, or the table instruction of an interrupt by the indicator in
 /// `table`.
 pub fn execute(table: Option<u8>, state: &mut State)
-    requires indicator { IfSome table (λ i. i < 64) }
+    requires indicator { IsIndicatorIfAny table }
     requires few { state.old.done < 2 ^ 63 }
     ensures { state.new ≡ state_after_execution table state.old }
 {

@@ -1,5 +1,6 @@
 //! One step of the machine: the instruction at the counter, or the interrupt that comes before it.
-ghost use Rattle.std.specs.Prelude.{◌≡◌, ◌<◌, ◌^◌, IfSome};
+ghost use Rattle.std.specs.Prelude.{◌≡◌, ◌<◌, ◌^◌};
+ghost use Rattle.st_bits.specs.Indicators.{IsIndicatorIfAny};
 ghost use Rattle.st_exec.specs.Step.{interrupt as interrupt_of, address as address_of, rests, IsStep};
 
 use crate::execution::execute;
@@ -21,7 +22,7 @@ pub enum Step {
 /// The indicator that interrupts before the next instruction, 0 to 63.
 pub fn interrupt(state: &State) -> Option<u8>
     ensures value { result ≡ interrupt_of state.now }
-    ensures bound { IfSome result (λ i. i < 64) }
+    ensures bound { IsIndicatorIfAny result }
 {
     if state.enabled { state.pending() } else { None }
 }

@@ -1,12 +1,15 @@
 -- How the entry that is prepared next goes on, and what it takes for granted.
 use Rattle.std.specs.Prelude.{ℕ, ◌≡◌, ◌+◌, ◌-◌, ◌^◌, ◌≤◌, true, List, ◌++◌, All, map, Option}
+use Rattle.st_bits.specs.Indicators.{IsIndicatorIfAny}
 use Rattle.st_bits.specs.declared.limits.TheConstants.{MOST_DELAY}
 use Rattle.st_state.specs.Machine.{Machine, word}
 use Rattle.st_prep.specs.declared.entries.Fetched.{Fetched}
 use Rattle.st_prep.specs.declared.entries.Prepared.{Prepared}
+use Rattle.st_prep.specs.declared.entries.Fetching.{Fetching as Given}
 use Rattle.st_prep.specs.declared.entries.Fetching.TheVariants.{Found}
+use Rattle.st_prep.specs.Fetch.{reading_by}
 use Rattle.st_prep.specs.Plan.{sight_of, needs, plan}
-use Rattle.st_prep.specs.Reading.{reading_at_place, left_after, fetching_of}
+use Rattle.st_prep.specs.Reading.{left_after, fetching_of}
 use Rattle.st_rows.specs.Asked.{Read, reads_of_entry, bus_after_reads}
 use Rattle.st_rows.specs.Notes.{log_after_reads}
 use Rattle.st_rows.specs.Ranges.{IsTight, IsFetchingWithin, ArePastWithin}
@@ -16,7 +19,7 @@ use Rattle.st_rows.specs.declared.fetching.Fetching.{Fetching}
 use Rattle.st_rows.specs.declared.front.Front.{Front}
 use Rattle.st_rows.specs.declared.log.Made.{Made}
 use Rattle.st_segment.specs.Alone.{words_of_run}
-use Rattle.st_segment.specs.Entries.{entry, entry_with, IsTable}
+use Rattle.st_segment.specs.Entries.{entry, entry_with}
 use Rattle.st_next.specs.Known.{IsStateBefore}
 use Rattle.st_next.specs.Progress.{IsNext, Rests, reads_so_far, preparation_without_side}
 use Rattle.st_next.specs.declared.next.Next.{Next}
@@ -31,7 +34,7 @@ pub record IsFrontInTime (f : Front) : Type 0 where
 -- of the state
 pub record GoesOnTo (ds : List ℕ) (n now : ℕ) (f : Front) (x : List ℕ) (s : Machine)
     (before after : Next) (later : ℕ) : Type 0 where
-  pub each : (t : Option ℕ) (u : Machine) → IsTable t → IsStateBefore now f.past x s u
+  pub each : (t : Option ℕ) (u : Machine) → IsIndicatorIfAny t → IsStateBefore now f.past x s u
       → IsNext ds n t u f before → IsNext ds n t u f after × Rests later t u f after
 
 -- the reads that are asked for it come behind the others, are made on its bus, and are noted
@@ -61,11 +64,15 @@ prepared_as fd x s next =
     let m = record next { fetched = fd; needs = needs v; prepared = preparation_without_side v } in
     record m { entry = as_entry m }
 
+-- how far it is fetched by the words so far, as they stand in a state
+abbrev pub given_so_far : List ℕ → Machine → Next → Given
+given_so_far x s next = fetching_of (left_after (reading_by x s next.place)
+    (map (word s) (words_of_run next.own ++ words_of_run next.target)))
+
 -- its words tell all of it, and their writers are done by the tick `now`: it is prepared as far as
 -- it goes without its index-side word
 pub record IsPreparedBy (now : ℕ) (x : List ℕ) (s : Machine) (next : Next) : Type 0 where
-  pub found : fetching_of (left_after (reading_at_place x (word s 3) s.enabled next.place)
-      (map (word s) (words_of_run next.own ++ words_of_run next.target))) ≡ Found next.fetched
+  pub found : given_so_far x s next ≡ Found next.fetched
   pub done : next.words.awaited ≤ now
   pub prepared : next ≡ prepared_as next.fetched x s next
 
@@ -73,7 +80,7 @@ pub record IsPreparedBy (now : ℕ) (x : List ℕ) (s : Machine) (next : Next) :
 -- before it then
 abbrev pub IsPlanAtItsTick : List ℕ → Machine → Next → Prepared → Type 0
 IsPlanAtItsTick x s next p = (ds : List ℕ) (n now : ℕ) (f : Front) (t : Option ℕ) (u : Machine) →
-    IsTable t → IsStateBefore now f.past x s u → IsNext ds n t u f next →
+    IsIndicatorIfAny t → IsStateBefore now f.past x s u → IsNext ds n t u f next →
     now ≡ next.formed.p → ((entry t u).serial ≡ true → u ≡ s) → p ≡ plan u t
 
 -- the reads so far are the first ones of the entry, and those that are left are wanted at a tick or

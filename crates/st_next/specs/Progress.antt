@@ -1,5 +1,6 @@
 -- How far the entry that is prepared next is known.
 use Rattle.std.specs.Prelude.{ℕ, ◌≡◌, ◌≤◌, ◌==◌, max, true, false, if◌then◌else◌, List, [], ◌++◌, ◌⊎◌, Option, option_map}
+use Rattle.st_bits.specs.Indicators.{IsIndicatorIfAny}
 use Rattle.st_state.specs.Machine.{Machine}
 use Rattle.st_prep.specs.Fetch.{place_of, words_fetched as fetched_at}
 use Rattle.st_prep.specs.Plan.{Sight, needs as needs_of, sight, prepared_entry as prepared_of}
@@ -9,7 +10,7 @@ use Rattle.st_rows.specs.Entries.{no_run}
 use Rattle.st_rows.specs.declared.bus.Bus.{Bus}
 use Rattle.st_rows.specs.Asked.{Read, side_asked}
 use Rattle.st_rows.specs.declared.front.Front.{Front}
-use Rattle.st_segment.specs.Entries.{entry as entry_of, IsTable}
+use Rattle.st_segment.specs.Entries.{entry as entry_of}
 use Rattle.st_next.specs.Known.{IsStateBefore}
 use Rattle.st_next.specs.Words.{AreFirstWords, words_so_far, asked_so_far}
 use Rattle.st_next.specs.declared.next.Next.{Next}
@@ -79,7 +80,7 @@ pub record IsKnown (ds : List ℕ) (n now : ℕ) (f : Front) (x : List ℕ) (s :
     (next : Next) : Type 0 where
   pub table : Option ℕ
   pub state : Machine
-  pub indicator : IsTable table
+  pub indicator : IsIndicatorIfAny table
   pub before : IsStateBefore now f.past x s state
   pub is_next : IsNext ds n table state f next
 

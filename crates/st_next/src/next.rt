@@ -1,10 +1,10 @@
 //! The entry that is prepared next, as far as it is known.
-ghost use Rattle.std.specs.Prelude.{◌≡◌, ℕ, ◌+◌, ◌-◌, ◌<◌, ◌≤◌, ◌^◌, true, false, max, take, map, List, ◌++◌, Option, IfSome, get_or, if◌then◌else◌};
+ghost use Rattle.std.specs.Prelude.{◌≡◌, ℕ, ◌+◌, ◌-◌, ◌<◌, ◌≤◌, true, false, max, take, map, List, ◌++◌, Option, IfSome, get_or, if◌then◌else◌};
 ghost use Rattle.st_bits.specs.Storage.{words_of_storage};
 ghost use Rattle.st_fetch.specs.Planned.{tick_of};
 ghost use Rattle.st_state.specs.Machine.{word};
 ghost use Rattle.st_prep.specs.Ranges.{HasFields, IsPlace, IsFetched, IsFetching, IsPrepared};
-ghost use Rattle.st_prep.specs.Reading.{reading_at_place, left_after, fetching_of as given_of, fetched_plain, is_execute};
+ghost use Rattle.st_prep.specs.Reading.{fetched_plain, is_execute};
 ghost use Rattle.st_prep.specs.declared.entries.Fetching.TheVariants.{Found};
 ghost use Rattle.st_format.specs.Formats.{decoded_entry, instruction_of, spelled_as};
 ghost use Rattle.st_rows.specs.Asked.{word_asked};
@@ -14,7 +14,7 @@ ghost use Rattle.st_rows.specs.Rows.{wanted_from, fetch_word};
 ghost use Rattle.st_segment.specs.Alone.{words_of_run};
 ghost use Rattle.st_next.specs.Words.{words_alone, run_with_word as with_word_of};
 ghost use Rattle.st_next.specs.Progress.{IsUnread, IsKnown, IsNextReady};
-ghost use Rattle.st_next.specs.Going.{IsFrontInTime, IsEarly, GoesOnTo, IsReadFurther, IsPreparedBy, IsPlanAtItsTick, as_entry, prepared_as};
+ghost use Rattle.st_next.specs.Going.{given_so_far, IsFrontInTime, IsEarly, GoesOnTo, IsReadFurther, IsPreparedBy, IsPlanAtItsTick, as_entry, prepared_as};
 
 use st_banks::Delays;
 use st_format::{Decoded, Format, FullOp, decode_as, format_of};
@@ -132,9 +132,7 @@ impl Next {
     fn given(&self, x: &[u64; 16], state: &State) -> Given
         requires place { IsPlace self.now.place }
         requires words { IsEntryInTime (words_alone self.now.own self.now.target) }
-        ensures value { result ≡ given_of (left_after (reading_at_place x.now
-            (word state.now 3) state.now.enabled self.now.place)
-            (map (word state.now) (words_of_run self.now.own ++ words_of_run self.now.target))) }
+        ensures value { result ≡ given_so_far x.now state.now self.now }
         ensures shape { IsFetching result }
     {
         let so_far = self.own.len + self.target.len;
@@ -152,9 +150,7 @@ impl Next {
     fn given_more(&self, x: &[u64; 16], state: &State) -> Given
         requires place { IsPlace self.now.place }
         requires words { IsEntryInTime (words_alone self.now.own self.now.target) }
-        ensures value { result ≡ given_of (left_after (reading_at_place x.now
-            (word state.now 3) state.now.enabled self.now.place)
-            (map (word state.now) (words_of_run self.now.own ++ words_of_run self.now.target))) }
+        ensures value { result ≡ given_so_far x.now state.now self.now }
         ensures shape { IsFetching result }
     {
         let contents = self.contents(state);
@@ -397,9 +393,7 @@ impl Next {
     fn spelled(&self, state: &State) -> Option<Spelled>
         requires place { IsPlace self.now.place }
         requires words { IsEntryInTime (words_alone self.now.own self.now.target) }
-        ensures found { IfSome result (λ r. (x : List ℕ) → given_of (left_after
-            (reading_at_place x (word state.now 3) state.now.enabled self.now.place)
-            (map (word state.now) (words_of_run self.now.own ++ words_of_run self.now.target)))
+        ensures found { IfSome result (λ r. (x : List ℕ) → given_so_far x state.now self.now
             ≡ Found (fetched_plain (decoded_entry r.first r.second))) }
         ensures format { IfSome result (λ r. spelled_as r.format r.first r.second
             ≡ instruction_of r.first r.second) }
@@ -414,9 +408,7 @@ impl Next {
         requires place { IsPlace self.now.place }
         requires words { IsEntryInTime (words_alone self.now.own self.now.target) }
         ensures { IfSome result (λ r. (x : List ℕ) → is_execute (instruction_of r.0 r.1) ≡ false →
-            given_of (left_after (reading_at_place x (word state.now 3) state.now.enabled
-            self.now.place)
-            (map (word state.now) (words_of_run self.now.own ++ words_of_run self.now.target)))
+            given_so_far x state.now self.now
             ≡ Found (fetched_plain (decoded_entry r.0 r.1))) }
     {
         if self.target.len != 0 {

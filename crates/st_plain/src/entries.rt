@@ -1,5 +1,6 @@
 //! The next entry of a state, as the timetable sees it.
 ghost use Rattle.std.specs.Prelude.{◌≡◌, ℕ, ◌+◌, ◌/◌, ◌<◌, ◌≤◌, ◌^◌, ◌∷◌, false, None, if◌then◌else◌, IfSome, length, take, drop};
+ghost use Rattle.st_bits.specs.Indicators.{IsIndicatorIfAny};
 ghost use Rattle.st_format.specs.Formats.{decoded_entry, instruction_of, spelled_as};
 ghost use Rattle.st_state.specs.Boundary.{forbidden_by};
 ghost use Rattle.st_state.specs.Machine.{IsMachine, word};
@@ -461,7 +462,7 @@ fn plan_spelled(spelled: Spelled, x: &[u64; 16], state: &State, p: &mut Prepared
 /// Plans the next entry of a state, or the table instruction of an interrupt by the indicator in
 /// `table`, in place. The result is what else is known of it.
 pub fn plan_entry(table: Option<u8>, state: &State, p: &mut Prepared) -> Planned
-    requires indicator { IfSome table (λ i. i < 64) }
+    requires indicator { IsIndicatorIfAny table }
 
     ensures plan { p.new ≡ plan_of state.now table }
     ensures ranges { IsPrepared p.new }

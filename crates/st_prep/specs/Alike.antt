@@ -1,27 +1,28 @@
 -- States that have the same next entry.
 use Rattle.std.specs.Prelude.{ℕ, ◌≡◌, ◌≢◌, All, IfSome, Option, length}
+use Rattle.st_bits.specs.declared.register.TheConstants.{INTERRUPT_ADDRESS, BOUNDS, INDICATORS}
 use Rattle.st_state.specs.Machine.{Machine, word}
 use Rattle.st_prep.specs.Fetch.{index_words, place_of, reading_of}
 use Rattle.st_prep.specs.Plan.{needs, sight}
 use Rattle.st_prep.specs.Reading.{words_read}
 
 -- two states in which the next entry, or the table instruction of an interrupt, reads the same: the
--- counter, the index words, words 2 and 3 and the mark, its instruction words, and its index-side
--- word
+-- counter, the index words, the interruption address, the bounds and the mark, its instruction
+-- words, and its index-side word
 pub record ReadTheSame (table : Option ℕ) (s t : Machine) : Type 0 where
   pub ic : t.ic ≡ s.ic
   pub index : index_words t ≡ index_words s
-  pub origin : word t 2 ≡ word s 2
-  pub bounds : word t 3 ≡ word s 3
+  pub origin : word t INTERRUPT_ADDRESS ≡ word s INTERRUPT_ADDRESS
+  pub bounds : word t BOUNDS ≡ word s BOUNDS
   pub enabled : t.enabled ≡ s.enabled
   pub instruction : All (λ w. word t w ≡ word s w)
       (words_read (reading_of s (place_of s table)) (word s))
   pub side : IfSome (needs (sight s (place_of s table))).index_read (λ w. word t w ≡ word s w)
 
--- two states that differ in their indicators alone: all but word 11 is the same
+-- two states that differ in their indicators alone: all but these is the same
 pub record AreAlike (s t : Machine) : Type 0 where
   pub size : length t.words ≡ length s.words
-  pub words : (w : ℕ) → w ≢ 11 → word t w ≡ word s w
+  pub words : (w : ℕ) → w ≢ INDICATORS → word t w ≡ word s w
   pub ic : t.ic ≡ s.ic
   pub enabled : t.enabled ≡ s.enabled
   pub waiting : t.waiting ≡ s.waiting

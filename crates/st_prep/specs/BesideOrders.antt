@@ -1,11 +1,12 @@
 -- States that differ in their indicators and in the orders of the devices alone.
 use Rattle.std.specs.Prelude.{ℕ, ◌≡◌, ◌≢◌, length}
+use Rattle.st_bits.specs.declared.register.TheConstants.{INDICATORS}
 use Rattle.st_state.specs.Machine.{Machine, word}
 
--- all but word 11 and the orders is the same
+-- all but the indicators and the orders is the same
 pub record AreAlikeBesideOrders (s t : Machine) : Type 0 where
   pub size : length t.words ≡ length s.words
-  pub words : (w : ℕ) → w ≢ 11 → word t w ≡ word s w
+  pub words : (w : ℕ) → w ≢ INDICATORS → word t w ≡ word s w
   pub ic : t.ic ≡ s.ic
   pub enabled : t.enabled ≡ s.enabled
   pub waiting : t.waiting ≡ s.waiting

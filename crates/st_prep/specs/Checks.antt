@@ -1,6 +1,7 @@
 -- The checks before an instruction is executed: the first that fails suppresses it.
 use Rattle.std.specs.Prelude.{ℕ, zero, suc, ◌+◌, ◌/◌, Bool, true, false, not, nat_lt, if◌then◌else◌, Option, None, Some, unwrap_or}
 use Rattle.std.specs.Option.{option_or}
+use Rattle.st_bits.specs.declared.register.TheConstants.{FIRST_STORAGE_WORD}
 use Rattle.st_bits.specs.declared.indicators.TheConstants.{OPERATION_INVALID, EXECUTE_EXCEPTION}
 use Rattle.st_format.specs.declared.instruction.Instr.{Instr}
 use Rattle.st_format.specs.declared.instruction.Instr.TheVariants.{Transfer}
@@ -42,7 +43,7 @@ area_access true = Read
 
 unfoldable pub forbidden_area : ℕ → Bool → Instr → ℕ → Option ℕ
 forbidden_area bounds enabled (Transfer write address i count) e =
-    if nat_lt (e / 64) 32 then Some address_invalid
+    if nat_lt (e / 64) FIRST_STORAGE_WORD then Some address_invalid
     else forbidden_run bounds enabled (area_access write) (e / 64) 8
 forbidden_area bounds enabled _ e = None
 

@@ -1,6 +1,7 @@
 -- What an instruction is as an entry of the machine's order: the words that it reads and writes,
 -- the counter after it, what it stores of an index word, its cost, and whether it is done alone.
 use Rattle.std.specs.Prelude.{ℕ, ◌+◌, ◌/◌, ◌%◌, ◌^◌, Bool, true, false, not, ◌==◌, ◌&&◌, ◌||◌, nat_lt, nat_le, if◌then◌else◌, List, slice_index, Option, None, Some}
+use Rattle.st_bits.specs.declared.register.TheConstants.{FIRST_STORAGE_WORD}
 use Rattle.st_bits.specs.Bits.{part}
 use Rattle.st_bits.specs.IndexWord.{count_of, refill_of}
 use Rattle.st_bits.specs.declared.operations.HalfOp.{HalfOp}
@@ -174,9 +175,9 @@ acts_alone _ = false
 
 -- a register is among the words
 unfoldable pub has_register : Words → Bool
-has_register w = (not (w.len == 0) && nat_lt w.first 32)
-    || (not (w.len2 == 0) && nat_lt w.first2 32)
+has_register w = (not (w.len == 0) && nat_lt w.first FIRST_STORAGE_WORD)
+    || (not (w.len2 == 0) && nat_lt w.first2 FIRST_STORAGE_WORD)
 
 abbrev pub is_register : Option ℕ → Bool
 is_register None = false
-is_register (Some w) = nat_lt w 32
+is_register (Some w) = nat_lt w FIRST_STORAGE_WORD

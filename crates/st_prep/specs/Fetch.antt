@@ -27,9 +27,14 @@ place_of s table = record { counter = s.ic; address = address_by table s; table 
 
 -- ---- fetching
 
--- how the entry at a place is read in a state
+-- how the entry at a place is read by these index words, in a state of which only the boundary
+-- register and the mark for interrupts count
+abbrev pub reading_by : List ℕ → Machine → Place → Reading
+reading_by x s place = reading_at_place x (word s BOUNDS) s.enabled place
+
+-- how it is read in a state
 abbrev pub reading_of : Machine → Place → Reading
-reading_of s place = reading_at_place (index_words s) (word s BOUNDS) s.enabled place
+reading_of s place = reading_by (index_words s) s place
 
 -- what is fetched there
 unfoldable pub words_fetched : Machine → Place → Fetched

@@ -1,11 +1,13 @@
 -- What holds of preparation itself, and not of one call.
-use Rattle.std.specs.Prelude.{◌≡◌, ◌≢◌, ℕ, suc, ◌+◌, ◌<◌, ◌≤◌, Bool, true, false, List, length, take, All, Option, Some, is_some, IfSome}
+use Rattle.std.specs.Prelude.{◌≡◌, ◌≢◌, ℕ, suc, ◌+◌, ◌<◌, ◌≤◌, Bool, true, false, List, length, take, All, Option, Some, is_some}
+use Rattle.st_bits.specs.Indicators.{IsIndicatorIfAny}
+use Rattle.st_bits.specs.declared.register.TheConstants.{INDICATORS}
 use Rattle.st_bits.specs.Storage.{words_of_storage}
 use Rattle.st_state.specs.Machine.{Machine, IsMachine, word}
 use Rattle.st_prep.specs.Plan.{Sight, needs, prepared_entry, sight, plan as plan_of}
 use Rattle.st_prep.specs.declared.entries.Place.{Place}
 use Rattle.st_prep.specs.Ranges.{IsPrepared}
-use Rattle.st_prep.specs.Fetch.{index_words, place_of, words_fetched}
+use Rattle.st_prep.specs.Fetch.{place_of, reading_of, words_fetched}
 use Rattle.st_prep.specs.Reading.{Reading, outcome, words_read, own_words, index_side_words, reading_at_place}
 use Rattle.st_prep.specs.Alike.{AreAlike, ReadTheSame}
 use Rattle.st_prep.specs.declared.entries.Prepared.{Prepared}
@@ -14,7 +16,7 @@ use Rattle.st_prep.specs.FewWords.{is_transmission, AreFew}
 
 -- Each entry of each state is in its ranges once it is prepared.
 abbrev pub PlansAreInRange : Type 0
-PlansAreInRange = (s : Machine) (t : Option ℕ) → IsMachine s → IfSome t (λ i. i < 64)
+PlansAreInRange = (s : Machine) (t : Option ℕ) → IsMachine s → IsIndicatorIfAny t
     → IsPrepared (plan_of s t)
 
 -- An entry is prepared as one that is done alone exactly where it was looked at as one.
@@ -41,8 +43,7 @@ EntriesWithATargetAreAlone = (s : Machine) (t : Option ℕ)
 -- and at most two of them are the entry's own.
 pub record InstructionWordsComeOneByOne : Type 0 where
   pub found : (s : Machine) (p : Place)
-      → words_fetched s p ≡ outcome (reading_at_place (index_words s) (word s 3) s.enabled p)
-      (word s)
+      → words_fetched s p ≡ outcome (reading_of s p) (word s)
   pub few : (x : List ℕ) (b : ℕ) (on : Bool) (p : Place) (c : ℕ → ℕ)
       → length (words_read (reading_at_place x b on p) c) ≤ 4
   pub own : (x : List ℕ) (b : ℕ) (on : Bool) (p : Place) (c : ℕ → ℕ)
@@ -65,19 +66,19 @@ PlansDependOnWhatIsRead = (s u : Machine) (t : Option ℕ) → IsMachine s → I
     ReadTheSame t s u
     → plan_of u t ≡ plan_of s t
 
--- Two states that differ in word 11 alone have the same next entry, unless word 11 is its
--- index-side word; such an entry is done alone.
+-- Two states that differ in their indicators alone have the same next entry, unless the word of the
+-- indicators is its index-side word; such an entry is done alone.
 pub record IndicatorsAreNotSeen : Type 0 where
   pub plan : (s u : Machine) (t : Option ℕ) → AreAlike s u
-      → (needs (sight s (place_of s t))).index_read ≢ Some 11 → plan_of u t ≡ plan_of s t
+      → (needs (sight s (place_of s t))).index_read ≢ Some INDICATORS → plan_of u t ≡ plan_of s t
   pub ahead : (s u : Machine) (t : Option ℕ) → AreAlike s u → (plan_of s t).serial ≡ false
       → plan_of u t ≡ plan_of s t
 
 -- An entry of a state reads 36 words at most: instruction words, the index-side word and operands.
 abbrev pub EntriesRead36WordsAtMost : Type 0
-EntriesRead36WordsAtMost = (s : Machine) (t : Option ℕ) → IsMachine s → IfSome t (λ i. i < 64)
+EntriesRead36WordsAtMost = (s : Machine) (t : Option ℕ) → IsMachine s → IsIndicatorIfAny t
     → let p = place_of s t in
-    length (words_read (reading_at_place (index_words s) (word s 3) s.enabled p) (word s))
+    length (words_read (reading_of s p) (word s))
     + index_side_words (needs (sight s p)).index_read
     + ((plan_of s t).reads.len + (plan_of s t).reads.len2) ≤ 36
 
@@ -91,10 +92,11 @@ pub record OperandsAreFew : Type 0 where
   pub most_read : (p : Prepared) → IsPrepared p → p.reads.len + p.reads.len2 ≤ 32
   pub most_written : (p : Prepared) → IsPrepared p → p.writes.len + p.writes.len2 ≤ 32
 
--- Two states that differ in word 11 and in the orders of the devices alone have the same next
--- entry, unless word 11 is its index-side word; such an entry is done alone.
+-- Two states that differ in their indicators and in the orders of the devices alone have the same
+-- next entry, unless the word of the indicators is its index-side word; such an entry is done
+-- alone.
 pub record OrdersAreNotSeen : Type 0 where
   pub plan : (s u : Machine) (t : Option ℕ) → AreAlikeBesideOrders s u
-      → (needs (sight s (place_of s t))).index_read ≢ Some 11 → plan_of u t ≡ plan_of s t
+      → (needs (sight s (place_of s t))).index_read ≢ Some INDICATORS → plan_of u t ≡ plan_of s t
   pub ahead : (s u : Machine) (t : Option ℕ) → AreAlikeBesideOrders s u
       → (plan_of s t).serial ≡ false → plan_of u t ≡ plan_of s t

@@ -1,5 +1,6 @@
 -- What holds of places, of what is fetched, and of each prepared entry.
 use Rattle.std.specs.Prelude.{ℕ, ◌≡◌, ◌+◌, ◌/◌, ◌<◌, ◌≤◌, ◌^◌, true, false, None, IfSome}
+use Rattle.st_bits.specs.Indicators.{IsIndicatorIfAny}
 use Rattle.st_bits.specs.Storage.{words_of_storage}
 use Rattle.st_bits.specs.declared.operations.HalfOp.{HalfOp}
 use Rattle.st_bits.specs.declared.operations.HalfOp.TheVariants.{Sx, Sv, Sc, Sr, Sva}
@@ -24,7 +25,7 @@ use Rattle.st_prep.specs.Entry.{no_words, reads, words_written, acts_alone}
 pub record IsPlace (p : Place) : Type 0 where
   pub counter : p.counter < 2 ^ 19
   pub address : p.address < 2 ^ 19
-  pub table : IfSome p.table (λ i. i < 64)
+  pub table : IsIndicatorIfAny p.table
 
 -- the fields of an instruction are those that bits spell; of bits that spell none nothing is said
 abbrev pub HasFields : Instr → Type 0
@@ -34,7 +35,7 @@ HasFields instr = IsShape instr
 -- an instruction, and an indicator
 pub record IsFoundInRange (f : FoundInstruction) : Type 0 where
   pub shape : HasFields f.decoded.instr
-  pub fault : IfSome f.fault (λ i. i < 64)
+  pub fault : IsIndicatorIfAny f.fault
 
 -- so much is known of an instruction by n words at most
 abbrev pub IsPart : ℕ → Part → Type 0
@@ -45,7 +46,7 @@ IsPart n (Has found used) = (used ≤ n) × IsFoundInRange found
 pub record IsFetched (f : Fetched) : Type 0 where
   pub own : HasFields f.instr.instr
   pub target : IfSome f.target (λ d. HasFields d.instr)
-  pub fault : IfSome f.fault (λ i. i < 64)
+  pub fault : IsIndicatorIfAny f.fault
 
 -- the next word lies in storage, or what is fetched is in its ranges
 abbrev pub IsFetching : Fetching → Type 0
@@ -65,7 +66,7 @@ pub record IsAim (a : Aim) : Type 0 where
   pub address : a.e < 2 ^ 24
   pub reads : IsRuns a.reads
   pub writes : IsRuns a.writes
-  pub fault : IfSome a.fault (λ i. i < 64)
+  pub fault : IsIndicatorIfAny a.fault
 
 -- they lie in storage
 pub record AreInside (w : Words) : Type 0 where

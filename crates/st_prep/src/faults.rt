@@ -1,8 +1,10 @@
 //! The checks before an instruction is executed.
-ghost use Rattle.std.specs.Prelude.{◌≡◌, ◌<◌, ◌^◌, IfSome};
+ghost use Rattle.std.specs.Prelude.{◌≡◌, ◌<◌, ◌^◌};
+ghost use Rattle.st_bits.specs.Indicators.{IsIndicatorIfAny};
 ghost use Rattle.st_state.specs.Machine.{word, word as word_of};
 ghost use Rattle.st_prep.specs.Ranges.{HasFields, IsAim, IsFetched, IsRuns};
-ghost use Rattle.st_state.specs.Boundary.{forbidden_by};
+ghost use Rattle.st_bits.specs.declared.register.TheConstants.{BOUNDS};
+ghost use Rattle.st_state.specs.Boundary.{indicator_of_access};
 ghost use Rattle.st_prep.specs.Checks.{effective_instr as effective_instr_of, forbidden_run as forbidden_run_of, forbidden_words as forbidden_words_of, forbidden_side as forbidden_side_of, forbidden_area as forbidden_area_of, area_access as area_access_of, operation_fault as operation_fault_of, fault as fault_of};
 
 use crate::entries::{Aim, Fetched, Words};
@@ -31,8 +33,8 @@ pub fn effective_instr(fetched: &Fetched) -> &Instr
 // The indicator that forbids the access to a word.
 #[inline(always)]
 fn forbidden(state: &State, access: Access, w: u32) -> Option<u8>
-    ensures value { result ≡ forbidden_by (word state.now 3) state.now.enabled access w }
-    ensures bound { IfSome result (λ i. i < 64) }
+    ensures value { result ≡ indicator_of_access state.now access w }
+    ensures bound { IsIndicatorIfAny result }
 {
     state.may(access, w)
 }
@@ -42,8 +44,8 @@ fn forbidden(state: &State, access: Access, w: u32) -> Option<u8>
 fn forbidden_run(state: &State, access: Access, first: u32, len: u8) -> Option<u8>
     requires { first < 2 ^ 18 }
     ensures value { result
-        ≡ forbidden_run_of (word state.now 3) state.now.enabled access first len }
-    ensures bound { IfSome result (λ i. i < 64) }
+        ≡ forbidden_run_of (word state.now BOUNDS) state.now.enabled access first len }
+    ensures bound { IsIndicatorIfAny result }
 {
     for w in first..first + u32::from(len) {
         let fault = forbidden(state, access, w);
@@ -59,8 +61,8 @@ fn forbidden_run(state: &State, access: Access, first: u32, len: u8) -> Option<u
 #[tactic(auto, unfolding(crate::specs::Checks::forbidden_words))]
 fn forbidden_words(state: &State, access: Access, words: Words) -> Option<u8>
     requires { IsRuns words }
-    ensures value { result ≡ forbidden_words_of (word state.now 3) state.now.enabled access words }
-    ensures bound { IfSome result (λ i. i < 64) }
+    ensures value { result ≡ forbidden_words_of (word state.now BOUNDS) state.now.enabled access words }
+    ensures bound { IsIndicatorIfAny result }
 {
     forbidden_run(state, access, words.first, words.len).or(forbidden_run(
         state,
@@ -75,7 +77,7 @@ fn forbidden_words(state: &State, access: Access, words: Words) -> Option<u8>
 #[tactic(auto, unfolding(crate::specs::Checks::forbidden_side))]
 fn forbidden_side(state: &State, word: Option<u32>) -> Option<u8>
     ensures value { result ≡ forbidden_side_of (word_of state.now 3) state.now.enabled word }
-    ensures bound { IfSome result (λ i. i < 64) }
+    ensures bound { IsIndicatorIfAny result }
 {
     match word {
         Some(w) => forbidden(state, Access::Read, w),
@@ -87,8 +89,8 @@ fn forbidden_side(state: &State, word: Option<u32>) -> Option<u8>
 #[inline(always)]
 fn forbidden_area(state: &State, instr: &Instr, e: u32) -> Option<u8>
     requires { e < 2 ^ 24 }
-    ensures value { result ≡ forbidden_area_of (word state.now 3) state.now.enabled instr.now e }
-    ensures bound { IfSome result (λ i. i < 64) }
+    ensures value { result ≡ forbidden_area_of (word state.now BOUNDS) state.now.enabled instr.now e }
+    ensures bound { IsIndicatorIfAny result }
 {
     let Instr::Transfer { write, .. } = *instr else {
         return None;
@@ -112,7 +114,7 @@ fn area_access(write: bool) -> Access
 #[tactic(auto, unfolding(crate::specs::Checks::operation_fault))]
 fn operation_fault(instr: &Instr) -> Option<u8>
     ensures value { result ≡ operation_fault_of instr.now }
-    ensures bound { IfSome result (λ i. i < 64) }
+    ensures bound { IsIndicatorIfAny result }
 {
     if !instr.is_valid() {
         Some(OPERATION_INVALID)
@@ -127,8 +129,8 @@ fn operation_fault(instr: &Instr) -> Option<u8>
 #[inline(always)]
 pub fn fault(aim: &Aim, state: &State) -> Option<u8>
     requires { IsAim aim.now }
-    ensures value { result ≡ fault_of aim.now (word state.now 3) state.now.enabled }
-    ensures bound { IfSome result (λ i. i < 64) }
+    ensures value { result ≡ fault_of aim.now (word state.now BOUNDS) state.now.enabled }
+    ensures bound { IsIndicatorIfAny result }
 {
     aim.fault
         .or(operation_fault(&aim.instr))

@@ -1,12 +1,14 @@
 //! How an entry is fetched, one instruction word after another.
 ghost use Rattle.std.specs.Prelude.{◌≡◌, ℕ, ◌+◌, ◌/◌, ◌<◌, ◌≤◌, ◌^◌, Bool, true, false, None, IfSome, length, drop, slice_index};
+ghost use Rattle.st_bits.specs.Indicators.{IsIndicatorIfAny};
 ghost use Rattle.st_state.specs.Machine.{IsMachine, word};
-ghost use Rattle.st_state.specs.Boundary.{forbidden_by};
+ghost use Rattle.st_bits.specs.declared.register.TheConstants.{BOUNDS};
+ghost use Rattle.st_state.specs.Boundary.{indicator_of_access};
 ghost use Rattle.st_state.specs.declared.protection.Access.{Access};
-ghost use Rattle.st_prep.specs.Fetch.{index_words as index_words_of, place_of as place_by, address_by};
+ghost use Rattle.st_prep.specs.Fetch.{index_words as index_words_of, place_of as place_by, reading_by, address_by};
 ghost use Rattle.st_prep.specs.declared.entries.Fetched.{Fetched as FetchedOf};
 ghost use Rattle.st_prep.specs.declared.entries.Fetching.TheVariants.{Found};
-ghost use Rattle.st_prep.specs.Reading.{Continuation, Finds, outcome, left_after, fetching_of, half_of as half_by, no_instr as no_instr_of, with_second as with_second_of, with_first as with_first_of, instruction_at, is_execute as is_execute_of, with_target as with_target_of, own_use, reading_at_place, given_by, allowed_found};
+ghost use Rattle.st_prep.specs.Reading.{Continuation, Finds, outcome, left_after, fetching_of, half_of as half_by, no_instr as no_instr_of, with_second as with_second_of, with_first as with_first_of, instruction_at, is_execute as is_execute_of, with_target as with_target_of, own_use, given_by, allowed_found};
 ghost use Rattle.st_prep.specs.Ranges.{HasFields, IsPlace, IsPart, IsFoundInRange, IsFetched, IsFetching};
 
 use crate::addresses::effective_address;
@@ -55,7 +57,7 @@ pub fn index_words(state: &State) -> [u64; 16]
 /// `table`.
 #[tactic(auto, unfolding(crate::specs::Fetch::place_of), using(st_bits::specs::Storage::words_of_storage_is))]
 pub fn place_of(state: &State, table: Option<u8>) -> Place
-    requires { IfSome table (λ i. i < 64) }
+    requires { IsIndicatorIfAny table }
     ensures value { result ≡ place_by state.now table }
     ensures shape { IsPlace result }
     ensures machine { IsMachine state.now }
@@ -69,7 +71,7 @@ pub fn place_of(state: &State, table: Option<u8>) -> Place
 
 // The half-word address of the next entry's instruction.
 fn address(state: &State, table: Option<u8>) -> u32
-    requires { IfSome table (λ i. i < 64) }
+    requires { IsIndicatorIfAny table }
     ensures value { result ≡ address_by table state.now }
     ensures bound { result < 2 ^ 19 }
 {
@@ -106,7 +108,7 @@ fn with_second(first: u32, h: u32, contents: &[u64], state: &State) -> Part
     requires address { h < 2 ^ 19 }
     requires some { 1 ≤ length contents.now }
     ensures value { (t : Bool) (k : Continuation) → fetching_of (left_after (with_second_of
-        (forbidden_by (word state.now 3) state.now.enabled Access.Fetch ((h + 1) / 2)) t first
+        (indicator_of_access state.now Access.Fetch ((h + 1) / 2)) t first
         (h + 1) (h / 2) (slice_index contents.now 0) k) (drop 1 contents.now))
         ≡ given_by t result contents.now k }
     ensures shape { IsPart (length contents.now) result }
@@ -140,7 +142,7 @@ fn with_first(h: u32, contents: &[u64], state: &State) -> Part
     requires address { h < 2 ^ 19 }
     requires some { 1 ≤ length contents.now }
     ensures value { (t : Bool) (k : Continuation) →
-        fetching_of (left_after (with_first_of t (word state.now 3)
+        fetching_of (left_after (with_first_of t (word state.now BOUNDS)
         state.now.enabled h (slice_index contents.now 0) k) (drop 1 contents.now))
         ≡ given_by t result contents.now k }
     ensures shape { IsPart (length contents.now) result }
@@ -159,7 +161,7 @@ fn with_first(h: u32, contents: &[u64], state: &State) -> Part
 fn part_at(h: u32, contents: &[u64], state: &State) -> Part
     requires { h < 2 ^ 19 }
     ensures value { (t : Bool) (k : Continuation) →
-        fetching_of (left_after (instruction_at t (word state.now 3)
+        fetching_of (left_after (instruction_at t (word state.now BOUNDS)
         state.now.enabled h k) contents.now) ≡ given_by t result contents.now k }
     ensures shape { IsPart (length contents.now) result }
 {
@@ -204,7 +206,7 @@ fn fetch_target(own: FoundInstruction, x: &[u64; 16], contents: &[u64], state: &
     requires own { IsFoundInRange own }
     requires execute { is_execute_of own.decoded.instr ≡ true }
     ensures value { result ≡ fetching_of (left_after (own_use x.now
-        (word state.now 3) state.now.enabled
+        (word state.now BOUNDS) state.now.enabled
         own) contents.now) }
     ensures shape { IsFetching result }
 {
@@ -220,7 +222,7 @@ fn fetch_target(own: FoundInstruction, x: &[u64; 16], contents: &[u64], state: &
 fn own_or_target(own: FoundInstruction, x: &[u64; 16], contents: &[u64], state: &State) -> Fetching
     requires { IsFoundInRange own }
     ensures value { result ≡ fetching_of (left_after (own_use x.now
-        (word state.now 3) state.now.enabled
+        (word state.now BOUNDS) state.now.enabled
         own) contents.now) }
     ensures shape { IsFetching result }
 {
@@ -240,11 +242,11 @@ fn own_or_target(own: FoundInstruction, x: &[u64; 16], contents: &[u64], state: 
 fn second_known(h: u32, contents: &[u64], state: &State) -> Option<u32>
     requires address { h < 2 ^ 19 }
     requires some { 1 ≤ length contents.now }
-    requires allowed { forbidden_by (word state.now 3) state.now.enabled Access.Fetch (h / 2)
+    requires allowed { indicator_of_access state.now Access.Fetch (h / 2)
         ≡ None }
     ensures { IfSome result (λ second. (first : ℕ) (k : Continuation) (f : FetchedOf) →
         k (allowed_found first second) ≡ Finds f → fetching_of (left_after (with_second_of
-        (forbidden_by (word state.now 3) state.now.enabled Access.Fetch ((h + 1) / 2)) false first
+        (indicator_of_access state.now Access.Fetch ((h + 1) / 2)) false first
         (h + 1) (h / 2) (slice_index contents.now 0) k) (drop 1 contents.now)) ≡ Found f) }
 {
     if (h + 1) / 2 == h / 2 {
@@ -265,11 +267,11 @@ fn second_known(h: u32, contents: &[u64], state: &State) -> Option<u32>
 fn halves_of(h: u32, contents: &[u64], state: &State) -> Option<(u32, u32)>
     requires address { h < 2 ^ 19 }
     requires some { 1 ≤ length contents.now }
-    requires allowed { forbidden_by (word state.now 3) state.now.enabled Access.Fetch (h / 2)
+    requires allowed { indicator_of_access state.now Access.Fetch (h / 2)
         ≡ None }
     ensures { IfSome result (λ r. (k : Continuation) (f : FetchedOf) →
         k (allowed_found r.0 r.1) ≡ Finds f → fetching_of
-        (left_after (with_first_of false (word state.now 3)
+        (left_after (with_first_of false (word state.now BOUNDS)
         state.now.enabled h (slice_index contents.now 0) k) (drop 1 contents.now)) ≡ Found f) }
 {
     let first = half_of(contents[0], h);
@@ -293,7 +295,7 @@ pub fn halves_known(h: u32, contents: &[u64], state: &State) -> Option<(u32, u32
     requires some { 1 ≤ length contents.now }
     ensures { IfSome result (λ r. (k : Continuation) (f : FetchedOf) →
         k (allowed_found r.0 r.1) ≡ Finds f → fetching_of
-        (left_after (instruction_at false (word state.now 3)
+        (left_after (instruction_at false (word state.now BOUNDS)
         state.now.enabled h k) contents.now) ≡ Found f) }
 {
     match state.may(Access::Fetch, h / 2) {
@@ -311,8 +313,7 @@ pub fn halves_known(h: u32, contents: &[u64], state: &State) -> Option<(u32, u32
 #[inline(always)]
 pub fn fetch_on(place: &Place, x: &[u64; 16], contents: &[u64], state: &State) -> Fetching
     requires { IsPlace place.now }
-    ensures value { result ≡ fetching_of (left_after (reading_at_place x.now
-        (word state.now 3) state.now.enabled
+    ensures value { result ≡ fetching_of (left_after (reading_by x.now state.now
         place.now) contents.now) }
     ensures shape { IsFetching result }
 {
@@ -332,7 +333,7 @@ pub fn fetch_on(place: &Place, x: &[u64; 16], contents: &[u64], state: &State) -
 pub fn fetch_all(place: &Place, x: &[u64; 16], state: &State) -> Fetched
     requires { IsPlace place.now }
     ensures value { result
-        ≡ outcome (reading_at_place x.now (word state.now 3) state.now.enabled place.now)
+        ≡ outcome (reading_by x.now state.now place.now)
         (word state.now) }
     ensures shape { IsFetched result }
 {

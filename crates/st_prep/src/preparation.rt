@@ -1,6 +1,6 @@
 //! What an entry is aimed at, and the entry prepared.
 ghost use Rattle.std.specs.Prelude.{◌≡◌, ℕ, ◌<◌, ◌^◌, IfSome, is_some, option_map};
-ghost use Rattle.st_bits.specs.Indicators.{indicator as indicator_of};
+ghost use Rattle.st_bits.specs.Indicators.{indicator as indicator_of, IsIndicatorIfAny};
 ghost use Rattle.st_bits.specs.Storage.{words_of_storage};
 ghost use Rattle.st_state.specs.Machine.{Machine, IsMachine, word};
 ghost use Rattle.st_state.specs.Interrupts.{indicator_word};
@@ -281,7 +281,7 @@ pub fn prepare(
 // The word that a table instruction, or another one, finds at the word address `w`.
 fn found_word(state: &State, table: Option<u8>, w: u32) -> u64
     requires inside { w < words_of_storage }
-    requires indicator { IfSome table (λ i. i < 64) }
+    requires indicator { IsIndicatorIfAny table }
     ensures value { result ≡ word (state_at_entry table state.now) w }
 {
     let word = state.word(w);
@@ -303,7 +303,7 @@ fn without(indicators: u64, i: u8) -> u64
 /// interrupt has turned off the indicator that it takes.
 pub fn side_word(state: &State, table: Option<u8>, w: Option<u32>) -> Option<u64>
     requires inside { IfSome w (λ w. w < words_of_storage) }
-    requires indicator { IfSome table (λ i. i < 64) }
+    requires indicator { IsIndicatorIfAny table }
     ensures { result ≡ side_word_of table state.now w }
 {
     match w {
@@ -343,7 +343,7 @@ fn fill_fetched(fetched: &Fetched, x: &[u64; 16], state: &State, p: &mut Prepare
 /// Prepares the next entry of a state, or the table instruction of an interrupt by the indicator in
 /// `table`, in place. The result is the word address of its index-side word, if there is one.
 pub fn plan_in(table: Option<u8>, state: &State, p: &mut Prepared) -> Option<u32>
-    requires { IfSome table (λ i. i < 64) }
+    requires { IsIndicatorIfAny table }
     ensures value { p.new ≡ plan_of state.now table }
     ensures ranges { IsPrepared p.new }
     ensures side { result ≡ (needs_of (sight state.now (place_by state.now table))).index_read }

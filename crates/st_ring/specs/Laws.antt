@@ -1,5 +1,6 @@
 -- What holds of all levels that are the entries ahead of a state.
-use Rattle.std.specs.Prelude.{◌≡◌, ℕ, ◌+◌, ◌<◌, ◌≤◌, true, false, List, [], length, All, Option, None, IfSome}
+use Rattle.std.specs.Prelude.{◌≡◌, ℕ, ◌+◌, ◌<◌, ◌≤◌, true, false, List, [], length, All, Option, None}
+use Rattle.st_bits.specs.Indicators.{IsIndicatorIfAny}
 use Rattle.st_state.specs.Machine.{Machine, IsMachine, word}
 use Rattle.st_prep.specs.Fetch.{index_words}
 use Rattle.st_prep.specs.BesideOrders.{AreAlikeBesideOrders}
@@ -54,7 +55,7 @@ pub record WritersAreSeen : Type 0 where
       latest_done last.past w ≤ now → is_word_written (length v.ring) t s w ≡ false
   pub words : (ds : List ℕ) (n tick now w : ℕ) (t : Option ℕ) (s : Machine) (f last : Front)
       (v : LevelsView) →
-      IsMachine s → IfSome t (λ i. i < 64) →
+      IsMachine s → IsIndicatorIfAny t →
       AreAhead ds n tick t s f last v → AreNotDone now v → length v.ring ≤ 8 → 32 ≤ w →
       latest_done last.past w ≤ now → word (guesses (length v.ring) t s) w ≡ word s w
 
@@ -77,15 +78,15 @@ pub record LevelsComeInOrder : Type 0 where
       (level.p ≤ last.p)) v.ring
   pub completed : (ds : List ℕ) (n tick : ℕ) (t : Option ℕ) (s : Machine) (f last : Front)
       (v : LevelsView) →
-      IsMachine s → IfSome t (λ i. i < 64) → AreAhead ds n tick t s f last v →
+      IsMachine s → IsIndicatorIfAny t → AreAhead ds n tick t s f last v →
       All (λ q. (f.c < q.c) × (q.c ≤ last.c)) v.plans
   pub behind : (ds : List ℕ) (n tick now : ℕ) (t : Option ℕ) (s : Machine) (f last : Front)
       (v : LevelsView) →
-      IsMachine s → IfSome t (λ i. i < 64) → AreAhead ds n tick t s f last v → now ≤ f.c →
+      IsMachine s → IsIndicatorIfAny t → AreAhead ds n tick t s f last v → now ≤ f.c →
       AreNotDone now v
   pub waits : (ds : List ℕ) (n tick now : ℕ) (t : Option ℕ) (s : Machine) (f last : Front)
       (v : LevelsView) →
-      IsMachine s → IfSome t (λ i. i < 64) → AreAhead ds n tick t s f last v → AreNotDone now v →
+      IsMachine s → IsIndicatorIfAny t → AreAhead ds n tick t s f last v → AreNotDone now v →
       is_oldest_due v.plans (now + 1) ≡ false → AreNotDone (now + 1) v
   pub due : (ds : List ℕ) (n tick now : ℕ) (t : Option ℕ) (s : Machine) (f last : Front)
       (v : LevelsView) →

@@ -1,5 +1,6 @@
 //! Levels that are pushed, filled, done and undone.
-ghost use Rattle.std.specs.Prelude.{◌≡◌, ℕ, ◌<◌, ◌≤◌, ◌^◌, length, Option, None, Some, IfSome, List, [], ◌∷◌, ◌++◌, slice_get, All, false, true};
+ghost use Rattle.std.specs.Prelude.{◌≡◌, ℕ, ◌<◌, ◌≤◌, ◌^◌, length, Option, None, Some, List, [], ◌∷◌, ◌++◌, slice_get, All, false, true};
+ghost use Rattle.st_bits.specs.Indicators.{IsIndicatorIfAny};
 ghost use Rattle.st_state.specs.Machine.{Machine, IsMachine, word as word_of};
 ghost use Rattle.st_prep.specs.EarlyChange.{words_after};
 ghost use Rattle.st_prep.specs.Fetch.{index_words as index_words_of};
@@ -126,7 +127,7 @@ impl<const N: usize> Levels<N> {
         ensures ahead { (ds : List ℕ) (n tick : ℕ) (t : Option ℕ) (s : Machine)
             (f last : FrontOf) →
             let k = length self.old.ring in let u = guesses k t s in let i = table_behind k t in
-            IsMachine s → IfSome t (λ i. i < 64) →
+            IsMachine s → IsIndicatorIfAny t →
             AreAhead ds n tick t s f last self.old → RunAhead k t s →
             front.now ≡ last → prepared.now ≡ plan_of u i →
             filled.now.row ≡ row_of_entry ds n last (entry i u) →
@@ -167,7 +168,7 @@ impl<const N: usize> Levels<N> {
         requires some { 0 < length self.old.ring }
         requires few { state.old.done < 2 ^ 63 }
         ensures { (ds : List ℕ) (n tick : ℕ) (t : Option ℕ) (s : Machine) (f last : FrontOf) →
-            IsMachine s → IfSome t (λ i. i < 64) → AreAhead ds n tick t s f last self.old →
+            IsMachine s → IsIndicatorIfAny t → AreAhead ds n tick t s f last self.old →
             s ≡ state.old →
             (state.new ≡ state_after_execution t s) × IsCompleted ds n t s f result
             × AreAhead ds n tick None (guess t s)
@@ -203,7 +204,7 @@ impl<const N: usize> Levels<N> {
         // older level, so it stands in the state as before the step of the entry.
         ensures ahead { (ds : List ℕ) (n tick most : ℕ) (t : Option ℕ) (s : Machine)
             (f last : FrontOf) →
-            AreDelaysUpTo most ds → IsMachine s → IfSome t (λ i. i < 64) →
+            AreDelaysUpTo most ds → IsMachine s → IsIndicatorIfAny t →
             AreAhead ds n tick t s f last self.old →
             tick ≤ now → All (λ level. level.p ≤ now) self.old.ring → AreNotDone now self.old →
             ((w : ℕ) → word_of state.now w ≡ word_of s w) →
@@ -219,7 +220,7 @@ impl<const N: usize> Levels<N> {
         ensures count { result ≡ length self.old.ring }
         ensures few { length self.old.ring ≤ N }
         ensures words { (ds : List ℕ) (n tick : ℕ) (t : Option ℕ) (s : Machine) (f last : FrontOf) →
-            IsMachine s → IfSome t (λ i. i < 64) → AreAhead ds n tick t s f last self.old →
+            IsMachine s → IsIndicatorIfAny t → AreAhead ds n tick t s f last self.old →
             self.new.x ≡ index_words_of s }
     {
         self.plans.clear();

@@ -62,10 +62,6 @@ entry_with own target n p table fault = record {
 
 -- ---- from a state
 
--- the indicator by which an interrupt was taken, 0 to 63, where an entry is its table instruction
-abbrev pub IsTable : Option ℕ → Type 0
-IsTable table = IfSome table (λ i. i < 64)
-
 module _ (table : Option ℕ) (s : Machine) where
   -- how the next entry of a state is read, or its table instruction
   abbrev pub reading_at : Reading

@@ -1,11 +1,11 @@
 -- What holds of the entries ahead, whatever is executed.
-use Rattle.std.specs.Prelude.{◌≡◌, ℕ, suc, ◌<◌, ◌≤◌, true, false, ◌++◌, [], ◌∷◌, List, Option, None, IfSome}
+use Rattle.std.specs.Prelude.{◌≡◌, ℕ, suc, ◌<◌, ◌≤◌, true, false, ◌++◌, [], ◌∷◌, List, Option, None}
 use Rattle.std.specs.List.{AllZip}
+use Rattle.st_bits.specs.Indicators.{IsIndicatorIfAny}
 use Rattle.st_state.specs.Machine.{Machine, IsMachine, word}
 use Rattle.st_prep.specs.declared.entries.Place.{Place}
 use Rattle.st_prep.specs.EarlyChange.{words_after}
-use Rattle.st_prep.specs.Fetch.{index_words, place_of, reading_of, words_fetched}
-use Rattle.st_prep.specs.Reading.{reading_at_place}
+use Rattle.st_prep.specs.Fetch.{index_words, place_of, reading_by, reading_of, words_fetched}
 use Rattle.st_prep.specs.Plan.{sight_of, sight, needs, plan, prepared_entry, IsSeen}
 use Rattle.st_prep.specs.BesideOrders.{AreAlikeBesideOrders}
 use Rattle.st_exec.specs.Completion.{state_after_execution, guess, is_missed}
@@ -20,9 +20,9 @@ use Rattle.st_segment.specs.Alone.{RunAhead, is_word_written, words_of_run, IsSa
 -- The next entry of each state is in the ranges of the timetable, and its instruction words are two
 -- runs of words.
 pub record EntriesAreInRange : Type 0 where
-  pub ranges : (t : Option ℕ) (s : Machine) → IsMachine s → IfSome t (λ i. i < 64) →
+  pub ranges : (t : Option ℕ) (s : Machine) → IsMachine s → IsIndicatorIfAny t →
       IsEntryInTime (entry t s)
-  pub reads : (t : Option ℕ) (s : Machine) → IsMachine s → IfSome t (λ i. i < 64) →
+  pub reads : (t : Option ℕ) (s : Machine) → IsMachine s → IsIndicatorIfAny t →
       own_reads (entry t s) ≤ 36
   pub words : (t : Option ℕ) (s : Machine) →
       instruction_words t s ≡ words_of_run (entry t s).own ++ words_of_run (entry t s).target
@@ -30,7 +30,7 @@ pub record EntriesAreInRange : Type 0 where
 
 -- Guessed steps leave states, and go on one by one.
 pub record GuessesGoOn : Type 0 where
-  pub machine : (k : ℕ) (t : Option ℕ) (s : Machine) → IsMachine s → IfSome t (λ i. i < 64) →
+  pub machine : (k : ℕ) (t : Option ℕ) (s : Machine) → IsMachine s → IsIndicatorIfAny t →
       IsMachine (guesses k t s)
   pub state : (k : ℕ) (t : Option ℕ) (s : Machine) →
       guesses (suc k) t s ≡ guess (table_behind k t) (guesses k t s)
@@ -45,21 +45,21 @@ pub record GuessesGoOn : Type 0 where
 -- The index words of which entries ahead are prepared: each early change makes the next ones of
 -- them, and behind entries that are not done alone they are those of the state.
 pub record IndexWordsRunAhead : Type 0 where
-  pub change : (k : ℕ) (t : Option ℕ) (s : Machine) → IsMachine s → IfSome t (λ i. i < 64) →
+  pub change : (k : ℕ) (t : Option ℕ) (s : Machine) → IsMachine s → IsIndicatorIfAny t →
       split_words (suc k) t s
       ≡ words_after (index_words (guesses k t s)) (plan (guesses k t s) (table_behind k t)).index
-  pub state : (k : ℕ) (t : Option ℕ) (s : Machine) → IsMachine s → IfSome t (λ i. i < 64) →
+  pub state : (k : ℕ) (t : Option ℕ) (s : Machine) → IsMachine s → IsIndicatorIfAny t →
       RunAhead k t s → index_words (guesses k t s) ≡ split_words k t s
 
 -- Entries that are not done alone leave the low registers and the mark, and each word from 32 up
 -- that none of them writes; and the counter behind one of them is its following one.
 pub record GuessesLeaveTheRest : Type 0 where
-  pub low : (k : ℕ) (t : Option ℕ) (s : Machine) (w : ℕ) → IsMachine s → IfSome t (λ i. i < 64) →
+  pub low : (k : ℕ) (t : Option ℕ) (s : Machine) (w : ℕ) → IsMachine s → IsIndicatorIfAny t →
       RunAhead k t s → w < 7 → word (guesses k t s) w ≡ word s w
-  pub enabled : (k : ℕ) (t : Option ℕ) (s : Machine) → IsMachine s → IfSome t (λ i. i < 64) →
+  pub enabled : (k : ℕ) (t : Option ℕ) (s : Machine) → IsMachine s → IsIndicatorIfAny t →
       RunAhead k t s → (guesses k t s).enabled ≡ s.enabled
   pub storage : (k : ℕ) (t : Option ℕ) (s : Machine) (w : ℕ) → IsMachine s →
-      IfSome t (λ i. i < 64) →
+      IsIndicatorIfAny t →
       32 ≤ w → is_word_written k t s w ≡ false → word (guesses k t s) w ≡ word s w
   pub counter : (k : ℕ) (t : Option ℕ) (s : Machine) →
       (plan (guesses k t s) (table_behind k t)).serial ≡ false →
@@ -69,10 +69,10 @@ pub record GuessesLeaveTheRest : Type 0 where
 -- of the state; and what is so seen of it is what it is prepared by.
 pub record EntriesBehindAreSeen : Type 0 where
   pub reading : (k : ℕ) (t : Option ℕ) (s : Machine) (p : Place) → IsMachine s →
-      IfSome t (λ i. i < 64) →
+      IsIndicatorIfAny t →
       RunAhead k t s →
-      reading_of (guesses k t s) p ≡ reading_at_place (split_words k t s) (word s 3) s.enabled p
-  pub seen : (k : ℕ) (t : Option ℕ) (s : Machine) → IsMachine s → IfSome t (λ i. i < 64) →
+      reading_of (guesses k t s) p ≡ reading_by (split_words k t s) s p
+  pub seen : (k : ℕ) (t : Option ℕ) (s : Machine) → IsMachine s → IsIndicatorIfAny t →
       RunAhead k t s → let u = guesses k t s in let p = place_of u (table_behind k t) in
       (sight u p ≡ sight_of p (words_fetched u p) (split_words k t s) s)
       × IsSeen u (sight_of p (words_fetched u p) (split_words k t s) s)
@@ -89,9 +89,9 @@ EntriesAreKnownEarly = (t : Option ℕ) (s : Machine) (q : Option ℕ) → let v
 
 -- A step is the guess, but for the counter of a branch on an indicator that is missed.
 pub record StepsAreGuesses : Type 0 where
-  pub right : (t : Option ℕ) (s : Machine) → IsMachine s → IfSome t (λ i. i < 64) →
+  pub right : (t : Option ℕ) (s : Machine) → IsMachine s → IsIndicatorIfAny t →
       is_missed (plan s t) s ≡ false → guess t s ≡ state_after_execution t s
-  pub missed : (t : Option ℕ) (s : Machine) → IsMachine s → IfSome t (λ i. i < 64) →
+  pub missed : (t : Option ℕ) (s : Machine) → IsMachine s → IsIndicatorIfAny t →
       is_missed (plan s t) s ≡ true → guess t s ≡ record
       (state_after_execution t s) { ic = (plan s t).following }
   pub alone : (t : Option ℕ) (s : Machine) → (plan s t).serial ≡ true →

@@ -1,11 +1,12 @@
 //! The leftmost indicator that is on and not masked, and how indicators are turned.
-ghost use Rattle.std.specs.Prelude.{◌≡◌, ◌<◌, IfSome};
+ghost use Rattle.std.specs.Prelude.{◌≡◌};
+ghost use Rattle.st_bits.specs.Indicators.{IsIndicatorIfAny};
 ghost use Rattle.st_state.specs.Interrupts.{first_from, is_pending, indicator_word as turned_of};
 
 /// The leftmost indicator that is on and whose mask bit is one.
 pub fn leftmost(indicators: u64, mask: u64) -> Option<u8>
     ensures value { result ≡ first_from (is_pending indicators mask) 0 64 }
-    ensures bound { IfSome result (λ i. i < 64) }
+    ensures bound { IsIndicatorIfAny result }
 {
     let pending = indicators & mask;
     if pending == 0 {

@@ -32,7 +32,8 @@
 //! `docs/machine.md` has the rules.
 #![tactic(auto, using(st_bits::specs::Storage::words_of_storage_is))]
 
-ghost use Rattle.std.specs.Prelude.{◌≡◌, ◌+◌, ◌*◌, ◌<◌, ◌≤◌, ◌^◌, IfOk, IfSome, IsNone};
+ghost use Rattle.std.specs.Prelude.{◌≡◌, ◌+◌, ◌*◌, ◌<◌, ◌≤◌, ◌^◌, IfOk, IsNone};
+ghost use Rattle.st_bits.specs.Indicators.{IsIndicatorIfAny};
 ghost use Rattle.st_bits.specs.Registers.{register_word};
 ghost use Rattle.st_bits.specs.Storage.{IsImage, words_of_storage};
 
@@ -178,7 +179,7 @@ impl State {
     #[inline(always)]
     pub fn may(&self, access: Access, w: u32) -> Option<u8>
         ensures value { result ≡ indicator_of_access self.now access w }
-        ensures bound { IfSome result (λ i. i < 64) }
+        ensures bound { IsIndicatorIfAny result }
         ensures inside { IsNone result → w < words_of_storage }
     {
         let lowest = match access {
@@ -212,7 +213,7 @@ impl State {
     /// none.
     pub fn pending(&self) -> Option<u8>
         ensures value { result ≡ pending_of self.now }
-        ensures bound { IfSome result (λ i. i < 64) }
+        ensures bound { IsIndicatorIfAny result }
     {
         leftmost(self.word(INDICATORS), self.word(MASK))
     }
