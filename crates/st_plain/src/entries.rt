@@ -227,8 +227,8 @@ fn halves_in(h: u32, content: u64, state: &State) -> Option<Spelled>
     }
 }
 
-// The same, its first word being read from the state. A row of the ledger takes 54 host instructions
-// less for it than by `halves_known` of `st_prep`, which is given both words.
+// The same, its first word being read from the state. A row of the ledger takes 54 host
+// instructions less for it than by `halves_known` of `st_prep`, which is given both words.
 #[inline(always)]
 #[tactic(auto, unfolding(st_prep::specs::Reading::instruction_at))]
 fn halves_at(h: u32, state: &State) -> Option<Spelled>

@@ -61,7 +61,8 @@ fn forbidden_run(state: &State, access: Access, first: u32, len: u8) -> Option<u
 #[tactic(auto, unfolding(crate::specs::Checks::forbidden_words))]
 fn forbidden_words(state: &State, access: Access, words: Words) -> Option<u8>
     requires { IsRuns words }
-    ensures value { result ≡ forbidden_words_of (word state.now BOUNDS) state.now.enabled access words }
+    ensures value { result
+        ≡ forbidden_words_of (word state.now BOUNDS) state.now.enabled access words }
     ensures bound { IsIndicatorIfAny result }
 {
     forbidden_run(state, access, words.first, words.len).or(forbidden_run(
@@ -89,7 +90,8 @@ fn forbidden_side(state: &State, word: Option<u32>) -> Option<u8>
 #[inline(always)]
 fn forbidden_area(state: &State, instr: &Instr, e: u32) -> Option<u8>
     requires { e < 2 ^ 24 }
-    ensures value { result ≡ forbidden_area_of (word state.now BOUNDS) state.now.enabled instr.now e }
+    ensures value { result
+        ≡ forbidden_area_of (word state.now BOUNDS) state.now.enabled instr.now e }
     ensures bound { IsIndicatorIfAny result }
 {
     let Instr::Transfer { write, .. } = *instr else {
