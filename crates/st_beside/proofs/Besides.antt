@@ -19,7 +19,7 @@ use Rattle.st_back.specs.Steps.{Steps, none_of, newest_step, IsForth, IsStepKept
 use Rattle.st_back.specs.Undone.{step_with_word}
 use Rattle.st_back.proofs.ManyLemmas.{between-states, forth-states}
 use Rattle.st_beside.specs.Beside.{Beside, IsFreshStep, HasRoomForCard, IsOpen, IsKept, IsBesideReady, IsMoved, IsStepped, IsBeside}
-use Rattle.st_beside.specs.declared.past.Noted.{Noted}
+use Rattle.st_beside.specs.declared.second.Noted.{Noted}
 
 -- ---- the words from 32 up
 

@@ -7,7 +7,7 @@ use Rattle.st_run.specs.Run.{Scene, scene_after_step, run}
 use Rattle.st_back.specs.declared.kept.KeptStep.{KeptStep}
 use Rattle.st_back.specs.Steps.{Steps, newest_step, states_before}
 use Rattle.st_beside.specs.States.{states}
-use Rattle.st_beside.specs.declared.past.Noted.{Noted}
+use Rattle.st_beside.specs.declared.second.Noted.{Noted}
 
 -- where it stands, and the steps that can be undone
 abbrev pub Beside : Type 0
@@ -39,6 +39,11 @@ IsKept over m n =
 -- what it always keeps
 abbrev pub IsBesideReady : Beside → Type 0
 IsBesideReady b = IsOpen (record { state = b.0.machine; steps = b.1 })
+
+-- nothing is done on it yet
+pub record IsBesideAtStart (b : Beside) : Type 0 where
+  pub fresh : b.0.machine.done ≡ 0
+  pub ready : IsBesideReady b
 
 -- it moves to a scene without a step, and steps back give the same states
 pub record IsMoved (old new : Beside) (c : Scene) : Type 0 where

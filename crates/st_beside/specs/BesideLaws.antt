@@ -1,7 +1,7 @@
 -- What comes to a machine whose last steps can be undone leaves the same steps, one thing after
 -- another.
 use Rattle.std.proofs.Common.{◌≡◌, ◌||◌, ◌∙◌, Bool}
-use Rattle.st_beside.specs.declared.past.Noted.{Noted}
+use Rattle.st_beside.specs.declared.second.Noted.{Noted}
 use Rattle.st_beside.specs.Beside.{IsKept}
 
 pub kept-both : (a b c : Bool) (m n o : Noted) → IsKept a m n → IsKept b n o → c ≡ (a || b) →

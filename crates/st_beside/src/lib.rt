@@ -2,6 +2,6 @@
 //! undone. `docs/report.md` has the rules.
 #![tactic(auto, using(st_bits::specs::Storage::words_of_storage_is))]
 
-mod past;
+mod second;
 
-pub use past::{MachineBeside, rewind, run_beside};
+pub use second::{MachineBeside, rewind, run_beside};

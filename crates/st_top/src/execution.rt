@@ -1,12 +1,10 @@
 //! A job that runs: the listing, where it is asked for, and then the report of the run.
 ghost use Rattle.std.specs.Prelude.{◌≡◌, ◌≤◌, ◌<◌, ◌^◌, None, Ok, All, IfOk, IfSome, OnOk, OnErr, [], ◌++◌, length};
-ghost use Rattle.std.specs.List.{AllPass};
 ghost use Rattle.st_bits.specs.Storage.{IsImage};
-ghost use Rattle.st_bits.specs.declared.limits.TheConstants.{MOST_INSTRUCTIONS};
 ghost use Rattle.st_asm.specs.Assembly.{assembly_parts};
 ghost use Rattle.st_asm.specs.Sound.{IsAssemblySound, IsSymbol};
 ghost use Rattle.st_card.specs.Cards.{cards_of};
-ghost use Rattle.st_card.specs.Limits.{IsWithinLimits, is_part};
+ghost use Rattle.st_card.specs.Limits.{IsWithinLimits};
 ghost use Rattle.st_run.specs.Scenes.{IsScene};
 ghost use Rattle.st_run.specs.Run.{Scene as SceneOf};
 ghost use Rattle.st_io.specs.Event.{at_moment};
@@ -14,7 +12,7 @@ ghost use Rattle.st_object.specs.Object.{IsProgram};
 ghost use Rattle.st_run.specs.ReportedEvents.{reported_events};
 ghost use Rattle.st_top.specs.Listing.{HasCards, front_lines};
 ghost use Rattle.st_top.specs.StepsBack.{events_of_run, moment_at_end, run_report};
-ghost use Rattle.st_beside.specs.Beside.{IsBesideReady, StandsAtStart};
+ghost use Rattle.st_beside.specs.Beside.{IsBesideAtStart, StandsAtStart};
 ghost use Rattle.st_telling.specs.Running.{WritesEvents};
 ghost use Rattle.st_top.specs.Output.{scene_at_start, ran_by, loaded_by, output_of_run};
 ghost use Rattle.st_top.specs.Answers.{Writes, KeepsTime};
@@ -38,10 +36,10 @@ use std::alloc::Global;
 
 // A run that is ready to be told.
 #[derive(Drop)]
-struct RunWithPast<'a> {
+struct RunWithSecond<'a> {
     run: Run<'a, LEVELS>,
     // The machine beside it, where steps back are asked for.
-    past: Option<MachineBeside<'a>>,
+    second: Option<MachineBeside<'a>>,
 }
 
 // Writes what stands in front of the report of a job, and then the report of its run.
@@ -49,20 +47,18 @@ fn write_output<K: Sink>(
     out: &mut K,
     job: &Job,
     program: &Assembled,
-    prepared: &mut RunWithPast<'_>,
+    prepared: &mut RunWithSecond<'_>,
     moment: &mut Moment,
 ) -> Result<(), Failed>
     requires cards { HasCards job.now.text.now program.now.listing.items job.now.cards.now }
     requires symbols { All IsSymbol program.now.symbols.items }
-    requires limit { program.now.controls.budget ≤ MOST_INSTRUCTIONS }
-    requires parts { AllPass is_part program.now.controls.dumps }
-    requires fresh { IfSome prepared.old.past (λ b. b.0.machine.done ≡ 0) }
-    requires ready { IfSome prepared.old.past IsBesideReady }
+    requires limits { IsWithinLimits program.now.controls }
+    requires start { IfSome prepared.old.second IsBesideAtStart }
     requires moment { moment.old ≡ record { done = 0; tick = 0 } }
 
     ensures { (start : SceneOf) → prepared.old.run.rest ≡ reported_events
         (events_of_run program.now.controls start)
-        → StandsAtStart program.now.controls.back start prepared.old.past
+        → StandsAtStart program.now.controls.back start prepared.old.second
         → WritesEvents (K.output out.old) (K.output out.new)
         (at_moment 0 0
         (front_lines job.now.made job.now.text.now (assembly_parts program.now))
@@ -73,7 +69,7 @@ fn write_output<K: Sink>(
     write_report(
         out,
         &mut prepared.run,
-        &mut prepared.past,
+        &mut prepared.second,
         moment,
         &program.controls,
     )
@@ -109,10 +105,9 @@ fn beside<'a>(
     requires counter { start < 2 ^ 19 }
     requires limits { IsWithinLimits controls.now }
 
-    ensures start { IfOk result (λ past. StandsAtStart controls.now.back
-        (scene_at_start image.now start controls.now job.now.text.now) past) }
-    ensures fresh { IfOk result (λ past. IfSome past (λ b. b.0.machine.done ≡ 0)) }
-    ensures ready { IfOk result (λ past. IfSome past IsBesideReady) }
+    ensures start { IfOk result (λ second. StandsAtStart controls.now.back
+        (scene_at_start image.now start controls.now job.now.text.now) second) }
+    ensures ready { IfOk result (λ second. IfSome second IsBesideAtStart) }
 {
     let depth = controls.back;
     if depth == 0 {
@@ -132,7 +127,7 @@ fn prepare<'a>(
     image: &[u64],
     start: u32,
     controls: &'a Controls,
-) -> Result<RunWithPast<'a>, NoMemory>
+) -> Result<RunWithSecond<'a>, NoMemory>
     requires image { IsImage image.now }
     requires counter { start < 2 ^ 19 }
     requires limits { IsWithinLimits controls.now }
@@ -143,23 +138,22 @@ fn prepare<'a>(
         ≡ reported_events (events_of_run controls.now
         (scene_at_start image.now start controls.now job.now.text.now))) }
     ensures beside { IfOk result (λ prepared. StandsAtStart controls.now.back
-        (scene_at_start image.now start controls.now job.now.text.now) prepared.past) }
-    ensures fresh { IfOk result (λ prepared. IfSome prepared.past (λ b. b.0.machine.done ≡ 0)) }
-    ensures ready { IfOk result (λ prepared. IfSome prepared.past IsBesideReady) }
+        (scene_at_start image.now start controls.now job.now.text.now) prepared.second) }
+    ensures ready { IfOk result (λ prepared. IfSome prepared.second IsBesideAtStart) }
     ensures scene { IfOk result
         (λ prepared. IsScene (scene_at_start image.now start controls.now job.now.text.now)) }
 {
     let state = State::new(alloc, image, start)?;
     let hopper = reader_of_job(alloc, job.text, job.cards)?;
     let delays = delays_asked(alloc, controls)?;
-    let past = beside(alloc, job, image, start, controls)?;
+    let second = beside(alloc, job, image, start, controls)?;
     let asked = RunControls {
         signals: controls.signals(),
         snaps: controls.snaps(),
         budget: controls.budget(),
     };
     let run = Run::new(state, delays, hopper, &asked);
-    Ok(RunWithPast { run, past })
+    Ok(RunWithSecond { run, second })
 }
 
 // Writes what stands in front of the report of a job, and the report of its run, and answers.
@@ -167,18 +161,16 @@ fn answer_run<K: Sink>(
     out: &mut K,
     job: &Job,
     program: &Assembled,
-    prepared: &mut RunWithPast<'_>,
+    prepared: &mut RunWithSecond<'_>,
 ) -> Answer
     requires cards { HasCards job.now.text.now program.now.listing.items job.now.cards.now }
     requires symbols { All IsSymbol program.now.symbols.items }
-    requires limit { program.now.controls.budget ≤ MOST_INSTRUCTIONS }
-    requires parts { AllPass is_part program.now.controls.dumps }
-    requires fresh { IfSome prepared.old.past (λ b. b.0.machine.done ≡ 0) }
-    requires ready { IfSome prepared.old.past IsBesideReady }
+    requires limits { IsWithinLimits program.now.controls }
+    requires start { IfSome prepared.old.second IsBesideAtStart }
 
     ensures { (start : SceneOf) → prepared.old.run.rest ≡ reported_events
         (events_of_run program.now.controls start)
-        → StandsAtStart program.now.controls.back start prepared.old.past
+        → StandsAtStart program.now.controls.back start prepared.old.second
         → Writes result.status (K.output out.old) (K.output out.new)
         (output_of_run
         (front_lines job.now.made job.now.text.now (assembly_parts program.now))
@@ -211,16 +203,14 @@ pub fn execute<K: Sink>(alloc: Global, job: &Job, program: &Assembled, out: &mut
 // Writes the report of the run of a program that was loaded, and answers.
 fn answer_loaded<K: Sink>(
     out: &mut K,
-    prepared: &mut RunWithPast<'_>,
+    prepared: &mut RunWithSecond<'_>,
     controls: &Controls,
 ) -> Answer
-    requires limit { controls.now.budget ≤ MOST_INSTRUCTIONS }
-    requires parts { AllPass is_part controls.now.dumps }
-    requires fresh { IfSome prepared.old.past (λ b. b.0.machine.done ≡ 0) }
-    requires ready { IfSome prepared.old.past IsBesideReady }
+    requires limits { IsWithinLimits controls.now }
+    requires start { IfSome prepared.old.second IsBesideAtStart }
     ensures { (start : SceneOf) → prepared.old.run.rest ≡ reported_events
         (events_of_run controls.now start)
-        → StandsAtStart controls.now.back start prepared.old.past
+        → StandsAtStart controls.now.back start prepared.old.second
         → Writes result.status (K.output out.old) (K.output out.new)
         (output_of_run [] controls.now start) result }
 {
@@ -228,7 +218,7 @@ fn answer_loaded<K: Sink>(
     let written = write_report(
         out,
         &mut prepared.run,
-        &mut prepared.past,
+        &mut prepared.second,
         &mut moment,
         controls,
     );

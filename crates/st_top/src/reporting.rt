@@ -1,8 +1,7 @@
 //! The whole report of a run.
 ghost use Rattle.std.specs.Prelude.{◌≡◌, ◌≤◌, [], ◌∷◌, IfSome};
 ghost use Rattle.std.specs.List.{AllPass};
-ghost use Rattle.st_bits.specs.declared.limits.TheConstants.{MOST_INSTRUCTIONS};
-ghost use Rattle.st_card.specs.Limits.{is_part};
+ghost use Rattle.st_card.specs.Limits.{IsWithinLimits, is_part};
 ghost use Rattle.st_run.specs.Run.{Scene as SceneOf};
 ghost use Rattle.st_io.specs.Lines.{WritesLines};
 ghost use Rattle.st_report.specs.Line.{back_line};
@@ -10,7 +9,7 @@ ghost use Rattle.st_run.specs.ReportedEvents.{reported_events};
 ghost use Rattle.st_telling.specs.Report.{block};
 ghost use Rattle.st_beside.specs.States.{states};
 ghost use Rattle.st_top.specs.StepsBack.{lines_of_steps_back, last_state, events_of_run, moment_at_end, run_report};
-ghost use Rattle.st_beside.specs.Beside.{IsBesideReady, StandsAtStart, StandsAtEnd};
+ghost use Rattle.st_beside.specs.Beside.{IsBesideReady, IsBesideAtStart, StandsAtStart, StandsAtEnd};
 ghost use Rattle.st_telling.specs.Running.{WritesEvents};
 
 use st_beside::{MachineBeside, rewind, run_beside};
@@ -50,41 +49,39 @@ fn write_before<K: Sink>(
 #[tactic(auto, using(st_io::proofs::Progress::wrote_nothing))]
 fn write_back<K: Sink>(
     out: &mut K,
-    past: &mut Option<MachineBeside>,
+    second: &mut Option<MachineBeside>,
     controls: &Controls,
 ) -> Result<(), Failed>
     requires parts { AllPass is_part controls.now.dumps }
-    requires ready { IfSome past.old IsBesideReady }
+    requires ready { IfSome second.old IsBesideReady }
     ensures { (start : SceneOf)
-        → StandsAtEnd controls.now.back controls.now.budget start past.old
+        → StandsAtEnd controls.now.back controls.now.budget start second.old
         → WritesLines (K.output out.old) (K.output out.new)
         (lines_of_steps_back controls.now (states controls.now.budget start) (last_state
         controls.now start)) result }
 {
-    let Some(past) = past.as_mut() else {
+    let Some(second) = second.as_mut() else {
         return Ok(());
     };
-    let steps = rewind(past);
-    write_before(out, steps, past.state(), controls)
+    let steps = rewind(second);
+    write_before(out, steps, second.state(), controls)
 }
 
 // Makes the run on the machine beside it, and writes the state before the end that is asked for.
-fn write_past<K: Sink>(
+fn write_second<K: Sink>(
     out: &mut K,
-    past: &mut Option<MachineBeside>,
+    second: &mut Option<MachineBeside>,
     controls: &Controls,
 ) -> Result<(), Failed>
-    requires limit { controls.now.budget ≤ MOST_INSTRUCTIONS }
-    requires parts { AllPass is_part controls.now.dumps }
-    requires fresh { IfSome past.old (λ b. b.0.machine.done ≡ 0) }
-    requires ready { IfSome past.old IsBesideReady }
-    ensures { (start : SceneOf) → StandsAtStart controls.now.back start past.old
+    requires limits { IsWithinLimits controls.now }
+    requires start { IfSome second.old IsBesideAtStart }
+    ensures { (start : SceneOf) → StandsAtStart controls.now.back start second.old
         → WritesLines (K.output out.old) (K.output out.new)
         (lines_of_steps_back controls.now (states controls.now.budget start) (last_state
         controls.now start)) result }
 {
-    run_beside(past, controls.budget());
-    write_back(out, past, controls)
+    run_beside(second, controls.budget());
+    write_back(out, second, controls)
 }
 
 /// Writes the report of a run from its start: what is told, and then the state before the end that
@@ -92,19 +89,17 @@ fn write_past<K: Sink>(
 pub fn write_report<K: Sink>(
     out: &mut K,
     run: &mut Run<'_, LEVELS>,
-    past: &mut Option<MachineBeside>,
+    second: &mut Option<MachineBeside>,
     moment: &mut Moment,
     controls: &Controls,
 ) -> Result<(), Failed>
-    requires limit { controls.now.budget ≤ MOST_INSTRUCTIONS }
-    requires parts { AllPass is_part controls.now.dumps }
-    requires fresh { IfSome past.old (λ b. b.0.machine.done ≡ 0) }
-    requires ready { IfSome past.old IsBesideReady }
+    requires limits { IsWithinLimits controls.now }
+    requires start { IfSome second.old IsBesideAtStart }
     ensures { (start : SceneOf) → run.old.rest ≡ reported_events (events_of_run controls.now start)
-        → StandsAtStart controls.now.back start past.old
+        → StandsAtStart controls.now.back start second.old
         → WritesEvents (K.output out.old) (K.output out.new) (run_report controls.now start)
         (moment_at_end controls.now start) moment.new result }
 {
     write_run(out, run, moment, controls)?;
-    write_past(out, past, controls)
+    write_second(out, second, controls)
 }

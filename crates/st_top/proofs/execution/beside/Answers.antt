@@ -18,11 +18,6 @@ returns-clause-start c =
       scene,
     )
 
-pub returns-clause-fresh : goal.returns-clause-fresh
-returns-clause-fresh c =
-    ap (λ (e : Scene). e.machine.done)
-    (scene_is c.new-3.result.0 _ _ _ _ _ _ c.new-3.ensures.scene c.in_ok-machine.ensures.value c.signals.ensures c.in_ok-hopper.ensures)
-
 pub returns-clause-ready : goal.returns-clause-ready
 returns-clause-ready c =
     let back = c.args.controls.now.back in
@@ -30,5 +25,8 @@ returns-clause-ready c =
     let other : back ≢ 0 = λ none. c.if-depth-eq0.false (deep ∙ none) in
     let some : 1 ≤ back = omega (arith, other) in
     let scene = scene_is c.new-3.result.0 _ _ _ _ _ _ c.new-3.ensures.scene c.in_ok-machine.ensures.value c.signals.ensures c.in_ok-hopper.ensures in
-    (begins_beside back c.new-3.result.1 c.new-3.result.0 some c.requires.limits.back (c.new-3.ensures.steps ∙ (c.in_ok-steps.ensures ∙ ap none_of deep))
-    (ap (λ (e : Scene). e.machine.reader) scene)).ready
+    record {
+      fresh = ap (λ (e : Scene). e.machine.done) scene;
+      ready = (begins_beside back c.new-3.result.1 c.new-3.result.0 some c.requires.limits.back (c.new-3.ensures.steps ∙ (c.in_ok-steps.ensures ∙ ap none_of deep))
+          (ap (λ (e : Scene). e.machine.reader) scene)).ready;
+    }

@@ -7,4 +7,4 @@ returns-in_err-write_run g c = λ start is stands.
 
 pub returns : goal.returns
 returns g c = λ start is stands.
-    report_then _ _ _ c.args.controls.now start _ _ _ _ _ is c.in_ok-write_run.ensures (c.write_past.ensures start stands)
+    report_then _ _ _ c.args.controls.now start _ _ _ _ _ is c.in_ok-write_run.ensures (c.write_second.ensures start stands)

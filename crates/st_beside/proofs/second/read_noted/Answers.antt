@@ -4,7 +4,7 @@ use Rattle.st_state.specs.Machine.{Machine, IsMachine}
 use Rattle.st_state.specs.Interrupts.{state_with_signal}
 use Rattle.st_back.specs.Steps.{states_before}
 use Rattle.st_beside.proofs.Besides.{states_beside, states_unread}
-use Rattle.st_beside.proofs.past.read_noted.Goals as goal
+use Rattle.st_beside.proofs.second.read_noted.Goals as goal
 
 pub returns-in_default-card-clause-states : goal.returns-in_default-card-clause-states
 returns-in_default-card-clause-states c =

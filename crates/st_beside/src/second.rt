@@ -22,7 +22,7 @@ ghost use Rattle.st_run.specs.Run as run;
 ghost use Rattle.st_exec.specs.Transfer.{all_stored, read_in as read_in_of};
 ghost use Rattle.st_exec.specs.Step.{rests};
 ghost use Rattle.st_back.specs.Steps.{states_before};
-ghost use Rattle.st_beside.specs.Beside.{IsFreshStep, IsBesideReady, IsMoved, IsStepped, IsBeside, HasMadeRun, StandsAtStart, StandsAtEnd};
+ghost use Rattle.st_beside.specs.Beside.{IsFreshStep, IsBesideReady, IsBesideAtStart, IsMoved, IsStepped, IsBeside, HasMadeRun, StandsAtStart, StandsAtEnd};
 
 use st_back::Back;
 use st_bits::indicators::{END_EXCEPTION, END_OF_OPERATION};
@@ -167,64 +167,62 @@ impl Outside for Noted {
 
 // What comes between two steps: signals and orders that are due, and what ends a wait. Nothing is
 // printed.
-fn pass_interlude(past: &mut MachineBeside)
-    requires { IsBesideReady past.old }
-    ensures { IsMoved past.old past.new (run.interlude past.old.0).scene }
+fn pass_interlude(second: &mut MachineBeside)
+    requires { IsBesideReady second.old }
+    ensures { IsMoved second.old second.new (run.interlude second.old.0).scene }
 {
-    between(&mut past.noted, &mut past.coming);
+    between(&mut second.noted, &mut second.coming);
 }
 
 // Makes the next step of a machine that is not at rest.
-fn step(past: &mut MachineBeside)
-    requires few { past.old.0.machine.done < 2 ^ 63 }
-    requires ready { IsBesideReady past.old }
-    ensures { rests past.old.0.machine ≡ false → IsStepped past.old past.new }
+fn step(second: &mut MachineBeside)
+    requires few { second.old.0.machine.done < 2 ^ 63 }
+    requires ready { IsBesideReady second.old }
+    ensures { rests second.old.0.machine ≡ false → IsStepped second.old second.new }
 {
-    past.noted.steps.forth(&mut past.noted.state);
+    second.noted.steps.forth(&mut second.noted.state);
 }
 
 // Whether the machine waits and nothing is pending that would end it.
-fn is_resting(past: &MachineBeside) -> bool
-    ensures { result ≡ rests past.now.0.machine }
+fn is_resting(second: &MachineBeside) -> bool
+    ensures { result ≡ rests second.now.0.machine }
 {
-    is_at_rest(&past.noted.state)
+    is_at_rest(&second.noted.state)
 }
 
 // Makes the run to its end, at rest or with the budget used up.
-fn run_to_end(past: &mut MachineBeside, budget: u64)
-    requires fresh { past.old.0.machine.done ≡ 0 }
+fn run_to_end(second: &mut MachineBeside, budget: u64)
+    requires start { IsBesideAtStart second.old }
     requires limit { budget ≤ MOST_INSTRUCTIONS }
-    requires ready { IsBesideReady past.old }
-    ensures end { (depth : ℕ) → IsBeside depth past.old [] →
-        HasMadeRun depth budget past.old.0 past.new }
-    ensures ready { IsBesideReady past.new }
+    ensures end { (depth : ℕ) → IsBeside depth second.old [] →
+        HasMadeRun depth budget second.old.0 second.new }
+    ensures ready { IsBesideReady second.new }
 {
     let mut left = budget;
     'running: loop {
-        pass_interlude(past);
-        if is_resting(past) {
+        pass_interlude(second);
+        if is_resting(second) {
             return;
         }
         if left == 0 {
             return;
         }
-        step(past);
+        step(second);
         left -= 1;
     }
 }
 
 /// Makes the run to its end on the machine beside it, where there is one: at rest, or with as many
 /// steps done as the budget has.
-pub fn run_beside(past: &mut Option<MachineBeside>, budget: u64)
-    requires fresh { IfSome past.old (λ b. b.0.machine.done ≡ 0) }
+pub fn run_beside(second: &mut Option<MachineBeside>, budget: u64)
+    requires start { IfSome second.old IsBesideAtStart }
     requires limit { budget ≤ MOST_INSTRUCTIONS }
-    requires ready { IfSome past.old IsBesideReady }
-    ensures end { (back : ℕ) (start : run.Scene) → StandsAtStart back start past.old
-        → StandsAtEnd back budget start past.new }
-    ensures ready { IfSome past.new IsBesideReady }
+    ensures end { (back : ℕ) (start : run.Scene) → StandsAtStart back start second.old
+        → StandsAtEnd back budget start second.new }
+    ensures ready { IfSome second.new IsBesideReady }
 {
-    if let Some(past) = past.as_mut() {
-        run_to_end(past, budget);
+    if let Some(second) = second.as_mut() {
+        run_to_end(second, budget);
     }
 }
 
@@ -240,13 +238,13 @@ fn undo_all(steps: &mut Back, machine: &mut State)
 }
 
 /// Undoes all steps that are kept, the newest first, and tells how many they were, 64 at most.
-pub fn rewind(past: &mut MachineBeside) -> u8
-    requires { IsBesideReady past.old }
-    ensures count { result ≡ length past.old.1.kept }
-    ensures state { past.new.0.machine ∷ [] ≡ take 1
-        (states_before past.old.1.kept past.old.0.machine ++ past.old.0.machine ∷ []) }
+pub fn rewind(second: &mut MachineBeside) -> u8
+    requires { IsBesideReady second.old }
+    ensures count { result ≡ length second.old.1.kept }
+    ensures state { second.new.0.machine ∷ [] ≡ take 1
+        (states_before second.old.1.kept second.old.0.machine ++ second.old.0.machine ∷ []) }
 {
-    let count = past.noted.steps.len() as u8;
-    undo_all(&mut past.noted.steps, &mut past.noted.state);
+    let count = second.noted.steps.len() as u8;
+    undo_all(&mut second.noted.steps, &mut second.noted.state);
     count
 }

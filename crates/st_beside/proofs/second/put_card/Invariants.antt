@@ -2,7 +2,7 @@ use Rattle.std.proofs.Common.{◌≡◌, ◌+◌, drop}
 use Rattle.std.specs.Prelude.{MatchOption}
 use Rattle.st_exec.specs.Transfer.{all_stored}
 use Rattle.st_back.specs.Steps.{newest_step, states_before}
-use Rattle.st_beside.proofs.past.put_card.Given as goal
+use Rattle.st_beside.proofs.second.put_card.Given as goal
 
 abbrev pub invariant-loop-k : goal.invariant-loop-k
 invariant-loop-k l = record {

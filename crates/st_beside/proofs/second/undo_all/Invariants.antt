@@ -1,7 +1,7 @@
 use Rattle.std.proofs.Common.{◌≡◌, ◌+◌, [], ◌∷◌, ◌++◌, length}
 use Rattle.st_back.specs.Steps.{states_before}
 use Rattle.st_beside.proofs.Rewinds.{LeftToUndo}
-use Rattle.st_beside.proofs.past.undo_all.Given as goal
+use Rattle.st_beside.proofs.second.undo_all.Given as goal
 
 abbrev pub invariant-loop : goal.invariant-loop
 invariant-loop l = record {

@@ -5,7 +5,7 @@ use Rattle.st_exec.proofs.TransferLemmas.{all_stored-next, all_stored-all}
 use Rattle.st_back.specs.Steps.{newest_step}
 use Rattle.st_back.proofs.ManyLemmas.{put-states}
 use Rattle.st_beside.proofs.Besides.{put-fresh, room_at}
-use Rattle.st_beside.proofs.past.put_card.Goals as goal
+use Rattle.st_beside.proofs.second.put_card.Goals as goal
 
 pub put-requires-clause-room : goal.put-requires-clause-room
 put-requires-clause-room c =

@@ -3,15 +3,15 @@ use Rattle.st_run.specs.Run.{interlude}
 use Rattle.st_run.specs.Outside.{scene_at}
 use Rattle.st_beside.specs.Beside.{Beside, IsBesideReady, IsMoved}
 use Rattle.st_beside.proofs.Besides.{moved_between}
-use Rattle.st_beside.proofs.past.pass_interlude.Goals as goal
+use Rattle.st_beside.proofs.second.pass_interlude.Goals as goal
 
 pub between-requires : goal.between-requires
-between-requires c = subst {A = Beside} IsBesideReady (sym c.past.view_is) c.requires
+between-requires c = subst {A = Beside} IsBesideReady (sym c.second.view_is) c.requires
 
 pub returns : goal.returns
 returns c =
-    let i = c.past.inside in
+    let i = c.second.inside in
     let n = c.between.new.machine in
     let y = c.between.new.coming in
-    subst {A = Beside} (λ b. IsBesideReady b → IsMoved b (scene_at n.state y, n.steps) (interlude b.0).scene) c.past.view_is
+    subst {A = Beside} (λ b. IsBesideReady b → IsMoved b (scene_at n.state y, n.steps) (interlude b.0).scene) c.second.view_is
     (λ ready. moved_between i.noted n i.coming y ready c.between.ensures.scene c.between.ensures.rest) c.requires

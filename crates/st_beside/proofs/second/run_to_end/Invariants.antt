@@ -1,14 +1,14 @@
 use Rattle.std.proofs.Common.{◌≡◌, ℕ, ◌+◌, []}
 use Rattle.st_beside.specs.Beside.{IsBesideReady, IsBeside}
 use Rattle.st_beside.proofs.Rewinds.{StatesSoFar}
-use Rattle.st_beside.proofs.past.run_to_end.Given as goal
+use Rattle.st_beside.proofs.second.run_to_end.Given as goal
 
 abbrev pub invariant-running : goal.invariant-running
 invariant-running l = record {
-  counted : l.past.0.machine.done + l.left ≡ l.budget;
-  ready : IsBesideReady l.past;
-  states : (depth : ℕ) → IsBeside depth l.fn.past []
-      → StatesSoFar depth l.budget l.fn.past.0 l.left l.past;
+  counted : l.second.0.machine.done + l.left ≡ l.budget;
+  ready : IsBesideReady l.second;
+  states : (depth : ℕ) → IsBeside depth l.fn.second []
+      → StatesSoFar depth l.budget l.fn.second.0 l.left l.second;
 }
 
 abbrev pub decreases-running : goal.decreases-running

@@ -1,7 +1,7 @@
 use Rattle.std.proofs.Common.{◌≡◌, ◌≢◌, [], ◌∷◌, ◌++◌, length, arith}
 use Rattle.st_back.specs.Steps.{states_before}
 use Rattle.st_beside.proofs.Rewinds.{undo_begins, undo_next, undo_fewer, undone_all}
-use Rattle.st_beside.proofs.past.undo_all.Goals as goal
+use Rattle.st_beside.proofs.second.undo_all.Goals as goal
 
 pub loop-init : goal.loop-init
 loop-init c = record {

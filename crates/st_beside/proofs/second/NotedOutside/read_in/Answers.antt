@@ -1,5 +1,5 @@
 use Rattle.st_beside.proofs.Besides.{read-kept}
-use Rattle.st_beside.proofs.past.NotedOutside.read_in.Goals as goal
+use Rattle.st_beside.proofs.second.NotedOutside.read_in.Goals as goal
 
 pub returns-clause-rest : goal.returns-clause-rest
 returns-clause-rest c =
