@@ -8,7 +8,7 @@ ghost use Rattle.st_state.specs.declared.protection.Access.{Access as AccessOf};
 ghost use Rattle.st_prep.specs.Fetch.{index_words as index_words_of, reading_of, words_fetched as fetched_of};
 ghost use Rattle.st_prep.specs.Plan.{needs as needs_of, plan as plan_of, prepared_entry as prepared_of, sight_of, side_of};
 ghost use Rattle.st_prep.specs.Ranges.{HasFields, IsPlace, IsFetched, IsNeeds, IsPrepared};
-ghost use Rattle.st_prep.specs.Reading.{Use, words_read, own_words, half_of as half_by, with_second as with_second_of, with_first as with_first_of, instruction_at, is_execute as is_execute_of, fetched_plain, allowed_found};
+ghost use Rattle.st_prep.specs.Reading.{Continuation, words_read, own_words, half_of as half_by, with_second as with_second_of, with_first as with_first_of, instruction_at, is_execute as is_execute_of, fetched_plain, allowed_found};
 ghost use Rattle.st_plain.specs.Looking.{known_at};
 ghost use Rattle.st_rows.specs.Ranges.{IsEntryInTime};
 ghost use Rattle.st_plain.specs.Straight.{IsReadOver, if_more, IsEntryPlanned};
@@ -173,7 +173,7 @@ fn second_half(h: u32, content: u64, state: &State) -> Option<Second>
     requires address { h < 2 ^ 19 }
     requires allowed { forbidden_by (word state.now 3) state.now.enabled AccessOf.Fetch (h / 2)
         ≡ None }
-    ensures { IfSome result (λ r. (first : ℕ) (k : Use) → IsReadOver (word state.now)
+    ensures { IfSome result (λ r. (first : ℕ) (k : Continuation) → IsReadOver (word state.now)
         (with_second_of
         (forbidden_by (word state.now 3) state.now.enabled AccessOf.Fetch ((h + 1) / 2)) false first
         (h + 1) (h / 2) content k) (k (allowed_found first r.half)) (if_more r.more
@@ -203,7 +203,7 @@ fn halves_in(h: u32, content: u64, state: &State) -> Option<Spelled>
     requires address { h < 2 ^ 19 }
     requires allowed { forbidden_by (word state.now 3) state.now.enabled AccessOf.Fetch (h / 2)
         ≡ None }
-    ensures { IfSome result (λ r. (k : Use) → IsReadOver (word state.now)
+    ensures { IfSome result (λ r. (k : Continuation) → IsReadOver (word state.now)
         (with_first_of false (word state.now 3)
         state.now.enabled h content k) (k (allowed_found r.first r.second))
         (if_more r.more ((h + 1) / 2))) }
@@ -233,7 +233,7 @@ fn halves_in(h: u32, content: u64, state: &State) -> Option<Spelled>
 #[tactic(auto, unfolding(st_prep::specs::Reading::instruction_at))]
 fn halves_at(h: u32, state: &State) -> Option<Spelled>
     requires { h < 2 ^ 19 }
-    ensures { IfSome result (λ r. (k : Use) → IsReadOver (word state.now)
+    ensures { IfSome result (λ r. (k : Continuation) → IsReadOver (word state.now)
         (instruction_at false (word state.now 3)
         state.now.enabled h k) (k (allowed_found r.first r.second))
         (h / 2 ∷ if_more r.more ((h + 1) / 2))) }
@@ -435,7 +435,7 @@ fn plan_other(x: &[u64; 16], state: &State, p: &mut Prepared) -> Planned
 fn plan_spelled(spelled: Spelled, x: &[u64; 16], state: &State, p: &mut Prepared) -> Planned
     requires place { IsPlace p.old.place }
     requires words { x.now ≡ index_words_of state.now }
-    requires spelled { (k : Use) → IsReadOver (word state.now)
+    requires spelled { (k : Continuation) → IsReadOver (word state.now)
         (instruction_at false (word state.now 3) state.now.enabled
         p.old.place.address k) (k (allowed_found spelled.first spelled.second))
         (p.old.place.address / 2 ∷ if_more spelled.more ((p.old.place.address + 1) / 2)) }

@@ -10,9 +10,9 @@ use Rattle.st_state.specs.Boundary.{forbidden_by}
 use Rattle.st_state.specs.declared.protection.Access.TheVariants.{Fetch}
 use Rattle.st_prep.specs.declared.entries.Place.{Place}
 use Rattle.st_prep.specs.declared.entries.Fetched.{Fetched}
-use Rattle.st_prep.specs.declared.fetching.Found.{Found}
+use Rattle.st_prep.specs.declared.fetching.FoundInstruction.{FoundInstruction}
 use Rattle.st_prep.specs.EarlyChange.{effective}
-use Rattle.st_prep.specs.Reading.{Reading, Finds, Reads, outcome, words_read, own_words, half_of, Use, with_second, with_first, read_after, instruction_at, is_execute, with_target, fetched_alone, own_use, reading_at_place}
+use Rattle.st_prep.specs.Reading.{Reading, Finds, Reads, outcome, words_read, own_words, half_of, Continuation, with_second, with_first, read_after, instruction_at, is_execute, with_target, fetched_alone, own_use, reading_at_place}
 use Rattle.st_prep.proofs.Choices.{of_choice}
 use Rattle.st_segment.specs.Alone.{word_list_from}
 
@@ -24,21 +24,21 @@ own_of true n = 0
 own_of false n = n
 
 -- a reading that reads words from w on, m at most, and then goes on with what it found
-record IsRead (t : Bool) (w m : ℕ) (k : Use) (c : ℕ → ℕ) (r : Reading) : Type 0 where
+record IsRead (t : Bool) (w m : ℕ) (k : Continuation) (c : ℕ → ℕ) (r : Reading) : Type 0 where
   n : ℕ
-  found : Found
+  found : FoundInstruction
   few : n ≤ m
   words : words_read r c ≡ word_list_from w n ++ words_read (k found) c
   own : own_words r c ≡ own_of t n + own_words (k found) c
 
 -- it reads none
-read-none : (t : Bool) (w m : ℕ) (k : Use) (c : ℕ → ℕ) (f : Found) → IsRead t w m k c (k f)
+read-none : (t : Bool) (w m : ℕ) (k : Continuation) (c : ℕ → ℕ) (f : FoundInstruction) → IsRead t w m k c (k f)
 unfolding word_list_from
 read-none true w m k c f = record { n = 0; found = f; few = omega arith; words = refl; own = omega arith }
 read-none false w m k c f = record { n = 0; found = f; few = omega arith; words = refl; own = omega arith }
 
 -- one word more before
-read-more : (t : Bool) (w m : ℕ) (k : Use) (c : ℕ → ℕ) (r : ℕ → Reading) → IsRead t (w + 1) m k c (r (c w))
+read-more : (t : Bool) (w m : ℕ) (k : Continuation) (c : ℕ → ℕ) (r : ℕ → Reading) → IsRead t (w + 1) m k c (r (c w))
     → IsRead t w (suc m) k c (Reads t w r)
 unfolding word_list_from words_read own_words
 read-more true w m k c r h = record {
@@ -60,7 +60,7 @@ read-more false w m k c r h = record {
 second-word : (h : ℕ) → ((h + 1) / 2 == h / 2) ≡ false → (h + 1) / 2 ≡ h / 2 + 1
 second-word h e = grind (arith, nat_tests, e)
 
-second-by : (b t : Bool) (first h content : ℕ) (k : Use) (c : ℕ → ℕ) → ((h + 1) / 2 == h / 2) ≡ b
+second-by : (b t : Bool) (first h content : ℕ) (k : Continuation) (c : ℕ → ℕ) → ((h + 1) / 2 == h / 2) ≡ b
     → IsRead t (h / 2 + 1) 1 k c
     (if b then k (record { decoded = decoded_entry first (half_of content (h + 1)); fault = None })
     else Reads t ((h + 1) / 2) (λ x. k (record { decoded = decoded_entry first (half_of x (h + 1)); fault = None })))
@@ -73,12 +73,12 @@ second-by false t first h content k c e =
     (read-more t (h / 2 + 1) 0 k c (λ x. k (record { decoded = decoded_entry first (half_of x (h + 1)); fault = None }))
     (read-none t (h / 2 + 1 + 1) 0 k c _))
 
-read-second : (f : Option ℕ) (t : Bool) (first h content : ℕ) (k : Use) (c : ℕ → ℕ)
+read-second : (f : Option ℕ) (t : Bool) (first h content : ℕ) (k : Continuation) (c : ℕ → ℕ)
     → IsRead t (h / 2 + 1) 1 k c (with_second f t first (h + 1) (h / 2) content k)
 read-second (Some i) t first h content k c = read-none t (h / 2 + 1) 1 k c _
 read-second None t first h content k c = second-by ((h + 1) / 2 == h / 2) t first h content k c refl
 
-read-first : (t : Bool) (b : ℕ) (en : Bool) (h content : ℕ) (k : Use) (c : ℕ → ℕ)
+read-first : (t : Bool) (b : ℕ) (en : Bool) (h content : ℕ) (k : Continuation) (c : ℕ → ℕ)
     → IsRead t (h / 2 + 1) 1 k c (with_first t b en h content k)
 unfolding with_first
 read-first t b en h content k c =
@@ -86,13 +86,13 @@ read-first t b en h content k c =
     (read-second (forbidden_by b en Fetch ((h + 1) / 2)) t (half_of content h) h content k c)
     (read-none t (h / 2 + 1) 1 k c _)
 
-read-after : (f : Option ℕ) (t : Bool) (b : ℕ) (en : Bool) (h : ℕ) (k : Use) (c : ℕ → ℕ)
+read-after : (f : Option ℕ) (t : Bool) (b : ℕ) (en : Bool) (h : ℕ) (k : Continuation) (c : ℕ → ℕ)
     → IsRead t (h / 2) 2 k c (read_after f t b en h k)
 read-after (Some i) t b en h k c = read-none t (h / 2) 2 k c _
 read-after None t b en h k c =
     read-more t (h / 2) 1 k c (λ x. with_first t b en h x k) (read-first t b en h (c (h / 2)) k c)
 
-read-at : (t : Bool) (b : ℕ) (en : Bool) (h : ℕ) (k : Use) (c : ℕ → ℕ) → IsRead t (h / 2) 2 k c (instruction_at t b en h k)
+read-at : (t : Bool) (b : ℕ) (en : Bool) (h : ℕ) (k : Continuation) (c : ℕ → ℕ) → IsRead t (h / 2) 2 k c (instruction_at t b en h k)
 unfolding instruction_at
 read-at t b en h k c = read-after (forbidden_by b en Fetch (h / 2)) t b en h k c
 
@@ -119,7 +119,7 @@ target-at b en h ex c =
     read-at true b en h (λ target. Finds (with_target ex target)) c in
     record { w = h / 2; n = it.n; few = it.few; words = it.words ∙ append-nil (word_list_from (h / 2) it.n); own = it.own }
 
-target-use : (x : List ℕ) (b : ℕ) (en : Bool) (own : Found) (c : ℕ → ℕ) → IsTarget c (own_use x b en own)
+target-use : (x : List ℕ) (b : ℕ) (en : Bool) (own : FoundInstruction) (c : ℕ → ℕ) → IsTarget c (own_use x b en own)
 unfolding own_use
 target-use x b en own c =
     of_choice (IsTarget c) (is_execute own.decoded.instr) _ _
