@@ -1,23 +1,23 @@
 -- Items that are in order have keys that rise.
 use Rattle.std.proofs.Common.{◌≡◌, ◌≤◌, refl, ℕ, nat_le, Bool, true, false, List, [], ◌∷◌, arith}
 use Rattle.std.proofs.lemmas.Bool.{leb-true, leb-false}
-use Rattle.st_kanata.specs.Moments.{with_item, in_order, KeysRise}
+use Rattle.st_kanata.specs.Moments.{ordered_with, in_order, KeysRise}
 use Rattle.st_entries.specs.Plain.{plain_text, plain_byte}
 use Rattle.st_text.specs.Bytes.{is_printable, is_printable_byte}
 
 -- an item that is put in front of others or between them, by the test on the first one
 inserted_by : {X : Type 0} (key : X → ℕ) (first : Bool) (n : ℕ) (x y : X) (ys : List X) → nat_le (key x) (key y) ≡ first
-    → n ≤ key x → n ≤ key y → KeysRise key (key y) ys → (key y ≤ key x → KeysRise key (key y) (with_item key x ys))
-    → KeysRise key n (with_item key x (y ∷ ys))
-unfolding with_item
+    → n ≤ key x → n ≤ key y → KeysRise key (key y) ys → (key y ≤ key x → KeysRise key (key y) (ordered_with key x ys))
+    → KeysRise key n (ordered_with key x (y ∷ ys))
+unfolding ordered_with
 inserted_by key true n x y ys test here there rest more = rw test (here, (leb-true _ _ test, rest))
 inserted_by key false n x y ys test here there rest more =
     let later : key y ≤ key x = omega (arith, leb-false _ _ test) in rw test (there, more later)
 
 -- an item that is put in its place
 inserted_rises : {X : Type 0} (key : X → ℕ) (n : ℕ) (x : X) (ys : List X) → n ≤ key x → KeysRise key n ys
-    → KeysRise key n (with_item key x ys)
-unfolding with_item
+    → KeysRise key n (ordered_with key x ys)
+unfolding ordered_with
 inserted_rises key n x [] here is = (here, tt)
 inserted_rises key n x (y ∷ ys) here is =
     inserted_by key (nat_le (key x) (key y)) n x y ys refl here is.0 is.1 (λ later. inserted_rises key (key y) x ys later is.1)

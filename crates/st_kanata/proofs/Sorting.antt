@@ -3,7 +3,7 @@ use Rattle.std.proofs.Common.{◌≡◌, ◌∙◌, ◌≤◌, ℕ, zero, suc, s
 use Rattle.std.proofs.lemmas.Bool.{leb-false, cond-true, cond-false, cases_Bool}
 use Rattle.std.proofs.lemmas.Bool.Decides.{nat_tests}
 use Rattle.std.specs.List.Sorted.{ties, IsNonDecreasingBy, IsStableByKey}
-use Rattle.st_kanata.specs.Moments.{KeysRise, with_item, in_order}
+use Rattle.st_kanata.specs.Moments.{KeysRise, ordered_with, in_order}
 use Rattle.st_kanata.proofs.Forward.{in_order_rises}
 
 tied_numbers : (m n : ℕ) → (ties (λ x y. is_lt (nat_cmp x y)) m n ≡ true → m ≡ n) × (m ≡ n → ties (λ x y. is_lt (nat_cmp x y)) m n ≡ true)
@@ -36,18 +36,18 @@ module _ {X : Type 0} (key : X → ℕ) where
   same_tied x y = (tied_numbers (key x) (key y)).1
 
   -- the items with one key, where one more is put in its place
-  inserted_tied : (z x : X) (ys : List X) → filter (are_tied z) (with_item key x ys) ≡ filter (are_tied z) (x ∷ ys)
-  unfolding with_item
+  inserted_tied : (z x : X) (ys : List X) → filter (are_tied z) (ordered_with key x ys) ≡ filter (are_tied z) (x ∷ ys)
+  unfolding ordered_with
   inserted_tied z x [] = refl
   inserted_tied z x (y ∷ ys) = go (nat_le (key x) (key y)) refl (inserted_tied z x ys)
     where
-      go : (first : Bool) → nat_le (key x) (key y) ≡ first → filter (are_tied z) (with_item key x ys) ≡ filter (are_tied z) (x ∷ ys)
-          → filter (are_tied z) (if nat_le (key x) (key y) then x ∷ y ∷ ys else y ∷ with_item key x ys) ≡ filter (are_tied z) (x ∷ y ∷ ys)
+      go : (first : Bool) → nat_le (key x) (key y) ≡ first → filter (are_tied z) (ordered_with key x ys) ≡ filter (are_tied z) (x ∷ ys)
+          → filter (are_tied z) (if nat_le (key x) (key y) then x ∷ y ∷ ys else y ∷ ordered_with key x ys) ≡ filter (are_tied z) (x ∷ y ∷ ys)
       go true test rest = rw test refl
       go false test rest =
           let not_both : are_tied z x ≡ true → are_tied z y ≡ true → ⊥ =
           λ here there. omega (arith, tied_keys z x here, tied_keys z y there, leb-false _ _ test) in
-          rw test (past_by (are_tied z) (are_tied z x) (are_tied z y) x y ys (with_item key x ys) refl refl not_both rest)
+          rw test (past_by (are_tied z) (are_tied z x) (are_tied z y) x y ys (ordered_with key x ys) refl refl not_both rest)
 
   -- the items with one key, in order
   ordered_tied : (z : X) (xs : List X) → filter (are_tied z) (in_order key xs) ≡ filter (are_tied z) xs

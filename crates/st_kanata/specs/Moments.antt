@@ -59,14 +59,15 @@ moments k [] = []
 moments k (e ∷ es) = moments_of k e ++ moments (k + 1) es
 
 -- an item before the first one of a list whose key is not lower
-unfoldable pub with_item : {X : Type 0} → (X → ℕ) → X → List X → List X
-with_item key x [] = x ∷ []
-with_item key x (y ∷ ys) = if nat_le (key x) (key y) then x ∷ y ∷ ys else y ∷ with_item key x ys
+unfoldable pub ordered_with : {X : Type 0} → (X → ℕ) → X → List X → List X
+ordered_with key x [] = x ∷ []
+ordered_with key x (y ∷ ys) =
+    if nat_le (key x) (key y) then x ∷ y ∷ ys else y ∷ ordered_with key x ys
 
 -- items in the order of their keys; those with one key keep their order
 unfoldable pub in_order : {X : Type 0} → (X → ℕ) → List X → List X
 in_order key [] = []
-in_order key (x ∷ xs) = with_item key x (in_order key xs)
+in_order key (x ∷ xs) = ordered_with key x (in_order key xs)
 
 -- what happens to entries, in the order of ticks; they are numbered from 0 on as they begin
 unfoldable pub happenings : List DrawnEntry → List LogMoment
