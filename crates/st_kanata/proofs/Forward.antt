@@ -1,33 +1,32 @@
--- Moments that are in order go forward.
+-- Items that are in order have keys that rise.
 use Rattle.std.proofs.Common.{◌≡◌, ◌≤◌, refl, ℕ, nat_le, Bool, true, false, List, [], ◌∷◌, arith}
 use Rattle.std.proofs.lemmas.Bool.{leb-true, leb-false}
-use Rattle.st_kanata.specs.Moments.{moments_with, in_order}
+use Rattle.st_kanata.specs.Moments.{ordered_with, in_order, KeysRise}
 use Rattle.st_entries.specs.Plain.{plain_text, plain_byte}
 use Rattle.st_text.specs.Bytes.{is_printable, is_printable_byte}
-use Rattle.st_kanata.specs.Moments.{GoForward}
-use Rattle.st_kanata.specs.declared.moments.LogMoment.{LogMoment}
 
--- a moment that is put in front of others or between them, by the test on the first one
-inserted_by : (first : Bool) (t : ℕ) (m n : LogMoment) (ns : List LogMoment) → nat_le m.tick n.tick ≡ first → t ≤ m.tick
-    → t ≤ n.tick → GoForward n.tick ns → (n.tick ≤ m.tick → GoForward n.tick (moments_with m ns))
-    → GoForward t (moments_with m (n ∷ ns))
-unfolding moments_with
-inserted_by true t m n ns test here there rest more = rw test (here, (leb-true _ _ test, rest))
-inserted_by false t m n ns test here there rest more =
-    let later : n.tick ≤ m.tick = omega (arith, leb-false _ _ test) in rw test (there, more later)
+-- an item that is put in front of others or between them, by the test on the first one
+inserted_by : {X : Type 0} (key : X → ℕ) (first : Bool) (n : ℕ) (x y : X) (ys : List X) → nat_le (key x) (key y) ≡ first
+    → n ≤ key x → n ≤ key y → KeysRise key (key y) ys → (key y ≤ key x → KeysRise key (key y) (ordered_with key x ys))
+    → KeysRise key n (ordered_with key x (y ∷ ys))
+unfolding ordered_with
+inserted_by key true n x y ys test here there rest more = rw test (here, (leb-true _ _ test, rest))
+inserted_by key false n x y ys test here there rest more =
+    let later : key y ≤ key x = omega (arith, leb-false _ _ test) in rw test (there, more later)
 
--- a moment that is put in its place
-inserted_forward : (t : ℕ) (m : LogMoment) (ns : List LogMoment) → t ≤ m.tick → GoForward t ns → GoForward t (moments_with m ns)
-unfolding moments_with
-inserted_forward t m [] here is = (here, tt)
-inserted_forward t m (n ∷ ns) here is =
-    inserted_by (nat_le m.tick n.tick) t m n ns refl here is.0 is.1 (λ later. inserted_forward n.tick m ns later is.1)
+-- an item that is put in its place
+inserted_rises : {X : Type 0} (key : X → ℕ) (n : ℕ) (x : X) (ys : List X) → n ≤ key x → KeysRise key n ys
+    → KeysRise key n (ordered_with key x ys)
+unfolding ordered_with
+inserted_rises key n x [] here is = (here, tt)
+inserted_rises key n x (y ∷ ys) here is =
+    inserted_by key (nat_le (key x) (key y)) n x y ys refl here is.0 is.1 (λ later. inserted_rises key (key y) x ys later is.1)
 
--- moments in order
-pub in_order_forward : (ms : List LogMoment) → GoForward 0 (in_order ms)
+-- items in order
+pub in_order_rises : {X : Type 0} (key : X → ℕ) (xs : List X) → KeysRise key 0 (in_order key xs)
 unfolding in_order
-in_order_forward [] = tt
-in_order_forward (m ∷ ms) = inserted_forward 0 m (in_order ms) (omega arith) (in_order_forward ms)
+in_order_rises key [] = tt
+in_order_rises key (x ∷ xs) = inserted_rises key 0 x (in_order key xs) (omega arith) (in_order_rises key xs)
 
 -- a byte as a terminal may show it, by the test on it
 byte_by : (shown : Bool) (c : ℕ) → is_printable_byte c ≡ shown → is_printable_byte (plain_byte c) ≡ true

@@ -1,107 +1,105 @@
--- A stable sort by ticks puts moments in order.
+-- A stable sort by keys puts items in order.
 use Rattle.std.proofs.Common.{◌≡◌, ◌∙◌, ◌≤◌, ℕ, zero, suc, sym, refl, ap, nat_le, nat_cmp, is_lt, cond, if◌then◌else◌, Bool, true, false, List, [], ◌∷◌, filter, zero-le, suc-le-suc, inl, inr, arith}
 use Rattle.std.proofs.lemmas.Bool.{leb-false, cond-true, cond-false, cases_Bool}
 use Rattle.std.proofs.lemmas.Bool.Decides.{nat_tests}
 use Rattle.std.specs.List.Sorted.{ties, IsNonDecreasingBy, IsStableByKey}
-use Rattle.st_kanata.specs.Moments.{GoForward, moments_with, in_order}
-use Rattle.st_kanata.specs.declared.moments.LogMoment.{LogMoment}
-use Rattle.st_kanata.proofs.Forward.{in_order_forward}
-
--- whether two moments come at one tick, as the sort has it
-abbrev are_tied : LogMoment → LogMoment → Bool
-are_tied = ties (λ x y. is_lt (nat_cmp x.tick y.tick))
+use Rattle.st_kanata.specs.Moments.{KeysRise, ordered_with, in_order}
+use Rattle.st_kanata.proofs.Forward.{in_order_rises}
 
 tied_numbers : (m n : ℕ) → (ties (λ x y. is_lt (nat_cmp x y)) m n ≡ true → m ≡ n) × (m ≡ n → ties (λ x y. is_lt (nat_cmp x y)) m n ≡ true)
 tied_numbers m n = (λ h. grind (arith, nat_tests), λ h. grind (arith, nat_tests))
 
-tied_ticks : (m n : LogMoment) → are_tied m n ≡ true → m.tick ≡ n.tick
-tied_ticks m n = (tied_numbers m.tick n.tick).0
+-- an item that passes a test, and one that does not
+passed : {X : Type 0} (p : X → Bool) (x : X) (xs : List X) → p x ≡ true → filter p (x ∷ xs) ≡ x ∷ filter p xs
+passed p x xs is = cond-true _ _ _ is
 
-same_tied : (m n : LogMoment) → m.tick ≡ n.tick → are_tied m n ≡ true
-same_tied m n = (tied_numbers m.tick n.tick).1
+failed : {X : Type 0} (p : X → Bool) (x : X) (xs : List X) → p x ≡ false → filter p (x ∷ xs) ≡ filter p xs
+failed p x xs is = cond-false _ _ _ is
 
--- a moment that passes a test, and one that does not
-passed : (p : LogMoment → Bool) (m : LogMoment) (ms : List LogMoment) → p m ≡ true → filter p (m ∷ ms) ≡ m ∷ filter p ms
-passed p m ms is = cond-true _ _ _ is
+-- an item goes past another: of those that pass a test, and not both of these do, none changes its place
+past_by : {X : Type 0} (p : X → Bool) (a b : Bool) (x y : X) (ys rest : List X) → p x ≡ a → p y ≡ b
+    → (p x ≡ true → p y ≡ true → ⊥) → filter p rest ≡ filter p (x ∷ ys) → filter p (y ∷ rest) ≡ filter p (x ∷ y ∷ ys)
+past_by p true true x y ys rest here there not_both same = absurd (not_both here there)
+past_by p true false x y ys rest here there not_both same = grind (arith, here, there, same)
+past_by p false true x y ys rest here there not_both same = grind (arith, here, there, same)
+past_by p false false x y ys rest here there not_both same = grind (arith, here, there, same)
 
-failed : (p : LogMoment → Bool) (m : LogMoment) (ms : List LogMoment) → p m ≡ false → filter p (m ∷ ms) ≡ filter p ms
-failed p m ms is = cond-false _ _ _ is
+module _ {X : Type 0} (key : X → ℕ) where
+  -- whether two items have one key, as the sort has it
+  abbrev are_tied : X → X → Bool
+  are_tied = ties (λ x y. is_lt (nat_cmp (key x) (key y)))
 
--- a moment goes past one that comes before it: of those that pass a test, and not both of these do, none changes its place
-past_by : (p : LogMoment → Bool) (a b : Bool) (m n : LogMoment) (ns rest : List LogMoment) → p m ≡ a → p n ≡ b
-    → (p m ≡ true → p n ≡ true → ⊥) → filter p rest ≡ filter p (m ∷ ns) → filter p (n ∷ rest) ≡ filter p (m ∷ n ∷ ns)
-past_by p true true m n ns rest here there not_both same = absurd (not_both here there)
-past_by p true false m n ns rest here there not_both same = grind (arith, here, there, same)
-past_by p false true m n ns rest here there not_both same = grind (arith, here, there, same)
-past_by p false false m n ns rest here there not_both same = grind (arith, here, there, same)
+  tied_keys : (x y : X) → are_tied x y ≡ true → key x ≡ key y
+  tied_keys x y = (tied_numbers (key x) (key y)).0
 
--- the moments at one tick, where one more is put in its place
-inserted_tied : (x m : LogMoment) (ns : List LogMoment) → filter (are_tied x) (moments_with m ns) ≡ filter (are_tied x) (m ∷ ns)
-unfolding moments_with
-inserted_tied x m [] = refl
-inserted_tied x m (n ∷ ns) = go (nat_le m.tick n.tick) refl (inserted_tied x m ns)
-  where
-    go : (first : Bool) → nat_le m.tick n.tick ≡ first → filter (are_tied x) (moments_with m ns) ≡ filter (are_tied x) (m ∷ ns)
-        → filter (are_tied x) (if nat_le m.tick n.tick then m ∷ n ∷ ns else n ∷ moments_with m ns) ≡ filter (are_tied x) (m ∷ n ∷ ns)
-    go true test rest = rw test refl
-    go false test rest =
-        let not_both : are_tied x m ≡ true → are_tied x n ≡ true → ⊥ =
-        λ here there. omega (arith, tied_ticks x m here, tied_ticks x n there, leb-false _ _ test) in
-        rw test (past_by (are_tied x) (are_tied x m) (are_tied x n) m n ns (moments_with m ns) refl refl not_both rest)
+  same_tied : (x y : X) → key x ≡ key y → are_tied x y ≡ true
+  same_tied x y = (tied_numbers (key x) (key y)).1
 
--- the moments at one tick, in order
-ordered_tied : (x : LogMoment) (ms : List LogMoment) → filter (are_tied x) (in_order ms) ≡ filter (are_tied x) ms
-unfolding in_order
-ordered_tied x [] = refl
-ordered_tied x (m ∷ ms) =
-    inserted_tied x m (in_order ms) ∙ ap (λ l. cond (are_tied x m) (m ∷ l) l) (ordered_tied x ms)
+  -- the items with one key, where one more is put in its place
+  inserted_tied : (z x : X) (ys : List X) → filter (are_tied z) (ordered_with key x ys) ≡ filter (are_tied z) (x ∷ ys)
+  unfolding ordered_with
+  inserted_tied z x [] = refl
+  inserted_tied z x (y ∷ ys) = go (nat_le (key x) (key y)) refl (inserted_tied z x ys)
+    where
+      go : (first : Bool) → nat_le (key x) (key y) ≡ first → filter (are_tied z) (ordered_with key x ys) ≡ filter (are_tied z) (x ∷ ys)
+          → filter (are_tied z) (if nat_le (key x) (key y) then x ∷ y ∷ ys else y ∷ ordered_with key x ys) ≡ filter (are_tied z) (x ∷ y ∷ ys)
+      go true test rest = rw test refl
+      go false test rest =
+          let not_both : are_tied z x ≡ true → are_tied z y ≡ true → ⊥ =
+          λ here there. omega (arith, tied_keys z x here, tied_keys z y there, leb-false _ _ test) in
+          rw test (past_by (are_tied z) (are_tied z x) (are_tied z y) x y ys (ordered_with key x ys) refl refl not_both rest)
 
--- what a sort says of neighbours
-forward_behind : (m : LogMoment) (ms : List LogMoment) → IsNonDecreasingBy (λ (n : LogMoment). n.tick) (m ∷ ms) → GoForward m.tick ms
-forward_behind m [] up = tt
-forward_behind m (n ∷ ns) up = (
-  up zero (suc zero) m zero-le (suc-le-suc (suc-le-suc zero-le)),
-  forward_behind n ns (λ i j d le lt. up (suc i) (suc j) d (suc-le-suc le) (suc-le-suc lt)),
-)
+  -- the items with one key, in order
+  ordered_tied : (z : X) (xs : List X) → filter (are_tied z) (in_order key xs) ≡ filter (are_tied z) xs
+  unfolding in_order
+  ordered_tied z [] = refl
+  ordered_tied z (x ∷ xs) =
+      inserted_tied z x (in_order key xs) ∙ ap (λ l. cond (are_tied z x) (x ∷ l) l) (ordered_tied z xs)
 
-forward_from_sort : (ms : List LogMoment) → IsNonDecreasingBy (λ (n : LogMoment). n.tick) ms → GoForward 0 ms
-forward_from_sort [] up = tt
-forward_from_sort (m ∷ ms) up = (zero-le, forward_behind m ms up)
+  -- what a sort says of neighbours
+  rise_behind : (x : X) (xs : List X) → IsNonDecreasingBy key (x ∷ xs) → KeysRise key (key x) xs
+  rise_behind x [] up = tt
+  rise_behind x (y ∷ ys) up = (
+    up zero (suc zero) x zero-le (suc-le-suc (suc-le-suc zero-le)),
+    rise_behind y ys (λ i j d le lt. up (suc i) (suc j) d (suc-le-suc le) (suc-le-suc lt)),
+  )
 
--- of moments that go forward none at the tick of x comes before the first
-found : (t : ℕ) (x : LogMoment) (ms : List LogMoment) (n : LogMoment) (ns : List LogMoment) → GoForward t ms
-    → filter (are_tied x) ms ≡ n ∷ ns → t ≤ x.tick
-found t x [] n ns up is = cc
-found t x (m ∷ ms) n ns up is = elim (cases_Bool (are_tied x m)) [
-  | inl here ↦ omega (arith, up.0, tied_ticks x m here)
-  | inr there ↦ let later = found m.tick x ms n ns up.1 (sym (failed (are_tied x) m ms there) ∙ is) in omega (arith, up.0, later)
-]
+  rise_from_sort : (xs : List X) → IsNonDecreasingBy key xs → KeysRise key 0 xs
+  rise_from_sort [] up = tt
+  rise_from_sort (x ∷ xs) up = (zero-le, rise_behind x xs up)
 
--- moments that go forward are known by those at each tick
-known_by_ticks : (s t : ℕ) (ms ns : List LogMoment) → GoForward s ms → GoForward t ns
-    → ((x : LogMoment) → filter (are_tied x) ms ≡ filter (are_tied x) ns) → ms ≡ ns
-known_by_ticks s t [] [] left right same = refl
-known_by_ticks s t [] (n ∷ ns) left right same = let clash = same n ∙ passed (are_tied n) n ns (same_tied n n refl) in cc
-known_by_ticks s t (m ∷ ms) [] left right same = let clash = sym (same m) ∙ passed (are_tied m) m ms (same_tied m m refl) in cc
-known_by_ticks s t (m ∷ ms) (n ∷ ns) left right same =
-    let at_m = passed (are_tied m) m ms (same_tied m m refl) in
-    let at_n = passed (are_tied n) n ns (same_tied n n refl) in
-    let up = found n.tick m (n ∷ ns) m _ (omega arith, right.1) (sym (same m) ∙ at_m) in
-    let down = found m.tick n (m ∷ ms) n _ (omega arith, left.1) (same n ∙ at_n) in
-    let heads = sym at_m ∙ same m ∙ passed (are_tied m) n ns (same_tied m n (omega arith)) in
-    let head : m ≡ n = cc in
-    let tails : (x : LogMoment) → filter (are_tied x) ms ≡ filter (are_tied x) ns =
-    λ x. elim (cases_Bool (are_tied x m)) [
-      | inl here ↦
-          let both = sym (passed (are_tied x) m ms here) ∙ same x ∙ passed (are_tied x) n ns (ap (are_tied x) (sym head) ∙ here) in cc
-      | inr there ↦
-          sym (failed (are_tied x) m ms there) ∙ same x ∙ failed (are_tied x) n ns (ap (are_tied x) (sym head) ∙ there)
-    ] in
-    ap (λ y. y ∷ ms) head ∙ ap (λ l. n ∷ l) (known_by_ticks m.tick n.tick ms ns left.1 right.1 tails)
+  -- of items whose keys rise none with the key of z comes before the first
+  found : (n : ℕ) (z : X) (xs : List X) (y : X) (ys : List X) → KeysRise key n xs → filter (are_tied z) xs ≡ y ∷ ys → n ≤ key z
+  found n z [] y ys up is = cc
+  found n z (x ∷ xs) y ys up is = elim (cases_Bool (are_tied z x)) [
+    | inl here ↦ omega (arith, up.0, tied_keys z x here)
+    | inr there ↦ let later = found (key x) z xs y ys up.1 (sym (failed (are_tied z) x xs there) ∙ is) in omega (arith, up.0, later)
+  ]
 
--- what a stable sort gives is the moments in order
-pub sorted_in_order : (xs ys : List LogMoment) → IsNonDecreasingBy (λ (m : LogMoment). m.tick) ys
-    → IsStableByKey (λ (m : LogMoment). m.tick) nat_cmp xs ys → ys ≡ in_order xs
-sorted_in_order xs ys up stable =
-    known_by_ticks 0 0 ys (in_order xs) (forward_from_sort ys up) (in_order_forward xs)
-    (λ x. stable x ∙ sym (ordered_tied x xs))
+  -- items whose keys rise are known by those with each key
+  known_by_keys : (m n : ℕ) (xs ys : List X) → KeysRise key m xs → KeysRise key n ys
+      → ((z : X) → filter (are_tied z) xs ≡ filter (are_tied z) ys) → xs ≡ ys
+  known_by_keys m n [] [] left right same = refl
+  known_by_keys m n [] (y ∷ ys) left right same = let clash = same y ∙ passed (are_tied y) y ys (same_tied y y refl) in cc
+  known_by_keys m n (x ∷ xs) [] left right same = let clash = sym (same x) ∙ passed (are_tied x) x xs (same_tied x x refl) in cc
+  known_by_keys m n (x ∷ xs) (y ∷ ys) left right same =
+      let at_x = passed (are_tied x) x xs (same_tied x x refl) in
+      let at_y = passed (are_tied y) y ys (same_tied y y refl) in
+      let up = found (key y) x (y ∷ ys) x _ (omega arith, right.1) (sym (same x) ∙ at_x) in
+      let down = found (key x) y (x ∷ xs) y _ (omega arith, left.1) (same y ∙ at_y) in
+      let heads = sym at_x ∙ same x ∙ passed (are_tied x) y ys (same_tied x y (omega arith)) in
+      let head : x ≡ y = cc in
+      let tails : (z : X) → filter (are_tied z) xs ≡ filter (are_tied z) ys =
+      λ z. elim (cases_Bool (are_tied z x)) [
+        | inl here ↦
+            let both = sym (passed (are_tied z) x xs here) ∙ same z ∙ passed (are_tied z) y ys (ap (are_tied z) (sym head) ∙ here) in cc
+        | inr there ↦
+            sym (failed (are_tied z) x xs there) ∙ same z ∙ failed (are_tied z) y ys (ap (are_tied z) (sym head) ∙ there)
+      ] in
+      ap (λ w. w ∷ xs) head ∙ ap (λ l. y ∷ l) (known_by_keys (key x) (key y) xs ys left.1 right.1 tails)
+
+  -- what a stable sort gives is the items in order
+  pub sorted_in_order : (xs ys : List X) → IsNonDecreasingBy key ys → IsStableByKey key nat_cmp xs ys → ys ≡ in_order key xs
+  sorted_in_order xs ys up stable =
+      known_by_keys 0 0 ys (in_order key xs) (rise_from_sort ys up) (in_order_rises key xs)
+      (λ z. stable z ∙ sym (ordered_tied z xs))

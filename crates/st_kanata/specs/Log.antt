@@ -19,7 +19,8 @@ log_front tick = heading ++ decimal tick ++ codes "\n"
 
 -- that ticks pass, where they do; the viewer calls them cycles
 unfoldable pub cycles_line : ℕ → ℕ → List ℕ
-cycles_line from to = if nat_eq from to then [] else codes "C\t" ++ decimal (to - from) ++ codes "\n"
+cycles_line from to =
+    if nat_eq from to then [] else codes "C\t" ++ decimal (to - from) ++ codes "\n"
 
 -- that the entry with a number appears
 unfoldable pub log_entry_line : ℕ → List ℕ

@@ -53,31 +53,31 @@ waits_of k (Shown t) = []
 unfoldable pub moments_of : ℕ → DrawnEntry → List LogMoment
 moments_of k e = moment k Begin e ∷ waits_of k e ++ moment k End e ∷ []
 
--- that entries begin
-abbrev pub beginnings : List DrawnEntry → List LogMoment
-beginnings [] = []
-beginnings (e ∷ es) = moment 0 Begin e ∷ beginnings es
-
--- all that happens to the entries that begin so, which are numbered from k on
-abbrev pub moments : ℕ → List LogMoment → List LogMoment
+-- all that happens to entries, which are numbered from k on
+abbrev pub moments : ℕ → List DrawnEntry → List LogMoment
 moments k [] = []
-moments k (m ∷ ms) = moments_of k m.entry ++ moments (k + 1) ms
+moments k (e ∷ es) = moments_of k e ++ moments (k + 1) es
 
--- a moment before the first one of a list that is not earlier
-unfoldable pub moments_with : LogMoment → List LogMoment → List LogMoment
-moments_with m [] = m ∷ []
-moments_with m (n ∷ ns) = if nat_le m.tick n.tick then m ∷ n ∷ ns else n ∷ moments_with m ns
+-- an item before the first one of a list whose key is not lower
+unfoldable pub ordered_with : {X : Type 0} → (X → ℕ) → X → List X → List X
+ordered_with key x [] = x ∷ []
+ordered_with key x (y ∷ ys) =
+    if nat_le (key x) (key y) then x ∷ y ∷ ys else y ∷ ordered_with key x ys
 
--- moments in the order of their ticks; those of one tick keep their order
-unfoldable pub in_order : List LogMoment → List LogMoment
-in_order [] = []
-in_order (m ∷ ms) = moments_with m (in_order ms)
+-- items in the order of their keys; those with one key keep their order
+unfoldable pub in_order : {X : Type 0} → (X → ℕ) → List X → List X
+in_order key [] = []
+in_order key (x ∷ xs) = ordered_with key x (in_order key xs)
 
 -- what happens to entries, in the order of ticks; they are numbered from 0 on as they begin
 unfoldable pub happenings : List DrawnEntry → List LogMoment
-happenings entries = in_order (moments 0 (in_order (beginnings entries)))
+happenings entries = in_order (λ (m : LogMoment). m.tick) (moments 0 (in_order first_tick entries))
+
+-- items of which none has a lower key than the one before it, and the first one none below a number
+abbrev pub KeysRise : {X : Type 0} → (X → ℕ) → ℕ → List X → Type 0
+KeysRise key n [] = ⊤
+KeysRise key n (x ∷ xs) = (n ≤ key x) × KeysRise key (key x) xs
 
 -- moments that come after a tick, or at it, and none before the one that stands before it
 abbrev pub GoForward : ℕ → List LogMoment → Type 0
-GoForward tick [] = ⊤
-GoForward tick (m ∷ ms) = (tick ≤ m.tick) × GoForward m.tick ms
+GoForward tick ms = KeysRise (λ (m : LogMoment). m.tick) tick ms

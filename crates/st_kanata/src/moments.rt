@@ -1,6 +1,8 @@
 //! What happens to the entries of a timetable, in the order of ticks.
 ghost use Rattle.std.specs.Prelude.{◌≡◌, ◌++◌, ◌∷◌, [], IfOk};
+ghost use Rattle.st_entries.specs.Phases.{first_tick as first_tick_of};
 ghost use Rattle.st_kanata.specs.Moments as spec;
+ghost use Rattle.st_kanata.specs.declared.moments.LogMoment.{LogMoment};
 
 use st_entries::{DrawnEntry, first_tick};
 use std::alloc::{AllocError, Global};
@@ -140,37 +142,33 @@ fn push_moments_of(
     push(out, number, LogStep::End, entry)
 }
 
-// That entries begin.
-fn begins_of(alloc: Global, entries: &[DrawnEntry]) -> Result<Vec<LogMoment>, AllocError>
-    ensures { IfOk result (λ out. out.items ≡ spec.beginnings entries.now) }
-{
-    let mut out = Vec::new(alloc);
-    let mut rest = entries;
-    'entries: while let [entry, after @ ..] = rest {
-        push(&mut out, 0, LogStep::Begin, *entry)?;
-        rest = after;
-    }
-    Ok(out)
-}
-
-// All that happens to the entries that begin so, numbered from 0 on.
-fn moments_of(alloc: Global, begins: &[LogMoment]) -> Result<Vec<LogMoment>, AllocError>
-    ensures { IfOk result (λ out. out.items ≡ spec.moments 0 begins.now) }
+// All that happens to entries, numbered from 0 on.
+fn moments_of(alloc: Global, entries: &[DrawnEntry]) -> Result<Vec<LogMoment>, AllocError>
+    ensures { IfOk result (λ out. out.items ≡ spec.moments 0 entries.now) }
 {
     let mut out = Vec::new(alloc);
     let mut number = 0;
-    let mut rest = begins;
-    'entries: while let [begin, after @ ..] = rest {
-        push_moments_of(&mut out, number, begin.entry)?;
+    let mut rest = entries;
+    'entries: while let [entry, after @ ..] = rest {
+        push_moments_of(&mut out, number, *entry)?;
         number += 1;
         rest = after;
     }
     Ok(out)
 }
 
+// Puts entries in the order in which they begin; those that begin at one tick keep their order.
+fn sort_entries(entries: &mut Vec<DrawnEntry>) -> Result<(), AllocError>
+    ensures { IfOk result (λ _. entries.new.items ≡ spec.in_order first_tick_of entries.old.items) }
+{
+    entries.sort_by_key(|entry| first_tick(entry))?;
+    Ok(())
+}
+
 // Puts moments in the order of their ticks; those of one tick keep their order.
-fn sort(moments: &mut Vec<LogMoment>) -> Result<(), AllocError>
-    ensures { IfOk result (λ _. moments.new.items ≡ spec.in_order moments.old.items) }
+fn sort_moments(moments: &mut Vec<LogMoment>) -> Result<(), AllocError>
+    ensures { IfOk result (λ _. moments.new.items
+        ≡ spec.in_order (λ (m : LogMoment). m.tick) moments.old.items) }
 {
     moments.sort_by_key(|moment| moment.tick)?;
     Ok(())
@@ -180,9 +178,9 @@ fn sort(moments: &mut Vec<LogMoment>) -> Result<(), AllocError>
 pub fn happenings(alloc: Global, entries: &[DrawnEntry]) -> Result<Vec<LogMoment>, AllocError>
     ensures { IfOk result (λ out. out.items ≡ spec.happenings entries.now) }
 {
-    let mut begins = begins_of(alloc, entries)?;
-    sort(&mut begins)?;
-    let mut moments = moments_of(alloc, begins.as_slice())?;
-    sort(&mut moments)?;
+    let mut begun = Vec::from_slice(alloc, entries)?;
+    sort_entries(&mut begun)?;
+    let mut moments = moments_of(alloc, begun.as_slice())?;
+    sort_moments(&mut moments)?;
     Ok(moments)
 }

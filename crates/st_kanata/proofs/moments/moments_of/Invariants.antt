@@ -5,8 +5,8 @@ use Rattle.st_kanata.proofs.moments.moments_of.Given as goal
 
 abbrev pub invariant-entries : goal.invariant-entries
 invariant-entries l = record {
-  so_far : l.out.items ++ moments l.number l.rest ≡ moments 0 l.begins;
-  room : l.number + length l.rest ≡ length l.begins;
+  so_far : l.out.items ++ moments l.number l.rest ≡ moments 0 l.entries;
+  room : l.number + length l.rest ≡ length l.entries;
 }
 
 abbrev pub decreases-entries : goal.decreases-entries
