@@ -26,7 +26,6 @@ use st_segment::{side_to_read, words_to_read, words_to_write};
 use st_state::{Access, State};
 
 // Words that follow each other, at most four, as a run.
-#[tactic(auto, unfolding(st_segment::specs::Entries::run_of))]
 fn run_of(words: &[u32]) -> WordRun
     requires { length words.now ≤ 4 }
     ensures { result ≡ run_by words.now }
@@ -198,7 +197,6 @@ fn second_half(h: u32, content: u64, state: &State) -> Option<Second>
 // being known, unless one of them may not be fetched. Where there is only one, 0 stands for the
 // second.
 #[inline(always)]
-#[tactic(auto, unfolding(st_prep::specs::Reading::with_first))]
 fn halves_in(h: u32, content: u64, state: &State) -> Option<Spelled>
     requires address { h < 2 ^ 19 }
     requires allowed { forbidden_by (word state.now 3) state.now.enabled AccessOf.Fetch (h / 2)
@@ -230,7 +228,6 @@ fn halves_in(h: u32, content: u64, state: &State) -> Option<Spelled>
 // The same, its first word being read from the state. A row of the ledger takes 54 host
 // instructions less for it than by `halves_known` of `st_prep`, which is given both words.
 #[inline(always)]
-#[tactic(auto, unfolding(st_prep::specs::Reading::instruction_at))]
 fn halves_at(h: u32, state: &State) -> Option<Spelled>
     requires { h < 2 ^ 19 }
     ensures { IfSome result (λ r. (k : Continuation) → IsReadOver (word state.now)
@@ -249,7 +246,6 @@ fn halves_at(h: u32, state: &State) -> Option<Spelled>
 
 // The words of the instruction at the half-word address `h`, as a run.
 #[inline(always)]
-#[tactic(auto, unfolding(st_segment::specs::Entries::run_of))]
 fn words_at(h: u32, more: bool) -> WordRun
     ensures { result ≡ run_by (h / 2 ∷ if_more more ((h + 1) / 2)) }
 {

@@ -91,7 +91,6 @@ fn code_of(instr: &Instr) -> Code
 }
 
 // The half-words that an entry executes, which is fetched so.
-#[tactic(auto, unfolding(st_prep::specs::Checks::effective_instr))]
 pub(crate) fn code_found(fetched: &Fetched) -> Option<Code>
     requires { IsFetched fetched.now }
     ensures { result ≡ code_found_of fetched.now }

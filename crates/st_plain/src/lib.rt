@@ -1,6 +1,6 @@
 //! What the timetable sees of a state by itself: its next entry, the row of that with its reads,
 //! and the entries that run ahead by guessed steps. `docs/timetable.md` has the rules.
-#![tactic(auto, using(st_bits::specs::Storage::words_of_storage_is))]
+#![tactic(auto, using(st_bits::specs::Storage::words_of_storage_is), unfolding(crate::specs::Looking::level_wait, crate::specs::Uses::data_uses, crate::specs::Uses::fetch_uses, crate::specs::Uses::following_uses, crate::specs::Uses::inside_uses, crate::specs::Uses::side_uses, st_exec::specs::Completion::guessed_state, st_prep::specs::Checks::effective_instr, st_prep::specs::Reading::instruction_at, st_prep::specs::Reading::with_first, st_rows::specs::Asked::fetches_asked, st_rows::specs::Asked::following_asked, st_rows::specs::BusTimes::bus_after_read, st_rows::specs::BusTimes::bus_after_request, st_rows::specs::Notes::log_after_reads, st_rows::specs::Rows::bus_a, st_rows::specs::Rows::bus_followed, st_rows::specs::Rows::bus_sided, st_rows::specs::Rows::operands_read, st_rows::specs::Rows::read_word, st_rows::specs::Rows::read_words, st_rows::specs::Rows::side_there, st_rows::specs::Rows::tick_y, st_rows::specs::Rows::words_tick, st_segment::specs::Entries::run_of))]
 
 mod entries;
 mod known;

@@ -39,7 +39,6 @@ pub struct Ahead {
 pub type Aheads = ArrayVec<Ahead, 8>;
 
 /// Makes the guessed step of an entry that is prepared: a branch on an indicator is not taken.
-#[tactic(auto, unfolding(st_exec::specs::Completion::guessed_state))]
 pub fn guess(p: &Prepared, state: &mut State)
     requires prepared { IsPrepared p.now }
     requires few { state.old.done < 2 ^ 63 }

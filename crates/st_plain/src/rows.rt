@@ -88,7 +88,6 @@ pub struct NextEntry<'a> {
 
 // All instruction words of the next entry are fetched, and noted.
 #[inline(always)]
-#[tactic(auto, unfolding(st_rows::specs::Rows::words_tick, st_rows::specs::Asked::fetches_asked, crate::specs::Uses::fetch_uses))]
 fn fetch_all(
     words: &mut Fetching,
     front: &Front,
@@ -136,7 +135,6 @@ fn last_answer(ticks: &[u64; BANKS], w: u32) -> u64
 
 // When the index-side word is there of an entry whose address is formed at `a`, 0 where it has
 // none. The bus is that behind its read.
-#[tactic(auto, unfolding(st_rows::specs::Rows::side_there, st_rows::specs::Rows::bus_sided, st_rows::specs::BusTimes::bus_after_read))]
 fn side_there(past: &LastEntries, side: Option<u32>, a: u64, bus: &Bus) -> u64
     requires storage { IfSome side (λ w. 32 ≤ w) }
     ensures { (ds : List ℕ) (before : BusOf) → bus.now ≡ bus_sided ds past.now before side a →
@@ -154,7 +152,6 @@ fn side_there(past: &LastEntries, side: Option<u32>, a: u64, bus: &Bus) -> u64
 
 // For how many ticks an entry waits for a level, whose address is formed at `a`. The bus is that
 // behind its index-side word.
-#[tactic(auto, unfolding(crate::specs::Looking::level_wait, st_rows::specs::Rows::tick_y, st_rows::specs::Rows::bus_a))]
 fn level_wait(front: &Front, timing: &Timing<'_>, entry: &Entry, a: u64, bus: &Bus) -> u64
     requires entry { IsEntryInTime entry.now }
     ensures { (ds : List ℕ) → a ≡ tick_a ds front.now entry.now →

@@ -292,7 +292,6 @@ fn side_supply(bus: &Bus, wanted: &WantedFrom<'_>, w: u32) -> Supply
 
 /// Notes the index-side word, if there is one, of an entry whose address is formed at `a`.
 #[inline(always)]
-#[tactic(auto, unfolding(crate::specs::Uses::side_uses))]
 pub(crate) fn use_side(uses: &mut Uses, bus: &Bus, wanted: &WantedFrom<'_>, side: Option<u32>)
     requires space { length uses.old.items < 48 }
     requires room { IsBusWithin (2 ^ 64 - 512) bus.now }
@@ -327,7 +326,6 @@ fn use_registers(uses: &mut Uses, first: u32, count: u8)
 
 // Notes an operand word that is no register, and reads it, unless it is forwarded.
 #[inline(always)]
-#[tactic(auto, unfolding(st_rows::specs::Rows::read_word, st_rows::specs::Notes::log_after_reads))]
 fn use_operand(
     uses: &mut Uses,
     words: &mut Fetching,
@@ -371,7 +369,6 @@ fn use_operand(
 
 // Notes the operand words of a run that are no registers, and reads them.
 #[inline(always)]
-#[tactic(auto, unfolding(st_rows::specs::Rows::read_words))]
 fn use_operands(
     uses: &mut Uses,
     words: &mut Fetching,
@@ -446,7 +443,6 @@ fn use_run(
 /// Notes the operand words of the next entry, which is prepared at the tick, and reads those that
 /// are no registers.
 #[inline(always)]
-#[tactic(auto, unfolding(crate::specs::Uses::data_uses, st_rows::specs::Rows::operands_read))]
 pub(crate) fn use_data(
     uses: &mut Uses,
     words: &mut Fetching,
@@ -495,7 +491,6 @@ pub(crate) fn use_data(
 
 // Notes a following word, and asks for it, if it is a word of storage.
 #[inline(always)]
-#[tactic(auto, unfolding(crate::specs::Uses::inside_uses, st_rows::specs::BusTimes::bus_after_read, st_rows::specs::BusTimes::bus_after_request, st_rows::specs::Notes::log_after_reads), using(st_bits::specs::Storage::words_of_storage_is))]
 fn use_inside(uses: &mut Uses, bus: &mut Bus, log: &mut Log, wanted: &WantedFrom<'_>, w: u32)
     requires space { length uses.old.items < 48 }
     requires room { IsBusWithin (2 ^ 64 - 512) bus.old }
@@ -526,7 +521,6 @@ fn use_inside(uses: &mut Uses, bus: &mut Bus, log: &mut Log, wanted: &WantedFrom
 
 /// Notes the words that follow an entry that is prepared at the tick, where it asks for them.
 #[inline(always)]
-#[tactic(auto, unfolding(crate::specs::Uses::following_uses, st_rows::specs::Rows::bus_followed, st_rows::specs::Asked::following_asked, st_rows::specs::Notes::log_after_reads))]
 pub(crate) fn use_following(
     uses: &mut Uses,
     bus: &mut Bus,

@@ -7,7 +7,6 @@ use st_prep::Words;
 use st_rows::{WordRun, WordRuns};
 
 // A run of words without the registers at its front.
-#[tactic(auto, unfolding(crate::specs::Entries::above_registers))]
 fn above_registers(first: u32, len: u8) -> WordRun
     ensures { result ≡ above_registers_of first len }
 {
@@ -20,7 +19,6 @@ fn above_registers(first: u32, len: u8) -> WordRun
 }
 
 /// The operand words that make reads.
-#[tactic(auto, unfolding(crate::specs::Entries::words_to_read))]
 pub fn words_to_read(words: Words) -> WordRuns
     ensures { result ≡ words_to_read_of words }
 {
@@ -47,7 +45,6 @@ pub fn words_to_write(words: Words) -> WordRuns
 }
 
 /// The index-side word, where it makes a read.
-#[tactic(auto, unfolding(crate::specs::Entries::side_to_read))]
 pub fn side_to_read(side: Option<u32>) -> Option<u32>
     ensures { result ≡ side_to_read_of side }
 {
