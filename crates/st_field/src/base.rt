@@ -1,6 +1,6 @@
 //! What an operation on a field takes, and what the base of the numbers there, 2 or 10, makes of
 //! it.
-ghost use Rattle.std.specs.Prelude.{◌≡◌, ◌≤◌, ◌<◌, ◌%◌, ◌^◌, ℕ, true};
+ghost use Rattle.std.specs.Prelude.{◌≡◌, ◌<◌, ◌%◌, ◌^◌, ℕ, true};
 ghost use Rattle.st_field.specs.Fields.{IsBinaryShape, HasRoom, magnitude_bits};
 ghost use Rattle.st_field.specs.Numbers.{exceeds};
 ghost use Rattle.st_field.specs.declared.base.Taken.{Taken};
