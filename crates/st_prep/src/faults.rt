@@ -1,5 +1,5 @@
 //! The checks before an instruction is executed.
-ghost use Rattle.std.specs.Prelude.{◌≡◌, ◌+◌, ◌/◌, ◌<◌, ◌^◌, IfSome};
+ghost use Rattle.std.specs.Prelude.{◌≡◌, ◌<◌, ◌^◌, IfSome};
 ghost use Rattle.st_state.specs.Machine.{word, word as word_of};
 ghost use Rattle.st_prep.specs.Ranges.{HasFields, IsAim, IsFetched, IsRuns};
 ghost use Rattle.st_state.specs.Boundary.{forbidden_by};
@@ -56,7 +56,6 @@ fn forbidden_run(state: &State, access: Access, first: u32, len: u8) -> Option<u
 
 // The same of two runs of words.
 #[inline(always)]
-#[tactic(auto, unfolding(crate::specs::Checks::forbidden_words))]
 fn forbidden_words(state: &State, access: Access, words: Words) -> Option<u8>
     requires { IsRuns words }
     ensures value { result ≡ forbidden_words_of (word state.now 3) state.now.enabled access words }
@@ -72,7 +71,6 @@ fn forbidden_words(state: &State, access: Access, words: Words) -> Option<u8>
 
 // The indicator that forbids the index-side word to be read.
 #[inline(always)]
-#[tactic(auto, unfolding(crate::specs::Checks::forbidden_side))]
 fn forbidden_side(state: &State, word: Option<u32>) -> Option<u8>
     ensures value { result ≡ forbidden_side_of (word_of state.now 3) state.now.enabled word }
     ensures bound { IfSome result (λ i. i < 64) }
