@@ -83,7 +83,6 @@ impl Base for Ten {
         load_transit(&taken.acc, &taken.field, &taken.shape)
     }
 
-    #[tactic(auto, unfolding(crate::specs::DecimalResult::binary_value))]
     fn convert(taken: &Taken) -> Done {
         let value = u128::from(field_value(&taken.field, &taken.shape));
         let value = shift(value, taken.shape.offset);

@@ -11,7 +11,6 @@ use st_field::{Acc, Done, Shape, operate, take};
 /// 2^length, and of the indicators `ind`. The shape is that of a decimal instruction: its bytes
 /// have 4 to 8 bits, and the field is a whole number of them. Multiply, multiply and add, and
 /// divide load the transit register, for the program to go on with.
-#[tactic(auto, unfolding(crate::specs::DecimalResult::result))]
 pub fn decimal(op: VflOp, acc: &Acc, bits: u64, shape: &Shape, ind: u64) -> Done
     requires shape { IsDecimalShape shape.now }
     requires fits { bits < 2 ^ shape.now.length }

@@ -1,6 +1,6 @@
 //! Fields of storage, the accumulator, signed numbers and result indicators: what operations on
 //! fields have in common. `docs/variable-fields.md` has the rules.
-#![tactic(auto)]
+#![tactic(auto, unfolding(crate::specs::Bases::fields, crate::specs::Bases::numbers_compared, crate::specs::Bases::store_result))]
 
 pub mod accumulator;
 mod base;

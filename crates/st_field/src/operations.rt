@@ -64,7 +64,6 @@ fn part_added<B: Base>(taken: &Taken) -> Signed
 }
 
 // The accumulator, and the operand at its place.
-#[tactic(auto, unfolding(crate::specs::Bases::numbers_compared))]
 fn numbers<B: Base>(taken: &Taken) -> Compared
     requires { IsTaken B.Allows taken.now }
     ensures sides { result ≡ numbers_of (B.base taken.now) taken.now }
@@ -78,7 +77,6 @@ fn numbers<B: Base>(taken: &Taken) -> Compared
 }
 
 // The accumulator from the offset on as the field would store it, and the operand.
-#[tactic(auto, unfolding(crate::specs::Bases::fields))]
 fn fields<B: Base>(taken: &Taken) -> Compared
     requires { IsTaken B.Allows taken.now }
     ensures sides { result ≡ fields_of (B.base taken.now) taken.now }
@@ -142,7 +140,6 @@ fn put_in_field<B: Base>(taken: &Taken, sum: Sum) -> Done
 }
 
 // Store: the accumulator from the offset on goes to the field.
-#[tactic(auto, unfolding(crate::specs::Bases::store_result))]
 fn store<B: Base>(taken: &Taken) -> Done
     requires { IsTaken B.Allows taken.now }
     ensures { result ≡ store_result (B.base taken.now) taken.now }

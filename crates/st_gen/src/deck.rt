@@ -47,7 +47,6 @@ fn push_drawn_cards(
 }
 
 // Appends a control card.
-#[tactic(auto, unfolding(crate::specs::Deck::control))]
 fn push_control(deck: &mut Vec<u8>, text: &str) -> Result<(), AllocError>
     ensures { OnOk result (deck.new.items ≡ deck.old.items ++ control text.now) }
 {
@@ -66,7 +65,6 @@ fn push_delay_card(deck: &mut Vec<u8>, generator: &mut Generator) -> Result<(), 
 }
 
 // Appends so many cards with a delay each.
-#[tactic(auto, unfolding(crate::specs::Deck::delay_cards))]
 fn push_delay_cards(
     deck: &mut Vec<u8>,
     generator: &mut Generator,

@@ -1,5 +1,5 @@
 //! A deck of cards made from a seed, as `soak` runs it, by the rules of `docs/deck.md`.
-#![tactic(auto)]
+#![tactic(auto, unfolding(crate::specs::Deck::control, crate::specs::Deck::delay_cards))]
 
 mod deck;
 mod form;

@@ -100,7 +100,6 @@ impl Draft {
     }
 
     // Whether all that must stand was read.
-    #[tactic(auto, unfolding(crate::specs::Draft::is_whole))]
     pub(crate) fn is_whole(&self) -> bool
         ensures { result ≡ spec.is_whole self.now }
     {
@@ -108,7 +107,6 @@ impl Draft {
     }
 
     // Whether a line of a kind has its place here.
-    #[tactic(auto, unfolding(crate::specs::Draft::has_place))]
     fn has_place(&self, kind: Kind) -> bool
         ensures { result ≡ spec.has_place self.now kind }
     {
@@ -145,7 +143,6 @@ impl Draft {
     }
 
     // Puts in what a line says.
-    #[tactic(auto, unfolding(crate::specs::Draft::draft_with_value))]
     pub(crate) fn put(&mut self, item: Item) -> Addition
         ensures { Settles self.new (spec.draft_with_value self.old item) result }
     {

@@ -102,7 +102,6 @@ fn end_of(mut draft: Draft, card: u32, rest: &[u8]) -> Result<Image, ObjectError
 }
 
 // The program that a text holds.
-#[tactic(auto, unfolding(crate::specs::Object::read_text))]
 fn read(alloc: Global, text: &[u8]) -> Result<Image, ObjectError>
     ensures { Gives (spec.read_text text.now) result }
 {

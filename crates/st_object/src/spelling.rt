@@ -31,7 +31,6 @@ fn word_line(w: u64, word: u64) -> Line
 }
 
 // What a line says, in its one spelling.
-#[tactic(auto, unfolding(crate::specs::Lines::line_text))]
 pub(crate) fn spelled(item: Item) -> Line
     ensures { result.bytes ≡ spec.line_text item }
 {

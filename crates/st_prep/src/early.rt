@@ -122,7 +122,6 @@ fn compared(a: i32, b: i32) -> Early
 // Index word `number`, which was `kept`, becomes `y`, and then the word of a refill where there is
 // one.
 #[inline(always)]
-#[tactic(auto, unfolding(crate::specs::EarlyChange::change_of_index))]
 fn changed(number: u8, kept: u64, y: u64, refill: Option<u64>) -> Early
     ensures { result ≡ changed_of number kept y refill }
 {

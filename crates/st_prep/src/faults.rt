@@ -58,7 +58,6 @@ fn forbidden_run(state: &State, access: Access, first: u32, len: u8) -> Option<u
 
 // The same of two runs of words.
 #[inline(always)]
-#[tactic(auto, unfolding(crate::specs::Checks::forbidden_words))]
 fn forbidden_words(state: &State, access: Access, words: Words) -> Option<u8>
     requires { IsRuns words }
     ensures value { result
@@ -75,7 +74,6 @@ fn forbidden_words(state: &State, access: Access, words: Words) -> Option<u8>
 
 // The indicator that forbids the index-side word to be read.
 #[inline(always)]
-#[tactic(auto, unfolding(crate::specs::Checks::forbidden_side))]
 fn forbidden_side(state: &State, word: Option<u32>) -> Option<u8>
     ensures value { result ≡ forbidden_side_of (word_of state.now 3) state.now.enabled word }
     ensures bound { IsIndicatorIfAny result }

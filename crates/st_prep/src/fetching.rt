@@ -55,7 +55,6 @@ pub fn index_words(state: &State) -> [u64; 16]
 
 /// The place of the next entry, or of the table instruction of an interrupt by the indicator in
 /// `table`.
-#[tactic(auto, unfolding(crate::specs::Fetch::place_of), using(st_bits::specs::Storage::words_of_storage_is))]
 pub fn place_of(state: &State, table: Option<u8>) -> Place
     requires { IsIndicatorIfAny table }
     ensures value { result ≡ place_by state.now table }
@@ -157,7 +156,6 @@ fn with_first(h: u32, contents: &[u64], state: &State) -> Part
 
 // The instruction at the half-word address `h`, as far as the contents tell.
 #[inline(always)]
-#[tactic(auto, unfolding(crate::specs::Reading::instruction_at))]
 fn part_at(h: u32, contents: &[u64], state: &State) -> Part
     requires { h < 2 ^ 19 }
     ensures value { (t : Bool) (k : Continuation) →
@@ -289,7 +287,6 @@ fn halves_of(h: u32, contents: &[u64], state: &State) -> Option<(u32, u32)>
 /// of its words, of which there is one at least, tell all of it, and the words may be fetched.
 /// Where there is only one, 0 stands for the second.
 #[inline(always)]
-#[tactic(auto, unfolding(crate::specs::Reading::instruction_at))]
 pub fn halves_known(h: u32, contents: &[u64], state: &State) -> Option<(u32, u32)>
     requires address { h < 2 ^ 19 }
     requires some { 1 ≤ length contents.now }

@@ -1,5 +1,5 @@
 //! The bus: when reads are accepted and answered, and which instruction words are held.
-ghost use Rattle.std.specs.Prelude.{◌≡◌, ◌+◌, ◌-◌, ◌<◌, ◌≤◌, ◌^◌, ◌∷◌, take, false};
+ghost use Rattle.std.specs.Prelude.{◌≡◌, ◌-◌, ◌≤◌, ◌^◌, ◌∷◌, take, false};
 ghost use Rattle.st_rows.specs.BusTimes.{no_reads, bus_after_read, answer_at, bus_after_request, answer_tick_on};
 ghost use Rattle.st_fetch.specs.Planned.{tick_of};
 ghost use Rattle.st_rows.specs.Asked.{word_asked};
@@ -37,7 +37,6 @@ impl Bus {
 
     /// Reads the word `w`, which is wanted from the tick `want` on, and notes that in the log. The
     /// result is the tick of the answer.
-    #[tactic(auto, unfolding(crate::specs::BusTimes::bus_after_read))]
     pub fn read(&mut self, log: &mut Log, delays: &Delays, w: u32, want: u64) -> u64
         requires room { IsBusWithin (2 ^ 64 - 512) self.old }
         requires early { want ≤ 2 ^ 64 - 512 }
@@ -63,7 +62,6 @@ impl Bus {
 
     /// Asks for the instruction word `w`, which is wanted from the tick `want` on: if it is held,
     /// no read is made, and else it is held from now on. The result is the tick of its answer.
-    #[tactic(auto, unfolding(crate::specs::BusTimes::bus_after_read, crate::specs::BusTimes::bus_after_request, crate::specs::BusTimes::answer_tick_on, crate::specs::Notes::log_after_reads))]
     pub fn request(&mut self, log: &mut Log, delays: &Delays, w: u32, want: u64) -> u64
         requires room { IsBusWithin (2 ^ 64 - 512) self.old }
         requires early { want ≤ 2 ^ 64 - 512 }

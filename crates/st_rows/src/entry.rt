@@ -44,7 +44,6 @@ pub struct Entry {
 
 impl WordRun {
     /// Whether the word `w` is in the run.
-    #[tactic(auto, unfolding(crate::specs::Entries::is_in))]
     pub fn has(self, w: u32) -> bool
         ensures { result ≡ is_in w self }
     {
@@ -54,7 +53,6 @@ impl WordRun {
 
 impl WordRuns {
     /// Whether the word `w` is in one of the runs.
-    #[tactic(auto, unfolding(crate::specs::Entries::is_among))]
     pub fn has(self, w: u32) -> bool
         ensures { result ≡ is_among w self }
     {

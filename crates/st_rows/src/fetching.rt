@@ -1,5 +1,5 @@
 //! The instruction words of an entry, asked for one after another.
-ghost use Rattle.std.specs.Prelude.{◌≡◌, ◌+◌, ◌-◌, ◌<◌, ◌≤◌, ◌^◌, max};
+ghost use Rattle.std.specs.Prelude.{◌≡◌, ◌-◌, ◌≤◌, ◌^◌, max};
 ghost use Rattle.st_fetch.specs.Planned.{tick_of};
 ghost use Rattle.st_rows.specs.Asked.{word_asked};
 ghost use Rattle.st_rows.specs.Notes.{log_after_reads};
@@ -57,7 +57,6 @@ impl Fetching {
 
     /// Fetches the next instruction word; the read that is made for it, where it was not held, is
     /// noted in the log.
-    #[tactic(auto, unfolding(crate::specs::Rows::fetch_word))]
     #[inline(always)]
     pub fn word(&mut self, log: &mut Log, wanted: &Wanted<'_>, w: u32)
         requires room { IsFetchingWithin (2 ^ 64 - 512) self.old }

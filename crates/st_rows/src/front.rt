@@ -1,5 +1,5 @@
 //! Fronts: what the row of the next entry is computed from.
-ghost use Rattle.std.specs.Prelude.{◌≡◌, ◌+◌, ◌*◌, ◌-◌, ◌<◌, ◌≤◌, ◌^◌, ℕ, max, All, IfSome, List};
+ghost use Rattle.std.specs.Prelude.{◌≡◌, ◌+◌, ◌-◌, ◌≤◌, ◌^◌, ℕ, All, IfSome, List};
 ghost use Rattle.st_bits.specs.declared.limits.TheConstants.{MOST_DELAY};
 ghost use Rattle.st_rows.specs.Asked.{side_asked, operands_asked, runs_asked, inside_asked, following_asked, prepared_asked};
 ghost use Rattle.st_rows.specs.Notes.{log_after_reads};
@@ -100,7 +100,6 @@ impl Front {
     }
 
     // The tick at which the address of the next entry is formed.
-    #[tactic(auto, unfolding(crate::specs::Rows::address_tick))]
     fn address(&self, entry: &Entry, words: &Fetching) -> u64
         requires tight { IsTight MOST_DELAY self.now }
         requires early { self.now.c ≤ 2 ^ 63 + 2 ^ 20 }
@@ -220,7 +219,6 @@ impl Front {
 // Reads the index-side word, if there is one, of an entry, which is wanted when its address is
 // formed, unless an earlier entry writes it that is done later. The result is the tick at which it
 // is there, 0 where there is none.
-#[tactic(auto, unfolding(crate::specs::Rows::bus_sided, crate::specs::Rows::side_there, crate::specs::Asked::side_asked, crate::specs::Notes::log_after_reads))]
 fn side(bus: &mut Bus, log: &mut Log, wanted: &Wanted<'_>, word: Option<u32>) -> u64
     requires room { IsBusWithin (2 ^ 64 - 512) bus.old }
     requires early { wanted.now.tick ≤ 2 ^ 64 - 512 }
@@ -245,7 +243,6 @@ fn side(bus: &mut Bus, log: &mut Log, wanted: &Wanted<'_>, word: Option<u32>) ->
 }
 
 // The tick at which an entry is prepared.
-#[tactic(auto, unfolding(crate::specs::Rows::preparation_tick))]
 fn prepared_at(levels: usize, past: &LastEntries, a: u64, y: u64) -> u64
     requires some { 1 ≤ levels }
     requires most { levels ≤ 8 }
@@ -260,7 +257,6 @@ fn prepared_at(levels: usize, past: &LastEntries, a: u64, y: u64) -> u64
 
 // The operand words of an entry are read, which are wanted when it is prepared. The result says
 // when the first two of its first run are there, 0 where that has no such word.
-#[tactic(auto, unfolding(crate::specs::Rows::operands_read))]
 #[inline(always)]
 fn read_operands(
     operands: &mut Fetching,
@@ -288,7 +284,6 @@ fn read_operands(
 
 // The words of a run of operands are read. The result says when the first two are there, 0 where
 // there is no such word.
-#[tactic(auto, unfolding(crate::specs::Rows::fills_of))]
 #[inline(always)]
 fn read_run(operands: &mut Fetching, log: &mut Log, wanted: &Wanted<'_>, run: WordRun) -> [u64; 2]
     requires words { IsReadable run }
@@ -322,7 +317,6 @@ fn read_run(operands: &mut Fetching, log: &mut Log, wanted: &Wanted<'_>, run: Wo
 }
 
 // The following words of an entry that is prepared at `p` are asked for.
-#[tactic(auto, unfolding(crate::specs::Rows::bus_followed, crate::specs::Asked::following_asked, crate::specs::Notes::log_after_reads))]
 #[inline(always)]
 fn follow(bus: &mut Bus, log: &mut Log, delays: &Delays, entry: &Entry, p: u64)
     requires entry { IsEntryInTime entry.now }
@@ -342,7 +336,6 @@ fn follow(bus: &mut Bus, log: &mut Log, delays: &Delays, entry: &Entry, p: u64)
 }
 
 // Asks for the word `w`, if it is a word of storage.
-#[tactic(auto, using(st_bits::specs::Storage::words_of_storage_is), unfolding(crate::specs::Notes::log_after_reads))]
 fn request_inside(bus: &mut Bus, log: &mut Log, delays: &Delays, w: u32, p: u64)
     requires room { IsBusWithin (2 ^ 64 - 512) bus.old }
     requires early { p ≤ 2 ^ 64 - 512 }

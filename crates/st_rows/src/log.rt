@@ -1,5 +1,5 @@
 //! The reads of a segment that may still be taken back.
-ghost use Rattle.std.specs.Prelude.{◌≡◌, ◌∷◌, ◌<◌, ◌≤◌, [], take, MatchOption};
+ghost use Rattle.std.specs.Prelude.{◌≡◌, ◌∷◌, ◌≤◌, [], take, MatchOption};
 ghost use Rattle.st_rows.specs.Notes.{AreSettled, answers_left};
 
 use st_banks::LastAnswers;

@@ -1,5 +1,5 @@
 //! What is kept of the entries before.
-ghost use Rattle.std.specs.Prelude.{◌≡◌, ◌∷◌, ℕ, ◌-◌, ◌<◌, ◌≤◌, take, replicate, true, false};
+ghost use Rattle.std.specs.Prelude.{◌≡◌, ◌∷◌, ℕ, ◌≤◌, take, replicate, true, false};
 ghost use Rattle.st_rows.specs.Entries.{no_runs, is_in, is_outside, latest_done as latest_done_of};
 ghost use Rattle.st_rows.specs.Rows.{done_before as done_before_of};
 
@@ -63,7 +63,6 @@ impl Default for LastEntries {
 
 impl LastEntries {
     /// None yet.
-    #[tactic(auto, unfolding(crate::specs::Entries::writer_bits))]
     pub fn new() -> LastEntries
         ensures { result ≡ replicate 8 (record { c = 0; writes = no_runs }) }
     {
@@ -139,7 +138,6 @@ fn lies_outside(bounds: Bounds, w: u32) -> bool
 
 // The bounds with the words of two runs, but for registers, for which no read is made. Most entries
 // write no word, so that this is tested first.
-#[tactic(auto, unfolding(crate::specs::Entries::is_in))]
 #[inline(always)]
 fn widened(bounds: Bounds, runs: WordRuns) -> Bounds
     ensures { (w : ℕ) → 32 ≤ w → is_outside result.low result.high w ≡ true →
@@ -154,7 +152,6 @@ fn widened(bounds: Bounds, runs: WordRuns) -> Bounds
 }
 
 // The bounds with the words of a run.
-#[tactic(auto, unfolding(crate::specs::Entries::is_in))]
 #[inline(always)]
 fn widened_by(bounds: Bounds, run: WordRun) -> Bounds
     ensures { (w : ℕ) → 32 ≤ w → is_outside result.low result.high w ≡ true →

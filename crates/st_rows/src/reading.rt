@@ -1,5 +1,5 @@
 //! The operand words of an entry, read one after another.
-ghost use Rattle.std.specs.Prelude.{◌≡◌, ◌+◌, ◌*◌, ◌-◌, ◌<◌, ◌≤◌, ◌^◌, All};
+ghost use Rattle.std.specs.Prelude.{◌≡◌, ◌-◌, ◌≤◌, ◌^◌};
 ghost use Rattle.st_rows.specs.Asked.{data_asked, operands_asked};
 ghost use Rattle.st_rows.specs.Notes.{log_after_reads};
 ghost use Rattle.st_rows.specs.Rows.{reading_of_fetch, read_word, read_words, fill_at};
@@ -13,7 +13,6 @@ impl Fetching {
     // Reads the next operand word of an entry, which is wanted when that is prepared, unless an
     // earlier entry writes it that is done later. The result is the tick at which the word is
     // there.
-    #[tactic(auto, unfolding(crate::specs::Rows::read_word, crate::specs::Notes::log_after_reads))]
     pub(crate) fn read(&mut self, log: &mut Log, wanted: &Wanted<'_>, w: u32) -> u64
         requires room { IsReadingWithin (2 ^ 64 - 512) (reading_of_fetch self.old) }
         requires before { ArePastWithin (2 ^ 64 - 512) wanted.now.past.now }
@@ -38,7 +37,6 @@ impl Fetching {
     }
 
     // Reads the next operand words.
-    #[tactic(auto, unfolding(crate::specs::Rows::read_words))]
     #[inline(always)]
     pub(crate) fn read_on(&mut self, log: &mut Log, wanted: &Wanted<'_>, run: WordRun)
         requires room { IsReadingWithin (2 ^ 64 - 2 ^ 16) (reading_of_fetch self.old) }

@@ -69,7 +69,7 @@ entries-preserved g c =
             going = c.push.ensures.going t f
                 (going-at ds n old.tick c.due-due.result c.next_prepared-p.result (c.next_prepared-p.result + 1) t s f c.plan_before.new.self
                 (omega (arith, p, it.late yes.0)) (omega (arith, p, yes.1, at)) yes.0 (sym p) it);
-            behind = omega (arith, old.missed, p, it.late yes.0);
+            behind = omega (arith, old.behind, p, it.late yes.0);
             soon = soon;
           };
       grows = omega (arith, c.entries.invariant.grows, c.push.ensures.count, ap (λ (v : LevelsView). length v.ring) c.plan_before.ensures.levels);
@@ -87,7 +87,7 @@ returns-then-not-is_next_before-clause-goes g c = λ t f since given.
     let is = c.plan_before.ensures.going t f old.tick old.going in
     let at : c.due-due.result ≡ due_of c.plan_before.new.self.levels.plans = c.due-due.ensures.tick ∙ ap (λ (v : LevelsView). due_of v.plans) (sym c.plan_before.ensures.levels) in
     rw c.stop_at.ensures
-    (gone-by (nat_le c.due-due.result c.args.last) ds n since old.tick c.args.last c.due-due.result t s f c.plan_before.new.self refl old.missed old.soon c.requires.early at
+    (gone-by (nat_le c.due-due.result c.args.last) ds n since old.tick c.args.last c.due-due.result t s f c.plan_before.new.self refl old.behind old.soon c.requires.early at
     (c.is_next_before.ensures.no c.if-not-is_next_before.true) is)
 
 pub returns-then-not-is_next_before-clause-before : goal.returns-then-not-is_next_before-clause-before
