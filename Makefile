@@ -14,7 +14,7 @@ zsh = $(to)/share/zsh/site-functions
 fish = $(to)/share/fish/vendor_completions.d
 
 help:
-	@echo 'make check                 prove, test and run everything, from nothing: some 25 minutes on four processors'
+	@echo 'make check                 prove, test and run everything, from nothing: some 25 minutes on four processors, 45 on two'
 	@echo 'make vectors               run the proved program over all vectors and examples'
 	@echo 'make tools                 try the scripts of tools/ with the proved program'
 	@echo 'make bench                 time the proved program'
@@ -33,10 +33,9 @@ tools: proved
 bench: proved
 	bench/run
 
-# The proved programs stand, and none is older than the sources, definitions and proofs. ledger is left out where it is none yet.
+# The proved programs stand, and none is older than the sources, definitions and proofs.
 proved:
 	@for name in $(PROGRAMS); do \
-	    [ -d crates/$$name ] || continue; \
 	    program=$(OUT)/$$name/out/$$name; \
 	    if [ ! -x $$program ]; then \
 	        why='stands at'; \
@@ -47,7 +46,7 @@ proved:
 	        continue; \
 	    fi; \
 	    echo "no proved program $$why $$program" >&2; \
-	    echo 'make check makes it: some 25 minutes on four processors, with the kit (README.md, "What it needs")' >&2; \
+	    echo 'make check makes it: some 25 minutes on four processors, 45 on two, with the kit (README.md, "What it needs")' >&2; \
 	    echo 'status 70: no program' >&2; \
 	    exit 70; \
 	done
@@ -57,10 +56,8 @@ proved:
 install: proved
 	mkdir -p $(to)/bin $(home)/programs $(home)/tools/explaining $(home)/page $(doc) $(man) $(bash) $(zsh) $(fish)
 	@set -e; for name in $(PROGRAMS); do \
-	    [ -d crates/$$name ] || continue; \
 	    cp $(OUT)/$$name/out/$$name $(home)/programs/$$name; \
 	    chmod 755 $(home)/programs/$$name; \
-	    [ -f $$name ] || continue; \
 	    sed 's|sh "$$here/[.]ci/start" '$$name'|"$$here/programs/'$$name'"|' $$name >$(home)/$$name; \
 	    if grep -q '[.]ci/start"' $(home)/$$name; then echo "$$name starts its program in a way that is not known here" >&2; exit 1; fi; \
 	    chmod 755 $(home)/$$name; \
@@ -87,6 +84,7 @@ install: proved
 	echo '.so man1/stretch-tools.1' >$(man)/stretch-explain.1
 	cp tools/completions/stretch.bash $(bash)/stretch
 	ln -sf stretch $(bash)/stretch-chart
+	ln -sf stretch $(bash)/stretch-ledger
 	ln -sf stretch $(bash)/stretch-explain
 	cp tools/completions/_stretch $(zsh)/_stretch
 	cp tools/completions/stretch.fish $(fish)/stretch.fish
@@ -98,7 +96,7 @@ uninstall:
 	    [ ! -f $$script ] || rm -f $(to)/bin/stretch-$$name $(man)/stretch-$$name.1 $(bash)/stretch-$$name; \
 	done
 	rm -f $(man)/stretch.1 $(man)/stretch-tools.1 $(man)/stretch-chart.1 $(man)/stretch-ledger.1 $(man)/stretch-explain.1
-	rm -f $(bash)/stretch $(bash)/stretch-chart $(bash)/stretch-explain
+	rm -f $(bash)/stretch $(bash)/stretch-chart $(bash)/stretch-ledger $(bash)/stretch-explain
 	rm -f $(zsh)/_stretch $(fish)/stretch.fish
 	rm -rf $(home) $(doc)
 

@@ -72,7 +72,7 @@ function close_command() {
 # A fence may stand in a list, three columns in.
 fence == "" && /^   ```/ { inset = 1; sub(/^   /, "") }
 fence != "" && inset { sub(/^   /, "") }
-length($0) > (/^\|/ ? wide : 120) && (fence == "" || wide == 120) { fault("a line of " length($0) " characters") }
+length($0) > (/^\|/ ? wide : 120) { fault("a line of " length($0) " characters") }
 fence == "" && /^```/ {
     fence = $1
     sub(/^```/, "", fence)

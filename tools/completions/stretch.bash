@@ -1,12 +1,13 @@
-# Completion of stretch, stretch-chart and the scripts stretch-NAME in bash.
+# Completion of stretch, stretch-chart, stretch-ledger and the scripts stretch-NAME in bash.
 _stretch() {
     local word=${COMP_WORDS[COMP_CWORD]} name=${COMP_WORDS[0]##*/} words=--help
     case $name:$COMP_CWORD in
     stretch:1) words='run assemble load disassemble sweep soak --help' ;;
     stretch-chart:1) words='svg text kanata --help' ;;
+    stretch-ledger:1) words='1 2 3 4 5 6 7 8 --help' ;;
     stretch-explain:1) words='text csv json --help' ;;
     stretch-read:1) words='text csv json --help' ;;
-    stretch:* | stretch-chart:* | stretch-read:* | stretch-indicators:*) return ;;
+    stretch:* | stretch-chart:* | stretch-ledger:* | stretch-read:* | stretch-indicators:*) return ;;
     *)
         mapfile -t COMPREPLY < <(compgen -W "$words" -- "$word"; compgen -f -- "$word")
         return
@@ -14,5 +15,5 @@ _stretch() {
     esac
     mapfile -t COMPREPLY < <(compgen -W "$words" -- "$word")
 }
-complete -o filenames -F _stretch stretch stretch-chart stretch-explain stretch-why stretch-read stretch-deck stretch-delays \
-    stretch-indicators stretch-page stretch-picture
+complete -o filenames -F _stretch stretch stretch-chart stretch-ledger stretch-explain stretch-why stretch-read stretch-deck \
+    stretch-delays stretch-indicators stretch-page stretch-picture
