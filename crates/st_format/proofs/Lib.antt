@@ -5,3 +5,4 @@ pub mod Numbers
 pub mod Spelled
 pub mod Shapes
 pub mod RoundTrip
+pub mod Laws

@@ -14,7 +14,7 @@ use Rattle.st_format.specs.declared.instruction.Instr.TheVariants.{Half, Branch,
 use Rattle.st_format.specs.Halves.{later, is_one, is_full, i_of, address_of, j_of, operation_of, bit_address_of, second_address_of, p_of, length_of, byte_of, offset_of, k_of, words_moved, half_bits, first_bits, second_half_bits, second_bits}
 use Rattle.st_format.specs.Operations.{full_ops, numbered_op, half_op, branch_op, kind, full_op, half_number, branch_number, kind_number, vfl_number, full_number, writes_field}
 use Rattle.st_format.specs.Validity.{is_invalid_half, breaks_rules, is_invalid, is_refused, misfits, misuses_p, miscounts}
-use Rattle.st_format.specs.Formats.{branch_word, index_word, half_word, full_word_instruction, full_word, instruction_of, first_half, second_half, bit_of, FitsHalf, FitsFull, FitsField, IsRefusal, IsShape}
+use Rattle.st_format.specs.Formats.{branch_instruction, index_instruction, half_word, full_word_instruction, full_word, instruction_of, first_half, second_half, bit_of, FitsHalf, FitsFull, FitsField, IsRefusal, IsShape}
 use Rattle.st_format.proofs.Windows.{address-half_bits, j-half_bits, operation-half_bits, i-half_bits, is_full-half_bits, address-first_bits, i-first_bits, is_full-first_bits, p-field_bits, length-field_bits, byte-field_bits, offset-field_bits, operation-field_bits, k-field_bits, second-second_bits, operation-second_bits, k-second_bits, count-second_bits}
 use Rattle.st_format.proofs.Numbers.{half_op-number, branch_op-number, kind-number, numbered_op-vfl_number, half_number-bound, half_number-short, branch_number-bound, vfl_number-bound, kind_number-bound, half_number-floating, half_number-branch, swap-bound, order-bound, half_op-unused, branch_op-late}
 use Rattle.st_format.proofs.Shapes.{invalid-full, invalid-half}
@@ -32,25 +32,25 @@ index-chosen : (f o : ℕ) (op : HalfOp) → (o == 0) ≡ false → (o == 23) �
 unfolding half_word
 index-chosen f o op floating group known number =
     ap (λ n. if n == 0 then Floating (j_of f) (address_of f) (i_of f)
-    else if n == 23 then branch_word (branch_op (j_of f)) f else index_word (half_op n) f) number
+    else if n == 23 then branch_instruction (branch_op (j_of f)) f else index_instruction (half_op n) f) number
     ∙ ap (λ b. if b then Floating (j_of f) (address_of f) (i_of f)
-    else if o == 23 then branch_word (branch_op (j_of f)) f else index_word (half_op o) f) floating
-    ∙ ap (λ b. if b then branch_word (branch_op (j_of f)) f else index_word (half_op o) f) group
-    ∙ ap (λ p. index_word p f) known
+    else if o == 23 then branch_instruction (branch_op (j_of f)) f else index_instruction (half_op o) f) floating
+    ∙ ap (λ b. if b then branch_instruction (branch_op (j_of f)) f else index_instruction (half_op o) f) group
+    ∙ ap (λ p. index_instruction p f) known
 
 branch-chosen : (f : ℕ) (op : BranchOp) → operation_of f ≡ 23 → branch_op (j_of f) ≡ Some op
     → half_word f ≡ Branch op (address_of f) (i_of f)
 unfolding half_word
 branch-chosen f op number known =
     ap (λ n. if n == 0 then Floating (j_of f) (address_of f) (i_of f)
-    else if n == 23 then branch_word (branch_op (j_of f)) f else index_word (half_op n) f) number
-    ∙ ap (λ p. branch_word p f) known
+    else if n == 23 then branch_instruction (branch_op (j_of f)) f else index_instruction (half_op n) f) number
+    ∙ ap (λ p. branch_instruction p f) known
 
 floating-chosen : (f : ℕ) → operation_of f ≡ 0 → half_word f ≡ Floating (j_of f) (address_of f) (i_of f)
 unfolding half_word
 floating-chosen f number =
     ap (λ n. if n == 0 then Floating (j_of f) (address_of f) (i_of f)
-    else if n == 23 then branch_word (branch_op (j_of f)) f else index_word (half_op n) f) number
+    else if n == 23 then branch_instruction (branch_op (j_of f)) f else index_instruction (half_op n) f) number
 
 half-back : (op : HalfOp) (a j i s : ℕ) → FitsHalf a i → j < 16
     → instruction_of (half_bits a j (half_number op) i) s ≡ Half op a j i
@@ -369,15 +369,15 @@ unused-word : (f : ℕ) → operation_of f ≡ 12 → half_word f ≡ Invalid f 
 unfolding half_word
 unused-word f number =
     ap (λ n. if n == 0 then Floating (j_of f) (address_of f) (i_of f)
-    else if n == 23 then branch_word (branch_op (j_of f)) f else index_word (half_op n) f) number
-    ∙ ap (λ p. index_word p f) half_op-unused
+    else if n == 23 then branch_instruction (branch_op (j_of f)) f else index_instruction (half_op n) f) number
+    ∙ ap (λ p. index_instruction p f) half_op-unused
 
 late-word : (f : ℕ) → operation_of f ≡ 23 → branch_op (j_of f) ≡ None → half_word f ≡ Invalid f 0 false
 unfolding half_word
 late-word f number none =
     ap (λ n. if n == 0 then Floating (j_of f) (address_of f) (i_of f)
-    else if n == 23 then branch_word (branch_op (j_of f)) f else index_word (half_op n) f) number
-    ∙ ap (λ p. branch_word p f) none
+    else if n == 23 then branch_instruction (branch_op (j_of f)) f else index_instruction (half_op n) f) number
+    ∙ ap (λ p. branch_instruction p f) none
 
 refused-by : (f : ℕ) (unused group late : Bool) → (operation_of f == 12) ≡ unused → (operation_of f == 23) ≡ group
     → nat_le 6 (j_of f) ≡ late → (unused || (group && late)) ≡ true → half_word f ≡ Invalid f 0 false

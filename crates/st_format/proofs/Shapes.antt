@@ -10,7 +10,7 @@ use Rattle.st_format.specs.declared.instruction.Instr.{Instr}
 use Rattle.st_format.specs.Halves.{half_word_part, later, is_full, i_of, address_of, j_of, operation_of, bit_address_of, second_address_of, p_of, length_of, byte_of, offset_of, k_of, words_moved, or_greatest}
 use Rattle.st_format.specs.Operations.{half_op, branch_op, full_op, half_number}
 use Rattle.st_format.specs.Validity.{is_invalid_half, breaks_rules, is_invalid, is_refused, miscounts}
-use Rattle.st_format.specs.Formats.{branch_word, index_word, half_word, full_word_instruction, full_word, instruction_of, FitsHalf, FitsFull, FitsField, IsRefusal, IsShape, is_no_instruction}
+use Rattle.st_format.specs.Formats.{branch_instruction, index_instruction, half_word, full_word_instruction, full_word, instruction_of, FitsHalf, FitsFull, FitsField, IsRefusal, IsShape, is_no_instruction}
 use Rattle.st_format.proofs.Numbers.{half_op-none, branch_op-none, branch_op-some, half_number-unused, number-half_op}
 use Rattle.st_format.proofs.Spelled.{of_choice, or-left, or-right, KeepsRules, keeps}
 
@@ -180,12 +180,12 @@ unfolding is_invalid_half
 allowed-floating f zero = ap (λ o. o == 12 || (o == 23 && nat_le 6 (j_of f))) (eqb-true (operation_of f) 0 zero)
 
 shape-branch : (op : Option BranchOp) (f : ℕ) → f < 2 ^ 32 → is_full f ≡ false → operation_of f ≡ 23
-    → branch_op (j_of f) ≡ op → IsShape (branch_word op f)
+    → branch_op (j_of f) ≡ op → IsShape (branch_instruction op f)
 shape-branch None f hf short group e = refusal-half f hf short (refused-branch f group e)
 shape-branch (Some op) f hf short group e = fits-half f
 
 shape-index : (op : Option HalfOp) (f : ℕ) → f < 2 ^ 32 → is_full f ≡ false → (operation_of f == 0) ≡ false
-    → (operation_of f == 23) ≡ false → half_op (operation_of f) ≡ op → IsShape (index_word op f)
+    → (operation_of f == 23) ≡ false → half_op (operation_of f) ≡ op → IsShape (index_instruction op f)
 shape-index None f hf short zero group e = refusal-half f hf short (refused-index f short zero group e)
 shape-index (Some op) f hf short zero group e = (fits-half f, j-bound f)
 
@@ -198,13 +198,13 @@ shape-half f hf short =
     (λ group. shape-index (half_op (operation_of f)) f hf short zero group refl))
 
 none-branch : (op : Option BranchOp) (f : ℕ) → operation_of f ≡ 23 → branch_op (j_of f) ≡ op
-    → is_no_instruction (branch_word op f) ≡ is_invalid_half f
+    → is_no_instruction (branch_instruction op f) ≡ is_invalid_half f
 none-branch None f group e = sym (refused-branch f group e)
 none-branch (Some op) f group e = sym (allowed-branch f op group e)
 
 none-index : (op : Option HalfOp) (f : ℕ) → is_full f ≡ false → (operation_of f == 0) ≡ false
     → (operation_of f == 23) ≡ false → half_op (operation_of f) ≡ op
-    → is_no_instruction (index_word op f) ≡ is_invalid_half f
+    → is_no_instruction (index_instruction op f) ≡ is_invalid_half f
 none-index None f short zero group e = sym (refused-index f short zero group e)
 none-index (Some op) f short zero group e = sym (allowed-index f op group e)
 

@@ -11,7 +11,7 @@ use Rattle.st_format.specs.declared.instruction.Instr.{Instr}
 use Rattle.st_format.specs.Halves.{later, is_one, is_full, i_of, address_of, j_of, operation_of, second_address_of, p_of, length_of, byte_of, offset_of, k_of, half_bits, second_half_bits, second_bits}
 use Rattle.st_format.specs.Operations.{numbered_op, half_op, branch_op, kind, full_op, kind_number, full_number}
 use Rattle.st_format.specs.Validity.{unused_in_kind, unused_k, unused_marks, has_misfit, has_misused_p, has_miscount, breaks_rules}
-use Rattle.st_format.specs.Formats.{branch_word, index_word, half_word, full_word_instruction, full_word, instruction_of, first_half, second_half, bit_of}
+use Rattle.st_format.specs.Formats.{branch_instruction, index_instruction, half_word, full_word_instruction, full_word, instruction_of, first_half, second_half, bit_of}
 use Rattle.st_format.proofs.Windows.{half_bits-fields, first_bits-fields, field_bits-fields, second_bits-fields, count_of-mod}
 use Rattle.st_format.proofs.Numbers.{number-half_op, number-branch_op, number-kind, number-numbered_op, vfl_number-bound, swap-bound, order-bound}
 
@@ -34,7 +34,7 @@ first-full (Some op) f s lt full =
     of_choice (λ v. first_half v ≡ f) (breaks_rules op f s) _ _ (λ _. refl) (λ _. first-word op f s lt full)
 
 first-branch : (op : Option BranchOp) (f : ℕ) → f < 2 ^ 32 → operation_of f ≡ 23 → branch_op (j_of f) ≡ op
-    → first_half (branch_word op f) ≡ f
+    → first_half (branch_instruction op f) ≡ f
 first-branch None f lt group e = refl
 first-branch (Some op) f lt group e =
     ap (λ j. half_bits (address_of f) j 23 (i_of f)) (number-branch_op (j_of f) op e)
@@ -42,7 +42,7 @@ first-branch (Some op) f lt group e =
     ∙ half_bits-fields f lt
 
 first-index : (op : Option HalfOp) (f : ℕ) → f < 2 ^ 32 → half_op (operation_of f) ≡ op
-    → first_half (index_word op f) ≡ f
+    → first_half (index_instruction op f) ≡ f
 first-index None f lt e = refl
 first-index (Some op) f lt e =
     ap (λ o. half_bits (address_of f) (j_of f) o (i_of f)) (number-half_op (operation_of f) op e)
@@ -229,11 +229,11 @@ second-full (Some op) f s lt e =
     of_choice (λ v. second_half v ≡ Some s) (breaks_rules op f s) _ _ (λ _. refl)
     (λ kept. second-word op f s lt e (keeps op f s kept))
 
-second-branch : (op : Option BranchOp) (f : ℕ) → second_half (branch_word op f) ≡ None
+second-branch : (op : Option BranchOp) (f : ℕ) → second_half (branch_instruction op f) ≡ None
 second-branch None f = refl
 second-branch (Some op) f = refl
 
-second-index : (op : Option HalfOp) (f : ℕ) → second_half (index_word op f) ≡ None
+second-index : (op : Option HalfOp) (f : ℕ) → second_half (index_instruction op f) ≡ None
 second-index None f = refl
 second-index (Some op) f = refl
 

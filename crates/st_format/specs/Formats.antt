@@ -15,22 +15,23 @@ use Rattle.st_format.specs.Operations.{half_op, branch_op, full_op, half_number,
 use Rattle.st_format.specs.Validity.{breaks_rules, is_invalid, misfits, misuses_p}
 
 -- a branch, where J names one
-abbrev pub branch_word : Option BranchOp → ℕ → Instr
-branch_word (Some op) first = Branch op (address_of first) (i_of first)
-branch_word None first = Invalid first 0 false
+abbrev pub branch_instruction : Option BranchOp → ℕ → Instr
+branch_instruction (Some op) first = Branch op (address_of first) (i_of first)
+branch_instruction None first = Invalid first 0 false
 
 -- another operation of the half-word format, where the number names one
-abbrev pub index_word : Option HalfOp → ℕ → Instr
-index_word (Some op) first = Half op (address_of first) (j_of first) (i_of first)
-index_word None first = Invalid first 0 false
+abbrev pub index_instruction : Option HalfOp → ℕ → Instr
+index_instruction (Some op) first = Half op (address_of first) (j_of first) (i_of first)
+index_instruction None first = Invalid first 0 false
 
 -- a half-word instruction
 unfoldable pub half_word : ℕ → Instr
 half_word first =
     if operation_of first == FLOATING_GROUP then Floating (j_of first) (address_of first)
     (i_of first)
-    else if operation_of first == BRANCH_GROUP then branch_word (branch_op (j_of first)) first
-    else index_word (half_op (operation_of first)) first
+    else if operation_of first == BRANCH_GROUP
+    then branch_instruction (branch_op (j_of first)) first
+    else index_instruction (half_op (operation_of first)) first
 
 -- a full-word instruction with a known operation
 unfoldable pub full_word_instruction : FullOp → ℕ → ℕ → Instr

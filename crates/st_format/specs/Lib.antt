@@ -2,3 +2,4 @@ pub mod Halves
 pub mod Operations
 pub mod Validity
 pub mod Formats
+pub mod Laws

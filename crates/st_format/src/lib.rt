@@ -51,13 +51,11 @@ mod decoding;
 mod encoding;
 mod fields;
 mod instruction;
-mod laws;
 mod operations;
 mod rules;
 
 pub use decoding::{decode, decode_as, format_of, length_in_halves};
 pub use encoding::encode;
 pub use instruction::{Decoded, Format, Instr};
-pub use laws::{bits_spell_instruction, instruction_keeps_bits};
 pub use operations::{FullOp, writes_field};
 pub use rules::misfits_field;

@@ -16,7 +16,7 @@ use Rattle.st_mnemonic.specs.declared.descriptions.Mode.TheVariants.{Field, Norm
 use Rattle.st_mnemonic.specs.declared.descriptions.Description.{Description}
 use Rattle.st_mnemonic.specs.declared.descriptions.Description.TheVariants.{Absent, InForm, Floating}
 use Rattle.st_mnemonic.specs.declared.operations.Operation.{Operation}
-use Rattle.st_mnemonic.specs.declared.operations.Operation.TheVariants.{Half, Sum, Refill, Execute, Branch, Bare, Floating as FloatingOperation, Vfl, Connect, Move, BitBranch, IndBranch, StoreCounter, Transfer, Data, IndexWord, Synonym, SetLocation, Reserve, End}
+use Rattle.st_mnemonic.specs.declared.operations.Operation.TheVariants.{Floating as FloatingOperation, Vfl, Connect, Data}
 
 -- the modes: decimal or not and unsigned or not, or of the floating group
 unfoldable pub modes : List (List ℕ × Mode)
@@ -81,26 +81,10 @@ description_of (c ∷ cs) =
 -- whether an operation may have a form: one on a field and a laid number a valid one, a connective
 -- a binary unsigned one
 unfoldable pub may_have : Operation → Form → Bool
-may_have (Half op) form = false
-may_have Sum form = false
-may_have Refill form = false
-may_have Execute form = false
-may_have (Branch op) form = false
-may_have (Bare op) form = false
-may_have (FloatingOperation number) form = false
 may_have (Vfl op negated) form = not (misfits form.decimal form.unsigned form.length form.byte)
 may_have (Connect kind table) form = not (form.decimal || not form.unsigned)
-may_have (Move swap) form = false
-may_have (BitBranch sense change) form = false
-may_have (IndBranch sense off) form = false
-may_have StoreCounter form = false
-may_have (Transfer write) form = false
 may_have Data form = not (misfits form.decimal form.unsigned form.length form.byte)
-may_have IndexWord form = false
-may_have Synonym form = false
-may_have SetLocation form = false
-may_have Reserve form = false
-may_have End form = false
+may_have _ form = false
 
 -- the numbers of normalized floating operations
 unfoldable pub floating_number : Operation → Option ℕ

@@ -9,7 +9,7 @@ use Rattle.st_format.specs.declared.operations.FullOp.TheVariants.{Variable, Con
 use Rattle.st_mnemonic.specs.Text.{begins_with, ends_with, group, behind_group}
 use Rattle.st_mnemonic.specs.declared.form.Form.{Form}
 use Rattle.st_mnemonic.specs.declared.operations.Operation.{Operation}
-use Rattle.st_mnemonic.specs.declared.operations.Operation.TheVariants.{Half, Sum, Refill, Execute, Branch, Bare, Floating, Vfl, Connect, Move, BitBranch, IndBranch, StoreCounter, Transfer, Data, IndexWord, Synonym, SetLocation, Reserve, End}
+use Rattle.st_mnemonic.specs.declared.operations.Operation.TheVariants.{Vfl, Connect}
 
 -- the progressive forms, each as a group without the parenthesis that closes it
 unfoldable pub progressive_forms : List (List ℕ × ℕ)
@@ -42,26 +42,9 @@ form_number (c ∷ cs) = if ends_with close_parenthesis (c ∷ cs)
 
 -- the operation on a field that an operation is, if it is one
 abbrev pub field_operation_of : Operation → Option FullOp
-field_operation_of (Half op) = None
-field_operation_of Sum = None
-field_operation_of Refill = None
-field_operation_of Execute = None
-field_operation_of (Branch op) = None
-field_operation_of (Bare op) = None
-field_operation_of (Floating number) = None
 field_operation_of (Vfl op negated) = Some (Variable op)
 field_operation_of (Connect kind table) = Some (Connective kind)
-field_operation_of (Move swap) = None
-field_operation_of (BitBranch sense change) = None
-field_operation_of (IndBranch sense off) = None
-field_operation_of StoreCounter = None
-field_operation_of (Transfer write) = None
-field_operation_of Data = None
-field_operation_of IndexWord = None
-field_operation_of Synonym = None
-field_operation_of SetLocation = None
-field_operation_of Reserve = None
-field_operation_of End = None
+field_operation_of _ = None
 
 -- whether an operation may have a progressive form: it is one on a field
 abbrev pub may_progress : Operation → Bool

@@ -18,11 +18,12 @@ use Rattle.st_mnemonic.specs.Text.{statement_text, begins_with, behind_word}
 use Rattle.st_mnemonic.specs.Forming.{behind_description}
 use Rattle.st_strap.specs.Reading.{field_front, index_part, index_fields, index_parts, index_field, index_named, spot, reading_without_index, expression, number_or_fault, number_result, plain_number, signed_of, signed_number, with_selected, index_selector}
 use Rattle.st_strap.specs.Saying.{index_alone, spot_alone, expression_alone, number_alone, index_and_spot, index_and_list, operand_spot, two_addresses, spot_and_number, address_and_number, two_addresses_and_number, refill_and_flags, count_and_refill, index_word_parts, without_fields, with_fields, is_misnamed, statement_in_form, reading_of_operation, clean_statement_of, statement_of}
-use Rattle.st_strap.specs.Faults.{Wanted, an_index_word, an_address, a_plain_address, a_number, a_signed_number, wanted_by, has_other_count, number_reading, without_sign, is_bad, is_large, lacks_expression, lacks_index, is_past, any_field, operation_named, described_in, progressed_in, fields_in, has_bad_progressive, field_faults, faults_behind, faults_on, wanted_in, fault_in}
+use Rattle.st_strap.specs.Faults.{Wanted, an_index_word, an_address, a_plain_address, a_number, a_signed_number, wanted_by, has_other_count, number_reading, without_sign, is_bad, is_large, lacks_expression, lacks_index, is_past, any_field, operation_named, described_in, progressed_in, fields_in, has_bad_progressive, field_faults, faults_behind, faults_on, wanted_in}
 use Rattle.st_mnemonic.specs.declared.form.Form.{Form}
 use Rattle.st_mnemonic.specs.declared.operations.Operation.{Operation}
 use Rattle.st_mnemonic.specs.declared.operations.Operation.TheVariants.{Half, Sum, Refill, Execute, Branch, Bare, Floating, Vfl, Connect, Move, BitBranch, IndBranch, StoreCounter, Transfer, Data, IndexWord, Synonym, SetLocation, Reserve, End}
 use Rattle.st_strap.specs.Statements.{Statement}
+use Rattle.std.specs.Result.{result_err}
 
 -- the first of the faults that fields may have
 abbrev pub first-of : Bool → Bool → Bool → Bool → Option Fault
@@ -73,13 +74,13 @@ beside-index false false true = refl
 beside-index false false false = refl
 
 pub fault-both : {A B : Type 0} (a : Result A Fault) (b : Result B Fault) →
-    fault_in (both_of a b) ≡ earliest (fault_in a) (fault_in b)
+    result_err (both_of a b) ≡ earliest (result_err a) (result_err b)
 fault-both (Ok a) (Ok b) = refl
 fault-both (Ok a) (Err g) = refl
 fault-both (Err f) (Ok b) = refl
 fault-both (Err f) (Err g) = refl
 
-pub fault-mapped : {A B : Type 0} (f : A → B) (r : Result A Fault) → fault_in (reading_map f r) ≡ fault_in r
+pub fault-mapped : {A B : Type 0} (f : A → B) (r : Result A Fault) → result_err (reading_map f r) ≡ result_err r
 fault-mapped f (Ok a) = refl
 fault-mapped f (Err e) = refl
 
@@ -92,19 +93,19 @@ field-fault wanted field = first-of false (lacks_expression wanted field) (lacks
 
 -- ---- each kind of field
 
-row-fault : (o : Option ℕ) → fault_in (ok_or o BadIndex) ≡ first-of false false (is_none o) false
+row-fault : (o : Option ℕ) → result_err (ok_or o BadIndex) ≡ first-of false false (is_none o) false
 row-fault None = refl
 row-fault (Some n) = refl
 
-pub index-fault : (field : List ℕ) → fault_in (index_field field) ≡ field-fault an_index_word field
+pub index-fault : (field : List ℕ) → result_err (index_field field) ≡ field-fault an_index_word field
 unfolding index_field
 index-fault field = row-fault (row_of field index_fields)
 
-must-fault : (must : Bool) → fault_in {A = ℕ} (if must then Err BadIndex else Ok 0) ≡ first-of false false must false
+must-fault : (must : Bool) → result_err {T = ℕ} (if must then Err BadIndex else Ok 0) ≡ first-of false false must false
 must-fault true = refl
 must-fault false = refl
 
-part-fault : (must : Bool) (part : List ℕ) → fault_in (index_named must part)
+part-fault : (must : Bool) (part : List ℕ) → result_err (index_named must part)
     ≡ first-of false false (if is_filled part then is_none (row_of part index_parts) else must) false
 unfolding index_named
 part-fault must [] = must-fault must
@@ -113,68 +114,68 @@ part-fault must (c ∷ cs) =
     ∙ ap (λ b. first-of false false (if b then is_none (row_of (c ∷ cs) index_parts) else must) false) (sym (filled c cs))
 
 tests-fault : {A : Type 0} (b l : Bool) (a : A) →
-    fault_in (if b then Err BadExpression else (if l then Err NumberTooLarge else Ok a)) ≡ first-of false b false l
+    result_err (if b then Err BadExpression else (if l then Err NumberTooLarge else Ok a)) ≡ first-of false b false l
 tests-fault true l a = refl
 tests-fault false true a = refl
 tests-fault false false a = refl
 
-expr-fault : (text : List ℕ) → fault_in (expr_of text) ≡ first-of false (any_bad (parts text)) false (any_large (parts text))
+expr-fault : (text : List ℕ) → result_err (expr_of text) ≡ first-of false (any_bad (parts text)) false (any_large (parts text))
 expr-fault text = tests-fault {A = ArrayVec Term} (any_bad (parts text)) (any_large (parts text)) (record { items = terms_of (parts text) })
 
-pub address-fault : (must : Bool) (field : List ℕ) → fault_in (spot must field) ≡ field-fault (an_address must) field
+pub address-fault : (must : Bool) (field : List ℕ) → result_err (spot must field) ≡ field-fault (an_address must) field
 unfolding spot
 address-fault must field =
     fault-mapped _ (both_of (expr_of (field_front field)) (index_named must (index_part field)))
     ∙ (fault-both (expr_of (field_front field)) (index_named must (index_part field))
-    ∙ (ap (λ x. earliest x (fault_in (index_named must (index_part field)))) (expr-fault (field_front field))
+    ∙ (ap (λ x. earliest x (result_err (index_named must (index_part field)))) (expr-fault (field_front field))
     ∙ (ap (λ x. earliest (first-of false (any_bad (parts (field_front field))) false (any_large (parts (field_front field)))) x) (part-fault must (index_part field))
     ∙ beside-index (any_bad (parts (field_front field))) (any_large (parts (field_front field))) (lacks_index (an_address must) field))))
 
 -- an index part in excess
 excess : {A : Type 0} (c : ℕ) (cs : List ℕ) (value : Result A Fault) →
-    fault_in (reading_without_index (c ∷ cs) value) ≡ earliest (fault_in value) (Some BadIndex)
+    result_err (reading_without_index (c ∷ cs) value) ≡ earliest (result_err value) (Some BadIndex)
 excess c cs (Ok a) = refl
 excess c cs (Err e) = refl
 
-unindexed-fault : {A : Type 0} (part : List ℕ) (value : Result A Fault) (b l : Bool) → fault_in value ≡ first-of false b false l →
-    fault_in (reading_without_index part value) ≡ first-of false b (is_filled part) l
+unindexed-fault : {A : Type 0} (part : List ℕ) (value : Result A Fault) (b l : Bool) → result_err value ≡ first-of false b false l →
+    result_err (reading_without_index part value) ≡ first-of false b (is_filled part) l
 unindexed-fault [] value b l is = is
 unindexed-fault (c ∷ cs) value b l is =
     excess c cs value
     ∙ (ap (λ x. earliest x (Some BadIndex)) is
     ∙ (beside-index b l true ∙ ap (λ i. first-of false b i l) (sym (filled c cs))))
 
-pub plain_address-fault : (field : List ℕ) → fault_in (expression field) ≡ field-fault a_plain_address field
+pub plain_address-fault : (field : List ℕ) → result_err (expression field) ≡ field-fault a_plain_address field
 unfolding expression
 plain_address-fault field = unindexed-fault (index_part field) (expr_of (field_front field)) _ _ (expr-fault (field_front field))
 
-reading-fault : (r : Reading) → fault_in (number_or_fault r) ≡ first-of false (is_bad r) false (is_large r)
+reading-fault : (r : Reading) → result_err (number_or_fault r) ≡ first-of false (is_bad r) false (is_large r)
 reading-fault Bad = refl
 reading-fault Large = refl
 reading-fault (Good n) = refl
 
-plain-fault : (text : List ℕ) → fault_in (number_result text) ≡ first-of false (is_bad (number_reading text)) false (is_large (number_reading text))
+plain-fault : (text : List ℕ) → result_err (number_result text) ≡ first-of false (is_bad (number_reading text)) false (is_large (number_reading text))
 unfolding number_result
 plain-fault text = reading-fault (number_reading text)
 
-pub number-fault : (field : List ℕ) → fault_in (plain_number field) ≡ field-fault a_number field
+pub number-fault : (field : List ℕ) → result_err (plain_number field) ≡ field-fault a_number field
 unfolding plain_number
 number-fault field = unindexed-fault (index_part field) (number_result (field_front field)) _ _ (plain-fault (field_front field))
 
 signs-fault : (minus plus : Bool) (text : List ℕ) →
-    fault_in {A = Bool × ℕ} (if minus then reading_map (λ n. (true, n)) (number_result (drop 1 text))
+    result_err {T = Bool × ℕ} (if minus then reading_map (λ n. (true, n)) (number_result (drop 1 text))
     else (if plus then reading_map (λ n. (false, n)) (number_result (drop 1 text)) else reading_map (λ n. (false, n)) (number_result text)))
-    ≡ fault_in (number_result (if minus || plus then drop 1 text else text))
+    ≡ result_err (number_result (if minus || plus then drop 1 text else text))
 signs-fault true plus text = fault-mapped {B = Bool × ℕ} (λ n. (true, n)) (number_result (drop 1 text))
 signs-fault false true text = fault-mapped {B = Bool × ℕ} (λ n. (false, n)) (number_result (drop 1 text))
 signs-fault false false text = fault-mapped {B = Bool × ℕ} (λ n. (false, n)) (number_result text)
 
 sign-fault : (text : List ℕ) →
-    fault_in (signed_of text) ≡ first-of false (is_bad (number_reading (without_sign text))) false (is_large (number_reading (without_sign text)))
+    result_err (signed_of text) ≡ first-of false (is_bad (number_reading (without_sign text))) false (is_large (number_reading (without_sign text)))
 unfolding signed_of
 sign-fault text = signs-fault (begins_with 45 text) (begins_with 43 text) text ∙ plain-fault (without_sign text)
 
-pub signed_number-fault : (field : List ℕ) → fault_in (signed_number field) ≡ field-fault a_signed_number field
+pub signed_number-fault : (field : List ℕ) → result_err (signed_number field) ≡ field-fault a_signed_number field
 unfolding signed_number
 signed_number-fault field = unindexed-fault (index_part field) (signed_of (field_front field)) _ _ (sign-fault (field_front field))
 
@@ -227,44 +228,44 @@ one-more k field ks ms fields =
     (any_field is_past (k ∷ ks, ms) (field ∷ fields))) (sym (further-test (length fields) (length ks) (length (ks ++ ms))))
 
 pair-fault : {A B : Type 0} (a : Result A Fault) (b : Result B Fault) (k : Wanted) (field : List ℕ) (ks ms : List Wanted)
-    (fields : List (List ℕ)) → fault_in a ≡ field-fault k field → fault_in b ≡ counted (ks, ms) fields →
-    fault_in (both_of a b) ≡ counted (k ∷ ks, ms) (field ∷ fields)
+    (fields : List (List ℕ)) → result_err a ≡ field-fault k field → result_err b ≡ counted (ks, ms) fields →
+    result_err (both_of a b) ≡ counted (k ∷ ks, ms) (field ∷ fields)
 pair-fault a b k field ks ms fields first rest =
     fault-both a b
-    ∙ (ap (λ x. earliest x (fault_in b)) first
+    ∙ (ap (λ x. earliest x (result_err b)) first
     ∙ (ap (λ x. earliest (field-fault k field) x) rest ∙ one-more k field ks ms fields))
 
-one-fault : {A : Type 0} (a : Result A Fault) (k : Wanted) (field : List ℕ) → fault_in a ≡ field-fault k field →
-    fault_in a ≡ counted (k ∷ [], []) (field ∷ [])
+one-fault : {A : Type 0} (a : Result A Fault) (k : Wanted) (field : List ℕ) → result_err a ≡ field-fault k field →
+    result_err a ≡ counted (k ∷ [], []) (field ∷ [])
 one-fault a k field is = is ∙ (sym (none-behind (field-fault k field)) ∙ one-more k field [] [] [])
 
 -- ---- the fields of each kind of operation
 
-index_alone-fault : (fields : List (List ℕ)) → fault_in (index_alone fields) ≡ counted (an_index_word ∷ [], []) fields
+index_alone-fault : (fields : List (List ℕ)) → result_err (index_alone fields) ≡ counted (an_index_word ∷ [], []) fields
 unfolding index_alone
 index_alone-fault [] = refl
 index_alone-fault (j ∷ []) = one-fault (index_field j) an_index_word j (index-fault j)
 index_alone-fault (j ∷ k ∷ more) = too-many (an_index_word ∷ [], []) (j ∷ k ∷ more) (omega arith)
 
-spot_alone-fault : (fields : List (List ℕ)) → fault_in (spot_alone fields) ≡ counted (an_address false ∷ [], []) fields
+spot_alone-fault : (fields : List (List ℕ)) → result_err (spot_alone fields) ≡ counted (an_address false ∷ [], []) fields
 unfolding spot_alone
 spot_alone-fault [] = refl
 spot_alone-fault (a ∷ []) = one-fault (spot false a) (an_address false) a (address-fault false a)
 spot_alone-fault (a ∷ b ∷ more) = too-many (an_address false ∷ [], []) (a ∷ b ∷ more) (omega arith)
 
-expression_alone-fault : (fields : List (List ℕ)) → fault_in (expression_alone fields) ≡ counted (a_plain_address ∷ [], []) fields
+expression_alone-fault : (fields : List (List ℕ)) → result_err (expression_alone fields) ≡ counted (a_plain_address ∷ [], []) fields
 unfolding expression_alone
 expression_alone-fault [] = refl
 expression_alone-fault (a ∷ []) = one-fault (expression a) a_plain_address a (plain_address-fault a)
 expression_alone-fault (a ∷ b ∷ more) = too-many (a_plain_address ∷ [], []) (a ∷ b ∷ more) (omega arith)
 
-number_alone-fault : (fields : List (List ℕ)) → fault_in (number_alone fields) ≡ counted (a_signed_number ∷ [], []) fields
+number_alone-fault : (fields : List (List ℕ)) → result_err (number_alone fields) ≡ counted (a_signed_number ∷ [], []) fields
 unfolding number_alone
 number_alone-fault [] = refl
 number_alone-fault (a ∷ []) = one-fault (signed_number a) a_signed_number a (signed_number-fault a)
 number_alone-fault (a ∷ b ∷ more) = too-many (a_signed_number ∷ [], []) (a ∷ b ∷ more) (omega arith)
 
-index_and_spot-fault : (fields : List (List ℕ)) → fault_in (index_and_spot fields) ≡ counted (an_index_word ∷ an_address false ∷ [], []) fields
+index_and_spot-fault : (fields : List (List ℕ)) → result_err (index_and_spot fields) ≡ counted (an_index_word ∷ an_address false ∷ [], []) fields
 unfolding index_and_spot
 index_and_spot-fault [] = refl
 index_and_spot-fault (a ∷ []) = refl
@@ -272,7 +273,7 @@ index_and_spot-fault (a ∷ b ∷ []) = pair-fault (index_field a) (spot false b
     (index-fault a) (one-fault (spot false b) (an_address false) b (address-fault false b))
 index_and_spot-fault (a ∷ b ∷ c ∷ more) = too-many (an_index_word ∷ an_address false ∷ [], []) (a ∷ b ∷ c ∷ more) (omega arith)
 
-two_addresses-fault : (fields : List (List ℕ)) → fault_in (two_addresses fields) ≡ counted (an_address false ∷ a_plain_address ∷ [], []) fields
+two_addresses-fault : (fields : List (List ℕ)) → result_err (two_addresses fields) ≡ counted (an_address false ∷ a_plain_address ∷ [], []) fields
 unfolding two_addresses
 two_addresses-fault [] = refl
 two_addresses-fault (a ∷ []) = refl
@@ -280,7 +281,7 @@ two_addresses-fault (a ∷ b ∷ []) = pair-fault (spot false a) (expression b) 
     (address-fault false a) (one-fault (expression b) a_plain_address b (plain_address-fault b))
 two_addresses-fault (a ∷ b ∷ c ∷ more) = too-many (an_address false ∷ a_plain_address ∷ [], []) (a ∷ b ∷ c ∷ more) (omega arith)
 
-spot_and_number-fault : (fields : List (List ℕ)) → fault_in (spot_and_number fields) ≡ counted (an_address false ∷ a_number ∷ [], []) fields
+spot_and_number-fault : (fields : List (List ℕ)) → result_err (spot_and_number fields) ≡ counted (an_address false ∷ a_number ∷ [], []) fields
 unfolding spot_and_number
 spot_and_number-fault [] = refl
 spot_and_number-fault (a ∷ []) = refl
@@ -288,7 +289,7 @@ spot_and_number-fault (a ∷ b ∷ []) = pair-fault (spot false a) (plain_number
     (address-fault false a) (one-fault (plain_number b) a_number b (number-fault b))
 spot_and_number-fault (a ∷ b ∷ c ∷ more) = too-many (an_address false ∷ a_number ∷ [], []) (a ∷ b ∷ c ∷ more) (omega arith)
 
-address_and_number-fault : (fields : List (List ℕ)) → fault_in (address_and_number fields) ≡ counted (a_plain_address ∷ a_number ∷ [], []) fields
+address_and_number-fault : (fields : List (List ℕ)) → result_err (address_and_number fields) ≡ counted (a_plain_address ∷ a_number ∷ [], []) fields
 unfolding address_and_number
 address_and_number-fault [] = refl
 address_and_number-fault (a ∷ []) = refl
@@ -298,14 +299,14 @@ address_and_number-fault (a ∷ b ∷ []) = fault-mapped _ (both_of (expression 
 address_and_number-fault (a ∷ b ∷ c ∷ more) = too-many (a_plain_address ∷ a_number ∷ [], []) (a ∷ b ∷ c ∷ more) (omega arith)
 
 two_addresses_and_number-fault : (fields : List (List ℕ)) →
-    fault_in (two_addresses_and_number fields) ≡ counted (an_address false ∷ a_plain_address ∷ a_number ∷ [], []) fields
+    result_err (two_addresses_and_number fields) ≡ counted (an_address false ∷ a_plain_address ∷ a_number ∷ [], []) fields
 unfolding two_addresses_and_number
 two_addresses_and_number-fault [] = refl
 two_addresses_and_number-fault (a ∷ more) = pair-fault (spot false a) (address_and_number more) (an_address false) a (a_plain_address ∷ a_number ∷ []) [] more
     (address-fault false a) (address_and_number-fault more)
 
 operand-fault : (form : Form) (fields : List (List ℕ)) →
-    fault_in (operand_spot form fields) ≡ counted (an_address (nat_le 2 form.p) ∷ [], a_number ∷ []) fields
+    result_err (operand_spot form fields) ≡ counted (an_address (nat_le 2 form.p) ∷ [], a_number ∷ []) fields
 unfolding operand_spot
 operand-fault form [] = refl
 operand-fault form (a ∷ []) = pair-fault {B = ℕ} (spot (nat_le 2 form.p) a) (Ok 0) (an_address (nat_le 2 form.p)) a [] (a_number ∷ []) []
@@ -314,7 +315,7 @@ operand-fault form (a ∷ b ∷ []) = pair-fault (spot (nat_le 2 form.p) a) (pla
     (address-fault (nat_le 2 form.p) a) (one-fault (plain_number b) a_number b (number-fault b))
 operand-fault form (a ∷ b ∷ c ∷ more) = too-many (an_address (nat_le 2 form.p) ∷ [], a_number ∷ []) (a ∷ b ∷ c ∷ more) (omega arith)
 
-refill_and_flags-fault : (fields : List (List ℕ)) → fault_in (refill_and_flags fields) ≡ counted (a_plain_address ∷ [], a_number ∷ []) fields
+refill_and_flags-fault : (fields : List (List ℕ)) → result_err (refill_and_flags fields) ≡ counted (a_plain_address ∷ [], a_number ∷ []) fields
 unfolding refill_and_flags
 refill_and_flags-fault [] = refl
 refill_and_flags-fault (a ∷ []) = fault-mapped _ (both_of {B = ℕ} (expression a) (Ok 0))
@@ -325,7 +326,7 @@ refill_and_flags-fault (a ∷ b ∷ []) = fault-mapped _ (both_of (expression a)
 refill_and_flags-fault (a ∷ b ∷ c ∷ more) = too-many (a_plain_address ∷ [], a_number ∷ []) (a ∷ b ∷ c ∷ more) (omega arith)
 
 count_and_refill-fault : (fields : List (List ℕ)) →
-    fault_in (count_and_refill fields) ≡ counted (a_number ∷ a_plain_address ∷ [], a_number ∷ []) fields
+    result_err (count_and_refill fields) ≡ counted (a_number ∷ a_plain_address ∷ [], a_number ∷ []) fields
 unfolding count_and_refill
 count_and_refill-fault [] = refl
 count_and_refill-fault (a ∷ more) = fault-mapped _ (both_of (plain_number a) (refill_and_flags more))
@@ -333,20 +334,20 @@ count_and_refill-fault (a ∷ more) = fault-mapped _ (both_of (plain_number a) (
     (number-fault a) (refill_and_flags-fault more)
 
 index_word_parts-fault : (fields : List (List ℕ)) →
-    fault_in (index_word_parts fields) ≡ counted (a_plain_address ∷ a_number ∷ a_plain_address ∷ [], a_number ∷ []) fields
+    result_err (index_word_parts fields) ≡ counted (a_plain_address ∷ a_number ∷ a_plain_address ∷ [], a_number ∷ []) fields
 unfolding index_word_parts
 index_word_parts-fault [] = refl
 index_word_parts-fault (a ∷ more) = pair-fault (expression a) (count_and_refill more) a_plain_address a (a_number ∷ a_plain_address ∷ []) (a_number ∷ []) more
     (plain_address-fault a) (count_and_refill-fault more)
 
-without_fields-fault : (statement : Statement) (fields : List (List ℕ)) → fault_in (without_fields statement fields) ≡ counted ([], []) fields
+without_fields-fault : (statement : Statement) (fields : List (List ℕ)) → result_err (without_fields statement fields) ≡ counted ([], []) fields
 unfolding without_fields
 without_fields-fault statement [] = refl
 without_fields-fault statement (a ∷ more) = too-many ([], []) (a ∷ more) (omega arith)
 
 -- an index word put to a list
-listed-fault : (a b : Result ℕ Fault) (i r : Bool) → fault_in a ≡ first-of false false i false → fault_in b ≡ first-of false false r false →
-    fault_in (with_selected a b) ≡ first-of false false (i || r) false
+listed-fault : (a b : Result ℕ Fault) (i r : Bool) → result_err a ≡ first-of false false i false → result_err b ≡ first-of false false r false →
+    result_err (with_selected a b) ≡ first-of false false (i || r) false
 listed-fault (Ok j) (Ok list) false false first rest = refl
 listed-fault (Ok j) (Ok list) false true first rest = let no : ⊥ = cc in absurd no
 listed-fault (Ok j) b true r first rest = let no : ⊥ = cc in absurd no
@@ -358,7 +359,7 @@ listed-fault (Err e) b false r first rest = let no : ⊥ = cc in absurd no
 abbrev none-such : List (List ℕ) → Bool
 none-such fields = list_any (λ field. is_none (row_of field index_fields)) fields
 
-selected-fault : (fields : List (List ℕ)) → fault_in (index_selector fields) ≡ first-of false false (none-such fields) false
+selected-fault : (fields : List (List ℕ)) → result_err (index_selector fields) ≡ first-of false false (none-such fields) false
 selected-fault [] = refl
 selected-fault (field ∷ more) = listed-fault (index_field field) (index_selector more) (is_none (row_of field index_fields)) (none-such more)
     (index-fault field) (selected-fault more)
@@ -387,16 +388,16 @@ few-listed n few =
     rw (some, room) refl
 
 index_and_list-fault : (fields : List (List ℕ)) →
-    fault_in (index_and_list fields) ≡ counted (replicate 2 an_index_word, replicate 14 an_index_word) fields
+    result_err (index_and_list fields) ≡ counted (replicate 2 an_index_word, replicate 14 an_index_word) fields
 unfolding index_and_list
 index_and_list-fault [] = refl
 index_and_list-fault (j ∷ []) = refl
 index_and_list-fault (j ∷ k ∷ ks) =
     let wanted : List Wanted × List Wanted = (replicate 2 an_index_word, replicate 14 an_index_word) in
     let step : (b : Bool) → nat_le (length ks) 14 ≡ b →
-    fault_in (if b then both_of (index_field j) (index_selector (k ∷ ks)) else Err BadFieldCount) ≡ counted wanted (j ∷ k ∷ ks) =
+    result_err (if b then both_of (index_field j) (index_selector (k ∷ ks)) else Err BadFieldCount) ≡ counted wanted (j ∷ k ∷ ks) =
     λ b. elim b as (λ v. nat_le (length ks) 14 ≡ v →
-    fault_in (if v then both_of (index_field j) (index_selector (k ∷ ks)) else Err BadFieldCount) ≡ counted wanted (j ∷ k ∷ ks)) [
+    result_err (if v then both_of (index_field j) (index_selector (k ∷ ks)) else Err BadFieldCount) ≡ counted wanted (j ∷ k ∷ ks)) [
       | true ↦ λ few. pair-fault (index_field j) (index_selector (k ∷ ks)) an_index_word j (an_index_word ∷ []) (replicate 14 an_index_word) (k ∷ ks)
           (index-fault j)
           (selected-fault (k ∷ ks)
@@ -408,7 +409,7 @@ index_and_list-fault (j ∷ k ∷ ks) =
 
 -- ---- the whole card
 
-fields-of-fault : (op : Operation) (form : Form) (fields : List (List ℕ)) → fault_in (with_fields op form fields) ≡ counted (wanted_by op form) fields
+fields-of-fault : (op : Operation) (form : Form) (fields : List (List ℕ)) → result_err (with_fields op form fields) ≡ counted (wanted_by op form) fields
 unfolding with_fields
 fields-of-fault (Half op) form fields = fault-mapped _ (index_and_spot fields) ∙ index_and_spot-fault fields
 fields-of-fault Sum form fields = fault-mapped _ (index_and_list fields) ∙ index_and_list-fault fields
@@ -432,31 +433,31 @@ fields-of-fault Reserve form fields = fault-mapped _ (expression_alone fields) �
 fields-of-fault End form fields = fault-mapped _ (expression_alone fields) ∙ expression_alone-fault fields
 
 progressed-fault : (p : Option Form) (op : Operation) (fields : List (List ℕ)) →
-    fault_in (next_reading BadProgressive p (λ f. with_fields op f fields))
+    result_err (next_reading BadProgressive p (λ f. with_fields op f fields))
     ≡ first_fault ((is_none p, BadProgressive) ∷ field_faults (option_map (λ f. wanted_by op f) p) fields)
 progressed-fault None op fields = refl
 progressed-fault (Some form) op fields = fields-of-fault op form fields
 
 described-fault : (m : Option (Operation × Form)) (text : List ℕ) →
-    fault_in (next_reading BadDataDescription m (λ d. statement_in_form d.0 d.1 (behind_description text)))
+    result_err (next_reading BadDataDescription m (λ d. statement_in_form d.0 d.1 (behind_description text)))
     ≡ first_fault ((is_none m, BadDataDescription) ∷ (has_bad_progressive text m, BadProgressive) ∷ field_faults (wanted_in text m) (fields_in text))
 unfolding statement_in_form
 described-fault None text = refl
 described-fault (Some d) text = progressed-fault (progressed_in text d) d.0 (fields_in text)
 
-said-fault : (op : Operation) (text : List ℕ) → fault_in (reading_of_operation op text) ≡ first_fault (faults_behind (Some op) text)
+said-fault : (op : Operation) (text : List ℕ) → result_err (reading_of_operation op text) ≡ first_fault (faults_behind (Some op) text)
 unfolding reading_of_operation
 said-fault op text = described-fault (described_in text op) text
 
 named-fault : (b : Bool) (o : Option Operation) (text : List ℕ) →
-    fault_in (if b then Err BadName else next_reading UnknownOperation o (λ op. reading_of_operation op text))
+    result_err (if b then Err BadName else next_reading UnknownOperation o (λ op. reading_of_operation op text))
     ≡ first_fault ((b, BadName) ∷ (is_none o, UnknownOperation) ∷ faults_behind o text)
 named-fault true o text = refl
 named-fault false None text = refl
 named-fault false (Some op) text = said-fault op text
 
 -- the fault of a card is the first that it has
-pub card-fault : (name text : List ℕ) → fault_in (statement_of name text) ≡ first_fault (faults_on name text)
+pub card-fault : (name text : List ℕ) → result_err (statement_of name text) ≡ first_fault (faults_on name text)
 unfolding clean_statement_of
 card-fault name text =
     let op = operation_named (statement_text text) in named-fault (is_misnamed name op) op (behind_word (statement_text text))

@@ -24,7 +24,7 @@ use Rattle.st_strap.specs.Order.{next_reading, reading_map, both_of}
 use Rattle.st_mnemonic.specs.Describing.{modes, plain_form, some_number, number_to, in_mode, in_pieces, description_of, may_have, described_form}
 use Rattle.st_mnemonic.specs.Forming.{progressive_forms, open_group, is_form, description_in, behind_description, form_number, may_have_form, form_with_progress}
 use Rattle.st_strap.specs.Reading.{field_front, index_part, index_fields, index_parts, index_field, index_named, spot, reading_without_index, number_or_fault, number_result, plain_number, number_expr, index_start}
-use Rattle.st_strap.specs.Spots.{number_spot, operands_text, AreSpots, progressive_form}
+use Rattle.st_strap.specs.Spots.{number_spot, operands_text, AreOperandNumbers, progressive_form}
 use Rattle.st_strap.specs.Saying.{index_and_spot, operand_spot, without_fields, with_fields, is_misnamed, statement_in_form, reading_of_operation, clean_statement_of, statement_of}
 use Rattle.st_mnemonic.specs.declared.form.Form.{Form}
 use Rattle.st_strap.specs.declared.statement.Statement.TheVariants.{Half, Branch, Vfl, Connect}
@@ -431,7 +431,7 @@ connect-may : (n : ℕ) → may_have (ConnectOperation C 6) (unsigned_form n) �
 unfolding may_have
 connect-may n = refl
 
-field-said : (op : VflOp) (n w b o : ℕ) → AreSpots n w b o →
+field-said : (op : VflOp) (n w b o : ℕ) → AreOperandNumbers n w b o →
     reading_of_operation (VflOperation op false) (nested_operands n w b o) ≡ Ok (Vfl op false (unsigned_form n) (number_spot (64 * w + b) 0) o)
 unfolding with_fields
 field-said op n w b o are =
@@ -439,7 +439,7 @@ field-said op n w b o are =
     ∙ (plain-formed (VflOperation op false) false true n 8 (place_text w b ++ 44 ∷ decimal o)
     ∙ ap (λ r. reading_map (λ p. Vfl op false (unsigned_form n) p.0 p.1) r) (two-operands false true n 8 w b o are.word are.bit are.offset))
 
-connect-said : (n w b o : ℕ) → AreSpots n w b o →
+connect-said : (n w b o : ℕ) → AreOperandNumbers n w b o →
     reading_of_operation (ConnectOperation C 6) (nested_operands n w b o) ≡ Ok (Connect C 6 (unsigned_form n) (number_spot (64 * w + b) 0) o)
 unfolding with_fields
 connect-said n w b o are =
@@ -447,7 +447,7 @@ connect-said n w b o are =
     ∙ (plain-formed (ConnectOperation C 6) false true n 8 (place_text w b ++ 44 ∷ decimal o)
     ∙ ap (λ r. reading_map (λ p. Connect C 6 (unsigned_form n) p.0 p.1) r) (two-operands false true n 8 w b o are.word are.bit are.offset))
 
-module _ (n w b o : ℕ) (are : AreSpots n w b o) where
+module _ (n w b o : ℕ) (are : AreOperandNumbers n w b o) where
   no_comment : lacks 59 (nested_operands n w b o) ≡ true
   no_comment =
       let bits = are.few_bits in

@@ -1,6 +1,6 @@
 -- The faults that a statement card has, each told by itself, and the list in which the first one
 -- counts.
-use Rattle.std.specs.Prelude.{ℕ, ◌||◌, Bool, true, false, nat_le, nat_lt, List, [], ◌∷◌, ◌++◌, length, drop, replicate, Option, None, Some, is_none, Result, Ok, Err, if◌then◌else◌}
+use Rattle.std.specs.Prelude.{ℕ, ◌-◌, ◌^◌, ◌||◌, Bool, true, false, nat_le, nat_lt, List, [], ◌∷◌, ◌++◌, length, drop, replicate, Option, None, Some, is_none, Result, Ok, Err, if◌then◌else◌}
 use Rattle.std.specs.List.{list_any, zip}
 use Rattle.std.specs.Option.{option_map, option_and_then, option_map_or}
 use Rattle.st_text.specs.Number.{is_filled, reading}
@@ -60,7 +60,7 @@ has_other_count wanted fields =
 
 -- what a text says as a plain number below 2^64
 abbrev pub number_reading : List ℕ → Reading
-number_reading text = reading 18446744073709551615 text
+number_reading text = reading (2 ^ 64 - 1) text
 
 -- a text without the sign before it, if it has one
 abbrev pub without_sign : List ℕ → List ℕ
@@ -159,8 +159,3 @@ faults_on name text = let statement = statement_text text in let op = operation_
     (is_misnamed name op, BadName)
     ∷ (is_none op, UnknownOperation)
     ∷ faults_behind op (behind_word statement)
-
--- the fault that a reading ends with
-abbrev pub fault_in : {A : Type 0} → Result A Fault → Option Fault
-fault_in (Ok a) = None
-fault_in (Err fault) = Some fault

@@ -2,21 +2,22 @@
 use Rattle.std.specs.Prelude.{◌≡◌, ◌≤◌, ◌<◌, ◌+◌, ◌*◌, ◌^◌, ◌++◌, ℕ, List, [], false, true, codes, decimal, None, Ok}
 use Rattle.st_card.specs.Cards.{first_fault}
 use Rattle.st_mnemonic.specs.Describing.{plain_form}
-use Rattle.st_strap.specs.Faults.{fault_in, faults_on}
+use Rattle.st_strap.specs.Faults.{faults_on}
 use Rattle.st_strap.specs.Saying.{statement_of}
 use Rattle.st_strap.specs.declared.statement.Statement.TheVariants.{Half, Branch, Vfl, Connect, Data, SetLocation, End}
-use Rattle.st_strap.specs.Spots.{number_spot, operands_text, AreSpots, progressive_form}
+use Rattle.st_strap.specs.Spots.{number_spot, operands_text, AreOperandNumbers, progressive_form}
 use Rattle.st_bits.specs.declared.operations.BranchOp.TheVariants.{Bew}
 use Rattle.st_bits.specs.declared.operations.VflOp.TheVariants.{L, Add, St, MAdd1, Mul}
 use Rattle.st_bits.specs.declared.operations.ConnKind.TheVariants.{C}
 use Rattle.st_bits.specs.declared.operations.HalfOp.TheVariants.{Lvi, VPlusI}
 use Rattle.st_strap.specs.Reading.{number_expr}
+use Rattle.std.specs.Result.{result_err}
 
 -- A statement card has a fault exactly where it has one of the list, each told by itself, and it is
 -- refused for the first of those that it has.
 abbrev pub TheFirstFaultOfTheListCounts : Type 0
 TheFirstFaultOfTheListCounts = (name text : List ℕ) →
-    fault_in (statement_of name text) ≡ first_fault (faults_on name text)
+    result_err (statement_of name text) ≡ first_fault (faults_on name text)
 
 -- A number below 2^64 behind `DD(BU,64),` is read as that number, a whole word.
 abbrev pub NumbersOfWordsAreRead : Type 0
@@ -44,13 +45,13 @@ pub record IndexOperationsAreRead : Type 0 where
 
 -- An operation on a field of n bits at bit b of word w, with an offset, is read as that operation.
 pub record FieldOperationsAreRead : Type 0 where
-  pub add : (n w b o : ℕ) → AreSpots n w b o →
+  pub add : (n w b o : ℕ) → AreOperandNumbers n w b o →
       statement_of [] (codes "+" ++ operands_text n w b o)
       ≡ Ok (Vfl Add false (plain_form false true n 8) (number_spot (64 * w + b) 0) o)
-  pub store : (n w b o : ℕ) → AreSpots n w b o →
+  pub store : (n w b o : ℕ) → AreOperandNumbers n w b o →
       statement_of [] (codes "ST" ++ operands_text n w b o)
       ≡ Ok (Vfl St false (plain_form false true n 8) (number_spot (64 * w + b) 0) o)
-  pub connect : (n w b o : ℕ) → AreSpots n w b o →
+  pub connect : (n w b o : ℕ) → AreOperandNumbers n w b o →
       statement_of [] (codes "C0110" ++ operands_text n w b o)
       ≡ Ok (Connect C 6 (plain_form false true n 8) (number_spot (64 * w + b) 0) o)
   pub load : (w : ℕ) → w ≤ 262143 →

@@ -1,5 +1,5 @@
 -- What the fields of a statement say, each by itself.
-use Rattle.std.specs.Prelude.{ℕ, ◌+◌, ◌==◌, ◌^◌, ◌/◌, Bool, true, false, bit_or, List, [], ◌∷◌, length, take, drop, codes, Option, None, Some, unwrap_or, Result, Ok, Err, if◌then◌else◌}
+use Rattle.std.specs.Prelude.{ℕ, ◌+◌, ◌-◌, ◌==◌, ◌^◌, ◌/◌, Bool, true, false, bit_or, List, [], ◌∷◌, length, take, drop, codes, Option, None, Some, unwrap_or, Result, Ok, Err, if◌then◌else◌}
 use Rattle.std.specs.Option.{option_map, option_or, ok_or}
 use Rattle.st_text.specs.Bytes.{open_parenthesis, close_parenthesis, plus_sign, minus_sign}
 use Rattle.arrayvec.specs.ArrayVec.{ArrayVec}
@@ -84,7 +84,7 @@ number_or_fault (Good n) = Ok n
 
 -- a plain number below 2^64
 unfoldable pub number_result : List ℕ → Result ℕ Fault
-number_result text = number_or_fault (reading 18446744073709551615 text)
+number_result text = number_or_fault (reading (2 ^ 64 - 1) text)
 
 -- a field that is a plain number
 unfoldable pub plain_number : List ℕ → Result ℕ Fault

@@ -160,26 +160,10 @@ with_fields EndOperation form fields = reading_map (λ at. End at) (expression_a
 
 -- whether a card of this operation may not have a name, or must have one
 abbrev pub misnames : Bool → Operation → Bool
-misnames named (HalfOperation op) = false
-misnames named SumOperation = false
-misnames named RefillOperation = false
-misnames named ExecuteOperation = false
-misnames named (BranchOperation op) = false
-misnames named (BareOperation op) = false
-misnames named (FloatingOperation number) = false
-misnames named (VflOperation op negated) = false
-misnames named (ConnectOperation kind table) = false
-misnames named (MoveOperation swap) = false
-misnames named (BitBranchOperation sense change) = false
-misnames named (IndBranchOperation sense off) = false
-misnames named StoreCounterOperation = false
-misnames named (TransferOperation write) = false
-misnames named DataOperation = false
-misnames named IndexWordOperation = false
 misnames named SynonymOperation = not named
 misnames named SetLocationOperation = named
-misnames named ReserveOperation = false
 misnames named EndOperation = named
+misnames named _ = false
 
 -- whether the name is none, or the operation is one of those that ask for a name or for none
 unfoldable pub is_misnamed : List ℕ → Option Operation → Bool

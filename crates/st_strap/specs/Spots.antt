@@ -16,7 +16,7 @@ operands_text n w b o =
     ++ decimal o
 
 -- the numbers of such operands
-pub record AreSpots (n w b o : ℕ) : Type 0 where
+pub record AreOperandNumbers (n w b o : ℕ) : Type 0 where
   pub some_bits : 1 ≤ n
   pub few_bits : n ≤ 64
   pub word : w ≤ 262143

@@ -2,6 +2,7 @@
 #![tactic(auto)]
 
 mod blanks;
+mod bytes;
 mod lines;
 mod numbers;
 mod pieces;
@@ -9,6 +10,7 @@ mod tables;
 mod words;
 
 pub use blanks::{filled_len, without_end_blanks, without_front_blanks};
+pub use bytes::is_printable_byte;
 pub use lines::{
     Line, begun, drop_end_blanks, ended, push_bit_address, push_decimal, push_flag,
     push_half_address, push_hex, push_short_decimal,

@@ -1,0 +1,19 @@
+-- What holds of the two formats, whatever the bits.
+use Rattle.std.specs.Prelude.{ℕ, ◌≡◌, ◌^◌, ◌<◌, Some, None, if◌then◌else◌}
+use Rattle.st_format.specs.declared.instruction.Instr.{Instr}
+use Rattle.st_format.specs.Halves.{is_full}
+use Rattle.st_format.specs.Formats.{instruction_of, first_half, second_half, halves_of, reread, IsShape}
+
+-- The bits of an instruction spell that instruction, with its length. Of a half-word instruction it
+-- does not matter what stands behind it.
+pub record BitsSpellInstruction : Type 0 where
+  pub instruction : (v : Instr) (s : ℕ) → IsShape v → (reread v s).instr ≡ v
+  pub length : (v : Instr) (s : ℕ) → IsShape v → (reread v s).halves ≡ halves_of v
+
+-- The instruction that bits spell is encoded in those bits, so no two half-words have an
+-- instruction in common.
+pub record InstructionKeepsBits : Type 0 where
+  pub shape : (f s : ℕ) → f < 2 ^ 32 → s < 2 ^ 32 → IsShape (instruction_of f s)
+  pub first : (f s : ℕ) → f < 2 ^ 32 → s < 2 ^ 32 → first_half (instruction_of f s) ≡ f
+  pub second : (f s : ℕ) → f < 2 ^ 32 → s < 2 ^ 32 →
+      second_half (instruction_of f s) ≡ (if is_full f then Some s else None)
