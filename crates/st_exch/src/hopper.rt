@@ -80,10 +80,7 @@ impl Hopper {
 
 // The cards behind the last statement card. None of those before it is left to the reader.
 fn behind_statements(cards: &[Card]) -> &[Card]
-    ensures back { result.now ≡ drop (length cards.now - length result.now) cards.now }
-    ensures within { length result.now ≤ length cards.now }
-    ensures before { (job : List ℕ) →
-        spec.texts_in job (take (length cards.now - length result.now) cards.now) ≡ [] }
+    ensures { result.now ≡ spec.behind_statements cards.now }
 {
     let mut count = cards.len();
     'cards: while count > 0 {
@@ -105,18 +102,17 @@ fn is_statement(kind: CardKind) -> bool
     }
 }
 
-// Goes on by a card: a comment card waits behind the others, and a statement card takes them away.
+// Goes on by a card: a comment card waits behind the others.
+#[tactic(auto, unfolding(crate::specs::Reader::texts_in))]
 fn stack(waiting: &mut VecDeque<[u64; 8]>, job: &[u8], card: Card) -> Result<(), NoMemory>
     requires { IsCardOf job.now card }
-    ensures { (cards : List CardRow) → waiting.old.items ≡ spec.texts_in job.now cards
-        → OnOk result (waiting.new.items ≡ spec.texts_in job.now (cards ++ card ∷ [])) }
+    ensures { OnOk result
+        (waiting.new.items ≡ waiting.old.items ++ spec.texts_in job.now (card ∷ [])) }
 {
     match card.kind {
-        CardKind::Comment => push_card(waiting, card_words(card.text(job)))?,
-        CardKind::Control => {}
-        CardKind::Statement => waiting.clear(),
+        CardKind::Comment => push_card(waiting, card_words(card.text(job))),
+        CardKind::Control | CardKind::Statement => Ok(()),
     }
-    Ok(())
 }
 
 // Appends a card.
