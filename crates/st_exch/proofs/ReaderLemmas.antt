@@ -82,6 +82,6 @@ pub behind-all : (P : Card → Type 0) (cards : List Card) → All P cards → A
 unfolding behind_statements
 behind-all P [] all = all
 behind-all P (card ∷ cards) all = elim (has_statement (card ∷ cards)) as (λ v. All P (if v then behind_statements cards else card ∷ cards)) [
-  true ↦ behind-all P cards (All-tail P card cards all)
+  | true ↦ behind-all P cards (All-tail P card cards all)
   | false ↦ all
 ]

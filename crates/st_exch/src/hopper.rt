@@ -1,8 +1,7 @@
 //! The cards that stand in the card reader.
 
-ghost use Rattle.std.specs.Prelude.{◌≡◌, ◌-◌, ◌^◌, ◌<◌, ◌≤◌, ℕ, List, [], ◌∷◌, ◌++◌, length, take, drop, MatchOption, IfOk, OnOk};
+ghost use Rattle.std.specs.Prelude.{◌≡◌, ◌^◌, ◌<◌, ◌≤◌, [], ◌∷◌, ◌++◌, length, MatchOption, IfOk, OnOk};
 ghost use Rattle.st_card.specs.Cards.{IsCardOf, cards_of};
-ghost use Rattle.st_card.specs.declared.cards.Card.{Card as CardRow};
 ghost use Rattle.st_exch.specs.Reader as spec;
 
 use st_bits::NoMemory;
