@@ -9,9 +9,9 @@ use Rattle.st_strap.specs.Statements.{Statement}
 use Rattle.st_strap.specs.declared.statement.Statement.TheVariants.{IndexWord}
 use Rattle.st_asm.specs.Naming.{Named, is_name_taken, is_known, is_earlier, name_fault}
 use Rattle.st_asm.specs.Symbols.{table}
-use Rattle.st_asm.specs.declared.line.Line.{Line}
+use Rattle.st_asm.specs.declared.line.ReadCard.{ReadCard}
 use Rattle.st_asm.specs.Checks.{is_address, in_range, fits, on_boundary, in_storage, extent, value_fault}
-use Rattle.st_asm.specs.Places.{role_of, length_in}
+use Rattle.st_asm.specs.Places.{placing_of, length_in}
 use Rattle.st_asm.specs.declared.values.Values.{Values}
 use Rattle.st_asm.specs.declared.places.Placing.{Placing}
 use Rattle.st_asm.specs.declared.places.Placing.TheVariants.{Lays, Passes, Sets, Names, Ends}
@@ -28,10 +28,10 @@ none_of false b c d e f g h none = let no : ⊥ = cc in absurd no
 -- a statement without a fault passes every test
 pub faultless : (s : Statement) (v : Values) (place : ℕ) → value_fault s v place ≡ None →
     (in_range s v ≡ true) × (fits s v ≡ true) × (on_boundary s v ≡ true)
-    × (in_storage place (extent (role_of s) v.first) ≡ true)
+    × (in_storage place (extent (placing_of s) v.first) ≡ true)
 unfolding value_fault
 faultless s v place none =
-    none_of (in_range s v) (fits s v) (on_boundary s v) (in_storage place (extent (role_of s) v.first)) _ _ _ _ none
+    none_of (in_range s v) (fits s v) (on_boundary s v) (in_storage place (extent (placing_of s) v.first)) _ _ _ _ none
 
 -- an address is below 2^24
 pub address-below : (a : ℤ) → is_address a ≡ true → unsigned_abs a < 2 ^ 24
@@ -54,8 +54,8 @@ first-below (IndexWord value count refill flags) v is good =
 first-below _ v is good = address-below v.first (both (is_address v.first) (is_address v.second) is).0
 
 -- what is laid is in storage where what is laid or passed over is
-pub laid-in_storage : (role : Placing) (value : ℤ) (place : ℕ) → in_storage place (extent role value) ≡ true →
-    in_storage place (length_in role) ≡ true
+pub laid-in_storage : (placing : Placing) (value : ℤ) (place : ℕ) → in_storage place (extent placing value) ≡ true →
+    in_storage place (length_in placing) ≡ true
 unfolding in_storage
 laid-in_storage (Lays unit bits) value place is = is
 laid-in_storage Passes value place is = refl
@@ -69,7 +69,7 @@ first-passes true fault rows none = let no : ⊥ = cc in absurd no
 first-passes false fault rows none = refl
 
 -- a card without a fault has a fresh name
-pub fresh-name : (on_cards : List ℕ → Bool) (named : Named) (line : Line) → name_fault on_cards named line ≡ None →
+pub fresh-name : (on_cards : List ℕ → Bool) (named : Named) (line : ReadCard) → name_fault on_cards named line ≡ None →
     is_name_taken (table named.symbols) line.name ≡ false
 unfolding name_fault
 fresh-name on_cards named line none =

@@ -26,24 +26,24 @@ use Rattle.st_strap.specs.Saying.{statement_of}
 use Rattle.st_strap.specs.Statements.{Statement}
 use Rattle.st_strap.proofs.StatementLemmas.{read-is, read-named}
 use Rattle.st_asm.specs.Pass.{Refusal, onward, pass, unless_faulty, pass_then}
-use Rattle.st_asm.specs.Lines.{name_field, statement_field, name_in, is_silent, saying}
+use Rattle.st_asm.specs.Lines.{name_field, statement_field, name_in, silent_line, saying}
 use Rattle.st_asm.specs.Forming.{Found, found_at_start, first_fault_of, with_statement, with_control, with_end, form_control, form_statement, form_kind, form_card, form_pass}
 use Rattle.st_asm.specs.Symbols.{table}
 use Rattle.st_asm.specs.Values.{value_modulo, values_of}
 use Rattle.st_asm.specs.Checks.{value_fault}
-use Rattle.st_asm.specs.Places.{role_of, place_in}
+use Rattle.st_asm.specs.Places.{placing_of, place_in}
 use Rattle.st_asm.specs.Naming.{Named, naming_at_start, name_fault, name_step, name_card, name_pass, place_of_card, symbol_of}
 use Rattle.st_asm.specs.Valuing.{Laid, laying_at_start, value_statement, value_saying, value_card, value_pass}
 use Rattle.st_asm.specs.Assembly.{together, with_defaults}
 use Rattle.st_asm.specs.Sound.{IsLocation, IsSymbol, IsAssemblySound}
-use Rattle.st_asm.specs.Kept.{IsLine, IsDeck, IsNamed, IsSoundLayout}
-use Rattle.st_asm.specs.declared.line.Line.{Line}
+use Rattle.st_asm.specs.Kept.{IsReadCard, IsDeck, IsNamed, IsSoundLayout}
+use Rattle.st_asm.specs.declared.line.ReadCard.{ReadCard}
 use Rattle.st_asm.specs.declared.places.Placing.{Placing}
 use Rattle.st_asm.specs.declared.places.Placing.TheVariants.{Lays, Passes, Sets, Names, Ends}
 use Rattle.st_asm.specs.declared.valuing.Listed.{Listed}
 
 -- the numbers of the cards of lines, and of rows
-abbrev cards_in : List Line → List ℕ
+abbrev cards_in : List ReadCard → List ℕ
 cards_in lines = map (λ line. line.card) lines
 
 abbrev numbers_in : List Listed → List ℕ
@@ -113,19 +113,19 @@ ok-mapped P f (Err e) h = tt
 
 -- ---- the form pass
 
-card-pushed : (lines : List Line) (line : Line) → cards_in (lines ++ line ∷ []) ≡ cards_in lines ++ line.card ∷ []
+card-pushed : (lines : List ReadCard) (line : ReadCard) → cards_in (lines ++ line ∷ []) ≡ cards_in lines ++ line.card ∷ []
 card-pushed [] line = refl
 card-pushed (l ∷ ls) line = ap (λ ns. l.card ∷ ns) (card-pushed ls line)
 
 form_kind-numbers : (s : Found) (card : ℕ) (fault : Option Fault) (text : List ℕ) (kind : CardKind) →
     IfOk (form_kind kind s card fault text) (λ t. cards_in t.lines ≡ cards_in s.lines ++ card ∷ [])
 unfolding form_control form_statement
-form_kind-numbers s card fault text Comment = card-pushed s.lines (is_silent card)
+form_kind-numbers s card fault text Comment = card-pushed s.lines (silent_line card)
 form_kind-numbers s card fault text Control =
     let P : Found → Type 0 = λ t. cards_in t.lines ≡ cards_in s.lines ++ card ∷ [] in
     ok-if P s.ended _ (Err BadControlCard)
     (λ e. ok-judged P BadControlCard (asked_with_card s.asked text) (λ asked. Ok (with_control s card asked))
-    (λ asked is. card-pushed s.lines (is_silent card)))
+    (λ asked is. card-pushed s.lines (silent_line card)))
     (λ e. tt)
 form_kind-numbers s card fault text StatementCard =
     let P : Found → Type 0 = λ t. cards_in t.lines ≡ cards_in s.lines ++ card ∷ [] in
@@ -142,7 +142,7 @@ form-numbers job s card =
     (form_kind card.kind s card.number card.fault (text_in job card))
     (form_kind-numbers s card.number card.fault (text_in job card) card.kind)
 
-silent-is : (card : ℕ) → IsLine (is_silent card)
+silent-is : (card : ℕ) → IsReadCard (silent_line card)
 silent-is card = record { well = tt; name = tt }
 
 -- bytes of a name are ASCII
@@ -177,7 +177,7 @@ name-ascii (c ∷ cs) named =
     let some : (length (c ∷ cs) == 0) ≡ false = grind arith in
     padded-ascii (c ∷ cs) (named (ap (λ b. not b) some))
 
-saying-is : (card : ℕ) (name text : List ℕ) (st : Statement) → statement_of name text ≡ Ok st → IsLine (saying card (name_in name) st)
+saying-is : (card : ℕ) (name text : List ℕ) (st : Statement) → statement_of name text ≡ Ok st → IsReadCard (saying card (name_in name) st)
 saying-is card name text st read = record {
   well = read-is name text st read;
   name = name-ascii name (read-named name text st read);
@@ -187,14 +187,14 @@ form_kind-kept : (s : Found) (card : ℕ) (fault : Option Fault) (text : List �
     IfOk (form_kind kind s card fault text) IsDeck
 unfolding form_control form_statement
 form_kind-kept s card fault text Comment is = record {
-  lines = All-push IsLine s.lines (is_silent card) is.lines (silent-is card);
+  lines = All-push IsReadCard s.lines (silent_line card) is.lines (silent-is card);
   limits = is.limits;
 }
 form_kind-kept s card fault text Control is =
     ok-if IsDeck s.ended _ (Err BadControlCard)
     (λ e. ok-judged IsDeck BadControlCard (asked_with_card s.asked text) (λ asked. Ok (with_control s card asked))
     (λ asked more. record {
-      lines = All-push IsLine s.lines (is_silent card) is.lines (silent-is card);
+      lines = All-push IsReadCard s.lines (silent_line card) is.lines (silent-is card);
       limits = added-kept s.asked asked text more is.limits;
     }))
     (λ e. tt)
@@ -204,7 +204,7 @@ form_kind-kept s card fault text StatementCard is =
     (ok-mapped IsDeck (λ st. with_statement s card (name_field text) st)
     (statement_of (name_field text) (statement_field text))
     (λ st read. record {
-      lines = All-push IsLine s.lines (saying card (name_in (name_field text)) st) is.lines
+      lines = All-push IsReadCard s.lines (saying card (name_in (name_field text)) st) is.lines
           (saying-is card (name_field text) (statement_field text) st read);
       limits = is.limits;
     })))
@@ -230,7 +230,7 @@ unread-limits = record {
 }
 
 unread-is : IsDeck found_at_start
-unread-is = record { lines = All-nil IsLine; limits = unread-limits }
+unread-is = record { lines = All-nil IsReadCard; limits = unread-limits }
 
 ended-kept : (P : Found → Type 0) (cards : ℕ) (r : Result Found Refusal) → IfOk r P → IfOk (pass_then r (with_end cards)) P
 ended-kept P cards (Ok found) is = ok-if P found.ended (Ok found) _ (λ e. is) (λ e. tt)
@@ -261,7 +261,7 @@ unfolding value_modulo
 wrapped-below (pos n) = omega arith
 wrapped-below (negsuc n) = omega arith
 
-place_in-is : (role : Placing) (location : ℕ) (value : ℤ) → IsLocation (place_in role location value)
+place_in-is : (placing : Placing) (location : ℕ) (value : ℤ) → IsLocation (place_in placing location value)
 place_in-is (Lays unit bits) location value = omega arith
 place_in-is Passes location value = omega arith
 place_in-is Sets location value = wrapped-below value
@@ -270,14 +270,14 @@ place_in-is Ends location value = tt
 
 place_of-is : (symbols : List (List ℕ × ℕ)) (location : ℕ) (statement : Option Statement) → IsLocation (place_of_card symbols location statement)
 place_of-is symbols location None = tt
-place_of-is symbols location (Some s) = place_in-is (role_of s) location (values_of symbols s).first
+place_of-is symbols location (Some s) = place_in-is (placing_of s) location (values_of symbols s).first
 
 symbol_of-is : (name : Option (List ℕ)) (place : Option ℕ) → IfSome name IsAscii → IsLocation place → All IsSymbol (symbol_of name place)
 symbol_of-is None place ascii is = All-nil IsSymbol
 symbol_of-is (Some name) (Some p) ascii is = All-cons IsSymbol _ [] (record { ascii = ascii; value = is }) (All-nil IsSymbol)
 symbol_of-is (Some name) None ascii is = All-cons IsSymbol _ [] (record { ascii = ascii; value = lit< tt }) (All-nil IsSymbol)
 
-name-kept : (on_cards : List ℕ → Bool) (named : Named) (line : Line) → IsNamed named → IsLine line → IfOk (name_card on_cards named line) IsNamed
+name-kept : (on_cards : List ℕ → Bool) (named : Named) (line : ReadCard) → IsNamed named → IsReadCard line → IfOk (name_card on_cards named line) IsNamed
 unfolding name_card name_step
 name-kept on_cards named line is good =
     let place = place_of_card (table named.symbols) named.location line.statement in
@@ -287,7 +287,7 @@ name-kept on_cards named line is good =
       places = All-push IsLocation named.places place is.places located;
     })
 
-name-counts : (on_cards : List ℕ → Bool) (named : Named) (line : Line) →
+name-counts : (on_cards : List ℕ → Bool) (named : Named) (line : ReadCard) →
     IfOk (name_card on_cards named line) (λ t. length t.places ≡ length named.places + 1)
 unfolding name_card name_step
 name-counts on_cards named line =
@@ -295,14 +295,14 @@ name-counts on_cards named line =
     (length-append named.places (place_of_card (table named.symbols) named.location line.statement ∷ []))
 
 -- what the name pass leaves
-pub name_pass-named : (lines : List Line) (named : Named) → name_pass lines ≡ Ok named → All IsLine lines → IsNamed named
+pub name_pass-named : (lines : List ReadCard) (named : Named) → name_pass lines ≡ Ok named → All IsReadCard lines → IsNamed named
 unfolding name_pass
 name_pass-named lines named is good =
     subst (λ r. IfOk r IsNamed) is
-    (pass-kept (name_card _) (λ line. line.card) IsNamed IsLine (name-kept _) naming_at_start lines
+    (pass-kept (name_card _) (λ line. line.card) IsNamed IsReadCard (name-kept _) naming_at_start lines
     (record { symbols = All-nil IsSymbol; places = All-nil IsLocation }) good)
 
-pub name_pass-counts : (lines : List Line) (named : Named) → name_pass lines ≡ Ok named → length named.places ≡ length lines
+pub name_pass-counts : (lines : List ReadCard) (named : Named) → name_pass lines ≡ Ok named → length named.places ≡ length lines
 unfolding name_pass
 name_pass-counts lines named is =
     subst (λ r. IfOk r (λ t. length t.places ≡ length lines)) is
@@ -323,18 +323,18 @@ saying-numbers symbols s card (Some st) place =
     ok-unless (λ t. numbers_in t.rows ≡ numbers_in s.rows ++ card ∷ []) (value_fault st (values_of symbols st) (unwrap_or place 0)) _
     (row-pushed s.rows _)
 
-value-numbers : (symbols : List (List ℕ × ℕ)) (s : Laid) (p : Line × Option ℕ) →
+value-numbers : (symbols : List (List ℕ × ℕ)) (s : Laid) (p : ReadCard × Option ℕ) →
     IfOk (value_card symbols s p) (λ t. numbers_in t.rows ≡ numbers_in s.rows ++ p.0.card ∷ [])
 unfolding value_card
 value-numbers symbols s p = saying-numbers symbols s p.0.card p.0.statement p.1
 
-zip-cards : (lines : List Line) (places : List (Option ℕ)) → length places ≡ length lines → map (λ p. p.0.card) (zip lines places) ≡ cards_in lines
+zip-cards : (lines : List ReadCard) (places : List (Option ℕ)) → length places ≡ length lines → map (λ p. p.0.card) (zip lines places) ≡ cards_in lines
 zip-cards [] places same = refl
 zip-cards (l ∷ ls) [] same = let no : ⊥ = omega arith in absurd no
 zip-cards (l ∷ ls) (p ∷ ps) same = ap (λ ns. l.card ∷ ns) (zip-cards ls ps (omega arith))
 
 -- the rows are those of the cards, in order
-pub value_pass-numbers : (symbols : List (List ℕ × ℕ)) (lines : List Line) (places : List (Option ℕ)) (laid : Laid) →
+pub value_pass-numbers : (symbols : List (List ℕ × ℕ)) (lines : List ReadCard) (places : List (Option ℕ)) (laid : Laid) →
     value_pass symbols lines places ≡ Ok laid → length places ≡ length lines → numbers_in laid.rows ≡ cards_in lines
 unfolding value_pass
 value_pass-numbers symbols lines places laid is same =

@@ -8,7 +8,7 @@ use Rattle.st_card.specs.declared.cards.CardKind.{CardKind}
 use Rattle.st_card.specs.declared.cards.CardKind.TheVariants.{Comment, Control, Statement as StatementCard}
 use Rattle.st_card.specs.declared.faults.Fault.{Fault}
 use Rattle.st_card.specs.declared.faults.Fault.TheVariants.{BadControlCard, CardAfterEnd, NoEnd}
-use Rattle.st_strap.specs.Faults.{fault_in, faults_on}
+use Rattle.st_strap.specs.Faults.{faults_on}
 use Rattle.st_strap.specs.Order.{next_reading, reading_map}
 use Rattle.st_strap.specs.Saying.{statement_of}
 use Rattle.st_strap.proofs.FaultLemmas.{card-fault, fault-mapped}
@@ -20,6 +20,7 @@ use Rattle.st_asm.specs.Naming.{Named, name_pass}
 use Rattle.st_asm.specs.Valuing.{Laid, value_pass}
 use Rattle.st_asm.specs.Assembly.{Assembly, together, assembly}
 use Rattle.st_asm.specs.Stops.{Leads, HasFirst, StopsAtFirst, LacksEnd, StopsForm, StopsAtNames, StopsAtValues, StopsInOrder, asking_fault, form_fault}
+use Rattle.std.specs.Result.{result_err}
 
 -- the refusal that an answer is
 abbrev refusal-in : {S : Type 0} → Refusal → Result S Refusal → Refusal
@@ -212,7 +213,7 @@ stops-in-order job refusal = (
 
 -- ---- the faults of one card in the form pass
 
-unless-fault : {S : Type 0} (o : Option Fault) (r : Result S Fault) → fault_in (unless_faulty o r) ≡ option_or o (fault_in r)
+unless-fault : {S : Type 0} (o : Option Fault) (r : Result S Fault) → result_err (unless_faulty o r) ≡ option_or o (result_err r)
 unless-fault None r = refl
 unless-fault (Some fault) r = refl
 
@@ -221,39 +222,39 @@ or-none None = refl
 or-none (Some fault) = refl
 
 asked-fault : (found : Found) (card : ℕ) (o : Option Asked) →
-    fault_in (next_reading BadControlCard o (λ asked. Ok (with_control found card asked))) ≡ asking_fault o
+    result_err (next_reading BadControlCard o (λ asked. Ok (with_control found card asked))) ≡ asking_fault o
 asked-fault found card None = refl
 asked-fault found card (Some asked) = refl
 
-control-fault : (found : Found) (card : ℕ) (text : List ℕ) → fault_in (form_control found card text)
+control-fault : (found : Found) (card : ℕ) (text : List ℕ) → result_err (form_control found card text)
     ≡ (if found.ended then asking_fault (asked_with_card found.asked text) else Some BadControlCard)
 unfolding form_control
 control-fault found card text =
-    elim found.ended as (λ b. fault_in (if b then next_reading BadControlCard (asked_with_card found.asked text) (λ asked. Ok (with_control found card asked)) else Err BadControlCard)
+    elim found.ended as (λ b. result_err (if b then next_reading BadControlCard (asked_with_card found.asked text) (λ asked. Ok (with_control found card asked)) else Err BadControlCard)
     ≡ (if b then asking_fault (asked_with_card found.asked text) else Some BadControlCard)) [
       | true ↦ asked-fault found card (asked_with_card found.asked text)
       | false ↦ refl
     ]
 
 read-fault : (o : Option Fault) (found : Found) (card : ℕ) (name text : List ℕ) →
-    fault_in (unless_faulty o (reading_map (λ s. with_statement found card name s) (statement_of name text))) ≡ option_or o (first_fault (faults_on name text))
+    result_err (unless_faulty o (reading_map (λ s. with_statement found card name s) (statement_of name text))) ≡ option_or o (first_fault (faults_on name text))
 read-fault o found card name text =
     unless-fault o (reading_map (λ s. with_statement found card name s) (statement_of name text))
     ∙ ap (λ x. option_or o x) (fault-mapped (λ s. with_statement found card name s) (statement_of name text) ∙ card-fault name text)
 
-statement-fault : (found : Found) (card : ℕ) (o : Option Fault) (text : List ℕ) → fault_in (form_statement found card o text)
+statement-fault : (found : Found) (card : ℕ) (o : Option Fault) (text : List ℕ) → result_err (form_statement found card o text)
     ≡ option_or (if found.ended then Some CardAfterEnd else None) (option_or o (first_fault (faults_on (name_field text) (statement_field text))))
 unfolding form_statement
 statement-fault found card o text =
     let read : Result Found Fault = unless_faulty o (reading_map (λ s. with_statement found card (name_field text) s) (statement_of (name_field text) (statement_field text))) in
-    elim found.ended as (λ b. fault_in (if b then Err CardAfterEnd else read)
+    elim found.ended as (λ b. result_err (if b then Err CardAfterEnd else read)
     ≡ option_or (if b then Some CardAfterEnd else None) (option_or o (first_fault (faults_on (name_field text) (statement_field text))))) [
       | true ↦ refl
       | false ↦ read-fault o found card (name_field text) (statement_field text)
     ]
 
 kind-fault : (k : CardKind) (job : List ℕ) (found : Found) (card : Card) →
-    fault_in (unless_faulty (first_fault_of k card.fault) (form_kind k found card.number card.fault (text_in job card))) ≡ form_fault k job found card
+    result_err (unless_faulty (first_fault_of k card.fault) (form_kind k found card.number card.fault (text_in job card))) ≡ form_fault k job found card
 kind-fault Comment job found card = unless-fault card.fault (form_kind Comment found card.number card.fault (text_in job card)) ∙ or-none card.fault
 kind-fault Control job found card =
     unless-fault card.fault (form_control found card.number (text_in job card))
@@ -262,6 +263,6 @@ kind-fault StatementCard job found card =
     unless-fault (before_end card.fault) (form_statement found card.number card.fault (text_in job card))
     ∙ ap (λ x. option_or (before_end card.fault) x) (statement-fault found card.number card.fault (text_in job card))
 
-pub form_card-fault : (job : List ℕ) (found : Found) (card : Card) → fault_in (form_card job found card) ≡ form_fault card.kind job found card
+pub form_card-fault : (job : List ℕ) (found : Found) (card : Card) → result_err (form_card job found card) ≡ form_fault card.kind job found card
 unfolding form_card
 form_card-fault job found card = kind-fault card.kind job found card

@@ -5,7 +5,7 @@ use Rattle.st_text.specs.Tables.{is_same, row_of}
 use Rattle.st_expr.specs.Value.{Defines}
 use Rattle.st_mnemonic.proofs.Apart.{same_words}
 use Rattle.st_asm.specs.Symbols.{has_name, is_defined, names_of}
-use Rattle.st_asm.specs.declared.line.Line.{Line}
+use Rattle.st_asm.specs.declared.line.ReadCard.{ReadCard}
 
 -- a name put at the end of a table
 pub defined-behind : (table : List (List ℕ × ℕ)) (name query : List ℕ) (value : ℕ) →
@@ -39,7 +39,7 @@ or-assoc true b c = refl
 or-assoc false b c = refl
 
 -- what is left of the names: a card with a name, and one without
-pub names-named : (old new : List (List ℕ × ℕ)) (name : List ℕ) (line : Line) (lines all : List Line) →
+pub names-named : (old new : List (List ℕ × ℕ)) (name : List ℕ) (line : ReadCard) (lines all : List ReadCard) →
     all ≡ line ∷ lines → line.name ≡ Some name →
     ((query : List ℕ) → is_defined new query ≡ (is_defined old query || is_same query name)) →
     (query : List ℕ) → (is_defined new query || has_name (names_of lines) query)
@@ -51,7 +51,7 @@ names-named old new name line lines all parts is_name now query =
     ∙ ap (λ ns. is_defined old query || has_name ns query)
     (sym (ap (λ ls. names_of ls) parts ∙ ap (λ o. cons_option o (names_of lines)) is_name)))
 
-pub names-unnamed : (table : List (List ℕ × ℕ)) (line : Line) (lines all : List Line) → all ≡ line ∷ lines →
+pub names-unnamed : (table : List (List ℕ × ℕ)) (line : ReadCard) (lines all : List ReadCard) → all ≡ line ∷ lines →
     line.name ≡ None → (query : List ℕ) → (is_defined table query || has_name (names_of lines) query)
     ≡ (is_defined table query || has_name (names_of all) query)
 unfolding names_of
@@ -64,7 +64,7 @@ or-false true = refl
 or-false false = refl
 
 -- no names are left
-pub names-none : (table : List (List ℕ × ℕ)) (lines : List Line) → lines ≡ [] → (query : List ℕ) →
+pub names-none : (table : List (List ℕ × ℕ)) (lines : List ReadCard) → lines ≡ [] → (query : List ℕ) →
     is_defined table query ≡ (is_defined table query || has_name (names_of lines) query)
 unfolding names_of
 names-none table lines empty query =

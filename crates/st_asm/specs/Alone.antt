@@ -5,7 +5,7 @@ use Rattle.st_strap.specs.Saying.{statement_of}
 use Rattle.st_strap.specs.Statements.{Statement}
 use Rattle.st_asm.specs.Symbols.{accepts_all, is_defined}
 use Rattle.st_asm.specs.Values.{values_of}
-use Rattle.st_asm.specs.Places.{role_of, length_in}
+use Rattle.st_asm.specs.Places.{placing_of, length_in}
 use Rattle.st_asm.specs.Naming.{naming_at_start}
 use Rattle.st_asm.specs.Checks.{value_fault}
 use Rattle.st_asm.specs.Laying.{bits_of}
@@ -16,7 +16,7 @@ use Rattle.st_asm.specs.declared.alone.LaidBits.{LaidBits}
 abbrev pub laid_with : Statement → Values → Option LaidBits
 laid_with s v =
     if is_none (value_fault s v naming_at_start.location)
-    then Some (record { length = length_in (role_of s); bits = bits_of s v }) else None
+    then Some (record { length = length_in (placing_of s); bits = bits_of s v }) else None
 
 -- what a statement lays whose names are all in a table
 unfoldable pub laid_by : List (List ℕ × ℕ) → Statement → Option LaidBits

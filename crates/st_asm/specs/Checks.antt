@@ -7,43 +7,22 @@ use Rattle.st_card.specs.Cards.{first_fault}
 use Rattle.st_card.specs.declared.faults.Fault.{Fault}
 use Rattle.st_card.specs.declared.faults.Fault.TheVariants.{AddressOutOfRange, ValueDoesNotFit, NotOnABoundary, LocationOutOfStorage}
 use Rattle.st_strap.specs.Statements.{Statement}
-use Rattle.st_strap.specs.declared.statement.Statement.TheVariants.{Half, Sum, Refill, Branch, Floating, Vfl, Connect, Move, BitBranch, IndBranch, StoreCounter, Transfer, Data, IndexWord, Synonym, SetLocation, Reserve, End}
+use Rattle.st_strap.specs.declared.statement.Statement.TheVariants.{Half, Branch, Floating, Vfl, Connect, Move, BitBranch, IndBranch, StoreCounter, Transfer, Data, IndexWord, End}
 use Rattle.st_asm.specs.declared.values.Values.{Values}
 use Rattle.st_asm.specs.declared.places.Placing.{Placing}
-use Rattle.st_asm.specs.declared.places.Placing.TheVariants.{Lays, Passes, Sets, Names, Ends}
+use Rattle.st_asm.specs.declared.places.Placing.TheVariants.{Lays, Passes}
 use Rattle.st_asm.specs.Numbers.{holds}
-use Rattle.st_asm.specs.Places.{role_of}
+use Rattle.st_asm.specs.Places.{placing_of}
 
 -- whether a number is an address: 0 to 2^24 - 1
 abbrev pub is_address : ℤ → Bool
 is_address (pos n) = nat_lt n (2 ^ 24)
 is_address (negsuc n) = false
 
--- whether a statement is an index word
-abbrev pub is_index_word : Statement → Bool
-is_index_word (Half op j at) = false
-is_index_word (Sum j listed) = false
-is_index_word (Refill j) = false
-is_index_word (Branch op at) = false
-is_index_word (Floating number at) = false
-is_index_word (Vfl op negated form at offset) = false
-is_index_word (Connect kind truth form at offset) = false
-is_index_word (Move swap at second count) = false
-is_index_word (BitBranch sense change at second) = false
-is_index_word (IndBranch sense off at second) = false
-is_index_word (StoreCounter at second) = false
-is_index_word (Transfer write at count) = false
-is_index_word (Data form minus number) = false
-is_index_word (IndexWord value count refill flags) = true
-is_index_word (Synonym at) = false
-is_index_word (SetLocation at) = false
-is_index_word (Reserve at) = false
-is_index_word (End at) = false
-
 -- whether each address of a statement is one; the value of an index word is no address
 unfoldable pub in_range : Statement → Values → Bool
-in_range s v =
-    if is_index_word s then is_address v.second else is_address v.first && is_address v.second
+in_range (IndexWord value count refill flags) v = is_address v.second
+in_range _ v = is_address v.first && is_address v.second
 
 -- whether the value, the count and the flags of an index word fit
 abbrev pub fits_index_word : ℤ → ℕ → ℕ → Bool
@@ -52,24 +31,13 @@ fits_index_word value count flags =
 
 -- whether each value fits its place
 unfoldable pub fits : Statement → Values → Bool
-fits (Half op j at) v = true
-fits (Sum j listed) v = true
-fits (Refill j) v = true
-fits (Branch op at) v = true
-fits (Floating number at) v = true
 fits (Vfl op negated form at offset) v = nat_le offset MOST_OFFSET
 fits (Connect kind truth form at offset) v = nat_le offset MOST_OFFSET
 fits (Move swap at second count) v = nat_le 1 count && nat_le count MOST_MOVED
-fits (BitBranch sense change at second) v = true
-fits (IndBranch sense off at second) v = true
-fits (StoreCounter at second) v = true
 fits (Transfer write at count) v = nat_le 1 count && nat_le count MOST_WAITED
 fits (Data form minus number) v = holds form minus number
 fits (IndexWord value count refill flags) v = fits_index_word v.first count flags
-fits (Synonym at) v = true
-fits (SetLocation at) v = true
-fits (Reserve at) v = true
-fits (End at) v = true
+fits _ v = true
 
 -- whether a bit address is a multiple
 abbrev pub is_multiple : ℕ → ℤ → Bool
@@ -79,31 +47,21 @@ is_multiple unit a = unsigned_abs a % unit == 0
 -- instructions, second addresses and the start are half-words, a refill address is a word
 unfoldable pub on_boundary : Statement → Values → Bool
 on_boundary (Half op j at) v = is_multiple 32 v.first
-on_boundary (Sum j listed) v = true
-on_boundary (Refill j) v = true
 on_boundary (Branch op at) v = is_multiple 32 v.first
 on_boundary (Floating number at) v = is_multiple 32 v.first
-on_boundary (Vfl op negated form at offset) v = true
-on_boundary (Connect kind truth form at offset) v = true
 on_boundary (Move swap at second count) v = is_multiple 32 v.second
 on_boundary (BitBranch sense change at second) v = is_multiple 32 v.second
 on_boundary (IndBranch sense off at second) v = is_multiple 32 v.second
 on_boundary (StoreCounter at second) v = is_multiple 32 v.second
-on_boundary (Transfer write at count) v = true
-on_boundary (Data form minus number) v = true
 on_boundary (IndexWord value count refill flags) v = is_multiple 64 v.second
-on_boundary (Synonym at) v = true
-on_boundary (SetLocation at) v = true
-on_boundary (Reserve at) v = true
 on_boundary (End at) v = is_multiple 32 v.first
+on_boundary _ v = true
 
 -- how many bits a statement lays or passes over
 abbrev pub extent : Placing → ℤ → ℕ
 extent (Lays unit bits) value = bits
 extent Passes value = unsigned_abs value
-extent Sets value = 0
-extent Names value = 0
-extent Ends value = 0
+extent _ value = 0
 
 -- whether bits from a place on are all in storage, behind the registers
 unfoldable pub in_storage : ℕ → ℕ → Bool
@@ -116,5 +74,5 @@ value_fault s v place = first_fault (
     (not (in_range s v), AddressOutOfRange)
     ∷ (not (fits s v), ValueDoesNotFit)
     ∷ (not (on_boundary s v), NotOnABoundary)
-    ∷ (not (in_storage place (extent (role_of s) v.first)), LocationOutOfStorage)
+    ∷ (not (in_storage place (extent (placing_of s) v.first)), LocationOutOfStorage)
     ∷ [])

@@ -10,17 +10,17 @@ use Rattle.st_card.specs.declared.faults.Fault.TheVariants.{BadName, BadControlC
 use Rattle.st_strap.specs.Order.{next_reading, reading_map}
 use Rattle.st_strap.specs.Saying.{statement_of}
 use Rattle.st_strap.specs.Statements.{Statement}
-use Rattle.st_strap.specs.declared.statement.Statement.TheVariants.{Half, Sum, Refill, Branch, Floating, Vfl, Connect, Move, BitBranch, IndBranch, StoreCounter, Transfer, Data, IndexWord, Synonym, SetLocation, Reserve, End}
+use Rattle.st_strap.specs.declared.statement.Statement.TheVariants.{End}
 use Rattle.st_asm.specs.Pass.{Refusal, pass, unless_faulty, pass_then}
-use Rattle.st_asm.specs.Lines.{name_field, statement_field, name_in, is_silent, saying}
-use Rattle.st_asm.specs.declared.line.Line.{Line}
+use Rattle.st_asm.specs.Lines.{name_field, statement_field, name_in, silent_line, saying}
+use Rattle.st_asm.specs.declared.line.ReadCard.{ReadCard}
 use Rattle.st_asm.specs.declared.forming.Deck.{Deck}
 
 -- what has been read so far: whether the end was there, what is asked for, and the cards
 pub record Found : Type 0 where
   pub ended : Bool
   pub asked : Asked
-  pub lines : List Line
+  pub lines : List ReadCard
 
 -- what a deck of the code has
 abbrev pub found_in : Deck → Found
@@ -45,27 +45,11 @@ first_fault_of StatementCard fault = before_end fault
 
 -- whether a statement is the end
 abbrev pub is_end : Statement → Bool
-is_end (Half op j at) = false
-is_end (Sum j listed) = false
-is_end (Refill j) = false
-is_end (Branch op at) = false
-is_end (Floating number at) = false
-is_end (Vfl op negated form at offset) = false
-is_end (Connect kind truth form at offset) = false
-is_end (Move swap at second count) = false
-is_end (BitBranch sense change at second) = false
-is_end (IndBranch sense off at second) = false
-is_end (StoreCounter at second) = false
-is_end (Transfer write at count) = false
-is_end (Data form minus number) = false
-is_end (IndexWord value count refill flags) = false
-is_end (Synonym at) = false
-is_end (SetLocation at) = false
-is_end (Reserve at) = false
 is_end (End at) = true
+is_end _ = false
 
 -- a card more
-abbrev pub with_line : Found → Line → Found
+abbrev pub with_line : Found → ReadCard → Found
 with_line found line = record found { lines = found.lines ++ line ∷ [] }
 
 -- a statement card more
@@ -79,7 +63,7 @@ with_statement found card name statement = record {
 -- a control card more, with all that is asked for then
 abbrev pub with_control : Found → ℕ → Asked → Found
 with_control found card asked =
-    record { ended = found.ended; asked = asked; lines = found.lines ++ is_silent card ∷ [] }
+    record { ended = found.ended; asked = asked; lines = found.lines ++ silent_line card ∷ [] }
 
 -- what a control card does
 unfoldable pub form_control : Found → ℕ → List ℕ → Result Found Fault
@@ -97,7 +81,7 @@ form_statement found card fault text =
 
 -- what a card of a kind does
 abbrev pub form_kind : CardKind → Found → ℕ → Option Fault → List ℕ → Result Found Fault
-form_kind Comment found card fault text = Ok (with_line found (is_silent card))
+form_kind Comment found card fault text = Ok (with_line found (silent_line card))
 form_kind Control found card fault text = form_control found card text
 form_kind StatementCard found card fault text = form_statement found card fault text
 

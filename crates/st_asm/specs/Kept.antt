@@ -1,21 +1,22 @@
 -- What the passes keep of what they hand on.
 use Rattle.std.specs.Prelude.{◌<◌, ◌^◌, All, IsAscii, IfSome}
+use Rattle.st_bits.specs.Storage.{IsImage}
 use Rattle.st_card.specs.Limits.{IsWithinLimits}
 use Rattle.st_strap.specs.WellFormed.{IsWellFormedIfAny}
 use Rattle.st_asm.specs.Forming.{Found}
 use Rattle.st_asm.specs.Naming.{Named}
 use Rattle.st_asm.specs.Valuing.{Laid}
 use Rattle.st_asm.specs.Sound.{IsLocation, IsRow, IsSymbol}
-use Rattle.st_asm.specs.declared.line.Line.{Line}
+use Rattle.st_asm.specs.declared.line.ReadCard.{ReadCard}
 
 -- a card that was read says a well-formed statement, and its name is printable
-pub record IsLine (line : Line) : Type 0 where
+pub record IsReadCard (line : ReadCard) : Type 0 where
   pub well : IsWellFormedIfAny line.statement
   pub name : IfSome line.name IsAscii
 
 -- each card of a deck does, and its controls keep their limits
 pub record IsDeck (found : Found) : Type 0 where
-  pub lines : All IsLine found.lines
+  pub lines : All IsReadCard found.lines
   pub limits : IsWithinLimits found.asked
 
 -- the symbols and the places that are known so far

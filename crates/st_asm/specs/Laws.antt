@@ -1,11 +1,11 @@
 -- What holds of the three passes, whatever the job.
 use Rattle.std.specs.Prelude.{◌≡◌, List, ℕ, Bool}
 use Rattle.st_card.specs.declared.cards.Card.{Card}
-use Rattle.st_strap.specs.Faults.{fault_in}
 use Rattle.st_asm.specs.Forming.{Found, form_card, found_at_start}
 use Rattle.st_asm.specs.Naming.{name_card, naming_at_start}
 use Rattle.st_asm.specs.Stops.{StopsAtFirst, StopsForm, StopsInOrder, form_fault}
 use Rattle.st_asm.specs.Valuing.{value_card, laying_at_start}
+use Rattle.std.specs.Result.{result_err}
 
 -- Each pass is refused exactly where some card has a fault in the state which the cards before it
 -- leave, and none of those before it has one: at that card, for that fault. The form pass is also
@@ -23,4 +23,4 @@ pub record PassesStopAtTheFirstFault : Type 0 where
 -- A card is refused in the form pass for the first of its faults in the order in which they count.
 abbrev pub CardsHaveTheirFirstFault : Type 0
 CardsHaveTheirFirstFault = (job : List ℕ) (found : Found) (card : Card) →
-    fault_in (form_card job found card) ≡ form_fault card.kind job found card
+    result_err (form_card job found card) ≡ form_fault card.kind job found card

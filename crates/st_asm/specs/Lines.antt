@@ -3,7 +3,7 @@ use Rattle.std.specs.Prelude.{ℕ, List, [], ◌∷◌, take, drop, Option, Some
 use Rattle.st_text.specs.Blanks.{without_front_blanks, without_end_blanks}
 use Rattle.st_expr.specs.Name.{padded_name}
 use Rattle.st_strap.specs.Statements.{Statement}
-use Rattle.st_asm.specs.declared.line.Line.{Line}
+use Rattle.st_asm.specs.declared.line.ReadCard.{ReadCard}
 
 -- the name of a statement card: columns 2 to 9 without the blanks at both ends
 unfoldable pub name_field : List ℕ → List ℕ
@@ -19,9 +19,9 @@ name_in [] = None
 name_in (c ∷ cs) = Some (padded_name (c ∷ cs))
 
 -- a card that says nothing to the later passes: a comment or a control card
-abbrev pub is_silent : ℕ → Line
-is_silent card = record { card = card; name = None; statement = None }
+abbrev pub silent_line : ℕ → ReadCard
+silent_line card = record { card = card; name = None; statement = None }
 
 -- a statement card
-abbrev pub saying : ℕ → Option (List ℕ) → Statement → Line
+abbrev pub saying : ℕ → Option (List ℕ) → Statement → ReadCard
 saying card name statement = record { card = card; name = name; statement = Some statement }

@@ -7,10 +7,11 @@ use Rattle.st_strap.specs.Statements.{Statement}
 use Rattle.st_asm.specs.Pass.{Refusal, pass, unless_faulty}
 use Rattle.st_asm.specs.Symbols.{table, accepts_all, has_name, is_defined, names_of}
 use Rattle.st_asm.specs.Values.{values_of}
-use Rattle.st_asm.specs.Places.{role_of, place_in, behind_in, needs_earlier}
-use Rattle.st_asm.specs.declared.line.Line.{Line}
+use Rattle.st_asm.specs.Places.{placing_of, place_in, behind_in, needs_earlier}
+use Rattle.st_asm.specs.declared.line.ReadCard.{ReadCard}
 use Rattle.st_asm.specs.declared.naming.Symbol.{Symbol}
 use Rattle.st_asm.specs.declared.naming.Names.{Names}
+use Rattle.st_asm.specs.declared.naming.TheConstants.{MOST_NAMES}
 
 -- what is known so far: the location, the symbols in order of definition, and the places of the
 -- cards
@@ -45,7 +46,7 @@ is_known test (Some s) = accepts_all test s
 -- whether the names of a statement are in the table, where they have to be
 abbrev pub is_statement_earlier : List (List ℕ × ℕ) → Statement → Bool
 is_statement_earlier symbols s =
-    if needs_earlier (role_of s) then accepts_all (is_defined symbols) s else true
+    if needs_earlier (placing_of s) then accepts_all (is_defined symbols) s else true
 
 -- the same of a card, which may have no statement
 abbrev pub is_earlier : List (List ℕ × ℕ) → Option Statement → Bool
@@ -53,12 +54,12 @@ is_earlier symbols None = true
 is_earlier symbols (Some s) = is_statement_earlier symbols s
 
 -- the fault of a card, if it has one; the test says which names are on cards at all
-unfoldable pub name_fault : (List ℕ → Bool) → Named → Line → Option Fault
+unfoldable pub name_fault : (List ℕ → Bool) → Named → ReadCard → Option Fault
 name_fault on_cards named line = let symbols = table named.symbols in first_fault (
     (is_name_taken symbols line.name, NameTwice)
     ∷ (not (is_known on_cards line.statement), UndefinedSymbol)
     ∷ (not (is_earlier symbols line.statement), SymbolNotEarlier)
-    ∷ (is_some line.name && nat_le 4000 (length named.symbols), TooManyNames)
+    ∷ (is_some line.name && nat_le MOST_NAMES (length named.symbols), TooManyNames)
     ∷ [])
 
 -- the value of a statement's first expression, as far as its names are defined
@@ -67,7 +68,7 @@ value_at symbols s = (values_of symbols s).first
 
 -- the place of a statement that is met at a location
 abbrev pub place_of_statement : List (List ℕ × ℕ) → ℕ → Statement → Option ℕ
-place_of_statement symbols location s = place_in (role_of s) location (value_at symbols s)
+place_of_statement symbols location s = place_in (placing_of s) location (value_at symbols s)
 
 -- the place of a card, which may have none
 abbrev pub place_of_card : List (List ℕ × ℕ) → ℕ → Option Statement → Option ℕ
@@ -76,7 +77,7 @@ place_of_card symbols location (Some s) = place_of_statement symbols location s
 
 -- the location behind a statement
 abbrev pub behind_statement : List (List ℕ × ℕ) → ℕ → Statement → ℕ
-behind_statement symbols location s = behind_in (role_of s) location (value_at symbols s)
+behind_statement symbols location s = behind_in (placing_of s) location (value_at symbols s)
 
 -- the location behind a card
 abbrev pub location_behind : List (List ℕ × ℕ) → ℕ → Option Statement → ℕ
@@ -89,7 +90,7 @@ symbol_of None place = []
 symbol_of (Some name) place = record { name = name; value = unwrap_or place 0 } ∷ []
 
 -- what is known behind a card without a fault
-unfoldable pub name_step : Named → Line → Named
+unfoldable pub name_step : Named → ReadCard → Named
 name_step named line =
     let place = place_of_card (table named.symbols) named.location line.statement in record {
       location = location_behind (table named.symbols) named.location line.statement;
@@ -98,11 +99,11 @@ name_step named line =
     }
 
 -- what a card does
-unfoldable pub name_card : (List ℕ → Bool) → Named → Line → Result Named Fault
+unfoldable pub name_card : (List ℕ → Bool) → Named → ReadCard → Result Named Fault
 name_card on_cards named line =
     unless_faulty (name_fault on_cards named line) (Ok (name_step named line))
 
 -- the name pass
-unfoldable pub name_pass : List Line → Result Named Refusal
+unfoldable pub name_pass : List ReadCard → Result Named Refusal
 name_pass lines =
     pass (name_card (has_name (names_of lines))) (λ line. line.card) naming_at_start lines

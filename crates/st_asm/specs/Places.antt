@@ -9,41 +9,38 @@ use Rattle.st_asm.specs.Values.{value_modulo}
 -- what a statement does to the location: an instruction lays 32 or 64 bits from a multiple of 32
 -- on, an index word 64 from a multiple of 64 on, a number as many as its form says where the
 -- location is
-abbrev pub role_of : Statement → Placing
-role_of (Half op j at) = Lays 32 32
-role_of (Sum j listed) = Lays 32 32
-role_of (Refill j) = Lays 32 32
-role_of (Branch op at) = Lays 32 32
-role_of (Floating number at) = Lays 32 32
-role_of (Vfl op negated form at offset) = Lays 32 64
-role_of (Connect kind truth form at offset) = Lays 32 64
-role_of (Move swap at second count) = Lays 32 64
-role_of (BitBranch sense change at second) = Lays 32 64
-role_of (IndBranch sense off at second) = Lays 32 64
-role_of (StoreCounter at second) = Lays 32 64
-role_of (Transfer write at count) = Lays 32 64
-role_of (Data form minus number) = Lays 1 form.length
-role_of (IndexWord value count refill flags) = Lays 64 64
-role_of (Synonym at) = Names
-role_of (SetLocation at) = Sets
-role_of (Reserve at) = Passes
-role_of (End at) = Ends
+abbrev pub placing_of : Statement → Placing
+placing_of (Half op j at) = Lays 32 32
+placing_of (Sum j listed) = Lays 32 32
+placing_of (Refill j) = Lays 32 32
+placing_of (Branch op at) = Lays 32 32
+placing_of (Floating number at) = Lays 32 32
+placing_of (Vfl op negated form at offset) = Lays 32 64
+placing_of (Connect kind truth form at offset) = Lays 32 64
+placing_of (Move swap at second count) = Lays 32 64
+placing_of (BitBranch sense change at second) = Lays 32 64
+placing_of (IndBranch sense off at second) = Lays 32 64
+placing_of (StoreCounter at second) = Lays 32 64
+placing_of (Transfer write at count) = Lays 32 64
+placing_of (Data form minus number) = Lays 1 form.length
+placing_of (IndexWord value count refill flags) = Lays 64 64
+placing_of (Synonym at) = Names
+placing_of (SetLocation at) = Sets
+placing_of (Reserve at) = Passes
+placing_of (End at) = Ends
 
 -- units are 1 to 64, and at most 64 bits are laid
-abbrev pub IsRole : Placing → Type 0
-IsRole (Lays unit bits) = (1 ≤ unit) × (unit ≤ 64) × (bits ≤ 64)
-IsRole Passes = Unit {0}
-IsRole Sets = Unit {0}
-IsRole Names = Unit {0}
-IsRole Ends = Unit {0}
+abbrev pub IsPlacing : Placing → Type 0
+IsPlacing (Lays unit bits) = (1 ≤ unit) × (unit ≤ 64) × (bits ≤ 64)
+IsPlacing Passes = Unit {0}
+IsPlacing Sets = Unit {0}
+IsPlacing Names = Unit {0}
+IsPlacing Ends = Unit {0}
 
 -- how many bits it lays
 abbrev pub length_in : Placing → ℕ
 length_in (Lays unit bits) = bits
-length_in Passes = 0
-length_in Sets = 0
-length_in Names = 0
-length_in Ends = 0
+length_in _ = 0
 
 -- the next multiple of a unit, modulo 2^24
 abbrev pub next_multiple : ℕ → ℕ → ℕ

@@ -8,7 +8,7 @@ use Rattle.st_expr.specs.declared.terms.Atom.{Atom}
 use Rattle.st_expr.specs.declared.terms.Atom.TheVariants.{Number, Name}
 use Rattle.st_strap.specs.Statements.{Statement}
 use Rattle.st_strap.specs.declared.statement.Statement.TheVariants.{Half, Sum, Refill, Branch, Floating, Vfl, Connect, Move, BitBranch, IndBranch, StoreCounter, Transfer, Data, IndexWord, Synonym, SetLocation, Reserve, End}
-use Rattle.st_asm.specs.declared.line.Line.{Line}
+use Rattle.st_asm.specs.declared.line.ReadCard.{ReadCard}
 use Rattle.st_asm.specs.declared.naming.Symbol.{Symbol}
 
 -- symbols as a table of values
@@ -59,5 +59,5 @@ abbrev pub is_defined : List (List ℕ × ℕ) → List ℕ → Bool
 is_defined symbols name = is_some (row_of name symbols)
 
 -- the names of cards
-unfoldable pub names_of : List Line → List (List ℕ)
+unfoldable pub names_of : List ReadCard → List (List ℕ)
 names_of lines = filter_map (λ line. line.name) lines

@@ -8,10 +8,10 @@ use Rattle.st_strap.specs.Statements.{Statement}
 use Rattle.st_asm.specs.Pass.{Refusal, pass, unless_faulty}
 use Rattle.st_asm.specs.Forming.{is_end}
 use Rattle.st_asm.specs.Values.{values_of}
-use Rattle.st_asm.specs.Places.{role_of, length_in}
+use Rattle.st_asm.specs.Places.{placing_of, length_in}
 use Rattle.st_asm.specs.Checks.{value_fault}
 use Rattle.st_asm.specs.Laying.{half_word_bits, bits_of}
-use Rattle.st_asm.specs.declared.line.Line.{Line}
+use Rattle.st_asm.specs.declared.line.ReadCard.{ReadCard}
 use Rattle.st_asm.specs.declared.values.Values.{Values}
 use Rattle.st_asm.specs.declared.valuing.Listed.{Listed}
 use Rattle.st_asm.specs.declared.valuing.Layout.{Layout}
@@ -39,7 +39,7 @@ image_with image place count number =
 
 -- what is laid with a statement of a card, its values and its place
 abbrev pub with_laid : Laid → ℕ → Statement → Values → Option ℕ → Laid
-with_laid so_far card s v place = let count = length_in (role_of s) in record {
+with_laid so_far card s v place = let count = length_in (placing_of s) in record {
   image = image_with so_far.image (unwrap_or place 0) count (bits_of s v);
   start = if is_end s then half_word_bits v.first else so_far.start;
   rows = so_far.rows ++ record { card = card; location = place; bits = bits_of s v; length = count }
@@ -65,10 +65,11 @@ value_saying symbols so_far card (Some s) place = value_statement so_far card s
     (values_of symbols s) place
 
 -- what a card with its place does
-unfoldable pub value_card : List (List ℕ × ℕ) → Laid → Line × Option ℕ → Result Laid Fault
+unfoldable pub value_card : List (List ℕ × ℕ) → Laid → ReadCard × Option ℕ → Result Laid Fault
 value_card symbols so_far p = value_saying symbols so_far p.0.card p.0.statement p.1
 
 -- the value pass
-unfoldable pub value_pass : List (List ℕ × ℕ) → List Line → List (Option ℕ) → Result Laid Refusal
+unfoldable pub value_pass : List (List ℕ × ℕ) → List ReadCard → List (Option ℕ) →
+    Result Laid Refusal
 value_pass symbols lines places = pass (value_card symbols) (λ p. p.0.card) laying_at_start
     (zip lines places)

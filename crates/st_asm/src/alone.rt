@@ -7,7 +7,7 @@ ghost use Rattle.st_strap.specs.WellFormed.{IsWellFormed};
 use crate::checks::value_fault;
 use crate::laying::bits_of;
 use crate::naming::FIRST_LOCATION;
-use crate::places::role_of;
+use crate::places::placing_of;
 use crate::symbols::knows_all;
 use crate::values::{Values, values_of};
 use st_expr::Symbols;
@@ -50,11 +50,11 @@ fn laid_with(s: &CompactStatement, v: Values) -> Option<LaidBits>
     requires { IsWellFormed s.now }
     ensures { result ≡ spec.laid_with s.now v }
 {
-    let role = role_of(s);
-    match value_fault(s, role, v, FIRST_LOCATION) {
+    let placing = placing_of(s);
+    match value_fault(s, placing, v, FIRST_LOCATION) {
         Some(_) => None,
         None => Some(LaidBits {
-            length: role.length() as u8,
+            length: placing.length() as u8,
             bits: bits_of(s, v),
         }),
     }

@@ -2,7 +2,7 @@
 
 ghost use Rattle.std.specs.Prelude.{◌≡◌, ◌≤◌, ◌^◌};
 ghost use Rattle.st_asm.specs.Checks as spec;
-ghost use Rattle.st_asm.specs.Places.{role_of, IsRole};
+ghost use Rattle.st_asm.specs.Places.{placing_of, IsPlacing};
 ghost use Rattle.st_strap.specs.WellFormed.{IsWellFormed};
 
 use crate::numbers::holds;
@@ -37,12 +37,12 @@ const FIRST_BIT: u64 = 64 * FIRST_STORAGE_WORD as u64;
 // The fault of a statement with its values at its place, if it has one.
 pub(crate) fn value_fault(
     s: &CompactStatement,
-    role: Placing,
+    placing: Placing,
     v: Values,
     place: u32,
 ) -> Option<Fault>
     requires well { IsWellFormed s.now }
-    requires role { role ≡ role_of s.now }
+    requires placing { placing ≡ placing_of s.now }
     ensures { result ≡ spec.value_fault s.now v place }
 {
     if !in_range(s, v) {
@@ -51,7 +51,7 @@ pub(crate) fn value_fault(
         Some(Fault::ValueDoesNotFit)
     } else if !on_boundary(s, v) {
         Some(Fault::NotOnABoundary)
-    } else if !in_storage(place, extent(role, v.first)) {
+    } else if !in_storage(place, extent(placing, v.first)) {
         Some(Fault::LocationOutOfStorage)
     } else {
         None
@@ -62,17 +62,10 @@ pub(crate) fn value_fault(
 fn in_range(s: &CompactStatement, v: Values) -> bool
     ensures { result ≡ spec.in_range s.now v }
 {
-    if is_index_word(s) {
-        is_address(v.second)
-    } else {
-        is_address(v.first) && is_address(v.second)
+    match s {
+        Statement::IndexWord { .. } => is_address(v.second),
+        _ => is_address(v.first) && is_address(v.second),
     }
-}
-
-fn is_index_word(s: &CompactStatement) -> bool
-    ensures { result ≡ spec.is_index_word s.now }
-{
-    matches!(s, Statement::IndexWord { .. })
 }
 
 fn is_address(a: i64) -> bool
@@ -132,12 +125,12 @@ fn is_multiple(unit: u64, a: i64) -> bool
 }
 
 // How many bits are laid or passed over.
-fn extent(role: Placing, value: i64) -> u64
-    requires { IsRole role }
-    ensures extent { result ≡ spec.extent role value }
+fn extent(placing: Placing, value: i64) -> u64
+    requires { IsPlacing placing }
+    ensures extent { result ≡ spec.extent placing value }
     ensures few { result ≤ 2 ^ 63 }
 {
-    match role {
+    match placing {
         Placing::Lays { bits, .. } => u64::from(bits),
         Placing::Passes => value.unsigned_abs(),
         _ => 0,

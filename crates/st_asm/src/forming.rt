@@ -1,12 +1,13 @@
 //! The form pass: each card by itself, what the control cards ask for, and where the end is.
 
-ghost use Rattle.std.specs.Prelude.{◌≡◌, ◌≤◌, length, All, IfOk, IfErr, OnOk, Option};
+ghost use Rattle.std.specs.Prelude.{◌≡◌, ◌≤◌, ◌+◌, length, All, IfOk, IfErr, OnOk, Option};
+ghost use Rattle.st_bits.specs.declared.limits.TheConstants.{MOST_CARDS};
 ghost use Rattle.st_card.specs.Cards.{IsCardOf};
 ghost use Rattle.st_asm.specs.Answers.{Stops, Explains};
 ghost use Rattle.st_asm.specs.Pass.{pass};
 ghost use Rattle.st_asm.specs.Forming as spec;
 
-use crate::line::{Line, name_field, name_in, silent, statement_field};
+use crate::line::{ReadCard, name_field, name_in, silent, statement_field};
 use crate::stop::{AsmError, PassStop};
 use st_card::{Card, CardError, CardKind, Controls, Fault};
 use st_strap::{CompactStatement, Statement, read_compact};
@@ -16,7 +17,7 @@ use std::alloc::Global;
 #[derive(Drop)]
 pub(crate) struct Deck {
     // The cards, in order.
-    pub lines: Vec<Line>,
+    pub lines: Vec<ReadCard>,
     // What the control cards ask for.
     pub controls: Controls,
     // Whether the end was there.
@@ -26,7 +27,7 @@ pub(crate) struct Deck {
 // The form pass over the cards of a job.
 pub(crate) fn form_pass(alloc: Global, job: &[u8], cards: &[Card]) -> Result<Deck, AsmError>
     requires texts { All (IsCardOf job.now) cards.now }
-    requires few { length cards.now ≤ 20001 }
+    requires few { length cards.now ≤ MOST_CARDS + 1 }
     ensures ok { IfOk result (λ d. spec.form_pass job.now cards.now ≡ Ok (spec.found_in d)) }
     ensures err { IfErr result (Explains (spec.form_pass job.now cards.now)) }
 {
@@ -111,15 +112,12 @@ fn before_end(fault: Option<Fault>) -> Option<Fault>
 }
 
 // A line more.
-fn add_line(deck: &mut Deck, line: Line) -> Result<(), PassStop>
+fn add_line(deck: &mut Deck, line: ReadCard) -> Result<(), PassStop>
     ensures ok { OnOk result (spec.found_in deck.new
         ≡ spec.with_line (spec.found_in deck.old) line) }
     ensures err { IfErr result (λ stop. stop ≡ PassStop.NoMemory) }
 {
-    match deck.lines.push(line) {
-        Ok(()) => Ok(()),
-        Err(_) => Err(PassStop::NoMemory),
-    }
+    deck.lines.push(line).map_err(|_| PassStop::NoMemory)
 }
 
 // A control card more.
@@ -178,7 +176,7 @@ fn add_read(
     deck.ended = is_end(&statement);
     add_line(
         deck,
-        Line {
+        ReadCard {
             card,
             name: name_in(name),
             statement: Some(statement),

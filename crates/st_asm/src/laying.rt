@@ -4,7 +4,7 @@ ghost use Rattle.std.specs.Prelude.{◌≡◌, ◌<◌, ◌^◌, unsigned_abs, I
 ghost use Rattle.st_format.specs.Formats.{IsShape, second_half};
 ghost use Rattle.st_asm.specs.Checks.{fits};
 ghost use Rattle.st_asm.specs.Laying as spec;
-ghost use Rattle.st_asm.specs.Places.{role_of, length_in};
+ghost use Rattle.st_asm.specs.Places.{placing_of, length_in};
 ghost use Rattle.st_strap.specs.WellFormed.{IsWellFormed, IsSpotOrNone};
 
 use crate::numbers::field_of;
@@ -21,7 +21,7 @@ pub(crate) fn bits_of(s: &CompactStatement, v: Values) -> u64
     requires fits { IsTrue (fits s.now v) }
 
     ensures bits { result ≡ spec.bits_of s.now v }
-    ensures below { result < 2 ^ length_in (role_of s.now) }
+    ensures below { result < 2 ^ length_in (placing_of s.now) }
 {
     match s {
         Statement::Half { op, j, at } => instruction_bits(Instr::Half {

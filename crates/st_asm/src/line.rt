@@ -16,7 +16,7 @@ const NAME_COLUMNS: usize = 8;
 
 // A card without a fault of the form pass.
 #[derive(Drop)]
-pub(crate) struct Line {
+pub(crate) struct ReadCard {
     // The card's number.
     pub card: u32,
     // The name, filled with blanks to eight bytes.
@@ -26,10 +26,10 @@ pub(crate) struct Line {
 }
 
 // A comment or a control card.
-pub(crate) fn silent(card: u32) -> Line
-    ensures { result ≡ spec.is_silent card }
+pub(crate) fn silent(card: u32) -> ReadCard
+    ensures { result ≡ spec.silent_line card }
 {
-    Line {
+    ReadCard {
         card,
         name: None,
         statement: None,

@@ -9,8 +9,8 @@ ghost use Rattle.st_asm.specs.Values.{values_of as values_by};
 ghost use Rattle.st_asm.specs.Symbols.{is_defined};
 ghost use Rattle.st_strap.specs.WellFormed.{IsWellFormed, IsWellFormedIfAny};
 
-use crate::line::Line;
-use crate::places::{Placing, role_of};
+use crate::line::ReadCard;
+use crate::places::{Placing, placing_of};
 use crate::stop::{AsmError, PassStop};
 use crate::symbols::{knows_all, names_in};
 use crate::values::values_of;
@@ -19,8 +19,8 @@ use st_expr::Symbols;
 use st_strap::CompactStatement;
 use std::alloc::Global;
 
-// How many names a job may define.
-const MOST_NAMES: usize = 4_000;
+/// How many names a job may define.
+pub const MOST_NAMES: usize = 4_000;
 
 // The bit address of the first location: word 32.
 pub(crate) const FIRST_LOCATION: u32 = 64 * 32;
@@ -48,7 +48,7 @@ pub(crate) struct Names {
 }
 
 // The name pass.
-pub(crate) fn name_pass(alloc: Global, lines: &[Line]) -> Result<Names, AsmError>
+pub(crate) fn name_pass(alloc: Global, lines: &[ReadCard]) -> Result<Names, AsmError>
     requires { All (λ line. IsWellFormedIfAny line.statement) lines.now }
     ensures ok { IfOk result (λ n. spec.name_pass lines.now ≡ Ok (spec.named_in n)) }
     ensures err { IfErr result (Explains (spec.name_pass lines.now)) }
@@ -61,7 +61,7 @@ pub(crate) fn name_pass(alloc: Global, lines: &[Line]) -> Result<Names, AsmError
 }
 
 // What is known behind all cards, with a table in which all names are.
-fn name_lines(alloc: Global, all: &Symbols, lines: &[Line]) -> Result<Names, AsmError>
+fn name_lines(alloc: Global, all: &Symbols, lines: &[ReadCard]) -> Result<Names, AsmError>
     requires well { All (λ line. IsWellFormedIfAny line.statement) lines.now }
     ensures ok { IfOk result (λ n. pass (spec.name_card (is_defined all.now)) (λ line. line.card)
         spec.naming_at_start lines.now ≡ Ok (spec.named_in n)) }
@@ -96,7 +96,7 @@ fn no_names(alloc: Global) -> Names
 
 // A card more.
 #[tactic(auto, unfolding(crate::specs::Naming::name_card))]
-fn name_line(names: &mut Names, all: &Symbols, line: &Line) -> Result<(), PassStop>
+fn name_line(names: &mut Names, all: &Symbols, line: &ReadCard) -> Result<(), PassStop>
     requires well { IsWellFormedIfAny line.now.statement }
     requires kept { spec.AreNamesKept names.old }
     ensures ok { OnOk result (spec.name_card (is_defined all.now) (spec.named_in names.old) line.now
@@ -112,7 +112,7 @@ fn name_line(names: &mut Names, all: &Symbols, line: &Line) -> Result<(), PassSt
 }
 
 // The fault of a card, if it has one.
-fn name_fault(names: &Names, all: &Symbols, line: &Line) -> Option<Fault>
+fn name_fault(names: &Names, all: &Symbols, line: &ReadCard) -> Option<Fault>
     requires well { IsWellFormedIfAny line.now.statement }
     requires kept { spec.AreNamesKept names.now }
     ensures { result ≡ spec.name_fault (is_defined all.now) (spec.named_in names.now) line.now }
@@ -165,7 +165,7 @@ fn is_statement_earlier(symbols: &Symbols, statement: &CompactStatement) -> bool
     requires { IsWellFormed statement.now }
     ensures { result ≡ spec.is_statement_earlier symbols.now statement.now }
 {
-    if role_of(statement).needs_earlier() {
+    if placing_of(statement).needs_earlier() {
         knows_all(symbols, statement)
     } else {
         true
@@ -173,7 +173,7 @@ fn is_statement_earlier(symbols: &Symbols, statement: &CompactStatement) -> bool
 }
 
 // A card more, which has no fault.
-fn add_line(names: &mut Names, line: &Line) -> Result<(), PassStop>
+fn add_line(names: &mut Names, line: &ReadCard) -> Result<(), PassStop>
     requires well { IsWellFormedIfAny line.now.statement }
     requires kept { spec.AreNamesKept names.old }
     requires fresh { spec.is_name_taken names.old.table line.now.name ≡ false }
@@ -188,10 +188,7 @@ fn add_line(names: &mut Names, line: &Line) -> Result<(), PassStop>
         define(names, name, place.unwrap_or(0))?;
     }
     names.location = behind;
-    match names.places.push(place) {
-        Ok(()) => Ok(()),
-        Err(_) => Err(PassStop::NoMemory),
-    }
+    names.places.push(place).map_err(|_| PassStop::NoMemory)
 }
 
 // The place of a card, and the location behind it.
@@ -223,20 +220,22 @@ fn place_and_behind_statement(
     ensures behind { result.1 ≡ spec.behind_statement symbols.now location statement.now }
     ensures below { result.1 < 2 ^ 24 }
 {
-    let role = role_of(statement);
-    let value = placing_value(role, symbols, statement);
-    (role.place(location, value), role.behind(location, value))
+    let placing = placing_of(statement);
+    let value = placing_value(placing, symbols, statement);
+    (
+        placing.place(location, value),
+        placing.behind(location, value),
+    )
 }
 
-// The value by which a statement of this role is placed; of a statement that is placed by none it
-// is 0.
-fn placing_value(role: Placing, symbols: &Symbols, statement: &CompactStatement) -> i64
-    ensures place { (location : ℕ) → place_in role location result
-        ≡ place_in role location (values_by symbols.now statement.now).first }
-    ensures behind { (location : ℕ) → behind_in role location result
-        ≡ behind_in role location (values_by symbols.now statement.now).first }
+// The value that says where a statement is placed, 0 where none does.
+fn placing_value(placing: Placing, symbols: &Symbols, statement: &CompactStatement) -> i64
+    ensures place { (location : ℕ) → place_in placing location result
+        ≡ place_in placing location (values_by symbols.now statement.now).first }
+    ensures behind { (location : ℕ) → behind_in placing location result
+        ≡ behind_in placing location (values_by symbols.now statement.now).first }
 {
-    if role.needs_earlier() {
+    if placing.needs_earlier() {
         values_of(symbols, statement).first
     } else {
         0
@@ -256,8 +255,8 @@ fn define(names: &mut Names, name: [u8; 8], value: u32) -> Result<(), PassStop>
     if names.table.define(name, value).is_err() {
         return Err(PassStop::NoMemory);
     }
-    match names.symbols.push(Symbol { name, value }) {
-        Ok(()) => Ok(()),
-        Err(_) => Err(PassStop::NoMemory),
-    }
+    names
+        .symbols
+        .push(Symbol { name, value })
+        .map_err(|_| PassStop::NoMemory)
 }

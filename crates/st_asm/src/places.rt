@@ -2,7 +2,7 @@
 
 ghost use Rattle.std.specs.Prelude.{◌≡◌, ◌<◌, ◌≤◌, ◌^◌, IfSome};
 ghost use Rattle.st_asm.specs.Places as spec;
-ghost use Rattle.st_asm.specs.Places.{IsRole};
+ghost use Rattle.st_asm.specs.Places.{IsPlacing};
 ghost use Rattle.st_strap.specs.WellFormed.{IsWellFormed};
 
 use crate::values::wrapped;
@@ -29,10 +29,10 @@ pub(crate) enum Placing {
 }
 
 // What a statement does to the location.
-pub(crate) fn role_of(statement: &CompactStatement) -> Placing
+pub(crate) fn placing_of(statement: &CompactStatement) -> Placing
     requires { IsWellFormed statement.now }
-    ensures role { result ≡ spec.role_of statement.now }
-    ensures fits { IsRole result }
+    ensures placing { result ≡ spec.placing_of statement.now }
+    ensures fits { IsPlacing result }
 {
     match statement {
         Statement::Half { .. }
@@ -71,7 +71,7 @@ pub(crate) fn role_of(statement: &CompactStatement) -> Placing
 impl Placing {
     // How many bits are laid.
     pub(crate) fn length(self) -> u32
-        requires { IsRole self }
+        requires { IsPlacing self }
         ensures length { result ≡ spec.length_in self }
         ensures few { result ≤ 64 }
     {
@@ -83,7 +83,7 @@ impl Placing {
 
     // The place of a statement that is met at a location, if it has one.
     pub(crate) fn place(self, location: u32, value: i64) -> Option<u32>
-        requires role { IsRole self }
+        requires placing { IsPlacing self }
         requires location { location < 2 ^ 24 }
         ensures place { result ≡ spec.place_in self location value }
         ensures below { IfSome result (λ place. place < 2 ^ 24) }
@@ -98,7 +98,7 @@ impl Placing {
 
     // The location behind it.
     pub(crate) fn behind(self, location: u32, value: i64) -> u32
-        requires role { IsRole self }
+        requires placing { IsPlacing self }
         requires location { location < 2 ^ 24 }
         ensures location { result ≡ spec.behind_in self location value }
         ensures below { result < 2 ^ 24 }

@@ -4,7 +4,7 @@ ghost use Rattle.std.specs.Prelude.{◌≡◌, ◌||◌, List, ℕ, IfOk, OnOk};
 ghost use Rattle.st_text.specs.Tables.{is_same};
 ghost use Rattle.st_asm.specs.Symbols as spec;
 
-use crate::line::Line;
+use crate::line::ReadCard;
 use st_bits::NoMemory;
 use st_expr::{ExprText, Symbols};
 use st_strap::{CompactStatement, Statement};
@@ -49,7 +49,7 @@ fn knows(symbols: &Symbols, expr: &ExprText) -> bool
 }
 
 // A table in which the names of all cards are, whatever their values.
-pub(crate) fn names_in(alloc: Global, lines: &[Line]) -> Result<Symbols, NoMemory>
+pub(crate) fn names_in(alloc: Global, lines: &[ReadCard]) -> Result<Symbols, NoMemory>
     ensures { IfOk result (λ t. (name : List ℕ)
         → spec.is_defined t name ≡ spec.has_name (spec.names_of lines.now) name) }
 {

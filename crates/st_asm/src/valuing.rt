@@ -6,6 +6,7 @@ ghost use Rattle.st_asm.specs.Checks.{value_fault, in_storage};
 ghost use Rattle.st_asm.specs.Valuing as spec;
 ghost use Rattle.st_asm.specs.Forming.{is_end};
 ghost use Rattle.st_asm.specs.Laying.{half_word_bits};
+ghost use Rattle.st_bits.specs.Storage.{IsImage};
 ghost use Rattle.st_asm.specs.Sound.{IsRow, IsLocation};
 ghost use Rattle.st_asm.specs.Kept.{IsSoundLayout};
 ghost use Rattle.st_strap.specs.WellFormed.{IsWellFormed, IsWellFormedIfAny};
@@ -13,8 +14,8 @@ ghost use Rattle.st_strap.specs.WellFormed.{IsWellFormed, IsWellFormedIfAny};
 use crate::checks::value_fault;
 use crate::forming::is_end;
 use crate::laying::{bits_of, half_word};
-use crate::line::Line;
-use crate::places::role_of;
+use crate::line::ReadCard;
+use crate::places::placing_of;
 use crate::stop::{AsmError, PassStop};
 use crate::values::{Values, values_of};
 use st_bits::{number_of_words, put_field};
@@ -51,7 +52,7 @@ pub(crate) struct Layout {
 pub(crate) fn value_pass(
     alloc: Global,
     symbols: &Symbols,
-    lines: &[Line],
+    lines: &[ReadCard],
     places: &[Option<u32>],
 ) -> Result<Layout, AsmError>
     requires well { All (λ line. IsWellFormedIfAny line.statement) lines.now }
@@ -95,7 +96,7 @@ fn empty_layout(alloc: Global) -> Result<Layout, AllocError>
 fn value_line(
     layout: &mut Layout,
     symbols: &Symbols,
-    line: &Line,
+    line: &ReadCard,
     place: Option<u32>,
 ) -> Result<(), PassStop>
     requires well { IsWellFormedIfAny line.now.statement }
@@ -144,10 +145,7 @@ fn add_row(layout: &mut Layout, row: Listed) -> Result<(), PassStop>
     ensures err { IfErr result (λ stop. stop ≡ PassStop.NoMemory) }
     ensures sound { OnOk result (IsSoundLayout (spec.laid_in layout.new)) }
 {
-    match layout.rows.push(row) {
-        Ok(()) => Ok(()),
-        Err(_) => Err(PassStop::NoMemory),
-    }
+    layout.rows.push(row).map_err(|_| PassStop::NoMemory)
 }
 
 // A statement card more.
@@ -168,7 +166,7 @@ fn value_statement(
         (Stops (spec.value_statement (spec.laid_in layout.old) card s.now v place)) }
     ensures sound { OnOk result (IsSoundLayout (spec.laid_in layout.new)) }
 {
-    match value_fault(s, role_of(s), v, place.unwrap_or(0)) {
+    match value_fault(s, placing_of(s), v, place.unwrap_or(0)) {
         Some(fault) => Err(PassStop::Faulty(fault)),
         None => lay(layout, card, s, v, place),
     }
@@ -192,7 +190,7 @@ fn lay(
     ensures err { IfErr result (λ stop. stop ≡ PassStop.NoMemory) }
     ensures sound { OnOk result (IsSoundLayout (spec.laid_in layout.new)) }
 {
-    let length = role_of(s).length() as u8;
+    let length = placing_of(s).length() as u8;
     let bits = bits_of(s, v);
     put_bits(
         layout.image.as_mut_slice(),

@@ -5,7 +5,7 @@ use Rattle.std.proofs.lemmas.Bool.Decides.{nat_tests}
 use Rattle.std.proofs.lemmas.List.Elements.{All-nil, All-cons, All-append, All-map}
 use Rattle.st_card.specs.Controls.{Asked, is_in_range}
 use Rattle.st_card.specs.Limits.{IsWithinLimits, is_signal, is_part, is_tick}
-use Rattle.st_card.specs.Written.{where_asked, unless_zero, orders, shows, IsShort, IsShortControl}
+use Rattle.st_card.specs.Written.{where_asked, unless_zero, orders, shows, controls_made, IsShort, IsShortControl}
 use Rattle.st_card.specs.declared.control_cards.Signal.{Signal}
 use Rattle.st_card.specs.declared.written.Control.{Control}
 use Rattle.st_card.specs.declared.written.Control.TheVariants as asks
@@ -87,15 +87,18 @@ module _ {X : Type 0} (Q : X → Type 0) (made : Control → X) where
     | false ↦ All-cons Q (made c) [] holds (All-nil Q)
   ]
 
-  pub orders_all : (a : Asked) → OfEach (λ c. Q (made c)) a → All Q (orders made a)
+  orders_all : (a : Asked) → OfEach (λ c. Q (made c)) a → All Q (orders made a)
   orders_all a each =
       All-append Q _ _ (All-append Q _ _ (All-append Q _ _ (unless_all a.budget (asks.Budget a.budget) each.budget)
       (All-map Q (λ d. made (asks.Delay d)) a.delays each.delays))
       (All-map Q (λ s. made (asks.Signal s.count s.indicator)) a.signals each.signals))
       (All-map Q (λ p. made (asks.Dump p.0 p.1)) a.dumps each.dumps)
 
-  pub shows_all : (a : Asked) → OfEach (λ c. Q (made c)) a → All Q (shows made a)
+  shows_all : (a : Asked) → OfEach (λ c. Q (made c)) a → All Q (shows made a)
   shows_all a each =
       All-append Q _ _ (All-append Q _ _ (All-append Q _ _ (All-append Q _ _ (where_all a.trace asks.Trace each.trace) (where_all a.time asks.Time each.time))
       (where_all a.chart asks.Chart each.chart)) (All-map Q (λ t. made (asks.Snap t)) a.snaps each.snaps))
       (unless_all a.back (asks.Back a.back) each.back)
+
+  pub controls_all : (a : Asked) → OfEach (λ c. Q (made c)) a → All Q (controls_made made a)
+  controls_all a each = All-append Q _ _ (orders_all a each) (shows_all a each)

@@ -67,9 +67,9 @@ cards_from n place (line ∷ next ∷ more) =
     card_at n place (strip_carriage_return line) ∷ cards_from (n + 1) (place + length line + 1)
     (next ∷ more)
 
--- the cards of a job, up to the 20,001st
+-- the cards of a job, up to the first that is one too many
 abbrev pub cards_of : List ℕ → List Card
-cards_of job = take 20001 (cards_from 1 0 (pieces_of line_end job))
+cards_of job = take (MOST_CARDS + 1) (cards_from 1 0 (pieces_of line_end job))
 
 -- the text of a card
 abbrev pub text_in : List ℕ → Card → List ℕ

@@ -60,6 +60,10 @@ module _ {X : Type 0} (made : Control → X) where
       ++ map (λ t. made (Snap t)) a.snaps
       ++ unless_zero a.back (made (Back a.back))
 
+  -- all of it
+  abbrev pub controls_made : Asked → List X
+  controls_made a = orders a ++ shows a
+
 -- a number of 12 digits at most, as a control card may have it
 abbrev pub IsShort : ℕ → Type 0
 IsShort n = n ≤ MOST_NUMBER

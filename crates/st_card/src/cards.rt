@@ -9,7 +9,7 @@ ghost use Rattle.st_text.specs.Pieces.{pieces_of, IsFront, IsBehind};
 use crate::faults::Fault;
 use st_bits::NoMemory;
 use st_bits::limits::MOST_CARDS;
-use st_text::{cut, front};
+use st_text::{cut, front, is_printable_byte};
 use std::alloc::Global;
 
 // How many characters a card may have.
@@ -186,5 +186,5 @@ fn is_blank(text: &[u8]) -> bool
 fn is_printable(text: &[u8]) -> bool
     ensures { result ≡ is_printable text.now }
 {
-    text.iter().all(|byte| (32..=126).contains(byte))
+    text.iter().all(|byte| is_printable_byte(*byte))
 }

@@ -12,4 +12,4 @@ pub use cards::{Card, CardKind, columns, split};
 pub use control_cards::{CardError, Controls, Signal};
 pub use faults::Fault;
 pub use keywords::{Addition, Keyword};
-pub use written::{Control, ControlForm, control_line, push_orders, push_shows};
+pub use written::{Control, ControlForm, control_line, push_controls};

@@ -202,12 +202,8 @@ fn push_back(text: &mut Vec<u8>, form: ControlForm, back: u8) -> Result<(), Allo
     push_line(text, form, Control::Back(u64::from(back)))
 }
 
-/// Appends what is asked for up to the parts of storage, each line with its line end.
-pub fn push_orders(
-    text: &mut Vec<u8>,
-    form: ControlForm,
-    controls: &Controls,
-) -> Result<(), AllocError>
+// Appends what is asked for up to the parts of storage.
+fn push_orders(text: &mut Vec<u8>, form: ControlForm, controls: &Controls) -> Result<(), AllocError>
     ensures { let lines = spec.orders (spec.control_line form) controls.now in
         OnOk result (text.new.items ≡ text.old.items ++ spec.text_of_lines lines) }
 {
@@ -217,12 +213,8 @@ pub fn push_orders(
     push_dumps(text, form, controls.dumps.as_slice())
 }
 
-/// Appends what is to be shown, each line with its line end.
-pub fn push_shows(
-    text: &mut Vec<u8>,
-    form: ControlForm,
-    controls: &Controls,
-) -> Result<(), AllocError>
+// Appends what is to be shown.
+fn push_shows(text: &mut Vec<u8>, form: ControlForm, controls: &Controls) -> Result<(), AllocError>
     ensures { let lines = spec.shows (spec.control_line form) controls.now in
         OnOk result (text.new.items ≡ text.old.items ++ spec.text_of_lines lines) }
 {
@@ -231,4 +223,17 @@ pub fn push_shows(
     push_where(text, form, controls.chart, Control::Chart)?;
     push_snaps(text, form, controls.snaps.as_slice())?;
     push_back(text, form, controls.back)
+}
+
+/// Appends all that is asked for, each line with its line end.
+pub fn push_controls(
+    text: &mut Vec<u8>,
+    form: ControlForm,
+    controls: &Controls,
+) -> Result<(), AllocError>
+    ensures { let lines = spec.controls_made (spec.control_line form) controls.now in
+        OnOk result (text.new.items ≡ text.old.items ++ spec.text_of_lines lines) }
+{
+    push_orders(text, form, controls)?;
+    push_shows(text, form, controls)
 }

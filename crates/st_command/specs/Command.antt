@@ -2,6 +2,7 @@
 use Rattle.std.specs.Prelude.{ℕ, ◌-◌, ◌^◌, ◌&&◌, ◌≤◌, nat_eq, nat_le, codes, if◌then◌else◌, List, [], ◌∷◌, length, Option, None, Some}
 use Rattle.std.specs.Cmp.Lexicographic.{pointwise}
 use Rattle.st_text.specs.Number.{is_number, digits_value}
+use Rattle.st_command.specs.declared.command.TheConstants.{MOST_MADE_CARDS}
 use Rattle.st_command.specs.declared.command.Command.{Command}
 use Rattle.st_command.specs.declared.command.Command.TheVariants.{Run, Assemble, Load, Disassemble, Sweep, Soak}
 
@@ -28,20 +29,16 @@ soak_of None cards = None
 soak_of (Some number) None = None
 soak_of (Some number) (Some cards) = Some (Soak number cards)
 
--- a made deck has at most 4000 drawn cards
+-- a made deck has no more drawn cards than may be asked for
 abbrev pub IsWithinCards : Command → Type 0
-IsWithinCards (Soak number cards) = cards ≤ 4000
-IsWithinCards Run = Unit {0}
-IsWithinCards Assemble = Unit {0}
-IsWithinCards Load = Unit {0}
-IsWithinCards Disassemble = Unit {0}
-IsWithinCards Sweep = Unit {0}
+IsWithinCards (Soak number cards) = cards ≤ MOST_MADE_CARDS
+IsWithinCards _ = Unit {0}
 
 -- the command that a word is with a seed and a number of cards
 abbrev pub command_with : List ℕ → List ℕ → List ℕ → Option Command
 command_with word number cards =
     if pointwise nat_eq word (codes "soak") then soak_of (number_between 0 (2 ^ 64 - 1) number)
-    (number_between 1 4000 cards)
+    (number_between 1 MOST_MADE_CARDS cards)
     else None
 
 -- the command that the words are, or none

@@ -41,8 +41,8 @@ const MOST_WORDS: usize = 3;
 // The most digits of a number.
 const MOST_DIGITS: usize = 20;
 
-// The most drawn cards of a made deck.
-const MOST_MADE_CARDS: u64 = 4_000;
+/// The most drawn cards of a made deck.
+pub const MOST_MADE_CARDS: u64 = 4_000;
 
 // Whether a word may be an argument: it is not empty, and does not begin with `-`.
 fn is_plain(word: &str) -> bool

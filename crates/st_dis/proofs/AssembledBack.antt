@@ -2,8 +2,7 @@
 use Rattle.std.proofs.Common.{◌≡◌, ◌≤◌, length, Ok}
 use Rattle.st_asm.specs.Assembly.{Assembly, together, assembly}
 use Rattle.st_object.specs.Object.{Program, IsProgram, AreWords}
-use Rattle.st_dis.specs.Deck.{deck_text, card_count}
-use Rattle.st_dis.proofs.Said.{control_cards}
+use Rattle.st_dis.specs.Deck.{control_cards, deck_text, card_count}
 use Rattle.st_dis.proofs.FormPass.{found_in_job}
 use Rattle.st_dis.proofs.DeckCards.{form-passes}
 use Rattle.st_dis.proofs.PassesLead.{statements-give}
@@ -13,7 +12,7 @@ pub deck-assembled : (p : Program) → IsProgram p → AreWords p.words → card
     (a : Assembly) × (assembly (deck_text p) ≡ Ok a) × (a.image ≡ p.words) × (a.start ≡ p.start) × (a.asked ≡ p.controls)
 deck-assembled p is words few =
     let formed = form-passes p is words few in
-    let count = length (control_cards p) in
+    let count = length (control_cards p.controls) in
     let found = found_in_job formed.statements count p.controls in
     let gives = statements-give p formed.statements count is words formed.read in (
       together found gives.named gives.laid,

@@ -19,7 +19,7 @@ use Rattle.st_card.specs.declared.control_cards.Signal.{Signal}
 use Rattle.st_card.proofs.OrderLemmas.{budget-asked, delay-asked, signal-asked, dump-asked, snap-asked, back-asked, delay-short, signal-short, dump-short, snap-short}
 use Rattle.st_mnemonic.proofs.Digits.{decimal-digits, reading-decimal, digits-lack, low_other, lacks-parted}
 use Rattle.st_strap.proofs.PlaceCards.{parted-once}
-use Rattle.st_dis.specs.Deck.{order_cards, show_cards}
+use Rattle.st_dis.specs.Deck.{control_cards}
 use Rattle.st_dis.specs.Read.{CardsLead}
 
 decimal-short : (n : ℕ) → IsShort n → length (decimal n) ≤ 12
@@ -260,7 +260,7 @@ add_budget n some few =
     rw is (asked_for n [] [] [] false false false [] 0, budget-card nothing_asked n (omega (arith, few)) ∙ budget-asked nothing_asked n refl some few, refl)
 
 -- the control cards ask for what is asked for
-pub controls-read : (a : Asked) → IsWithinLimits a → 1 ≤ a.budget → a.list ≡ false → CardsLead nothing_asked (order_cards a ++ show_cards a) a
+pub controls-read : (a : Asked) → IsWithinLimits a → 1 ≤ a.budget → a.list ≡ false → CardsLead nothing_asked (control_cards a) a
 controls-read a limits some unlisted =
     let n = a.budget in
     let ds = a.delays in
@@ -300,6 +300,6 @@ controls-read a limits some unlisted =
     let seven = leads_on a4 a6 a7 (c5 ++ c6) c7 six chart in
     let eight = leads_on a4 a7 a8 (c5 ++ c6 ++ c7) c8 seven snaps in
     let shows = leads_on a4 a8 a9 (c5 ++ c6 ++ c7 ++ c8) c9 eight back in
-    let all = leads_on nothing_asked a4 a9 (order_cards a) (show_cards a) orders shows in
+    let all = leads_on nothing_asked a4 a9 (c1 ++ c2 ++ c3 ++ c4) (c5 ++ c6 ++ c7 ++ c8 ++ c9) orders shows in
     let same : a9 ≡ a = ap (λ (b : Bool). record a { list = b }) (sym unlisted) in
-    subst (λ (x : Asked). CardsLead nothing_asked (order_cards a ++ show_cards a) x) same all
+    subst (λ (x : Asked). CardsLead nothing_asked (control_cards a) x) same all

@@ -14,9 +14,10 @@ use Rattle.st_card.specs.declared.cards.Card.{Card}
 use Rattle.st_card.specs.declared.faults.Fault.{Fault}
 use Rattle.st_card.specs.declared.faults.Fault.TheVariants.{NotAscii, CardTooLong, BadName, TooManyCards}
 use Rattle.st_object.specs.Object.{Program, IsProgram, AreWords}
-use Rattle.st_dis.specs.Deck.{deck_cards, deck_of, deck_text, card_count}
+use Rattle.st_dis.specs.Deck.{deck_cards, deck_text, card_count}
 use Rattle.st_dis.proofs.Printable.{IsPlain, is_plain, IsWritten, pieces, deck_written}
 use Rattle.st_dis.proofs.Lengths.{IsCard, deck_cards-short}
+use Rattle.st_card.specs.Written.{text_of_lines}
 
 -- no byte of a printable text is a carriage return
 plain_at : (text : List ℕ) (k : ℕ) → IsPlain text → (slice_index text k == 13) ≡ false
@@ -73,21 +74,21 @@ first_cut : (n place : ℕ) (line : List ℕ) (lines : List (List ℕ)) → card
 first_cut n place line [] = refl
 first_cut n place line (next ∷ more) = refl
 
-cut : (job front : List ℕ) (n : ℕ) (lines : List (List ℕ)) → job ≡ front ++ deck_of lines → All IsWritten lines → All IsCard lines → n + length lines ≤ 20001 → IsCutAs job n (cards_from n (length front) (lines ++ [] ∷ [])) lines
+cut : (job front : List ℕ) (n : ℕ) (lines : List (List ℕ)) → job ≡ front ++ text_of_lines lines → All IsWritten lines → All IsCard lines → n + length lines ≤ 20001 → IsCutAs job n (cards_from n (length front) (lines ++ [] ∷ [])) lines
 cut job front n [] e w s few = record { texts = refl; good = All-nil (λ (card : Card). card.fault ≡ None); each = refl }
 cut job front n (line ∷ lines) e w s few =
     let here = All-head IsWritten line lines w in
     let short = All-head IsCard line lines s in
     let card = card_at n (length front) line in
     let rest = front ++ (line ++ lf) in
-    let whole : job ≡ rest ++ deck_of lines = e ∙ sym (append_assoc front (line ++ lf) (deck_of lines)) in
+    let whole : job ≡ rest ++ text_of_lines lines = e ∙ sym (append_assoc front (line ++ lf) (text_of_lines lines)) in
     let more = cut job rest (n + 1) lines whole (All-tail IsWritten line lines w) (All-tail IsCard line lines s) (omega arith) in
     let long = length-append front (line ++ lf) in
     let one = length-append line lf in
     let place : length rest ≡ length front + length line + 1 = omega (arith, long, one) in
-    let job_here : job ≡ front ++ (line ++ (lf ++ deck_of lines)) = e ∙ ap (λ (t : List ℕ). front ++ t) (append_assoc line lf (deck_of lines)) in
+    let job_here : job ≡ front ++ (line ++ (lf ++ text_of_lines lines)) = e ∙ ap (λ (t : List ℕ). front ++ t) (append_assoc line lf (text_of_lines lines)) in
     let text : text_in job card ≡ line = ap (λ (t : List ℕ). take (min (length line) 80) (drop (length front) t)) job_here
-    ∙ text_there front line (lf ++ deck_of lines) (omega (arith, short)) in
+    ∙ text_there front line (lf ++ text_of_lines lines) (omega (arith, short)) in
     let tail = cards_from (n + 1) (length rest) (lines ++ [] ∷ []) in
     let cards : card ∷ tail ≡ cards_from n (length front) (line ∷ (lines ++ [] ∷ [])) =
     ap (λ k. card ∷ cards_from (n + 1) k (lines ++ [] ∷ [])) place
@@ -102,9 +103,9 @@ cut job front n (line ∷ lines) e w s few =
     })
 
 -- all of a text of lines
-pub lines_cut : (lines : List (List ℕ)) → All IsWritten lines → All IsCard lines → length lines ≤ 20000 → IsCutAs (deck_of lines) 1 (cards_of (deck_of lines)) lines
+pub lines_cut : (lines : List (List ℕ)) → All IsWritten lines → All IsCard lines → length lines ≤ 20000 → IsCutAs (text_of_lines lines) 1 (cards_of (text_of_lines lines)) lines
 lines_cut lines written short few =
-    let job = deck_of lines in
+    let job = text_of_lines lines in
     let all = cut job [] 1 lines refl written short (omega (arith, few)) in
     let cards = cards_from 1 0 (lines ++ [] ∷ []) in
     let size : length cards ≤ 20001 =

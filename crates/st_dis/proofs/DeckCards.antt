@@ -5,11 +5,11 @@ use Rattle.std.proofs.lemmas.List.{map-append}
 use Rattle.std.proofs.lemmas.List.Elements.{All-nil, All-cons, All-head, All-tail, All-append}
 use Rattle.st_card.specs.Cards.{cards_of}
 use Rattle.st_card.specs.Controls.{Asked}
-use Rattle.st_card.specs.Written.{control_line}
+use Rattle.st_card.specs.Written.{control_line, text_of_lines}
 use Rattle.st_card.specs.declared.written.Control.{Control}
 use Rattle.st_card.specs.declared.written.Control.TheVariants as asks
 use Rattle.st_card.specs.declared.written.ControlForm.TheVariants.{Card}
-use Rattle.st_card.proofs.EachControl.{OfEach, of_any, orders_all, shows_all}
+use Rattle.st_card.proofs.EachControl.{OfEach, of_any, controls_all}
 use Rattle.st_card.specs.declared.faults.Fault.{Fault}
 use Rattle.st_bits.specs.Storage.{words_of_storage_is}
 use Rattle.st_strap.specs.Reading.{number_expr}
@@ -19,7 +19,7 @@ use Rattle.st_strap.specs.declared.statement.Statement.TheVariants.{Half, Sum, R
 use Rattle.st_strap.proofs.NumberCards.{word_form, data-read}
 use Rattle.st_asm.specs.Symbols.{accepts_all, is_defined}
 use Rattle.st_asm.specs.Values.{values_of}
-use Rattle.st_asm.specs.Places.{role_of, length_in}
+use Rattle.st_asm.specs.Places.{placing_of, length_in}
 use Rattle.st_asm.specs.Naming.{naming_at_start}
 use Rattle.st_asm.specs.Checks.{value_fault}
 use Rattle.st_asm.specs.Laying.{bits_of}
@@ -28,7 +28,7 @@ use Rattle.st_asm.specs.Alone.{laid_alone, laid_if_read, laid_by}
 use Rattle.st_asm.specs.declared.alone.LaidBits.{LaidBits}
 use Rattle.st_object.specs.Object.{Program, IsProgram, AreWords}
 use Rattle.st_dis.specs.Spelling.{number_text, statements_of}
-use Rattle.st_dis.specs.Deck.{statement_card, location_statement, location_cards, cards_of_word, word_cards, end_text, order_cards, show_cards, deck_cards, deck_of, deck_text, card_count}
+use Rattle.st_dis.specs.Deck.{statement_card, location_statement, location_cards, cards_of_word, word_cards, end_text, control_cards, deck_cards, deck_text, card_count}
 use Rattle.st_dis.proofs.Spelled.{statements-cases, whole_bits, half_bits}
 use Rattle.st_dis.proofs.WordRead.{says-lays}
 use Rattle.st_dis.proofs.Printable.{IsWritten, deck_written}
@@ -36,7 +36,7 @@ use Rattle.st_dis.proofs.Lengths.{IsCard, deck_cards-short}
 use Rattle.st_dis.proofs.ControlsRead.{controls-read}
 use Rattle.st_dis.proofs.FormPass.{IsOpen, IsControl, IsJob, job_cards, found_in_job, job-formed, read-append}
 use Rattle.st_dis.proofs.PlacesRead.{location-read, start-read}
-use Rattle.st_dis.proofs.Said.{word_statements, statements_from, deck_statements, control_cards, AreRead}
+use Rattle.st_dis.proofs.Said.{word_statements, statements_from, deck_statements, AreRead}
 
 -- ---- the cards
 
@@ -70,17 +70,14 @@ word_cards-texts w before (x ∷ xs) =
     ∙ sym (map-append statement_card texts more))
 
 -- the cards of a deck are those of its statements, and its control cards
-pub deck-cards : (p : Program) → deck_cards p ≡ map statement_card (deck_statements p) ++ control_cards p
+pub deck-cards : (p : Program) → deck_cards p ≡ map statement_card (deck_statements p) ++ control_cards p.controls
 deck-cards p =
     let texts = statements_from 0 0 p.words in
     let end = end_text p.start ∷ [] in
-    let orders = order_cards p.controls in
-    let shows = show_cards p.controls in
     let card : List (List ℕ) = statement_card (end_text p.start) ∷ [] in
     let words : word_cards 0 0 p.words ++ card ≡ map statement_card (texts ++ end) =
     ap (λ (cards : List (List ℕ)). cards ++ card) (word_cards-texts 0 0 p.words) ∙ sym (map-append statement_card texts end) in
-    append_assoc (word_cards 0 0 p.words ++ card) orders shows
-    ∙ ap (λ (cards : List (List ℕ)). cards ++ (orders ++ shows)) words
+    ap (λ (cards : List (List ℕ)). cards ++ control_cards p.controls) words
 
 -- ---- the statements
 
@@ -111,13 +108,13 @@ lays_by true true length bits wanted lays = cc
 lays_by true false length bits wanted lays = let no : ⊥ = cc in absurd no
 lays_by false faultless length bits wanted lays = let no : ⊥ = cc in absurd no
 
-lays-length : (s : Statement) (wanted : LaidBits) → laid_by [] s ≡ Some wanted → length_in (role_of s) ≡ wanted.length
+lays-length : (s : Statement) (wanted : LaidBits) → laid_by [] s ≡ Some wanted → length_in (placing_of s) ≡ wanted.length
 unfolding laid_by
 lays-length s wanted lays =
     lays_by (accepts_all (is_defined []) s) (is_none (value_fault s (values_of [] s) naming_at_start.location))
-    (length_in (role_of s)) (bits_of s (values_of [] s)) wanted lays
+    (length_in (placing_of s)) (bits_of s (values_of [] s)) wanted lays
 
-open-length : (s : Statement) → 0 < length_in (role_of s) → IsOpen s
+open-length : (s : Statement) → 0 < length_in (placing_of s) → IsOpen s
 open-length (Half op j at) lays = refl
 open-length (Sum j listed) lays = refl
 open-length (Refill j) lays = refl
@@ -205,27 +202,20 @@ card-kind (asks.Back n) = refl
 cards-kind : (a : Asked) → OfEach (λ c. IsControl (control_line Card c)) a
 cards-kind a = of_any (λ c. IsControl (control_line Card c)) card-kind a
 
-pub order_cards-kind : (a : Asked) → All IsControl (order_cards a)
-order_cards-kind a = orders_all IsControl (λ c. control_line Card c) a (cards-kind a)
-
-pub show_cards-kind : (a : Asked) → All IsControl (show_cards a)
-show_cards-kind a = shows_all IsControl (λ c. control_line Card c) a (cards-kind a)
-
-control_cards-kind : (p : Program) → All IsControl (control_cards p)
-control_cards-kind p =
-    All-append IsControl (order_cards p.controls) (show_cards p.controls) (order_cards-kind p.controls) (show_cards-kind p.controls)
+pub control_cards-kind : (a : Asked) → All IsControl (control_cards a)
+control_cards-kind a = controls_all IsControl (λ c. control_line Card c) a (cards-kind a)
 
 -- ---- the form pass
 
 -- the job that a deck is: the texts and the end, and what is read
 deck-job : (p : Program) → IsProgram p → (before : List Statement) → AreRead (statements_from 0 0 p.words) before → All IsOpen before →
-    IsJob (statements_from 0 0 p.words) (end_text p.start) (control_cards p) before (end_of p) p.controls
+    IsJob (statements_from 0 0 p.words) (end_text p.start) (control_cards p.controls) before (end_of p) p.controls
 deck-job p is before read going = record {
   read = read;
   going = going;
   final_read = start-read p.start is.start;
   ends = refl;
-  marks = control_cards-kind p;
+  marks = control_cards-kind p.controls;
   leads = controls-read p.controls is.limits is.budget is.unlisted;
 }
 
@@ -233,7 +223,7 @@ deck-job p is before read going = record {
 pub record IsFormed (p : Program) : Type 0 where
   pub statements : List Statement
   pub read : AreRead (deck_statements p) statements
-  pub formed : form_pass (deck_text p) (cards_of (deck_text p)) ≡ Ok (found_in_job statements (length (control_cards p)) p.controls)
+  pub formed : form_pass (deck_text p) (cards_of (deck_text p)) ≡ Ok (found_in_job statements (length (control_cards p.controls)) p.controls)
 
 pub form-passes : (p : Program) → IsProgram p → AreWords p.words → card_count p ≤ 20000 → IsFormed p
 unfolding deck_text card_count
@@ -242,7 +232,7 @@ form-passes p is words few =
     let found = deck-open p is words in
     let before = found.statements in
     let all = before ++ end_of p ∷ [] in
-    let controls = control_cards p in
+    let controls = control_cards p.controls in
     let cards = job_cards texts (end_text p.start) controls in
     let same : deck_cards p ≡ cards = deck-cards p in
     let written = subst (λ (cs : List (List ℕ)). All IsWritten cs) same (deck_written p) in
@@ -252,6 +242,6 @@ form-passes p is words few =
     (deck-job p is before found.read found.open_ones) written short fits in record {
       statements = all;
       read = read-append texts (end_text p.start ∷ []) before (end_of p ∷ []) found.read (start-read p.start is.start, refl);
-      formed = subst (λ (cs : List (List ℕ)). form_pass (deck_of cs) (cards_of (deck_of cs))
+      formed = subst (λ (cs : List (List ℕ)). form_pass (text_of_lines cs) (cards_of (text_of_lines cs))
           ≡ Ok (found_in_job all (length controls) p.controls)) (sym same) passes;
     }

@@ -17,14 +17,15 @@ use Rattle.st_mnemonic.specs.Text.{statement_text, stop}
 use Rattle.st_strap.specs.Saying.{reading_of_operation, is_misnamed, clean_statement_of, statement_of}
 use Rattle.st_strap.specs.Statements.{Statement}
 use Rattle.st_asm.specs.Pass.{Refusal, onward, pass, pass_then, unless_faulty}
-use Rattle.st_asm.specs.Lines.{name_field, statement_field, name_in, is_silent, saying}
+use Rattle.st_asm.specs.Lines.{name_field, statement_field, name_in, silent_line, saying}
 use Rattle.st_asm.specs.Forming.{Found, found_at_start, first_fault_of, is_end, with_statement, with_control, form_control, form_statement, form_kind, form_card, with_end, form_pass}
-use Rattle.st_dis.specs.Deck.{statement_card, deck_of}
+use Rattle.st_dis.specs.Deck.{statement_card}
 use Rattle.st_dis.specs.Read.{CardsLead}
 use Rattle.st_dis.proofs.Printable.{IsWritten}
 use Rattle.st_dis.proofs.Cutting.{IsCardAs, AreCardsAs, lines_cut}
 use Rattle.st_dis.proofs.Lengths.{IsCard, IsShort}
-use Rattle.st_dis.proofs.Said.{Line, AreRead, spoken_lines, silent_lines}
+use Rattle.st_dis.proofs.Said.{ReadCard, AreRead, spoken_lines, silent_lines}
+use Rattle.st_card.specs.Written.{text_of_lines}
 
 -- ---- the cards as texts
 
@@ -120,11 +121,11 @@ unfolding statement_field
 card-statement text short = take_all 63 text short
 
 -- what has been found, by its parts
-abbrev found_as : Bool → Asked → List Line → Found
+abbrev found_as : Bool → Asked → List ReadCard → Found
 found_as ended asked lines = record { ended = ended; asked = asked; lines = lines }
 
 -- what a statement card does before the end
-statement-formed : (asked : Asked) (lines : List Line) (n : ℕ) (text : List ℕ) (s : Statement) → length text ≤ 63 →
+statement-formed : (asked : Asked) (lines : List ReadCard) (n : ℕ) (text : List ℕ) (s : Statement) → length text ≤ 63 →
     statement_of [] text ≡ Ok s →
     form_text (found_as false asked lines) n (statement_card text) ≡ Ok (found_as (is_end s) asked (lines ++ saying n None s ∷ []))
 unfolding form_statement name_in
@@ -143,31 +144,31 @@ abbrev pub IsOpen : Statement → Type 0
 IsOpen s = is_end s ≡ false
 
 -- statement cards without the end
-statements-lead : (asked : Asked) (lines : List Line) (n : ℕ) (texts : List (List ℕ)) (ss : List Statement) → All IsShort texts →
+statements-lead : (asked : Asked) (lines : List ReadCard) (n : ℕ) (texts : List (List ℕ)) (ss : List Statement) → All IsShort texts →
     AreRead texts ss → All IsOpen ss →
     TextsLead (found_as false asked lines) n (map statement_card texts) (found_as false asked (lines ++ spoken_lines n ss))
 statements-lead asked lines n [] ss short read not_end =
-    ap (λ (ls : List Line). found_as false asked ls) (sym (append-nil lines))
+    ap (λ (ls : List ReadCard). found_as false asked ls) (sym (append-nil lines))
     ∙ ap (λ (all : List Statement). found_as false asked (lines ++ spoken_lines n all)) (sym read)
 statements-lead asked lines n (t ∷ ts) [] short read not_end = absurd read
 statements-lead asked lines n (t ∷ ts) (s ∷ ss) short read not_end =
-    let more : List Line = lines ++ saying n None s ∷ [] in
+    let more : List ReadCard = lines ++ saying n None s ∷ [] in
     let here = statement-formed asked lines n t s (All-head IsShort t ts short) read.0 in
     let going : IsOpen s = All-head IsOpen s ss not_end in
     let step = here ∙ ap (λ (b : Bool). Ok (found_as b asked more)) going in
     let rest = statements-lead asked more (n + 1) ts ss (All-tail IsShort t ts short) read.1 (All-tail IsOpen s ss not_end) in (
       found_as false asked more,
       step,
-      subst (λ (ls : List Line). TextsLead (found_as false asked more) (n + 1) (map statement_card ts) (found_as false asked ls))
+      subst (λ (ls : List ReadCard). TextsLead (found_as false asked more) (n + 1) (map statement_card ts) (found_as false asked ls))
           (append_assoc lines (saying n None s ∷ []) (spoken_lines (n + 1) ss)) rest,
     )
 
 -- the end behind them
-end-lead : (asked : Asked) (lines : List Line) (n : ℕ) (text : List ℕ) (s : Statement) → length text ≤ 63 →
+end-lead : (asked : Asked) (lines : List ReadCard) (n : ℕ) (text : List ℕ) (s : Statement) → length text ≤ 63 →
     statement_of [] text ≡ Ok s → is_end s ≡ true →
     TextsLead (found_as false asked lines) n (statement_card text ∷ []) (found_as true asked (lines ++ saying n None s ∷ []))
 end-lead asked lines n text s short read last =
-    let more : List Line = lines ++ saying n None s ∷ [] in (
+    let more : List ReadCard = lines ++ saying n None s ∷ [] in (
       found_as true asked more,
       statement-formed asked lines n text s short read ∙ ap (λ (b : Bool). Ok (found_as b asked more)) last,
       refl,
@@ -180,26 +181,26 @@ abbrev pub IsControl : List ℕ → Type 0
 IsControl card = kind_of card ≡ Control
 
 -- what a control card does behind the end
-control-formed : (asked next : Asked) (lines : List Line) (n : ℕ) (card : List ℕ) → IsControl card → asked_with_card asked card ≡ Some next →
-    form_text (found_as true asked lines) n card ≡ Ok (found_as true next (lines ++ is_silent n ∷ []))
+control-formed : (asked next : Asked) (lines : List ReadCard) (n : ℕ) (card : List ℕ) → IsControl card → asked_with_card asked card ≡ Some next →
+    form_text (found_as true asked lines) n card ≡ Ok (found_as true next (lines ++ silent_line n ∷ []))
 unfolding form_control
 control-formed asked next lines n card is adds =
     let found = found_as true asked lines in
     ap (λ (k : CardKind). form_kind k found n None card) is
     ∙ ap (λ (o : Option Asked). next_reading BadControlCard o (λ a. Ok (with_control found n a))) adds
 
-controls-lead : (asked to : Asked) (lines : List Line) (n : ℕ) (cards : List (List ℕ)) → All IsControl cards → CardsLead asked cards to →
+controls-lead : (asked to : Asked) (lines : List ReadCard) (n : ℕ) (cards : List (List ℕ)) → All IsControl cards → CardsLead asked cards to →
     TextsLead (found_as true asked lines) n cards (found_as true to (lines ++ silent_lines n (length cards)))
 controls-lead asked to lines n [] marks leads =
-    ap (λ (ls : List Line). found_as true asked ls) (sym (append-nil lines))
+    ap (λ (ls : List ReadCard). found_as true asked ls) (sym (append-nil lines))
     ∙ ap (λ (a : Asked). found_as true a (lines ++ [])) leads
 controls-lead asked to lines n (card ∷ cards) marks leads =
-    let more : List Line = lines ++ is_silent n ∷ [] in
+    let more : List ReadCard = lines ++ silent_line n ∷ [] in
     let rest = controls-lead leads.0 to more (n + 1) cards (All-tail IsControl card cards marks) leads.2 in (
       found_as true leads.0 more,
       control-formed asked leads.0 lines n card (All-head IsControl card cards marks) leads.1,
-      subst (λ (ls : List Line). TextsLead (found_as true leads.0 more) (n + 1) cards (found_as true to ls))
-          (append_assoc lines (is_silent n ∷ []) (silent_lines (n + 1) (length cards))) rest,
+      subst (λ (ls : List ReadCard). TextsLead (found_as true leads.0 more) (n + 1) cards (found_as true to ls))
+          (append_assoc lines (silent_line n ∷ []) (silent_lines (n + 1) (length cards))) rest,
     )
 
 -- ---- the whole job
@@ -221,7 +222,7 @@ spoken-more : (n k : ℕ) (ss : List Statement) (s : Statement) → k ≡ n + le
 spoken-more n k [] s place =
     let same : n ≡ k = omega (arith, place) in ap (λ (j : ℕ). saying j None s ∷ []) same
 spoken-more n k (x ∷ xs) s place =
-    ap (λ (ls : List Line). saying n None x ∷ ls) (spoken-more (n + 1) k xs s (omega (arith, place)))
+    ap (λ (ls : List ReadCard). saying n None x ∷ ls) (spoken-more (n + 1) k xs s (omega (arith, place)))
 
 -- statements whose cards are short are short
 shorts : (texts rest : List (List ℕ)) → All IsCard (map statement_card texts ++ rest) → All IsShort texts
@@ -275,7 +276,7 @@ job-leads texts final controls before last asked is short =
     let size = length-append cards end in
     let k : ℕ = length before + 1 in
     let j : ℕ = length all + 1 in
-    let lines : List Line = spoken_lines 1 before ++ saying k None last ∷ [] in
+    let lines : List ReadCard = spoken_lines 1 before ++ saying k None last ∷ [] in
     let spoken : spoken_lines 1 all ≡ lines = spoken-more 1 k before last (omega arith) in
     let until = found_as false nothing_asked (spoken_lines 1 before) in
     let ended = found_as true nothing_asked lines in
@@ -286,7 +287,7 @@ job-leads texts final controls before last asked is short =
     let spoken_cards = leads-on found_at_start until ended 1 k cards end (omega (arith, count, cards_count)) one two in
     let whole = leads-on found_at_start ended to 1 j (cards ++ end) controls (omega (arith, count, cards_count, all_count, size)) spoken_cards three in
     let found : to ≡ found_in_job all (length controls) asked =
-    ap (λ (ls : List Line). found_as true asked (ls ++ silent_lines j (length controls))) (sym spoken) in
+    ap (λ (ls : List ReadCard). found_as true asked (ls ++ silent_lines j (length controls))) (sym spoken) in
     subst (λ (f : Found). TextsLead found_at_start 1 (job_cards texts final controls) f) found
     (subst (λ (cs : List (List ℕ)). TextsLead found_at_start 1 cs to) (sym whole_cards) whole)
 
@@ -295,12 +296,12 @@ pub job-formed : (texts : List (List ℕ)) (final : List ℕ) (controls : List (
     (asked : Asked) → IsJob texts final controls before last asked → All IsWritten (job_cards texts final controls) →
     All IsCard (job_cards texts final controls) →
     length (job_cards texts final controls) ≤ 20000 →
-    form_pass (deck_of (job_cards texts final controls)) (cards_of (deck_of (job_cards texts final controls)))
+    form_pass (text_of_lines (job_cards texts final controls)) (cards_of (text_of_lines (job_cards texts final controls)))
     ≡ Ok (found_in_job (before ++ last ∷ []) (length controls) asked)
 unfolding form_pass
 job-formed texts final controls before last asked is written short few =
     let lines = job_cards texts final controls in
-    let job = deck_of lines in
+    let job = text_of_lines lines in
     let cards = cards_of job in
     let found = found_in_job (before ++ last ∷ []) (length controls) asked in
     let passes = cards-pass job found_at_start found 1 lines cards (lines_cut lines written short few).each

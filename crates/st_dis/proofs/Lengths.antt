@@ -9,14 +9,14 @@ use Rattle.st_text.specs.Numerals.{half_address}
 use Rattle.st_bits.specs.Storage.{words_of_storage_is}
 use Rattle.st_card.specs.Controls.{Asked}
 use Rattle.st_card.specs.Limits.{IsWithinLimits}
-use Rattle.st_card.specs.Written.{control_line, IsShortControl}
+use Rattle.st_card.specs.Written.{control_line, IsShortControl, text_of_lines}
 use Rattle.st_card.specs.declared.written.Control.{Control}
 use Rattle.st_card.specs.declared.written.Control.TheVariants as asks
 use Rattle.st_card.specs.declared.written.ControlForm.TheVariants.{Card}
-use Rattle.st_card.proofs.EachControl.{OfEach, of_short, orders_all, shows_all}
+use Rattle.st_card.proofs.EachControl.{OfEach, of_short, controls_all}
 use Rattle.st_object.specs.Object.{Program, IsProgram, AreWords}
 use Rattle.st_dis.specs.Spelling.{number_text, statements_of}
-use Rattle.st_dis.specs.Deck.{statement_card, location_statement, location_cards, cards_of_word, word_cards, end_text, order_cards, show_cards, deck_cards, deck_of, deck_text, card_count}
+use Rattle.st_dis.specs.Deck.{statement_card, location_statement, location_cards, cards_of_word, word_cards, end_text, control_cards, deck_cards, deck_text, card_count}
 use Rattle.st_dis.proofs.Spelled.{statements-cases, says-short, whole_bits, half_bits}
 
 -- a statement has at most 63 characters, and a card at most 72
@@ -27,12 +27,12 @@ abbrev pub IsCard : List ℕ → Type 0
 IsCard card = length card ≤ 72
 
 -- cards, each with its line end
-pub deck_of-length : (cards : List (List ℕ)) → All IsCard cards → length (deck_of cards) ≤ 73 * length cards
-deck_of-length [] short = omega arith
-deck_of-length (card ∷ cards) short =
+pub text_of_lines-length : (cards : List (List ℕ)) → All IsCard cards → length (text_of_lines cards) ≤ 73 * length cards
+text_of_lines-length [] short = omega arith
+text_of_lines-length (card ∷ cards) short =
     let here : length card ≤ 72 = All-head IsCard card cards short in
-    let rest = deck_of-length cards (All-tail IsCard card cards short) in
-    let one = length-append (card ++ lf) (deck_of cards) in
+    let rest = text_of_lines-length cards (All-tail IsCard card cards short) in
+    let one = length-append (card ++ lf) (text_of_lines cards) in
     let end = length-append card lf in
     omega (arith, here, rest, one, end)
 
@@ -141,11 +141,8 @@ card-short (asks.Back n) short = labelled_card (codes "/BACK ") n (omega arith) 
 cards-short : (a : Asked) → IsWithinLimits a → OfEach (λ c. IsCard (control_line Card c)) a
 cards-short a limits = of_short (λ c. IsCard (control_line Card c)) card-short a limits
 
-pub order_cards-short : (a : Asked) → IsWithinLimits a → All IsCard (order_cards a)
-order_cards-short a limits = orders_all IsCard (λ c. control_line Card c) a (cards-short a limits)
-
-pub show_cards-short : (a : Asked) → IsWithinLimits a → All IsCard (show_cards a)
-show_cards-short a limits = shows_all IsCard (λ c. control_line Card c) a (cards-short a limits)
+pub control_cards-short : (a : Asked) → IsWithinLimits a → All IsCard (control_cards a)
+control_cards-short a limits = controls_all IsCard (λ c. control_line Card c) a (cards-short a limits)
 
 -- each card of a deck has at most 72 characters
 pub deck_cards-short : (p : Program) → IsProgram p → AreWords p.words → All IsCard (deck_cards p)
@@ -155,12 +152,11 @@ deck_cards-short p is words =
     let end = All-cons IsCard (statement_card (end_text p.start)) []
     (statement_card-short (end_text p.start) (end_text-short p.start is.start)) (All-nil IsCard) in
     let program = All-append IsCard (word_cards 0 0 p.words) _ (word_cards-short 0 0 p.words few words) end in
-    let orders = All-append IsCard _ (order_cards p.controls) program (order_cards-short p.controls is.limits) in
-    All-append IsCard _ (show_cards p.controls) orders (show_cards-short p.controls is.limits)
+    All-append IsCard _ (control_cards p.controls) program (control_cards-short p.controls is.limits)
 
 -- a deck that is not too long has at most 2,000,000 bytes
 pub deck_text-short : (p : Program) → IsProgram p → AreWords p.words → card_count p ≤ 20000 → length (deck_text p) ≤ 2000000
 unfolding deck_text card_count
 deck_text-short p is words few =
-    let long = deck_of-length (deck_cards p) (deck_cards-short p is words) in
+    let long = text_of_lines-length (deck_cards p) (deck_cards-short p is words) in
     omega (arith, few, long)

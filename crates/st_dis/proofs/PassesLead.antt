@@ -7,16 +7,16 @@ use Rattle.st_bits.specs.Storage.{words_of_storage}
 use Rattle.st_strap.specs.Statements.{Statement}
 use Rattle.st_object.specs.Object.{Program, IsProgram, AreWords}
 use Rattle.st_asm.specs.Pass.{pass, onward, unless_faulty}
-use Rattle.st_asm.specs.Lines.{is_silent, saying}
+use Rattle.st_asm.specs.Lines.{silent_line, saying}
 use Rattle.st_asm.specs.Symbols.{table, accepts_all, has_name, is_defined, names_of}
 use Rattle.st_asm.specs.Values.{values_of}
-use Rattle.st_asm.specs.Places.{role_of, length_in, needs_earlier}
+use Rattle.st_asm.specs.Places.{placing_of, length_in, needs_earlier}
 use Rattle.st_asm.specs.Naming.{Named, naming_at_start, is_statement_earlier, name_fault, name_step, name_card, name_pass}
 use Rattle.st_asm.specs.Forming.{is_end}
 use Rattle.st_asm.specs.Laying.{half_word_bits, bits_of}
 use Rattle.st_asm.specs.Valuing.{Laid, with_laid, value_statement, value_card, value_pass}
 use Rattle.st_asm.specs.declared.valuing.Listed.{Listed}
-use Rattle.st_dis.proofs.Said.{Line, deck_statements, AreRead, spoken_lines, silent_lines}
+use Rattle.st_dis.proofs.Said.{ReadCard, deck_statements, AreRead, spoken_lines, silent_lines}
 use Rattle.st_dis.proofs.StatementSteps.{Stand, stand, Steps, place_at}
 use Rattle.st_dis.proofs.WordsLead.{Leads, deck-leads}
 
@@ -28,7 +28,7 @@ abbrev pub laid_at : Stand → List Listed → Laid
 laid_at here rows = record { image = here.image; start = here.start; rows = rows }
 
 -- both go from a stand to another over lines
-pub record Passed (lines : List Line) (here there : Stand) : Type 0 where
+pub record Passed (lines : List ReadCard) (here there : Stand) : Type 0 where
   pub places : List (Option ℕ)
   pub names : (before : List (Option ℕ)) → pass (name_card (has_name [])) (λ line. line.card) (named_at here before) lines
       ≡ Ok (named_at there (before ++ places))
@@ -38,7 +38,7 @@ pub record Passed (lines : List Line) (here there : Stand) : Type 0 where
 
 -- a card without a name that says a statement
 earlier : (s : Statement) → accepts_all (is_defined []) s ≡ true → is_statement_earlier [] s ≡ true
-earlier s known = by_role (needs_earlier (role_of s))
+earlier s known = by_role (needs_earlier (placing_of s))
   where
     by_role : (b : Bool) → (if b then accepts_all (is_defined []) s else true) ≡ true
     by_role true = known
@@ -73,7 +73,7 @@ row_at here n s = record {
   card = n;
   location = place_at here s;
   bits = bits_of s (values_of [] s);
-  length = length_in (role_of s);
+  length = length_in (placing_of s);
 }
 
 spoken-laid : (here there : Stand) (rows : List Listed) (n : ℕ) (s : Statement) → Steps s here there →
@@ -87,12 +87,12 @@ spoken-laid here there rows n s steps =
 
 -- a card that says nothing
 silent-named : (here : Stand) (places : List (Option ℕ)) (n : ℕ) →
-    name_card (has_name []) (named_at here places) (is_silent n) ≡ Ok (named_at here (places ++ None ∷ []))
+    name_card (has_name []) (named_at here places) (silent_line n) ≡ Ok (named_at here (places ++ None ∷ []))
 unfolding name_card name_fault name_step
 silent-named here places n = refl
 
 silent-laid : (here : Stand) (rows : List Listed) (n : ℕ) →
-    value_card [] (laid_at here rows) (is_silent n, None)
+    value_card [] (laid_at here rows) (silent_line n, None)
     ≡ Ok (laid_at here (rows ++ record { card = n; location = None; bits = 0; length = 0 } ∷ []))
 unfolding value_card
 silent-laid here rows n = refl
@@ -106,7 +106,7 @@ none-passed here = record {
   values = λ before. ap (λ k. Ok (laid_at here k)) (sym (append-nil before));
 }
 
-more-passed : (line : Line) (lines : List Line) (here next there : Stand) (place : Option ℕ) (row : Listed) →
+more-passed : (line : ReadCard) (lines : List ReadCard) (here next there : Stand) (place : Option ℕ) (row : Listed) →
     ((before : List (Option ℕ)) → name_card (has_name []) (named_at here before) line ≡ Ok (named_at next (before ++ place ∷ []))) →
     ((before : List Listed) → value_card [] (laid_at here before) (line, place) ≡ Ok (laid_at next (before ++ row ∷ []))) →
     Passed lines next there → Passed (line ∷ lines) here there
@@ -124,10 +124,10 @@ more-passed line lines here next there place row named laid rest = record {
 silent-passed : (n k : ℕ) (here : Stand) → Passed (silent_lines n k) here here
 silent-passed n zero here = none-passed here
 silent-passed n (suc k) here =
-    more-passed (is_silent n) (silent_lines (n + 1) k) here here here None (record { card = n; location = None; bits = 0; length = 0 })
+    more-passed (silent_line n) (silent_lines (n + 1) k) here here here None (record { card = n; location = None; bits = 0; length = 0 })
     (λ before. silent-named here before n) (λ before. silent-laid here before n) (silent-passed (n + 1) k here)
 
-spoken-passed : (n : ℕ) (ss : List Statement) (rest : List Line) (here next there : Stand) → Leads ss here next →
+spoken-passed : (n : ℕ) (ss : List Statement) (rest : List ReadCard) (here next there : Stand) → Leads ss here next →
     Passed rest next there → Passed (spoken_lines n ss ++ rest) here there
 spoken-passed n [] rest here next there same passed = subst (λ k. Passed rest k there) (sym same) passed
 spoken-passed n (s ∷ ss) rest here next there lead passed =
@@ -141,13 +141,13 @@ unfolding names_of
 silent-nameless n zero = refl
 silent-nameless n (suc k) = silent-nameless (n + 1) k
 
-nameless : (n : ℕ) (ss : List Statement) (rest : List Line) → names_of rest ≡ [] → names_of (spoken_lines n ss ++ rest) ≡ []
+nameless : (n : ℕ) (ss : List Statement) (rest : List ReadCard) → names_of rest ≡ [] → names_of (spoken_lines n ss ++ rest) ≡ []
 unfolding names_of
 nameless n [] rest none = none
 nameless n (s ∷ ss) rest none = nameless (n + 1) ss rest none
 
 -- lines pass the name pass and the value pass, and give these words and this start
-pub record GivesProgram (lines : List Line) (words : List ℕ) (start : ℕ) : Type 0 where
+pub record GivesProgram (lines : List ReadCard) (words : List ℕ) (start : ℕ) : Type 0 where
   pub named : Named
   pub names : name_pass lines ≡ Ok named
   pub no_symbols : named.symbols ≡ []
@@ -156,7 +156,7 @@ pub record GivesProgram (lines : List Line) (words : List ℕ) (start : ℕ) : T
   pub image : laid.image ≡ words
   pub begins : laid.start ≡ start
 
-passed-gives : (lines : List Line) (words : List ℕ) (start behind : ℕ) → names_of lines ≡ [] →
+passed-gives : (lines : List ReadCard) (words : List ℕ) (start behind : ℕ) → names_of lines ≡ [] →
     Passed lines (stand 2048 (replicate words_of_storage 0) 0) (stand behind words start) → GivesProgram lines words start
 unfolding name_pass value_pass
 passed-gives lines words start behind none passed =

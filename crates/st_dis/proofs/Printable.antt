@@ -25,16 +25,16 @@ use Rattle.st_object.proofs.ReadBack.{parted_line}
 use Rattle.st_text.specs.Numerals.{bit_address, half_address, flag, place}
 use Rattle.st_object.specs.Object.{Program}
 use Rattle.st_card.specs.Controls.{Asked}
-use Rattle.st_card.specs.Written.{control_line}
+use Rattle.st_card.specs.Written.{control_line, text_of_lines}
 use Rattle.st_card.specs.declared.written.Control.{Control}
 use Rattle.st_card.specs.declared.written.Control.TheVariants as asks
 use Rattle.st_card.specs.declared.written.ControlForm.TheVariants.{Card}
-use Rattle.st_card.proofs.EachControl.{OfEach, of_any, orders_all, shows_all}
+use Rattle.st_card.proofs.EachControl.{OfEach, of_any, controls_all}
 use Rattle.st_asm.specs.declared.alone.LaidBits.{LaidBits}
 use Rattle.st_dis.specs.Names.{half_name, branch_name, field_name, negation, kind_name, truth_digits, move_name, changes, change_name, turning, order_name, mode_name, forms, form_name}
 use Rattle.st_dis.specs.Texts.{index_field_text, index_part_text, half_field, bit_field, second_field, number_field, offset_field, has_index, listed_fields, half_text, branch_text, description, operand_text, instruction_text}
 use Rattle.st_dis.specs.Spelling.{says, spelling_of, word_spelling, half_spelling, number_text, statements_by, statements_of}
-use Rattle.st_dis.specs.Deck.{statement_card, location_statement, location_cards, cards_of_word, word_cards, end_text, order_cards, show_cards, deck_cards, deck_of, deck_text}
+use Rattle.st_dis.specs.Deck.{statement_card, location_statement, location_cards, cards_of_word, word_cards, end_text, control_cards, deck_cards, deck_text}
 
 -- a text of blanks and visible characters
 abbrev pub IsPlain : List ℕ → Type 0
@@ -414,11 +414,8 @@ card_written (asks.Back n) = control_plain (codes "BACK " ++ decimal n) (join (c
 cards_written : (a : Asked) → OfEach (λ c. IsWritten (control_line Card c)) a
 cards_written a = of_any (λ c. IsWritten (control_line Card c)) card_written a
 
-pub orders_plain : (a : Asked) → All IsWritten (order_cards a)
-orders_plain a = orders_all IsWritten (λ c. control_line Card c) a (cards_written a)
-
-pub shows_plain : (a : Asked) → All IsWritten (show_cards a)
-shows_plain a = shows_all IsWritten (λ c. control_line Card c) a (cards_written a)
+pub controls_plain : (a : Asked) → All IsWritten (control_cards a)
+controls_plain a = controls_all IsWritten (λ c. control_line Card c) a (cards_written a)
 
 -- the cards of a deck
 pub deck_written : (p : Program) → All IsWritten (deck_cards p)
@@ -426,12 +423,10 @@ deck_written p =
     let words = word_cards 0 0 p.words in
     let end : List (List ℕ) = statement_card (end_text p.start) ∷ [] in
     let a = p.controls in
-    All-append IsWritten (words ++ end ++ order_cards a) (show_cards a)
-    (All-append IsWritten (words ++ end) (order_cards a)
+    All-append IsWritten (words ++ end) (control_cards a)
     (All-append IsWritten words end (word_cards_plain 0 0 p.words)
     (only (statement_card (end_text p.start)) (card_plain (end_text p.start) (join (codes "END,") (half_address p.start) refl (half_address_plain p.start)))))
-    (orders_plain a))
-    (shows_plain a)
+    (controls_plain a)
 
 -- each of them is printable
 plain_ones : (cards : List (List ℕ)) → All IsWritten cards → All IsPlain cards
@@ -451,11 +446,11 @@ lacking (c ∷ cs) p =
     let other : not (c == 10) ≡ true = grind (arith, nat_tests, parts.0) in
     and_from (not (c == 10)) (lacks 10 cs) other (lacking cs parts.1)
 
-pub pieces : (cards : List (List ℕ)) → All IsWritten cards → pieces_of 10 (deck_of cards) ≡ cards ++ [] ∷ []
+pub pieces : (cards : List (List ℕ)) → All IsWritten cards → pieces_of 10 (text_of_lines cards) ≡ cards ++ [] ∷ []
 pieces [] p = refl
 pieces (card ∷ cards) p =
-    ap (λ (s : List ℕ). pieces_of 10 s) (append_assoc card (10 ∷ []) (deck_of cards))
-    ∙ (parted_line card (deck_of cards) (lacking card (All-head IsWritten card cards p).plain)
+    ap (λ (s : List ℕ). pieces_of 10 s) (append_assoc card (10 ∷ []) (text_of_lines cards))
+    ∙ (parted_line card (text_of_lines cards) (lacking card (All-head IsWritten card cards p).plain)
     ∙ ap (λ (more : List (List ℕ)). card ∷ more) (pieces cards (All-tail IsWritten card cards p)))
 
 -- the pieces of a deck between its line ends are its cards

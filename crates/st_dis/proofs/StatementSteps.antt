@@ -12,7 +12,7 @@ use Rattle.st_strap.specs.declared.statement.Statement.TheVariants.{Half, Sum, R
 use Rattle.st_asm.specs.Forming.{is_end}
 use Rattle.st_asm.specs.Symbols.{accepts_all, is_defined}
 use Rattle.st_asm.specs.Values.{values_of, value_modulo}
-use Rattle.st_asm.specs.Places.{role_of, length_in, next_multiple, place_in, behind_in}
+use Rattle.st_asm.specs.Places.{placing_of, length_in, next_multiple, place_in, behind_in}
 use Rattle.st_asm.specs.Naming.{naming_at_start, place_of_statement, behind_statement}
 use Rattle.st_asm.specs.Checks.{in_range, fits, on_boundary, extent, in_storage, value_fault}
 use Rattle.st_asm.specs.Laying.{half_word_bits, bits_of}
@@ -43,14 +43,14 @@ pub record Steps (s : Statement) (here there : Stand) : Type 0 where
   pub known : accepts_all (is_defined []) s ≡ true
   pub faultless : value_fault s (values_of [] s) (unwrap_or (place_at here s) 0) ≡ None
   pub location : behind_statement [] here.location s ≡ there.location
-  pub image : image_with here.image (unwrap_or (place_at here s) 0) (length_in (role_of s)) (bits_of s (values_of [] s)) ≡ there.image
+  pub image : image_with here.image (unwrap_or (place_at here s) 0) (length_in (placing_of s)) (bits_of s (values_of [] s)) ≡ there.image
   pub start : (if is_end s then half_word_bits (values_of [] s).first else here.start) ≡ there.start
 
 -- what a statement is that lays bits by itself
 record LaysAlone (s : Statement) (wanted : LaidBits) : Type 0 where
   known : accepts_all (is_defined []) s ≡ true
   faultless : value_fault s (values_of [] s) naming_at_start.location ≡ None
-  laid : record { length = length_in (role_of s); bits = bits_of s (values_of [] s) } ≡ wanted
+  laid : record { length = length_in (placing_of s); bits = bits_of s (values_of [] s) } ≡ wanted
 
 both_hold : (b c : Bool) (x y : LaidBits) → (if b then (if c then Some x else None) else None) ≡ Some y →
     (b ≡ true) × (c ≡ true) × (x ≡ y)
@@ -69,7 +69,7 @@ lays-alone t s wanted read lays =
     let here : laid_by [] s ≡ Some wanted = sym (ap (λ r. laid_if_read [] r) read) ∙ lays in
     let fault = value_fault s (values_of [] s) naming_at_start.location in
     let parts = both_hold (accepts_all (is_defined []) s) (is_none fault)
-    (record { length = length_in (role_of s); bits = bits_of s (values_of [] s) }) wanted here in
+    (record { length = length_in (placing_of s); bits = bits_of s (values_of [] s) }) wanted here in
     record { known = parts.0; faultless = is-none fault parts.1; laid = parts.2 }
 
 -- a place where n bits may be laid
@@ -113,13 +113,13 @@ second-place w above small = record {
 
 -- what n bits at such a place do to the location
 record GoesOn (s : Statement) (n a : ℕ) (v : ℤ) : Type 0 where
-  place : place_in (role_of s) a v ≡ Some a
-  behind : behind_in (role_of s) a v ≡ a + n
-  long : extent (role_of s) v ≡ n
+  place : place_in (placing_of s) a v ≡ Some a
+  behind : behind_in (placing_of s) a v ≡ a + n
+  long : extent (placing_of s) v ≡ n
   no_end : is_end s ≡ false
 
-lays-on : (s : Statement) (u m n a : ℕ) (v : ℤ) → place_in (role_of s) a v ≡ Some (next_multiple u a) →
-    behind_in (role_of s) a v ≡ (next_multiple u a + m) % 2 ^ 24 → extent (role_of s) v ≡ m → is_end s ≡ false → m ≡ n → next_multiple u a ≡ a →
+lays-on : (s : Statement) (u m n a : ℕ) (v : ℤ) → place_in (placing_of s) a v ≡ Some (next_multiple u a) →
+    behind_in (placing_of s) a v ≡ (next_multiple u a + m) % 2 ^ 24 → extent (placing_of s) v ≡ m → is_end s ≡ false → m ≡ n → next_multiple u a ≡ a →
     IsPlace n a → GoesOn s n a v
 lays-on s u m n a v place behind long no_end same on is =
     let room = is.room in
@@ -131,7 +131,7 @@ lays-on s u m n a v place behind long no_end same on is =
       no_end = no_end;
     }
 
-goes-on : (s : Statement) (n a : ℕ) (v : ℤ) → length_in (role_of s) ≡ n → IsPlace n a → GoesOn s n a v
+goes-on : (s : Statement) (n a : ℕ) (v : ℤ) → length_in (placing_of s) ≡ n → IsPlace n a → GoesOn s n a v
 goes-on (Half op j at) n a v long is = lays-on (Half op j at) 32 32 n a v refl refl refl refl long is.half is
 goes-on (Sum j listed) n a v long is = lays-on (Sum j listed) 32 32 n a v refl refl refl refl long is.half is
 goes-on (Refill j) n a v long is = lays-on (Refill j) 32 32 n a v refl refl refl refl long is.half is
@@ -165,11 +165,11 @@ fourth_test false false true p q f g h i none is = let no : ⊥ = cc in absurd n
 fourth_test false false false p q f g h i none is = ap (λ b. if b then Some i else None) is
 
 pub faultless-elsewhere : (s : Statement) (v : Values) (a b : ℕ) → value_fault s v a ≡ None →
-    in_storage b (extent (role_of s) v.first) ≡ true → value_fault s v b ≡ None
+    in_storage b (extent (placing_of s) v.first) ≡ true → value_fault s v b ≡ None
 unfolding value_fault
 faultless-elsewhere s v a b none there =
-    fourth_test (not (in_range s v)) (not (fits s v)) (not (on_boundary s v)) (not (in_storage a (extent (role_of s) v.first)))
-    (not (in_storage b (extent (role_of s) v.first))) AddressOutOfRange ValueDoesNotFit NotOnABoundary LocationOutOfStorage
+    fourth_test (not (in_range s v)) (not (fits s v)) (not (on_boundary s v)) (not (in_storage a (extent (placing_of s) v.first)))
+    (not (in_storage b (extent (placing_of s) v.first))) AddressOutOfRange ValueDoesNotFit NotOnABoundary LocationOutOfStorage
     none (ap not there)
 
 or_true : (a b : Bool) → b ≡ true → (a || b) ≡ true
@@ -189,18 +189,18 @@ pub lays-steps : (t : List ℕ) (s : Statement) (n bits a start : ℕ) (old new 
     Steps s (stand a old start) (stand (a + n) new start)
 lays-steps t s n bits a start old new read lays is image =
     let alone = lays-alone t s (record { length = n; bits = bits }) read lays in
-    let long : length_in (role_of s) ≡ n = ap (λ (l : LaidBits). l.length) alone.laid in
+    let long : length_in (placing_of s) ≡ n = ap (λ (l : LaidBits). l.length) alone.laid in
     let number : bits_of s (values_of [] s) ≡ bits = ap (λ (l : LaidBits). l.bits) alone.laid in
     let v = (values_of [] s).first in
     let on = goes-on s n a v long is in
-    let place : unwrap_or (place_in (role_of s) a v) 0 ≡ a = ap (λ o. unwrap_or o 0) on.place in
-    let inside : in_storage (unwrap_or (place_in (role_of s) a v) 0) (extent (role_of s) v) ≡ true =
-    ap (λ k. in_storage k (extent (role_of s) v)) place ∙ (ap (λ k. in_storage a k) on.long ∙ in-storage a n is.behind is.room) in
+    let place : unwrap_or (place_in (placing_of s) a v) 0 ≡ a = ap (λ o. unwrap_or o 0) on.place in
+    let inside : in_storage (unwrap_or (place_in (placing_of s) a v) 0) (extent (placing_of s) v) ≡ true =
+    ap (λ k. in_storage k (extent (placing_of s) v)) place ∙ (ap (λ k. in_storage a k) on.long ∙ in-storage a n is.behind is.room) in
     record {
       known = alone.known;
-      faultless = faultless-elsewhere s (values_of [] s) naming_at_start.location (unwrap_or (place_in (role_of s) a v) 0) alone.faultless inside;
+      faultless = faultless-elsewhere s (values_of [] s) naming_at_start.location (unwrap_or (place_in (placing_of s) a v) 0) alone.faultless inside;
       location = on.behind;
-      image = ap (λ k. image_with old k (length_in (role_of s)) (bits_of s (values_of [] s))) place
+      image = ap (λ k. image_with old k (length_in (placing_of s)) (bits_of s (values_of [] s))) place
           ∙ (ap (λ k. image_with old a k (bits_of s (values_of [] s))) long ∙ (ap (λ k. image_with old a n k) number ∙ image));
       start = ap (λ b. if b then half_word_bits v else start) on.no_end;
     }

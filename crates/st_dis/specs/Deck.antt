@@ -2,7 +2,7 @@
 use Rattle.std.specs.Prelude.{ℕ, ◌+◌, ◌==◌, List, [], ◌∷◌, ◌++◌, length, map, replicate, codes, decimal, if◌then◌else◌}
 use Rattle.st_text.specs.Numerals.{half_address}
 use Rattle.st_card.specs.Controls.{Asked}
-use Rattle.st_card.specs.Written.{control_line, text_of_lines, orders, shows}
+use Rattle.st_card.specs.Written.{control_line, text_of_lines, controls_made}
 use Rattle.st_card.specs.declared.written.ControlForm.TheVariants.{Card}
 use Rattle.st_object.specs.Object.{Program}
 use Rattle.st_dis.specs.Spelling.{statements_of}
@@ -37,27 +37,18 @@ word_cards w before (x ∷ xs) = cards_of_word w before x ++ word_cards (w + 1) 
 abbrev pub end_text : ℕ → List ℕ
 end_text start = codes "END," ++ half_address start
 
--- the control cards up to those for parts of storage
-abbrev pub order_cards : Asked → List (List ℕ)
-order_cards a = orders (control_line Card) a
-
--- those for what is to be shown
-abbrev pub show_cards : Asked → List (List ℕ)
-show_cards a = shows (control_line Card) a
+-- the control cards
+abbrev pub control_cards : Asked → List (List ℕ)
+control_cards a = controls_made (control_line Card) a
 
 -- the cards of a program
 abbrev pub deck_cards : Program → List (List ℕ)
 deck_cards p =
-    word_cards 0 0 p.words ++ statement_card (end_text p.start) ∷ [] ++ order_cards p.controls
-    ++ show_cards p.controls
-
--- cards, each with its line end
-abbrev pub deck_of : List (List ℕ) → List ℕ
-deck_of cards = text_of_lines cards
+    word_cards 0 0 p.words ++ statement_card (end_text p.start) ∷ [] ++ control_cards p.controls
 
 -- the deck of a program
 unfoldable pub deck_text : Program → List ℕ
-deck_text p = deck_of (deck_cards p)
+deck_text p = text_of_lines (deck_cards p)
 
 -- how many cards it has
 unfoldable pub card_count : Program → ℕ

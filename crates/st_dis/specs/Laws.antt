@@ -11,7 +11,7 @@ use Rattle.st_strap.specs.Saying.{statement_of}
 use Rattle.st_strap.specs.declared.statement.Statement.TheVariants.{SetLocation, End}
 use Rattle.st_asm.specs.Assembly.{Assembly, assembly}
 use Rattle.st_object.specs.Object.{Program, IsProgram, AreWords}
-use Rattle.st_dis.specs.Deck.{location_statement, end_text, order_cards, show_cards, deck_cards, deck_text, card_count}
+use Rattle.st_dis.specs.Deck.{location_statement, end_text, control_cards, deck_cards, deck_text, card_count}
 use Rattle.st_dis.specs.Spelling.{statements_of}
 use Rattle.st_dis.specs.Read.{bits_of_length, laid_together, CardsLead}
 
@@ -33,7 +33,7 @@ pub record PlacesComeBack : Type 0 where
 -- asks for.
 abbrev pub ControlsComeBack : Type 0
 ControlsComeBack = (asked : Asked) → IsWithinLimits asked → 1 ≤ asked.budget → asked.list ≡ false →
-    CardsLead nothing_asked (order_cards asked ++ show_cards asked) asked
+    CardsLead nothing_asked (control_cards asked) asked
 
 -- The cards of a deck have nothing but blanks and visible characters of ASCII, and they are the
 -- pieces of its text between its line ends.

@@ -3,7 +3,9 @@
 ghost use Rattle.std.specs.Prelude.{◌≡◌, ◌≤◌, ◌+◌, ◌*◌, ℕ, List, [], length, if◌then◌else◌};
 ghost use Rattle.st_bits.specs.declared.limits.TheConstants.{WORDS};
 ghost use Rattle.st_card.specs.Limits.{IsWithinLimits};
-ghost use Rattle.st_card.specs.Written.{where_asked};
+ghost use Rattle.st_card.specs.Written.{where_asked, control_line, orders, shows};
+ghost use Rattle.st_card.specs.declared.written.ControlForm.TheVariants.{Card};
+ghost use Rattle.st_object.specs.Object.{AreWords};
 ghost use Rattle.st_dis.specs.Deck as spec;
 ghost use Rattle.st_dis.specs.Spelling.{statements_of};
 
@@ -62,7 +64,7 @@ fn count_words(symbols: &Symbols, words: &[u64]) -> u32
 // How many control cards there are up to those for parts of storage.
 fn count_orders(controls: &Controls) -> u32
     requires { IsWithinLimits controls.now }
-    ensures count { result ≡ length (spec.order_cards controls.now) }
+    ensures count { result ≡ length (orders (control_line Card) controls.now) }
     ensures few { result ≤ 9000 }
 {
     let delays = controls.delays.len() as u32;
@@ -81,7 +83,7 @@ fn count_mark(asked: bool) -> u32
 // How many control cards there are for what is to be shown.
 fn count_shows(controls: &Controls) -> u32
     requires { IsWithinLimits controls.now }
-    ensures count { result ≡ length (spec.show_cards controls.now) }
+    ensures count { result ≡ length (shows (control_line Card) controls.now) }
     ensures few { result ≤ 100 }
 {
     let marks = count_mark(controls.trace) + count_mark(controls.time) + count_mark(controls.chart);
@@ -94,7 +96,10 @@ pub(crate) fn card_count(symbols: &Symbols, words: &[u64], start: u32, controls:
     requires symbols { symbols.now ≡ [] }
     requires few { length words.now ≤ WORDS }
     requires limits { IsWithinLimits controls.now }
-    ensures { result ≡ spec.card_count (spec.program words.now start controls.now) }
+    ensures count { result ≡ spec.card_count (spec.program words.now start controls.now) }
+
+    // Each word has 64 bits.
+    ensures words { AreWords words.now }
 {
     count_words(symbols, words) + 1 + count_orders(controls) + count_shows(controls)
 }

@@ -2,7 +2,7 @@
 
 ghost use Rattle.std.specs.Prelude.{◌≡◌, ◌≤◌, IfOk, IfErr, length};
 ghost use Rattle.st_bits.specs.declared.limits.TheConstants.{LONGEST_JOB, MOST_CARDS};
-ghost use Rattle.st_object.specs.Object.{IsProgram, AreWords};
+ghost use Rattle.st_object.specs.Object.{IsProgram};
 ghost use Rattle.st_dis.specs.Deck.{program, deck_text, card_count};
 ghost use Rattle.st_dis.specs.Answers.{Explains};
 
@@ -43,7 +43,6 @@ pub fn disassemble(
     ensures err { IfErr result (Explains (program words.now start controls.now)) }
     ensures short { IfOk result (λ deck. length deck.items ≤ LONGEST_JOB) }
 {
-    know_words(words);
     let symbols = Symbols::new(alloc);
     let cards = card_count(&symbols, words, start, controls);
     if cards > MOST_CARDS {
@@ -55,8 +54,3 @@ pub fn disassemble(
         Err(_) => Err(DisError::NoMemory),
     }
 }
-
-// Makes known that each word has 64 bits.
-fn know_words(words: &[u64])
-    ensures { AreWords words.now }
-{}

@@ -2,11 +2,12 @@
 
 ghost use Rattle.std.specs.Prelude.{◌≡◌, ◌≤◌, ◌++◌, [], ◌∷◌, OnOk, map, codes, decimal, length};
 ghost use Rattle.st_bits.specs.declared.limits.TheConstants.{WORDS};
+ghost use Rattle.st_card.specs.Written.{text_of_lines};
 ghost use Rattle.st_dis.specs.Deck as spec;
 ghost use Rattle.st_dis.specs.Spelling.{statements_of};
 
 use crate::spelling::{half_spelling, left_half, right_half, word_spelling};
-use st_card::{ControlForm, Controls, push_orders, push_shows};
+use st_card::{ControlForm, Controls, push_controls};
 use st_expr::Symbols;
 use st_text::{Line, begun, push_decimal, push_half_address, push_short_decimal};
 use std::alloc::AllocError;
@@ -16,7 +17,7 @@ const BLANKS: &[u8] = b"         ";
 
 // Appends a card.
 fn push_card(deck: &mut Vec<u8>, card: &[u8]) -> Result<(), AllocError>
-    ensures { OnOk result (deck.new.items ≡ deck.old.items ++ spec.deck_of (card.now ∷ [])) }
+    ensures { OnOk result (deck.new.items ≡ deck.old.items ++ text_of_lines (card.now ∷ [])) }
 {
     deck.extend_from_slice(card)?;
     deck.extend_from_slice(b"\n")
@@ -25,7 +26,7 @@ fn push_card(deck: &mut Vec<u8>, card: &[u8]) -> Result<(), AllocError>
 // Appends a statement card.
 fn push_statement(deck: &mut Vec<u8>, text: &Line) -> Result<(), AllocError>
     ensures { OnOk result (deck.new.items
-        ≡ deck.old.items ++ spec.deck_of (spec.statement_card text.now.bytes ∷ [])) }
+        ≡ deck.old.items ++ text_of_lines (spec.statement_card text.now.bytes ∷ [])) }
 {
     deck.extend_from_slice(BLANKS)?;
     push_card(deck, text.as_str().as_bytes())
@@ -44,7 +45,7 @@ fn number_text(word: u64) -> Line
 fn push_statements(deck: &mut Vec<u8>, symbols: &Symbols, word: u64) -> Result<(), AllocError>
     requires { symbols.now ≡ [] }
     ensures { OnOk result (deck.new.items
-        ≡ deck.old.items ++ spec.deck_of (map spec.statement_card (statements_of word))) }
+        ≡ deck.old.items ++ text_of_lines (map spec.statement_card (statements_of word))) }
 {
     let left = left_half(word);
     let right = right_half(word);
@@ -63,7 +64,7 @@ fn push_statements(deck: &mut Vec<u8>, symbols: &Symbols, word: u64) -> Result<(
 // Appends a card that sets the location to a word, where the word before is zero.
 fn push_location(deck: &mut Vec<u8>, w: u32, before: u64) -> Result<(), AllocError>
     ensures { OnOk result (deck.new.items
-        ≡ deck.old.items ++ spec.deck_of (spec.location_cards w before)) }
+        ≡ deck.old.items ++ text_of_lines (spec.location_cards w before)) }
 {
     if before != 0 {
         return Ok(());
@@ -84,7 +85,7 @@ fn push_placed(
 ) -> Result<(), AllocError>
     requires { symbols.now ≡ [] }
     ensures { OnOk result (deck.new.items
-        ≡ deck.old.items ++ spec.deck_of (spec.cards_of_word w before word)) }
+        ≡ deck.old.items ++ text_of_lines (spec.cards_of_word w before word)) }
 {
     if word == 0 {
         return Ok(());
@@ -98,7 +99,7 @@ fn push_words(deck: &mut Vec<u8>, symbols: &Symbols, words: &[u64]) -> Result<()
     requires symbols { symbols.now ≡ [] }
     requires few { length words.now ≤ WORDS }
     ensures { OnOk result (deck.new.items
-        ≡ deck.old.items ++ spec.deck_of (spec.word_cards 0 0 words.now)) }
+        ≡ deck.old.items ++ text_of_lines (spec.word_cards 0 0 words.now)) }
 {
     let mut w = 0;
     let mut before = 0;
@@ -115,7 +116,7 @@ fn push_words(deck: &mut Vec<u8>, symbols: &Symbols, words: &[u64]) -> Result<()
 // Appends the end of the program.
 fn push_end(deck: &mut Vec<u8>, start: u32) -> Result<(), AllocError>
     ensures { OnOk result (deck.new.items
-        ≡ deck.old.items ++ spec.deck_of (spec.statement_card (spec.end_text start) ∷ [])) }
+        ≡ deck.old.items ++ text_of_lines (spec.statement_card (spec.end_text start) ∷ [])) }
 {
     let mut text = begun("END,");
     push_half_address(&mut text, start);
@@ -133,7 +134,7 @@ fn push_program(
     requires few { length words.now ≤ WORDS }
     ensures { let cards = spec.word_cards 0 0 words.now
         ++ spec.statement_card (spec.end_text start) ∷ [] in
-        OnOk result (deck.new.items ≡ deck.old.items ++ spec.deck_of cards) }
+        OnOk result (deck.new.items ≡ deck.old.items ++ text_of_lines cards) }
 {
     push_words(deck, symbols, words)?;
     push_end(deck, start)
@@ -153,6 +154,5 @@ pub(crate) fn push_deck(
         OnOk result (deck.new.items ≡ deck.old.items ++ spec.deck_text p) }
 {
     push_program(deck, symbols, words, start)?;
-    push_orders(deck, ControlForm::Card, controls)?;
-    push_shows(deck, ControlForm::Card, controls)
+    push_controls(deck, ControlForm::Card, controls)
 }

@@ -47,11 +47,11 @@ behind_statements [] = []
 behind_statements (card ∷ cards) =
     if has_statement (card ∷ cards) then behind_statements cards else card ∷ cards
 
--- what is read of the comment cards behind the last statement card
+-- what is read of the comment cards among cards
 unfoldable pub texts_in : List ℕ → List Card → List (List ℕ)
 texts_in job cards = map (λ card. card_words (text_in job card))
-    (filter (λ card. is_comment card.kind) (behind_statements cards))
+    (filter (λ card. is_comment card.kind) cards)
 
--- the cards that the reader holds of a job
+-- the cards that the reader holds of a job: the comment cards behind the last statement card
 unfoldable pub reader_cards : List ℕ → List (List ℕ)
-reader_cards job = texts_in job (cards_of job)
+reader_cards job = texts_in job (behind_statements (cards_of job))

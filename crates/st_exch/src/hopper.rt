@@ -1,8 +1,7 @@
 //! The cards that stand in the card reader.
 
-ghost use Rattle.std.specs.Prelude.{◌≡◌, ◌-◌, ◌^◌, ◌<◌, ◌≤◌, ℕ, List, [], ◌∷◌, ◌++◌, length, take, drop, MatchOption, IfOk, OnOk};
+ghost use Rattle.std.specs.Prelude.{◌≡◌, ◌^◌, ◌<◌, ◌≤◌, [], ◌∷◌, ◌++◌, length, MatchOption, IfOk, OnOk};
 ghost use Rattle.st_card.specs.Cards.{IsCardOf, cards_of};
-ghost use Rattle.st_card.specs.declared.cards.Card.{Card as CardRow};
 ghost use Rattle.st_exch.specs.Reader as spec;
 
 use st_bits::NoMemory;
@@ -80,10 +79,7 @@ impl Hopper {
 
 // The cards behind the last statement card. None of those before it is left to the reader.
 fn behind_statements(cards: &[Card]) -> &[Card]
-    ensures back { result.now ≡ drop (length cards.now - length result.now) cards.now }
-    ensures within { length result.now ≤ length cards.now }
-    ensures before { (job : List ℕ) →
-        spec.texts_in job (take (length cards.now - length result.now) cards.now) ≡ [] }
+    ensures { result.now ≡ spec.behind_statements cards.now }
 {
     let mut count = cards.len();
     'cards: while count > 0 {
@@ -105,18 +101,17 @@ fn is_statement(kind: CardKind) -> bool
     }
 }
 
-// Goes on by a card: a comment card waits behind the others, and a statement card takes them away.
+// Goes on by a card: a comment card waits behind the others.
+#[tactic(auto, unfolding(crate::specs::Reader::texts_in))]
 fn stack(waiting: &mut VecDeque<[u64; 8]>, job: &[u8], card: Card) -> Result<(), NoMemory>
     requires { IsCardOf job.now card }
-    ensures { (cards : List CardRow) → waiting.old.items ≡ spec.texts_in job.now cards
-        → OnOk result (waiting.new.items ≡ spec.texts_in job.now (cards ++ card ∷ [])) }
+    ensures { OnOk result
+        (waiting.new.items ≡ waiting.old.items ++ spec.texts_in job.now (card ∷ [])) }
 {
     match card.kind {
-        CardKind::Comment => push_card(waiting, card_words(card.text(job)))?,
-        CardKind::Control => {}
-        CardKind::Statement => waiting.clear(),
+        CardKind::Comment => push_card(waiting, card_words(card.text(job))),
+        CardKind::Control | CardKind::Statement => Ok(()),
     }
-    Ok(())
 }
 
 // Appends a card.

@@ -6,7 +6,7 @@ ghost use Rattle.st_text.specs.Bytes.{is_printable};
 ghost use Rattle.st_exch.specs.Printer as spec;
 
 use arrayvec::ArrayString;
-use st_text::drop_end_blanks;
+use st_text::{drop_end_blanks, is_printable_byte};
 
 /// The text that the printer prints of eight words: their 64 bytes, the leftmost first, with a
 /// blank in place of each byte outside 32 to 126, and without the blanks at the end. It may be
@@ -39,8 +39,5 @@ fn character(byte: u8) -> u8
     ensures value { result ≡ spec.character byte }
     ensures ascii { result < 128 }
 {
-    match byte {
-        b' '..=b'~' => byte,
-        _ => b' ',
-    }
+    if is_printable_byte(byte) { byte } else { b' ' }
 }

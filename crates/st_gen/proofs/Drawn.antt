@@ -1,17 +1,17 @@
 -- What holds of each kind of statement holds of those that are drawn.
 use Rattle.std.proofs.Common.{◌++◌, ℕ, List, codes}
-use Rattle.st_gen.specs.Deck.{index, word_statement, bit_statement, small_value, field_length, byte_field_length, field_operands, statement, form_after}
+use Rattle.st_gen.specs.Deck.{index, word_text, bit_text, small_value, field_length, byte_field_length, field_operands, statement, form_after}
 use Rattle.st_gen.specs.declared.form.StatementForm.{StatementForm}
 use Rattle.st_gen.specs.declared.form.StatementForm.TheVariants.{LoadValue, AddValue, LoadWord, Add, Store, AddOne, Connect, Multiply}
 
 -- it holds of the eight kinds of statement, whatever the letters are drawn after
 pub record HoldsOfEach (P : List ℕ → Type 0) : Type 0 where
-  pub load_value : (x : ℕ) → P (codes "LVI,$X" ++ index 1 x ++ codes "," ++ word_statement 2 x ++ codes ".0")
+  pub load_value : (x : ℕ) → P (codes "LVI,$X" ++ index 1 x ++ codes "," ++ word_text 2 x ++ codes ".0")
   pub add_value : (x : ℕ) → P (codes "V+I,$X" ++ index 1 x ++ codes "," ++ small_value 2 x ++ codes ".0")
-  pub load_word : (x : ℕ) → P (codes "L(BU,64)," ++ word_statement 1 x ++ codes ".0")
+  pub load_word : (x : ℕ) → P (codes "L(BU,64)," ++ word_text 1 x ++ codes ".0")
   pub add : (x : ℕ) → P (codes "+" ++ field_operands x)
   pub store : (x : ℕ) → P (codes "ST" ++ field_operands x)
-  pub add_one : (x : ℕ) → P (codes "M+1(B," ++ byte_field_length 1 x ++ codes ",8)," ++ word_statement 2 x ++ codes "." ++ bit_statement 3 x)
+  pub add_one : (x : ℕ) → P (codes "M+1(B," ++ byte_field_length 1 x ++ codes ",8)," ++ word_text 2 x ++ codes "." ++ bit_text 3 x)
   pub connect : (x : ℕ) → P (codes "C0110" ++ field_operands x)
   pub multiply : (x : ℕ) → P (codes "*(BU," ++ field_length 1 x ++ codes ")(V+I),0.32($X" ++ index 2 x ++ codes ")")
 

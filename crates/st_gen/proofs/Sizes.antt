@@ -3,7 +3,7 @@ use Rattle.std.proofs.Common.{◌≡◌, ◌≤◌, ◌<◌, ◌+◌, ◌*◌, �
 use Rattle.std.proofs.lemmas.Fmt.{length-decimal-le}
 use Rattle.std.specs.Prelude.{replicate}
 use Rattle.st_text.specs.Bytes.{blank, lf}
-use Rattle.st_gen.specs.Deck.{next_number, number_after, draw, below, index, word_statement, bit_statement, offset, field_length, byte_field_length, field_operands, statement, form_after, card, control, drawn_card, after_cards, drawn_cards, delay_card, delay_cards, closing_cards, made_deck}
+use Rattle.st_gen.specs.Deck.{next_number, number_after, draw, below, index, word_text, bit_text, field_length, byte_field_length, field_operands, statement, form_after, card, control, drawn_card, after_cards, drawn_cards, delay_card, delay_cards, closing_cards, made_deck}
 use Rattle.st_gen.specs.declared.form.StatementForm.{StatementForm}
 use Rattle.st_gen.specs.declared.form.StatementForm.TheVariants.{LoadValue, AddValue, LoadWord, Add, Store, AddOne, Connect, Multiply}
 
@@ -25,8 +25,8 @@ field_operands-short : (x : ℕ) → length (field_operands x) ≤ 24
 field_operands-short x =
     let length_is = held (codes "(BU,") (codes "),") 4 2 (1 + draw 1 64 x) (omega arith) (omega arith) (omega arith) in
     let word_is = held (codes "(BU," ++ field_length 1 x ++ codes "),") (codes ".") 10 1 (4096 + draw 2 256 x) length_is (omega arith) (omega arith) in
-    let bit_is = held (codes "(BU," ++ field_length 1 x ++ codes ")," ++ word_statement 2 x ++ codes ".") (codes ",") 15 1 (draw 3 64 x) word_is (omega arith) (omega arith) in
-    joined (codes "(BU," ++ field_length 1 x ++ codes ")," ++ word_statement 2 x ++ codes "." ++ bit_statement 3 x ++ codes ",") (offset 4 x) 20 4 bit_is (four (draw 4 64 x) (omega arith))
+    let bit_is = held (codes "(BU," ++ field_length 1 x ++ codes ")," ++ word_text 2 x ++ codes ".") (codes ",") 15 1 (draw 3 64 x) word_is (omega arith) (omega arith) in
+    joined (codes "(BU," ++ field_length 1 x ++ codes ")," ++ word_text 2 x ++ codes "." ++ bit_text 3 x ++ codes ",") (bit_text 4 x) 20 4 bit_is (four (draw 4 64 x) (omega arith))
 
 pub statement-short : (form : StatementForm) (x : ℕ) → length (statement form x) ≤ 30
 statement-short LoadValue x =
@@ -49,7 +49,7 @@ statement-short Store x =
 statement-short AddOne x =
     let length_is = held (codes "M+1(B,") (codes ",8),") 6 4 (8 + draw 1 57 x) (omega arith) (omega arith) (omega arith) in
     let word_is = held (codes "M+1(B," ++ byte_field_length 1 x ++ codes ",8),") (codes ".") 14 1 (4096 + draw 2 256 x) length_is (omega arith) (omega arith) in
-    let all = joined (codes "M+1(B," ++ byte_field_length 1 x ++ codes ",8)," ++ word_statement 2 x ++ codes ".") (bit_statement 3 x) 19 4 word_is (four (draw 3 64 x) (omega arith)) in
+    let all = joined (codes "M+1(B," ++ byte_field_length 1 x ++ codes ",8)," ++ word_text 2 x ++ codes ".") (bit_text 3 x) 19 4 word_is (four (draw 3 64 x) (omega arith)) in
     omega (arith, all)
 statement-short Connect x =
     let all = joined (codes "C0110") (field_operands x) 5 24 (omega arith) (field_operands-short x) in

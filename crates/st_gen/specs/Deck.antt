@@ -27,16 +27,12 @@ abbrev pub index : ℕ → ℕ → List ℕ
 index n x = decimal (1 + draw n 7 x)
 
 -- as a word
-abbrev pub word_statement : ℕ → ℕ → List ℕ
-word_statement n x = decimal (FIRST_DRAWN_WORD + draw n DRAWN_WORDS x)
+abbrev pub word_text : ℕ → ℕ → List ℕ
+word_text n x = decimal (FIRST_DRAWN_WORD + draw n DRAWN_WORDS x)
 
--- as a bit
-abbrev pub bit_statement : ℕ → ℕ → List ℕ
-bit_statement n x = decimal (draw n 64 x)
-
--- as an offset
-abbrev pub offset : ℕ → ℕ → List ℕ
-offset n x = decimal (draw n 64 x)
+-- as a bit, or as an offset
+abbrev pub bit_text : ℕ → ℕ → List ℕ
+bit_text n x = decimal (draw n 64 x)
 
 -- as a small value
 abbrev pub small_value : ℕ → ℕ → List ℕ
@@ -53,20 +49,19 @@ byte_field_length n x = decimal (8 + draw n 57 x)
 -- the operands of an operation on an unsigned binary field: its length is drawn first
 abbrev pub field_operands : ℕ → List ℕ
 field_operands x =
-    codes "(BU," ++ field_length 1 x ++ codes ")," ++ word_statement 2 x ++ codes "."
-    ++ bit_statement 3 x
-    ++ codes "," ++ offset 4 x
+    codes "(BU," ++ field_length 1 x ++ codes ")," ++ word_text 2 x ++ codes "." ++ bit_text 3 x
+    ++ codes "," ++ bit_text 4 x
 
 -- a form's statement, its letters drawn after x
 abbrev pub statement : StatementForm → ℕ → List ℕ
-statement LoadValue x = codes "LVI,$X" ++ index 1 x ++ codes "," ++ word_statement 2 x ++ codes ".0"
+statement LoadValue x = codes "LVI,$X" ++ index 1 x ++ codes "," ++ word_text 2 x ++ codes ".0"
 statement AddValue x = codes "V+I,$X" ++ index 1 x ++ codes "," ++ small_value 2 x ++ codes ".0"
-statement LoadWord x = codes "L(BU,64)," ++ word_statement 1 x ++ codes ".0"
+statement LoadWord x = codes "L(BU,64)," ++ word_text 1 x ++ codes ".0"
 statement Add x = codes "+" ++ field_operands x
 statement Store x = codes "ST" ++ field_operands x
 statement AddOne x =
-    codes "M+1(B," ++ byte_field_length 1 x ++ codes ",8)," ++ word_statement 2 x ++ codes "."
-    ++ bit_statement 3 x
+    codes "M+1(B," ++ byte_field_length 1 x ++ codes ",8)," ++ word_text 2 x ++ codes "."
+    ++ bit_text 3 x
 statement Connect x = codes "C0110" ++ field_operands x
 statement Multiply x =
     codes "*(BU," ++ field_length 1 x ++ codes ")(V+I),0.32($X" ++ index 2 x ++ codes ")"

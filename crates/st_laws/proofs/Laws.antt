@@ -2,7 +2,7 @@
 use Rattle.st_expr.specs.System.{system_symbols}
 use Rattle.st_strap.specs.Reading.{index_fields}
 use Rattle.std.proofs.Common.{refl, rules}
-use Rattle.st_laws.specs.Laws.{LimitsInFigures, ControlsInFigures, RegistersInFigures, IndicatorsInFigures, DigitsAgree, CountsAgree, SymbolsAgree, SizesOfStorageAgree, NumbersAgree, MadeDecksAreNotRefused, LaidNumbersAreRead, BanksInFigures, FormatsInFigures, ExpressionsInFigures, StatementsInFigures}
+use Rattle.st_laws.specs.Laws.{LimitsInFigures, ControlsInFigures, RegistersInFigures, IndicatorsInFigures, DigitsAgree, CountsAgree, SymbolsAgree, SizesOfStorageAgree, NumbersAgree, MadeDecksAreNotRefused, LaidNumbersAreRead, BanksInFigures, FormatsInFigures, ExpressionsInFigures, StatementsInFigures, DrawnWordsInFigures}
 use Rattle.st_laws.proofs.AgreementLemmas.{value-bytes, digits-joined, zeros-counted, ones-counted, counts-kept, shown-in, laid-in, spelled-agree}
 use Rattle.st_laws.proofs.MadeDecks.{made-assembled}
 use Rattle.st_laws.proofs.LaidFields.{binary-read, decimal-read, digits-read}
@@ -13,6 +13,9 @@ limits_in_figures = record {
   last_word = refl;
   most_instructions = refl;
   longest_list = refl;
+  longest_job = refl;
+  most_cards = refl;
+  most_names = refl;
 }
 
 pub controls_in_figures : ControlsInFigures
@@ -132,7 +135,7 @@ pub laid_numbers_are_read : LaidNumbersAreRead
 laid_numbers_are_read = record { binary = binary-read; decimal = decimal-read; digits = digits-read }
 
 pub banks_in_figures : BanksInFigures
-banks_in_figures = record { banks = refl }
+banks_in_figures = record { banks = refl; low_words = refl }
 
 pub formats_in_figures : FormatsInFigures
 formats_in_figures = record {
@@ -155,3 +158,6 @@ statements_in_figures = record {
   most_count = refl;
   most_flags = refl;
 }
+
+pub drawn_words_in_figures : DrawnWordsInFigures
+drawn_words_in_figures = record { first = refl; count = refl }

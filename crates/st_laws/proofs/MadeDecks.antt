@@ -9,7 +9,7 @@ use Rattle.std.specs.Fmt.{digits}
 use Rattle.std.specs.List.{All, AllPass}
 use Rattle.st_bits.specs.Storage.{words_of_storage}
 use Rattle.st_card.specs.Controls.{Asked, is_in_range}
-use Rattle.st_card.specs.Written.{control_line}
+use Rattle.st_card.specs.Written.{control_line, text_of_lines}
 use Rattle.st_card.specs.Limits.{IsWithinLimits, is_signal, is_part, is_tick}
 use Rattle.st_card.specs.declared.control_cards.Signal.{Signal}
 use Rattle.st_card.specs.Cards.{cards_of}
@@ -20,10 +20,10 @@ use Rattle.st_strap.specs.Statements.{Statement}
 use Rattle.st_strap.specs.declared.statement.Statement.TheVariants.{End}
 use Rattle.st_asm.specs.Assembly.{Assembly, with_defaults, together, assembly}
 use Rattle.st_asm.specs.Forming.{form_pass}
-use Rattle.st_dis.specs.Deck.{statement_card, end_text, deck_of, order_cards, show_cards}
-use Rattle.st_dis.proofs.Printable.{IsPlain, IsWritten, join, number, cards_plain, orders_plain, shows_plain}
-use Rattle.st_dis.proofs.Lengths.{IsShort, IsCard, all_statement_cards, order_cards-short, show_cards-short}
-use Rattle.st_dis.proofs.DeckCards.{order_cards-kind, show_cards-kind}
+use Rattle.st_dis.specs.Deck.{statement_card, end_text, control_cards}
+use Rattle.st_dis.proofs.Printable.{IsPlain, IsWritten, join, number, cards_plain, controls_plain}
+use Rattle.st_dis.proofs.Lengths.{IsShort, IsCard, all_statement_cards, control_cards-short}
+use Rattle.st_dis.proofs.DeckCards.{control_cards-kind}
 use Rattle.st_dis.proofs.ControlsRead.{controls-read}
 use Rattle.st_dis.proofs.PlacesRead.{start-read}
 use Rattle.st_dis.proofs.Said.{spoken_lines, silent_lines}
@@ -31,7 +31,7 @@ use Rattle.st_dis.proofs.FormPass.{IsControl, job_cards, found_in_job, job-forme
 use Rattle.st_dis.proofs.StatementSteps.{stand, end-steps}
 use Rattle.st_dis.proofs.PassesLead.{GivesProgram, leads-give}
 use Rattle.st_dis.proofs.ThreePasses.{assembled, defaults-kept}
-use Rattle.st_gen.specs.Deck.{next_number, number_after, below, draw, index, word_statement, bit_statement, offset, small_value, field_length, byte_field_length, field_operands, statement, form_after, card, control, after_cards, drawn_cards, delay_cards, closing_cards, made_deck}
+use Rattle.st_gen.specs.Deck.{next_number, number_after, below, draw, index, word_text, bit_text, small_value, field_length, byte_field_length, field_operands, statement, form_after, card, control, after_cards, drawn_cards, delay_cards, closing_cards, made_deck}
 use Rattle.st_gen.proofs.Sizes.{statement-short}
 use Rattle.st_gen.proofs.Drawn.{drawn-cases}
 use Rattle.st_laws.proofs.MadeStatements.{IsGood, made-good, wait-good, LeadOn, good-leads, leads-behind}
@@ -67,13 +67,13 @@ held ahead behind n p q = join (ahead ++ decimal n) behind (join ahead (decimal 
 operands-plain : (x : ℕ) → IsPlain (field_operands x)
 operands-plain x =
     let bits = codes "(BU," ++ field_length 1 x ++ codes ")," in
-    let place = bits ++ word_statement 2 x ++ codes "." in
+    let place = bits ++ word_text 2 x ++ codes "." in
     let bits_is = held (codes "(BU,") (codes "),") (1 + draw 1 64 x) refl refl in
     let word_is = held bits (codes ".") (4096 + draw 2 256 x) bits_is refl in
     let bit_is = held place (codes ",") (draw 3 64 x) word_is refl in
-    join (place ++ bit_statement 3 x ++ codes ",") (offset 4 x) bit_is (number (draw 4 64 x))
+    join (place ++ bit_text 3 x ++ codes ",") (bit_text 4 x) bit_is (number (draw 4 64 x))
 
-load_value-plain : (x : ℕ) → IsPlain (codes "LVI,$X" ++ index 1 x ++ codes "," ++ word_statement 2 x ++ codes ".0")
+load_value-plain : (x : ℕ) → IsPlain (codes "LVI,$X" ++ index 1 x ++ codes "," ++ word_text 2 x ++ codes ".0")
 load_value-plain x =
     held (codes "LVI,$X" ++ index 1 x ++ codes ",") (codes ".0") (4096 + draw 2 256 x)
     (held (codes "LVI,$X") (codes ",") (1 + draw 1 7 x) refl refl) refl
@@ -82,11 +82,11 @@ add_value-plain : (x : ℕ) → IsPlain (codes "V+I,$X" ++ index 1 x ++ codes ",
 add_value-plain x =
     held (codes "V+I,$X" ++ index 1 x ++ codes ",") (codes ".0") (draw 2 4 x) (held (codes "V+I,$X") (codes ",") (1 + draw 1 7 x) refl refl) refl
 
-add_one-plain : (x : ℕ) → IsPlain (codes "M+1(B," ++ byte_field_length 1 x ++ codes ",8)," ++ word_statement 2 x ++ codes "." ++ bit_statement 3 x)
+add_one-plain : (x : ℕ) → IsPlain (codes "M+1(B," ++ byte_field_length 1 x ++ codes ",8)," ++ word_text 2 x ++ codes "." ++ bit_text 3 x)
 add_one-plain x =
     let bits = codes "M+1(B," ++ byte_field_length 1 x ++ codes ",8)," in
     let bits_is = held (codes "M+1(B,") (codes ",8),") (8 + draw 1 57 x) refl refl in
-    join (bits ++ word_statement 2 x ++ codes ".") (bit_statement 3 x) (held bits (codes ".") (4096 + draw 2 256 x) bits_is refl) (number (draw 3 64 x))
+    join (bits ++ word_text 2 x ++ codes ".") (bit_text 3 x) (held bits (codes ".") (4096 + draw 2 256 x) bits_is refl) (number (draw 3 64 x))
 
 multiply-plain : (x : ℕ) → IsPlain (codes "*(BU," ++ field_length 1 x ++ codes ")(V+I),0.32($X" ++ index 2 x ++ codes ")")
 multiply-plain x =
@@ -175,22 +175,22 @@ asked-within budget delays small each few = record {
 
 -- ---- the deck is a text of cards
 
-cards-behind : (xs ys : List (List ℕ)) → deck_of (xs ++ ys) ≡ deck_of xs ++ deck_of ys
+cards-behind : (xs ys : List (List ℕ)) → text_of_lines (xs ++ ys) ≡ text_of_lines xs ++ text_of_lines ys
 cards-behind [] ys = refl
-cards-behind (x ∷ xs) ys = ap (λ (t : List ℕ). (x ++ lf) ++ t) (cards-behind xs ys) ∙ sym (append_assoc (x ++ lf) (deck_of xs) (deck_of ys))
+cards-behind (x ∷ xs) ys = ap (λ (t : List ℕ). (x ++ lf) ++ t) (cards-behind xs ys) ∙ sym (append_assoc (x ++ lf) (text_of_lines xs) (text_of_lines ys))
 
-one-card : (text : List ℕ) → deck_of (text ∷ []) ≡ text ++ lf
+one-card : (text : List ℕ) → text_of_lines (text ∷ []) ≡ text ++ lf
 one-card text = append-nil (text ++ lf)
 
-card-is : (text : List ℕ) → card text ≡ deck_of (statement_card text ∷ [])
+card-is : (text : List ℕ) → card text ≡ text_of_lines (statement_card text ∷ [])
 unfolding card
 card-is text = sym (one-card (statement_card text))
 
-control-is : (text : List ℕ) → control text ≡ deck_of (text ∷ [])
+control-is : (text : List ℕ) → control text ≡ text_of_lines (text ∷ [])
 unfolding control
 control-is text = sym (one-card text)
 
-drawn-is : (n x : ℕ) → drawn_cards n x ≡ deck_of (map statement_card (drawn_texts n x))
+drawn-is : (n x : ℕ) → drawn_cards n x ≡ text_of_lines (map statement_card (drawn_texts n x))
 unfolding drawn_texts
 drawn-is zero x = refl
 drawn-is (suc n) x =
@@ -198,11 +198,11 @@ drawn-is (suc n) x =
     let one = statement (form_after y) (next_number y) in
     let before = map statement_card (drawn_texts n x) in
     ap (λ (t : List ℕ). t ++ card one) (drawn-is n x)
-    ∙ (ap (λ (t : List ℕ). deck_of before ++ t) (card-is one)
+    ∙ (ap (λ (t : List ℕ). text_of_lines before ++ t) (card-is one)
     ∙ (sym (cards-behind before (statement_card one ∷ []))
-    ∙ ap (λ (cs : List (List ℕ)). deck_of cs) (sym (map-append statement_card (drawn_texts n x) (one ∷ [])))))
+    ∙ ap (λ (cs : List (List ℕ)). text_of_lines cs) (sym (map-append statement_card (drawn_texts n x) (one ∷ [])))))
 
-delays-are : (n x : ℕ) → delay_cards n x ≡ deck_of (map (λ d. codes "/DELAYS " ++ decimal d) (drawn_delays n x))
+delays-are : (n x : ℕ) → delay_cards n x ≡ text_of_lines (map (λ d. codes "/DELAYS " ++ decimal d) (drawn_delays n x))
 unfolding delay_cards drawn_delays
 delays-are zero x = refl
 delays-are (suc n) x =
@@ -210,16 +210,12 @@ delays-are (suc n) x =
     let text = codes "/DELAYS " ++ decimal d in
     let before = map (λ e. codes "/DELAYS " ++ decimal e) (drawn_delays n x) in
     ap (λ (t : List ℕ). t ++ control text) (delays-are n x)
-    ∙ (ap (λ (t : List ℕ). deck_of before ++ t) (control-is text)
+    ∙ (ap (λ (t : List ℕ). text_of_lines before ++ t) (control-is text)
     ∙ (sym (cards-behind before (text ∷ []))
-    ∙ ap (λ (cs : List (List ℕ)). deck_of cs) (sym (map-append (λ e. codes "/DELAYS " ++ decimal e) (drawn_delays n x) (d ∷ [])))))
-
--- the control cards
-abbrev controls : Asked → List (List ℕ)
-controls asked = order_cards asked ++ show_cards asked
+    ∙ ap (λ (cs : List (List ℕ)). text_of_lines cs) (sym (map-append (λ e. codes "/DELAYS " ++ decimal e) (drawn_delays n x) (d ∷ [])))))
 
 controls-are : (budget : ℕ) (delays : List ℕ) → 1 ≤ budget →
-    controls (asked_with budget delays) ≡ (codes "/BUDGET " ++ decimal budget)
+    control_cards (asked_with budget delays) ≡ (codes "/BUDGET " ++ decimal budget)
     ∷ (map (λ d. codes "/DELAYS " ++ decimal d) delays ++ codes "/TIME" ∷ [])
 unfolding control_line
 controls-are budget delays some =
@@ -233,41 +229,41 @@ five a b c d e = simp append_assoc refl
 
 abbrev made_cards : ℕ → ℕ → List (List ℕ)
 made_cards cards x =
-    job_cards (made_texts cards x) (codes "END,32.0") (controls (asked_with (cards + 2) (drawn_delays 16 (after_cards cards x))))
+    job_cards (made_texts cards x) (codes "END,32.0") (control_cards (asked_with (cards + 2) (drawn_delays 16 (after_cards cards x))))
 
 closing-is : (cards x : ℕ) → closing_cards cards x
-    ≡ deck_of (statement_card (codes "BEW") ∷ statement_card (codes "END,32.0") ∷ controls (asked_with (cards + 2) (drawn_delays 16 x)))
+    ≡ text_of_lines (statement_card (codes "BEW") ∷ statement_card (codes "END,32.0") ∷ control_cards (asked_with (cards + 2) (drawn_delays 16 x)))
 closing-is cards x =
     let budget = codes "/BUDGET " ++ decimal (cards + 2) in
     let delays = map (λ d. codes "/DELAYS " ++ decimal d) (drawn_delays 16 x) in
     let wait = statement_card (codes "BEW") in
     let end = statement_card (codes "END,32.0") in
     let time : List (List ℕ) = codes "/TIME" ∷ [] in
-    let last : delay_cards 16 x ++ control (codes "/TIME") ≡ deck_of (delays ++ time) =
+    let last : delay_cards 16 x ++ control (codes "/TIME") ≡ text_of_lines (delays ++ time) =
     ap (λ (t : List ℕ). t ++ control (codes "/TIME")) (delays-are 16 x)
-    ∙ (ap (λ (t : List ℕ). deck_of delays ++ t) (control-is (codes "/TIME")) ∙ sym (cards-behind delays time)) in
-    let third : control budget ++ deck_of (delays ++ time) ≡ deck_of (budget ∷ (delays ++ time)) =
-    ap (λ (t : List ℕ). t ++ deck_of (delays ++ time)) (control-is budget) ∙ sym (cards-behind (budget ∷ []) (delays ++ time)) in
-    let second : card (codes "END,32.0") ++ deck_of (budget ∷ (delays ++ time)) ≡ deck_of (end ∷ budget ∷ (delays ++ time)) =
-    ap (λ (t : List ℕ). t ++ deck_of (budget ∷ (delays ++ time))) (card-is (codes "END,32.0"))
+    ∙ (ap (λ (t : List ℕ). text_of_lines delays ++ t) (control-is (codes "/TIME")) ∙ sym (cards-behind delays time)) in
+    let third : control budget ++ text_of_lines (delays ++ time) ≡ text_of_lines (budget ∷ (delays ++ time)) =
+    ap (λ (t : List ℕ). t ++ text_of_lines (delays ++ time)) (control-is budget) ∙ sym (cards-behind (budget ∷ []) (delays ++ time)) in
+    let second : card (codes "END,32.0") ++ text_of_lines (budget ∷ (delays ++ time)) ≡ text_of_lines (end ∷ budget ∷ (delays ++ time)) =
+    ap (λ (t : List ℕ). t ++ text_of_lines (budget ∷ (delays ++ time))) (card-is (codes "END,32.0"))
     ∙ sym (cards-behind (end ∷ []) (budget ∷ (delays ++ time))) in
-    let first : card (codes "BEW") ++ deck_of (end ∷ budget ∷ (delays ++ time)) ≡ deck_of (wait ∷ end ∷ budget ∷ (delays ++ time)) =
-    ap (λ (t : List ℕ). t ++ deck_of (end ∷ budget ∷ (delays ++ time))) (card-is (codes "BEW"))
+    let first : card (codes "BEW") ++ text_of_lines (end ∷ budget ∷ (delays ++ time)) ≡ text_of_lines (wait ∷ end ∷ budget ∷ (delays ++ time)) =
+    ap (λ (t : List ℕ). t ++ text_of_lines (end ∷ budget ∷ (delays ++ time))) (card-is (codes "BEW"))
     ∙ sym (cards-behind (wait ∷ []) (end ∷ budget ∷ (delays ++ time))) in
     five (card (codes "BEW")) (card (codes "END,32.0")) (control budget) (delay_cards 16 x) (control (codes "/TIME"))
     ∙ (ap (λ (t : List ℕ). card (codes "BEW") ++ (card (codes "END,32.0") ++ (control budget ++ t))) last
     ∙ (ap (λ (t : List ℕ). card (codes "BEW") ++ (card (codes "END,32.0") ++ t)) third
     ∙ (ap (λ (t : List ℕ). card (codes "BEW") ++ t) second
     ∙ (first
-    ∙ ap (λ (cs : List (List ℕ)). deck_of (wait ∷ end ∷ cs)) (sym (controls-are (cards + 2) (drawn_delays 16 x) (omega arith)))))))
+    ∙ ap (λ (cs : List (List ℕ)). text_of_lines (wait ∷ end ∷ cs)) (sym (controls-are (cards + 2) (drawn_delays 16 x) (omega arith)))))))
 
-made-is : (seed cards : ℕ) → made_deck seed cards ≡ deck_of (made_cards cards seed)
+made-is : (seed cards : ℕ) → made_deck seed cards ≡ text_of_lines (made_cards cards seed)
 made-is seed cards =
     let x : ℕ = after_cards cards seed in
     let drawn = map statement_card (drawn_texts cards seed) in
     let wait = statement_card (codes "BEW") in
     let end = statement_card (codes "END,32.0") in
-    let rest = controls (asked_with (cards + 2) (drawn_delays 16 x)) in
+    let rest = control_cards (asked_with (cards + 2) (drawn_delays 16 x)) in
     let one : map statement_card (drawn_texts cards seed ++ codes "BEW" ∷ []) ≡ drawn ++ wait ∷ [] =
     map-append statement_card (drawn_texts cards seed) (codes "BEW" ∷ []) in
     let two : map statement_card (made_texts cards seed ++ codes "END,32.0" ∷ []) ≡ (drawn ++ wait ∷ []) ++ end ∷ [] =
@@ -276,8 +272,8 @@ made-is seed cards =
     ap (λ (cs : List (List ℕ)). cs ++ rest) two
     ∙ (append_assoc (drawn ++ wait ∷ []) (end ∷ []) rest ∙ append_assoc drawn (wait ∷ []) (end ∷ rest)) in
     ap (λ (t : List ℕ). t ++ closing_cards cards x) (drawn-is cards seed)
-    ∙ (ap (λ (t : List ℕ). deck_of drawn ++ t) (closing-is cards x)
-    ∙ (sym (cards-behind drawn (wait ∷ end ∷ rest)) ∙ ap (λ (cs : List (List ℕ)). deck_of cs) (sym flat)))
+    ∙ (ap (λ (t : List ℕ). text_of_lines drawn ++ t) (closing-is cards x)
+    ∙ (sym (cards-behind drawn (wait ∷ end ∷ rest)) ∙ ap (λ (cs : List (List ℕ)). text_of_lines cs) (sym flat)))
 
 -- ---- its cards
 
@@ -306,16 +302,16 @@ module _ (cards seed : ℕ) (few : cards ≤ 19980) where
   written : All IsWritten (made_cards cards seed)
   written =
       let texts = made_texts cards seed ++ codes "END,32.0" ∷ [] in
-      All-append IsWritten (map statement_card texts) (controls asked)
+      All-append IsWritten (map statement_card texts) (control_cards asked)
       (cards_plain texts (all-texts IsPlain statement-plain refl refl cards seed))
-      (All-append IsWritten (order_cards asked) (show_cards asked) (orders_plain asked) (shows_plain asked))
+      (controls_plain asked)
 
   short : All IsCard (made_cards cards seed)
   short =
       let texts = made_texts cards seed ++ codes "END,32.0" ∷ [] in
-      All-append IsCard (map statement_card texts) (controls asked)
+      All-append IsCard (map statement_card texts) (control_cards asked)
       (all_statement_cards texts (all-texts IsShort statement-few (omega arith) (omega arith) cards seed))
-      (All-append IsCard (order_cards asked) (show_cards asked) (order_cards-short asked within-limits) (show_cards-short asked within-limits))
+      (control_cards-short asked within-limits)
 
   texts-count : length (made_texts cards seed) ≡ cards + 1
   texts-count =
@@ -323,7 +319,7 @@ module _ (cards seed : ℕ) (few : cards ≤ 19980) where
       let drawn = drawn-length cards seed in
       omega (arith, size, drawn)
 
-  controls-count : length (controls asked) ≡ 18
+  controls-count : length (control_cards asked) ≡ 18
   controls-count =
       let delays = drawn_delays 16 (after_cards cards seed) in
       let cards_of_delays = map (λ d. codes "/DELAYS " ++ decimal d) delays in
@@ -336,7 +332,7 @@ module _ (cards seed : ℕ) (few : cards ≤ 19980) where
   count : length (made_cards cards seed) ≤ 20000
   count =
       let texts = made_texts cards seed ++ codes "END,32.0" ∷ [] in
-      let all = length-append (map statement_card texts) (controls asked) in
+      let all = length-append (map statement_card texts) (control_cards asked) in
       let same = length-map texts statement_card in
       let size = length-append (made_texts cards seed) (codes "END,32.0" ∷ []) in
       let made = texts-count in
@@ -354,31 +350,31 @@ module _ (cards seed : ℕ) (few : cards ≤ 19980) where
   last = End (number_expr 2048)
 
   gives : GivesProgram (spoken_lines 1 (lead-on.statements ++ last ∷ []) ++ silent_lines (length (lead-on.statements ++ last ∷ []) + 1)
-      (length (controls asked)))
+      (length (control_cards asked)))
       lead-on.image 64
   gives =
-      leads-give (lead-on.statements ++ last ∷ []) (length (controls asked)) lead-on.image 64 lead-on.location
+      leads-give (lead-on.statements ++ last ∷ []) (length (control_cards asked)) lead-on.image 64 lead-on.location
       (leads-behind lead-on.statements last (stand 2048 (replicate words_of_storage 0) 0) (stand lead-on.location lead-on.image 0)
       (stand lead-on.location lead-on.image 64) lead-on.leads (end-steps 64 lead-on.location 0 lead-on.image (omega arith)))
 
-  formed : form_pass (deck_of (made_cards cards seed)) (cards_of (deck_of (made_cards cards seed)))
-      ≡ Ok (found_in_job (lead-on.statements ++ last ∷ []) (length (controls asked)) asked)
+  formed : form_pass (text_of_lines (made_cards cards seed)) (cards_of (text_of_lines (made_cards cards seed)))
+      ≡ Ok (found_in_job (lead-on.statements ++ last ∷ []) (length (control_cards asked)) asked)
   formed =
-      job-formed (made_texts cards seed) (codes "END,32.0") (controls asked) lead-on.statements last asked
+      job-formed (made_texts cards seed) (codes "END,32.0") (control_cards asked) lead-on.statements last asked
       (record {
         read = lead-on.read;
         going = lead-on.going;
         final_read = end-read;
         ends = refl;
-        marks = All-append IsControl (order_cards asked) (show_cards asked) (order_cards-kind asked) (show_cards-kind asked);
+        marks = control_cards-kind asked;
         leads = controls-read asked within-limits (omega arith) refl;
       })
       written short count
 
-  job-assembled : assembly (deck_of (made_cards cards seed))
-      ≡ Ok (together (found_in_job (lead-on.statements ++ last ∷ []) (length (controls asked)) asked) gives.named gives.laid)
+  job-assembled : assembly (text_of_lines (made_cards cards seed))
+      ≡ Ok (together (found_in_job (lead-on.statements ++ last ∷ []) (length (control_cards asked)) asked) gives.named gives.laid)
   job-assembled =
-      assembled (deck_of (made_cards cards seed)) (found_in_job (lead-on.statements ++ last ∷ []) (length (controls asked)) asked) gives.named
+      assembled (text_of_lines (made_cards cards seed)) (found_in_job (lead-on.statements ++ last ∷ []) (length (control_cards asked)) asked) gives.named
       gives.laid
       formed gives.names gives.values
 
@@ -391,7 +387,7 @@ pub made-assembled : (seed cards : ℕ) → cards ≤ 19980 →
     × (a.asked.time ≡ true)
 made-assembled seed cards few =
     let kept = asked-kept cards seed few in (
-      together (found_in_job ((lead-on cards seed few).statements ++ last cards seed few ∷ []) (length (controls (asked cards seed few)))
+      together (found_in_job ((lead-on cards seed few).statements ++ last cards seed few ∷ []) (length (control_cards (asked cards seed few)))
           (asked cards seed few))
           (gives cards seed few).named (gives cards seed few).laid,
       ap (λ (t : List ℕ). assembly t) (made-is seed cards) ∙ job-assembled cards seed few,

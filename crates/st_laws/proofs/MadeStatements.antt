@@ -11,7 +11,7 @@ use Rattle.st_bits.specs.declared.operations.VflOp.TheVariants.{L, Add, St, MAdd
 use Rattle.st_bits.specs.declared.operations.ConnKind.TheVariants.{C}
 use Rattle.st_mnemonic.specs.Describing.{plain_form}
 use Rattle.st_strap.specs.Saying.{statement_of}
-use Rattle.st_strap.specs.Spots.{number_spot, AreSpots, progressive_form}
+use Rattle.st_strap.specs.Spots.{number_spot, AreOperandNumbers, progressive_form}
 use Rattle.st_mnemonic.specs.declared.form.Form.{Form as FieldForm}
 use Rattle.st_strap.specs.Statements.{Statement}
 use Rattle.st_strap.specs.declared.statement.Statement.TheVariants.{Half, Branch, Vfl, Connect}
@@ -19,7 +19,7 @@ use Rattle.st_strap.proofs.OperandCards.{load_value-read, add_value-read, load_w
 use Rattle.st_asm.specs.Forming.{is_end}
 use Rattle.st_asm.specs.Symbols.{accepts_all, is_defined}
 use Rattle.st_asm.specs.Values.{values_of}
-use Rattle.st_asm.specs.Places.{role_of, length_in, next_multiple, place_in, behind_in}
+use Rattle.st_asm.specs.Places.{placing_of, length_in, next_multiple, place_in, behind_in}
 use Rattle.st_asm.specs.Checks.{in_range, fits, on_boundary, extent, in_storage, value_fault}
 use Rattle.st_asm.specs.Laying.{half_word_bits, bits_of}
 use Rattle.st_asm.specs.Valuing.{image_with}
@@ -27,7 +27,7 @@ use Rattle.st_dis.proofs.Said.{AreRead}
 use Rattle.st_dis.proofs.FormPass.{IsOpen}
 use Rattle.st_dis.proofs.StatementSteps.{Stand, stand, Steps, faultless-elsewhere, in-storage}
 use Rattle.st_dis.proofs.WordsLead.{Leads}
-use Rattle.st_gen.specs.Deck.{draw, index, word_statement, bit_statement, small_value, field_length, byte_field_length, field_operands, form_after, statement as made_statement}
+use Rattle.st_gen.specs.Deck.{draw, index, word_text, bit_text, small_value, field_length, byte_field_length, field_operands, form_after, statement as made_statement}
 use Rattle.st_gen.proofs.Drawn.{drawn-cases}
 
 -- a statement without names that lays so many bits, one or two half-words, and is not the end
@@ -37,10 +37,10 @@ pub record LaysHalves (s : Statement) (count : ℕ) : Type 0 where
   pub going : is_end s ≡ false
   pub known : accepts_all (is_defined []) s ≡ true
   pub faultless : value_fault s (values_of [] s) 2048 ≡ None
-  pub place : (a : ℕ) (v : ℤ) → place_in (role_of s) a v ≡ Some (next_multiple 32 a)
-  pub behind : (a : ℕ) (v : ℤ) → behind_in (role_of s) a v ≡ (next_multiple 32 a + count) % 2 ^ 24
-  pub long : (v : ℤ) → extent (role_of s) v ≡ count
-  pub laid : length_in (role_of s) ≡ count
+  pub place : (a : ℕ) (v : ℤ) → place_in (placing_of s) a v ≡ Some (next_multiple 32 a)
+  pub behind : (a : ℕ) (v : ℤ) → behind_in (placing_of s) a v ≡ (next_multiple 32 a + count) % 2 ^ 24
+  pub long : (v : ℤ) → extent (placing_of s) v ≡ count
+  pub laid : length_in (placing_of s) ≡ count
 
 -- a text that is read as such a statement
 pub record IsGood (text : List ℕ) : Type 0 where
@@ -186,7 +186,7 @@ wait-good = record {
 
 -- ---- the drawn statements
 
-drawn-operands : (x : ℕ) → AreSpots (1 + draw 1 64 x) (4096 + draw 2 256 x) (draw 3 64 x) (draw 4 64 x)
+drawn-operands : (x : ℕ) → AreOperandNumbers (1 + draw 1 64 x) (4096 + draw 2 256 x) (draw 3 64 x) (draw 4 64 x)
 drawn-operands x = record {
   some_bits = omega arith;
   few_bits = omega arith;
@@ -195,9 +195,9 @@ drawn-operands x = record {
   offset = omega arith;
 }
 
-load_value-good : (x : ℕ) → IsGood (codes "LVI,$X" ++ index 1 x ++ codes "," ++ word_statement 2 x ++ codes ".0")
+load_value-good : (x : ℕ) → IsGood (codes "LVI,$X" ++ index 1 x ++ codes "," ++ word_text 2 x ++ codes ".0")
 load_value-good x =
-    half-good (codes "LVI,$X" ++ index 1 x ++ codes "," ++ word_statement 2 x ++ codes ".0") Lvi (1 + draw 1 7 x) (64 * (4096 + draw 2 256 x))
+    half-good (codes "LVI,$X" ++ index 1 x ++ codes "," ++ word_text 2 x ++ codes ".0") Lvi (1 + draw 1 7 x) (64 * (4096 + draw 2 256 x))
     (load_value-read (1 + draw 1 7 x) (4096 + draw 2 256 x) (omega arith) (omega arith) (omega arith)) (omega arith) (omega arith)
 
 add_value-good : (x : ℕ) → IsGood (codes "V+I,$X" ++ index 1 x ++ codes "," ++ small_value 2 x ++ codes ".0")
@@ -205,9 +205,9 @@ add_value-good x =
     half-good (codes "V+I,$X" ++ index 1 x ++ codes "," ++ small_value 2 x ++ codes ".0") VPlusI (1 + draw 1 7 x) (64 * draw 2 4 x)
     (add_value-read (1 + draw 1 7 x) (draw 2 4 x) (omega arith) (omega arith) (omega arith)) (omega arith) (omega arith)
 
-load_word-good : (x : ℕ) → IsGood (codes "L(BU,64)," ++ word_statement 1 x ++ codes ".0")
+load_word-good : (x : ℕ) → IsGood (codes "L(BU,64)," ++ word_text 1 x ++ codes ".0")
 load_word-good x =
-    field-good (codes "L(BU,64)," ++ word_statement 1 x ++ codes ".0") L (plain_form false true 64 8) (64 * (4096 + draw 1 256 x)) 0 0
+    field-good (codes "L(BU,64)," ++ word_text 1 x ++ codes ".0") L (plain_form false true 64 8) (64 * (4096 + draw 1 256 x)) 0 0
     (load_word-read (4096 + draw 1 256 x) (omega arith)) (omega arith) (omega arith)
 
 add-good : (x : ℕ) → IsGood (codes "+" ++ field_operands x)
@@ -222,9 +222,9 @@ store-good x =
     (64 * (4096 + draw 2 256 x) + draw 3 64 x) 0 (draw 4 64 x)
     (store-read (1 + draw 1 64 x) (4096 + draw 2 256 x) (draw 3 64 x) (draw 4 64 x) (drawn-operands x)) (omega arith) (omega arith)
 
-add_one-good : (x : ℕ) → IsGood (codes "M+1(B," ++ byte_field_length 1 x ++ codes ",8)," ++ word_statement 2 x ++ codes "." ++ bit_statement 3 x)
+add_one-good : (x : ℕ) → IsGood (codes "M+1(B," ++ byte_field_length 1 x ++ codes ",8)," ++ word_text 2 x ++ codes "." ++ bit_text 3 x)
 add_one-good x =
-    field-good (codes "M+1(B," ++ byte_field_length 1 x ++ codes ",8)," ++ word_statement 2 x ++ codes "." ++ bit_statement 3 x) MAdd1
+    field-good (codes "M+1(B," ++ byte_field_length 1 x ++ codes ",8)," ++ word_text 2 x ++ codes "." ++ bit_text 3 x) MAdd1
     (plain_form false false (8 + draw 1 57 x) 8) (64 * (4096 + draw 2 256 x) + draw 3 64 x) 0 0
     (add_one-read (8 + draw 1 57 x) (4096 + draw 2 256 x) (draw 3 64 x) (omega arith) (omega arith) (omega arith) (omega arith)) (omega arith)
     (omega arith)
@@ -262,15 +262,15 @@ halves-steps s count a start image lays even above room =
     let v = (values_of [] s).first in
     let number = bits_of s (values_of [] s) in
     let same : next_multiple 32 a ≡ a = omega (arith, even, room) in
-    let place : unwrap_or (place_in (role_of s) a v) 0 ≡ a = ap (λ o. unwrap_or o 0) (lays.place a v) ∙ same in
-    let inside : in_storage (unwrap_or (place_in (role_of s) a v) 0) (extent (role_of s) v) ≡ true =
-    ap (λ k. in_storage k (extent (role_of s) v)) place ∙ (ap (λ k. in_storage a k) (lays.long v) ∙ in-storage a count above room) in
+    let place : unwrap_or (place_in (placing_of s) a v) 0 ≡ a = ap (λ o. unwrap_or o 0) (lays.place a v) ∙ same in
+    let inside : in_storage (unwrap_or (place_in (placing_of s) a v) 0) (extent (placing_of s) v) ≡ true =
+    ap (λ k. in_storage k (extent (placing_of s) v)) place ∙ (ap (λ k. in_storage a k) (lays.long v) ∙ in-storage a count above room) in
     let next : (a + count) % 2 ^ 24 ≡ a + count = omega (arith, room) in
     record {
       known = lays.known;
-      faultless = faultless-elsewhere s (values_of [] s) 2048 (unwrap_or (place_in (role_of s) a v) 0) lays.faultless inside;
+      faultless = faultless-elsewhere s (values_of [] s) 2048 (unwrap_or (place_in (placing_of s) a v) 0) lays.faultless inside;
       location = lays.behind a v ∙ (ap (λ k. (k + count) % 2 ^ 24) same ∙ next);
-      image = ap (λ k. image_with image k (length_in (role_of s)) number) place ∙ ap (λ k. image_with image a k number) lays.laid;
+      image = ap (λ k. image_with image k (length_in (placing_of s)) number) place ∙ ap (λ k. image_with image a k number) lays.laid;
       start = ap (λ b. if b then half_word_bits v else start) lays.going;
     }
 

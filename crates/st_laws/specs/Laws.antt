@@ -1,7 +1,7 @@
 -- What ties crates that do not know each other, and the numbers that definitions take from the
 -- code, in figures.
 use Rattle.std.specs.Prelude.{◌≡◌, ◌≤◌, ◌<◌, ◌+◌, ◌*◌, ◌^◌, ◌==◌, ◌&&◌, ◌||◌, nat_le, nat_lt, ℕ, List, Some, map, codes, length, sum, decimal, Ok, true, Bool, false}
-use Rattle.st_bits.specs.declared.limits.TheConstants.{WORDS, LAST_WORD, MOST_INSTRUCTIONS, LONGEST_LIST, MOST_DELAY}
+use Rattle.st_bits.specs.declared.limits.TheConstants.{WORDS, LAST_WORD, MOST_INSTRUCTIONS, LONGEST_LIST, MOST_DELAY, LONGEST_JOB, MOST_CARDS}
 use Rattle.st_card.specs.declared.limits.TheConstants.{MOST_DUMPS, MOST_SNAPS, MOST_BACK, MOST_NUMBER}
 use Rattle.st_bits.specs.declared.register.TheConstants.{ZERO, INTERRUPT_ADDRESS, BOUNDS, COUNTS, LEFT_HALF, RIGHT_HALF, SIGN_BYTE, INDICATORS, MASK, REMAINDER, FACTOR, TRANSIT, FIRST_INDEX_WORD, FIRST_STORAGE_WORD}
 use Rattle.st_bits.specs.declared.indicators.TheConstants.{MACHINE_CHECK, INSTRUCTION_CHECK, INSTRUCTION_REJECT, EXCHANGE_CONTROL_CHECK, TIME_SIGNAL, PROCESSOR_SIGNAL, EXCHANGE_CHECK_REJECT, UNIT_NOT_READY_REJECT, CHANNEL_BUSY_REJECT, EXCHANGE_PROGRAM_CHECK, UNIT_CHECK, END_EXCEPTION, END_OF_OPERATION, CHANNEL_SIGNAL, OPERATION_INVALID, ADDRESS_INVALID, UNENDED_SEQUENCE, EXECUTE_EXCEPTION, DATA_STORE, DATA_FETCH, INSTRUCTION_FETCH, LOST_CARRY, PARTIAL_FIELD, ZERO_DIVISOR, FLAG_T, FLAG_U, FLAG_V, INDEX_FLAG, BINARY_TRANSIT, DECIMAL_TRANSIT, FIRST_PROGRAM_INDICATOR, INDEX_COUNT_ZERO, INDEX_VALUE_LESS, INDEX_VALUE_ZERO, INDEX_VALUE_GREATER, INDEX_LOW, INDEX_EQUAL, INDEX_HIGH, TO_MEMORY_OPERATION, RESULT_LESS, RESULT_ZERO, RESULT_GREATER, RESULT_NEGATIVE, ACCUMULATOR_LOW, ACCUMULATOR_EQUAL, ACCUMULATOR_HIGH}
@@ -21,21 +21,26 @@ use Rattle.st_object.specs.Meaning.{short_number}
 use Rattle.st_asm.specs.Checks.{in_storage}
 use Rattle.st_asm.specs.Assembly.{Assembly, assembly}
 use Rattle.st_gen.specs.Deck.{made_deck}
+use Rattle.st_gen.specs.declared.statement.TheConstants.{FIRST_DRAWN_WORD, DRAWN_WORDS}
 use Rattle.st_mnemonic.specs.declared.form.Form.{Form}
 use Rattle.st_dec.specs.DecimalOperand.{field_value, digit_bytes, digit_count}
 use Rattle.st_laws.specs.LaidNumbers.{IsHeld, IsRead, laid_shape, field_of_number}
-use Rattle.st_banks.specs.declared.answers.TheConstants.{BANKS}
+use Rattle.st_banks.specs.declared.answers.TheConstants.{BANKS, LOW_WORDS}
 use Rattle.st_format.specs.declared.operations.TheConstants.{FLOATING_GROUP, BRANCH_GROUP, UNUSED}
 use Rattle.st_expr.specs.declared.terms.TheConstants.{LAST_ADDRESS, LAST_BIT}
+use Rattle.st_asm.specs.declared.naming.TheConstants.{MOST_NAMES}
 use Rattle.st_asm.specs.declared.checks.TheConstants.{MOST_OFFSET, MOST_MOVED, MOST_WAITED, MOST_COUNT, MOST_FLAGS}
 
 -- limits of the machine and of a job: words of storage, the last of them, instructions of a run,
--- delays and signals
+-- delays and signals, the bytes of a job, its cards and its names
 pub record LimitsInFigures : Type 0 where
   pub words : WORDS ≡ 98304
   pub last_word : LAST_WORD ≡ 98303
   pub most_instructions : MOST_INSTRUCTIONS ≡ 10000000
   pub longest_list : LONGEST_LIST ≡ 4096
+  pub longest_job : LONGEST_JOB ≡ 2000000
+  pub most_cards : MOST_CARDS ≡ 20000
+  pub most_names : MOST_NAMES ≡ 4000
 
 -- limits of control cards: a delay, and how many dumps, snapshots and steps back; the greatest
 -- number that a card spells
@@ -182,6 +187,7 @@ pub record LaidNumbersAreRead : Type 0 where
 -- how many banks storage has
 pub record BanksInFigures : Type 0 where
   pub banks : BANKS ≡ 6
+  pub low_words : LOW_WORDS ≡ 65536
 
 -- numbers of operations of the half-word format: the floating group, the branch group, and the one
 -- that is none
@@ -203,3 +209,8 @@ pub record StatementsInFigures : Type 0 where
   pub most_waited : MOST_WAITED ≡ 1000
   pub most_count : MOST_COUNT ≡ 262143
   pub most_flags : MOST_FLAGS ≡ 7
+
+-- the words that the statements of a made deck speak of: the first of them, and how many
+pub record DrawnWordsInFigures : Type 0 where
+  pub first : FIRST_DRAWN_WORD ≡ 4096
+  pub count : DRAWN_WORDS ≡ 256

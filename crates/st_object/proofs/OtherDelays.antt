@@ -80,7 +80,7 @@ rest p = map (λ s. Ask (Signal s.count s.indicator)) p.controls.signals
 abbrev pieces : Program → List (List ℕ)
 pieces p = lines_of (object_lines p) ++ [] ∷ []
 
-regrouped : (w b d g m s f : List Item) → w ++ (b ++ d ++ g ++ m) ++ s ++ f ≡ w ++ (b ++ (d ++ (g ++ (m ++ (s ++ f)))))
+regrouped : (w b d g m s f : List Item) → w ++ ((b ++ d ++ g ++ m) ++ s) ++ f ≡ w ++ (b ++ (d ++ (g ++ (m ++ (s ++ f)))))
 regrouped w b d g m s f = simp append_assoc refl
 
 in-parts : (p : Program) → object_lines p

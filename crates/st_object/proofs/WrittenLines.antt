@@ -4,9 +4,9 @@ use Rattle.std.proofs.lemmas.Grind.{common_steps}
 use Rattle.std.proofs.lemmas.List.Concat.{flat_map-append}
 use Rattle.st_text.specs.Bytes.{lf}
 use Rattle.st_card.specs.Controls.{Asked}
-use Rattle.st_card.specs.Written.{control_line, text_of_lines, where_asked, unless_zero, orders, shows}
+use Rattle.st_card.specs.Written.{control_line, text_of_lines, where_asked, unless_zero, controls_made}
 use Rattle.st_card.specs.declared.written.ControlForm.TheVariants.{ObjectLine}
-use Rattle.st_card.proofs.LineLemmas.{orders-same, shows-same}
+use Rattle.st_card.proofs.LineLemmas.{controls-same}
 use Rattle.st_object.specs.Lines.{line_text, object_text_of, word_lines}
 use Rattle.st_object.specs.Draft.{Draft, lines_read}
 use Rattle.st_object.specs.Object.{Program, object_lines}
@@ -30,16 +30,12 @@ words_more old now new xs i x within here before further =
     rw (further, before, word_taken xs i x within here, text_of-append (word_lines 0 (take i xs)) (unless_zero x (Word i x)), append_assoc)
 
 -- what is asked for, as items
-pub orders-written : (a : Asked) → text_of_lines (orders (control_line ObjectLine) a) ≡ object_text_of (orders Ask a)
+pub controls-written : (a : Asked) → text_of_lines (controls_made (control_line ObjectLine) a) ≡ object_text_of (controls_made Ask a)
 unfolding line_text
-orders-written a = orders-same (λ i. line_text i ++ lf) Ask (control_line ObjectLine) (λ c. refl) a
-
-pub shows-written : (a : Asked) → text_of_lines (shows (control_line ObjectLine) a) ≡ object_text_of (shows Ask a)
-unfolding line_text
-shows-written a = shows-same (λ i. line_text i ++ lf) Ask (control_line ObjectLine) (λ c. refl) a
+controls-written a = controls-same (λ i. line_text i ++ lf) Ask (control_line ObjectLine) (λ c. refl) a
 
 regrouped : (w b d g m t i c n k f : List Item) → w ++ (b ++ (d ++ (g ++ (m ++ (t ++ (i ++ (c ++ (n ++ (k ++ f)))))))))
-    ≡ w ++ (b ++ d ++ g ++ m) ++ (t ++ i ++ c ++ n ++ k) ++ f
+    ≡ w ++ ((b ++ d ++ g ++ m) ++ (t ++ i ++ c ++ n ++ k)) ++ f
 regrouped w b d g m t i c n k f = simp append_assoc refl
 
 -- the draft that is a whole program

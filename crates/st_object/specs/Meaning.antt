@@ -1,6 +1,6 @@
 -- What a line of an object text means.
 use Rattle.std.specs.Prelude.{ℕ, ◌<◌, ◌+◌, ◌*◌, ◌/◌, ◌%◌, ◌^◌, ◌==◌, nat_lt, List, [], ◌∷◌, codes, Option, Some, None, if◌then◌else◌}
-use Rattle.std.specs.Option.{option_map, option_and_then}
+use Rattle.std.specs.Option.{option_map, option_and_then, option_zip}
 use Rattle.st_card.specs.Written.{IsShort, IsShortControl}
 use Rattle.st_card.specs.declared.limits.TheConstants.{MOST_NUMBER}
 use Rattle.st_text.specs.Bytes.{blank, period, letter_a}
@@ -23,15 +23,9 @@ parts_at at (c ∷ cs) = if c == at then Some ([], cs) else option_map (λ p. (c
 abbrev pub short_number : List ℕ → Option ℕ
 short_number text = number_up_to MOST_NUMBER text
 
--- a pair of values, where there are both
-abbrev pub pair_of : {X Y : Type 0} → Option X → Option Y → Option (X × Y)
-pair_of (Some x) (Some y) = Some (x, y)
-pair_of (Some x) None = None
-pair_of None y = None
-
 -- two numbers with a byte between them
 abbrev pub two_numbers : ℕ → List ℕ → Option (ℕ × ℕ)
-two_numbers at text = option_and_then (λ p. pair_of (short_number p.0) (short_number p.1))
+two_numbers at text = option_and_then (λ p. option_zip (short_number p.0) (short_number p.1))
     (parts_at at text)
 
 -- a hexadecimal digit: the character of 0 is a multiple of 16, and nine behind that of A, which is

@@ -7,7 +7,7 @@ use Rattle.st_bits.specs.Storage.{IsImage, words_of_storage}
 use Rattle.st_card.specs.Controls.{Asked}
 use Rattle.st_card.specs.Limits.{IsWithinLimits}
 use Rattle.st_text.specs.Pieces.{pieces_of}
-use Rattle.st_card.specs.Written.{orders, shows}
+use Rattle.st_card.specs.Written.{text_of_lines, controls_made}
 use Rattle.st_object.specs.Lines.{object_text_of, word_lines}
 use Rattle.st_object.specs.Draft.{Draft, draft_at_start, is_empty, is_whole, with_item}
 use Rattle.st_object.specs.Meaning.{item_in}
@@ -36,8 +36,7 @@ AreWords words = All (λ x. x < 2 ^ 64) words
 -- the lines of a program
 abbrev pub object_lines : Program → List Item
 object_lines p =
-    Object ∷ Start p.start ∷ [] ++ word_lines 0 p.words ++ orders Ask p.controls
-    ++ shows Ask p.controls ++ Fin ∷ []
+    Object ∷ Start p.start ∷ [] ++ word_lines 0 p.words ++ controls_made Ask p.controls ++ Fin ∷ []
 
 -- the object text of a program
 abbrev pub object_text : Program → List ℕ
@@ -92,7 +91,7 @@ text_lines text = lines_in (pieces_of line_end text)
 
 -- the first n lines of a text, each with its line end
 abbrev pub first_lines : ℕ → List ℕ → List ℕ
-first_lines n text = flat_map (λ line. line ++ lf) (take n (text_lines text))
+first_lines n text = text_of_lines (take n (text_lines text))
 
 -- a text that some object text begins with
 abbrev pub BeginsObjectText : List ℕ → Type 0

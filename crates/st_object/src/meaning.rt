@@ -2,6 +2,7 @@
 
 ghost use Rattle.std.specs.Prelude.{◌≡◌, ◌≤◌, ◌<◌, IfSome};
 ghost use Rattle.std.specs.Option.{option_map};
+ghost use Rattle.st_card.specs.declared.limits.TheConstants.{MOST_NUMBER};
 ghost use Rattle.st_text.specs.Bytes.{blank};
 ghost use Rattle.st_object.specs.Meaning as spec;
 ghost use Rattle.st_object.specs.declared.items.Kind.TheVariants as kinds;
@@ -39,7 +40,7 @@ fn parts_at(at: u8, text: &[u8]) -> Option<(&[u8], &[u8])>
 // The number that a text is, of 12 digits at most.
 fn short_number(text: &[u8]) -> Option<u64>
     ensures value { result ≡ spec.short_number text.now }
-    ensures short { IfSome result (λ n. n ≤ 999999999999) }
+    ensures short { IfSome result (λ n. n ≤ MOST_NUMBER) }
 {
     number_up_to(text, MOST_NUMBER)
 }
@@ -47,7 +48,7 @@ fn short_number(text: &[u8]) -> Option<u64>
 // Two numbers with a byte between them.
 fn two_numbers(at: u8, text: &[u8]) -> Option<(u64, u64)>
     ensures value { result ≡ spec.two_numbers at text.now }
-    ensures short { IfSome result (λ p. p.0 ≤ 999999999999) }
+    ensures short { IfSome result (λ p. p.0 ≤ MOST_NUMBER) }
 {
     let (first, second) = parts_at(at, text)?;
     Some((short_number(first)?, short_number(second)?))

@@ -10,7 +10,7 @@ use crate::images::Image;
 use crate::items::Item;
 use crate::spelling::spelled;
 use st_bits::NoMemory;
-use st_card::{ControlForm, Controls, push_orders, push_shows};
+use st_card::{ControlForm, Controls, push_controls};
 use std::alloc::{AllocError, Global};
 
 // Appends a line.
@@ -60,20 +60,17 @@ fn push_object(
     start: u32,
     controls: &Controls,
 ) -> Result<(), AllocError>
-    ensures { let asked = controls.now in
+    ensures text { let asked = controls.now in
         let p : Program = record { words = words.now; start = start; controls = asked } in
         OnOk result (text.new.items ≡ text.old.items ++ object_text p) }
+
+    // Each word has 64 bits.
+    ensures words { AreWords words.now }
 {
     push_program(text, words, start)?;
-    push_orders(text, ControlForm::ObjectLine, controls)?;
-    push_shows(text, ControlForm::ObjectLine, controls)?;
+    push_controls(text, ControlForm::ObjectLine, controls)?;
     push_line(text, Item::Fin)
 }
-
-// Makes known that each word has 64 bits.
-fn know_words(words: &[u64])
-    ensures { AreWords words.now }
-{}
 
 /// The object text of a program.
 ///
@@ -89,7 +86,6 @@ pub fn write_object(alloc: Global, image: &Image) -> Result<Vec<u8>, NoMemory>
     ensures again { IfOk result (λ text. read_text text.items ≡ Ok image.now) }
 {
     let words = image.words.as_slice();
-    know_words(words);
     let mut text = Vec::new(alloc);
     match push_object(&mut text, words, image.start, &image.controls) {
         Ok(()) => Ok(text),

@@ -16,7 +16,7 @@ use Rattle.st_card.proofs.StandingLemmas.{cards_stand}
 use Rattle.st_strap.specs.Order.{next_reading, reading_map}
 use Rattle.st_strap.specs.Saying.{statement_of}
 use Rattle.st_asm.specs.Pass.{Refusal, onward, pass, unless_faulty, pass_then}
-use Rattle.st_asm.specs.Lines.{name_field, statement_field, is_silent}
+use Rattle.st_asm.specs.Lines.{name_field, statement_field, silent_line}
 use Rattle.st_asm.specs.Forming.{Found, found_at_start, first_fault_of, with_line, with_control, with_statement, with_end, form_control, form_statement, form_kind, form_card, form_pass}
 use Rattle.st_asm.specs.Symbols.{table}
 use Rattle.st_asm.specs.Naming.{Named, name_pass}
@@ -29,7 +29,7 @@ use Rattle.st_exch.specs.Reader.{is_comment, is_statement, has_statement, behind
 use Rattle.st_top.specs.Marks.{up_to_end, texts_up_to_end, end_card, DifferInDelays}
 use Rattle.st_top.specs.Delays.{HasGoodDelays, asked_in, delays_behind_end, is_control, begins_delays, is_delays_card, texts_behind_end, others_behind_end, DifferInDelaysCards}
 use Rattle.st_top.proofs.MarkLemmas.{cards-split}
-use Rattle.st_top.proofs.PartedPasses.{Line, onward-ok, and_then-ok, onward-same, pass-append, quiet, no_places, quiet_rows, with_places, with_rows, names-parted, values-parted, Parts, passes-parted}
+use Rattle.st_top.proofs.PartedPasses.{ReadCard, onward-ok, and_then-ok, onward-same, pass-append, quiet, no_places, quiet_rows, with_places, with_rows, names-parted, values-parted, Parts, passes-parted}
 use Rattle.st_top.proofs.AcceptedJobs.{mixed}
 use Rattle.st_top.proofs.DelayCards.{still, others, asked_by, asked_with, asks-none, asks-some, asks-comment, asks-control, others-kept, others-left}
 
@@ -142,16 +142,16 @@ went-on : (k : CardKind) (from state to : Found) (n : ℕ) (text : List ℕ) (ns
     → form_kind k from n None text ≡ Ok state → Went state to ns texts → Went from to (n ∷ ns) (text ∷ texts)
 unfolding form_control
 went-on Comment from state to n text ns texts kind none h rest =
-    let is : with_line from (is_silent n) ≡ state = cc in record {
+    let is : with_line from (silent_line n) ≡ state = cc in record {
       ended = rest.ended ∙ ap (λ (s : Found). s.ended) (sym is);
-      lines = rest.lines ∙ ap (λ (s : Found). s.lines ++ quiet ns) (sym is) ∙ append_assoc from.lines (is_silent n ∷ []) (quiet ns);
+      lines = rest.lines ∙ ap (λ (s : Found). s.lines ++ quiet ns) (sym is) ∙ append_assoc from.lines (silent_line n ∷ []) (quiet ns);
       asked = asks-comment (still from.asked) (Some (still to.asked)) text texts kind
           (ap (λ (s : Found). asked_with (still s.asked) (others texts)) is ∙ rest.asked);
     }
 went-on Control from state to n text ns texts kind none h rest =
     let (b, asks, is) = control-ok from state n from.ended (asked_with_card from.asked text) h in record {
       ended = rest.ended ∙ ap (λ (s : Found). s.ended) (sym is);
-      lines = rest.lines ∙ ap (λ (s : Found). s.lines ++ quiet ns) (sym is) ∙ append_assoc from.lines (is_silent n ∷ []) (quiet ns);
+      lines = rest.lines ∙ ap (λ (s : Found). s.lines ++ quiet ns) (sym is) ∙ append_assoc from.lines (silent_line n ∷ []) (quiet ns);
       asked = asks-control from.asked b (Some (still to.asked)) text texts kind asks
           (ap (λ (s : Found). asked_with (still s.asked) (others texts)) is ∙ rest.asked);
     }
@@ -221,7 +221,7 @@ mapped-asks from state f (Err e) same h = let no : ⊥ = cc in absurd no
 
 kind-asks : (k : CardKind) (from state : Found) (n : ℕ) (text : List ℕ) → from.ended ≡ false → form_kind k from n None text ≡ Ok state → state.asked ≡ from.asked
 unfolding form_control form_statement
-kind-asks Comment from state n text e h = let is : with_line from (is_silent n) ≡ state = cc in ap (λ (t : Found). t.asked) (sym is)
+kind-asks Comment from state n text e h = let is : with_line from (silent_line n) ≡ state = cc in ap (λ (t : Found). t.asked) (sym is)
 kind-asks Control from state n text e h = absurd (if-control from.ended _ state e h)
 kind-asks Statement from state n text e h =
     mapped-asks from state (λ s. with_statement from n (name_field text) s) (statement_of (name_field text) (statement_field text)) (λ s. refl)
@@ -230,7 +230,7 @@ kind-asks Statement from state n text e h =
 kind-ended : (k : CardKind) (from state : Found) (n : ℕ) (text : List ℕ) → from.ended ≡ true → form_kind k from n None text ≡ Ok state
     → (state.ended ≡ true) × (is_statement k ≡ false)
 unfolding form_control form_statement
-kind-ended Comment from state n text e h = let is : with_line from (is_silent n) ≡ state = cc in (ap (λ (t : Found). t.ended) (sym is) ∙ e, refl)
+kind-ended Comment from state n text e h = let is : with_line from (silent_line n) ≡ state = cc in (ap (λ (t : Found). t.ended) (sym is) ∙ e, refl)
 kind-ended Control from state n text e h =
     let (b, asks, is) = control-ok from state n from.ended (asked_with_card from.asked text) h in (ap (λ (t : Found). t.ended) (sym is) ∙ e, refl)
 kind-ended Statement from state n text e h = absurd (if-ended from.ended _ state e h)
@@ -270,15 +270,15 @@ open-front job from to (card ∷ cards) before good e h =
 -- ---- cards behind END that are good
 
 kind-goes : (k : CardKind) (from : Found) (b : Asked) (n : ℕ) (text : List ℕ) → from.ended ≡ true → asked_by k from.asked text ≡ Some b
-    → form_kind k from n None text ≡ Ok (record { ended = true; asked = b; lines = from.lines ++ is_silent n ∷ [] })
+    → form_kind k from n None text ≡ Ok (record { ended = true; asked = b; lines = from.lines ++ silent_line n ∷ [] })
 unfolding form_control
 kind-goes Comment from b n text e is =
     let same : from.asked ≡ b = cc in
-    ap (λ (v : Bool). Ok (record { ended = v; asked = from.asked; lines = from.lines ++ is_silent n ∷ [] })) e
-    ∙ ap (λ (a : Asked). Ok (record { ended = true; asked = a; lines = from.lines ++ is_silent n ∷ [] })) same
+    ap (λ (v : Bool). Ok (record { ended = v; asked = from.asked; lines = from.lines ++ silent_line n ∷ [] })) e
+    ∙ ap (λ (a : Asked). Ok (record { ended = true; asked = a; lines = from.lines ++ silent_line n ∷ [] })) same
 kind-goes Control from b n text e is =
-    ap (λ (v : Bool). if v then next_reading BadControlCard (asked_with_card from.asked text) (λ asked. Ok (record { ended = v; asked = asked; lines = from.lines ++ is_silent n ∷ [] })) else Err BadControlCard) e
-    ∙ ap (λ (o : Option Asked). next_reading BadControlCard o (λ asked. Ok (record { ended = true; asked = asked; lines = from.lines ++ is_silent n ∷ [] }))) is
+    ap (λ (v : Bool). if v then next_reading BadControlCard (asked_with_card from.asked text) (λ asked. Ok (record { ended = v; asked = asked; lines = from.lines ++ silent_line n ∷ [] })) else Err BadControlCard) e
+    ∙ ap (λ (o : Option Asked). next_reading BadControlCard o (λ asked. Ok (record { ended = true; asked = asked; lines = from.lines ++ silent_line n ∷ [] }))) is
 kind-goes Statement from b n text e is = let no : ⊥ = cc in absurd no
 
 all-go : (job : List ℕ) (from : Found) (z : Asked) (cards : List Card) → AreGood job cards → from.ended ≡ true
@@ -289,16 +289,16 @@ all-go job from z [] good e h =
     let same : from.asked ≡ z = some-same from.asked z (asked_with from.asked []) (asks-none from.asked) h in
     ap (λ (v : Bool). Ok (record { ended = v; asked = from.asked; lines = from.lines })) e
     ∙ ap (λ (a : Asked). Ok (record { ended = true; asked = a; lines = from.lines })) same
-    ∙ ap (λ (ls : List Line). Ok (record { ended = true; asked = z; lines = ls })) (sym (append-nil from.lines))
+    ∙ ap (λ (ls : List ReadCard). Ok (record { ended = true; asked = z; lines = ls })) (sym (append-nil from.lines))
 all-go job from z (card ∷ cards) good e h =
     let text = text_in job card in
     let ns = map (λ (c : Card). c.number) cards in
     let (b, is, more) = asks-some from.asked z text (map (text_in job) cards) h in
-    let state : Found = record { ended = true; asked = b; lines = from.lines ++ is_silent card.number ∷ [] } in
+    let state : Found = record { ended = true; asked = b; lines = from.lines ++ silent_line card.number ∷ [] } in
     ap (onward (λ f. pass (form_card job) (λ c. c.number) f cards) card.number)
     (card-text job from card.number card refl good.0 good.1 ∙ kind-goes (kind_of text) from b card.number text e is)
     ∙ all-go job state z cards good.2 refl more
-    ∙ ap (λ (ls : List Line). Ok (record { ended = true; asked = z; lines = ls })) (append_assoc from.lines (is_silent card.number ∷ []) (quiet ns))
+    ∙ ap (λ (ls : List ReadCard). Ok (record { ended = true; asked = z; lines = ls })) (append_assoc from.lines (silent_line card.number ∷ []) (quiet ns))
 
 -- ---- the reader
 
@@ -373,10 +373,10 @@ counted job found all is lines =
     let behind = behind_statements cards in
     let ns = map (λ (card : Card). card.number) behind in
     let whole : length all.lines ≡ length cards =
-    sym (length-map all.lines (λ (line : Line). line.card)) ∙ ap length (form_pass-numbers job cards all is)
+    sym (length-map all.lines (λ (line : ReadCard). line.card)) ∙ ap length (form_pass-numbers job cards all is)
     ∙ length-map cards (λ (card : Card). card.number) in
     let split = ap length lines ∙ length-append found.lines (quiet ns) in
-    let few = length-map ns is_silent ∙ length-map behind (λ (card : Card). card.number) in
+    let few = length-map ns silent_line ∙ length-map behind (λ (card : Card). card.number) in
     let both = sym (length-append (up_to_end cards) behind) ∙ ap length (cards-split cards) in
     omega (arith, whole, split, few, both)
 

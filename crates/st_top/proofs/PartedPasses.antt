@@ -5,7 +5,7 @@ use Rattle.std.proofs.lemmas.List.{length-map}
 use Rattle.std.proofs.lemmas.List.Elements.{filter_map-append}
 use Rattle.st_card.specs.declared.faults.Fault.{Fault}
 use Rattle.st_asm.specs.Pass.{Refusal, onward, pass, pass_then}
-use Rattle.st_asm.specs.Lines.{is_silent}
+use Rattle.st_asm.specs.Lines.{silent_line}
 use Rattle.st_asm.specs.Symbols.{table, has_name, names_of}
 use Rattle.st_asm.specs.Naming.{Named, naming_at_start, name_fault, name_step, name_card, name_pass}
 use Rattle.st_asm.specs.Valuing.{Laid, laying_at_start, value_card, value_pass}
@@ -18,8 +18,8 @@ abbrev type_of : {X : Type 0} → X → Type 0
 type_of {X} x = X
 
 -- what a card is to the passes behind the first one
-abbrev pub Line : Type 0
-Line = type_of (is_silent 0)
+abbrev pub ReadCard : Type 0
+ReadCard = type_of (silent_line 0)
 
 -- ---- passes
 
@@ -63,20 +63,20 @@ pass-append next number from (x ∷ xs) ys =
 -- ---- cards that say nothing
 
 -- the lines of cards that say nothing, by their numbers
-abbrev pub quiet : List ℕ → List Line
-quiet ns = map is_silent ns
+abbrev pub quiet : List ℕ → List ReadCard
+quiet ns = map silent_line ns
 
 no-names : (ns : List ℕ) → names_of (quiet ns) ≡ []
 unfolding names_of
 no-names [] = refl
 no-names (n ∷ ns) = no-names ns
 
-names-same : (lines : List Line) (ns : List ℕ) → names_of (lines ++ quiet ns) ≡ names_of lines
+names-same : (lines : List ReadCard) (ns : List ℕ) → names_of (lines ++ quiet ns) ≡ names_of lines
 unfolding names_of
 names-same lines ns =
-    filter_map-append (λ (line : Line). line.name) lines (quiet ns)
-    ∙ ap (λ names. filter_map (λ (line : Line). line.name) lines ++ names) (no-names ns)
-    ∙ append-nil (filter_map (λ (line : Line). line.name) lines)
+    filter_map-append (λ (line : ReadCard). line.name) lines (quiet ns)
+    ∙ ap (λ names. filter_map (λ (line : ReadCard). line.name) lines ++ names) (no-names ns)
+    ∙ append-nil (filter_map (λ (line : ReadCard). line.name) lines)
 
 -- no place for each
 abbrev pub no_places : List ℕ → List (Option ℕ)
@@ -86,7 +86,7 @@ no_places ns = map (λ n. None) ns
 abbrev pub with_places : Named → List (Option ℕ) → Named
 with_places named places = record { location = named.location; symbols = named.symbols; places = named.places ++ places }
 
-name-silent : (on_cards : List ℕ → Bool) (named : Named) (n : ℕ) → name_card on_cards named (is_silent n) ≡ Ok (with_places named (None ∷ []))
+name-silent : (on_cards : List ℕ → Bool) (named : Named) (n : ℕ) → name_card on_cards named (silent_line n) ≡ Ok (with_places named (None ∷ []))
 unfolding name_card name_fault name_step
 name-silent on_cards named n = ap (λ (ss : List Symbol). Ok (record { location = named.location; symbols = ss; places = named.places ++ None ∷ [] })) (append-nil named.symbols)
 
@@ -98,7 +98,7 @@ name-quiet on_cards named (n ∷ ns) =
     ∙ name-quiet on_cards (with_places named (None ∷ [])) ns
     ∙ ap (λ ps. Ok (record { location = named.location; symbols = named.symbols; places = ps })) (append_assoc named.places (None ∷ []) (no_places ns))
 
-pub names-parted : (lines : List Line) (ns : List ℕ)
+pub names-parted : (lines : List ReadCard) (ns : List ℕ)
     → name_pass (lines ++ quiet ns) ≡ pass_then (name_pass lines) (λ named. Ok (with_places named (no_places ns)))
 unfolding name_pass
 names-parted lines ns =
@@ -122,10 +122,10 @@ abbrev pub with_rows : Laid → List Listed → Laid
 with_rows laid rows = record { image = laid.image; start = laid.start; rows = laid.rows ++ rows }
 
 -- cards that say nothing, with their places
-abbrev quiet_pairs : List ℕ → List (Line × Option ℕ)
-quiet_pairs ns = map (λ n. (is_silent n, None)) ns
+abbrev quiet_pairs : List ℕ → List (ReadCard × Option ℕ)
+quiet_pairs ns = map (λ n. (silent_line n, None)) ns
 
-value-silent : (symbols : List (List ℕ × ℕ)) (laid : Laid) (n : ℕ) → value_card symbols laid (is_silent n, None) ≡ Ok (with_rows laid (quiet_row n ∷ []))
+value-silent : (symbols : List (List ℕ × ℕ)) (laid : Laid) (n : ℕ) → value_card symbols laid (silent_line n, None) ≡ Ok (with_rows laid (quiet_row n ∷ []))
 unfolding value_card
 value-silent symbols laid n = refl
 
@@ -139,16 +139,16 @@ value-quiet symbols laid (n ∷ ns) =
 
 quiet-zipped : (ns : List ℕ) → zip (quiet ns) (no_places ns) ≡ quiet_pairs ns
 quiet-zipped [] = refl
-quiet-zipped (n ∷ ns) = ap (λ rest. (is_silent n, None) ∷ rest) (quiet-zipped ns)
+quiet-zipped (n ∷ ns) = ap (λ rest. (silent_line n, None) ∷ rest) (quiet-zipped ns)
 
-zipped-apart : (lines : List Line) (places : List (Option ℕ)) (ns : List ℕ) → length places ≡ length lines
+zipped-apart : (lines : List ReadCard) (places : List (Option ℕ)) (ns : List ℕ) → length places ≡ length lines
     → zip (lines ++ quiet ns) (places ++ no_places ns) ≡ zip lines places ++ quiet_pairs ns
 zipped-apart [] [] ns same = quiet-zipped ns
 zipped-apart [] (p ∷ ps) ns same = let no : ⊥ = omega arith in absurd no
 zipped-apart (l ∷ ls) [] ns same = let no : ⊥ = omega arith in absurd no
 zipped-apart (l ∷ ls) (p ∷ ps) ns same = ap (λ rest. (l, p) ∷ rest) (zipped-apart ls ps ns (omega arith))
 
-pub values-parted : (symbols : List (List ℕ × ℕ)) (lines : List Line) (places : List (Option ℕ)) (ns : List ℕ) → length places ≡ length lines
+pub values-parted : (symbols : List (List ℕ × ℕ)) (lines : List ReadCard) (places : List (Option ℕ)) (ns : List ℕ) → length places ≡ length lines
     → value_pass symbols (lines ++ quiet ns) (places ++ no_places ns)
     ≡ pass_then (value_pass symbols lines places) (λ laid. Ok (with_rows laid (quiet_rows ns)))
 unfolding value_pass
@@ -164,7 +164,7 @@ values-parted symbols lines places ns same =
 -- ---- both later passes
 
 -- what the name pass and the value pass leave of lines, and with cards that say nothing behind them
-pub record Parts (lines : List Line) (ns : List ℕ) (all : Named) (whole : Laid) : Type 0 where
+pub record Parts (lines : List ReadCard) (ns : List ℕ) (all : Named) (whole : Laid) : Type 0 where
   pub named : Named
   pub laid : Laid
   pub names : name_pass lines ≡ Ok named
@@ -175,7 +175,7 @@ pub record Parts (lines : List Line) (ns : List ℕ) (all : Named) (whole : Laid
   pub rows : whole.rows ≡ laid.rows ++ quiet_rows ns
   pub count : length laid.rows ≡ length lines
 
-pub passes-parted : (lines : List Line) (ns : List ℕ) (all : Named) (whole : Laid) → name_pass (lines ++ quiet ns) ≡ Ok all
+pub passes-parted : (lines : List ReadCard) (ns : List ℕ) (all : Named) (whole : Laid) → name_pass (lines ++ quiet ns) ≡ Ok all
     → value_pass (table all.symbols) (lines ++ quiet ns) all.places ≡ Ok whole → Parts lines ns all whole
 passes-parted lines ns all whole has_names has_values =
     let n = and_then-ok (λ named. Ok (with_places named (no_places ns))) (name_pass lines) all (sym (names-parted lines ns) ∙ has_names) in
@@ -197,5 +197,5 @@ passes-parted lines ns all whole has_names has_values =
       rows = ap (λ (l : Laid). l.rows) (sym so);
       count = sym (length-map v.first.rows (λ (row : Listed). row.card))
           ∙ ap length (value_pass-numbers (table n.first.symbols) lines n.first.places v.first v.is counted)
-          ∙ length-map lines (λ (line : Line). line.card);
+          ∙ length-map lines (λ (line : ReadCard). line.card);
     }

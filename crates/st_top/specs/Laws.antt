@@ -1,10 +1,11 @@
--- The lines of an object text and of a deck, and the number that definitions take from the code of
--- this crate, in figures.
+-- The lines of an object text and of a deck, and the numbers that definitions take from the code of
+-- this crate and of the command line, in figures.
 use Rattle.std.specs.Prelude.{◌≡◌}
 use Rattle.st_io.specs.Lines.{text}
 use Rattle.st_dis.specs.Deck.{deck_text}
 use Rattle.st_object.specs.Object.{Program, object_text}
 use Rattle.st_top.specs.ObjectText.{object_text_lines, deck_lines}
+use Rattle.st_command.specs.declared.command.TheConstants.{MOST_MADE_CARDS}
 use Rattle.st_top.specs.declared.reporting.TheConstants.{LEVELS}
 
 -- The lines of the object text of a program, one after another, are that text.
@@ -18,3 +19,7 @@ LinesAreTheDeck = (p : Program) → text (deck_lines p) ≡ deck_text p
 -- how many levels the machine has that a job runs on
 pub record LevelsInFigures : Type 0 where
   pub levels : LEVELS ≡ 4
+
+-- how many drawn cards a made deck may have
+pub record MadeCardsInFigures : Type 0 where
+  pub most : MOST_MADE_CARDS ≡ 4000

@@ -1,6 +1,6 @@
 -- What the errors of the layers below say of a command that reads a job.
-use Rattle.std.specs.Prelude.{◌≡◌, ℕ, List, Result, Ok, Err}
-use Rattle.st_bits.specs.declared.limits.TheConstants.{LONGEST_JOB}
+use Rattle.std.specs.Prelude.{◌≡◌, ℕ, ◌+◌, List, Result, Ok, Err}
+use Rattle.st_bits.specs.declared.limits.TheConstants.{LONGEST_JOB, MOST_CARDS}
 use Rattle.st_asm.specs.declared.stop.AsmError.{AsmError}
 use Rattle.st_asm.specs.declared.stop.AsmError.TheVariants.{Refused as AsmRefused, NoMemory as AsmNoMemory}
 use Rattle.st_object.specs.declared.reading.ObjectError.{ObjectError}
@@ -38,7 +38,7 @@ of_object ObjectNoMemory = NoMemory
 
 -- the disassembler's error: the first card that is too many is refused
 abbrev pub of_disassembly : DisError → LayerError
-of_disassembly (DeckTooLong cards) = Refused 20001 TooManyCards
+of_disassembly (DeckTooLong cards) = Refused (MOST_CARDS + 1) TooManyCards
 of_disassembly DisNoMemory = NoMemory
 
 -- what an error says of the output that is wanted: it is that of the refused card, or memory ran

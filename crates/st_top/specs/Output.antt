@@ -1,5 +1,5 @@
 -- What the program writes for a command and a job.
-use Rattle.std.specs.Prelude.{ℕ, slice_index, List, [], ◌∷◌, ◌++◌, nat_le, if◌then◌else◌, Option, None, Some, Result, Ok, Err}
+use Rattle.std.specs.Prelude.{ℕ, ◌+◌, slice_index, List, [], ◌∷◌, ◌++◌, nat_le, if◌then◌else◌, Option, None, Some, Result, Ok, Err}
 use Rattle.st_bits.specs.declared.limits.TheConstants.{MOST_CARDS}
 use Rattle.st_card.specs.Controls.{Asked}
 use Rattle.st_card.specs.Faults.{name_of}
@@ -115,7 +115,7 @@ loaded_by (Err n) = refusal_output (record { card = n; fault = BadObjectCard })
 abbrev pub deck_by : Program → Output
 deck_by p =
     if nat_le (card_count p) MOST_CARDS then lines_alone Done (deck_lines p)
-    else refusal_output (record { card = 20001; fault = TooManyCards })
+    else refusal_output (record { card = MOST_CARDS + 1; fault = TooManyCards })
 
 -- the output of `disassemble`, by what an object text holds: its deck, or the number of its bad
 -- line

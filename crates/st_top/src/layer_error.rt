@@ -3,6 +3,7 @@ ghost use Rattle.std.specs.Prelude.{◌≡◌};
 ghost use Rattle.st_top.specs.Layers.{of_reading, of_assembly, of_object, of_disassembly};
 
 use st_asm::AsmError;
+use st_bits::limits::MOST_CARDS;
 use st_card::Fault;
 use st_dis::DisError;
 use st_io::ReadError;
@@ -62,7 +63,7 @@ impl From<ObjectError> for LayerError {
 }
 
 // The first card that is too many for an assembler.
-const FIRST_CARD_TOO_MANY: u32 = 20_001;
+const FIRST_CARD_TOO_MANY: u32 = MOST_CARDS + 1;
 
 impl From<DisError> for LayerError {
     ghost from_gives = { λ e made. made ≡ of_disassembly e };

@@ -5,6 +5,7 @@ ghost use Rattle.std.specs.String.{string_bytes};
 ghost use Rattle.st_bits.specs.declared.limits.TheConstants.{LONGEST_JOB};
 ghost use Rattle.st_asm.specs.Assembly.{assembly};
 ghost use Rattle.st_command.specs.Command.{command_of, IsWithinCards};
+ghost use Rattle.st_command.specs.declared.command.TheConstants.{MOST_MADE_CARDS};
 ghost use Rattle.st_command.specs.CommandLine.{is_plain};
 ghost use Rattle.st_command.specs.declared.command.Command.TheVariants.{Assemble, Load, Disassemble, Sweep};
 ghost use Rattle.st_top.specs.Output.{output_of, delays_of, ran_by, assembled_delays, soak_output, soaked_delays};
@@ -103,7 +104,7 @@ fn run_made<K: Sink>(
     cards: u32,
     out: &mut K,
 ) -> Result<Answer, LayerError>
-    requires { cards ≤ 4000 }
+    requires { cards ≤ MOST_MADE_CARDS }
     ensures { Ends (K.output out.old) (K.output out.new) (soak_output number cards)
         (soaked_delays number cards) result }
 {
@@ -172,7 +173,7 @@ fn answer<S: Source, K: Sink>(alloc: Global, command: Command, job: &mut S, out:
 // Runs a made deck, or says why it does not.
 #[tactic(auto, using(st_bits::specs::Storage::words_of_storage_is, crate::proofs::Times::keeps_still))]
 fn answer_made<K: Sink>(alloc: Global, number: u64, cards: u32, out: &mut K) -> Answer
-    requires { cards ≤ 4000 }
+    requires { cards ≤ MOST_MADE_CARDS }
     ensures writes { Writes result.status (K.output out.old) (K.output out.new)
         (soak_output number cards) result }
     ensures in_time { KeepsTime (soaked_delays number cards) result }

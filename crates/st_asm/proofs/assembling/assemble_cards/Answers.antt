@@ -10,8 +10,8 @@ use Rattle.st_asm.specs.Forming.{form_pass, found_in}
 use Rattle.st_asm.specs.Naming.{name_pass, named_in}
 use Rattle.st_asm.specs.Valuing.{value_pass, laid_in}
 use Rattle.st_asm.specs.Sound.{IsLocation, IsAssemblySound}
-use Rattle.st_asm.specs.Kept.{IsLine}
-use Rattle.st_asm.specs.declared.line.Line.{Line}
+use Rattle.st_asm.specs.Kept.{IsReadCard}
+use Rattle.st_asm.specs.declared.line.ReadCard.{ReadCard}
 use Rattle.st_asm.proofs.KeptLemmas.{few-cards, form_pass-deck, name_pass-named, together-sound}
 use Rattle.st_asm.proofs.FaultlessLemmas.{form_pass-faultless}
 use Rattle.st_asm.proofs.assembling.assemble_cards.Goals as goal
@@ -29,23 +29,23 @@ name_pass-requires c =
     let formed = ap (λ (cs : List Card). form_pass c.args.job.now cs) (sym c.requires)
     ∙ c.in_ok-deck.ensures.ok in
     let deck = form_pass-deck c.args.job.now (cards_of c.args.job.now) (found_in c.in_ok-deck.deck) formed in
-    All-same (λ (line : Line). IsWellFormedIfAny line.statement) _ _ c.as_slice.ensures.value
-    (All-weaker IsLine (λ (line : Line). IsWellFormedIfAny line.statement) (λ line is. is.well) _ deck.lines)
+    All-same (λ (line : ReadCard). IsWellFormedIfAny line.statement) _ _ c.as_slice.ensures.value
+    (All-weaker IsReadCard (λ (line : ReadCard). IsWellFormedIfAny line.statement) (λ line is. is.well) _ deck.lines)
 
 pub value_pass-requires-clause-well : goal.value_pass-requires-clause-well
 value_pass-requires-clause-well c =
     let formed = ap (λ (cs : List Card). form_pass c.args.job.now cs) (sym c.requires)
     ∙ c.in_ok-deck.ensures.ok in
     let deck = form_pass-deck c.args.job.now (cards_of c.args.job.now) (found_in c.in_ok-deck.deck) formed in
-    All-same (λ (line : Line). IsWellFormedIfAny line.statement) _ _ c.as_slice-2.ensures.value
-    (All-weaker IsLine (λ (line : Line). IsWellFormedIfAny line.statement) (λ line is. is.well) _ deck.lines)
+    All-same (λ (line : ReadCard). IsWellFormedIfAny line.statement) _ _ c.as_slice-2.ensures.value
+    (All-weaker IsReadCard (λ (line : ReadCard). IsWellFormedIfAny line.statement) (λ line is. is.well) _ deck.lines)
 
 pub value_pass-requires-clause-located : goal.value_pass-requires-clause-located
 value_pass-requires-clause-located c =
     let formed = ap (λ (cs : List Card). form_pass c.args.job.now cs) (sym c.requires)
     ∙ c.in_ok-deck.ensures.ok in
     let deck = form_pass-deck c.args.job.now (cards_of c.args.job.now) (found_in c.in_ok-deck.deck) formed in
-    let named = ap (λ (ls : List Line). name_pass ls) (sym c.as_slice.ensures.value) ∙ c.in_ok-names.ensures.ok in
+    let named = ap (λ (ls : List ReadCard). name_pass ls) (sym c.as_slice.ensures.value) ∙ c.in_ok-names.ensures.ok in
     let names = name_pass-named c.in_ok-deck.deck.lines.items (named_in c.in_ok-names.names) named deck.lines in
     All-same IsLocation _ _ c.as_slice-3.ensures.value names.places
 
@@ -53,10 +53,10 @@ pub returns-clause-sound : goal.returns-clause-sound
 returns-clause-sound c =
     let formed = ap (λ (cs : List Card). form_pass c.args.job.now cs) (sym c.requires)
     ∙ c.in_ok-deck.ensures.ok in
-    let named = ap (λ (ls : List Line). name_pass ls) (sym c.as_slice.ensures.value) ∙ c.in_ok-names.ensures.ok in
+    let named = ap (λ (ls : List ReadCard). name_pass ls) (sym c.as_slice.ensures.value) ∙ c.in_ok-names.ensures.ok in
     let laid = ap (λ (t : List (List ℕ × ℕ)). value_pass t c.in_ok-deck.deck.lines.items c.in_ok-names.names.places.items)
     (sym c.in_ok-names.ensures.kept.table_is)
-    ∙ (ap (λ (ls : List Line). value_pass c.in_ok-names.names.table ls c.in_ok-names.names.places.items) (sym c.as_slice-2.ensures.value)
+    ∙ (ap (λ (ls : List ReadCard). value_pass c.in_ok-names.names.table ls c.in_ok-names.names.places.items) (sym c.as_slice-2.ensures.value)
     ∙ (ap (λ (ps : List (Option ℕ)). value_pass c.in_ok-names.names.table c.as_slice-2.result.now ps) (sym c.as_slice-3.ensures.value)
     ∙ c.in_ok-layout.ensures.ok)) in
     let sound = together-sound c.args.job.now (found_in c.in_ok-deck.deck) (named_in c.in_ok-names.names) (laid_in c.in_ok-layout.layout)

@@ -1,7 +1,7 @@
 use Rattle.std.proofs.Common.{◌∙◌, ap, sym, subst}
 use Rattle.std.specs.Bool.{IsTrue}
 use Rattle.st_asm.specs.Checks.{in_storage}
-use Rattle.st_asm.specs.Places.{role_of, length_in}
+use Rattle.st_asm.specs.Places.{placing_of, length_in}
 use Rattle.st_asm.proofs.FaultLemmas.{faultless, first-below, second-below, laid-in_storage}
 use Rattle.st_asm.proofs.valuing.lay.Goals as goal
 
@@ -20,10 +20,10 @@ bits_of-bits-requires-clause-fits c =
 pub put_bits-requires-clause-inside : goal.put_bits-requires-clause-inside
 put_bits-requires-clause-inside c =
     let f = faultless c.args.s.now c.args.v _ c.requires.good in
-    let laid = laid-in_storage (role_of c.args.s.now) c.args.v.first _ f.3 in
-    let size = c.length-length.ensures.length ∙ ap (λ r. length_in r) c.role_of.ensures.role in
+    let laid = laid-in_storage (placing_of c.args.s.now) c.args.v.first _ f.3 in
+    let size = c.length-length.ensures.length ∙ ap (λ r. length_in r) c.placing_of.ensures.placing in
     subst (λ n. IsTrue (in_storage c.unwrap_or.result n)) (sym size)
-    (subst (λ p. IsTrue (in_storage p (length_in (role_of c.args.s.now)))) (sym c.unwrap_or.ensures) laid)
+    (subst (λ p. IsTrue (in_storage p (length_in (placing_of c.args.s.now)))) (sym c.unwrap_or.ensures) laid)
 
 pub start_behind-layout-requires : goal.start_behind-layout-requires
 start_behind-layout-requires c =

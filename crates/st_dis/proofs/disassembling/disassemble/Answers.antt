@@ -16,8 +16,8 @@ push_deck-requires-clause-few c =
 pub returns-in-Ok-clause-short : goal.returns-in-Ok-clause-short
 returns-in-Ok-clause-short c =
     let p : Program = record { words = c.args.words.now; start = c.args.start; controls = c.args.controls.now } in
-    let counted = c.card_count-cards.ensures in
+    let counted = c.card_count-cards.ensures.count in
     let under = c.if-cards-gt-MOST_CARDS.false in
     let few : card_count p ≤ 20000 = omega (arith, counted, under) in
     let text = c.in-Ok.ensures ∙ ap (λ (s : List ℕ). s ++ deck_text p) c.new-deck.ensures.items in
-    subst (λ (s : List ℕ). length s ≤ 2000000) (sym text) (deck_text-short p c.requires c.know_words.ensures few)
+    subst (λ (s : List ℕ). length s ≤ 2000000) (sym text) (deck_text-short p c.requires c.card_count-cards.ensures.words few)

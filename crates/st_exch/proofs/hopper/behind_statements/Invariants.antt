@@ -1,9 +1,11 @@
-use Rattle.std.proofs.Common.{◌≤◌, length}
+use Rattle.std.proofs.Common.{◌≡◌, ◌≤◌, false, length, drop}
+use Rattle.st_exch.specs.Reader.{has_statement}
 use Rattle.st_exch.proofs.hopper.behind_statements.Given as goal
 
 abbrev pub invariant-cards : goal.invariant-cards
 invariant-cards l = record {
   within : l.count ≤ length l.cards;
+  none : has_statement (drop l.count l.cards) ≡ false;
 }
 
 abbrev pub decreases-cards : goal.decreases-cards
