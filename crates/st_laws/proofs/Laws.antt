@@ -1,5 +1,6 @@
 -- The laws that tie crates which do not know each other, and the numbers in figures.
 use Rattle.st_expr.specs.System.{system_symbols}
+use Rattle.st_entries.specs.Caption.{indicator_text, indicator_names}
 use Rattle.st_strap.specs.Reading.{index_fields}
 use Rattle.std.proofs.Common.{refl, rules}
 use Rattle.st_laws.specs.Laws.{LimitsInFigures, ControlsInFigures, RegistersInFigures, IndicatorsInFigures, DigitsAgree, CountsAgree, SymbolsAgree, SizesOfStorageAgree, NumbersAgree, MadeDecksAreNotRefused, LaidNumbersAreRead, BanksInFigures, FormatsInFigures, ExpressionsInFigures, StatementsInFigures, DrawnWordsInFigures}
@@ -109,11 +110,12 @@ counts_agree = record {
 }
 
 pub symbols_agree : SymbolsAgree
-unfolding index_fields system_symbols
+unfolding index_fields system_symbols indicator_text indicator_names
 symbols_agree = record {
   index_words = search rules;
   zeros_count = search rules;
   ones_count = search rules;
+  indicators = refl;
 }
 
 pub sizes_of_storage_agree : SizesOfStorageAgree

@@ -1,6 +1,6 @@
 -- What ties crates that do not know each other, and the numbers that definitions take from the
 -- code, in figures.
-use Rattle.std.specs.Prelude.{◌≡◌, ◌≤◌, ◌<◌, ◌+◌, ◌*◌, ◌^◌, ◌==◌, ◌&&◌, ◌||◌, nat_le, nat_lt, ℕ, List, Some, map, codes, length, sum, decimal, Ok, true, Bool, false}
+use Rattle.std.specs.Prelude.{◌≡◌, ◌≤◌, ◌<◌, ◌+◌, ◌*◌, ◌^◌, ◌==◌, ◌&&◌, ◌||◌, nat_le, nat_lt, ℕ, List, Some, map, codes, length, sum, decimal, Ok, true, Bool, false, ◌-◌, ◌++◌}
 use Rattle.st_bits.specs.declared.limits.TheConstants.{WORDS, LAST_WORD, MOST_INSTRUCTIONS, LONGEST_LIST, MOST_DELAY, LONGEST_JOB, MOST_CARDS}
 use Rattle.st_card.specs.declared.limits.TheConstants.{MOST_DUMPS, MOST_SNAPS, MOST_BACK, MOST_NUMBER}
 use Rattle.st_bits.specs.declared.register.TheConstants.{ZERO, INTERRUPT_ADDRESS, BOUNDS, COUNTS, LEFT_HALF, RIGHT_HALF, SIGN_BYTE, INDICATORS, MASK, REMAINDER, FACTOR, TRANSIT, FIRST_INDEX_WORD, FIRST_STORAGE_WORD}
@@ -15,7 +15,9 @@ use Rattle.st_conn.specs.Connection.{counts_of}
 use Rattle.st_card.specs.Controls.{card_number}
 use Rattle.st_card.specs.Limits.{is_part}
 use Rattle.st_text.specs.Tables.{row_of}
-use Rattle.st_expr.specs.System.{index_word_names, system_symbols}
+use Rattle.st_expr.specs.System.{index_word_names, indicator_symbols, system_symbols}
+use Rattle.st_entries.specs.Caption.{indicator_text}
+use Rattle.st_text.specs.Blanks.{without_end_blanks}
 use Rattle.st_strap.specs.Reading.{index_fields}
 use Rattle.st_object.specs.Meaning.{short_number}
 use Rattle.st_asm.specs.Checks.{in_storage}
@@ -134,12 +136,16 @@ pub record CountsAgree : Type 0 where
       → register_word COUNTS (counts_of bs) ≡ counts_of bs
 
 -- The system symbols stand for the places that the machine has: `$X0` to `$X15` for the index words
--- that index fields name, `$LZC` and `$AOC` for the two counts.
+-- that index fields name, `$LZC` and `$AOC` for the two counts. The symbol of an indicator is its
+-- name in a picture behind `$`.
 pub record SymbolsAgree : Type 0 where
   pub index_words : index_word_names
       ≡ map (λ row. (row.0, 64 * (FIRST_INDEX_WORD + row.1))) index_fields
   pub zeros_count : row_of (codes "$LZC") system_symbols ≡ Some (64 * COUNTS + 17)
   pub ones_count : row_of (codes "$AOC") system_symbols ≡ Some (64 * COUNTS + 44)
+  pub indicators : map (λ row. row.0) indicator_symbols
+      ≡ map (λ row. codes "$" ++ without_end_blanks (indicator_text (row.1 - 64 * INDICATORS)))
+      indicator_symbols
 
 -- What is laid, and what is shown of storage, ends where storage does.
 pub record SizesOfStorageAgree : Type 0 where
@@ -184,7 +190,7 @@ pub record LaidNumbersAreRead : Type 0 where
       → let h = laid_shape form negated offset in
       digit_bytes (field_of_number form minus number h) h ≡ digit_list (digit_count h) number
 
--- how many banks storage has
+-- how many banks storage has, and how many words lie in the first four of them
 pub record BanksInFigures : Type 0 where
   pub banks : BANKS ≡ 6
   pub low_words : LOW_WORDS ≡ 65536
