@@ -1,7 +1,7 @@
 //! What is known of an entry besides how it is prepared.
-ghost use Rattle.std.specs.Prelude.{◌≡◌, ◌<◌, ◌^◌, None, Some, if◌then◌else◌};
+ghost use Rattle.std.specs.Prelude.{◌≡◌, None, Some, if◌then◌else◌};
 ghost use Rattle.st_format.specs.Halves.{is_full as has_ones};
-ghost use Rattle.st_format.specs.Formats.{decoded_entry, second_half as second_half_of};
+ghost use Rattle.st_format.specs.Formats.{decoded_entry};
 ghost use Rattle.st_prep.specs.Reading.{fetched_plain};
 ghost use Rattle.st_prep.specs.Ranges.{HasFields, IsFetched};
 ghost use Rattle.st_plain.specs.Looking.{code_of as code_by, code_found as code_found_of};

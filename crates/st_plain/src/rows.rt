@@ -1,5 +1,5 @@
 //! The row of an entry, with its reads noted in a log.
-ghost use Rattle.std.specs.Prelude.{◌≡◌, ℕ, ◌+◌, ◌-◌, ◌<◌, ◌≤◌, ◌^◌, ◌∷◌, ◌++◌, List, length, take, IfSome};
+ghost use Rattle.std.specs.Prelude.{◌≡◌, ℕ, ◌+◌, ◌-◌, ◌≤◌, ◌^◌, ◌∷◌, ◌++◌, List, length, take, IfSome};
 ghost use Rattle.st_bits.specs.declared.limits.TheConstants.{MOST_DELAY};
 ghost use Rattle.st_rows.specs.Asked.{words_asked, fetches_asked, formed_asked, reads_of_entry as asked_of};
 ghost use Rattle.st_rows.specs.Notes.{log_after_reads};

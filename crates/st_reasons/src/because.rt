@@ -3,7 +3,7 @@ ghost use Rattle.std.specs.Prelude.{◌≡◌, ◌-◌, ◌≤◌, nat_eq, find,
 ghost use Rattle.st_reasons.specs.declared.because.Because.TheVariants.{Prefetch as PrefetchOf};
 ghost use Rattle.std.specs.List.{list_any};
 ghost use Rattle.st_rows.specs.Rows.{done_before};
-ghost use Rattle.st_reasons.specs.Reasons.{row_reason, back_to as back_by, is_first as is_first_of, is_written as is_written_of, is_stored as is_stored_of, reason_done, reason_in_order, reason_of_bus, reason_of_words, reason_of_address, writer_of_supply as writer_by, side_writer as side_writer_of, reason_of_side, because as because_of};
+ghost use Rattle.st_reasons.specs.Reasons.{row_reason, back_to as back_by, is_first as is_first_of, is_written as is_written_of, is_stored as is_stored_of, reason_done, reason_in_order, reason_of_bus, reason_of_words, reason_of_address, writer_of_supply as writer_by, side_writer as side_writer_of, because as because_of};
 
 use crate::uses::{decides, is_index, is_instruction, is_read, last_use, read_of};
 use st_bits::register::FIRST_STORAGE_WORD;

@@ -1,5 +1,5 @@
 -- The next entry of a state, as the timetable sees it.
-use Rattle.std.specs.Prelude.{ℕ, ◌-◌, suc, ◌&&◌, nat_le, if◌then◌else◌, is_none, List, [], ◌∷◌, length, take, drop, Option, None, Some, IfSome, ◌<◌}
+use Rattle.std.specs.Prelude.{ℕ, ◌-◌, suc, ◌&&◌, nat_le, if◌then◌else◌, is_none, List, [], ◌∷◌, length, take, drop, Option, None, Some}
 use Rattle.st_bits.specs.declared.register.TheConstants.{FIRST_STORAGE_WORD}
 use Rattle.st_state.specs.Machine.{Machine, word}
 use Rattle.st_prep.specs.Fetch.{place_of, reading_of, words_fetched}

@@ -1,5 +1,5 @@
 -- A run that is prepared starts from the scene that is meant.
-use Rattle.std.proofs.Common.{◌≡◌, ◌<◌, ℕ, [], List, All, refl, sym, ◌∙◌, ap, subst}
+use Rattle.std.proofs.Common.{◌≡◌, ℕ, [], List, All, refl, ◌∙◌, ap, subst}
 use Rattle.st_card.specs.Controls.{Asked}
 use Rattle.st_state.specs.Machine.{Machine, IsMachine, opening_state}
 use Rattle.st_card.specs.declared.control_cards.Signal.{Signal}
