@@ -13,6 +13,7 @@ mod pieces;
 mod run;
 mod state_block;
 mod sweep;
+mod writing;
 
 pub use cards::{line_listed, line_symbol};
 pub use entry_line::EntryLine;
@@ -26,3 +27,4 @@ pub use run::{
 pub use st_text::Line;
 pub use state_block::{line_dump, line_en, line_ic, line_mem, line_reg};
 pub use sweep::{line_calm, line_levels};
+pub use writing::put;
