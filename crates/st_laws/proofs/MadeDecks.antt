@@ -27,7 +27,7 @@ use Rattle.st_dis.proofs.DeckCards.{control_cards-kind}
 use Rattle.st_dis.proofs.ControlsRead.{controls-read}
 use Rattle.st_dis.proofs.PlacesRead.{start-read}
 use Rattle.st_dis.proofs.Said.{spoken_lines, silent_lines}
-use Rattle.st_dis.proofs.FormPass.{IsControl, job_cards, found_in_job, job-formed}
+use Rattle.st_dis.proofs.FormPass.{job_cards, found_in_job, job-formed}
 use Rattle.st_dis.proofs.StatementSteps.{stand, end-steps}
 use Rattle.st_dis.proofs.PassesLead.{GivesProgram, leads-give}
 use Rattle.st_dis.proofs.ThreePasses.{assembled, defaults-kept}

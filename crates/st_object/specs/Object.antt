@@ -1,8 +1,8 @@
 -- Object texts, what they hold, and the first bad line of a text that is none.
 use Rattle.std.specs.Prelude.{ℕ, ◌≡◌, ◌≤◌, ◌<◌, ◌+◌, ◌-◌, ◌^◌, false, List, [], ◌∷◌, ◌++◌, length, take, replicate, Option, is_some, unwrap_or, Result, Ok, Err, if◌then◌else◌}
-use Rattle.std.specs.List.{All, flat_map}
+use Rattle.std.specs.List.{All}
 use Rattle.std.specs.Option.{option_and_then, option_map_or}
-use Rattle.st_text.specs.Bytes.{line_end, lf}
+use Rattle.st_text.specs.Bytes.{line_end}
 use Rattle.st_bits.specs.Storage.{IsImage, words_of_storage}
 use Rattle.st_card.specs.Controls.{Asked}
 use Rattle.st_card.specs.Limits.{IsWithinLimits}
