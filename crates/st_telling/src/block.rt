@@ -8,16 +8,9 @@ ghost use Rattle.st_io.specs.Lines.{WritesLines, lines_for};
 ghost use Rattle.st_report.specs.Line.{ic_line, en_line, dump_line};
 ghost use Rattle.st_telling.specs.Report.{block, register_lines, memory_lines, dump_lines, dumps_lines};
 
-use st_io::{Failed, Sink, write_line};
-use st_report::{Line, line_dump, line_en, line_ic, line_mem, line_reg};
+use st_io::{Failed, Sink};
+use st_report::{line_dump, line_en, line_ic, line_mem, line_reg, put};
 use st_run::Seen;
-
-/// Writes a line of the report. After an error the sink has a proper front of it.
-pub fn put<K: Sink>(out: &mut K, line: &Line) -> Result<(), Failed>
-    ensures { WritesLines (K.output out.old) (K.output out.new) (line.now.bytes ∷ []) result }
-{
-    write_line(out, line.as_str().as_bytes())
-}
 
 // Writes the line of register `w`, where it is not zero.
 #[tactic(auto, using(st_io::proofs::Progress::wrote_nothing, st_bits::specs::Storage::words_of_storage_is))]

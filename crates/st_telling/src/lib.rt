@@ -5,6 +5,6 @@ mod block;
 mod moment;
 mod telling;
 
-pub use block::put;
 pub use moment::Moment;
+pub use st_report::put;
 pub use telling::{write_run, write_state};

@@ -10,7 +10,7 @@ ghost use Rattle.st_run.specs.Telling.{AreLevelsShown, row_told, told_as};
 ghost use Rattle.st_telling.specs.Report.{block, line_if, done_lines, interrupt_lines, snapshot_lines, end_lines, lines_told, report};
 ghost use Rattle.st_telling.specs.Running.{WritesEvents, WritesNothing, last_moment, views_lines};
 
-use crate::block::{put, write_block};
+use crate::block::write_block;
 use crate::moment::Moment;
 use arrayvec::ArrayString;
 use st_ahead::{LevelView, Row, View};
@@ -18,6 +18,7 @@ use st_card::Controls;
 use st_io::{Failed, Sink, write_line};
 use st_report::{
     EntryLine, fill_trc, line_done, line_drop, line_end, line_int, line_prt, line_ticks, line_time,
+    put,
 };
 use st_run::{Run, RunEvent, Seen, TimedRunEvent};
 use st_time::{fill_chart, level_line, snap_line};
