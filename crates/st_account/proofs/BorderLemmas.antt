@@ -28,7 +28,7 @@ use Rattle.st_lines.specs.Lines.{start_line}
 use Rattle.st_account.specs.Standing.{kept_lines, IsBehindMoment}
 use Rattle.st_lines.proofs.LineLemmas.{end-same}
 use Rattle.st_lines.specs.BorderLines.{segment_end_lines, taken_by, en_lines, prints_lines, words_lines, marks_lines, state_lines}
-use Rattle.st_account.specs.Text.{run_ends, segment_ends, segment_end_at, late_at, state_lines_at, words_behind, why_by, why, segment_lines, segment_after, words_before, last_lines}
+use Rattle.st_account.specs.Text.{run_ends, segment_ends, segment_end_at, begun_at, state_lines_at, words_behind, why_by, why, segment_lines, segment_after, words_before, last_lines}
 
 choice-lines : (b : Bool) (xs ys : List (List ℕ)) → (b ≡ true → xs ≡ ys) → (if b then xs else []) ≡ (if b then ys else [])
 choice-lines true xs ys same = same refl
@@ -117,13 +117,13 @@ module _ (ds : List ℕ) (levels : ℕ) (m : Moment) (s : Machine) (l : Last) (f
     pub after-is : (k : ℕ) (begins : Bool) → begins ≡ (nat_eq k 0 || ends) → (if begins then k + 1 else k) ≡ segment_after k m
     after-is k begins is_begins = ap (λ b. if b then k + 1 else k) (is_begins ∙ ap (λ b. nat_eq k 0 || b) e)
 
-    pub border-lines : (o : Machine → ℕ → Option Origin) (b : Machine) (was : Bool) (old : List ℕ) (ws : List (List ℕ)) (late : List Ahead) → b.enabled ≡ was → ws ≡ words_behind m
-        → (k n start : ℕ) (begins : Bool) (y : Why) → (k ≢ 0 → old ≡ b.words) → (ends_segment m ≡ true → k ≢ 0 → late ≡ late_at ds levels b m) → begins ≡ (nat_eq k 0 || ends) → n ≡ s.done + 1 → start ≡ (next_front m).c
+    pub border-lines : (o : Machine → ℕ → Option Origin) (b : Machine) (was : Bool) (old : List ℕ) (ws : List (List ℕ)) (begun : List Ahead) → b.enabled ≡ was → ws ≡ words_behind m
+        → (k n start : ℕ) (begins : Bool) (y : Why) → (k ≢ 0 → old ≡ b.words) → (ends_segment m ≡ true → k ≢ 0 → begun ≡ begun_at ds levels b m) → begins ≡ (nat_eq k 0 || ends) → n ≡ s.done + 1 → start ≡ (next_front m).c
         → y ≡ (if nat_eq k 0 then Run else why_by taken l.missed)
-        → (((if ends then segment_end_lines (o s) k l.tick n found late else []) ++ state_lines ws k was old s taken s.done)
+        → (((if ends then segment_end_lines (o s) k l.tick n found begun else []) ++ state_lines ws k was old s taken s.done)
         ++ (if begins then start_line (k + 1) start waited y ∷ [] else [])) ≡ segment_lines o ds levels k b m
     unfolding segment_lines why
-    border-lines o b was old ws late is_was is_printed k n start begins y is_words is_late is_begins is_n is_start is_why =
+    border-lines o b was old ws begun is_was is_printed k n start begins y is_words is_begun is_begins is_n is_start is_why =
         let all = is_begins ∙ ap (λ b. nat_eq k 0 || b) e in
         let number : n ≡ m.scene.machine.done + 1 = is_n ∙ ap (λ d. d + 1) (same-done m s is.state) in
         let name : y ≡ (if nat_eq k 0 then Run else why_by (interrupt (next_state m)) m.missed) =
@@ -136,32 +136,32 @@ module _ (ds : List ℕ) (levels : ℕ) (m : Moment) (s : Machine) (l : Last) (f
         ∙ state-words (words_behind m) k b.enabled old b.words s taken s.done is_words
         ∙ ap (λ i. state_lines (words_behind m) k b.enabled b.words s i s.done) is_taken
         ∙ ap (state_lines_at (words_behind m) k b) (sym is.state) in
-        ap (λ b. ((if b then segment_end_lines (o s) k l.tick n found late else []) ++ state_lines ws k was old s taken s.done)
+        ap (λ b. ((if b then segment_end_lines (o s) k l.tick n found begun else []) ++ state_lines ws k was old s taken s.done)
         ++ (if begins then start_line (k + 1) start waited y ∷ [] else [])) e
         ∙ ap (λ xs. (xs ++ state_lines ws k was old s taken s.done) ++ (if begins then start_line (k + 1) start waited y ∷ [] else []))
-        (choice-lines (ends_segment m) (segment_end_lines (o s) k l.tick n found late) (segment_end_lines (o (next_state m)) k m.tick (m.scene.machine.done + 1) (map (seen_ahead ds levels) m.dropped) (late_at ds levels b m)) (λ yes.
-        end-same (o s) k l.tick n found late (late_at ds levels b m) (is_late yes)
-        ∙ ap (λ xs. segment_end_lines (o s) k l.tick n xs (late_at ds levels b m)) (is.dropped yes)
-        ∙ ap (λ t. segment_end_lines (o s) k t n (map (seen_ahead ds levels) m.dropped) (late_at ds levels b m)) (sym is.tick)
-        ∙ ap (λ j. segment_end_lines (o s) k m.tick j (map (seen_ahead ds levels) m.dropped) (late_at ds levels b m)) number
-        ∙ ap (λ u. segment_end_lines (o u) k m.tick (m.scene.machine.done + 1) (map (seen_ahead ds levels) m.dropped) (late_at ds levels b m)) (sym is.state)))
-        ∙ ap (λ xs. ((if ends_segment m then segment_end_lines (o (next_state m)) k m.tick (m.scene.machine.done + 1) (map (seen_ahead ds levels) m.dropped) (late_at ds levels b m) else []) ++ xs)
+        (choice-lines (ends_segment m) (segment_end_lines (o s) k l.tick n found begun) (segment_end_lines (o (next_state m)) k m.tick (m.scene.machine.done + 1) (map (seen_ahead ds levels) m.dropped) (begun_at ds levels b m)) (λ yes.
+        end-same (o s) k l.tick n found begun (begun_at ds levels b m) (is_begun yes)
+        ∙ ap (λ xs. segment_end_lines (o s) k l.tick n xs (begun_at ds levels b m)) (is.dropped yes)
+        ∙ ap (λ t. segment_end_lines (o s) k t n (map (seen_ahead ds levels) m.dropped) (begun_at ds levels b m)) (sym is.tick)
+        ∙ ap (λ j. segment_end_lines (o s) k m.tick j (map (seen_ahead ds levels) m.dropped) (begun_at ds levels b m)) number
+        ∙ ap (λ u. segment_end_lines (o u) k m.tick (m.scene.machine.done + 1) (map (seen_ahead ds levels) m.dropped) (begun_at ds levels b m)) (sym is.state)))
+        ∙ ap (λ xs. ((if ends_segment m then segment_end_lines (o (next_state m)) k m.tick (m.scene.machine.done + 1) (map (seen_ahead ds levels) m.dropped) (begun_at ds levels b m) else []) ++ xs)
         ++ (if begins then start_line (k + 1) start waited y ∷ [] else [])) state
-        ∙ ap (λ q. ((if ends_segment m then segment_end_lines (o (next_state m)) k m.tick (m.scene.machine.done + 1) (map (seen_ahead ds levels) m.dropped) (late_at ds levels b m) else []) ++ state_lines_at (words_behind m) k b (next_state m))
+        ∙ ap (λ q. ((if ends_segment m then segment_end_lines (o (next_state m)) k m.tick (m.scene.machine.done + 1) (map (seen_ahead ds levels) m.dropped) (begun_at ds levels b m) else []) ++ state_lines_at (words_behind m) k b (next_state m))
         ++ (if q then start_line (k + 1) start waited y ∷ [] else [])) all
-        ∙ ap (λ t. ((if ends_segment m then segment_end_lines (o (next_state m)) k m.tick (m.scene.machine.done + 1) (map (seen_ahead ds levels) m.dropped) (late_at ds levels b m) else []) ++ state_lines_at (words_behind m) k b (next_state m))
+        ∙ ap (λ t. ((if ends_segment m then segment_end_lines (o (next_state m)) k m.tick (m.scene.machine.done + 1) (map (seen_ahead ds levels) m.dropped) (begun_at ds levels b m) else []) ++ state_lines_at (words_behind m) k b (next_state m))
         ++ (if nat_eq k 0 || ends_segment m then start_line (k + 1) t waited y ∷ [] else [])) is_start
-        ∙ ap (λ w. ((if ends_segment m then segment_end_lines (o (next_state m)) k m.tick (m.scene.machine.done + 1) (map (seen_ahead ds levels) m.dropped) (late_at ds levels b m) else []) ++ state_lines_at (words_behind m) k b (next_state m))
+        ∙ ap (λ w. ((if ends_segment m then segment_end_lines (o (next_state m)) k m.tick (m.scene.machine.done + 1) (map (seen_ahead ds levels) m.dropped) (begun_at ds levels b m) else []) ++ state_lines_at (words_behind m) k b (next_state m))
         ++ (if nat_eq k 0 || ends_segment m then start_line (k + 1) (next_front m).c w y ∷ [] else [])) is.waited
-        ∙ ap (λ z. ((if ends_segment m then segment_end_lines (o (next_state m)) k m.tick (m.scene.machine.done + 1) (map (seen_ahead ds levels) m.dropped) (late_at ds levels b m) else []) ++ state_lines_at (words_behind m) k b (next_state m))
+        ∙ ap (λ z. ((if ends_segment m then segment_end_lines (o (next_state m)) k m.tick (m.scene.machine.done + 1) (map (seen_ahead ds levels) m.dropped) (begun_at ds levels b m) else []) ++ state_lines_at (words_behind m) k b (next_state m))
         ++ (if nat_eq k 0 || ends_segment m then start_line (k + 1) (next_front m).c (has_waited m) z ∷ [] else [])) name
 
 -- ---- the border of an account
 
 -- the lines of a border, behind an entry of the segment k that was done at a tick
 abbrev border_text : Origins → Border → ℕ → ℕ → ℕ → List (List ℕ) → Bool → List ℕ → Machine → List Ahead → List Ahead → List (List ℕ)
-border_text table x k tick i printed was old s found late =
-    ((if x.ends then segment_end_lines (origin_at table s) k tick i found late else []) ++ state_lines printed k was old s x.taken x.done)
+border_text table x k tick i printed was old s found begun =
+    ((if x.ends then segment_end_lines (origin_at table s) k tick i found begun else []) ++ state_lines printed k was old s x.taken x.done)
     ++ (if x.begins then start_line (k + 1) x.start x.waited x.why ∷ [] else [])
 
 module _ (ds : List ℕ) (n left : ℕ) (b : Machine) (m : Moment) (a : Account) (xs : List Signal) (cards : List (List ℕ))
@@ -229,27 +229,27 @@ module _ (ds : List ℕ) (n left : ℕ) (b : Machine) (m : Moment) (a : Account)
         ∙ ap (λ (y : Account). border_text y.origins opening a.k a.last.tick i printed a.last.enabled y.words.items y.state y.behind.ahead.found.items (y.behind.ahead.late ∷ [])) opened
         ∙ border-lines ds n m a.state a.last a.behind.ahead.found.items a.behind.banks a.behind.card a.behind.waited at (interrupt a.state) x.ends refl ends (origin_at a.origins) b a.last.enabled
         a.words.items printed (a.behind.ahead.late ∷ []) is.was (is_printed ∙ ap (λ (y : Account). y.behind.printed.items) opened ∙ is.printed) a.k i o.last.front.c x.begins
-        (if nat_eq a.k 0 then Run else why_by (interrupt a.state) a.last.missed) is.words (λ on some. is.late (ends-by left m on) some) begins
+        (if nat_eq a.k 0 then Run else why_by (interrupt a.state) a.last.missed) is.words (λ on some. is.begun (ends-by left m on) some) begins
         (is_i ∙ ap (λ (y : Account). y.state.done + 1) opened) (ap (λ (f : Front). f.c) front) refl
 
 -- ---- the end of the run
 
-pub last-is : (o : Machine → ℕ → Option Origin) (ds : List ℕ) (levels : ℕ) (b : Machine) (was : Bool) → b.enabled ≡ was → (m : Moment) (ws : List (List ℕ)) → ws ≡ words_behind m → (s : Machine) (k tick n : ℕ) (found late : List Ahead) → m.tick ≡ tick
-    → next_state m ≡ s → found ≡ map (seen_ahead ds levels) m.dropped → (k ≢ 0 → late ≡ late_at ds levels b m) → n ≡ s.done + 1 → (old : List ℕ) → (k ≢ 0 → old ≡ b.words)
-    → ((segment_end_lines (o s) k tick n found late ++ marks_lines ws k was old s) ++ run_end_line (rests s) ∷ done_line s.done ∷ ticks_line tick ∷ []) ≡ last_lines o ds levels k b m
+pub last-is : (o : Machine → ℕ → Option Origin) (ds : List ℕ) (levels : ℕ) (b : Machine) (was : Bool) → b.enabled ≡ was → (m : Moment) (ws : List (List ℕ)) → ws ≡ words_behind m → (s : Machine) (k tick n : ℕ) (found begun : List Ahead) → m.tick ≡ tick
+    → next_state m ≡ s → found ≡ map (seen_ahead ds levels) m.dropped → (k ≢ 0 → begun ≡ begun_at ds levels b m) → n ≡ s.done + 1 → (old : List ℕ) → (k ≢ 0 → old ≡ b.words)
+    → ((segment_end_lines (o s) k tick n found begun ++ marks_lines ws k was old s) ++ run_end_line (rests s) ∷ done_line s.done ∷ ticks_line tick ∷ []) ≡ last_lines o ds levels k b m
 unfolding last_lines
-last-is o ds levels b was is_was m ws is_printed s k tick n found late is_tick state seen is_late is_n old is_words =
+last-is o ds levels b was is_was m ws is_printed s k tick n found begun is_tick state seen is_begun is_n old is_words =
     let number : n ≡ m.scene.machine.done + 1 = is_n ∙ ap (λ d. d + 1) (same-done m s state) in
     let rest : Machine → ℕ → List (List ℕ) = λ t i. run_end_line (rests t) ∷ done_line t.done ∷ ticks_line i ∷ [] in
-    ap (λ xs. (segment_end_lines (o s) k tick n found late ++ marks_lines xs k was old s) ++ rest s tick) is_printed
-    ∙ ap (λ xs. (xs ++ marks_lines (words_behind m) k was old s) ++ rest s tick) (end-same (o s) k tick n found late (late_at ds levels b m) is_late)
-    ∙ ap (λ xs. (segment_end_lines (o s) k tick n xs (late_at ds levels b m) ++ marks_lines (words_behind m) k was old s) ++ rest s tick) seen
-    ∙ ap (λ j. (segment_end_lines (o s) k tick j (map (seen_ahead ds levels) m.dropped) (late_at ds levels b m) ++ marks_lines (words_behind m) k was old s) ++ rest s tick) number
-    ∙ ap (λ w. (segment_end_lines (o s) k tick (m.scene.machine.done + 1) (map (seen_ahead ds levels) m.dropped) (late_at ds levels b m) ++ marks_lines (words_behind m) k w old s) ++ rest s tick) (sym is_was)
-    ∙ ap (λ ls. (segment_end_lines (o s) k tick (m.scene.machine.done + 1) (map (seen_ahead ds levels) m.dropped) (late_at ds levels b m) ++ ls) ++ rest s tick)
+    ap (λ xs. (segment_end_lines (o s) k tick n found begun ++ marks_lines xs k was old s) ++ rest s tick) is_printed
+    ∙ ap (λ xs. (xs ++ marks_lines (words_behind m) k was old s) ++ rest s tick) (end-same (o s) k tick n found begun (begun_at ds levels b m) is_begun)
+    ∙ ap (λ xs. (segment_end_lines (o s) k tick n xs (begun_at ds levels b m) ++ marks_lines (words_behind m) k was old s) ++ rest s tick) seen
+    ∙ ap (λ j. (segment_end_lines (o s) k tick j (map (seen_ahead ds levels) m.dropped) (begun_at ds levels b m) ++ marks_lines (words_behind m) k was old s) ++ rest s tick) number
+    ∙ ap (λ w. (segment_end_lines (o s) k tick (m.scene.machine.done + 1) (map (seen_ahead ds levels) m.dropped) (begun_at ds levels b m) ++ marks_lines (words_behind m) k w old s) ++ rest s tick) (sym is_was)
+    ∙ ap (λ ls. (segment_end_lines (o s) k tick (m.scene.machine.done + 1) (map (seen_ahead ds levels) m.dropped) (begun_at ds levels b m) ++ ls) ++ rest s tick)
     (marks-words (words_behind m) k b.enabled old b.words s is_words)
-    ∙ ap (λ t. (segment_end_lines (o t) k tick (m.scene.machine.done + 1) (map (seen_ahead ds levels) m.dropped) (late_at ds levels b m) ++ marks_lines (words_behind m) k b.enabled b.words t) ++ rest t tick) (sym state)
-    ∙ ap (λ i. (segment_end_lines (o (next_state m)) k i (m.scene.machine.done + 1) (map (seen_ahead ds levels) m.dropped) (late_at ds levels b m) ++ marks_lines (words_behind m) k b.enabled b.words (next_state m))
+    ∙ ap (λ t. (segment_end_lines (o t) k tick (m.scene.machine.done + 1) (map (seen_ahead ds levels) m.dropped) (begun_at ds levels b m) ++ marks_lines (words_behind m) k b.enabled b.words t) ++ rest t tick) (sym state)
+    ∙ ap (λ i. (segment_end_lines (o (next_state m)) k i (m.scene.machine.done + 1) (map (seen_ahead ds levels) m.dropped) (begun_at ds levels b m) ++ marks_lines (words_behind m) k b.enabled b.words (next_state m))
     ++ rest (next_state m) i) (sym is_tick)
 
 pub totals-is : (s : Machine) (resting : Bool) (done tick : ℕ) → resting ≡ rests s → done ≡ s.done
@@ -274,7 +274,7 @@ module _ (ds : List ℕ) (n left : ℕ) (b : Machine) (m : Moment) (a : Account)
       ++ run_end_line (rests a.state) ∷ done_line a.state.done ∷ ticks_line a.last.tick ∷ []) ≡ last_lines (origin_at a.origins) ds n a.k b m
   last-lines i found printed number is_found is_printed =
       last-is (origin_at a.origins) ds n b a.last.enabled is.was m printed (is_printed ∙ is.printed) a.state a.k a.last.tick i found (a.behind.ahead.late ∷ []) is.tick
-      (ap (λ (c : Scene). c.machine) is.scene) (is_found ∙ is.dropped ends-there) (is.late ends-there) number a.words.items is.words
+      (ap (λ (c : Scene). c.machine) is.scene) (is_found ∙ is.dropped ends-there) (is.begun ends-there) number a.words.items is.words
 
 -- the words of the last entry, of which none count where a segment ends
 pub words-left : (ds : List ℕ) (n left : ℕ) (b : Machine) (m : Moment) (a : Account) (xs : List Signal) (cards : List (List ℕ)) → IsBehindMoment ds n left b m a xs cards
@@ -296,7 +296,7 @@ behind-same ds n left b m a xs cards w is = record {
   missed = is.missed;
   was = is.was;
   dropped = is.dropped;
-  late = is.late;
+  begun = is.begun;
   banks = is.banks;
   printed = is.printed;
   card = is.card;

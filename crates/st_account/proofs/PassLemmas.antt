@@ -20,7 +20,7 @@ use Rattle.st_account.specs.declared.account.Account.{Account}
 use Rattle.st_account.specs.declared.last.Last.{Last}
 use Rattle.st_account.specs.Settling.{at_hand, words_printed}
 use Rattle.st_account.specs.Standing.{guessing, still_by, IsAt}
-use Rattle.st_account.specs.Text.{words_behind, late_at, segment_ends}
+use Rattle.st_account.specs.Text.{words_behind, begun_at, segment_ends}
 use Rattle.st_account.proofs.LeftLemmas.{area, between-left}
 use Rattle.st_account.proofs.RunLemmas.{end-looks}
 
@@ -93,12 +93,12 @@ module _ (ds : List ℕ) (n : ℕ) (b : Machine) (m : Moment) (a : Account) (xs 
         ∙ sym h.hand.banks
 
     -- the entry that was begun
-    pub late-is : (late : List Seen)
-        → (looks ≡ true → late ≡ map (seen_ahead ds n) (first_late a.last.tick (ahead ds n (suc n) None (guessing a.last.ic a.state) a.last.front)))
-        → a.k ≢ 0 → late ≡ late_at ds n b m
-    unfolding late_at
-    late-is late begun some =
-        begun asked
+    pub begun-is : (begun : List Seen)
+        → (looks ≡ true → begun ≡ map (seen_ahead ds n) (first_late a.last.tick (ahead ds n (suc n) None (guessing a.last.ic a.state) a.last.front)))
+        → a.k ≢ 0 → begun ≡ begun_at ds n b m
+    unfolding begun_at
+    begun-is begun found some =
+        found asked
         ∙ ap (λ (c : Scene). map (seen_ahead ds n) (first_late a.last.tick (ahead ds n (suc n) None (guessing a.last.ic c.machine) a.last.front))) (sym h.scene)
         ∙ ap (λ u. map (seen_ahead ds n) (first_late a.last.tick (ahead ds n (suc n) None u a.last.front))) (h.guessed some)
         ∙ ap (λ t. map (seen_ahead ds n) (first_late t (ahead ds n (suc n) None (guess (interrupt b) b) a.last.front))) (sym h.hand.tick)

@@ -1,7 +1,7 @@
 -- What is at hand of a moment of a run, besides its scene. The machine has the delays ds and n
 -- levels.
-use Rattle.std.specs.Prelude.{ℕ, suc, ◌+◌, ◌≡◌, ◌≢◌, ◌<◌, ◌≤◌, ◌^◌, length, true, not, ◌&&◌, nat_eq, if◌then◌else◌, is_none, Bool, List, [], ◌∷◌, ◌++◌, map, slice_index, All, Option, None}
-use Rattle.st_bits.specs.declared.limits.TheConstants.{MOST_DELAY, WORDS}
+use Rattle.std.specs.Prelude.{ℕ, suc, ◌+◌, ◌≡◌, ◌≢◌, ◌<◌, ◌≤◌, ◌^◌, length, true, not, ◌&&◌, nat_eq, if◌then◌else◌, is_none, Bool, List, [], ◌∷◌, ◌++◌, map, All, Option, None}
+use Rattle.st_bits.specs.declared.limits.TheConstants.{MOST_DELAY}
 use Rattle.st_state.specs.Machine.{Machine, word}
 use Rattle.st_exec.specs.Ahead.{IsNotAmong}
 use Rattle.st_exec.specs.Completion.{guess}
@@ -23,13 +23,13 @@ use Rattle.st_reasons.specs.Sums.{AreWaitsWithin, is_parted, waited_at, row_stal
 use Rattle.st_reasons.specs.Words.{IsReadInTime}
 use Rattle.st_reasons.specs.declared.sums.WaitTotals.{WaitTotals}
 use Rattle.st_reasons.specs.declared.waits.Stall.{Stall}
-use Rattle.st_lines.specs.Changes.{IsUntouched}
+use Rattle.st_lines.specs.Changes.{IsCopyBehind}
 use Rattle.st_lines.specs.EntryLines.{done_entry_lines}
 use Rattle.st_plain.specs.Looking.{seen_ahead}
 use Rattle.st_account.specs.declared.account.Account.{Account}
 use Rattle.st_account.specs.declared.last.Last.{Last}
 use Rattle.st_account.specs.Settling.{at_hand}
-use Rattle.st_account.specs.Text.{late_at, words_behind, segment_ends}
+use Rattle.st_account.specs.Text.{begun_at, words_behind, segment_ends}
 
 -- the state from which guessed steps go on: the counter is that of the guess
 abbrev pub guessing : ℕ → Machine → Machine
@@ -137,14 +137,13 @@ pub record IsBehindMoment (ds : List ℕ) (n left : ℕ) (b : Machine) (m : Mome
   pub was : b.enabled ≡ a.last.enabled
   pub dropped : segment_ends left m ≡ true →
       a.behind.ahead.found.items ≡ map (seen_ahead ds n) m.dropped
-  pub late : segment_ends left m ≡ true → a.k ≢ 0 → a.behind.ahead.late ∷ [] ≡ late_at ds n b m
+  pub begun : segment_ends left m ≡ true → a.k ≢ 0 → a.behind.ahead.late ∷ [] ≡ begun_at ds n b m
   pub banks : segment_ends left m ≡ true → a.behind.banks ≡ m.banks
   pub printed : a.behind.printed.items ≡ words_behind m
   pub card : a.behind.card ≡ has_card m
   pub waited : a.behind.waited ≡ has_waited m
   pub words : a.k ≢ 0 → a.words.items ≡ b.words
-  pub unchanged : a.k ≢ 0 → (v : ℕ) → v < WORDS → IsUntouched v a.behind.may →
-      slice_index a.words.items v ≡ word a.state v
+  pub unchanged : IsCopyBehind a.k a.behind.may a.words.items a.state
 
 -- the guess was right, and nothing comes: no signal is due, no device has an order, the machine
 -- does not wait, and no interrupt is taken

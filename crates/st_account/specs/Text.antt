@@ -37,8 +37,8 @@ use Rattle.st_account.specs.Settling.{words_printed}
 
 -- the entry that was begun when an entry was done at a moment: of those behind its guess the first
 -- one that was not prepared by then; b is the state before the entry that was done
-unfoldable pub late_at : List ℕ → ℕ → Machine → Moment → List Ahead
-late_at ds n b m =
+unfoldable pub begun_at : List ℕ → ℕ → Machine → Moment → List Ahead
+begun_at ds n b m =
     map (seen_ahead ds n)
     (first_late m.tick (ahead ds n (suc n) None (guess (interrupt b) b) m.front))
 
@@ -47,7 +47,7 @@ abbrev pub end_lines_at : (Machine → ℕ → Option Origin) → List ℕ → �
     List (List ℕ)
 end_lines_at o ds n k b m =
     segment_end_lines (o (next_state m)) k m.tick (m.scene.machine.done + 1)
-    (map (seen_ahead ds n) m.dropped) (late_at ds n b m)
+    (map (seen_ahead ds n) m.dropped) (begun_at ds n b m)
 
 -- where it ends
 abbrev pub lines_at_end : (Machine → ℕ → Option Origin) → List ℕ → ℕ → ℕ → Machine → Moment →
@@ -79,9 +79,10 @@ why_by None false = Card
 unfoldable pub why : ℕ → Moment → Why
 why k m = if nat_eq k 0 then Run else why_by (interrupt (next_state m)) m.missed
 
-abbrev pub begun_lines : ℕ → Moment → List (List ℕ)
-begun_lines k m = if begins_segment k m then start_line (k + 1) (next_front m).c (has_waited m)
-    (why k m) ∷ [] else []
+abbrev pub segment_start_lines : ℕ → Moment → List (List ℕ)
+segment_start_lines k m =
+    if begins_segment k m then start_line (k + 1) (next_front m).c (has_waited m) (why k m) ∷ []
+    else []
 
 -- the number of the segment of the next entry
 abbrev pub segment_after : ℕ → Moment → ℕ
@@ -92,7 +93,7 @@ unfoldable pub segment_lines : (Machine → ℕ → Option Origin) → List ℕ 
     List (List ℕ)
 segment_lines o ds n k b m =
     (lines_at_end o ds n k b m ++ state_lines_at (words_behind m) k b (next_state m))
-    ++ begun_lines k m
+    ++ segment_start_lines k m
 
 -- ---- rows
 

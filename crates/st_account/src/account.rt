@@ -1,6 +1,6 @@
 //! The ledger of a run as far as it is written, and how it goes on from one entry to the next.
-ghost use Rattle.std.specs.Prelude.{◌≡◌, ◌≢◌, List, true, false, ℕ, ◌+◌, ◌<◌, ◌≤◌, ◌^◌, ◌∷◌, ◌++◌, ◌||◌, nat_eq, suc, [], if◌then◌else◌, length, map, replicate, All, IsOk, is_some, None, Option, slice_index};
-ghost use Rattle.st_bits.specs.declared.limits.TheConstants.{MOST_DELAY, MOST_INSTRUCTIONS, WORDS};
+ghost use Rattle.std.specs.Prelude.{◌≡◌, ◌≢◌, List, true, false, ℕ, ◌+◌, ◌<◌, ◌≤◌, ◌^◌, ◌∷◌, ◌++◌, ◌||◌, nat_eq, suc, [], if◌then◌else◌, length, map, replicate, All, IsOk, is_some, None, Option};
+ghost use Rattle.st_bits.specs.declared.limits.TheConstants.{MOST_DELAY, MOST_INSTRUCTIONS};
 ghost use Rattle.st_bits.specs.Storage.{words_of_storage};
 ghost use Rattle.st_banks.specs.declared.answers.TheConstants.{BANKS};
 ghost use Rattle.st_card.specs.declared.control_cards.Signal.{Signal as SignalOf};
@@ -12,7 +12,7 @@ ghost use Rattle.st_ledger.specs.Charges.{ticks_for};
 ghost use Rattle.st_ledger.specs.Ledger.{charges_at};
 ghost use Rattle.st_ledger.specs.Totals.{sum_at, AreWithin};
 ghost use Rattle.st_ledger.specs.declared.charges.Stage.{Stage};
-ghost use Rattle.st_lines.specs.Changes.{IsUntouched};
+ghost use Rattle.st_lines.specs.Changes.{IsCopyBehind};
 ghost use Rattle.st_lines.specs.Origins.{origin_at};
 ghost use Rattle.st_lines.specs.declared.lines.Why.TheVariants.{Run as RunBegins};
 ghost use Rattle.st_plain.specs.Looking.{seen_ahead, first_late};
@@ -33,21 +33,21 @@ use crate::behind::{Behind, look_behind, nothing_came};
 use crate::last::{Last, at_start, clear_if, open_if};
 use crate::settling::settle;
 use crate::stepping::{
-    changeable, count_on, done_of, either, end_of, execute, is_end, is_end_near, is_still,
-    next_number, row_number, why_of,
+    changeable, count_on, end_of, execute, is_end, is_end_near, is_still, next_number, row_number,
+    why_of,
 };
 use st_banks::LastAnswers;
 use st_exec::{interrupt, is_at_rest, next_address};
 use st_io::{Failed, Sink};
 use st_ledger::{RowLine, Totals};
 use st_lines::{
-    Between, Border, Dropped, EntryDone, EntryRecord, FactLine, Origins, RowTelling, counter_of,
-    is_enabled, write_border, write_done, write_end, write_marks, write_totals,
+    Between, Border, Dropped, EntryDone, EntryRecord, FactLine, Origins, RowTelling, either,
+    write_border, write_done, write_end, write_marks, write_totals,
 };
 use st_reasons::{WaitTotals, Waits};
 use st_rows::{Log, Timing};
 use st_run::Coming;
-use st_state::State;
+use st_state::{State, counter_in, done_in, is_enabled};
 
 /// The ledger of a run as far as it is written: the lines of the entry that was done last, and all
 /// that comes behind them, are to be written.
@@ -140,7 +140,7 @@ impl Account {
         ensures unwaited { AreWaitsWithin 0 result.waiting.totals }
         ensures number { result.k ≡ 0 }
     {
-        let last = at_start(counter_of(&state), is_enabled(&state));
+        let last = at_start(counter_in(&state), is_enabled(&state));
         Account {
             state,
             words,
@@ -164,7 +164,7 @@ impl Account {
         requires few { self.old.state.done + 8 < 2 ^ 63 }
         requires tight { IsTight MOST_DELAY self.old.last.front }
         requires early { self.old.last.front.c ≤ 2 ^ 63 }
-        requires late { self.old.last.tick ≤ self.old.last.front.c }
+        requires order { self.old.last.tick ≤ self.old.last.front.c }
         requires past { self.old.last.past ≡ self.old.last.front.past }
         requires counter { self.old.last.ic < 2 ^ 19 }
 
@@ -174,7 +174,7 @@ impl Account {
             self.old.last.tick (ahead timing.now.delays.now.list timing.now.levels
             timing.now.levels None (guessing self.old.last.ic self.old.state)
             self.old.last.front)) }
-        ensures late { looks ≡ true → self.new.behind.ahead.late ∷ []
+        ensures begun { looks ≡ true → self.new.behind.ahead.late ∷ []
             ≡ map (seen_ahead timing.now.delays.now.list timing.now.levels) (first_late
             self.old.last.tick (ahead timing.now.delays.now.list timing.now.levels
             (suc timing.now.levels) None (guessing self.old.last.ic self.old.state)
@@ -216,7 +216,7 @@ impl Account {
         requires few { self.old.state.done + 8 < 2 ^ 63 }
         requires tight { IsTight MOST_DELAY self.old.last.front }
         requires early { self.old.last.front.c ≤ 2 ^ 63 }
-        requires late { self.old.last.tick ≤ self.old.last.front.c }
+        requires order { self.old.last.tick ≤ self.old.last.front.c }
         requires past { self.old.last.past ≡ self.old.last.front.past }
         requires counter { self.old.last.ic < 2 ^ 19 }
 
@@ -310,7 +310,7 @@ impl Account {
             waited: self.behind.waited,
             why: why_of(k == 0, taken, missed),
             taken,
-            done: done_of(&self.state),
+            done: done_in(&self.state),
         }
     }
 
@@ -326,8 +326,8 @@ impl Account {
         requires tight { IsTight MOST_DELAY self.old.last.front }
         requires done { self.old.last.front.c ≡ self.old.last.tick }
         requires size { length self.old.words.items ≡ words_of_storage }
-        requires left { self.old.k ≢ 0 → (v : ℕ) → v < WORDS → IsUntouched v self.old.behind.may →
-            slice_index self.old.words.items v ≡ word self.old.state v }
+        requires left { IsCopyBehind self.old.k self.old.behind.may self.old.words.items
+            self.old.state }
         requires waiting { IsWaiting self.old.last self.old.waiting.totals }
 
         ensures lines { (ds : List ℕ) (n left : ℕ) (b : Machine) (m : Moment)
@@ -373,7 +373,7 @@ impl Account {
                 tick: self.last.tick,
                 n: row_number(&self.state),
                 found: self.behind.ahead.found.as_slice(),
-                late: &self.behind.ahead.late,
+                begun: &self.behind.ahead.late,
                 origins: &self.origins,
             },
             printed: self.behind.printed.as_slice(),
@@ -388,8 +388,8 @@ impl Account {
         requires few { self.old.state.done ≤ MOST_INSTRUCTIONS }
         requires dropped { length self.old.behind.ahead.found.items ≤ 8 }
         requires size { length self.old.words.items ≡ words_of_storage }
-        requires left { self.old.k ≢ 0 → (v : ℕ) → v < WORDS → IsUntouched v self.old.behind.may →
-            slice_index self.old.words.items v ≡ word self.old.state v }
+        requires left { IsCopyBehind self.old.k self.old.behind.may self.old.words.items
+            self.old.state }
         requires waiting { IsWaiting self.old.last self.old.waiting.totals }
 
         ensures lines { (ds : List ℕ) (n left : ℕ) (b : Machine) (m : Moment)
@@ -412,8 +412,8 @@ impl Account {
         requires few { self.old.state.done ≤ MOST_INSTRUCTIONS }
         requires dropped { length self.old.behind.ahead.found.items ≤ 8 }
         requires size { length self.old.words.items ≡ words_of_storage }
-        requires left { self.old.k ≢ 0 → (v : ℕ) → v < WORDS → IsUntouched v self.old.behind.may →
-            slice_index self.old.words.items v ≡ word self.old.state v }
+        requires left { IsCopyBehind self.old.k self.old.behind.may self.old.words.items
+            self.old.state }
 
         ensures lines { (ds : List ℕ) (n left : ℕ) (b : Machine) (m : Moment)
             (xs : List SignalOf) (cards : List (List ℕ)) →
@@ -429,7 +429,7 @@ impl Account {
                 tick: self.last.tick,
                 n: row_number(&self.state),
                 found: self.behind.ahead.found.as_slice(),
-                late: &self.behind.ahead.late,
+                begun: &self.behind.ahead.late,
                 origins: &self.origins,
             },
             printed: self.behind.printed.as_slice(),
@@ -441,7 +441,7 @@ impl Account {
         write_totals(
             out,
             is_at_rest(&self.state),
-            done_of(&self.state),
+            done_in(&self.state),
             self.last.tick,
         )
     }

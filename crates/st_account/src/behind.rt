@@ -60,7 +60,7 @@ pub(crate) fn look_behind(
     requires few { state.old.done + 8 < 2 ^ 63 }
     requires tight { IsTight MOST_DELAY last.now.front }
     requires early { last.now.front.c ≤ 2 ^ 63 }
-    requires late { last.now.tick ≤ last.now.front.c }
+    requires order { last.now.tick ≤ last.now.front.c }
     requires past { last.now.past ≡ last.now.front.past }
     requires counter { last.now.ic < 2 ^ 19 }
     requires none { length behind.old.ahead.found.items ≡ 0 }
@@ -70,7 +70,7 @@ pub(crate) fn look_behind(
         ≡ map (seen_ahead timing.now.delays.now.list timing.now.levels) (prepared_before
         last.now.tick (ahead timing.now.delays.now.list timing.now.levels timing.now.levels None
         (guessing last.now.ic state.old) last.now.front)) }
-    ensures late { behind.new.ahead.late ∷ []
+    ensures begun { behind.new.ahead.late ∷ []
         ≡ map (seen_ahead timing.now.delays.now.list timing.now.levels) (first_late last.now.tick
         (ahead timing.now.delays.now.list timing.now.levels (suc timing.now.levels) None
         (guessing last.now.ic state.old) last.now.front)) }

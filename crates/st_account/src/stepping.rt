@@ -21,13 +21,13 @@ ghost use Rattle.st_state.specs.Machine.{IsMachine};
 use crate::last::Last;
 use st_card::Signal;
 use st_exec::{complete_in, interrupt, is_missed};
-use st_lines::{Changeable, Why, is_enabled};
+use st_lines::{Changeable, Why};
 use st_plain::{Begun, NextEntry, WaitedRow, begin, finish, plan_entry, put_past};
 use st_prep::Prepared;
 use st_reasons::find_reason;
 use st_rows::{Log, Past, Timing};
 use st_run::plain::{is_signal_due, printer_is_free, reader_is_free};
-use st_state::State;
+use st_state::{State, is_enabled};
 
 /// Why a segment begins: the run does, or an interrupt is taken, a guess was wrong, or else a card
 /// came.
@@ -48,13 +48,6 @@ pub(crate) fn is_end(missed: bool, card: bool, waited: bool, taken: Option<u8>) 
     ensures { result ≡ (missed || card || waited || is_some taken) }
 {
     missed || card || waited || taken.is_some()
-}
-
-/// Whether one of both is so.
-pub(crate) fn either(one: bool, two: bool) -> bool
-    ensures { result ≡ (one || two) }
-{
-    one || two
 }
 
 /// The tick at which a segment ends, where it does.
@@ -189,13 +182,6 @@ pub(crate) fn execute(state: &mut State, taken: Option<u8>, last: &mut Last)
     last.missed = is_missed(&last.plan, state);
     complete_in(&last.plan, state);
     last.ic = guessed_counter(&last.plan, state);
-}
-
-/// The number of instructions that a state has done.
-pub(crate) fn done_of(state: &State) -> u64
-    ensures { result ≡ state.now.done }
-{
-    state.done
 }
 
 /// The number of the next row.

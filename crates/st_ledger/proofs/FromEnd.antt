@@ -4,7 +4,12 @@ use Rattle.std.proofs.lemmas.Fmt.{length-decimal-le}
 use Rattle.std.proofs.lemmas.List.{append-nil, length-append}
 use Rattle.st_text.specs.Numerals.{half_address}
 
--- seven pieces, the last one first
+-- five pieces, the last one first
+pub five_pieces : (a b c d e l0 l1 l2 l3 l4 l5 : List ℕ) → l0 ≡ [] → l1 ≡ e ++ l0 → l2 ≡ d ++ l1 → l3 ≡ c ++ l2 → l4 ≡ b ++ l3 → l5 ≡ a ++ l4
+    → l5 ≡ a ++ b ++ c ++ d ++ e
+five_pieces a b c d e l0 l1 l2 l3 l4 l5 e0 e1 e2 e3 e4 e5 = rw (e5, e4, e3, e2, e1, e0) (simp (append_assoc, append-nil) refl)
+
+-- and two before them
 pub seven_pieces : (a b c d e f g l0 l1 l2 l3 l4 l5 l6 l7 : List ℕ)
     → l0 ≡ [] → l1 ≡ g ++ l0 → l2 ≡ f ++ l1 → l3 ≡ e ++ l2 → l4 ≡ d ++ l3 → l5 ≡ c ++ l4 → l6 ≡ b ++ l5 → l7 ≡ a ++ l6
     → l7 ≡ a ++ b ++ c ++ d ++ e ++ f ++ g

@@ -8,6 +8,6 @@ mod telling;
 mod totals;
 
 pub use charges::{Charge, Stage, StagePart};
-pub use lines::{RowLine, fill_charge, fill_row, line_sum, name_of};
+pub use lines::{RowLine, fill_charge, fill_row, put_stage};
 pub use telling::{later, parts, write_row};
 pub use totals::{Totals, write_sums};

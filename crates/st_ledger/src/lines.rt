@@ -6,27 +6,10 @@ ghost use Rattle.st_ledger.specs.Lines.{stage_name, row_stage_line, charge_line,
 use crate::charges::{Charge, Stage};
 use st_report::{KeptDigits, LineFromEnd};
 use st_rows::EntryTicks;
-use st_text::{Line, begun, ended, push_decimal};
 
-/// The name of a stage.
-pub fn name_of(stage: Stage) -> &'static str
-    ensures name { result.now ≡ stage_name stage }
-    ensures short { length result.now ≤ 11 }
-{
-    match stage {
-        Stage::Restart => "RESTART",
-        Stage::Instruction => "INSTRUCTION",
-        Stage::Address => "ADDRESS",
-        Stage::Index => "INDEX",
-        Stage::Preparing => "PREPARING",
-        Stage::Operand => "OPERAND",
-        Stage::Executing => "EXECUTING",
-    }
-}
-
-// Puts the name of a stage before a line.
+/// Puts the name of a stage before a line.
 #[inline(always)]
-fn put_stage(line: &mut LineFromEnd, stage: Stage)
+pub fn put_stage(line: &mut LineFromEnd, stage: Stage)
     requires { length line.old + 11 ≤ 128 }
     ensures bytes { line.new ≡ stage_name stage ++ line.old }
     ensures room { length line.new ≤ length line.old + 11 }
@@ -113,13 +96,15 @@ pub fn fill_charge(line: &mut RowLine, charge: Charge)
     line.bytes.put_word(*b"CHARGE ");
 }
 
-/// `SUM stage n`: the ticks of a stage in the whole run.
-pub fn line_sum(stage: Stage, ticks: u64) -> Line
-    ensures { result.bytes ≡ sum_line stage ticks }
+/// `SUM stage n`, filled into a line: the ticks of a stage in the whole run. What the line had is
+/// gone.
+pub(crate) fn fill_sum(line: &mut LineFromEnd, stage: Stage, ticks: u64)
+    ensures { line.new ≡ sum_line stage ticks }
 {
-    let mut line = begun("SUM ");
-    line.push_str(name_of(stage));
-    line.push_str(" ");
-    push_decimal(&mut line, ticks);
-    ended(line)
+    line.clear();
+    line.put_word(*b"\n");
+    line.put_decimal(ticks);
+    line.put_word(*b" ");
+    put_stage(line, stage);
+    line.put_word(*b"SUM ");
 }

@@ -7,9 +7,10 @@ ghost use Rattle.st_ledger.specs.Lines.{sum_line};
 ghost use Rattle.st_ledger.specs.Totals.{sum_at, AreWithin, stages, sums_by, sum_lines};
 
 use crate::charges::{Charge, Stage, StagePart};
-use crate::lines::line_sum;
+use crate::lines::fill_sum;
 use crate::telling::{later, parts};
 use st_io::{Failed, Sink, write_line};
+use st_report::LineFromEnd;
 use st_rows::EntryTicks;
 
 /// The ticks of charges, stage by stage.
@@ -124,7 +125,9 @@ fn write_sum<K: Sink>(out: &mut K, sum: StageSum) -> Result<(), Failed>
     ensures { WritesLines (K.output out.old) (K.output out.new)
         (sum_line sum.stage sum.ticks ∷ []) result }
 {
-    write_line(out, line_sum(sum.stage, sum.ticks).as_str().as_bytes())
+    let mut line = LineFromEnd::new();
+    fill_sum(&mut line, sum.stage, sum.ticks);
+    write_line(out, line.as_bytes())
 }
 
 // Writes the lines of sums.

@@ -11,7 +11,7 @@ use Rattle.st_io.specs.Lines.{WritesLines, lines_for}
 use Rattle.st_io.proofs.Progress.{LinesSoFar, lines_none, lines_more, lines_failed, lines_for_next, lines_for_whole}
 use Rattle.st_state.specs.Machine.{Machine, word}
 use Rattle.st_lines.specs.BorderLines.{word_change_lines}
-use Rattle.st_lines.specs.Changes.{IsUntouched}
+use Rattle.st_lines.specs.Changes.{IsUntouched, AreOthersAlike}
 use Rattle.st_lines.specs.declared.changes.Changeable.{Changeable}
 
 -- ---- lines of numbers that have none are passed over
@@ -138,7 +138,7 @@ module _ (s t : OutputState) (old now : List ℕ) (m : Machine) (w : ℕ) (h : I
     pub change-size : length new ≡ words_of_storage
     change-size = change-made.size
 
-    pub change-left : (may : Changeable) → ((v : ℕ) → v < WORDS → IsUntouched v may → slice_index old v ≡ word m v)
+    pub change-left : (may : Changeable) → AreOthersAlike may old m
         → (v : ℕ) → w + 1 ≤ v → v < WORDS → IsUntouched v may → slice_index new v ≡ word m v
     change-left may same v low below left = change-made.left v low ∙ same v below left
 

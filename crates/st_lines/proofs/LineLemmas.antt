@@ -15,7 +15,7 @@ use Rattle.st_exch.specs.Printer.{line_of_words}
 use Rattle.st_report.specs.Line.{prt_line}
 use Rattle.st_lines.specs.EntryLines.{facts_lines}
 use Rattle.st_lines.specs.declared.origins.Origin.{Origin}
-use Rattle.st_lines.specs.BorderLines.{drop_lines, late_lines, segment_end_lines, prints_lines}
+use Rattle.st_lines.specs.BorderLines.{drop_lines, begun_entry_lines, segment_end_lines, prints_lines}
 
 pub no_lines : (s : OutputState) (o : Unit {0}) → WritesLines s s [] (Ok o)
 no_lines s o = record { ok = wrote_nothing s; err = tt }
@@ -52,23 +52,23 @@ drops_none by s n tick found o is = rw is (no_lines s o)
 
 -- ---- the end of a segment
 
-pub late-one : (by : ℕ → Option Origin) (n tick : ℕ) (x : Ahead) → late_lines by n tick (x ∷ []) ≡ (begun_line n x.plan.place.address x.row ∷ []) ++ facts_lines n (Some tick) x.plan x.known (by x.plan.place.address) x.uses.items
-unfolding late_lines
-late-one by n tick x = refl
+pub begun-one : (by : ℕ → Option Origin) (n tick : ℕ) (x : Ahead) → begun_entry_lines by n tick (x ∷ []) ≡ (begun_line n x.plan.place.address x.row ∷ []) ++ facts_lines n (Some tick) x.plan x.known (by x.plan.place.address) x.uses.items
+unfolding begun_entry_lines
+begun-one by n tick x = refl
 
-pub end-none : (by : ℕ → Option Origin) (k tick n : ℕ) (found late : List Ahead) → k ≡ 0 → segment_end_lines by k tick n found late ≡ []
+pub end-none : (by : ℕ → Option Origin) (k tick n : ℕ) (found begun : List Ahead) → k ≡ 0 → segment_end_lines by k tick n found begun ≡ []
 unfolding segment_end_lines
-end-none by k tick n found late none = rw none refl
+end-none by k tick n found begun none = rw none refl
 
 pub end-same : (by : ℕ → Option Origin) (k tick n : ℕ) (found xs ys : List Ahead) → (k ≢ 0 → xs ≡ ys) → segment_end_lines by k tick n found xs ≡ segment_end_lines by k tick n found ys
 end-same by zero tick n found xs ys same = end-none by zero tick n found xs refl ∙ sym (end-none by zero tick n found ys refl)
 end-same by (suc k) tick n found xs ys same = ap (segment_end_lines by (suc k) tick n found) (same (λ none. omega (arith, none)))
 
-pub end-some : (by : ℕ → Option Origin) (k tick n : ℕ) (found late : List Ahead) → k ≢ 0
-    → segment_end_lines by k tick n found late ≡ (segment_end_line k tick ∷ []) ++ (drop_lines by n tick found ++ late_lines by (n + length found) tick late)
+pub end-some : (by : ℕ → Option Origin) (k tick n : ℕ) (found begun : List Ahead) → k ≢ 0
+    → segment_end_lines by k tick n found begun ≡ (segment_end_line k tick ∷ []) ++ (drop_lines by n tick found ++ begun_entry_lines by (n + length found) tick begun)
 unfolding segment_end_lines
-end-some by zero tick n found late some = absurd (some refl)
-end-some by (suc k) tick n found late some = rw (not-zero k) refl
+end-some by zero tick n found begun some = absurd (some refl)
+end-some by (suc k) tick n found begun some = rw (not-zero k) refl
   where
     not-zero : (k : ℕ) → nat_eq (suc k) 0 ≡ false
     not-zero k = grind (arith, nat_tests)

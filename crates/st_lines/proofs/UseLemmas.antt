@@ -19,15 +19,15 @@ pub seven_pairs : (a b c d e f g h i j k m n o l0 l1 l2 l3 l4 l5 l6 l7 l8 l9 l10
 seven_pairs a b c d e f g h i j k m n o l0 l1 l2 l3 l4 l5 l6 l7 l8 l9 l10 l11 l12 e1 e2 e3 e4 e5 e6 e7 e8 e9 e10 e11 e12 =
     rw (e12, e11, e10, e9, e8, e7, e6, e5, e4, e3, e2, e1) (simp append_assoc refl)
 
--- the digit of a bank before a line
-pub bank_digit : (w r : ℕ) (l0 l1 l2 : List ℕ) → r ≡ bank_of w → r < 10 → l1 ≡ ((48 + r) ∷ []) ++ l0 → l2 ≡ codes " READ BANK " ++ l1
-    → l2 ≡ (codes " READ BANK " ++ decimal (bank_of w)) ++ l0
-bank_digit w r l0 l1 l2 is few one two =
+-- the digit of a bank before a line, and a piece before it
+pub bank_digit : (w r : ℕ) (piece l0 l1 l2 : List ℕ) → r ≡ bank_of w → r < 10 → l1 ≡ ((48 + r) ∷ []) ++ l0 → l2 ≡ piece ++ l1
+    → l2 ≡ (piece ++ decimal (bank_of w)) ++ l0
+bank_digit w r piece l0 l1 l2 is few one two =
     let digit : decimal (bank_of w) ≡ (48 + r) ∷ [] = ap decimal (sym is) ∙ decimal_digit r few in
     two
-    ∙ ap (λ l. codes " READ BANK " ++ l) one
-    ∙ ap (λ d. codes " READ BANK " ++ (d ++ l0)) (sym digit)
-    ∙ sym (append_assoc (codes " READ BANK ") (decimal (bank_of w)) l0)
+    ∙ ap (λ l. piece ++ l) one
+    ∙ ap (λ d. piece ++ (d ++ l0)) (sym digit)
+    ∙ sym (append_assoc piece (decimal (bank_of w)) l0)
 
 -- four pieces before a line
 pub four_before : (a b c d l0 l1 l2 l3 l4 : List ℕ) → l1 ≡ d ++ l0 → l2 ≡ c ++ l1 → l3 ≡ b ++ l2 → l4 ≡ a ++ l3

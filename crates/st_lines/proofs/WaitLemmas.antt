@@ -28,16 +28,6 @@ use Rattle.st_reasons.proofs.Laws.{waits_are_within_their_charge}
 use Rattle.st_lines.specs.Waited.{AddsWaits}
 use Rattle.st_lines.specs.WaitLines.{wait_line, wait_lines, charged_lines, wait_sum_line, wait_sum_lines}
 
--- the digit of a bank before a line
-pub bank_put : (w r : ℕ) (l0 l1 l2 : List ℕ) → r ≡ bank_of w → r < 10 → l1 ≡ ((48 + r) ∷ []) ++ l0 → l2 ≡ codes " BANK " ++ l1
-    → l2 ≡ (codes " BANK " ++ decimal (bank_of w)) ++ l0
-bank_put w r l0 l1 l2 is few one two =
-    let digit : decimal (bank_of w) ≡ (48 + r) ∷ [] = ap decimal (sym is) ∙ decimal_digit r few in
-    two
-    ∙ ap (λ l. codes " BANK " ++ l) one
-    ∙ ap (λ d. codes " BANK " ++ (d ++ l0)) (sym digit)
-    ∙ sym (append_assoc (codes " BANK ") (decimal (bank_of w)) l0)
-
 -- ---- waits, one after another
 
 waits-first : (waits xs : List Wait) (x : Wait) → waits ≡ x ∷ xs → wait_lines waits ≡ (wait_line x ∷ []) ++ wait_lines xs
@@ -86,11 +76,11 @@ unfolding charged_lines
 part_left s uses before t x o past = rw (le-ltb t x.end past) (record { ok = wrote_nothing s; err = tt })
 
 -- where it ends
-pub part_end : (t late : ℕ) (x : StagePart) → late ≡ max t x.end → t + all_ticks (part_charges t x) ≡ late
+pub part_end : (t bound : ℕ) (x : StagePart) → bound ≡ max t x.end → t + all_ticks (part_charges t x) ≡ bound
 unfolding charges_behind all_ticks
-part_end t late x top =
-    let none : late + 0 ≡ late = omega arith in
-    sym (reach-later t late (x ∷ []) [] x refl top) ∙ none
+part_end t bound x top =
+    let none : bound + 0 ≡ bound = omega arith in
+    sym (reach-later t bound (x ∷ []) [] x refl top) ∙ none
 
 part_stalled : (r : Stage) (s : Stall) (uses before : List Use) (t : ℕ) (x : StagePart) (n : ℕ) → x.end ≤ t
     → n ≡ n + row_stalled r s uses before (part_charges t x)
@@ -162,12 +152,12 @@ charged_cut s u uses before t parts x xs e r f is h =
     subst (λ ls. WritesLines s u ls r) (sym (charged-first uses before t parts x xs is))
     (lines_cut s u (charged_lines uses before (part_charges t x)) (charged_lines uses before (charges_behind (max t x.end) xs)) e r f h)
 
-pub charged_then : (s v u : OutputState) (uses before : List Use) (t late : ℕ) (parts : List StagePart) (x : StagePart) (xs : List StagePart) (o : Unit {0})
-    (r : Result (Unit {0}) Failed) → parts ≡ x ∷ xs → late ≡ max t x.end
+pub charged_then : (s v u : OutputState) (uses before : List Use) (t bound : ℕ) (parts : List StagePart) (x : StagePart) (xs : List StagePart) (o : Unit {0})
+    (r : Result (Unit {0}) Failed) → parts ≡ x ∷ xs → bound ≡ max t x.end
     → WritesLines s v (charged_lines uses before (part_charges t x)) (Ok o)
-    → WritesLines v u (charged_lines uses before (charges_behind late xs)) r
+    → WritesLines v u (charged_lines uses before (charges_behind bound xs)) r
     → WritesLines s u (charged_lines uses before (charges_behind t parts)) r
-charged_then s v u uses before t late parts x xs o r is top h k =
+charged_then s v u uses before t bound parts x xs o r is top h k =
     subst (λ ls. WritesLines s u ls r) (sym (charged-first uses before t parts x xs is))
     (lines_then s v u (charged_lines uses before (part_charges t x)) (charged_lines uses before (charges_behind (max t x.end) xs)) o r h
     (subst (λ n. WritesLines v u (charged_lines uses before (charges_behind n xs)) r) top k))
@@ -184,16 +174,16 @@ unfolding row_stalled
 stalled-append r s uses before [] ys = omega arith
 stalled-append r s uses before (x ∷ xs) ys = omega (arith, stalled-append r s uses before xs ys)
 
-stalled_more : (r : Stage) (s : Stall) (uses before : List Use) (t late : ℕ) (parts xs : List StagePart) (x : StagePart) (n m k : ℕ) → parts ≡ x ∷ xs
-    → late ≡ max t x.end → m ≡ n + row_stalled r s uses before (part_charges t x)
-    → k ≡ m + row_stalled r s uses before (charges_behind late xs) → k ≡ n + row_stalled r s uses before (charges_behind t parts)
-stalled_more r s uses before t late parts xs x n m k is top first rest =
+stalled_more : (r : Stage) (s : Stall) (uses before : List Use) (t bound : ℕ) (parts xs : List StagePart) (x : StagePart) (n m k : ℕ) → parts ≡ x ∷ xs
+    → bound ≡ max t x.end → m ≡ n + row_stalled r s uses before (part_charges t x)
+    → k ≡ m + row_stalled r s uses before (charges_behind bound xs) → k ≡ n + row_stalled r s uses before (charges_behind t parts)
+stalled_more r s uses before t bound parts xs x n m k is top first rest =
     let all : row_stalled r s uses before (charges_behind t parts)
     ≡ row_stalled r s uses before (part_charges t x) + row_stalled r s uses before (charges_behind (max t x.end) xs) =
     ap (λ ps. row_stalled r s uses before (charges_behind t ps)) is
     ∙ ap (row_stalled r s uses before) (charged-parts t x xs)
     ∙ stalled-append r s uses before (part_charges t x) (charges_behind (max t x.end) xs) in
-    let later : row_stalled r s uses before (charges_behind late xs) ≡ row_stalled r s uses before (charges_behind (max t x.end) xs) =
+    let later : row_stalled r s uses before (charges_behind bound xs) ≡ row_stalled r s uses before (charges_behind (max t x.end) xs) =
     ap (λ u. row_stalled r s uses before (charges_behind u xs)) top in
     omega (arith, all, later, first, rest)
 
@@ -209,15 +199,15 @@ parts_passed uses before t parts sums is within = record {
   sums = λ r s parted. stalled_none r s uses before t parts _ is;
 }
 
-pub parts_taken : (uses before : List Use) (t late : ℕ) (parts xs : List StagePart) (x : StagePart) (old mid new : WaitTotals) → parts ≡ x ∷ xs → late ≡ max t x.end
-    → AddsWaits uses before t (part_charges t x) old mid → AddsWaits uses before late (charges_behind late xs) mid new
+pub parts_taken : (uses before : List Use) (t bound : ℕ) (parts xs : List StagePart) (x : StagePart) (old mid new : WaitTotals) → parts ≡ x ∷ xs → bound ≡ max t x.end
+    → AddsWaits uses before t (part_charges t x) old mid → AddsWaits uses before bound (charges_behind bound xs) mid new
     → AddsWaits uses before t (charges_behind t parts) old new
-parts_taken uses before t late parts xs x old mid new is top first rest = record {
-  within = subst (λ m. AreWaitsWithin m new) (reach-later t late parts xs x is top) rest.within;
-  sums = λ r s parted. stalled_more r s uses before t late parts xs x _ _ _ is top (first.sums r s parted) (rest.sums r s parted);
+parts_taken uses before t bound parts xs x old mid new is top first rest = record {
+  within = subst (λ m. AreWaitsWithin m new) (reach-later t bound parts xs x is top) rest.within;
+  sums = λ r s parted. stalled_more r s uses before t bound parts xs x _ _ _ is top (first.sums r s parted) (rest.sums r s parted);
 }
 
 -- no sum is greater than the tick at which the next ones begin
-pub next_within : (uses before : List Use) (t late : ℕ) (x : StagePart) (old new : WaitTotals) → late ≡ max t x.end
-    → AddsWaits uses before t (part_charges t x) old new → AreWaitsWithin late new
-next_within uses before t late x old new top is = subst (λ m. AreWaitsWithin m new) (part_end t late x top) is.within
+pub next_within : (uses before : List Use) (t bound : ℕ) (x : StagePart) (old new : WaitTotals) → bound ≡ max t x.end
+    → AddsWaits uses before t (part_charges t x) old new → AreWaitsWithin bound new
+next_within uses before t bound x old new top is = subst (λ m. AreWaitsWithin m new) (part_end t bound x top) is.within

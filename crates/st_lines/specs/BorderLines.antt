@@ -22,18 +22,18 @@ drop_lines origin n tick (a ∷ more) = dropped_line n a.plan.place.address a.ro
     ++ drop_lines origin (n + 1) tick more)
 
 -- the entry that was begun behind them, which is the n-th entry, if there is one
-unfoldable pub late_lines : (ℕ → Option Origin) → ℕ → ℕ → List Ahead → List (List ℕ)
-late_lines origin n tick [] = []
-late_lines origin n tick (a ∷ more) = begun_line n a.plan.place.address a.row
+unfoldable pub begun_entry_lines : (ℕ → Option Origin) → ℕ → ℕ → List Ahead → List (List ℕ)
+begun_entry_lines origin n tick [] = []
+begun_entry_lines origin n tick (a ∷ more) = begun_line n a.plan.place.address a.row
     ∷ facts_lines n (Some tick) a.plan a.known (origin a.plan.place.address) a.uses.items
 
 -- the segment k ends at a tick, what ran ahead is dropped, and so is what was begun; before the
 -- first segment there is none
 unfoldable pub segment_end_lines : (ℕ → Option Origin) → ℕ → ℕ → ℕ → List Ahead → List Ahead →
     List (List ℕ)
-segment_end_lines origin k tick n dropped late =
+segment_end_lines origin k tick n dropped begun =
     if nat_eq k 0 then [] else segment_end_line k tick
-    ∷ (drop_lines origin n tick dropped ++ late_lines origin (n + length dropped) tick late)
+    ∷ (drop_lines origin n tick dropped ++ begun_entry_lines origin (n + length dropped) tick begun)
 
 -- ---- the state behind an entry
 

@@ -1,6 +1,8 @@
 -- Which words may change behind an entry.
-use Rattle.std.specs.Prelude.{ℕ, ◌+◌, ◌<◌, ◌≤◌, ◌⊎◌, Option, None, Some}
+use Rattle.std.specs.Prelude.{ℕ, ◌≡◌, ◌≢◌, ◌+◌, ◌<◌, ◌≤◌, ◌⊎◌, List, slice_index, Option, None, Some}
+use Rattle.st_bits.specs.declared.limits.TheConstants.{WORDS}
 use Rattle.st_exec.specs.Ahead.{IsNotAmong}
+use Rattle.st_state.specs.Machine.{Machine, word}
 use Rattle.st_lines.specs.declared.changes.Changeable.{Changeable}
 
 -- word w is not in the area of a card
@@ -14,3 +16,13 @@ pub record IsUntouched (w : ℕ) (may : Changeable) : Type 0 where
   pub above : 32 ≤ w
   pub unwritten : IsNotAmong w may.writes
   pub beside : IsOutsideArea w may.card
+
+-- all other words of a state are those of `old`
+abbrev pub AreOthersAlike : Changeable → List ℕ → Machine → Type 0
+AreOthersAlike may old s =
+    (v : ℕ) → v < WORDS → IsUntouched v may → slice_index old v ≡ word s v
+
+-- the words as they were told last are a copy that is behind by these changes alone, in a segment
+-- k; before the first one nothing has been told
+abbrev pub IsCopyBehind : ℕ → Changeable → List ℕ → Machine → Type 0
+IsCopyBehind k may old s = k ≢ 0 → AreOthersAlike may old s

@@ -6,6 +6,7 @@ pub mod Waited
 pub mod EntryLines
 pub mod BorderLines
 pub mod Changes
+pub mod TellingWaits
 pub use Rattle.st_bits.specs.Indicators
 pub use Rattle.st_bits.specs.Storage
 pub use Rattle.st_banks.specs.Bank

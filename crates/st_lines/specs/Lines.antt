@@ -93,19 +93,19 @@ index_line x =
     codes "INDEX " ++ decimal x.number ++ codes " WAS " ++ hex_word x.kept ++ codes " IS "
     ++ hex_word x.word ++ lf
 
--- the n-th entry, at an address, ran ahead and is dropped
-abbrev pub dropped_line : ℕ → ℕ → EntryTicks → List ℕ
-dropped_line n address row =
-    codes "DROP " ++ decimal n ++ codes " " ++ half_address address
+-- the n-th entry, at an address, ran ahead, and its ticks
+abbrev pub ahead_text : ℕ → ℕ → EntryTicks → List ℕ
+ahead_text n address row =
+    decimal n ++ codes " " ++ half_address address
     ++ codes " A " ++ decimal row.a ++ codes " P " ++ decimal row.p ++ codes " R " ++ decimal row.r
-    ++ lf
+
+-- it is dropped
+abbrev pub dropped_line : ℕ → ℕ → EntryTicks → List ℕ
+dropped_line n address row = codes "DROP " ++ ahead_text n address row ++ lf
 
 -- it was begun, and not prepared in time; the ticks are those that it would have had
 abbrev pub begun_line : ℕ → ℕ → EntryTicks → List ℕ
-begun_line n address row =
-    codes "BEGUN " ++ decimal n ++ codes " " ++ half_address address
-    ++ codes " A " ++ decimal row.a ++ codes " P " ++ decimal row.p ++ codes " R " ++ decimal row.r
-    ++ lf
+begun_line n address row = codes "BEGUN " ++ ahead_text n address row ++ lf
 
 -- the second half-word of a full word
 abbrev pub second_half_text : Option ℕ → List ℕ

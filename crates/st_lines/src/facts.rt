@@ -4,23 +4,22 @@ ghost use Rattle.st_bits.specs.Indicators.{indicator as indicator_of};
 ghost use Rattle.st_prep.specs.Entry.{is_register as is_register_of, has_register as has_register_of};
 ghost use Rattle.st_state.specs.Interrupts.{first_from};
 ghost use Rattle.st_io.specs.Lines.{WritesLines};
-ghost use Rattle.st_lines.specs.EntryLines.{alone_for as alone_of, alone_by as alone_why, alone_lines, suppressed_by as suppressed_of, suppressed_lines, laid_lines, code_lines, run_lines, writes_lines, index_lines, facts_lines, missed_lines, level_lines, charges_of_entry, known_lines, late_entry_lines, spent_lines, done_entry_lines};
+ghost use Rattle.st_lines.specs.EntryLines.{alone_for as alone_of, alone_by as alone_why, alone_lines, suppressed_by as suppressed_of, suppressed_lines, laid_lines, code_lines, run_lines, writes_lines, index_lines, facts_lines, missed_lines, level_lines, known_lines, late_entry_lines, spent_lines, done_entry_lines};
 ghost use Rattle.st_lines.specs.UseLines.{use_lines};
-ghost use Rattle.st_lines.specs.Waited.{AreWaitsReady, AddsWaits};
+ghost use Rattle.st_lines.specs.TellingWaits.{CanTellWaits, HasToldWaits};
 
 use crate::digits::{fill_code, fill_index, fill_writes};
 use crate::lines::{Alone, line_alone, line_level, line_missed, line_suppressed};
 use crate::origins::{Origin, fill_laid};
 use crate::uses::{FactLine, write_uses};
 use crate::waits::{RowTelling, write_because, write_charged};
-use crate::writing::put;
 use st_bits::indicator;
 use st_io::{Failed, Sink, write_line};
 use st_ledger::write_row;
 use st_plain::{Code, Known, Use, WaitedRow};
 use st_prep::{IndexChange, Prepared, Words, has_register, is_register};
 use st_reasons::Because;
-use st_report::LineFromEnd;
+use st_report::{LineFromEnd, put};
 
 // Why an entry is done alone that is.
 fn alone_for(table: Option<u8>, execute: bool, register: bool) -> Alone
@@ -354,13 +353,10 @@ fn write_waits<K: Sink>(
     entry: &EntryRecord<'_>,
     waiting: &mut RowTelling,
 ) -> Result<(), Failed>
-    requires { AreWaitsReady entry.now.uses.now entry.now.before.now entry.now.done.now.before
-        waiting.old.totals }
+    requires { CanTellWaits entry.now waiting.old.totals }
     ensures lines { WritesLines (K.output out.old) (K.output out.new)
         (spent_lines entry.now.done.now entry.now.uses.now entry.now.before.now) result }
-    ensures waits { IsOk result → AddsWaits entry.now.uses.now entry.now.before.now
-        entry.now.done.now.before (charges_of_entry entry.now.done.now) waiting.old.totals
-        waiting.new.totals }
+    ensures waits { IsOk result → HasToldWaits entry.now waiting.old.totals waiting.new.totals }
 {
     write_charged(out, entry, waiting)?;
     write_late_entry(out, entry.done)
@@ -372,14 +368,11 @@ fn write_spent<K: Sink>(
     entry: &EntryRecord<'_>,
     waiting: &mut RowTelling,
 ) -> Result<(), Failed>
-    requires { AreWaitsReady entry.now.uses.now entry.now.before.now entry.now.done.now.before
-        waiting.old.totals }
+    requires { CanTellWaits entry.now waiting.old.totals }
     ensures lines { WritesLines (K.output out.old) (K.output out.new)
         (known_lines entry.now.done.now entry.now.plan.now entry.now.known.now entry.now.uses.now
         ++ spent_lines entry.now.done.now entry.now.uses.now entry.now.before.now) result }
-    ensures waits { IsOk result → AddsWaits entry.now.uses.now entry.now.before.now
-        entry.now.done.now.before (charges_of_entry entry.now.done.now) waiting.old.totals
-        waiting.new.totals }
+    ensures waits { IsOk result → HasToldWaits entry.now waiting.old.totals waiting.new.totals }
 {
     write_known(out, &mut waiting.facts, entry)?;
     write_waits(out, entry, waiting)
@@ -391,14 +384,11 @@ pub fn write_done<K: Sink>(
     entry: &EntryRecord<'_>,
     waiting: &mut RowTelling,
 ) -> Result<(), Failed>
-    requires { AreWaitsReady entry.now.uses.now entry.now.before.now entry.now.done.now.before
-        waiting.old.totals }
+    requires { CanTellWaits entry.now waiting.old.totals }
     ensures lines { WritesLines (K.output out.old) (K.output out.new)
         (done_entry_lines entry.now.done.now entry.now.plan.now entry.now.known.now
         entry.now.uses.now entry.now.before.now) result }
-    ensures waits { IsOk result → AddsWaits entry.now.uses.now entry.now.before.now
-        entry.now.done.now.before (charges_of_entry entry.now.done.now) waiting.old.totals
-        waiting.new.totals }
+    ensures waits { IsOk result → HasToldWaits entry.now waiting.old.totals waiting.new.totals }
 {
     let done = entry.done;
     write_row(

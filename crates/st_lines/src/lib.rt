@@ -17,6 +17,6 @@ pub use origins::{Origin, Origins};
 pub use uses::FactLine;
 pub use waits::{RowTelling, write_because, write_charged, write_wait_sums};
 pub use writing::{
-    Between, Border, Dropped, Printed, counter_of, is_enabled, put, write_border, write_end,
-    write_machine, write_marks, write_totals,
+    Between, Border, Dropped, Printed, either, write_border, write_end, write_machine, write_marks,
+    write_totals,
 };

@@ -2,7 +2,7 @@
 //! `docs/ledger.md`: one call a line, each with its line end.
 ghost use Rattle.std.specs.Prelude.{◌≡◌, ◌+◌, ◌*◌, ◌≤◌, ◌++◌, length, codes, decimal};
 ghost use Rattle.arrayvec.specs.ArrayString.{array_string_len};
-ghost use Rattle.st_lines.specs.Lines.{ledger_levels_line, numbers_text, delays_line, why_text, start_line, segment_end_line, word_line, missed_line, alone_text, alone_line, suppressed_line, dropped_line, begun_line, level_wait_line};
+ghost use Rattle.st_lines.specs.Lines.{ledger_levels_line, numbers_text, delays_line, why_text, start_line, segment_end_line, word_line, missed_line, alone_text, alone_line, suppressed_line, ahead_text, dropped_line, begun_line, level_wait_line};
 
 use st_rows::EntryTicks;
 use st_text::{
@@ -174,39 +174,40 @@ pub fn line_suppressed(i: u8) -> Line
     ended(line)
 }
 
+// Appends the number of an entry that ran ahead, its half-word address, and its ticks.
+fn push_ahead(line: &mut Line, n: u32, address: u32, row: &EntryTicks)
+    requires { array_string_len line.old + 94 ≤ 128 }
+    ensures bytes { line.new.bytes ≡ line.old.bytes ++ ahead_text n address row.now }
+    ensures room { array_string_len line.new ≤ array_string_len line.old + 94 }
+{
+    push_short_decimal(line, n);
+    line.push_str(" ");
+    push_half_address(line, address);
+    line.push_str(" A ");
+    push_decimal(line, row.a);
+    line.push_str(" P ");
+    push_decimal(line, row.p);
+    line.push_str(" R ");
+    push_decimal(line, row.r);
+}
+
 /// `DROP n a A x P p R r`: the n-th entry ran ahead and is dropped; its half-word address, and its
 /// ticks.
 pub fn line_drop(n: u32, address: u32, row: &EntryTicks) -> Line
     ensures { result.bytes ≡ dropped_line n address row.now }
 {
     let mut line = begun("DROP ");
-    push_short_decimal(&mut line, n);
-    line.push_str(" ");
-    push_half_address(&mut line, address);
-    line.push_str(" A ");
-    push_decimal(&mut line, row.a);
-    line.push_str(" P ");
-    push_decimal(&mut line, row.p);
-    line.push_str(" R ");
-    push_decimal(&mut line, row.r);
+    push_ahead(&mut line, n, address, row);
     ended(line)
 }
 
 /// `BEGUN n a A x P p R r`: the n-th entry was begun, and not prepared in time; its half-word
 /// address, and the ticks that it would have had.
-pub fn line_late(n: u32, address: u32, row: &EntryTicks) -> Line
+pub fn line_begun(n: u32, address: u32, row: &EntryTicks) -> Line
     ensures { result.bytes ≡ begun_line n address row.now }
 {
     let mut line = begun("BEGUN ");
-    push_short_decimal(&mut line, n);
-    line.push_str(" ");
-    push_half_address(&mut line, address);
-    line.push_str(" A ");
-    push_decimal(&mut line, row.a);
-    line.push_str(" P ");
-    push_decimal(&mut line, row.p);
-    line.push_str(" R ");
-    push_decimal(&mut line, row.r);
+    push_ahead(&mut line, n, address, row);
     ended(line)
 }
 

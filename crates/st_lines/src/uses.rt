@@ -1,10 +1,11 @@
 //! The lines of the words that an entry uses.
 ghost use Rattle.std.specs.Prelude.{◌≡◌, ◌+◌, ◌-◌, ◌<◌, ◌≤◌, ◌∷◌, ◌++◌, [], length, codes, decimal, if◌then◌else◌};
-ghost use Rattle.st_banks.specs.Bank.{bank_of};
+ghost use Rattle.st_banks.specs.Bank.{bank_of as bank_by};
 ghost use Rattle.st_io.specs.Lines.{WritesLines};
 ghost use Rattle.st_text.specs.Numerals.{flag};
 ghost use Rattle.st_lines.specs.UseLines.{role_text, is_before as is_before_of, ticks_text, supply_text, use_line, is_told as is_told_of, use_lines};
 
+use st_banks::bank_of;
 use st_io::{Failed, Sink, write_line};
 use st_plain::{ReadTicks, Role, Supply, Use, Writer};
 use st_report::{KeptDigits, LineFromEnd};
@@ -34,29 +35,15 @@ fn put_role(line: &mut LineFromEnd, role: Role)
     }
 }
 
-/// The number of the bank of a word.
+/// Puts the bank of a word before a line, behind a piece that says what it is of.
 #[inline(always)]
-#[tactic(auto, unfolding(st_banks::specs::Bank::bank_of))]
-pub(crate) fn bank_number(w: u32) -> u8
-    ensures value { result ≡ bank_of w }
-    ensures digit { result < 10 }
+pub(crate) fn put_bank<const K: usize>(line: &mut LineFromEnd, piece: [u8; K], w: u32)
+    requires { length line.old + K + 1 ≤ 192 }
+    ensures bytes { line.new ≡ (piece.entry ++ decimal (bank_by w)) ++ line.old }
+    ensures room { length line.new ≡ length line.old + K + 1 }
 {
-    if w < 65_536 {
-        (w % 4) as u8
-    } else {
-        4 + (w % 2) as u8
-    }
-}
-
-// Puts the bank of a word before a line.
-#[inline(always)]
-fn put_bank(line: &mut LineFromEnd, w: u32)
-    requires { length line.old + 12 ≤ 192 }
-    ensures bytes { line.new ≡ (codes " READ BANK " ++ decimal (bank_of w)) ++ line.old }
-    ensures room { length line.new ≡ length line.old + 12 }
-{
-    line.put_word([b'0' + bank_number(w)]);
-    line.put_word(*b" READ BANK ");
+    line.put_word([b'0' + bank_of(w) as u8]);
+    line.put_word(piece);
 }
 
 // Puts whether a read is made before a line.
@@ -110,7 +97,7 @@ fn put_read(
     line.put_word(*b" TURN ");
     put_tick(line, kept, ticks.want);
     line.put_word(*b" WANT ");
-    put_bank(line, w);
+    put_bank(line, *b" READ BANK ", w);
 }
 
 // Puts the writer of a word before a line, which the n-th entry uses.

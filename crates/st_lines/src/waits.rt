@@ -1,6 +1,5 @@
 //! The lines that tell what a row waited for, and what kept it back.
-ghost use Rattle.std.specs.Prelude.{◌≡◌, ◌+◌, ◌≤◌, ◌∷◌, ◌++◌, [], length, codes, decimal, IsOk};
-ghost use Rattle.st_banks.specs.Bank.{bank_of};
+ghost use Rattle.std.specs.Prelude.{◌≡◌, ◌+◌, ◌≤◌, ◌∷◌, ◌++◌, [], length, IsOk};
 ghost use Rattle.st_io.specs.Lines.{WritesLines};
 ghost use Rattle.st_ledger.specs.Charges.{charges_behind, part_charges};
 ghost use Rattle.st_ledger.specs.Lines.{charge_line};
@@ -8,30 +7,18 @@ ghost use Rattle.st_reasons.specs.declared.because.Because.TheVariants.{Start as
 ghost use Rattle.st_reasons.specs.Sums.{waited_at, wait_sums_by};
 ghost use Rattle.st_lines.specs.EntryLines.{charges_of_entry};
 ghost use Rattle.st_lines.specs.Waited.{AreWaitsReady, AddsWaits};
+ghost use Rattle.st_lines.specs.TellingWaits.{CanTellWaits, HasToldWaits};
 ghost use Rattle.st_lines.specs.WaitLines.{stall_name, wait_line, wait_lines, charged_lines, wait_sum_line, wait_sum_lines, reason_name, because_line, because_lines};
 
 use crate::facts::EntryRecord;
-use crate::uses::{FactLine, bank_number};
-use crate::writing::put;
+use crate::uses::{FactLine, put_bank};
 use st_io::{Failed, Sink, write_line};
-use st_ledger::{Charge, RowLine, StagePart, fill_charge, later, name_of, parts};
+use st_ledger::{Charge, RowLine, StagePart, fill_charge, later, parts, put_stage};
 use st_reasons::{
     Because, Cause, Prefetched, Reason, Stall, Wait, WaitSum, WaitTotals, Waits, fill_waits,
     wait_sums,
 };
 use st_report::LineFromEnd;
-use st_text::{Line, begun, ended, push_decimal};
-
-// Puts the bank of the word of a read before a line.
-#[inline(always)]
-fn put_bank_of(line: &mut LineFromEnd, w: u32)
-    requires { length line.old + 7 ≤ 128 }
-    ensures bytes { line.new ≡ (codes " BANK " ++ decimal (bank_of w)) ++ line.old }
-    ensures room { length line.new ≡ length line.old + 7 }
-{
-    line.put_word([b'0' + bank_number(w)]);
-    line.put_word(*b" BANK ");
-}
 
 // Puts what is waited for before a line.
 #[inline(always)]
@@ -53,7 +40,7 @@ fn fill_wait(line: &mut RowLine, wait: &Wait)
 {
     line.bytes.clear();
     line.bytes.put_word(*b"\n");
-    put_bank_of(&mut line.bytes, wait.read);
+    put_bank(&mut line.bytes, *b" BANK ", wait.read);
     line.bytes.put_decimal(u64::from(wait.read));
     line.bytes.put_word(*b" READ ");
     line.bytes.put_decimal(u64::from(wait.word));
@@ -177,42 +164,29 @@ pub fn write_charged<K: Sink>(
     entry: &EntryRecord<'_>,
     waiting: &mut RowTelling,
 ) -> Result<(), Failed>
-    requires { AreWaitsReady entry.now.uses.now entry.now.before.now entry.now.done.now.before
-        waiting.old.totals }
+    requires { CanTellWaits entry.now waiting.old.totals }
     ensures lines { WritesLines (K.output out.old) (K.output out.new) (charged_lines
         entry.now.uses.now entry.now.before.now (charges_of_entry entry.now.done.now)) result }
-    ensures waits { IsOk result → AddsWaits entry.now.uses.now entry.now.before.now
-        entry.now.done.now.before (charges_of_entry entry.now.done.now) waiting.old.totals
-        waiting.new.totals }
+    ensures waits { IsOk result → HasToldWaits entry.now waiting.old.totals waiting.new.totals }
 {
     let done = entry.done;
     let stages = parts(done.start, &done.row.ticks);
     write_parts(out, done.before, &stages, entry, waiting)
 }
 
-// The name of what is waited for.
-fn stall_name_of(why: Stall) -> &'static str
-    ensures name { result.now ≡ stall_name why }
-    ensures short { length result.now ≤ 7 }
+// `SUM stage why n`, filled into a line: the ticks of one thing that was waited for in a stage.
+// What the line had is gone.
+fn fill_wait_sum(line: &mut LineFromEnd, sum: &WaitSum)
+    ensures { line.new ≡ wait_sum_line sum.now }
 {
-    match why {
-        Stall::Turn => "TURN",
-        Stall::Bank => "BANK",
-        Stall::Storage => "STORAGE",
-    }
-}
-
-// `SUM stage why n`: the ticks of one thing that was waited for in a stage.
-fn line_wait_sum(sum: &WaitSum) -> Line
-    ensures { result.bytes ≡ wait_sum_line sum.now }
-{
-    let mut line = begun("SUM ");
-    line.push_str(name_of(sum.stage));
-    line.push_str(" ");
-    line.push_str(stall_name_of(sum.why));
-    line.push_str(" ");
-    push_decimal(&mut line, sum.ticks);
-    ended(line)
+    line.clear();
+    line.put_word(*b"\n");
+    line.put_decimal(sum.ticks);
+    line.put_word(*b" ");
+    put_stall(line, sum.why);
+    line.put_word(*b" ");
+    put_stage(line, sum.stage);
+    line.put_word(*b"SUM ");
 }
 
 // Writes the line of a sum.
@@ -220,7 +194,9 @@ fn write_wait_sum<K: Sink>(out: &mut K, sum: &WaitSum) -> Result<(), Failed>
     ensures { WritesLines (K.output out.old) (K.output out.new)
         (wait_sum_line sum.now ∷ []) result }
 {
-    put(out, &line_wait_sum(sum))
+    let mut line = LineFromEnd::new();
+    fill_wait_sum(&mut line, sum);
+    write_line(out, line.as_bytes())
 }
 
 // Writes the lines of sums.

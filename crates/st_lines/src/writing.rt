@@ -1,22 +1,21 @@
 //! The lines where a segment ends, and where one begins.
-ghost use Rattle.std.specs.Prelude.{◌≡◌, ◌+◌, ◌<◌, ◌≤◌, ◌^◌, ℕ, ◌∷◌, ◌++◌, [], if◌then◌else◌, ◌||◌, length, min, Some, ◌≢◌, false, slice_index, IsOk};
+ghost use Rattle.std.specs.Prelude.{◌≡◌, ◌+◌, ◌<◌, ◌≤◌, ◌^◌, ℕ, ◌∷◌, ◌++◌, [], if◌then◌else◌, ◌||◌, length, min, Some, false, IsOk};
 ghost use Rattle.st_io.specs.Lines.{WritesLines, lines_for};
 ghost use Rattle.st_bits.specs.Storage.{words_of_storage};
-ghost use Rattle.st_state.specs.Machine.{IsMachine, word};
 ghost use Rattle.st_bits.specs.declared.limits.TheConstants.{WORDS};
 ghost use Rattle.st_exch.specs.Printer.{line_of_words as printed_of};
 ghost use Rattle.st_report.specs.Line.{prt_line, ic_line, en_line, end_line as run_end_line, done_line, ticks_line};
 ghost use Rattle.st_lines.specs.Lines.{ledger_levels_line, delays_line, delays_by, start_line, segment_end_line, dropped_line, begun_line};
 ghost use Rattle.st_lines.specs.EntryLines.{facts_lines};
-ghost use Rattle.st_lines.specs.Changes.{IsUntouched};
+ghost use Rattle.st_lines.specs.Changes.{AreOthersAlike, IsCopyBehind};
 ghost use Rattle.st_lines.specs.Origins.{origin_at};
-ghost use Rattle.st_lines.specs.BorderLines.{drop_lines, late_lines, segment_end_lines, differs, en_lines, prints_lines, nonzero_word_lines, word_change_lines, words_lines, marks_lines, taken_by, state_lines, machine_lines};
+ghost use Rattle.st_lines.specs.BorderLines.{drop_lines, begun_entry_lines, segment_end_lines, differs, en_lines, prints_lines, nonzero_word_lines, word_change_lines, words_lines, marks_lines, taken_by, state_lines, machine_lines};
 
 use crate::changes::{Changeable, keep_words, write_changed};
 use crate::digits::fill_counter;
 use crate::facts::{Facts, write_facts};
 use crate::lines::{
-    Why, line_delays, line_drop, line_end, line_late, line_levels, line_start, line_word,
+    Why, line_begun, line_delays, line_drop, line_end, line_levels, line_start, line_word,
 };
 use crate::origins::{Origin, Origins};
 use crate::uses::FactLine;
@@ -26,36 +25,13 @@ use st_exch::print_text;
 use st_io::{Failed, Sink, write_line};
 use st_plain::Ahead;
 use st_report::{
-    LineFromEnd, line_done, line_en, line_end as line_run_end, line_int, line_prt, line_ticks,
+    LineFromEnd, line_done, line_en, line_end as line_run_end, line_int, line_prt, line_ticks, put,
 };
-use st_state::State;
-use st_text::{Line, behind, front};
+use st_state::{State, counter_in, is_enabled};
+use st_text::{behind, front};
 
 /// What is printed between two entries, eight words each time.
 pub type Printed = ArrayVec<[u64; 8], 3>;
-
-/// The counter of a state.
-pub fn counter_of(state: &State) -> u32
-    ensures value { result ≡ state.now.ic }
-    ensures below { result < 2 ^ 19 }
-    ensures machine { IsMachine state.now }
-{
-    state.ic
-}
-
-/// Whether interrupts are enabled in a state.
-pub fn is_enabled(state: &State) -> bool
-    ensures { result ≡ state.now.enabled }
-{
-    state.enabled
-}
-
-/// Writes a line.
-pub fn put<K: Sink>(out: &mut K, line: &Line) -> Result<(), Failed>
-    ensures { WritesLines (K.output out.old) (K.output out.new) (line.now.bytes ∷ []) result }
-{
-    write_line(out, line.as_str().as_bytes())
-}
 
 // Writes the line of an entry that is dropped, which is the n-th entry.
 fn write_drop_line<K: Sink>(out: &mut K, n: u32, ahead: &Ahead) -> Result<(), Failed>
@@ -124,7 +100,7 @@ pub struct Dropped<'a> {
     /// Those that were prepared by then, the oldest first.
     pub found: &'a [Ahead],
     /// The one behind them, which was begun.
-    pub late: &'a Ahead,
+    pub begun: &'a Ahead,
     /// Where their half-words come from.
     pub origins: &'a Origins,
     ghost few: { n + length found.now < 2 ^ 32 },
@@ -153,18 +129,18 @@ fn write_drops<K: Sink>(out: &mut K, dropped: &Dropped<'_>, state: &State) -> Re
         tick,
         n: n + 1,
         found: more,
-        late: dropped.late,
+        begun: dropped.begun,
         origins: dropped.origins,
     };
     write_drops(out, &behind, state)
 }
 
 // Writes the line of the entry that was begun, which is the n-th entry.
-fn write_late_line<K: Sink>(out: &mut K, n: u32, late: &Ahead) -> Result<(), Failed>
+fn write_begun_line<K: Sink>(out: &mut K, n: u32, begun: &Ahead) -> Result<(), Failed>
     ensures { WritesLines (K.output out.old) (K.output out.new)
-        (begun_line n late.now.plan.place.address late.now.row ∷ []) result }
+        (begun_line n begun.now.plan.place.address begun.now.row ∷ []) result }
 {
-    put(out, &line_late(n, late.plan.place.address, &late.row))
+    put(out, &line_begun(n, begun.plan.place.address, &begun.row))
 }
 
 // The number of the entry that was begun.
@@ -176,24 +152,24 @@ fn number_behind(dropped: &Dropped<'_>) -> u32
 
 // Writes the line of the entry that was begun, which is the n-th entry, and what is known of it by
 // itself.
-fn write_late<K: Sink>(
+fn write_begun_entry<K: Sink>(
     out: &mut K,
     n: u32,
     dropped: &Dropped<'_>,
     state: &State,
 ) -> Result<(), Failed>
     ensures { WritesLines (K.output out.old) (K.output out.new)
-        (late_lines (origin_at dropped.now.origins.now state.now) n dropped.now.tick
-        (dropped.now.late.now ∷ [])) result }
+        (begun_entry_lines (origin_at dropped.now.origins.now state.now) n dropped.now.tick
+        (dropped.now.begun.now ∷ [])) result }
 {
-    let late = dropped.late;
-    write_late_line(out, n, late)?;
+    let begun = dropped.begun;
+    write_begun_line(out, n, begun)?;
     write_ahead_facts(
         out,
         n,
         dropped.tick,
-        late,
-        origin_of(late, dropped.origins, state),
+        begun,
+        origin_of(begun, dropped.origins, state),
     )
 }
 
@@ -202,12 +178,12 @@ fn write_ahead<K: Sink>(out: &mut K, dropped: &Dropped<'_>, state: &State) -> Re
     ensures { let d = dropped.now in
         WritesLines (K.output out.old) (K.output out.new)
         (drop_lines (origin_at d.origins.now state.now) d.n d.tick d.found.now
-        ++ late_lines (origin_at d.origins.now state.now) (d.n + length d.found.now) d.tick
-        (d.late.now ∷ [])) result }
+        ++ begun_entry_lines (origin_at d.origins.now state.now) (d.n + length d.found.now) d.tick
+        (d.begun.now ∷ [])) result }
 {
     let behind = number_behind(dropped);
     write_drops(out, dropped, state)?;
-    write_late(out, behind, dropped, state)
+    write_begun_entry(out, behind, dropped, state)
 }
 
 // Writes the line of the end of a segment.
@@ -229,7 +205,7 @@ pub fn write_end<K: Sink>(
     ensures { let d = dropped.now in
         WritesLines (K.output out.old) (K.output out.new)
         (segment_end_lines (origin_at d.origins.now state.now) k d.tick d.n d.found.now
-        (d.late.now ∷ [])) result }
+        (d.begun.now ∷ [])) result }
 {
     if k == 0 {
         return Ok(());
@@ -254,8 +230,8 @@ fn differ(was: bool, now: bool) -> bool
     if was { !now } else { now }
 }
 
-// Whether one of both is so.
-fn either(one: bool, two: bool) -> bool
+/// Whether one of both is so.
+pub fn either(one: bool, two: bool) -> bool
     ensures { result ≡ (one || two) }
 {
     one || two
@@ -342,8 +318,7 @@ fn write_words<K: Sink>(
     may: &Changeable,
 ) -> Result<(), Failed>
     requires size { length old.old.items ≡ words_of_storage }
-    requires left { starts ≡ false → (v : ℕ) → v < WORDS → IsUntouched v may.now →
-        slice_index old.old.items v ≡ word state.now v }
+    requires left { starts ≡ false → AreOthersAlike may.now old.old.items state.now }
     ensures lines { WritesLines (K.output out.old) (K.output out.new)
         (if starts then lines_for (nonzero_word_lines state.now) WORDS 0
         else lines_for (word_change_lines old.old.items state.now) WORDS 0) result }
@@ -379,15 +354,14 @@ fn write_standing<K: Sink>(
     state: &State,
 ) -> Result<(), Failed>
     requires size { length old.old.items ≡ words_of_storage }
-    requires left { between.now.k ≢ 0 → (v : ℕ) → v < WORDS → IsUntouched v between.now.may.now →
-        slice_index old.old.items v ≡ word state.now v }
+    requires left { IsCopyBehind between.now.k between.now.may.now old.old.items state.now }
     ensures lines { WritesLines (K.output out.old) (K.output out.new)
         (ic_line state.now.ic ∷ en_lines between.now.k between.now.was state.now.enabled
         ++ words_lines between.now.k old.old.items state.now) result }
     ensures words { IsOk result → old.new.items ≡ state.now.words }
 {
     let k = between.k;
-    write_counter(out, k, between.was, counter_of(state), is_enabled(state))?;
+    write_counter(out, k, between.was, counter_in(state), is_enabled(state))?;
     write_words(out, k == 0, old, state, between.may)
 }
 
@@ -402,8 +376,7 @@ pub fn write_marks<K: Sink>(
     state: &State,
 ) -> Result<(), Failed>
     requires size { length old.old.items ≡ words_of_storage }
-    requires left { between.now.k ≢ 0 → (v : ℕ) → v < WORDS → IsUntouched v between.now.may.now →
-        slice_index old.old.items v ≡ word state.now v }
+    requires left { IsCopyBehind between.now.k between.now.may.now old.old.items state.now }
     ensures lines { WritesLines (K.output out.old) (K.output out.new)
         (marks_lines between.now.printed.now between.now.k between.now.was old.old.items
         state.now) result }
@@ -461,7 +434,7 @@ fn write_ended<K: Sink>(
     ensures { let d = between.now.dropped in
         WritesLines (K.output out.old) (K.output out.new)
         (if ends then segment_end_lines (origin_at d.origins.now state.now) between.now.k d.tick
-        d.n d.found.now (d.late.now ∷ []) else []) result }
+        d.n d.found.now (d.begun.now ∷ []) else []) result }
 {
     if !ends {
         return Ok(());
@@ -479,8 +452,7 @@ fn write_state<K: Sink>(
     state: &State,
 ) -> Result<(), Failed>
     requires size { length old.old.items ≡ words_of_storage }
-    requires left { between.now.k ≢ 0 → (v : ℕ) → v < WORDS → IsUntouched v between.now.may.now →
-        slice_index old.old.items v ≡ word state.now v }
+    requires left { IsCopyBehind between.now.k between.now.may.now old.old.items state.now }
     ensures lines { WritesLines (K.output out.old) (K.output out.new)
         (state_lines between.now.printed.now between.now.k between.now.was old.old.items state.now
         border.now.taken border.now.done) result }
@@ -491,7 +463,7 @@ fn write_state<K: Sink>(
 }
 
 // Writes the start of the segment k, where one begins.
-fn write_begun<K: Sink>(out: &mut K, border: &Border, k: u32) -> Result<(), Failed>
+fn write_start<K: Sink>(out: &mut K, border: &Border, k: u32) -> Result<(), Failed>
     ensures { WritesLines (K.output out.old) (K.output out.new)
         (if border.now.begins then start_line k border.now.start border.now.waited border.now.why
         ∷ [] else []) result }
@@ -513,14 +485,13 @@ pub fn write_border<K: Sink>(
 ) -> Result<(), Failed>
     requires number { between.now.k + 1 < 2 ^ 32 }
     requires size { length old.old.items ≡ words_of_storage }
-    requires left { between.now.k ≢ 0 → (v : ℕ) → v < WORDS → IsUntouched v between.now.may.now →
-        slice_index old.old.items v ≡ word state.now v }
+    requires left { IsCopyBehind between.now.k between.now.may.now old.old.items state.now }
 
     ensures lines { let b = between.now in
         let d = b.dropped in
         WritesLines (K.output out.old) (K.output out.new)
         (((if border.now.ends then segment_end_lines (origin_at d.origins.now state.now) b.k d.tick
-        d.n d.found.now (d.late.now ∷ []) else [])
+        d.n d.found.now (d.begun.now ∷ []) else [])
         ++ state_lines b.printed.now b.k b.was old.old.items state.now border.now.taken
         border.now.done)
         ++ (if border.now.begins then start_line (b.k + 1) border.now.start border.now.waited
@@ -529,7 +500,7 @@ pub fn write_border<K: Sink>(
 {
     write_ended(out, border.ends, between, state)?;
     write_state(out, border, between, old, state)?;
-    write_begun(out, border, between.k + 1)
+    write_start(out, border, between.k + 1)
 }
 
 // Writes how the run ended.

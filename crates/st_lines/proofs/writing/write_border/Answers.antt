@@ -19,7 +19,7 @@ returns-in_err-write_state-clause-words g c good = not_both c.from_residual-in_e
 
 pub returns-clause-lines : goal.returns-clause-lines
 returns-clause-lines g c =
-    lines_then _ _ _ _ _ _ _ (lines_then _ _ _ _ _ _ _ c.in_ok-write_ended.ensures c.in_ok-write_state.ensures.lines) c.write_begun.ensures
+    lines_then _ _ _ _ _ _ _ (lines_then _ _ _ _ _ _ _ c.in_ok-write_ended.ensures c.in_ok-write_state.ensures.lines) c.write_start.ensures
 
 pub returns-clause-words : goal.returns-clause-words
 returns-clause-words g c good = c.in_ok-write_state.ensures.words refl

@@ -15,7 +15,7 @@ pub returns-in_err-write_counter-clause-lines : goal.returns-in_err-write_counte
 returns-in_err-write_counter-clause-lines g c =
     let b = c.args.between.now in
     both_cut _ _ _ _ (words_lines b.k c.args.old.now.items c.args.state.now) _ c.from_residual.result c.from_residual.ensures.0
-    (ap (λ (i : ℕ). ic_line i ∷ en_lines b.k b.was c.is_enabled.result) c.counter_of.ensures.value
+    (ap (λ (i : ℕ). ic_line i ∷ en_lines b.k b.was c.is_enabled.result) c.counter_in.ensures.value
     ∙ ap (λ (e : Bool). ic_line c.args.state.now.ic ∷ en_lines b.k b.was e) c.is_enabled.ensures) c.in_err-write_counter.ensures
 
 pub returns-clause-lines : goal.returns-clause-lines
@@ -23,6 +23,6 @@ unfolding words_lines
 returns-clause-lines g c =
     let b = c.args.between.now in
     both_then _ _ _ _ _ (words_lines b.k c.args.old.now.items c.args.state.now) _ _ _
-    (ap (λ (i : ℕ). ic_line i ∷ en_lines b.k b.was c.is_enabled.result) c.counter_of.ensures.value
+    (ap (λ (i : ℕ). ic_line i ∷ en_lines b.k b.was c.is_enabled.result) c.counter_in.ensures.value
     ∙ ap (λ (e : Bool). ic_line c.args.state.now.ic ∷ en_lines b.k b.was e) c.is_enabled.ensures) refl c.in_ok-write_counter.ensures
     c.write_words.ensures.lines

@@ -2,7 +2,7 @@ use Rattle.std.specs.Prelude.{slice_index}
 use Rattle.std.proofs.Common.{sym, ◌∙◌, ap}
 use Rattle.st_account.specs.Standing.{still_by}
 use Rattle.st_account.specs.declared.account.Account.{Account}
-use Rattle.st_account.proofs.PassLemmas.{scene-is, printed-is, card-is, waited-is, left-is, may-is, dropped-is, banks-is, late-is}
+use Rattle.st_account.proofs.PassLemmas.{scene-is, printed-is, card-is, waited-is, left-is, may-is, dropped-is, banks-is, begun-is}
 use Rattle.st_account.proofs.account.Account.pass.Goals as goal
 
 pub returns-clause-came : goal.returns-clause-came
@@ -23,9 +23,9 @@ returns-clause-came c b m at =
       dropped = λ ends.
           dropped-is ds n b m a c.args.coming.now.signals c.args.coming.now.cards at c.args.left c.is_still-still.result c.is_end_near.result still
           c.is_end_near.ensures ends _ c.look_if.ensures.found;
-      late = λ ends some.
-          late-is ds n b m a c.args.coming.now.signals c.args.coming.now.cards at c.args.left c.is_still-still.result c.is_end_near.result still
-          c.is_end_near.ensures ends _ c.look_if.ensures.late (λ none. some (segment ∙ none));
+      begun = λ ends some.
+          begun-is ds n b m a c.args.coming.now.signals c.args.coming.now.cards at c.args.left c.is_still-still.result c.is_end_near.result still
+          c.is_end_near.ensures ends _ c.look_if.ensures.begun (λ none. some (segment ∙ none));
       banks = λ ends.
           banks-is ds n b m a c.args.coming.now.signals c.args.coming.now.cards at c.args.left c.is_still-still.result c.is_end_near.result still
           c.is_end_near.ensures ends _ (λ yes. c.look_if.ensures.banks at.hand.reads at.hand.bus yes at.hand.has);

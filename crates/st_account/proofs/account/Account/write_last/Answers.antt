@@ -20,4 +20,4 @@ returns-clause-lines g c ds n left b m xs cards is end =
     (lines_then _ _ _ _ _ _ _
     (lines_then _ _ _ _ _ _ _ c.in_ok-write_end.ensures
     c.in_ok-write_marks.ensures.lines)
-    (same_lines _ _ _ _ _ (totals-is c.args.self.now.state _ _ _ c.is_at_rest.ensures c.done_of.ensures) c.write_totals.ensures))
+    (same_lines _ _ _ _ _ (totals-is c.args.self.now.state _ _ _ c.is_at_rest.ensures c.done_in.ensures) c.write_totals.ensures))
