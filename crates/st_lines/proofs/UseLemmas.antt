@@ -1,5 +1,5 @@
 -- The lines of the words that an entry uses, and their pieces.
-use Rattle.std.specs.Prelude.{if◌then◌else◌, Option, codes, decimal}
+use Rattle.std.specs.Prelude.{if◌then◌else◌, Option, decimal}
 use Rattle.std.proofs.Common.{◌≡◌, ℕ, ◌+◌, ◌<◌, ◌≤◌, List, [], ◌∷◌, ◌++◌, length, drop, get_or, refl, sym, ◌∙◌, ap, subst, append_assoc, drop-cons, add-one}
 use Rattle.std.proofs.lemmas.Fmt.{decimal_digit}
 use Rattle.std.proofs.lemmas.List.{append-nil}

@@ -1,10 +1,8 @@
 -- Writing charges with their waits, one after another.
-use Rattle.std.specs.Prelude.{if◌then◌else◌, Result, Ok, Err, IsErr, codes, decimal}
+use Rattle.std.specs.Prelude.{if◌then◌else◌, Result, Ok, Err, IsErr}
 use Rattle.std.proofs.Common.{◌≡◌, ℕ, ◌+◌, ◌≤◌, ◌<◌, max, true, List, [], ◌∷◌, ◌++◌, refl, sym, ◌∙◌, ap, subst, append_assoc, arith}
 use Rattle.std.proofs.lemmas.Bool.{lt-ltb, le-ltb}
-use Rattle.std.proofs.lemmas.Fmt.{decimal_digit}
 use Rattle.std.proofs.lemmas.List.{append-nil}
-use Rattle.st_banks.specs.Bank.{bank_of}
 use Rattle.st_io.specs.Output.{OutputState}
 use Rattle.st_io.specs.declared.Failed.{Failed}
 use Rattle.st_io.specs.Lines.{WritesLines}
