@@ -34,6 +34,14 @@
   (let ((column (current-column)))
     (insert (make-string (- (if (< column 9) 9 (+ column (- 8 (% (- column 9) 8)))) column) ?\s))))
 
+(defconst stretch-home (file-name-directory (file-truename (or load-file-name buffer-file-name)))
+  "Where this file stands.")
+
+(defun stretch-why ()
+  "The command that looks at a deck: installed, or that of the repository."
+  (if (executable-find "stretch-why") "stretch-why"
+    (shell-quote-argument (expand-file-name "../../tools/why" stretch-home))))
+
 (defvar stretch-mode-map
   (let ((map (make-sparse-keymap)))
     (define-key map (kbd "TAB") #'stretch-tab)
@@ -49,6 +57,8 @@
   (setq-local indent-tabs-mode nil)
   (setq-local indent-line-function #'ignore)
   (setq-local fill-column 72)
+  (when buffer-file-name
+    (setq-local compile-command (concat (stretch-why) " --lines " (shell-quote-argument buffer-file-name))))
   (when (fboundp 'display-fill-column-indicator-mode)
     (display-fill-column-indicator-mode 1)))
 

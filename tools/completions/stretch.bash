@@ -16,4 +16,4 @@ _stretch() {
     mapfile -t COMPREPLY < <(compgen -W "$words" -- "$word")
 }
 complete -o filenames -F _stretch stretch stretch-chart stretch-ledger stretch-explain stretch-why stretch-read stretch-deck \
-    stretch-delays stretch-indicators stretch-page stretch-picture
+    stretch-delays stretch-grade stretch-indicators stretch-page stretch-picture stretch-slides stretch-study

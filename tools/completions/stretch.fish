@@ -9,6 +9,6 @@ complete -c stretch-chart -f -n '__fish_is_first_arg' -a 'svg text kanata'
 complete -c stretch-ledger -f -n '__fish_is_first_arg' -a '1 2 3 4 5 6 7 8'
 complete -c stretch-read -f -n '__fish_is_first_arg' -a 'text csv json'
 complete -c stretch-explain -f -n '__fish_is_first_arg' -a 'text csv json'
-for name in why deck delays page picture
+for name in why deck delays grade page picture slides study
     complete -c stretch-$name -l help -d 'how it is used'
 end

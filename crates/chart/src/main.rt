@@ -2,6 +2,10 @@
 //! `draw`.
 #![tactic(auto)]
 
+ghost use Rattle.std.specs.Prelude.{◌≡◌};
+ghost use Rattle.std.specs.Process.{exit_status};
+ghost use Rattle.chart.specs.Exit.{number_of};
+
 use st_draw::{Status, draw};
 use st_io::{NoWords, StdSink, StdSource, words};
 use std::io;
@@ -10,11 +14,18 @@ use std::process::ExitCode;
 fn main(rt: HostRuntime) -> ExitCode {
     let words = match words(&rt) {
         Ok(words) => words,
-        Err(NoWords::NotText) => return ExitCode::from(Status::Usage as u8),
-        Err(NoWords::NoMemory) => return ExitCode::from(Status::NoMemory as u8),
+        Err(NoWords::NotText) => return exit(Status::Usage),
+        Err(NoWords::NoMemory) => return exit(Status::NoMemory),
     };
     let mut report = StdSource::new(rt.reader());
     let mut out = StdSink::new(io::writer(&rt));
     let status = draw(rt.alloc(), words.as_slice(), &mut report, &mut out);
+    exit(status)
+}
+
+// Ends the program with the number of a status.
+fn exit(status: Status) -> ExitCode
+    ensures { exit_status result ≡ number_of status }
+{
     ExitCode::from(status as u8)
 }

@@ -25,7 +25,7 @@ use Rattle.st_rows.specs.declared.past.Past.{Past}
 use Rattle.st_segment.specs.Entries.{entry}
 use Rattle.st_segment.specs.Ahead.{Ahead, ahead, prepared_before}
 use Rattle.st_run.specs.Run.{Scene}
-use Rattle.st_run.specs.Overlap.{idle_banks}
+use Rattle.st_banks.specs.Bank.{idle_banks}
 use Rattle.st_run.specs.Moments.{Standing, moment_at_start, next_row, next_moment}
 use Rattle.std.proofs.lemmas.List.{length-append, length-map}
 use Rattle.st_prep.proofs.Choices.{of_choice}

@@ -17,7 +17,7 @@ use Rattle.st_rows.specs.Rows.{opening_front}
 use Rattle.st_run.specs.Run.{Scene}
 use Rattle.st_run.specs.Reached.{IsCard}
 use Rattle.st_run.specs.Outside.{Coming}
-use Rattle.st_run.specs.Overlap.{idle_banks}
+use Rattle.st_banks.specs.Bank.{idle_banks}
 use Rattle.st_run.specs.Moments.{Moment, Standing, moment_at_start, next_state, next_front, standing_at, next_moment}
 use Rattle.st_exec.proofs.StepLemmas.{step-done}
 use Rattle.st_run.proofs.DoneLemmas.{settled-done}

@@ -8,6 +8,7 @@ use Rattle.st_state.specs.Interrupts.{pending}
 use Rattle.st_prep.specs.Fetch.{place_of, index_words}
 use Rattle.st_prep.specs.declared.entries.Place.{Place}
 use Rattle.st_exec.specs.Step.{interrupt, rests}
+use Rattle.st_banks.specs.Bank.{idle_banks}
 use Rattle.st_banks.specs.declared.answers.LastAnswers.{LastAnswers}
 use Rattle.st_banks.specs.declared.answers.TheConstants.{BANKS}
 use Rattle.st_rows.specs.Rows.{opening_front}
@@ -16,7 +17,7 @@ use Rattle.st_ring.specs.declared.level.Level.{Level}
 use Rattle.st_ring.specs.Levels.{oldest_front}
 use Rattle.st_segment.specs.Ahead.{ahead, prepared_before}
 use Rattle.st_ring.proofs.LevelLemmas.{length-ahead}
-use Rattle.st_ahead.specs.Overlap.{Overlap, state_ahead, with_counter, levels_of, interrupt_due, idle_banks}
+use Rattle.st_ahead.specs.Overlap.{Overlap, state_ahead, with_counter, levels_of, interrupt_due}
 use Rattle.st_ahead.specs.Calls.{drop_count, machine_after_segment, machine_after_pass, machine_after_settling, answer, settled_by, answer_by}
 use Rattle.st_ahead.specs.Forecast.{LookaheadView, IsLookahead, IsOpened, count, is_open}
 use Rattle.st_ahead.specs.Going.{IsGoing}

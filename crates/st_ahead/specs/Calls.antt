@@ -1,5 +1,6 @@
 -- What the calls of an overlapped machine make of what it stands for, and what they answer.
 use Rattle.std.specs.Prelude.{ℕ, ◌≡◌, ◌+◌, ◌==◌, Bool, true, false, if◌then◌else◌, List, length, Option, None, Some, IsSome, ◌⊎◌}
+use Rattle.st_banks.specs.Bank.{idle_banks}
 use Rattle.st_banks.specs.declared.answers.LastAnswers.{LastAnswers}
 use Rattle.st_state.specs.Interrupts.{state_with_signal}
 use Rattle.st_prep.specs.Plan.{plan}
@@ -8,7 +9,7 @@ use Rattle.st_exec.specs.Step.{rests}
 use Rattle.st_exec.specs.Transfer.{read_in, printed_out}
 use Rattle.st_rows.specs.Rows.{front_after_entry}
 use Rattle.st_segment.specs.Ahead.{front_behind_end}
-use Rattle.st_ahead.specs.Overlap.{Overlap, idle_banks, oldest_entry, oldest_row, levels_of, banks_at_its_end, interrupt_due}
+use Rattle.st_ahead.specs.Overlap.{Overlap, oldest_entry, oldest_row, levels_of, banks_at_its_end, interrupt_due}
 use Rattle.st_ahead.specs.declared.events.Row.{Row}
 use Rattle.st_ahead.specs.declared.events.Event.{Event}
 use Rattle.st_ahead.specs.declared.events.Event.TheVariants.{Passed, Done}

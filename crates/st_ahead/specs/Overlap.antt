@@ -1,9 +1,9 @@
 -- What an overlapped machine stands for, and what is read off it.
-use Rattle.std.specs.Prelude.{ℕ, ◌-◌, Bool, false, if◌then◌else◌, is_none, List, replicate, Option, None, Some}
+use Rattle.std.specs.Prelude.{ℕ, ◌-◌, Bool, false, if◌then◌else◌, is_none, List, Option, None, Some}
 use Rattle.st_state.specs.Machine.{Machine}
 use Rattle.st_exec.specs.Step.{interrupt}
 use Rattle.st_banks.specs.declared.answers.LastAnswers.{LastAnswers}
-use Rattle.st_banks.specs.declared.answers.TheConstants.{BANKS}
+use Rattle.st_banks.specs.Bank.{idle_banks}
 use Rattle.st_rows.specs.Rows.{opening_front, row_of_entry}
 use Rattle.st_rows.specs.declared.entry.Entry.{Entry}
 use Rattle.st_rows.specs.declared.front.Front.{Front}
@@ -29,10 +29,6 @@ pub record Overlap : Type 0 where
   pub ended : Bool
   pub stopped : Bool
   pub closing : Option LastAnswers
-
--- banks that nothing was read from
-abbrev pub idle_banks : LastAnswers
-idle_banks = record { ticks = replicate BANKS 0 }
 
 -- a machine between two ticks
 abbrev pub machine_between_ticks : List ℕ → ℕ → Machine → Option ℕ → Front → ℕ → Overlap

@@ -7,7 +7,7 @@ ghost use Rattle.st_state.specs.Machine.{Machine, IsMachine};
 ghost use Rattle.st_prep.specs.Fetch.{index_words as index_words_of};
 ghost use Rattle.st_rows.specs.Rows.{opening_front};
 ghost use Rattle.st_rows.specs.declared.front.Front.{Front as FrontOf};
-ghost use Rattle.st_ahead.specs.Overlap.{idle_banks};
+ghost use Rattle.st_banks.specs.Bank.{idle_banks};
 
 use st_banks::{Delays, LastAnswers};
 use st_next::Next;

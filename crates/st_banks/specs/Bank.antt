@@ -1,6 +1,7 @@
 -- The banks of storage: which words are in each, and until when it is busy.
 use Rattle.std.specs.Prelude.{ℕ, ◌+◌, ◌%◌, max, nat_lt, nat_le, if◌then◌else◌, List, replicate, slice_index, slice_set, Option, None, Some}
 use Rattle.st_banks.specs.Delay.{answer_tick}
+use Rattle.st_banks.specs.declared.answers.LastAnswers.{LastAnswers}
 use Rattle.st_banks.specs.declared.answers.TheConstants.{BANKS, LOW_WORDS}
 
 -- the bank of a word: the first words lie in four banks in turn, the others in two
@@ -15,6 +16,10 @@ last_of answers w = slice_index answers (bank_of w)
 -- from the want on
 abbrev pub accept_tick : List ℕ → ℕ → ℕ → ℕ → ℕ
 accept_tick answers w tick want = max (max tick want) (last_of answers w)
+
+-- banks that nothing was read from
+abbrev pub idle_banks : LastAnswers
+idle_banks = record { ticks = replicate BANKS 0 }
 
 -- the last answers after a read of the word that is answered at the tick
 abbrev pub answered_at : List ℕ → ℕ → ℕ → List ℕ

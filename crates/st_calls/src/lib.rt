@@ -13,3 +13,5 @@ mod overlapped;
 mod plain;
 #[cfg(test)]
 mod reads;
+#[cfg(test)]
+mod snapshots;

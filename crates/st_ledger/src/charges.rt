@@ -5,11 +5,11 @@
 pub enum Stage {
     /// The machine starts anew, up to the start of the segment.
     Restart,
-    /// Instruction words are awaited, and what has to be done before them.
+    /// Instruction words are awaited, or reads of the row before come first.
     Instruction,
     /// The address is formed.
     Address,
-    /// The index-side word is awaited, or a free level.
+    /// The index-side word is awaited.
     Index,
     /// It is prepared.
     Preparing,

@@ -1,5 +1,5 @@
 -- Object texts that differ in their lines of delays alone are of programs that differ in their delays alone.
-use Rattle.std.proofs.Common.{◌≡◌, ◌≤◌, ◌+◌, ◌==◌, ℕ, Bool, true, false, not, if◌then◌else◌, List, [], ◌∷◌, ◌++◌, map, filter, Ok, refl, sym, ◌∙◌, ap, append_assoc, arith}
+use Rattle.std.proofs.Common.{◌≡◌, ◌≤◌, ◌+◌, ◌==◌, ℕ, Bool, true, false, not, if◌then◌else◌, List, [], ◌∷◌, ◌++◌, map, filter, Ok, refl, sym, ◌∙◌, ap, append_assoc, append-nil, arith}
 use Rattle.std.proofs.lemmas.Bool.{cond_both}
 use Rattle.std.proofs.lemmas.Bool.Decides.{nat_tests}
 use Rattle.std.proofs.lemmas.List.{map-append}
@@ -153,6 +153,21 @@ others-parts p =
     ap others (pieces-parts p)
     ∙ three-left (lines_of (head p)) (lines_of (unless_zero p.controls.budget (Ask (Budget p.controls.budget)))) (lines_of (map (λ n. Ask (Delay n)) p.controls.delays))
     (lines_of (rest p)) ([] ∷ []) (stay-head p) (stay-budget p) (none-stays p.controls.delays) (stay-rest p) empty-stays
+
+-- the same of lines alone
+others-lines : (p : Program) → others (lines_of (object_lines p))
+    ≡ lines_of (head p) ++ (lines_of (unless_zero p.controls.budget (Ask (Budget p.controls.budget))) ++ (lines_of (rest p) ++ []))
+others-lines p =
+    ap others (sym (append-nil (lines_of (object_lines p))) ∙ ap (λ items. lines_of items ++ []) (in-parts p)
+    ∙ four-parts (head p) (unless_zero p.controls.budget (Ask (Budget p.controls.budget))) (map (λ n. Ask (Delay n)) p.controls.delays) (rest p) [])
+    ∙ three-left (lines_of (head p)) (lines_of (unless_zero p.controls.budget (Ask (Budget p.controls.budget)))) (lines_of (map (λ n. Ask (Delay n)) p.controls.delays))
+    (lines_of (rest p)) [] (stay-head p) (stay-budget p) (none-stays p.controls.delays) (stay-rest p) refl
+
+-- which they are does not depend on the delays
+pub others-same : (p : Program) (delays : List ℕ)
+    → filter (λ line. not (is_delay_line line)) (map line_text (object_lines (record p { controls = record p.controls { delays = delays } })))
+    ≡ filter (λ line. not (is_delay_line line)) (map line_text (object_lines p))
+others-same p delays = others-lines (with_delays p delays) ∙ sym (others-lines p)
 
 -- ---- with other delays
 

@@ -11,15 +11,16 @@ use Rattle.st_reasons.specs.Words.{IsReadInTime}
 use Rattle.st_reasons.specs.Sums.{all_stalled}
 use Rattle.st_reasons.specs.Waits.{stage_waits}
 use Rattle.st_reasons.proofs.InTime.{uses-in-time}
-use Rattle.st_reasons.proofs.Pieces.{data-ticks, fetch-ticks, all-reversed}
+use Rattle.st_reasons.proofs.Pieces.{data-ticks, fetch-ticks}
+use Rattle.st_reasons.proofs.WordLemmas.{all-reversed}
 
 stage-ticks : (stage : Stage) (from t : ℕ) (uses before : List Use) → All IsReadInTime uses → All IsReadInTime before
     → all_stalled (stage_waits stage from t uses before) ≤ t - from
 unfolding stage_waits all_stalled
 stage-ticks AtInstruction from t uses before all old =
-    fetch-ticks from t (reverse before) (reverse (take 4 uses)) (all-reversed before old) (all-reversed (take 4 uses) (All-take IsReadInTime 4 uses all))
-stage-ticks AtIndex from t uses before all old = data-ticks Index from t (reverse before) (reverse uses) (all-reversed uses all)
-stage-ticks AtOperand from t uses before all old = data-ticks Operand from t (reverse before) (reverse uses) (all-reversed uses all)
+    fetch-ticks from t (reverse before) (reverse (take 4 uses)) (all-reversed IsReadInTime before old) (all-reversed IsReadInTime (take 4 uses) (All-take IsReadInTime 4 uses all))
+stage-ticks AtIndex from t uses before all old = data-ticks Index from t (reverse before) (reverse uses) (all-reversed IsReadInTime uses all)
+stage-ticks AtOperand from t uses before all old = data-ticks Operand from t (reverse before) (reverse uses) (all-reversed IsReadInTime uses all)
 stage-ticks Restart from t uses before all old = omega arith
 stage-ticks Address from t uses before all old = omega arith
 stage-ticks Preparing from t uses before all old = omega arith

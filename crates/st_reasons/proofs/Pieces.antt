@@ -1,10 +1,9 @@
 -- How many ticks waits have.
-use Rattle.std.specs.Prelude.{true, ◌&&◌, nat_eq, All, reverse}
-use Rattle.std.proofs.Common.{◌≡◌, ℕ, ◌+◌, ◌-◌, ◌≤◌, max, List, [], ◌∷◌, ◌++◌, sym, subst, arith}
+use Rattle.std.specs.Prelude.{true, ◌&&◌, nat_eq, All}
+use Rattle.std.proofs.Common.{◌≡◌, ℕ, ◌+◌, ◌-◌, ◌≤◌, max, List, [], ◌∷◌, ◌++◌, arith}
 use Rattle.std.proofs.lemmas.Bool.{cond_both, and_parts, eqb-true}
 use Rattle.std.proofs.lemmas.Bool.Decides.{nat_tests}
-use Rattle.std.proofs.lemmas.List.{reverse-append}
-use Rattle.std.proofs.lemmas.List.Elements.{All-nil, All-cons, All-head, All-tail, All-append}
+use Rattle.std.proofs.lemmas.List.Elements.{All-head, All-tail}
 use Rattle.st_plain.specs.declared.uses.Role.{Role}
 use Rattle.st_plain.specs.declared.uses.Role.TheVariants.{Instruction}
 use Rattle.st_plain.specs.declared.uses.Supply.{Supply}
@@ -140,10 +139,3 @@ fetch-ticks from t before (u ∷ earlier) old all =
     ))
     (λ no_read. held-ticks from t u.word before old))
     (λ not_due. fetch-ticks from t before earlier old rest)
-
-pub all-reversed : (xs : List Use) → All IsReadInTime xs → All IsReadInTime (reverse xs)
-all-reversed [] all = All-nil IsReadInTime
-all-reversed (x ∷ xs) all =
-    subst (All IsReadInTime) (sym (reverse-append (x ∷ []) xs))
-    (All-append IsReadInTime (reverse xs) (x ∷ []) (all-reversed xs (All-tail IsReadInTime x xs all))
-    (All-cons IsReadInTime x [] (All-head IsReadInTime x xs all) (All-nil IsReadInTime)))

@@ -3,6 +3,12 @@ pub mod Waits
 pub mod Reasons
 pub mod Sums
 pub mod Laws
+pub mod Causes
+pub mod Segments
+pub mod Served
+pub mod Paths
+pub mod WaitLaws
+pub mod ReasonLaws
 pub use Rattle.st_ledger.specs.Charges
 pub use Rattle.st_plain.specs.Uses
 pub use Rattle.st_rows.specs.Entries

@@ -175,7 +175,7 @@ within-ticked most made since m are is over w =
 
 -- ---- the whole
 
-ticked-delays : (m : Overlap) → (machine_after_tick m).delays ≡ m.delays
+pub ticked-delays : (m : Overlap) → (machine_after_tick m).delays ≡ m.delays
 unfolding machine_after_tick machine_after_completion
 ticked-delays m =
     cond_both (is_done m) (machine_after_completion m) (record m { owed = true; closing = None }) (λ (x : Overlap). x.delays ≡ m.delays) (λ done. refl) (λ not_done. refl)
@@ -186,7 +186,7 @@ settled_by-delays None behind true m = (ended-rest m).delays
 settled_by-delays None (Some h) false m = (ended-rest m).delays
 settled_by-delays None None false m = refl
 
-settled-delays : (m : Overlap) → (machine_after_settling m).delays ≡ m.delays
+pub settled-delays : (m : Overlap) → (machine_after_settling m).delays ≡ m.delays
 unfolding machine_after_settling
 settled-delays m = settled_by-delays (interrupt_due m) m.missed (rests m.state) m
 
@@ -195,7 +195,7 @@ read-within : (most made since w : ℕ) (m : Overlap) (card : Option (List ℕ))
 read-within most made since w m None is some h = within-state most made since m _ h
 read-within most made since w m (Some card) is some h = within-state most made since (machine_after_segment m) _ (within-ended most made since m is some h)
 
-read-delays : (w : ℕ) (m : Overlap) (card : Option (List ℕ)) → (read_in_by w card m).delays ≡ m.delays
+pub read-delays : (w : ℕ) (m : Overlap) (card : Option (List ℕ)) → (read_in_by w card m).delays ≡ m.delays
 read-delays w m None = refl
 read-delays w m (Some card) = (ended-rest m).delays
 

@@ -6,10 +6,12 @@ use Rattle.st_ahead.specs.Calls.{is_done, machine_after_tick, machine_after_segm
 use Rattle.st_ahead.specs.RunTo.{after_ticks, ArePassed, RunsTo}
 use Rattle.st_ahead.specs.declared.events.Row.{Row}
 use Rattle.st_ahead.proofs.Passing.{ticked-owed, passed-keeps, passed-now}
-use Rattle.st_refine.specs.Reached.{IsReached, MayTick, Ticks, Settles}
-use Rattle.st_refine.specs.Laws.{IsLedTo, RunsAreReached, BanksHaveTheFirstReads, CompletionsComeInTime, LevelsAreLent, OpeningsAreKept, OpeningsFollow, RowsTellTheLevels, CompletionsAreSteps, LevelsAreUnwound, TheStateIsSplit, SignalsLeaveLevels}
+use Rattle.st_refine.specs.Reached.{IsReachedFrom, MayTick, Ticks, Settles}
+use Rattle.st_refine.specs.Laws.{IsLedTo, RunsAreReached, MachinesKeepTheirDelays, HeldWordsAreThoseOfReads, BanksHaveTheFirstReads, CompletionsComeInTime, LevelsAreLent, OpeningsAreKept, OpeningsFollow, RowsTellTheLevels, CompletionsAreSteps, LevelsAreUnwound, TheStateIsSplit, SignalsLeaveLevels}
 use Rattle.st_refine.proofs.Kept.{made-settled, kept, stands-settled, ticked-stopped}
 use Rattle.st_refine.proofs.InTime.{made-ticks, in-time, all-in_time, settled-state, levels-few}
+use Rattle.st_refine.proofs.StartLemmas.{start-delays, start-levels}
+use Rattle.st_refine.proofs.HeldLemmas.{held-words}
 use Rattle.st_refine.proofs.ReadLemmas.{have-first}
 use Rattle.st_refine.proofs.LentLemmas.{ring-count, ring-level, ring-word, ring-slot, ring-undone, index-shown}
 use Rattle.st_refine.specs.Openings.{Signalled, ReadIn, PrintedOut}
@@ -22,66 +24,78 @@ use Rattle.st_exec.proofs.BesideEntries.{beside-printed, beside-no_card}
 use Rattle.st_refine.proofs.StillLemmas.{still-done, still-signalled}
 
 -- where no settle is owed
-record IsLedOn (made k : ℕ) (m new : Overlap) : Type 0 where
-  pub led : IsLedTo (made + k) new
+record IsLedOver (start : Overlap) (made k : ℕ) (m new : Overlap) : Type 0 where
+  pub led : IsLedTo start (made + k) new
   pub settled : new.owed ≡ false
   pub now : new.now ≡ m.now + k
   pub done : new.state.done < 2 ^ 63
 
-led-by : (k count made since : ℕ) (m new : Overlap) → IsReached m made since → m.owed ≡ false → m.state.done < 2 ^ 63 → m.now + k ≤ 2 ^ 63
-    → count ≤ 2 ^ 63 → ArePassed count k m new → IsLedOn made k m new
+led-by : (k count made since : ℕ) (start m new : Overlap) → IsReachedFrom start m made since → m.owed ≡ false → m.state.done < 2 ^ 63
+    → m.now + k ≤ 2 ^ 63 → count ≤ 2 ^ 63 → ArePassed count k m new → IsLedOver start made k m new
 unfolding after_ticks
-led-by zero count made since m new from owes few soon most are =
+led-by zero count made since start m new from owes few soon most are =
     let same : made ≡ made + 0 = omega arith in
-    subst {A = Overlap} (λ x. IsLedOn made 0 m x) (sym are.after) (record {
-      led = record { since = since; reached = subst {A = ℕ} (λ k. IsReached m k since) same from };
+    subst {A = Overlap} (λ x. IsLedOver start made 0 m x) (sym are.after) (record {
+      led = record { since = since; from = subst {A = ℕ} (λ k. IsReachedFrom start m k since) same from };
       settled = owes;
       now = omega arith;
       done = few;
     })
-led-by (suc k) count made since m new from owes few soon most are =
+led-by (suc k) count made since start m new from owes few soon most are =
     let keeps = passed-keeps count m (are.each 0 (omega arith)) most few in
-    let tick = Ticks m made since from (record { settled = owes; tick = omega arith; done = few }) in
+    let tick = Ticks m made since from.reached (record { settled = owes; tick = omega arith; done = few }) in
     let next = Settles (machine_after_tick m) (made + 1) (if is_done m then 0 else since + 1) tick (ticked-owed m)
-    (ticked-stopped m ∙ stands-settled from owes) in
-    let rest = led-by k count (made + 1) (if is_done m then 0 else since + 1) (machine_after_settling (machine_after_tick m)) new next keeps.0 keeps.2
+    (ticked-stopped m ∙ stands-settled from.reached owes) in
+    let rest = led-by k count (made + 1) (if is_done m then 0 else since + 1) start (machine_after_settling (machine_after_tick m)) new
+    (record { reached = next; begun = from.begun }) keeps.0 keeps.2
     (omega (arith, keeps.1, soon)) most (record { each = λ i before. are.each (suc i) (omega (arith, before)); after = are.after }) in
     let same : made + 1 + k ≡ made + suc k = omega arith in
     record {
-      led = subst {A = ℕ} (λ x. IsLedTo x new) same rest.led;
+      led = subst {A = ℕ} (λ x. IsLedTo start x new) same rest.led;
       settled = rest.settled;
       now = omega (arith, rest.now, keeps.1);
       done = rest.done;
     }
 
-done-reached : (m new : Overlap) (made since count last : ℕ) (row : Row) → IsReached m made since → MayTick m →
-    count ≤ 2 ^ 63 → last < 2 ^ 63 → RunsTo count last (Some row) m new → IsReached new (row.c + 1) 0
-done-reached m new made since count last row from may most soon ran =
+done-reached : (start m new : Overlap) (made since count last : ℕ) (row : Row) → IsReachedFrom start m made since → MayTick m →
+    count ≤ 2 ^ 63 → last < 2 ^ 63 → RunsTo count last (Some row) m new → IsReachedFrom start new (row.c + 1) 0
+done-reached start m new made since count last row from may most soon ran =
     let at : ran.before.now ≡ m.now + ran.ticks = passed-now ran.ticks count m ran.before ran.passed in
-    let led = led-by ran.ticks count made since m ran.before from may.settled may.done (omega (arith, at, ran.soon, soon)) most ran.passed in
-    let ticks = Ticks ran.before (made + ran.ticks) led.led.since led.led.reached (record {
+    let led = led-by ran.ticks count made since start m ran.before from may.settled may.done (omega (arith, at, ran.soon, soon)) most ran.passed in
+    let tick = Ticks ran.before (made + ran.ticks) led.led.since led.led.from.reached (record {
       settled = led.settled;
       tick = omega (arith, ran.soon, soon);
       done = led.done;
     }) in
-    let all : made ≡ m.now = made-ticks from ∙ made-settled m.owed m.now may.settled in
+    let ticks : IsReachedFrom start (machine_after_tick ran.before) (made + ran.ticks + 1) (if is_done ran.before then 0 else led.led.since + 1) =
+    record { reached = tick; begun = led.led.from.begun } in
+    let all : made ≡ m.now = made-ticks from.reached ∙ made-settled m.owed m.now may.settled in
     let row_c : row.c ≡ ran.before.now = ap (λ (r : Row). r.c) ran.row_is in
     let same : made + ran.ticks + 1 ≡ row.c + 1 = omega (arith, all, at, row_c) in
     let none : (if is_done ran.before then 0 else led.led.since + 1) ≡ 0 = rw ran.done refl in
-    subst {A = Overlap} (λ x. IsReached x (row.c + 1) 0) (sym ran.after)
-    (subst {A = ℕ} (λ k. IsReached (machine_after_tick ran.before) k 0) same
-    (subst {A = ℕ} (λ k. IsReached (machine_after_tick ran.before) (made + ran.ticks + 1) k) none ticks))
+    subst {A = Overlap} (λ x. IsReachedFrom start x (row.c + 1) 0) (sym ran.after)
+    (subst {A = ℕ} (λ k. IsReachedFrom start (machine_after_tick ran.before) k 0) same
+    (subst {A = ℕ} (λ k. IsReachedFrom start (machine_after_tick ran.before) (made + ran.ticks + 1) k) none ticks))
 
-passed-led : (m new : Overlap) (made since count last : ℕ) → IsReached m made since → MayTick m →
-    count ≤ 2 ^ 63 → last < 2 ^ 63 → RunsTo count last None m new → IsLedTo (made + (last + 1 - m.now)) new
-passed-led m new made since count last from may most soon ran =
-    (led-by (last + 1 - m.now) count made since m new from may.settled may.done (omega (arith, may.tick, soon)) most ran).led
+passed-led : (start m new : Overlap) (made since count last : ℕ) → IsReachedFrom start m made since → MayTick m →
+    count ≤ 2 ^ 63 → last < 2 ^ 63 → RunsTo count last None m new → IsLedTo start (made + (last + 1 - m.now)) new
+passed-led start m new made since count last from may most soon ran =
+    (led-by (last + 1 - m.now) count made since start m new from may.settled may.done (omega (arith, may.tick, soon)) most ran).led
 
 pub runs_are_reached : RunsAreReached
 runs_are_reached = record {
   done = done-reached;
   passed = passed-led;
 }
+
+pub machines_keep_their_delays : MachinesKeepTheirDelays
+machines_keep_their_delays = record {
+  delays = λ m made since reached. start-delays reached;
+  levels = λ m made since reached. start-levels reached;
+}
+
+pub held_words_are_those_of_reads : HeldWordsAreThoseOfReads
+held_words_are_those_of_reads = held-words
 
 pub banks_have_the_first_reads : BanksHaveTheFirstReads
 banks_have_the_first_reads m made since j o changes from is going = have-first m made since j o changes from is going

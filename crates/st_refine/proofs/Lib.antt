@@ -10,3 +10,5 @@ pub mod RowLemmas
 pub mod StillLemmas
 pub mod ReadLemmas
 pub mod Laws
+mod HeldLemmas
+mod StartLemmas

@@ -1,5 +1,5 @@
 -- What holds of machines that calls within the protocol lead to.
-use Rattle.std.specs.Prelude.{ℕ, suc, ◌≡◌, ◌+◌, ◌-◌, ◌<◌, ◌≤◌, ◌^◌, false, List, ◌++◌, All, None, Some, IfSome, ◌*◌, ◌||◌, nat_lt, nat_le, is_some, length, slice_get, slice_index_or, true, if◌then◌else◌, [], ◌∷◌, get_or}
+use Rattle.std.specs.Prelude.{ℕ, suc, ◌≡◌, ◌+◌, ◌-◌, ◌<◌, ◌≤◌, ◌^◌, false, List, ◌++◌, All, None, Some, IfSome, ◌*◌, ◌||◌, nat_lt, nat_le, is_some, length, take, slice_get, slice_index_or, true, if◌then◌else◌, [], ◌∷◌, get_or}
 use Rattle.st_rows.specs.Asked.{Read, bus_after_reads}
 use Rattle.st_rows.specs.Notes.{AreEarly, notes_of_reads}
 use Rattle.st_rows.specs.declared.bus.Bus.{Bus}
@@ -7,8 +7,9 @@ use Rattle.st_rows.specs.declared.log.Made.{Made}
 use Rattle.st_ahead.specs.Overlap.{Overlap, levels_of, machine_at_start, state_ahead, last_tick_made}
 use Rattle.st_ahead.specs.RunTo.{RunsTo}
 use Rattle.st_ahead.specs.declared.events.Row.{Row}
+use Rattle.st_refine.specs.HeldReads.{held_of_reads}
 use Rattle.st_refine.specs.Openings.{Opening, Outside, StandsAt, reads_of_segment, Signalled, ReadIn, PrintedOut, first_opening, state_after, front_at, opening_behind}
-use Rattle.st_refine.specs.Reached.{IsReached, MayTick}
+use Rattle.st_refine.specs.Reached.{IsReached, IsReachedFrom, start_of, MayTick}
 use Rattle.st_rows.specs.Ranges.{AreDelaysUpTo}
 use Rattle.st_bits.specs.declared.register.TheConstants.{FIRST_STORAGE_WORD}
 use Rattle.st_state.specs.Machine.{word, Machine}
@@ -28,21 +29,37 @@ use Rattle.st_exec.specs.Step.{interrupt, rests, step, address}
 use Rattle.st_exec.specs.Completion.{is_missed}
 use Rattle.st_ahead.specs.declared.events.Event.TheVariants.{Passed, Done}
 
--- such calls lead to the machine, with so many ticks made
-pub record IsLedTo (made : ℕ) (m : Overlap) : Type 0 where
+-- such calls lead from the one machine to the other, with so many ticks made
+pub record IsLedTo (start : Overlap) (made : ℕ) (m : Overlap) : Type 0 where
   pub since : ℕ
-  pub reached : IsReached m made since
+  pub from : IsReachedFrom start m made since
 
 -- A call that makes ticks up to an entry that is done, or up to the tick `last`, is so many calls
--- within the protocol. The first tick may be made, and `count` and `last` are in their ranges.
+-- within the protocol, from the machine that led there. The first tick may be made, and `count` and
+-- `last` are in their ranges.
 pub record RunsAreReached : Type 0 where
-  pub done : (m new : Overlap) (made since count last : ℕ) (row : Row) → IsReached m made since →
-      MayTick m →
+  pub done : (start m new : Overlap) (made since count last : ℕ) (row : Row) →
+      IsReachedFrom start m made since → MayTick m →
       count ≤ 2 ^ 63 → last < 2 ^ 63 → RunsTo count last (Some row) m new →
-      IsReached new (row.c + 1) 0
-  pub passed : (m new : Overlap) (made since count last : ℕ) → IsReached m made since → MayTick m →
+      IsReachedFrom start new (row.c + 1) 0
+  pub passed : (start m new : Overlap) (made since count last : ℕ) →
+      IsReachedFrom start m made since → MayTick m →
       count ≤ 2 ^ 63 → last < 2 ^ 63 → RunsTo count last None m new →
-      IsLedTo (made + (last + 1 - m.now)) new
+      IsLedTo start (made + (last + 1 - m.now)) new
+
+-- A machine keeps the delays and the number of levels of the machine that its calls began with.
+pub record MachinesKeepTheirDelays : Type 0 where
+  pub delays : (m : Overlap) (made since : ℕ) (reached : IsReached m made since) →
+      m.delays ≡ (start_of reached).delays
+  pub levels : (m : Overlap) (made since : ℕ) (reached : IsReached m made since) →
+      m.levels ≡ (start_of reached).levels
+
+-- The words that are held behind reads are those of the instruction words among them, each with the
+-- tick of its answer, the youngest first, and behind these the ones that were held before: four in
+-- all.
+abbrev pub HeldWordsAreThoseOfReads : Type 0
+HeldWordsAreThoseOfReads = (ds : List ℕ) (reads : List Read) (b : Bus) → length b.held.words ≡ 4 →
+    (bus_after_reads ds reads b).held.words ≡ take 4 (held_of_reads ds reads b ++ b.held.words)
 
 -- Of these reads, which are made one after another from the bus b on, the first ones are accepted
 -- before the tick t, and each of the others, in their order behind those, at that tick or later

@@ -1,3 +1,4 @@
+pub mod HeldReads
 pub mod Reached
 pub mod Refined
 pub mod Openings

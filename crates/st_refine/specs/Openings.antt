@@ -5,6 +5,7 @@ use Rattle.st_state.specs.Interrupts.{state_with_signal}
 use Rattle.st_exec.specs.Completion.{guess}
 use Rattle.st_exec.specs.Step.{step}
 use Rattle.st_exec.specs.Transfer.{read_in, printed_out}
+use Rattle.st_banks.specs.Bank.{idle_banks}
 use Rattle.st_banks.specs.declared.answers.LastAnswers.{LastAnswers}
 use Rattle.st_rows.specs.Rows.{opening_front, front_after_entry}
 use Rattle.st_rows.specs.Asked.{Read, reads_of_entry}
@@ -13,7 +14,7 @@ use Rattle.st_segment.specs.Entries.{entry}
 use Rattle.st_segment.specs.Guesses.{table_behind}
 use Rattle.st_segment.specs.Ahead.{next_ahead, reads_to_end, banks_at_end, front_behind_end}
 use Rattle.st_ahead.specs.Forecast.{asked_ahead}
-use Rattle.st_ahead.specs.Overlap.{Overlap, last_tick_made, idle_banks}
+use Rattle.st_ahead.specs.Overlap.{Overlap, last_tick_made}
 
 -- ---- changes from outside
 

@@ -53,8 +53,27 @@ pub data IsReached : Overlap → ℕ → ℕ → Type 0 where
   Stops : (m : Overlap) (made since : ℕ) → IsReached m made since → MayServe m →
       IsReached (run_ended m) made since
 
--- such calls lead to the machine
-pub record IsLed (m : Overlap) : Type 0 where
+-- the machine before the first of these calls
+abbrev pub start_of : {m : Overlap} {made since : ℕ} → IsReached m made since → Overlap
+start_of (Starts ds n s can) = machine_at_start ds n s
+start_of (Ticks m made since reached may) = start_of reached
+start_of (Settles m made since reached owed stands) = start_of reached
+start_of (Signals m made since i reached known may) = start_of reached
+start_of (Reads m made since order card reached given fits may) = start_of reached
+start_of (Prints m made since reached given may) = start_of reached
+start_of (Stops m made since reached may) = start_of reached
+
+-- such calls lead from the one machine, as it is made, to the other
+pub record IsReachedFrom (start m : Overlap) (made since : ℕ) : Type 0 where
+  pub reached : IsReached m made since
+  pub begun : start_of reached ≡ start
+
+-- the same, with so many ticks made as there may be
+pub record IsLed (start m : Overlap) : Type 0 where
   pub made : ℕ
   pub since : ℕ
-  pub reached : IsReached m made since
+  pub from : IsReachedFrom start m made since
+
+-- from wherever such calls lead to the one machine, they lead to the other
+abbrev pub IsLedOn : Overlap → Overlap → Type 0
+IsLedOn m n = (start : Overlap) → IsLed start m → IsLed start n

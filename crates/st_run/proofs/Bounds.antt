@@ -7,6 +7,7 @@ use Rattle.st_state.specs.Machine.{Machine}
 use Rattle.st_prep.proofs.Choices.{of_choice}
 use Rattle.st_exec.specs.Completion.{guess}
 use Rattle.st_run.specs.Run.{Scene}
+use Rattle.st_banks.specs.Bank.{idle_banks}
 use Rattle.st_banks.specs.declared.answers.TheConstants.{BANKS}
 use Rattle.st_rows.specs.Ranges.{AreDelaysUpTo, IsEntryInTime, IsTight}
 use Rattle.st_rows.specs.Rows.{row_of_entry, tick_c, front_after_entry}
@@ -20,7 +21,6 @@ use Rattle.st_segment.specs.Ahead.{Ahead, ahead, prepared_before, reads_to_end}
 use Rattle.st_segment.proofs.EntryRanges.{entry-ranges}
 use Rattle.st_run.specs.Events.{Timed}
 use Rattle.st_run.specs.Scenes.{IsScene}
-use Rattle.st_ahead.specs.Overlap.{idle_banks}
 use Rattle.st_run.specs.Moments.{Moment, Standing, moment_at_start, next_scene, next_state, ends_segment, next_segment, next_front, standing_at, next_row, front_after, entries_behind, entry_of_moment, next_moment}
 use Rattle.st_run.specs.TimedRun.{timed_from}
 use Rattle.st_run.proofs.SceneLemmas.{settled-scene, stepped-scene}

@@ -23,47 +23,47 @@ use Rattle.st_run.specs.Ticking.{last_for}
 
 -- ---- single calls
 
-pub signal-led : (m : Overlap) (i : ℕ) → i ≤ 13 → MaySignal m → IsLed m → IsLed (signalled_by i m)
+pub signal-led : {b : Overlap} (m : Overlap) (i : ℕ) → i ≤ 13 → MaySignal m → IsLed b m → IsLed b (signalled_by i m)
 signal-led m i known may led = record {
   made = led.made;
   since = led.since;
-  reached = Signals m led.made led.since i led.reached known may;
+  from = record { reached = Signals m led.made led.since i led.from.reached known may; begun = led.from.begun };
 }
 
-pub settle-led : (m : Overlap) → m.owed ≡ true → m.stopped ≡ false → IsLed m → IsLed (machine_after_settling m)
-settle-led m owed stands led = record { made = led.made; since = led.since; reached = Settles m led.made led.since led.reached owed stands }
+pub settle-led : {b : Overlap} (m : Overlap) → m.owed ≡ true → m.stopped ≡ false → IsLed b m → IsLed b (machine_after_settling m)
+settle-led m owed stands led = record { made = led.made; since = led.since; from = record { reached = Settles m led.made led.since led.from.reached owed stands; begun = led.from.begun } }
 
-pub stop-led : (m : Overlap) → MayServe m → IsLed m → IsLed (run_ended m)
-stop-led m may led = record { made = led.made; since = led.since; reached = Stops m led.made led.since led.reached may }
+pub stop-led : {b : Overlap} (m : Overlap) → MayServe m → IsLed b m → IsLed b (run_ended m)
+stop-led m may led = record { made = led.made; since = led.since; from = record { reached = Stops m led.made led.since led.from.reached may; begun = led.from.begun } }
 
-pub print-led : (m : Overlap) → IsSome m.state.printer → MayServe m → IsLed m → IsLed (printed_by m)
-print-led m some may led = record { made = led.made; since = led.since; reached = Prints m led.made led.since led.reached some may }
+pub print-led : {b : Overlap} (m : Overlap) → IsSome m.state.printer → MayServe m → IsLed b m → IsLed b (printed_by m)
+print-led m some may led = record { made = led.made; since = led.since; from = record { reached = Prints m led.made led.since led.from.reached some may; begun = led.from.begun } }
 
-pub read-led : (m : Overlap) (order : Order) (card : Option (List ℕ)) → m.state.reader ≡ Some order → IfSome card IsCard → MayServe m → IsLed m
-    → IsLed (read_in_by order.word card m)
+pub read-led : {b : Overlap} (m : Overlap) (order : Order) (card : Option (List ℕ)) → m.state.reader ≡ Some order → IfSome card IsCard → MayServe m → IsLed b m
+    → IsLed b (read_in_by order.word card m)
 read-led m order card given is may led = record {
   made = led.made;
   since = led.since;
-  reached = Reads m led.made led.since order card led.reached given is may;
+  from = record { reached = Reads m led.made led.since order card led.from.reached given is may; begun = led.from.begun };
 }
 
 -- ticks up to an entry that is done, or up to a tick
-passed-led : (k count last : ℕ) (m new : Overlap) → last + 1 - m.now ≡ k → m.owed ≡ false → m.state.done < 2 ^ 63 → count ≤ 2 ^ 63 → last < 2 ^ 63
-    → ArePassed count k m new → IsLed m → IsLed new
+passed-led : {b : Overlap} (k count last : ℕ) (m new : Overlap) → last + 1 - m.now ≡ k → m.owed ≡ false → m.state.done < 2 ^ 63 → count ≤ 2 ^ 63 → last < 2 ^ 63
+    → ArePassed count k m new → IsLed b m → IsLed b new
 unfolding after_ticks
-passed-led zero count last m new is owes few most soon ran led = subst {A = Overlap} IsLed (sym ran.after) led
+passed-led zero count last m new is owes few most soon ran led = subst {A = Overlap} (IsLed _) (sym ran.after) led
 passed-led (suc k) count last m new is owes few most soon ran led =
     let may : MayTick m = record { settled = owes; tick = omega (arith, is, soon); done = few } in
     let all : RunsTo count last None m new = subst {A = ℕ} (λ j. ArePassed count j m new) (sym is) ran in
-    let there = runs_are_reached.passed m new led.made led.since count last led.reached may most soon all in
-    record { made = led.made + (last + 1 - m.now); since = there.since; reached = there.reached }
+    let there = runs_are_reached.passed _ m new led.made led.since count last led.from may most soon all in
+    record { made = led.made + (last + 1 - m.now); since = there.since; from = there.from }
 
-pub run-led : (count last : ℕ) (row : Option Row) (m new : Overlap) → m.owed ≡ false → m.state.done < 2 ^ 63 → count ≤ 2 ^ 63 → last < 2 ^ 63
-    → RunsTo count last row m new → IsLed m → IsLed new
+pub run-led : {b : Overlap} (count last : ℕ) (row : Option Row) (m new : Overlap) → m.owed ≡ false → m.state.done < 2 ^ 63 → count ≤ 2 ^ 63 → last < 2 ^ 63
+    → RunsTo count last row m new → IsLed b m → IsLed b new
 run-led count last (Some row) m new owes few most soon ran led =
     let at : ran.before.now ≡ m.now + ran.ticks = passed-now ran.ticks count m ran.before ran.passed in
     let may : MayTick m = record { settled = owes; tick = omega (arith, at, ran.soon, soon); done = few } in
-    record { made = row.c + 1; since = 0; reached = runs_are_reached.done m new led.made led.since count last row led.reached may most soon ran }
+    record { made = row.c + 1; since = 0; from = runs_are_reached.done _ m new led.made led.since count last row led.from may most soon ran }
 run-led count last None m new owes few most soon ran led = passed-led (last + 1 - m.now) count last m new refl owes few most soon ran led
 
 -- the last tick that may be made is in its range
@@ -76,16 +76,18 @@ last-soon (Some x) last is = omega (arith, is)
 known-indicator : (x : Signal) → is_signal x ≡ true → x.indicator ≤ 13
 known-indicator x is = leb-true x.indicator 13 (and_parts (nat_le x.count 10000000) (nat_le x.indicator 13) is).1
 
-pub due-led : (xs : List Signal) (m : Overlap) (cards : List (List ℕ)) → AllPass is_signal xs → MaySignal m → IsLed m
-    → IsLed (record m { state = (with_due_signals (record { machine = m.state; signals = xs; cards = cards })).machine })
-due-led [] m cards known may led = led
-due-led (x ∷ xs) m cards known may led =
-    of_choice (λ (c : Scene). IsLed (record m { state = c.machine })) (nat_le x.count m.state.done)
+pub due-led : {b : Overlap} (xs : List Signal) (m : Overlap) (cards : List (List ℕ)) → AllPass is_signal xs → MaySignal m → IsLed b m
+    → IsLed b (record m { state = (with_due_signals (record { machine = m.state; signals = xs; cards = cards })).machine })
+due-led {b = b} [] m cards known may led = led
+due-led {b = b} (x ∷ xs) m cards known may led =
+    of_choice (λ (c : Scene). IsLed b (record m { state = c.machine })) (nat_le x.count m.state.done)
     (with_due_signals (record { machine = state_with_signal m.state x.indicator; signals = xs; cards = cards })) (record { machine = m.state; signals = x ∷ xs; cards = cards })
     (due-led xs (signalled_by x.indicator m) cards (All-tail (λ s. is_signal s ≡ true) x xs known) may
     (signal-led m x.indicator (known-indicator x (All-head (λ s. is_signal s ≡ true) x xs known)) may led)) led
 
 -- ---- its start
 
-pub start-led : (ds : List ℕ) (n : ℕ) (s : Machine) (m : Overlap) → CanStart ds n s → m ≡ machine_at_start ds n s → IsLed m
-start-led ds n s m can same = subst {A = Overlap} IsLed (sym same) (record { made = 0; since = 0; reached = Starts ds n s can })
+pub start-led : (ds : List ℕ) (n : ℕ) (s : Machine) (m : Overlap) → CanStart ds n s → m ≡ machine_at_start ds n s → IsLed (machine_at_start ds n s) m
+start-led ds n s m can same =
+    subst {A = Overlap} (IsLed (machine_at_start ds n s)) (sym same)
+    (record { made = 0; since = 0; from = record { reached = Starts ds n s can; begun = refl } })

@@ -11,7 +11,7 @@ use Rattle.st_exec.proofs.BesideEntries.{beside-printed, beside-no_card, beside-
 use Rattle.st_ahead.specs.Overlap.{Overlap, interrupt_due}
 use Rattle.st_ahead.specs.Calls.{machine_after_segment, machine_after_settling as settled_of, signalled_by, read_in_by, printed_by, MayServe}
 use Rattle.st_ahead.proofs.Settling.{settled-waits}
-use Rattle.st_refine.specs.Reached.{IsLed, IsCard}
+use Rattle.st_refine.specs.Reached.{IsLed, IsLedOn, IsCard}
 use Rattle.st_run.specs.Together.{IsSince}
 use Rattle.st_run.specs.Overlapped.{IsChanged}
 use Rattle.st_run.specs.OverlappedLaws.{or-none}
@@ -27,7 +27,7 @@ since-state : (o m k : Overlap) (over : Bool) → m ≡ record (if over then mac
     → k ≡ record (if over then machine_after_segment o else o) { state = k.state }
 since-state o m k over first next = next ∙ ap (λ (x : Overlap). record x { state = k.state }) first
 
-changed-state : (m : Overlap) (s : Machine) → AreAlikeBesideOrders m.state s → (IsLed m → IsLed (record m { state = s }))
+changed-state : (m : Overlap) (s : Machine) → AreAlikeBesideOrders m.state s → IsLedOn m (record m { state = s })
     → IsChanged false m (record m { state = s })
 changed-state m s alike led = record {
   since = λ b before behind since.
@@ -41,7 +41,7 @@ changed-state m s alike led = record {
 }
 
 -- the segment has ended
-changed-ended : (m : Overlap) (s : Machine) → (IsLed m → IsLed (record (machine_after_segment m) { state = s }))
+changed-ended : (m : Overlap) (s : Machine) → IsLedOn m (record (machine_after_segment m) { state = s })
     → IsChanged true m (record (machine_after_segment m) { state = s })
 changed-ended m s led = record {
   since = λ b before behind since.
@@ -61,18 +61,18 @@ changed-ended m s led = record {
 pub signal-changed : (m k : Overlap) (i : ℕ) → i ≤ 13 → MayServe m → k ≡ signalled_by i m → IsChanged false m k
 signal-changed m k i known may same =
     subst {A = Overlap} (IsChanged false m) (sym same)
-    (changed-state m (state_with_signal m.state i) (beside-signalled m.state i) (signal-led m i known (inr (may.0, may.1), may.2)))
+    (changed-state m (state_with_signal m.state i) (beside-signalled m.state i) (λ start. signal-led m i known (inr (may.0, may.1), may.2)))
 
 pub print-changed : (m k : Overlap) → IsSome m.state.printer → MayServe m → k ≡ printed_by m → IsChanged false m k
 print-changed m k some may same =
-    subst {A = Overlap} (IsChanged false m) (sym same) (changed-state m (printed_out m.state) (beside-printed m.state) (print-led m some may))
+    subst {A = Overlap} (IsChanged false m) (sym same) (changed-state m (printed_out m.state) (beside-printed m.state) (λ start. print-led m some may))
 
 -- ---- the reader
 
 card-changed : (m : Overlap) (order : Order) (card : Option (List ℕ)) → m.state.reader ≡ Some order → IfSome card IsCard → MayServe m
     → IsChanged (is_some card) m (read_in_by order.word card m)
-card-changed m order None given is may = changed-state m (read_in m.state order.word None) (beside-no_card m.state order.word) (read-led m order None given is may)
-card-changed m order (Some card) given is may = changed-ended m (read_in m.state order.word (Some card)) (read-led m order (Some card) given is may)
+card-changed m order None given is may = changed-state m (read_in m.state order.word None) (beside-no_card m.state order.word) (λ start. read-led m order None given is may)
+card-changed m order (Some card) given is may = changed-ended m (read_in m.state order.word (Some card)) (λ start. read-led m order (Some card) given is may)
 
 pub read-changed : (o : Option Order) (m k : Overlap) (card : Option (List ℕ)) → m.state.reader ≡ o → IsSome o → IfSome card IsCard → MayServe m
     → IfSome o (λ order. k ≡ read_in_by order.word card m) → IsChanged (is_some card) m k
@@ -109,7 +109,7 @@ rest-ends m waits = sym (settled-waits m (rests-quiet m waits) waits)
 pub rest-changed : (m k : Overlap) → rests m.state ≡ true → MayServe m → k ≡ settled_of m → IsChanged true m k
 rest-changed m k waits may same =
     subst {A = Overlap} (IsChanged true m) (sym (same ∙ rest-ends m waits))
-    (changed-ended m (machine_after_segment m).state (λ led. subst {A = Overlap} IsLed (rest-ends m waits) (settle-led m may.0 may.2 led)))
+    (changed-ended m (machine_after_segment m).state (λ start led. subst {A = Overlap} (IsLed start) (rest-ends m waits) (settle-led m may.0 may.2 led)))
 
 pub rest-state : (m k : Overlap) → rests m.state ≡ true → k ≡ settled_of m → k.state ≡ m.state
 rest-state m k waits same = ap (λ (x : Overlap). x.state) (same ∙ rest-ends m waits) ∙ ended-state m

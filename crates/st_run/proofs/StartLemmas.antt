@@ -12,7 +12,8 @@ use Rattle.st_run.specs.Run.{Scene, with_due_signals, with_due_orders, with_wait
 use Rattle.st_state.specs.declared.devices.Device.TheVariants.{Reader, Printer}
 use Rattle.st_rows.specs.Ranges.{AreDelaysUpTo}
 use Rattle.st_rows.specs.Rows.{opening_front}
-use Rattle.st_ahead.specs.Overlap.{Overlap, machine_at_start, machine_between_ticks, idle_banks}
+use Rattle.st_banks.specs.Bank.{idle_banks}
+use Rattle.st_ahead.specs.Overlap.{Overlap, machine_at_start, machine_between_ticks}
 use Rattle.st_run.specs.Events.{Timed}
 use Rattle.st_run.specs.Scenes.{IsScene}
 use Rattle.st_run.specs.Moments.{Standing, moment_at_start, next_state, has_card, has_waited, ends_segment, next_segment, next_front, standing_at}

@@ -7,8 +7,8 @@ pub mod Order
 pub mod ReportedEvents
 pub mod Together
 pub mod Telling
+pub mod Serving
 pub mod Progress
-pub mod Protocol
 pub mod Ticking
 pub mod Outside
 pub mod Leaving

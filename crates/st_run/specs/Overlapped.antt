@@ -2,7 +2,7 @@
 use Rattle.std.specs.Prelude.{Bool, ◌||◌}
 use Rattle.st_ahead.specs.Overlap.{Overlap}
 use Rattle.st_ahead.specs.Calls.{MayServe}
-use Rattle.st_refine.specs.Reached.{IsLed}
+use Rattle.st_refine.specs.Reached.{IsLedOn}
 use Rattle.st_run.specs.Together.{Together, IsBehindEntry, IsSince}
 
 -- since an entry was done the state alone has changed, and the segment has ended, by what came or
@@ -11,4 +11,4 @@ pub record IsChanged (over : Bool) (m n : Overlap) : Type 0 where
   pub since : (b : Together) (before : Bool) → IsBehindEntry b → IsSince b.machine before m →
       IsSince b.machine (before || over) n
   pub serves : MayServe m → MayServe n
-  pub led : IsLed m → IsLed n
+  pub led : IsLedOn m n

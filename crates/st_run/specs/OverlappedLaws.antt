@@ -16,7 +16,7 @@ pub changed-none : (m : Overlap) → IsChanged false m m
 changed-none m = record {
   since = λ b before behind since. subst (λ o. IsSince b.machine o m) (or-none before) since;
   serves = λ may. may;
-  led = λ led. led;
+  led = λ start led. led;
 }
 
 pub changed-both : (a b c : Bool) (m n o : Overlap) → IsChanged a m n → IsChanged b n o →
@@ -26,5 +26,5 @@ changed-both a b c m n o first second is = record {
       subst (λ e. IsSince t.machine e o) (or-both before a b c is)
       (second.since t (before || a) behind (first.since t before behind since));
   serves = λ may. second.serves (first.serves may);
-  led = λ led. second.led (first.led led);
+  led = λ start led. second.led start (first.led start led);
 }

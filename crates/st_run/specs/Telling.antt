@@ -20,9 +20,10 @@ use Rattle.st_run.specs.declared.run_events.RunEvent.TheVariants as tells
 use Rattle.st_run.specs.declared.turn.Turn.{Turn}
 use Rattle.st_run.specs.declared.turn.Turn.TheVariants as turns
 
--- what is still to be told, and the state, the levels and the text that are shown
+-- what is still to be told, the machine, and the state, the levels and the text that are shown
 pub record Telling : Type 0 where
   pub rest : List TimedReportedEvent
+  pub machine : Overlap
   pub seen : Machine
   pub ahead : List Level
   pub text : List ℕ

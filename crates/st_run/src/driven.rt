@@ -5,7 +5,7 @@ ghost use Rattle.st_card.specs.Limits.{is_signal};
 ghost use Rattle.st_run.specs.Run.{with_due_signals};
 ghost use Rattle.st_ahead.specs.Calls.{MaySignal};
 ghost use Rattle.st_ahead.specs.Shown.{view_at_tick};
-ghost use Rattle.st_refine.specs.Reached.{IsCard, IsLed};
+ghost use Rattle.st_refine.specs.Reached.{IsCard};
 
 use crate::coming::Coming;
 use crate::outside::Outside;
@@ -22,7 +22,6 @@ pub(crate) struct Driven<'a, const N: usize> {
 }
 
 impl<'a, const N: usize> Model for Driven<'a, N> {
-    ghost use Rattle.st_refine.specs.Reached.{IsLed};
     ghost use Rattle.st_run.specs.Together.{Together};
 
     ghost Value = { Together };
@@ -32,8 +31,6 @@ impl<'a, const N: usize> Model for Driven<'a, N> {
       signals = d.coming.signals;
       cards = d.coming.cards;
     } };
-
-    ghost invariant = { λ d. IsLed d.machine };
 }
 
 // A card has eight words.
@@ -113,10 +110,9 @@ pub(crate) fn due_signals<'a, const N: usize>(
     rest
 }
 
-// What is shown of the machine, to which calls within the protocol lead.
+// What is shown of the machine.
 pub(crate) fn view_of<const N: usize>(driven: &Driven<N>) -> View
-    ensures view { result ≡ view_at_tick driven.now.machine }
-    ensures led { IsLed driven.now.machine }
+    ensures { result ≡ view_at_tick driven.now.machine }
 {
     driven.machine.view()
 }

@@ -3,6 +3,7 @@ ghost use Rattle.std.specs.Prelude.{◌≡◌, ◌≤◌, true, false, length, m
 ghost use Rattle.st_exch.specs.Printer.{line_of_words};
 ghost use Rattle.st_ahead.specs.Overlap.{levels_of};
 ghost use Rattle.st_ahead.specs.Calls.{MayServe};
+ghost use Rattle.st_refine.specs.Reached.{IsLedOn};
 ghost use Rattle.st_run.specs.Events.{address_ahead};
 ghost use Rattle.st_run.specs.Together.{IsBehindEntry, moment_of};
 ghost use Rattle.st_run.specs.Outside.{ends_by};
@@ -96,6 +97,7 @@ fn decide<const N: usize>(
     ensures rest { driven.new ≡ record driven.old { machine = driven.new.machine } }
     ensures text { result.text ≡ text }
     ensures choice { IsChoice result.turn left over driven.old.machine result driven.new.machine }
+    ensures led { IsLedOn driven.old.machine driven.new.machine }
 {
     let resting = is_at_rest(driven.machine.state());
     if resting || left == 0 {
@@ -123,6 +125,7 @@ pub(crate) fn leave<const N: usize>(driven: &mut Driven<N>, left: u64) -> Decide
     ensures decided { IsDecided left (moment_of driven.old) result driven.new }
     ensures delays { driven.new.machine.delays ≡ driven.old.machine.delays }
     ensures levels { driven.new.machine.levels ≡ driven.old.machine.levels }
+    ensures led { IsLedOn driven.old.machine driven.new.machine }
 {
     let came = between(&mut driven.machine, &mut driven.coming);
     decide(driven, left, is_over(came), text_of(came.words))
@@ -154,6 +157,7 @@ pub(crate) fn pass_on<const N: usize>(driven: &mut Driven<N>, left: u64) -> bool
         IsDecided left (moment_of driven.old) nothing_decided driven.new }
     ensures delays { driven.new.machine.delays ≡ driven.old.machine.delays }
     ensures levels { driven.new.machine.levels ≡ driven.old.machine.levels }
+    ensures led { IsLedOn driven.old.machine driven.new.machine }
     ensures stays { result ≡ false → driven.new ≡ driven.old }
 {
     if left == 0 {

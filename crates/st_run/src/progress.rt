@@ -1,6 +1,7 @@
 //! How far a run has come, and how it goes on.
 ghost use Rattle.std.specs.Prelude.{◌≡◌, ◌+◌, ◌-◌, ◌<◌, ◌≤◌, ◌^◌, ℕ, true, false, if◌then◌else◌, [], ◌∷◌, MatchOption, IfSome, slice_get};
 ghost use Rattle.st_ahead.specs.Overlap.{levels_of};
+ghost use Rattle.st_refine.specs.Reached.{IsLedOn};
 ghost use Rattle.st_run.specs.Outside.{signal_due};
 ghost use Rattle.st_run.specs.Telling.{told_at_end, AreLeftOut, HasGoneFar, rows_then, IsShown, IsLeft, AreInTime};
 ghost use Rattle.st_run.specs.Progress.{rest_behind, told_ahead, told_after, told_by, IsBeforeNext, IsTold, IsUnderWay};
@@ -48,6 +49,7 @@ pub(crate) fn tell_next<const N: usize>(
     requires shut { rows.old.room ≡ 0 }
     ensures rows { rows.new ≡ rows.old }
     ensures kept { IsUnderWay run.new }
+    ensures led { IsLedOn run.old.driven.machine run.new.driven.machine }
     ensures told { MatchOption result (rest_behind run.old ≡ [])
         (λ t. rest_behind run.old ≡ told_by t run.new ∷ rest_behind run.new) }
 {
@@ -73,6 +75,7 @@ pub(crate) fn pass_entries<const N: usize>(
     requires shut { rows.old.room ≡ 0 }
     ensures rows { rows.new ≡ rows.old }
     ensures kept { IsUnderWay run.new }
+    ensures led { IsLedOn run.old.driven.machine run.new.driven.machine }
     ensures told { MatchOption result (rest_behind run.new ≡ rest_behind run.old)
         (λ row. AreLeftOut row (rest_behind run.old) (rest_behind run.new)) }
 {
@@ -93,6 +96,7 @@ pub(crate) fn make_rows<const N: usize>(run: &mut Progress<N>, rows: &mut RowQue
 
     // What is told, and what the run is then.
     ensures kept { IsUnderWay run.new }
+    ensures led { IsLedOn run.old.driven.machine run.new.driven.machine }
     ensures shut { rows.new.room ≡ 0 }
     ensures told { rest_behind run.old ≡ rows_then rows.new.rows (rest_behind run.new) }
 {
@@ -138,6 +142,7 @@ fn go_far<const N: usize>(
     requires done { done ≡ run.old.driven.machine.state.done }
 
     ensures kept { IsUnderWay run.new }
+    ensures led { IsLedOn run.old.driven.machine run.new.driven.machine }
     ensures told { MatchOption result ⊥ (λ row. HasGoneFar done most row
         (told_ahead run.old) (rest_behind run.new) rows.old rows.new) }
 {
@@ -209,6 +214,7 @@ fn go<const N: usize>(run: &mut Progress<N>, rows: &mut RowQueue) -> TimedRunEve
     // What is told, and what the run is then.
     ensures rows { rows.new ≡ rows.old }
     ensures kept { IsUnderWay run.new }
+    ensures led { IsLedOn run.old.driven.machine run.new.driven.machine }
     ensures told { told_ahead run.old ≡ told_by result run.new ∷ rest_behind run.new }
 {
     let snap = first_of(run.snaps);
@@ -225,6 +231,7 @@ fn show<const N: usize>(run: &mut Progress<N>) -> TimedRunEvent
     requires turn { run.old.turn ≡ turns.Before }
     requires waits { IsTold run.old }
     ensures kept { IsUnderWay run.new }
+    ensures led { IsLedOn run.old.driven.machine run.new.driven.machine }
     ensures told { told_ahead run.old ≡ told_by result run.new ∷ rest_behind run.new }
 {
     let Some((at, after)) = split_first(run.snaps) else {
@@ -241,6 +248,7 @@ fn leave_entry<const N: usize>(run: &mut Progress<N>, tick: u64)
     requires turn { run.old.turn ≡ turns.Before }
     requires waits { IsTold run.old }
     ensures kept { IsUnderWay run.new }
+    ensures led { IsLedOn run.old.driven.machine run.new.driven.machine }
     ensures told { told_after run.old ≡ rest_behind run.new }
 {
     if !pass_on(&mut run.driven, run.left) {
@@ -256,6 +264,7 @@ fn leave_entry<const N: usize>(run: &mut Progress<N>, tick: u64)
 fn leave_fully<const N: usize>(run: &mut Progress<N>, tick: u64)
     requires left { IsLeft run.old.left run.old.snaps.now tick run.old.driven }
     ensures kept { IsUnderWay run.new }
+    ensures led { IsLedOn run.old.driven.machine run.new.driven.machine }
     ensures told { told_after run.old ≡ rest_behind run.new }
 {
     let mut drops = levels_ahead(&run.driven);
@@ -280,6 +289,7 @@ fn finish<const N: usize>(run: &mut Progress<N>, rests: bool) -> TimedRunEvent
     requires waits { IsTold run.old }
 
     ensures kept { IsUnderWay run.new }
+    ensures led { IsLedOn run.old.driven.machine run.new.driven.machine }
     ensures told { told_at_end rests run.old.tick run.old.snaps.now run.old.driven.machine.state
         ≡ told_by result run.new ∷ rest_behind run.new }
 {

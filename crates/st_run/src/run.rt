@@ -4,10 +4,12 @@ ghost use Rattle.std.specs.List.{AllPass};
 ghost use Rattle.std.specs.List.Sorted.{IsStrictlyIncreasing};
 ghost use Rattle.st_bits.specs.declared.limits.TheConstants.{MOST_INSTRUCTIONS};
 ghost use Rattle.st_card.specs.Limits.{is_signal};
-ghost use Rattle.st_refine.specs.Reached.{IsCard};
+ghost use Rattle.st_ahead.specs.Overlap.{machine_at_start};
+ghost use Rattle.st_ahead.specs.Shown.{view_at_tick};
+ghost use Rattle.st_refine.specs.Reached.{IsCard, IsLed, IsLedOn};
 ghost use Rattle.st_run.specs.ReportedEvents.{reported_events};
 ghost use Rattle.st_run.specs.TimedRun.{timed_run};
-ghost use Rattle.st_run.specs.Telling.{told_as, row_told, AreLeftOut, AreLevelsShown};
+ghost use Rattle.st_run.specs.Telling.{state_told, told_as, row_told, AreLeftOut, AreLevelsShown};
 
 use crate::coming::Coming;
 use crate::driven::{Driven, due_signals, view_of};
@@ -38,7 +40,8 @@ pub struct RunControls<'a> {
 
 /// A run on a machine with N levels, 1 to 8. It tells one thing after another: entries that are
 /// done or dropped, texts that are printed, interrupts, snapshots, and its end. No call takes
-/// memory. `docs/timetable.md` has the rules.
+/// memory. Its machine is made of the delays, of N levels and of the state that it begins with, and
+/// what it does with it are calls within the protocol. `docs/timetable.md` has the rules.
 #[derive(Drop)]
 pub struct Run<'a, const N: usize> {
     teller: Teller<'a, N>,
@@ -54,6 +57,7 @@ impl<'a, const N: usize> Model for Run<'a, N> {
 
     ghost view = { λ r. record {
       rest = rest_with_rows r.teller;
+      machine = r.teller.progress.driven.machine;
       seen = state_told r.teller.progress.driven.machine;
       ahead = ahead_of r.teller.progress.driven.machine;
       text = r.teller.progress.printed.bytes;
@@ -66,11 +70,12 @@ impl<'a, const N: usize> Run<'a, N> {
     ghost use Rattle.std.specs.List.{AllPass};
     ghost use Rattle.std.specs.List.Sorted.{IsStrictlyIncreasing};
     ghost use Rattle.st_card.specs.Limits.{is_signal};
-    ghost use Rattle.st_refine.specs.Reached.{IsCard};
+    ghost use Rattle.st_ahead.specs.Overlap.{machine_at_start};
+    ghost use Rattle.st_ahead.specs.Shown.{view_at_tick};
+    ghost use Rattle.st_refine.specs.Reached.{IsCard, IsLed, IsLedOn};
     ghost use Rattle.st_run.specs.ReportedEvents.{reported_events};
     ghost use Rattle.st_run.specs.TimedRun.{timed_run};
-    ghost use Rattle.st_run.specs.Telling.{told_as, row_told, AreLeftOut, AreLevelsShown};
-    ghost use Rattle.st_run.specs.Protocol.{ShowsLed, IsViewOfLed};
+    ghost use Rattle.st_run.specs.Telling.{state_told, told_as, row_told, AreLeftOut, AreLevelsShown};
 
     /// A run from a state that nothing has happened in, with the reader's cards that come to it,
     /// and what control cards ask of it.
@@ -93,9 +98,12 @@ impl<'a, const N: usize> Run<'a, N> {
         requires some_done { 1 ≤ controls.now.budget }
         requires few_done { controls.now.budget ≤ MOST_INSTRUCTIONS }
 
-        ensures { let k = controls.now in result.rest
+        ensures rest { let k = controls.now in result.rest
             ≡ reported_events (timed_run delays.list N k.budget
             (record { machine = state; signals = k.signals.now; cards = cards }) k.snaps.now) }
+
+        // Its machine is made of these delays, of N levels and of this state.
+        ensures led { IsLed (machine_at_start delays.list N state) result.machine }
     {
         let RunControls {
             signals,
@@ -126,8 +134,9 @@ impl<'a, const N: usize> Run<'a, N> {
 
     /// The next thing that is told; `None` exactly where all is told.
     pub fn next(&mut self) -> Option<TimedRunEvent>
-        ensures { MatchOption result (self.old.rest ≡ []) (λ t. self.old.rest
+        ensures told { MatchOption result (self.old.rest ≡ []) (λ t. self.old.rest
             ≡ told_as t self.new.seen self.new.ahead self.new.text ∷ self.new.rest) }
+        ensures led { IsLedOn self.old.machine self.new.machine }
     {
         next_of(&mut self.teller)
     }
@@ -136,8 +145,9 @@ impl<'a, const N: usize> Run<'a, N> {
     /// nothing else comes between them. The row of the last one is the result; there is none where
     /// something else is told next, or may be, as long as snapshots are to come.
     pub fn pass_entries(&mut self) -> Option<Row>
-        ensures { MatchOption result (self.new.rest ≡ self.old.rest)
+        ensures told { MatchOption result (self.new.rest ≡ self.old.rest)
             (λ row. AreLeftOut row self.old.rest self.new.rest) }
+        ensures led { IsLedOn self.old.machine self.new.machine }
     {
         pass_over(&mut self.teller)
     }
@@ -146,17 +156,17 @@ impl<'a, const N: usize> Run<'a, N> {
     /// none as long as snapshots are to come.
     #[inline(always)]
     pub fn next_row(&mut self) -> Option<Row>
-        ensures { MatchOption result (self.new.rest ≡ self.old.rest) (λ row. self.old.rest
+        ensures told { MatchOption result (self.new.rest ≡ self.old.rest) (λ row. self.old.rest
             ≡ row_told row ∷ self.new.rest) }
+        ensures led { IsLedOn self.old.machine self.new.machine }
     {
         next_row_of(&mut self.teller)
     }
 
-    /// The state that is shown. Calls within the protocol of the machine lead to what the run
-    /// shows.
+    /// The state that is shown: that of its machine, with the index words of what runs ahead.
     pub fn seen(&self) -> Seen<'_>
         ensures seen { result ≡ self.entry.now.seen }
-        ensures led { ShowsLed self.entry.now }
+        ensures machine { result ≡ state_told self.entry.now.machine }
     {
         Seen::with_index(
             self.teller.progress.driven.machine.state(),
@@ -164,11 +174,10 @@ impl<'a, const N: usize> Run<'a, N> {
         )
     }
 
-    /// What is shown of the machine: the levels. Calls within its protocol lead to a machine that
-    /// shows this.
+    /// What is shown of its machine, the levels too.
     pub fn view(&self) -> View
         ensures levels { AreLevelsShown result.levels self.entry.now.ahead }
-        ensures led { IsViewOfLed result self.entry.now }
+        ensures machine { result ≡ view_at_tick self.entry.now.machine }
     {
         view_of(&self.teller.progress.driven)
     }

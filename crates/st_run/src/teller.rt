@@ -1,5 +1,6 @@
 //! A run with the rows that wait to be told.
 ghost use Rattle.std.specs.Prelude.{◌≡◌, [], ◌∷◌, MatchOption};
+ghost use Rattle.st_refine.specs.Reached.{IsLedOn};
 ghost use Rattle.st_run.specs.Telling.{row_told, AreLeftOut};
 ghost use Rattle.st_run.specs.Progress.{rest_with_rows, told_by, IsUnderWay};
 
@@ -21,6 +22,7 @@ pub(crate) fn next_of<const N: usize>(teller: &mut Teller<N>) -> Option<TimedRun
     requires run { IsUnderWay teller.old.progress }
     requires shut { teller.old.rows.room ≡ 0 }
     ensures kept { IsUnderWay teller.new.progress }
+    ensures led { IsLedOn teller.old.progress.driven.machine teller.new.progress.driven.machine }
     ensures shut { teller.new.rows.room ≡ 0 }
     ensures told { MatchOption result (rest_with_rows teller.old ≡ [])
         (λ t. rest_with_rows teller.old
@@ -38,6 +40,7 @@ fn make_ready<const N: usize>(teller: &mut Teller<N>)
     requires run { IsUnderWay teller.old.progress }
     requires shut { teller.old.rows.room ≡ 0 }
     ensures kept { IsUnderWay teller.new.progress }
+    ensures led { IsLedOn teller.old.progress.driven.machine teller.new.progress.driven.machine }
     ensures shut { teller.new.rows.room ≡ 0 }
     ensures told { rest_with_rows teller.old ≡ rest_with_rows teller.new }
 {
@@ -53,6 +56,7 @@ pub(crate) fn next_row_of<const N: usize>(teller: &mut Teller<N>) -> Option<Row>
     requires run { IsUnderWay teller.old.progress }
     requires shut { teller.old.rows.room ≡ 0 }
     ensures kept { IsUnderWay teller.new.progress }
+    ensures led { IsLedOn teller.old.progress.driven.machine teller.new.progress.driven.machine }
     ensures shut { teller.new.rows.room ≡ 0 }
     ensures told { MatchOption result (rest_with_rows teller.new ≡ rest_with_rows teller.old)
         (λ row. rest_with_rows teller.old ≡ row_told row ∷ rest_with_rows teller.new) }
@@ -66,6 +70,7 @@ pub(crate) fn pass_over<const N: usize>(teller: &mut Teller<N>) -> Option<Row>
     requires run { IsUnderWay teller.old.progress }
     requires shut { teller.old.rows.room ≡ 0 }
     ensures kept { IsUnderWay teller.new.progress }
+    ensures led { IsLedOn teller.old.progress.driven.machine teller.new.progress.driven.machine }
     ensures shut { teller.new.rows.room ≡ 0 }
     ensures told { MatchOption result (rest_with_rows teller.new ≡ rest_with_rows teller.old)
         (λ row. AreLeftOut row (rest_with_rows teller.old) (rest_with_rows teller.new)) }

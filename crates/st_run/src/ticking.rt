@@ -1,6 +1,7 @@
 //! Ticks up to an entry that is told, or up to a snapshot.
 ghost use Rattle.std.specs.Prelude.{◌≡◌, ◌-◌, ◌<◌, ◌≤◌, ◌^◌, None, IfSome, option_map};
 ghost use Rattle.st_ahead.specs.Overlap.{oldest_row};
+ghost use Rattle.st_refine.specs.Reached.{IsLedOn};
 ghost use Rattle.st_run.specs.Together.{IsBeforeEntry};
 ghost use Rattle.st_run.specs.Ticking.{AreMade, AreTicked, last_for};
 ghost use Rattle.st_ahead.specs.RunTo.{RunsTo};
@@ -26,6 +27,7 @@ pub(crate) fn run_until<const N: usize>(
 
     // What is made.
     ensures made { AreMade (AreTicked result snap) driven.old driven.new }
+    ensures led { IsLedOn driven.old.machine driven.new.machine }
     ensures rows { rows.old.room ≡ 0 → rows.new ≡ rows.old }
 {
     driven.machine.run_to(0, last_of(snap), rows)
@@ -43,6 +45,7 @@ pub(crate) fn run_many<const N: usize>(
     requires few { driven.old.machine.state.done < 2 ^ 63 }
     requires count { count ≤ 2 ^ 63 }
     ensures made { AreMade (RunsTo count (last_for None) result) driven.old driven.new }
+    ensures led { IsLedOn driven.old.machine driven.new.machine }
     ensures rows { rows.new ≡ queue_with
         (rows_in_ticks (ticks_passed (last_for None) driven.old.machine.now
         (option_map (λ row. row.c) result)) driven.old.machine) rows.old }

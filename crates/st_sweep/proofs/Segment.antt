@@ -11,7 +11,7 @@ use Rattle.st_rows.specs.declared.front.Front.{Front}
 use Rattle.st_rows.proofs.Sooner.{row-sooner, after-sooner, order-after, covered-after, hazard_free-behind, opening-sooner, opening-order, opening-covered}
 use Rattle.st_segment.specs.Ahead.{Ahead}
 use Rattle.st_segment.specs.Entries.{entry}
-use Rattle.st_run.specs.Overlap.{idle_banks}
+use Rattle.st_banks.specs.Bank.{idle_banks}
 use Rattle.st_run.specs.Moments.{Moment, next_state, ends_segment, next_front, standing_at, next_row, next_moment}
 use Rattle.st_run.specs.TimedRun.{events_between, completion, timed_from, timed_behind}
 use Rattle.st_run.specs.Order.{last_completion}

@@ -1,23 +1,36 @@
 -- Two jobs that give the same but for the delays have the same lines that are not marked.
-use Rattle.std.proofs.Common.{◌≡◌, ℕ, Bool, true, false, if◌then◌else◌, List, [], ◌∷◌, ◌++◌, length, take, drop, map, refl, sym, ◌∙◌, ap}
+use Rattle.std.proofs.Common.{◌≡◌, ◌≤◌, ℕ, Bool, true, false, if◌then◌else◌, List, [], ◌∷◌, ◌++◌, length, take, drop, map, filter, not, refl, sym, ◌∙◌, ap}
+use Rattle.std.proofs.lemmas.Bool.{le-leb}
 use Rattle.std.specs.Prelude.{Ok}
+use Rattle.st_bits.specs.declared.limits.TheConstants.{MOST_CARDS}
+use Rattle.st_text.specs.Bytes.{lf}
 use Rattle.st_card.specs.Cards.{cards_of, text_in}
 use Rattle.st_card.specs.Controls.{Asked}
+use Rattle.st_card.specs.Written.{control_line, unless_zero, shows}
+use Rattle.st_card.specs.declared.written.Control.{Control}
+use Rattle.st_card.specs.declared.written.Control.TheVariants.{Budget, Delay, Signal, Dump}
+use Rattle.st_card.specs.declared.written.ControlForm.TheVariants as forms
 use Rattle.st_card.specs.declared.cards.Card.{Card}
 use Rattle.st_asm.specs.Assembly.{Assembly, assembly}
 use Rattle.st_asm.specs.declared.naming.Symbol.{Symbol}
 use Rattle.st_asm.specs.declared.valuing.Listed.{Listed}
 use Rattle.st_exch.specs.Reader.{behind_statements, reader_cards}
 use Rattle.st_run.specs.Run.{Scene}
-use Rattle.st_object.specs.Object.{Program, read_text}
+use Rattle.st_io.specs.Event.{lines_of}
+use Rattle.st_object.specs.DelayLines.{is_delay_line}
+use Rattle.st_object.specs.Lines.{line_text}
+use Rattle.st_object.specs.Object.{Program, object_lines, read_text}
+use Rattle.st_object.proofs.OtherDelays.{others-same}
+use Rattle.st_dis.specs.Deck.{word_cards, statement_card, end_text, card_count}
+use Rattle.st_top.specs.ObjectText.{program_in}
 use Rattle.st_report.specs.Listing.{listed_line}
 use Rattle.st_state.specs.Machine.{opening_state}
 use Rattle.st_top.specs.Listing.{rows_lines, symbols_lines}
-use Rattle.st_top.specs.Marks.{Marked, lines_unmarked, marked_run, up_to_end, texts_up_to_end, end_card, listed_lines, marked_listing, marked_by, marked_load, marked_output, DifferInDelays}
-use Rattle.st_top.specs.Output.{scene_of_assembly, loaded_start}
-use Rattle.st_command.specs.declared.command.Command.TheVariants.{Run, Load}
+use Rattle.st_top.specs.Marks.{Marked, with_marks, without_marks, lines_unmarked, marked_run, up_to_end, texts_up_to_end, end_card, listed_lines, marked_listing, marked_by, marked_load, marked_cards, marked_object, marked_deck, marked_assembled, marked_disassembled, marked_output, DifferInDelays}
+use Rattle.st_top.specs.Output.{scene_of_assembly, loaded_start, deck_by}
+use Rattle.st_command.specs.declared.command.Command.TheVariants.{Run, Assemble, Load, Disassemble}
 use Rattle.st_top.proofs.DelayLemmas.{run-same}
-use Rattle.st_top.proofs.PlainEventLemmas.{unmarked-append, unmarked-between}
+use Rattle.st_top.proofs.PlainEventLemmas.{unmarked-append, unmarked-plain, unmarked-between}
 
 -- ---- the listing
 
@@ -116,3 +129,83 @@ pub texts-same : (text other : List ℕ) (p q : Program) → read_text text ≡ 
 unfolding marked_output
 texts-same text other p q is also h =
     ap (λ r. lines_unmarked (marked_load text r)) is ∙ loads-same p q h ∙ sym (ap (λ r. lines_unmarked (marked_load other r)) also)
+
+-- ---- an object text, and a deck
+
+-- a line without its end, by whether it is one of delays
+text-if : (b : Bool) (x : List ℕ) (lines rest : List (List ℕ)) → lines ≡ map (λ t. t ++ lf) rest
+    → (if b then lines else (x ++ lf) ∷ lines) ≡ map (λ t. t ++ lf) (if not b then x ∷ rest else rest)
+text-if true x lines rest same = same
+text-if false x lines rest same = ap (λ l. (x ++ lf) ∷ l) same
+
+texts-unmarked : (xs : List (List ℕ)) → lines_unmarked (map (λ text. record { line = text ++ lf; varies = is_delay_line text }) xs)
+    ≡ map (λ t. t ++ lf) (filter (λ line. not (is_delay_line line)) xs)
+unfolding lines_unmarked
+texts-unmarked [] = refl
+texts-unmarked (x ∷ xs) = text-if (is_delay_line x) x _ (filter (λ line. not (is_delay_line line)) xs) (texts-unmarked xs)
+
+objects-same : (p q : Program) → record p { controls = record p.controls { delays = q.controls.delays } } ≡ q
+    → lines_unmarked (marked_object p) ≡ lines_unmarked (marked_object q)
+objects-same p q h =
+    texts-unmarked (map line_text (object_lines p))
+    ∙ ap (map (λ t. t ++ lf)) (sym (others-same p q.controls.delays))
+    ∙ sym (texts-unmarked (map line_text (object_lines (record p { controls = record p.controls { delays = q.controls.delays } }))))
+    ∙ ap (λ (r : Program). lines_unmarked (marked_object r)) h
+
+-- what control cards ask for beside delays
+abbrev others_asked : Asked → List (List ℕ)
+others_asked a =
+    let made : Control → List ℕ = λ c. control_line forms.Card c ++ lf in
+    unless_zero a.budget (made (Budget a.budget))
+    ++ (map (λ s. made (Signal s.count s.indicator)) a.signals ++ map (λ p. made (Dump p.0 p.1)) a.dumps ++ shows made a)
+
+cards-unmarked : (a : Asked) → lines_unmarked (marked_cards a) ≡ others_asked a
+cards-unmarked a =
+    let made : Control → List ℕ = λ c. control_line forms.Card c ++ lf in
+    unmarked-between (unless_zero a.budget (made (Budget a.budget))) (map (λ d. made (Delay d)) a.delays) _
+
+-- a deck without its delays
+abbrev deck_beside : Program → List (List ℕ)
+deck_beside p =
+    map (λ card. card ++ lf) (word_cards 0 0 p.words ++ statement_card (end_text p.start) ∷ []) ++ others_asked p.controls
+
+deck-unmarked : (p : Program) → lines_unmarked (marked_deck p) ≡ deck_beside p
+deck-unmarked p =
+    let front = map (λ card. card ++ lf) (word_cards 0 0 p.words ++ statement_card (end_text p.start) ∷ []) in
+    unmarked-append (without_marks front) (marked_cards p.controls)
+    ∙ ap (λ xs. xs ++ lines_unmarked (marked_cards p.controls)) (unmarked-plain front)
+    ∙ ap (λ xs. front ++ xs) (cards-unmarked p.controls)
+
+decks-same : (p q : Program) → record p { controls = record p.controls { delays = q.controls.delays } } ≡ q
+    → lines_unmarked (marked_deck p) ≡ lines_unmarked (marked_deck q)
+decks-same p q h = deck-unmarked p ∙ ap (λ (r : Program). deck_beside r) h ∙ sym (deck-unmarked q)
+
+programs-differ : (job other : List ℕ) (a b : Assembly) → DifferInDelays job other a b
+    → record (program_in a) { controls = record (program_in a).controls { delays = b.asked.delays } } ≡ program_in b
+programs-differ job other a b h =
+    let asked : Asked = record a.asked { delays = b.asked.delays } in
+    ap (λ image. record { words = image; start = a.start; controls = record asked { list = false } }) h.image
+    ∙ ap (λ start. record { words = b.image; start = start; controls = record asked { list = false } }) h.start
+    ∙ ap (λ (asked : Asked). record { words = b.image; start = b.start; controls = record asked { list = false } }) h.asked
+
+pub assembled-same : (job other : List ℕ) (a b : Assembly) → assembly job ≡ Ok a → assembly other ≡ Ok b → DifferInDelays job other a b
+    → lines_unmarked (marked_output Assemble job) ≡ lines_unmarked (marked_output Assemble other)
+unfolding marked_output
+assembled-same job other a b is also h =
+    ap (λ r. lines_unmarked (marked_assembled job r)) is
+    ∙ objects-same (program_in a) (program_in b) (programs-differ job other a b h)
+    ∙ sym (ap (λ r. lines_unmarked (marked_assembled other r)) also)
+
+disassembled-unmarked : (text : List ℕ) (p : Program) → read_text text ≡ Ok p → card_count p ≤ MOST_CARDS
+    → lines_unmarked (marked_output Disassemble text) ≡ lines_unmarked (marked_deck p)
+unfolding marked_output
+disassembled-unmarked text p is few =
+    ap (λ r. lines_unmarked (marked_disassembled text r)) is
+    ∙ ap (λ b. lines_unmarked (if b then marked_deck p else with_marks (lines_of (deck_by p).events))) (le-leb (card_count p) MOST_CARDS few)
+
+pub disassembled-same : (text other : List ℕ) (p q : Program) → read_text text ≡ Ok p → read_text other ≡ Ok q
+    → record p { controls = record p.controls { delays = q.controls.delays } } ≡ q
+    → card_count p ≤ MOST_CARDS → card_count q ≤ MOST_CARDS
+    → lines_unmarked (marked_output Disassemble text) ≡ lines_unmarked (marked_output Disassemble other)
+disassembled-same text other p q is also h few more =
+    disassembled-unmarked text p is few ∙ decks-same p q h ∙ sym (disassembled-unmarked other q also more)

@@ -1,9 +1,17 @@
 -- Lines with marks: all of them, and those that are not marked.
-use Rattle.std.proofs.Common.{◌≡◌, ℕ, Bool, true, false, if◌then◌else◌, List, [], ◌∷◌, ◌++◌, length, drop, refl, sym, ◌∙◌, ap}
+use Rattle.std.proofs.Common.{◌≡◌, ◌==◌, ℕ, Bool, true, false, if◌then◌else◌, List, [], ◌∷◌, ◌++◌, length, map, drop, refl, sym, ◌∙◌, ap, append_assoc}
 use Rattle.std.proofs.lemmas.List.{map-append}
-use Rattle.std.specs.Prelude.{Result, Ok, Err}
+use Rattle.std.proofs.lemmas.Simd.{map-map}
+use Rattle.std.specs.Prelude.{Result, Ok, Err, nat_le}
+use Rattle.st_bits.specs.declared.limits.TheConstants.{MOST_CARDS}
+use Rattle.st_text.specs.Bytes.{lf}
 use Rattle.st_card.specs.Cards.{cards_of}
 use Rattle.st_card.specs.Controls.{Asked}
+use Rattle.st_card.specs.Written.{control_line, unless_zero, orders, shows, controls_made}
+use Rattle.st_card.specs.declared.control_cards.Signal.{Signal as CardSignal}
+use Rattle.st_card.specs.declared.written.Control.{Control}
+use Rattle.st_card.specs.declared.written.Control.TheVariants.{Budget, Delay, Signal, Dump, Trace, Time, Chart, Snap, Back}
+use Rattle.st_card.specs.declared.written.ControlForm.TheVariants as forms
 use Rattle.st_card.specs.declared.cards.Card.{Card}
 use Rattle.st_asm.specs.Assembly.{Assembly, assembly}
 use Rattle.st_asm.specs.Pass.{Refusal}
@@ -12,12 +20,17 @@ use Rattle.st_exch.specs.Reader.{has_statement, behind_statements}
 use Rattle.st_run.specs.Run.{Scene}
 use Rattle.st_io.specs.Event.{lines_of, at_moment}
 use Rattle.st_io.proofs.Writing.{lines_of-append, lines_of-at_moment}
-use Rattle.st_object.specs.Object.{Program, read_text}
+use Rattle.st_object.specs.DelayLines.{is_delay_line}
+use Rattle.st_object.specs.Lines.{line_text}
+use Rattle.st_object.specs.Object.{Program, object_lines, read_text}
+use Rattle.st_dis.specs.Deck.{word_cards, statement_card, end_text, control_cards, card_count}
+use Rattle.st_top.specs.ObjectText.{program_in, object_text_lines, deck_lines}
+use Rattle.st_top.specs.declared.answer.Status.TheVariants.{Done as Finished}
 use Rattle.st_report.specs.Line.{trc_line, row_line, drop_line, int_line, time_line, end_line, done_line, ticks_line}
 use Rattle.st_run.specs.ReportedEvents.{ReportedEvent, Done, Dropped, Printed, Interrupted, Shown, Ended, TimedReportedEvent, reported_events}
 use Rattle.st_top.specs.Listing.{rows_lines, listing_row_line as card_line, symbols_lines, listing}
-use Rattle.st_top.specs.Marks.{Marked, with_marks, without_marks, all_lines, marked_at, marked_lines, marked_report, marked_run, up_to_end, end_card, listed_lines, marked_listing, marked_by, marked_load, marked_output}
-use Rattle.st_top.specs.Output.{output_of, scene_of_assembly, loaded_start}
+use Rattle.st_top.specs.Marks.{Marked, with_marks, without_marks, all_lines, marked_at, marked_lines, marked_report, marked_run, up_to_end, end_card, listed_lines, marked_listing, marked_by, marked_load, marked_cards, marked_object, marked_deck, marked_assembled, marked_disassembled, marked_output}
+use Rattle.st_top.specs.Output.{Output, lines_alone, output_of, scene_of_assembly, loaded_start}
 use Rattle.st_telling.specs.Report.{line_if, block, snapshot_lines, lines_at, lines_told, report}
 use Rattle.st_beside.specs.States.{states}
 use Rattle.st_top.specs.StepsBack.{events_of_run, moment_at_end, last_state, lines_of_steps_back, run_report}
@@ -141,11 +154,89 @@ unfolding output_of
 lines-load text (Ok p) is = lines-run p.controls (loaded_start p) ∙ rw is refl
 lines-load text (Err n) is = lines-plain _
 
+-- all that asks for things, made line by line
+mapped-if : {X : Type 0} (f : X → List ℕ) (b : Bool) (x : X) → map f (if b then x ∷ [] else []) ≡ (if b then f x ∷ [] else [])
+mapped-if f true x = refl
+mapped-if f false x = refl
+
+mapped-unless : {X : Type 0} (f : X → List ℕ) (b : Bool) (x : X) → map f (if b then [] else x ∷ []) ≡ (if b then [] else f x ∷ [])
+mapped-unless f true x = refl
+mapped-unless f false x = refl
+
+mapped-parts : {X : Type 0} (f : X → List ℕ) (xs ys : List X) (us vs : List (List ℕ)) → map f xs ≡ us → map f ys ≡ vs → map f (xs ++ ys) ≡ us ++ vs
+mapped-parts f xs ys us vs first next =
+    map-append f xs ys ∙ ap (λ front. front ++ map f ys) first ∙ ap (λ rest. us ++ rest) next
+
+mapped-controls : {X : Type 0} (f : X → List ℕ) (made : Control → X) (a : Asked)
+    → map f (controls_made made a) ≡ controls_made (λ c. f (made c)) a
+mapped-controls f made a =
+    mapped-parts f (orders made a) (shows made a) _ _
+    (mapped-parts f _ _ _ _
+    (mapped-parts f _ _ _ _
+    (mapped-parts f _ _ _ _ (mapped-unless f (a.budget == 0) (made (Budget a.budget))) (map-map f (λ d. made (Delay d)) a.delays))
+    (map-map f (λ (s : CardSignal). made (Signal s.count s.indicator)) a.signals))
+    (map-map f (λ (p : ℕ × ℕ). made (Dump p.0 p.1)) a.dumps))
+    (mapped-parts f _ _ _ _
+    (mapped-parts f _ _ _ _
+    (mapped-parts f _ _ _ _
+    (mapped-parts f _ _ _ _ (mapped-if f a.trace (made Trace)) (mapped-if f a.time (made Time)))
+    (mapped-if f a.chart (made Chart)))
+    (map-map f (λ t. made (Snap t)) a.snaps))
+    (mapped-unless f (a.back == 0) (made (Back a.back))))
+
+-- what asks for things has the lines of all of it
+lines-cards : (a : Asked) → all_lines (marked_cards a) ≡ controls_made (λ c. control_line forms.Card c ++ lf) a
+lines-cards a =
+    let made : Control → List ℕ = λ c. control_line forms.Card c ++ lf in
+    let budget = unless_zero a.budget (made (Budget a.budget)) in
+    let delays = map (λ d. made (Delay d)) a.delays in
+    let signals = map (λ (s : CardSignal). made (Signal s.count s.indicator)) a.signals in
+    let dumps = map (λ (p : ℕ × ℕ). made (Dump p.0 p.1)) a.dumps in
+    lines-between budget delays (signals ++ dumps ++ shows made a)
+    ∙ sym (append_assoc (budget ++ delays) (signals ++ dumps) (shows made a))
+    ∙ ap (λ front. front ++ shows made a) (sym (append_assoc (budget ++ delays) signals dumps))
+
+lines-object : (p : Program) → all_lines (marked_object p) ≡ object_text_lines p
+unfolding object_text_lines
+lines-object p =
+    map-map (λ (m : Marked). m.line) (λ text. record { line = text ++ lf; varies = is_delay_line text }) (map line_text (object_lines p))
+    ∙ map-map (λ text. text ++ lf) line_text (object_lines p)
+
+lines-deck : (p : Program) → all_lines (marked_deck p) ≡ deck_lines p
+unfolding deck_lines
+lines-deck p =
+    let line : List ℕ → List ℕ = λ card. card ++ lf in
+    let front = word_cards 0 0 p.words ++ statement_card (end_text p.start) ∷ [] in
+    let controls = marked_cards p.controls in
+    lines-append (without_marks (map line front)) controls
+    ∙ ap (λ xs. xs ++ all_lines controls) (lines-plain (map line front))
+    ∙ ap (λ xs. map line front ++ xs) (lines-cards p.controls
+    ∙ sym (mapped-controls line (control_line forms.Card) p.controls))
+    ∙ sym (map-append line front (control_cards p.controls))
+
+lines-assembled : (job : List ℕ) (r : Result Assembly Refusal) → assembly job ≡ r
+    → all_lines (marked_assembled job r) ≡ lines_of (output_of Assemble job).events
+unfolding output_of
+lines-assembled job (Ok a) is =
+    lines-object (program_in a) ∙ sym (lines_of-at_moment 0 0 (object_text_lines (program_in a))) ∙ rw is refl
+lines-assembled job (Err r) is = lines-plain _
+
+lines-disassembled : (text : List ℕ) (r : Result Program ℕ) → read_text text ≡ r
+    → all_lines (marked_disassembled text r) ≡ lines_of (output_of Disassemble text).events
+unfolding output_of
+lines-disassembled text (Ok p) is = deck-if (nat_le (card_count p) MOST_CARDS) (lines_alone Finished (deck_lines p)) _ (lines-deck p ∙ sym (lines_of-at_moment 0 0 (deck_lines p))) ∙ rw is refl
+  where
+    deck-if : (b : Bool) (deck other : Output) → all_lines (marked_deck p) ≡ lines_of deck.events
+        → all_lines (if b then marked_deck p else with_marks (lines_of (if b then deck else other).events)) ≡ lines_of (if b then deck else other).events
+    deck-if true deck other same = same
+    deck-if false deck other same = lines-marked _
+lines-disassembled text (Err n) is = lines-plain _
+
 pub lines-output : (command : Command) (job : List ℕ) → all_lines (marked_output command job) ≡ lines_of (output_of command job).events
 unfolding marked_output
 lines-output Run job = lines-by job (assembly job) refl
 lines-output Load job = lines-load job (read_text job) refl
-lines-output Assemble job = lines-plain _
-lines-output Disassemble job = lines-plain _
+lines-output Assemble job = lines-assembled job (assembly job) refl
+lines-output Disassemble job = lines-disassembled job (read_text job) refl
 lines-output Sweep job = lines-marked _
 lines-output (Soak number cards) job = lines-marked _

@@ -1,6 +1,7 @@
 -- Jobs whose texts differ in their delays cards alone, and object texts that differ in their lines
 -- of delays alone. They write the same, but for the lines that are marked.
-use Rattle.std.specs.Prelude.{◌≡◌, ℕ, ◌&&◌, Bool, true, false, not, List, [], ◌∷◌, map, filter, All, Option, Some, None, IsSome, Ok}
+use Rattle.std.specs.Prelude.{◌≡◌, ℕ, ◌≤◌, ◌&&◌, Bool, true, false, not, List, [], ◌∷◌, map, filter, All, Option, Some, None, IsSome, Ok}
+use Rattle.st_bits.specs.declared.limits.TheConstants.{MOST_CARDS}
 use Rattle.st_text.specs.Pieces.{words}
 use Rattle.st_text.specs.Tables.{row_of}
 use Rattle.st_card.specs.Cards.{cards_of, text_in, kind_of, columns}
@@ -16,11 +17,12 @@ use Rattle.st_run.specs.Run.{Scene}
 use Rattle.st_io.specs.Event.{lines_of}
 use Rattle.st_object.specs.DelayLines.{DifferInDelayLines, HasDelayLines}
 use Rattle.st_object.specs.Object.{Program, read_text}
+use Rattle.st_dis.specs.Deck.{card_count}
 use Rattle.st_top.specs.Marks.{all_lines, lines_unmarked, marked_run, marked_output, texts_up_to_end, DifferInDelays}
 use Rattle.st_top.specs.Output.{output_of}
 use Rattle.st_top.specs.StepsBack.{run_report}
 use Rattle.st_command.specs.declared.command.Command.{Command}
-use Rattle.st_command.specs.declared.command.Command.TheVariants.{Run, Load}
+use Rattle.st_command.specs.declared.command.Command.TheVariants.{Run, Assemble, Load, Disassemble}
 
 -- whether a keyword is that of delays
 abbrev pub is_delays : Option Keyword → Bool
@@ -97,13 +99,19 @@ DelaysChangeNothingButTheTimetable = (asked : Asked) (ds snaps : List ℕ) (time
     ≡ lines_unmarked (marked_run asked start)
 
 -- two jobs that are not refused, and whose texts differ in their delays cards alone, write the same
--- lines that are not marked; and where one of the two is not refused and the other's delays cards
--- are good, that is not refused either. So do all jobs that give the same but for the delays, and
--- object texts of programs that differ in their delays alone
+-- lines that are not marked, where they are run and where they are assembled; and where one of the
+-- two is not refused and the other's delays cards are good, that is not refused either. So do all
+-- jobs that give the same but for the delays, and object texts of programs that differ in their
+-- delays alone, where these are loaded, and where they are disassembled to decks that have not too
+-- many cards
 pub record JobsThatDifferInDelaysAlone : Type 0 where
   pub texts : (job other : List ℕ) (a b : Assembly) → assembly job ≡ Ok a → assembly other ≡ Ok b
       → DifferInDelaysCards job other → lines_unmarked (marked_output Run job)
       ≡ lines_unmarked (marked_output Run other)
+  pub assembled : (job other : List ℕ) (a b : Assembly) → assembly job ≡ Ok a → assembly other
+      ≡ Ok b
+      → DifferInDelaysCards job other → lines_unmarked (marked_output Assemble job)
+      ≡ lines_unmarked (marked_output Assemble other)
   pub accepted : (job other : List ℕ) (a : Assembly) → assembly job ≡ Ok a →
       DifferInDelaysCards job other → HasGoodDelays other
       → (b : Assembly) × (assembly other ≡ Ok b)
@@ -113,15 +121,26 @@ pub record JobsThatDifferInDelaysAlone : Type 0 where
   pub load : (text other : List ℕ) (p q : Program) → read_text text ≡ Ok p → read_text other ≡ Ok q
       → record p { controls = record p.controls { delays = q.controls.delays } } ≡ q
       → lines_unmarked (marked_output Load text) ≡ lines_unmarked (marked_output Load other)
+  pub disassemble : (text other : List ℕ) (p q : Program) → read_text text ≡ Ok p → read_text other
+      ≡ Ok q
+      → record p { controls = record p.controls { delays = q.controls.delays } } ≡ q
+      → card_count p ≤ MOST_CARDS → card_count q ≤ MOST_CARDS
+      → lines_unmarked (marked_output Disassemble text)
+      ≡ lines_unmarked (marked_output Disassemble other)
 
 -- two texts that are object texts, and differ in their lines of delays alone, write the same lines
--- that are not marked. Where one of the two is an object text, and the other has lines of these
+-- that are not marked, where they are loaded, and where they are disassembled to decks that have not
+-- too many cards. Where one of the two is an object text, and the other has lines of these
 -- delays, that is the object text of the same program with these delays. The lines of each object
 -- text are those of its program's delays
 pub record ObjectTextsThatDifferInDelaysAlone : Type 0 where
   pub texts : (text other : List ℕ) (p q : Program) → read_text text ≡ Ok p → read_text other ≡ Ok q
       → DifferInDelayLines text other → lines_unmarked (marked_output Load text)
       ≡ lines_unmarked (marked_output Load other)
+  pub decks : (text other : List ℕ) (p q : Program) → read_text text ≡ Ok p → read_text other ≡ Ok q
+      → DifferInDelayLines text other → card_count p ≤ MOST_CARDS → card_count q ≤ MOST_CARDS
+      → lines_unmarked (marked_output Disassemble text)
+      ≡ lines_unmarked (marked_output Disassemble other)
   pub accepted : (text other delays : List ℕ) (p : Program) → read_text text ≡ Ok p →
       DifferInDelayLines text other
       → HasDelayLines other delays → read_text other ≡ Ok

@@ -1,19 +1,30 @@
--- The lines of a report that the delays of storage may change: those of the timetable, and with a
--- listing those of the cards behind END. All others are the same with any delays.
-use Rattle.std.specs.Prelude.{◌≡◌, ℕ, Bool, true, false, if◌then◌else◌, List, [], ◌∷◌, ◌++◌, length, map, take, drop, Result, Ok, Err}
+-- The lines that the delays of storage may change: of a report those of the timetable, and with a
+-- listing those of the cards behind END; of an object text and of a deck those that say the delays.
+-- All others are the same with any delays.
+use Rattle.std.specs.Prelude.{◌≡◌, ℕ, Bool, true, false, if◌then◌else◌, nat_le, List, [], ◌∷◌, ◌++◌, length, map, take, drop, Result, Ok, Err}
+use Rattle.st_bits.specs.declared.limits.TheConstants.{MOST_CARDS}
+use Rattle.st_text.specs.Bytes.{lf}
 use Rattle.st_card.specs.Cards.{cards_of, text_in}
 use Rattle.st_card.specs.Controls.{Asked}
+use Rattle.st_card.specs.Written.{control_line, unless_zero, shows}
+use Rattle.st_card.specs.declared.written.Control.{Control}
+use Rattle.st_card.specs.declared.written.Control.TheVariants.{Budget, Delay, Signal, Dump}
+use Rattle.st_card.specs.declared.written.ControlForm.TheVariants as forms
 use Rattle.st_card.specs.declared.cards.Card.{Card}
 use Rattle.st_asm.specs.Pass.{Refusal}
 use Rattle.st_asm.specs.Assembly.{Assembly, assembly}
 use Rattle.st_exch.specs.Reader.{has_statement, behind_statements, reader_cards}
 use Rattle.st_run.specs.Run.{Scene}
 use Rattle.st_io.specs.Event.{lines_of}
-use Rattle.st_object.specs.Object.{Program, read_text}
+use Rattle.st_object.specs.DelayLines.{is_delay_line}
+use Rattle.st_object.specs.Lines.{line_text}
+use Rattle.st_object.specs.Object.{Program, object_lines, read_text}
+use Rattle.st_dis.specs.Deck.{word_cards, statement_card, end_text, card_count}
 use Rattle.st_report.specs.Line.{prt_line, trc_line, row_line, drop_line, int_line, time_line, end_line, done_line, ticks_line}
 use Rattle.st_run.specs.ReportedEvents.{ReportedEvent, Done, Dropped, Printed, Interrupted, Shown, Ended, TimedReportedEvent, reported_events}
 use Rattle.st_top.specs.Listing.{rows_lines, symbols_lines}
-use Rattle.st_top.specs.Output.{output_of, scene_of_assembly, loaded_start}
+use Rattle.st_top.specs.ObjectText.{program_in}
+use Rattle.st_top.specs.Output.{output_of, scene_of_assembly, loaded_start, deck_by}
 use Rattle.st_telling.specs.Report.{line_if, block, snapshot_lines}
 use Rattle.st_beside.specs.States.{states}
 use Rattle.st_top.specs.StepsBack.{events_of_run, last_state, lines_of_steps_back}
@@ -103,6 +114,30 @@ listed_lines job a =
 unfoldable pub marked_listing : List ℕ → Assembly → List Marked
 marked_listing job a = if a.asked.list then listed_lines job a else []
 
+-- ---- an object text, and a deck
+
+-- the object text of a program: its lines of delays may change
+abbrev pub marked_object : Program → List Marked
+marked_object p =
+    map (λ text. record { line = text ++ lf; varies = is_delay_line text })
+    (map line_text (object_lines p))
+
+-- the control cards of a deck: those of the delays may change
+abbrev pub marked_cards : Asked → List Marked
+marked_cards a =
+    let made : Control → List ℕ = λ c. control_line forms.Card c ++ lf in
+    without_marks (unless_zero a.budget (made (Budget a.budget)))
+    ++ with_marks (map (λ d. made (Delay d)) a.delays)
+    ++ without_marks (map (λ s. made (Signal s.count s.indicator)) a.signals
+    ++ map (λ p. made (Dump p.0 p.1)) a.dumps ++ shows made a)
+
+-- the deck
+abbrev pub marked_deck : Program → List Marked
+marked_deck p =
+    without_marks (map (λ card. card ++ lf)
+    (word_cards 0 0 p.words ++ statement_card (end_text p.start) ∷ []))
+    ++ marked_cards p.controls
+
 -- ---- a job
 
 -- what `run` writes, by what a job gives
@@ -115,13 +150,25 @@ abbrev pub marked_load : List ℕ → Result Program ℕ → List Marked
 marked_load text (Ok p) = marked_run p.controls (loaded_start p)
 marked_load text (Err n) = without_marks (lines_of (output_of Load text).events)
 
--- what a command writes for a job: where nothing runs no line depends on the delays; all that
--- `sweep` tells does, and `soak` draws its delays itself
+-- what `assemble` writes, by what a job gives
+abbrev pub marked_assembled : List ℕ → Result Assembly Refusal → List Marked
+marked_assembled job (Ok a) = marked_object (program_in a)
+marked_assembled job (Err r) = without_marks (lines_of (output_of Assemble job).events)
+
+-- what `disassemble` writes, by what an object text gives: a deck that has too many cards with these
+-- delays may have fewer with others
+abbrev pub marked_disassembled : List ℕ → Result Program ℕ → List Marked
+marked_disassembled text (Ok p) = if nat_le (card_count p) MOST_CARDS then marked_deck p
+    else with_marks (lines_of (deck_by p).events)
+marked_disassembled text (Err n) = without_marks (lines_of (output_of Disassemble text).events)
+
+-- what a command writes for a job: all that `sweep` tells depends on the delays, and `soak` draws
+-- its delays itself
 unfoldable pub marked_output : Command → List ℕ → List Marked
 marked_output Run job = marked_by job (assembly job)
 marked_output Load text = marked_load text (read_text text)
-marked_output Assemble job = without_marks (lines_of (output_of Assemble job).events)
-marked_output Disassemble text = without_marks (lines_of (output_of Disassemble text).events)
+marked_output Assemble job = marked_assembled job (assembly job)
+marked_output Disassemble text = marked_disassembled text (read_text text)
 marked_output Sweep job = with_marks (lines_of (output_of Sweep job).events)
 marked_output (Soak number cards) job = with_marks (lines_of
     (output_of (Soak number cards) job).events)

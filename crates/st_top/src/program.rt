@@ -207,8 +207,8 @@ fn act<S: Source, K: Sink>(alloc: Global, command: Command, job: &mut S, out: &m
 /// an empty reader on machines of one to eight levels, and writes the ticks of each run. `soak`
 /// reads no job: it makes the deck of a seed and a number of cards, and does with it what `run`
 /// does, behind a line that names them. Each line is written by itself, and all memory is taken
-/// before the first one. Lines that are not of the timetable are the same under every list of
-/// delays (`docs/report.md`, "What depends on the delays").
+/// before the first one. Lines that are not of the timetable, and do not say the delays themselves,
+/// are the same under every list of delays (`docs/report.md`, "What depends on the delays").
 #[tactic(auto, using(st_bits::specs::Storage::words_of_storage_is, crate::proofs::Delayed::delays_show_in_marks_alone))]
 pub fn stretch<S: Source, K: Sink>(
     alloc: Global,
@@ -230,8 +230,8 @@ pub fn stretch<S: Source, K: Sink>(
     ensures few { 3 < length words.now → result.status ≡ Status.Usage }
 
     // Whatever was asked for: which of the lines that a command writes depend on the delays of
-    // storage, and that two jobs, or two object texts, that differ in their delays alone have all
-    // others in common.
+    // storage, and that two jobs, run or assembled, or two object texts, loaded or disassembled,
+    // that differ in their delays alone have all others in common.
     ensures delays { DelaysShowInMarksAlone }
 {
     match read_words(alloc, words) {

@@ -6,6 +6,7 @@ use std::alloc::Global;
 use std::test::Fail;
 
 mod decks;
+mod delays;
 mod devices;
 
 // Gives a word of the command line and a job to the program. It has no contract, so the tests do

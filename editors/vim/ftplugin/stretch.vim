@@ -8,6 +8,8 @@ setlocal colorcolumn=10,73
 setlocal textwidth=0 expandtab tabstop=8 softtabstop=0
 setlocal comments=:* commentstring=*\ %s
 
+compiler stretch
+
 " Blanks up to column 10, or from there on to the next of the columns 18, 26 and so on.
 function! StretchTab() abort
   let column = col('.')
@@ -16,5 +18,5 @@ function! StretchTab() abort
 endfunction
 inoremap <buffer> <silent> <Tab> <C-R>=StretchTab()<CR>
 
-let b:undo_ftplugin = 'setlocal colorcolumn< textwidth< expandtab< tabstop< softtabstop< comments< commentstring<'
+let b:undo_ftplugin = 'setlocal makeprg< errorformat< colorcolumn< textwidth< expandtab< tabstop< softtabstop< comments< commentstring<'
       \ . ' | silent! iunmap <buffer> <Tab>'

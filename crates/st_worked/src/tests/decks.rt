@@ -172,3 +172,46 @@ pub const SLOW_DIVISION: &str = "         /(BU,64),100.0
          END,32.0
 /DELAYS 9
 ";
+
+/// A loop that adds one half-word to the address of its own next instruction, five times.
+pub const CHANGING: &str = " START   LX,$X1,CTL
+         BE,LOOP
+ LOOP    M+1(BU,19),NEXT
+ NEXT    LVI,$X2,0.0
+         CB,$X1,LOOP
+         BEW
+ CTL     XW,0.0,5,0
+         END,START
+/TRACE
+/DUMP 34 34
+";
+
+/// Its report: eighteen lines of trace, and the end. The last value is five half-words.
+pub const CHANGED: &str = "TRC 1 32.0
+TRC 2 32.32
+TRC 3 33.0
+TRC 4 34.0
+TRC 5 34.32
+TRC 6 33.0
+TRC 7 34.0
+TRC 8 34.32
+TRC 9 33.0
+TRC 10 34.0
+TRC 11 34.32
+TRC 12 33.0
+TRC 13 34.0
+TRC 14 34.32
+TRC 15 33.0
+TRC 16 34.0
+TRC 17 34.32
+TRC 18 35.0
+END WAIT
+DONE 18
+IC 35.32
+EN 1
+REG 11 000000000000A120
+REG 12 FFFFF00000000000
+REG 18 0000A00000000000
+DUMP 34 34
+MEM 34 0000A500000843B0
+";

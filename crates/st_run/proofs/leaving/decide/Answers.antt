@@ -2,7 +2,7 @@ use Rattle.std.proofs.Common.{sym, subst, ◌∙◌, ap}
 use Rattle.st_exec.specs.Step.{rests}
 use Rattle.st_ahead.specs.Overlap.{Overlap}
 use Rattle.st_ahead.specs.Calls.{MayServe}
-use Rattle.st_refine.specs.Reached.{IsLed}
+use Rattle.st_refine.specs.Reached.{IsLed, IsLedOn}
 use Rattle.st_run.specs.Together.{Together}
 use Rattle.st_run.proofs.LedLemmas.{settle-led, stop-led}
 use Rattle.st_run.proofs.ChoiceLemmas.{chosen}
@@ -15,12 +15,14 @@ returns-clause-choice g c =
     (ap rests (sym c.state.ensures) ∙ (sym c.is_at_rest-resting.ensures ∙ c.if-resting.false))
     c.settle.ensures.answer c.settle.ensures.after c.choice-ends.ensures
 
-pub invariant_of-driven : goal.invariant_of-driven
-invariant_of-driven g c =
+pub returns-then-resting-clause-led : goal.returns-then-resting-clause-led
+returns-then-resting-clause-led g c =
     let may = subst (λ (t : Together). MayServe t.machine) (sym c.driven.view_is) c.requires in
-    subst {A = Overlap} IsLed (sym c.stop.ensures.after) (stop-led c.driven.inside.machine may c.driven.invariant)
+    subst {A = Together} (λ t. IsLedOn t.machine c.stop.new.self) c.driven.view_is (λ start led.
+    subst {A = Overlap} (IsLed start) (sym c.stop.ensures.after) (stop-led c.driven.inside.machine may led))
 
-pub invariant_of-driven-2 : goal.invariant_of-driven-2
-invariant_of-driven-2 g c =
+pub returns-clause-led : goal.returns-clause-led
+returns-clause-led g c =
     let may = subst (λ (t : Together). MayServe t.machine) (sym c.driven.view_is) c.requires in
-    subst {A = Overlap} IsLed (sym c.settle.ensures.after) (settle-led c.driven.inside.machine may.0 may.2 c.driven.invariant)
+    subst {A = Together} (λ t. IsLedOn t.machine c.settle.new.self) c.driven.view_is (λ start led.
+    subst {A = Overlap} (IsLed start) (sym c.settle.ensures.after) (settle-led c.driven.inside.machine may.0 may.2 led))

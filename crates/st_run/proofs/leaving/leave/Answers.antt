@@ -1,5 +1,6 @@
 use Rattle.std.proofs.Common.{ap, arith, sym, subst, ◌∙◌}
 use Rattle.std.specs.Prelude.{option_map}
+use Rattle.st_refine.specs.Reached.{IsLedOn}
 use Rattle.st_run.specs.Together.{Together, IsBehindEntry}
 use Rattle.st_run.proofs.ChoiceLemmas.{decided}
 use Rattle.st_run.proofs.InterludeLemmas.{come-between, with_coming}
@@ -38,5 +39,7 @@ returns-clause-levels g c =
     (left-parts c.args.driven.now.machine c.between-came.new.machine c.decide.new.driven.machine c.is_over.result c.args.left
     c.decide.result came.since c.decide.ensures.choice).levels
 
-pub invariant_of-driven : goal.invariant_of-driven
-invariant_of-driven g c = c.between-came.ensures.rest.led c.driven.invariant
+pub returns-clause-led : goal.returns-clause-led
+returns-clause-led g c =
+    subst {A = Together} (λ t. IsLedOn t.machine c.decide.new.driven.machine) c.driven.view_is
+    (λ start led. c.decide.ensures.led start (c.between-came.ensures.rest.led start led))

@@ -3,7 +3,7 @@ use Rattle.st_state.specs.Machine.{Machine}
 use Rattle.st_run.specs.Outside.{signal_due}
 use Rattle.st_run.specs.Together.{Together}
 use Rattle.st_ahead.specs.Overlap.{Overlap}
-use Rattle.st_refine.specs.Reached.{IsLed}
+use Rattle.st_refine.specs.Reached.{IsLed, IsLedOn}
 use Rattle.st_run.proofs.LedLemmas.{settle-led}
 use Rattle.st_run.proofs.QuietLemmas.{passed-decided, passed-parts, quiet-settled}
 use Rattle.st_run.proofs.leaving.pass_on.Goals as goal
@@ -29,9 +29,10 @@ returns-clause-levels g c =
     ∙ sym c.is_due.ensures ∙ c.if-is_due.false)
     (c.is_quiet.ensures c.if-not-is_quiet.false) c.go_on.ensures).levels
 
-pub invariant_of-driven : goal.invariant_of-driven
-invariant_of-driven g c =
+pub returns-clause-led : goal.returns-clause-led
+returns-clause-led g c =
     let m = c.driven.inside.machine in
-    subst {A = Overlap} IsLed (sym (c.go_on.ensures ∙ quiet-settled m (c.is_quiet.ensures c.if-not-is_quiet.false)))
+    subst {A = Together} (λ t. IsLedOn t.machine c.go_on.new.self) c.driven.view_is (λ start led.
+    subst {A = Overlap} (IsLed start) (sym (c.go_on.ensures ∙ quiet-settled m (c.is_quiet.ensures c.if-not-is_quiet.false)))
     (settle-led m (subst (λ (t : Together). t.machine.owed ≡ true) (sym c.driven.view_is) c.requires.owed)
-    (subst (λ (t : Together). t.machine.stopped ≡ false) (sym c.driven.view_is) c.requires.stands) c.driven.invariant)
+    (subst (λ (t : Together). t.machine.stopped ≡ false) (sym c.driven.view_is) c.requires.stands) led))

@@ -6,7 +6,7 @@ use Rattle.st_sweep.proofs.start.ticks.Goals as goal
 pub run-init : goal.run-init
 run-init g c = record {
   same =
-      told-whole _ g.row.N c.args.budget _ c.args.signals.now _ _ c.new-run.ensures c.empty.ensures
+      told-whole _ g.row.N c.args.budget _ c.args.signals.now _ _ c.new-run.ensures.rest c.empty.ensures
       ∙ ap (λ s. ticks_from s g.row.N c.args.budget c.args.signals.now) c.start.view_is;
 }
 

@@ -6,7 +6,7 @@ use Rattle.st_top.proofs.execution.prepare.Goals as goal
 pub returns-clause-rest : goal.returns-clause-rest
 returns-clause-rest c =
     let asked = c.args.controls.now in
-    rest_is _ asked _ _ _ _ (scene_at_start c.args.image.now c.args.start asked c.args.job.now.text.now) c.new-run.ensures c.in_ok-delays.ensures c.budget.ensures
+    rest_is _ asked _ _ _ _ (scene_at_start c.args.image.now c.args.start asked c.args.job.now.text.now) c.new-run.ensures.rest c.in_ok-delays.ensures c.budget.ensures
     (scene_is _ _ _ _ _ _ _ refl c.in_ok-state.ensures.value c.signals.ensures c.in_ok-hopper.ensures.value) c.snaps.ensures
 
 pub returns-clause-scene : goal.returns-clause-scene

@@ -1,7 +1,7 @@
 use Rattle.std.proofs.Common.{◌-◌, sym, ◌∙◌, ap, subst, refl, [], inl}
 use Rattle.st_run.specs.Run.{Scene, with_due_signals}
 use Rattle.st_rows.proofs.Within.{delays-are}
-use Rattle.st_ahead.specs.Overlap.{Overlap}
+use Rattle.st_ahead.specs.Overlap.{Overlap, machine_at_start}
 use Rattle.st_ahead.specs.Calls.{MaySignal}
 use Rattle.st_run.specs.Scenes.{IsScene}
 use Rattle.st_run.specs.Together.{Together}
@@ -30,8 +30,8 @@ invariant_of-result g c =
     r.some_done r.few_done r.done r.snaps)) in
     (stands, ap (λ (q : Queue). q.room) c.new-2.ensures)
 
-pub returns : goal.returns
-returns g c =
+pub returns-clause-rest : goal.returns-clause-rest
+returns-clause-rest g c =
     let r = c.requires in
     let scene : Scene = record { machine = c.args.state; signals = c.args.controls.now.signals.now; cards = c.args.cards } in
     let idle : IsIdle c.args.state = record { enabled = r.enabled; waiting = r.waiting; reader = r.reader; printer = r.printer } in
@@ -45,8 +45,8 @@ returns g c =
     ∙ ap {A = Together} (λ t. rest_of turns.Before (c.args.controls.now.budget - 1) 0 c.args.controls.now.snaps.now none t) same
     ∙ start-told c.args.delays.list g.row.N scene idle is c.args.controls.now.budget c.args.controls.now.snaps.now r.some_done
 
-pub invariant_of-driven : goal.invariant_of-driven
-invariant_of-driven g c =
+pub returns-clause-led : goal.returns-clause-led
+returns-clause-led g c =
     let r = c.requires in
     let can : CanStart c.args.delays.list g.row.N c.args.state = record {
       some = r.some;
@@ -57,6 +57,7 @@ invariant_of-driven g c =
       waiting = r.waiting;
     } in
     let m = c.new-machine.result in
-    subst {A = Overlap} IsLed (sym (c.due_signals-rest.ensures.machine ∙ sym (ap (λ (d : Scene). record m { state = d.machine }) (c.due_signals-rest.ensures.came []))))
+    let start = machine_at_start c.args.delays.list g.row.N c.args.state in
+    subst {A = Overlap} (IsLed start) (sym (c.due_signals-rest.ensures.machine ∙ sym (ap (λ (d : Scene). record m { state = d.machine }) (c.due_signals-rest.ensures.came []))))
     (due-led c.args.controls.now.signals.now m [] r.signals
     (subst {A = Overlap} MaySignal (sym c.new-machine.ensures.value) (inl (refl, refl), refl)) (start-led c.args.delays.list g.row.N c.args.state m can c.new-machine.ensures.value))

@@ -1,4 +1,5 @@
-use Rattle.std.proofs.Common.{sym, subst, ap}
+use Rattle.std.proofs.Common.{◌∙◌, sym, subst, ap}
+use Rattle.st_ahead.specs.Shown.{view_at_tick}
 use Rattle.st_ahead.specs.declared.events.View.{View}
 use Rattle.st_run.specs.Telling.{Telling, AreLevelsShown, ahead_of}
 use Rattle.st_run.proofs.ViewLemmas.{view-run}
@@ -8,16 +9,8 @@ pub returns-clause-levels : goal.returns-clause-levels
 returns-clause-levels g c =
     let run = c.self.inside.teller.progress in
     subst {A = Telling} (λ s. AreLevelsShown c.view_of.result.levels s.ahead) c.self.view_is
-    (subst {A = View} (λ v. AreLevelsShown v.levels (ahead_of run.driven.machine)) (sym c.view_of.ensures.view)
+    (subst {A = View} (λ v. AreLevelsShown v.levels (ahead_of run.driven.machine)) (sym c.view_of.ensures)
     (view-run run.turn run.left run.tick run.snaps.now run.waiting run.driven c.self.invariant.0))
 
-pub returns-clause-led : goal.returns-clause-led
-returns-clause-led g c = record {
-  shows = record {
-    machine = c.self.inside.teller.progress.driven.machine;
-    led = c.view_of.ensures.led;
-    seen = ap (λ (s : Telling). s.seen) (sym c.self.view_is);
-    ahead = ap (λ (s : Telling). s.ahead) (sym c.self.view_is);
-  };
-  same = c.view_of.ensures.view;
-}
+pub returns-clause-machine : goal.returns-clause-machine
+returns-clause-machine g c = c.view_of.ensures ∙ ap (λ (s : Telling). view_at_tick s.machine) c.self.view_is

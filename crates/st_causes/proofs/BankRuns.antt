@@ -1,0 +1,86 @@
+-- The banks of a run are held by the reads before.
+use Rattle.std.specs.Prelude.{zero, suc, nat_lt, All, length, reverse}
+use Rattle.std.proofs.Common.{◌≡◌, ℕ, ◌+◌, List, [], ◌∷◌, ◌++◌, inl, inr, refl, ◌∙◌, ap, subst}
+use Rattle.std.proofs.lemmas.Bool.{cases_Bool}
+use Rattle.std.proofs.lemmas.List.{length-set}
+use Rattle.std.proofs.lemmas.List.Elements.{All-nil, All-cons}
+use Rattle.st_banks.specs.Bank.{bank_of}
+use Rattle.st_banks.specs.declared.answers.LastAnswers.{LastAnswers}
+use Rattle.st_banks.specs.declared.answers.TheConstants.{BANKS}
+use Rattle.st_prep.specs.Plan.{plan}
+use Rattle.st_exec.specs.Step.{rests, interrupt}
+use Rattle.st_rows.specs.Asked.{Read, reads_of_entry, after_one, made_before}
+use Rattle.st_rows.specs.BusTimes.{accept_at, answer_at}
+use Rattle.st_rows.specs.Rows.{opening_front}
+use Rattle.st_rows.specs.declared.bus.Bus.{Bus}
+use Rattle.st_rows.proofs.Laws.{rows_make_their_reads}
+use Rattle.st_segment.specs.Ahead.{reads_to_end}
+use Rattle.st_segment.specs.Entries.{entry}
+use Rattle.st_run.specs.Moments.{Moment, Standing, next_state, next_front, ends_segment, standing_at, next_row, next_moment, entry_of_moment}
+use Rattle.st_plain.specs.Looking.{side_at}
+use Rattle.st_plain.specs.declared.uses.Use.{Use}
+use Rattle.st_reasons.specs.Served.{AreBankedBehind, busy_until}
+use Rattle.st_reasons.proofs.BankLemmas.{AreBanked, left-by, banked}
+use Rattle.st_reasons.proofs.WaitLaws.{reads_told_are_those_of_the_bus}
+use Rattle.st_account.specs.Text.{uses_at, words_before}
+use Rattle.st_causes.specs.Runs.{ToldRow, told_from}
+
+-- there are as many banks after some reads
+made-whole : (ds : List ℕ) (t : ℕ) (reads : List Read) (b : Bus) → length b.banks.ticks ≡ BANKS → length (made_before ds t reads b).banks.ticks ≡ BANKS
+unfolding made_before
+made-whole ds t [] b whole = whole
+made-whole ds t (r ∷ reads) b whole = elim (cases_Bool (nat_lt (accept_at b r.w r.want) t)) [
+  | inl y ↦
+      let one = after_one ds b r in
+      let after : length one.banks.ticks ≡ BANKS =
+      ap (λ ticks. length ticks) (left-by b.banks ds b r) ∙ length-set b.banks.ticks (bank_of r.w) (answer_at ds b r.w r.want) ∙ whole in
+      rw y (made-whole ds t reads one after)
+  | inr m ↦ rw m whole
+]
+
+-- a segment begins
+pub opened-banked : (banks : LastAnswers) → length banks.ticks ≡ BANKS → (start : ℕ) → AreBanked banks (opening_front banks start).bus []
+unfolding AreBankedBehind busy_until
+opened-banked banks whole start = record { each = tt; until = λ w. refl; whole = whole }
+
+module _ (ds : List ℕ) (n : ℕ) where
+  row-banked : (p : Standing) (segment : List Use) (banks : LastAnswers) → AreBanked banks p.front.bus segment
+      → AreBanked banks (next_moment ds n p).front.bus (reverse (uses_at ds n p) ++ segment)
+  unfolding uses_at side_at entry next_moment
+  row-banked p segment banks are =
+      let s = p.scene.machine in
+      let e = entry_of_moment p in
+      let told = reads_told_are_those_of_the_bus ds n p.front e (side_at (interrupt s) s) (plan s (interrupt s)).reads refl in
+      subst (λ b. AreBanked banks b (reverse (uses_at ds n p) ++ segment)) (rows_make_their_reads.bus ds n p.front e)
+      (banked banks ds (uses_at ds n p) (reads_of_entry ds n p.front e) p.front.bus segment told are)
+
+  next-whole : (p : Standing) → length p.front.bus.banks.ticks ≡ BANKS → length (next_moment ds n p).banks.ticks ≡ BANKS
+  unfolding next_moment
+  next-whole p whole =
+      let s = p.scene.machine in
+      made-whole ds (next_row ds n p).c (reads_to_end ds n (next_row ds n p).c (interrupt s) s p.front (entry_of_moment p)) p.front.bus whole
+
+  -- behind a moment
+  at-standing : (m : Moment) (segment : List Use) (banks : LastAnswers) → AreBanked banks m.front.bus segment → length m.banks.ticks ≡ BANKS
+      → (now : LastAnswers) × AreBanked now (standing_at m).front.bus (words_before m segment)
+  unfolding next_front
+  at-standing m segment banks are whole = elim (cases_Bool (ends_segment m)) [
+    | inl y ↦ (m.banks, rw y (opened-banked m.banks whole (m.tick + 1 + length m.dropped)))
+    | inr k ↦ (banks, rw k are)
+  ]
+
+  pub each-banked : (left : ℕ) (m : Moment) (us segment : List Use) (banks : LastAnswers) → AreBanked banks m.front.bus segment
+      → length m.banks.ticks ≡ BANKS → All (λ (r : ToldRow). (now : LastAnswers) × AreBankedBehind now r.segment) (told_from ds n left us segment m)
+  unfolding told_from
+  each-banked zero m us segment banks are whole = All-nil (λ (r : ToldRow). (now : LastAnswers) × AreBankedBehind now r.segment)
+  each-banked (suc left) m us segment banks are whole =
+      let P : ToldRow → Type 0 = λ (r : ToldRow). (now : LastAnswers) × AreBankedBehind now r.segment in
+      elim (cases_Bool (rests (next_state m))) [
+        | inl y ↦ rw y (All-nil P)
+        | inr k ↦
+            let p = standing_at m in
+            let here = at-standing m segment banks are whole in
+            let row = row-banked p (words_before m segment) here.0 here.1 in
+            rw k (All-cons P _ _ (here.0, row.each)
+            (each-banked left (next_moment ds n p) (uses_at ds n p) (reverse (uses_at ds n p) ++ words_before m segment) here.0 row (next-whole p here.1.whole)))
+      ]

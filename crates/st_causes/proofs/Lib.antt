@@ -1,0 +1,6 @@
+pub mod TextLemmas
+pub mod RunLemmas
+pub mod TickLemmas
+pub mod BankRuns
+pub mod BegunLemmas
+pub mod Laws

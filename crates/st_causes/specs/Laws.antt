@@ -1,0 +1,136 @@
+-- What is true of the ledger of each run: its lines say where the ticks of its rows went, and what
+-- they say is so. The machine has the delays ds and n levels, and so many entries may be done.
+use Rattle.std.specs.Prelude.{ℕ, ◌≡◌, ◌+◌, ◌≤◌, ◌<◌, true, nat_lt, suc, length, List, [], ◌∷◌, ◌++◌, All, Option}
+use Rattle.std.specs.List.{filter}
+use Rattle.st_state.specs.Machine.{Machine}
+use Rattle.st_banks.specs.declared.answers.LastAnswers.{LastAnswers}
+use Rattle.st_rows.specs.Asked.{reads_of_entry}
+use Rattle.st_rows.specs.declared.front.Front.{Front}
+use Rattle.st_segment.specs.Ahead.{Ahead, ahead}
+use Rattle.st_run.specs.Run.{Scene}
+use Rattle.st_run.specs.Scenes.{IsScene}
+use Rattle.st_run.specs.Moments.{moment_at_start, next_row, entry_of_moment}
+use Rattle.st_report.specs.Line.{ticks_line}
+use Rattle.st_ledger.specs.Charges.{all_ticks, ticks_for}
+use Rattle.st_ledger.specs.Ledger.{entries_of, charges_at, all_charges}
+use Rattle.st_ledger.specs.Totals.{stages, sums_by}
+use Rattle.st_ledger.specs.declared.charges.Charge.{Charge}
+use Rattle.st_ledger.specs.declared.charges.Stage.{Stage}
+use Rattle.st_ledger.specs.declared.charges.Stage.TheVariants.{Executing}
+use Rattle.st_plain.specs.Looking.{first_late}
+use Rattle.st_plain.specs.declared.uses.Use.{Use}
+use Rattle.st_reasons.specs.Causes.{is_cause, IsTrueOf, FallTo}
+use Rattle.st_reasons.specs.Paths.{IsReason}
+use Rattle.st_reasons.specs.Served.{served, reads_told, AreBankedBehind, AreBrought, IsWrittenBy}
+use Rattle.st_reasons.specs.Sums.{is_parted}
+use Rattle.st_reasons.specs.Waits.{charge_waits}
+use Rattle.st_reasons.specs.Words.{read_of}
+use Rattle.st_reasons.specs.declared.waits.Stall.TheVariants.{Turn, Bank, Storage}
+use Rattle.st_reasons.specs.declared.waits.Wait.{Wait}
+use Rattle.st_lines.specs.declared.origins.Origin.{Origin}
+use Rattle.st_account.specs.Text.{formed_at, totals_lines, wait_totals_lines, stalled_from, ledger}
+use Rattle.st_causes.specs.Heads.{is_spent_line}
+use Rattle.st_causes.specs.Runs.{ToldRow, told_of, lines_of_rows, because_at}
+use Rattle.st_causes.specs.Summed.{all_summed}
+
+-- ---- the text
+
+-- The lines ROW, CHARGE, WAIT, LEVEL, BECAUSE, TICKS and SUM of a ledger are, in this order, those
+-- of all its rows, the one line of what all charges add up to, and those of the sums.
+abbrev pub LedgersTellWhereTicksWent : Type 0
+LedgersTellWhereTicksWent = (o : Machine → ℕ → Option Origin) (ds : List ℕ) (n left : ℕ)
+    (c : Scene) →
+    let xs = all_charges ds n (entries_of ds n left c) in
+    filter is_spent_line (ledger o ds n left c)
+    ≡ lines_of_rows ds n (told_of ds n left c)
+    ++ (ticks_line (all_ticks xs) ∷ (totals_lines xs
+    ++ wait_totals_lines (λ r s. stalled_from r s ds n left [] (moment_at_start c))))
+
+-- Of the n + 1 entries behind a front at most n are prepared by its completion, where each takes a
+-- tick at least: so one is begun, and it stands among them.
+abbrev pub OneEntryIsBegun : Type 0
+OneEntryIsBegun = (ds : List ℕ) (n : ℕ) (t : Option ℕ) (s : Machine) (f : Front) → 1 ≤ n → n ≤ 8 →
+    All (λ (a : Ahead). 1 ≤ a.entry.cost) (ahead ds n (suc n) t s f) →
+    length (first_late f.c (ahead ds n (suc n) t s f)) ≡ 1
+
+-- ---- sums
+
+-- The seven sums of stages, of which lines SUM are written, add up to the ticks.
+abbrev pub StageSumsAddUp : Type 0
+StageSumsAddUp = (xs : List Charge) →
+    all_summed (sums_by (λ s. ticks_for s xs) stages) ≡ all_ticks xs
+
+-- Of a stage that has waits the sums of waits add up to that of its charges.
+abbrev pub WaitSumsAddUp : Type 0
+WaitSumsAddUp = (ds : List ℕ) (n left : ℕ) (c : Scene) (s : Stage) →
+    IsScene c →
+    is_parted s ≡ true →
+    stalled_from s Turn ds n left [] (moment_at_start c)
+    + stalled_from s Bank ds n left [] (moment_at_start c)
+    + stalled_from s Storage ds n left [] (moment_at_start c)
+    ≡ ticks_for s (all_charges ds n (entries_of ds n left c))
+
+-- ---- the words that rows use
+
+-- What is told of the words of a row is so: its reads are those that the timetable makes of it, in
+-- their order and with their ticks; a word that is held has a read of that word before it in its
+-- segment, whose answer it has; and one that is forwarded comes from the row that is told, which
+-- writes it and is done then. A read finds its bank busy up to the answer of the last read in it
+-- before, or as long as it was when the segment began.
+pub record UsesOfARunAreTrue : Type 0 where
+  pub read : (ds : List ℕ) (n left : ℕ) (c : Scene) → IsScene c →
+      All (λ (r : ToldRow). reads_told r.uses
+      ≡ served ds (reads_of_entry ds n r.standing.front (entry_of_moment r.standing))
+      r.standing.front.bus) (told_of ds n left c)
+  pub held : (ds : List ℕ) (n left : ℕ) (c : Scene) → IsScene c →
+      All (λ (r : ToldRow). AreBrought r.segment) (told_of ds n left c)
+  pub banked : (ds : List ℕ) (n left : ℕ) (c : Scene) →
+      All (λ (r : ToldRow). (banks : LastAnswers) × AreBankedBehind banks r.segment)
+      (told_of ds n left c)
+  pub forwarded : (ds : List ℕ) (n left : ℕ) (c : Scene) → IsScene c →
+      All (λ (r : ToldRow). All (IsWrittenBy r.standing.front.past) r.uses) (told_of ds n left c)
+
+-- ---- waits
+
+-- Each wait of a row is true at each of its ticks: at a TURN the read that it names is accepted, at
+-- a BANK that read is wanted and first in turn and its bank is busy, and it is accepted at the end;
+-- at a STORAGE it is on its way. These reads are among those of its segment.
+abbrev pub WaitsOfARunAreTrue : Type 0
+WaitsOfARunAreTrue = (ds : List ℕ) (n left : ℕ) (c : Scene) →
+    IsScene c →
+    All (λ (r : ToldRow). All (λ (x : Charge). All (IsTrueOf r.segment)
+    (charge_waits x r.uses r.before)) (charges_at ds n r.standing)) (told_of ds n left c)
+
+-- The waits of a charge cover it, without a gap and without an overlap.
+abbrev pub WaitsOfARunCoverTheirCharges : Type 0
+WaitsOfARunCoverTheirCharges = (ds : List ℕ) (n left : ℕ) (c : Scene) →
+    IsScene c →
+    All (λ (r : ToldRow). All (λ (x : Charge). is_parted x.stage ≡ true → FallTo x.from x.to
+    (charge_waits x r.uses r.before)) (charges_at ds n r.standing)) (told_of ds n left c)
+
+-- Each read that is named was accepted before its row is done: it is one with MADE 1.
+abbrev pub NamedReadsAreMade : Type 0
+NamedReadsAreMade = (ds : List ℕ) (n left : ℕ) (c : Scene) →
+    IsScene c →
+    All (λ (r : ToldRow). All (λ (x : Charge). All (λ (w : Wait). (t : ℕ) (u : Use) →
+    w.from ≤ t → t < w.to → is_cause w.why w.read w.to t u ≡ true →
+    (read_of u.supply).accept < (next_row ds n r.standing).c)
+    (charge_waits x r.uses r.before)) (charges_at ds n r.standing)) (told_of ds n left c)
+
+-- ---- reasons
+
+-- A reason is told of a row exactly where it has other ticks than those of executing.
+abbrev pub ReasonsStandWhereTicksAreLost : Type 0
+ReasonsStandWhereTicksAreLost = (ds : List ℕ) (n left : ℕ) (c : Scene) →
+    All (λ (r : ToldRow). nat_lt r.standing.tick (next_row ds n r.standing).r
+    ≡ nat_lt (ticks_for Executing (charges_at ds n r.standing))
+    (all_ticks (charges_at ds n r.standing))) (told_of ds n left c)
+
+-- What is told to have kept a row back did: a level, a row that its index-side word came from, or
+-- where the path behind its address ends, with its row, its tick, and by how much it was late. Of
+-- what came at that tick it is the first in the order of the page.
+abbrev pub ReasonsOfARunAreTrue : Type 0
+ReasonsOfARunAreTrue = (ds : List ℕ) (n left : ℕ) (c : Scene) →
+    IsScene c → 1 ≤ n → n ≤ 8 →
+    All (λ (r : ToldRow). IsReason ds n r.standing.front (entry_of_moment r.standing)
+    (formed_at ds r.standing) r.before (because_at ds n r.before r.standing)) (told_of ds n left c)

@@ -1,0 +1,10 @@
+pub mod Heads
+pub mod Runs
+pub mod Summed
+pub mod Laws
+pub use Rattle.st_ledger.specs.Charges
+pub use Rattle.st_plain.specs.Uses
+pub use Rattle.st_reasons.specs.Causes
+pub use Rattle.st_reasons.specs.Paths
+pub use Rattle.st_reasons.specs.Sums
+pub use Rattle.st_reasons.specs.Waits

@@ -1,0 +1,66 @@
+-- The rows of a run, as the ledger tells where their ticks went. The machine has the delays ds and n
+-- levels.
+use Rattle.std.specs.Prelude.{ℕ, zero, suc, ◌+◌, if◌then◌else◌, List, [], ◌∷◌, ◌++◌, reverse}
+use Rattle.st_exec.specs.Step.{rests, address}
+use Rattle.st_run.specs.Run.{Scene}
+use Rattle.st_run.specs.Moments.{Moment, Standing, moment_at_start, next_state, standing_at, next_row, next_moment, entry_of_moment}
+use Rattle.st_ledger.specs.Ledger.{charges_at}
+use Rattle.st_ledger.specs.Lines.{row_stage_line}
+use Rattle.st_plain.specs.Looking.{level_wait}
+use Rattle.st_plain.specs.declared.uses.Use.{Use}
+use Rattle.st_reasons.specs.Reasons.{because}
+use Rattle.st_reasons.specs.declared.because.Because.{Because}
+use Rattle.st_lines.specs.EntryLines.{level_lines}
+use Rattle.st_lines.specs.WaitLines.{charged_lines, because_lines}
+use Rattle.st_account.specs.Text.{formed_at, uses_at, words_before}
+
+-- a row: where the run stands before it, the words that it uses, those of the row before it in its
+-- segment, and those of the segment up to and with it, youngest first
+pub record ToldRow : Type 0 where
+  pub standing : Standing
+  pub uses : List Use
+  pub before : List Use
+  pub segment : List Use
+
+-- from a moment on, in which so many entries may still be done; the last one used some words, and so
+-- did its segment
+unfoldable pub told_from : List ℕ → ℕ → ℕ → List Use → List Use → Moment → List ToldRow
+told_from ds n zero us segment m = []
+told_from ds n (suc left) us segment m =
+    let p = standing_at m in
+    let all = reverse (uses_at ds n p) ++ words_before m segment in
+    if rests (next_state m) then []
+    else record { standing = p; uses = uses_at ds n p; before = words_before m us; segment = all }
+    ∷ told_from ds n left (uses_at ds n p) all (next_moment ds n p)
+
+-- all rows of the run of a scene
+abbrev pub told_of : List ℕ → ℕ → ℕ → Scene → List ToldRow
+told_of ds n left c = told_from ds n left [] [] (moment_at_start c)
+
+-- ---- what is told of a row
+
+-- for how many ticks it waited for a level
+abbrev pub wait_at : List ℕ → ℕ → Standing → ℕ
+wait_at ds n p = level_wait ds n p.front (entry_of_moment p)
+
+-- what kept it back, where the row before it uses some words
+abbrev pub because_at : List ℕ → ℕ → List Use → Standing → Because
+because_at ds n before p = because p.front (entry_of_moment p) (next_row ds n p).a
+    (next_row ds n p).p (wait_at ds n p) (formed_at ds p) before
+
+-- the lines that tell where its ticks went: the row, each charge with its waits behind it, its wait
+-- for a level, and what kept it back
+unfoldable pub lines_of_row : List ℕ → ℕ → ToldRow → List (List ℕ)
+lines_of_row ds n r =
+    let p = r.standing in
+    let s = p.scene.machine in
+    let row = next_row ds n p in
+    row_stage_line (s.done + 1) (address s) row
+    ∷ (charged_lines r.uses r.before (charges_at ds n p)
+    ++ (level_lines (wait_at ds n p)
+    ++ because_lines (s.done + 1) p.tick row.r (because_at ds n r.before p)))
+
+-- of several
+unfoldable pub lines_of_rows : List ℕ → ℕ → List ToldRow → List (List ℕ)
+lines_of_rows ds n [] = []
+lines_of_rows ds n (r ∷ rs) = lines_of_row ds n r ++ lines_of_rows ds n rs

@@ -1,0 +1,3 @@
+//! Laws alone: whether what the ledger of a run tells of each tick is true, and whether its lines say
+//! just that.
+#![tactic(auto)]

@@ -1,0 +1,149 @@
+-- What kept a row back, as a path without a gap: from the tick before its address is formed, over
+-- answers and wants of its instruction words, down to what the row could do nothing about. Words
+-- stand youngest first.
+use Rattle.std.specs.Prelude.{ℕ, ◌≡◌, ◌⊎◌, ◌+◌, ◌-◌, ◌<◌, max, Bool, true, false, not, ◌&&◌, ◌||◌, nat_eq, nat_le, nat_lt, if◌then◌else◌, List, ◌∷◌, ◌++◌, length, reverse, None, Some}
+use Rattle.std.specs.List.{list_any}
+use Rattle.st_rows.specs.Rows.{tick_a, tick_y, tick_p, done_before}
+use Rattle.st_rows.specs.declared.entry.Entry.{Entry}
+use Rattle.st_rows.specs.declared.front.Front.{Front}
+use Rattle.st_plain.specs.Looking.{level_wait}
+use Rattle.st_plain.specs.declared.uses.Role.TheVariants.{Instruction}
+use Rattle.st_plain.specs.declared.uses.Use.{Use}
+use Rattle.st_reasons.specs.Reasons.{is_first, is_stored, side_writer}
+use Rattle.st_reasons.specs.Words.{is_index, is_read, read_of, is_answered_at, decides}
+use Rattle.st_reasons.specs.declared.because.Because.{Because}
+use Rattle.st_reasons.specs.declared.because.Because.TheVariants.{Start, Prefetch, Earlier}
+use Rattle.st_reasons.specs.declared.because.Cause.{Cause}
+use Rattle.st_reasons.specs.declared.because.Reason.{Reason}
+use Rattle.st_reasons.specs.declared.because.Reason.TheVariants.{Serial, Store, Level, Forwarding, Bus, Order}
+
+-- ---- what may have come at the tick t, to a row behind the front f; in the order of the page
+
+-- the row before was done, and it is done alone, or what is awaited has to be behind it (`alone`)
+abbrev pub is_serial_at : Front → Bool → ℕ → Bool
+is_serial_at f alone t = not (is_first f) && (nat_eq t f.c && (alone || f.serial))
+
+-- a row was done that wrote one of these instruction words
+abbrev pub is_store_at : Front → ℕ → List Use → Bool
+is_store_at f t words = not (is_first f) && list_any (is_stored f.past t) words
+
+-- neither of them came
+pub record IsNothingDone (f : Front) (alone : Bool) (t : ℕ) (words : List Use) : Type 0 where
+  pub serial : is_serial_at f alone t ≡ false
+  pub store : is_store_at f t words ≡ false
+
+-- the word u was answered, the first of these instruction words that was
+pub record IsFirstAnswered (t : ℕ) (words : List Use) (u : Use) : Type 0 where
+  pub later : List Use
+  pub earlier : List Use
+  pub parts : words ≡ later ++ (u ∷ earlier)
+  pub first : decides Instruction t u earlier ≡ true
+
+-- none of them was
+abbrev pub IsNoneAnswered : ℕ → List Use → Type 0
+IsNoneAnswered t words = list_any (is_answered_at Instruction t) words ≡ false
+
+-- the last read of the rows before was accepted, later than the row before was prepared
+abbrev pub is_bus_at : Front → ℕ → Bool
+is_bus_at f t = nat_eq f.bus.free (t + 1) && nat_lt f.p t
+
+-- and nothing of all this came
+pub record IsNothingThere (f : Front) (alone : Bool) (t : ℕ) (words : List Use) : Type 0 where
+  pub done : IsNothingDone f alone t words
+  pub answered : IsNoneAnswered t words
+  pub bus : is_bus_at f t ≡ false
+
+-- ---- what is told of the tick t, where the path ends: it came then, and nothing that stands before
+-- it in that order; `before` are the words of the row before
+
+-- a read that was wanted at a tick and accepted at t
+abbrev pub is_read_between : ℕ → ℕ → Use → Bool
+is_read_between want t u =
+    is_read u.supply && (nat_eq (read_of u.supply).want want && nat_eq (read_of u.supply).accept t)
+
+unfoldable pub EndsByRow : Front → Bool → List Use → List Use → ℕ → Cause → Reason → Type 0
+EndsByRow f alone before words t x Serial =
+    (x.tick ≡ t) × (is_serial_at f alone t ≡ true) × (x.back ≡ (if f.serial then 1 else 0))
+EndsByRow f alone before words t x Store =
+    (x.tick ≡ t) × (is_serial_at f alone t ≡ false) × (is_store_at f t words ≡ true)
+    × (done_before x.back f.past ≡ t)
+EndsByRow f alone before words t x Level = ⊥
+EndsByRow f alone before words t x Forwarding = ⊥
+EndsByRow f alone before words t x Bus =
+    IsNothingDone f alone t words × IsNoneAnswered t words × (is_bus_at f t ≡ true) × (x.back ≡ 1)
+    × (list_any (is_read_between x.tick t) before ≡ true)
+EndsByRow f alone before words t x Order =
+    IsNothingThere f alone t words × (is_first f ≡ false) × (t ≡ f.p) × (x.tick ≡ t) × (x.back ≡ 1)
+
+unfoldable pub EndsAt : Front → Bool → List Use → List Use → ℕ → Because → Type 0
+EndsAt f alone before words t (Start tick) =
+    IsNothingThere f alone t words × (is_first f ≡ true) × (t ≡ f.p) × (tick ≡ t)
+EndsAt f alone before words t (Prefetch x) =
+    IsNothingDone f alone t words
+    × ((u : Use) × (IsFirstAnswered t words u × ((is_read u.supply ≡ false) × (u.word ≡ x.word))))
+    × (x.late ≡ t - f.p)
+EndsAt f alone before words t (Earlier x) =
+    EndsByRow f alone before words t x x.reason × (x.late ≡ t - f.p)
+
+-- ---- the path from the tick t backwards: it ends there, or no row was done at it that counts, and
+-- it goes on from the answer of a word to its want; `own` is how many instruction words are none of
+-- the target of EX, which have to be behind the row before
+pub data IsPath : Front → ℕ → List Use → Bool → List Use → ℕ → Because → Type 0 where
+  PathEnds : (f : Front) (own : ℕ) (before : List Use) (alone : Bool) (words : List Use) (t : ℕ)
+      (b : Because) → EndsAt f alone before words t b → IsPath f own before alone words t b
+  PathGoesOn : (f : Front) (own : ℕ) (before : List Use) (alone : Bool) (words : List Use) (t : ℕ)
+      (b : Because) (u : Use) → IsNothingDone f alone t words → (is : IsFirstAnswered t words u)
+      → is_read u.supply ≡ true
+      → IsPath f own before (nat_le own (length is.earlier)) is.earlier (read_of u.supply).want b
+      → IsPath f own before alone words t b
+
+-- ---- what kept the entry e behind the front f back; it uses some words until its address is
+-- formed, and the row before it others, in the order of their reads
+
+-- A level: it is prepared right behind the completion of the row whose level it takes over, and so
+-- many ticks later than its address and its index-side word let it.
+pub record IsForLevel (ds : List ℕ) (n : ℕ) (f : Front) (e : Entry) (x : Cause) : Type 0 where
+  pub reason : x.reason ≡ Level
+  pub row : done_before x.back f.past ≡ x.tick
+  pub level : done_before n f.past ≡ x.tick
+  pub tick : tick_p ds n f e ≡ x.tick + 1
+  pub late : tick_p ds n f e ≡ max (tick_a ds f e) (tick_y ds f e) + 1 + x.late
+  pub some : 0 < x.late
+
+-- Its index-side word: it is prepared right behind the completion of the row that wrote it. It waits
+-- for no level.
+pub record IsForForwarding (ds : List ℕ) (n : ℕ) (f : Front) (e : Entry) (words : List Use)
+    (x : Cause) : Type 0 where
+  pub reason : x.reason ≡ Forwarding
+  pub unlevelled : level_wait ds n f e ≡ 0
+  pub writer : side_writer words ≡ Some (record { back = x.back; done = x.tick })
+  pub row : done_before x.back f.past ≡ x.tick
+  pub tick : tick_p ds n f e ≡ x.tick + 1
+  pub late : x.tick ≡ tick_a ds f e + x.late
+  pub some : 0 < x.late
+
+-- the index-side word, wanted and answered at these ticks
+abbrev pub is_side_read : ℕ → ℕ → Use → Bool
+is_side_read want answer u = is_index u.role
+    && (is_read u.supply
+    && (nat_eq (read_of u.supply).want want && nat_eq (read_of u.supply).answer answer))
+
+-- What its address awaited: there the path ends. It waits for no level, and its index-side word is
+-- not forwarded; so it is prepared behind its address, or behind the answer of that word, which is
+-- wanted at the address's tick.
+pub record IsForAddress (ds : List ℕ) (n : ℕ) (f : Front) (e : Entry) (words before : List Use)
+    (b : Because) : Type 0 where
+  pub unlevelled : level_wait ds n f e ≡ 0
+  pub unforwarded : side_writer words ≡ None
+  pub prepared : (tick_p ds n f e ≡ tick_a ds f e + 1)
+      ⊎ (list_any (is_side_read (tick_a ds f e) (tick_p ds n f e - 1)) words ≡ true)
+  pub path : IsPath f e.own.len (reverse before) e.serial (reverse words) (tick_a ds f e - 1) b
+
+-- the first of these that does
+pub data IsReason (ds : List ℕ) (n : ℕ) (f : Front) (e : Entry) (words before : List Use) : Because
+    → Type 0 where
+  ForLevel : (x : Cause) → IsForLevel ds n f e x → IsReason ds n f e words before (Earlier x)
+  ForForwarding : (x : Cause) → IsForForwarding ds n f e words x
+      → IsReason ds n f e words before (Earlier x)
+  ForAddress : (b : Because) → IsForAddress ds n f e words before b
+      → IsReason ds n f e words before b

@@ -1,0 +1,106 @@
+-- What is true of the waits that the ledger tells, in each segment of each machine. A machine has
+-- the delays ds and n levels, and its segment starts at a tick with these banks; the entry x comes
+-- behind the others, which stand youngest first, and the last entry of the run was done at t.
+use Rattle.std.specs.Prelude.{ℕ, ◌≡◌, ◌+◌, ◌<◌, true, false, List, ◌∷◌, All, drop, length, Option}
+use Rattle.st_banks.specs.declared.answers.LastAnswers.{LastAnswers}
+use Rattle.st_banks.specs.declared.answers.TheConstants.{BANKS}
+use Rattle.st_prep.specs.declared.entries.Words.{Words}
+use Rattle.st_rows.specs.Asked.{reads_of_entry}
+use Rattle.st_rows.specs.Ranges.{AreDelaysUpTo, IsTight, IsEntryInTime}
+use Rattle.st_rows.specs.Rows.{opening_front, row_of_entry}
+use Rattle.st_rows.specs.declared.entry.Entry.{Entry}
+use Rattle.st_rows.specs.declared.front.Front.{Front}
+use Rattle.st_segment.specs.Entries.{side_to_read}
+use Rattle.st_ledger.specs.Charges.{ticks_for}
+use Rattle.st_ledger.specs.declared.charges.Charge.{Charge}
+use Rattle.st_ledger.specs.declared.charges.Stage.{Stage}
+use Rattle.st_ledger.specs.declared.charges.Stage.TheVariants.{Index}
+use Rattle.st_plain.specs.Uses.{uses_of_entry}
+use Rattle.st_plain.specs.declared.uses.Use.{Use}
+use Rattle.st_reasons.specs.Causes.{IsTrueOf, FallTo}
+use Rattle.st_reasons.specs.Segments.{Told, IsTold, front_of, uses_behind, last_uses, all_uses, charges_behind_all, waits_behind}
+use Rattle.st_reasons.specs.Served.{served, reads_told, AreBankedBehind, AreBrought, IsWrittenBy}
+use Rattle.st_reasons.specs.Sums.{is_parted, stalled_for, row_stalled}
+use Rattle.st_reasons.specs.Words.{is_instruction}
+use Rattle.st_reasons.specs.declared.waits.Stall.{Stall}
+use Rattle.st_reasons.specs.declared.waits.Stall.TheVariants.{Turn, Bank, Storage}
+use Rattle.st_reasons.specs.declared.waits.Wait.{Wait}
+
+-- ---- the words that waits are found from
+
+-- The reads among the words of an entry are its reads in the timetable, in their order, each with
+-- the ticks at which the bus and its bank are free then.
+abbrev pub ReadsToldAreThoseOfTheBus : Type 0
+ReadsToldAreThoseOfTheBus = (ds : List ℕ) (n : ℕ) (f : Front) (e : Entry) (side : Option ℕ)
+    (reads : Words) → e.side ≡ side_to_read side →
+    reads_told (uses_of_entry ds n f e side reads) ≡ served ds (reads_of_entry ds n f e) f.bus
+
+-- Each read of a segment finds its bank busy up to the answer of the last read in it before, in the
+-- order of the timetable; where there is none, as long as it was when the segment began.
+abbrev pub BanksAreHeldByTheReadBefore : Type 0
+BanksAreHeldByTheReadBefore = (ds : List ℕ) (n : ℕ) (banks : LastAnswers) (start : ℕ)
+    (rows : List Told) → length banks.ticks ≡ BANKS → All IsTold rows →
+    AreBankedBehind banks (all_uses ds n banks start rows)
+
+-- Each word that is held is brought by a read of that word before it in its segment, whose answer it
+-- has.
+abbrev pub HeldWordsAreBrought : Type 0
+HeldWordsAreBrought = (ds : List ℕ) (n : ℕ) (banks : LastAnswers) (start : ℕ) (rows : List Told) →
+    All IsTold rows → AreBrought (all_uses ds n banks start rows)
+
+-- Each word that is forwarded comes from the row that is told: it writes the word, and is done then.
+abbrev pub ForwardedWordsAreWritten : Type 0
+ForwardedWordsAreWritten = (ds : List ℕ) (n : ℕ) (f : Front) (e : Entry) (side : Option ℕ)
+    (reads : Words) → All (IsWrittenBy f.past) (uses_of_entry ds n f e side reads)
+
+-- The first four words of an entry have all its instruction words.
+abbrev pub InstructionWordsAreFirst : Type 0
+InstructionWordsAreFirst = (ds : List ℕ) (n : ℕ) (f : Front) (e : Entry) (side : Option ℕ)
+    (reads : Words) → IsEntryInTime e →
+    All (λ (u : Use). is_instruction u.role ≡ false)
+    (drop 4 (uses_of_entry ds n f e side reads))
+
+-- ---- the waits of a row
+
+-- Each wait is true at each of its ticks: at a TURN the read that it names is accepted, at a BANK
+-- that read is wanted and first in turn and its bank is busy, and it is accepted at the end; at a
+-- STORAGE it is on its way. These reads are among those of the segment.
+abbrev pub WaitsAreTrue : Type 0
+WaitsAreTrue = (ds : List ℕ) (n t : ℕ) (banks : LastAnswers) (start : ℕ) (older : List Told)
+    (x : Told) → All IsTold (x ∷ older) →
+    All (λ (c : Charge). All (IsTrueOf (all_uses ds n banks start (x ∷ older)))
+    (waits_behind ds n banks start older x c)) (charges_behind_all ds n banks start t older x)
+
+-- The waits of a charge cover it, without a gap and without an overlap.
+abbrev pub WaitsCoverTheirCharge : Type 0
+WaitsCoverTheirCharge = (ds : List ℕ) (n t : ℕ) (banks : LastAnswers) (start : ℕ)
+    (older : List Told) (x : Told) → All IsTold (x ∷ older) →
+    All (λ (c : Charge). is_parted c.stage ≡ true →
+    FallTo c.from c.to (waits_behind ds n banks start older x c))
+    (charges_behind_all ds n banks start t older x)
+
+-- They end before the row is done, so each read that is named was accepted before its segment ends.
+abbrev pub WaitsEndBeforeTheirRow : Type 0
+WaitsEndBeforeTheirRow = (ds : List ℕ) (n t : ℕ) (banks : LastAnswers) (start : ℕ)
+    (older : List Told) (x : Told) → All IsTold (x ∷ older) →
+    All (λ (c : Charge). All (λ (w : Wait).
+    w.to < (row_of_entry ds n (front_of ds n banks start older) x.entry).c)
+    (waits_behind ds n banks start older x c)) (charges_behind_all ds n banks start t older x)
+
+-- So of each stage that has waits its turns, its banks and its storage add up to its ticks.
+abbrev pub WaitsAddUpToTheirStage : Type 0
+WaitsAddUpToTheirStage = (ds : List ℕ) (n t : ℕ) (banks : LastAnswers) (start : ℕ)
+    (older : List Told) (x : Told) (s : Stage) → All IsTold (x ∷ older) → is_parted s ≡ true →
+    let row = charges_behind_all ds n banks start t older x in
+    let stalled = λ (r : Stall). row_stalled s r (uses_behind ds n banks start older x)
+    (last_uses ds n banks start older) row in
+    stalled Turn + stalled Bank + stalled Storage ≡ ticks_for s row
+
+-- An index-side word never waits for a turn.
+abbrev pub IndexWordsWaitForNoTurn : Type 0
+IndexWordsWaitForNoTurn = (most : ℕ) (ds : List ℕ) (n t : ℕ) (banks : LastAnswers) (start : ℕ)
+    (older : List Told) (x : Told) → AreDelaysUpTo most ds → IsTight most (opening_front banks start)
+    → All IsTold (x ∷ older) →
+    All (λ (c : Charge). c.stage ≡ Index →
+    stalled_for Turn (waits_behind ds n banks start older x c) ≡ 0)
+    (charges_behind_all ds n banks start t older x)

@@ -1,0 +1,49 @@
+//! A device that is served: what a caller of the machine itself does between two entries.
+ghost use Rattle.std.specs.Prelude.{IsSome};
+ghost use Rattle.st_ahead.specs.Calls.{MayServe};
+ghost use Rattle.st_run.specs.Run.{order_of};
+ghost use Rattle.st_run.specs.Serving.{IsServed};
+
+use arrayvec::ArrayString;
+use st_ahead::Machine;
+use st_exch::{Hopper, print_text};
+use st_state::Device;
+
+/// What the order of a device did.
+#[derive(Clone, Copy, Debug)]
+pub enum Served {
+    /// The next card came into storage. It ended the segment, of which so many levels are dropped.
+    Card { dropped: u8 },
+    /// The reader had no card.
+    NoCard,
+    /// Eight words were printed as this text.
+    Printed { text: ArrayString<64> },
+}
+
+/// The order of a device takes effect: that of the reader with the next card of the hopper or
+/// without one, that of the printer with its text. A settle is owed, an entry was done at the last
+/// tick, and the device has an order. `docs/machine.md` has the rules.
+pub fn serve<const N: usize>(
+    machine: &mut Machine<N>,
+    hopper: &mut Hopper,
+    device: Device,
+) -> Served
+    requires order { IsSome (order_of device machine.old.state) }
+    requires turn { MayServe machine.old }
+    ensures { IsServed device result machine.old hopper.old machine.new hopper.new }
+{
+    match device {
+        Device::Reader => match hopper.next() {
+            Some(card) => Served::Card {
+                dropped: machine.read_in(Some(card)),
+            },
+            None => {
+                machine.read_in(None);
+                Served::NoCard
+            }
+        },
+        Device::Printer => Served::Printed {
+            text: print_text(&machine.print_out()),
+        },
+    }
+}

@@ -1,0 +1,14 @@
+-- The number that the program ends with.
+use Rattle.std.specs.Prelude.{ℕ}
+use Rattle.st_top.specs.declared.answer.Status.{Status}
+use Rattle.st_top.specs.declared.answer.Status.TheVariants.{Done, Refused, Usage, JobTooLong, ReadFault, WriteFault, NoMemory}
+
+-- the exit status, by how the call of `stretch` ended
+abbrev pub number_of : Status → ℕ
+number_of Done = 0
+number_of Refused = 1
+number_of Usage = 2
+number_of JobTooLong = 3
+number_of ReadFault = 4
+number_of WriteFault = 5
+number_of NoMemory = 6

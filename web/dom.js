@@ -1,0 +1,34 @@
+// Elements, made without any text of a card ever being read as HTML.
+
+const SVG = 'http://www.w3.org/2000/svg';
+
+function fill(node, attributes, children) {
+  for (const [name, value] of Object.entries(attributes ?? {})) {
+    if (value === null || value === undefined || value === false) continue;
+    if (name.startsWith('on')) node.addEventListener(name.slice(2), value);
+    else if (name === 'style') node.style.cssText = value;       // an attribute would fall under the page's policy
+    else node.setAttribute(name, value === true ? '' : String(value));
+  }
+  node.append(...children.flat(Infinity).filter((child) => child !== null && child !== undefined && child !== false));
+  return node;
+}
+
+// An element of HTML with attributes (a function under `onclick` and its like listens) and children, texts among them.
+export function h(tag, attributes, ...children) {
+  return fill(document.createElement(tag), attributes, children);
+}
+
+// The same of SVG.
+export function s(tag, attributes, ...children) {
+  return fill(document.createElementNS(SVG, tag), attributes, children);
+}
+
+// A table with a caption and heads, which is scrolled where it is wider than its room.
+export function wideTable(kind, caption, names, rows) {
+  const head = h('thead', {}, h('tr', {}, names.map((name) => h('th', { scope: 'col' }, name))));
+  return h('div', { class: 'wide-table' }, h('table', { class: kind }, h('caption', {}, caption), names.length ? head : null, h('tbody', {}, rows)));
+}
+
+export function byId(id) {
+  return document.getElementById(id);
+}

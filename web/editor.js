@@ -1,0 +1,257 @@
+// The editor: a plain text area, so that undo, marking, the clipboard, input methods and screen readers are the browser's own. Behind it lies
+// the same text in colours, of which only the lines that are seen are drawn, and beside it a gutter.
+import { h } from './dom.js';
+import { piecesOf } from './columns.js';
+import { STATEMENT, READ, endOf } from './decks.js';
+
+const LINE = 20;            // pixels, as in the style sheet
+const TAB = 8;
+const SHOWN = 400;          // characters of a line that are drawn
+const BEYOND = 3;           // lines that are drawn above and below what is seen
+const HEAT = 38;            // pixels of the longest bar
+
+// Puts text in the place of what is marked, so that the browser's undo knows of it.
+function type(area, text) {
+  if (document.execCommand('insertText', false, text)) return;
+  area.setRangeText(text, area.selectionStart, area.selectionEnd, 'end');
+  area.dispatchEvent(new Event('input', { bubbles: true }));
+}
+
+export class Editor {
+  // `on` is told: `change(text, isTyped)`, `caret(card, column)`, `card(number)` of a click on a card's number, `run()`.
+  constructor(box, on) {
+    Object.assign(this, { box, on, lines: [''], end: 1, wrong: null, card: null, marks: new Map(), heat: new Map(), hottest: 1, capitals: true, leaves: false });
+    Object.assign(this, { height: 400, letter: 8, at: 0, column: 0, asked: false });
+    this.area = h('textarea', {
+      id: 'deck', spellcheck: 'false', autocapitalize: 'off', autocomplete: 'off', autocorrect: 'off', wrap: 'off', 'aria-label': 'deck, one card a line',
+      'aria-describedby': 'fault keys-hint',
+    });
+    this.colours = h('div', { class: 'colours', 'aria-hidden': 'true' });
+    this.gutter = h('div', { class: 'gutter', 'aria-hidden': 'true' });
+    this.ruler = h('div', { class: 'ruler', 'aria-hidden': 'true' });
+    this.probe = h('span', { class: 'probe', 'aria-hidden': 'true' }, '0'.repeat(100));
+    box.replaceChildren(this.ruler, this.gutter, h('div', { class: 'paper' }, this.colours, this.area), this.probe);
+    this.listen();
+    new ResizeObserver(() => this.measure()).observe(this.area);
+  }
+
+  get text() {
+    return this.area.value;
+  }
+
+  // Puts another text in: where it is to be undone by the browser's undo it is typed, else set.
+  set(text, { undo = false } = {}) {
+    if (undo && text.length < 200000) {
+      this.area.focus();
+      this.area.select();
+      type(this.area, text);
+      this.area.setSelectionRange(0, 0);
+    } else {
+      this.area.value = text;
+      this.area.setSelectionRange(0, 0);
+    }
+    this.area.scrollTo(0, 0);
+    this.changed();
+  }
+
+  changed(isTyped = false) {
+    const text = this.text;
+    this.lines = text.split('\n');
+    this.end = endOf(this.lines);
+    Object.assign(this, { wrong: null, marks: new Map(), heat: new Map() });
+    this.where();
+    this.later();           // a browser may tell of one change in a thousand pieces
+    this.on.change(text, isTyped);
+  }
+
+  listen() {
+    const { area } = this;
+    area.addEventListener('input', () => this.changed(true));
+    area.addEventListener('scroll', () => this.draw());
+    area.addEventListener('keydown', (event) => this.press(event));
+    area.addEventListener('beforeinput', (event) => this.typed(event));
+    area.addEventListener('focus', () => this.box.classList.add('focused'));
+    area.addEventListener('blur', () => {
+      this.leaves = false;
+      this.box.classList.remove('focused');
+    });
+    document.addEventListener('selectionchange', () => { if (document.activeElement === area) this.where(); });
+    this.gutter.addEventListener('click', (event) => {
+      const card = Math.floor((event.clientY - this.gutter.getBoundingClientRect().top + area.scrollTop) / LINE) + 1;
+      if (card <= this.lines.length) this.on.card(card);
+    });
+  }
+
+  // ---- the caret
+
+  // Its line and column, from 0 on.
+  caret() {
+    const { text } = this;
+    const at = this.area.selectionStart;
+    const begin = text.lastIndexOf('\n', at - 1) + 1;
+    let line = 0;
+    for (let k = text.indexOf('\n'); k >= 0 && k < at; k = text.indexOf('\n', k + 1)) line += 1;
+    return { line, column: at - begin, text: this.lines[line] ?? '' };
+  }
+
+  where() {
+    const { line, column } = this.caret();
+    if (line === this.at && column === this.column) return;
+    Object.assign(this, { at: line, column });
+    this.on.caret(line + 1, column + 1);
+    this.later();
+  }
+
+  press(event) {
+    const { area } = this;
+    const isPlain = area.selectionStart === area.selectionEnd && !event.shiftKey;
+    const { key } = event;
+    if (key === 'Enter' && (event.ctrlKey || event.metaKey)) {
+      event.preventDefault();
+      this.on.run();
+    } else if (key === 'Tab' && !event.shiftKey && !event.ctrlKey && !event.altKey && !event.metaKey && !this.leaves) this.tabulate(event);
+    else if (key === 'Enter' && isPlain) this.enter(event);
+    else if (key === 'Backspace' && isPlain) this.backspace(event);
+    if (key === 'Escape') this.leaves = true;
+    else if (key !== 'Tab') this.leaves = false;
+  }
+
+  // To column 10, and behind an operation to every eighth from there.
+  tabulate(event) {
+    event.preventDefault();
+    const { column, text } = this.caret();
+    if (column >= STATEMENT && !text.slice(0, column).trim()) return;
+    const stop = column < STATEMENT ? STATEMENT : STATEMENT + TAB * (Math.floor((column - STATEMENT) / TAB) + 1);
+    type(this.area, ' '.repeat(stop - column));
+  }
+
+  // Behind a statement the next card begins in column 10.
+  enter(event) {
+    const { line, text, column } = this.caret();
+    if (line >= this.end || text[0] === '*' || text[0] === '/' || column < STATEMENT) return;
+    event.preventDefault();
+    type(this.area, `\n${' '.repeat(STATEMENT)}`);
+    const below = (line + 3) * LINE - this.area.scrollTop - this.height;
+    if (below > 0) this.area.scrollTop += below;
+    this.area.scrollLeft = 0;
+  }
+
+  // The blanks before column 10 go at once, but for column 1.
+  backspace(event) {
+    const { column, text } = this.caret();
+    if (column !== STATEMENT || text.slice(0, STATEMENT).trim() !== '') return;
+    event.preventDefault();
+    const at = this.area.selectionStart;
+    this.area.setSelectionRange(at - STATEMENT + 1, at);
+    document.execCommand('delete');
+  }
+
+  // The machine has no small letters: in statements and control cards they become capitals as they are typed.
+  typed(event) {
+    if (!this.capitals || event.inputType !== 'insertText' || event.isComposing || !/^[a-z]$/.test(event.data ?? '')) return;
+    const { line, column, text } = this.caret();
+    const before = text.slice(0, column);
+    const isText = text[0] === '*' || (text[0] !== '/' && (/^[^;']*('[^']*'[^;']*)*;/.test(before) || (before.match(/'/g) ?? []).length % 2));
+    if (isText || (line > this.end && text[0] !== '/') || /0x[0-9a-f]*$/i.test(before) || (/(^|[,+-])0$/.test(before) && event.data === 'x')) return;
+    event.preventDefault();
+    type(this.area, event.data.toUpperCase());
+  }
+
+  // ---- what is shown beside the text
+
+  // Marks a card as the faulty one; one behind the last line is shown at that.
+  fault(card) {
+    this.wrong = card === null ? null : Math.min(card, this.lines.length);
+    if (card === null) this.area.removeAttribute('aria-invalid');
+    else this.area.setAttribute('aria-invalid', 'true');
+    this.draw();
+  }
+
+  // Puts the caret at a card, and scrolls to it.
+  goTo(card) {
+    const begin = this.lines.slice(0, card - 1).reduce((sum, line) => sum + line.length + 1, 0);
+    this.area.focus();
+    this.area.setSelectionRange(begin, begin + (this.lines[card - 1] ?? '').length);
+    const y = (card - 1) * LINE;
+    if (y < this.area.scrollTop || y + LINE > this.area.scrollTop + this.height) this.area.scrollTop = Math.max(0, y - this.height / 3);
+    this.where();
+  }
+
+  // Marks the cards of the levels and of what is prepared next (as Deck does).
+  setLevels(levels, next) {
+    this.marks = new Map();
+    const put = (card, mark) => { if (card) this.marks.set(card, [...(this.marks.get(card) ?? []), mark]); };
+    levels.forEach((entry, k) => put(entry.card, String(k + 1)));
+    if (next) put(next.card, '▸');
+    this.later();
+  }
+
+  // How many ticks each card took.
+  setHeat(heat) {
+    this.heat = heat;
+    this.hottest = Math.max(1, ...heat.values());
+    this.later();
+  }
+
+  measure() {
+    this.height = this.area.clientHeight || 400;
+    this.letter = this.probe.getBoundingClientRect().width / 100 || 8;
+    this.draw();
+  }
+
+  later() {
+    if (this.asked) return;
+    this.asked = true;
+    requestAnimationFrame(() => {
+      this.asked = false;
+      this.draw();
+    });
+  }
+
+  draw() {
+    const { scrollTop, scrollLeft } = this.area;
+    const from = Math.max(0, Math.floor(scrollTop / LINE) - BEYOND);
+    const to = Math.min(this.lines.length, Math.ceil((scrollTop + this.height) / LINE) + BEYOND);
+    const x = (column) => (column - 1) * this.letter - scrollLeft;
+    const texts = [];
+    const numbers = [];
+    for (let k = from; k < to; k += 1) {
+      const kind = this.kindOf(k + 1);
+      const style = `transform:translateY(${k * LINE - scrollTop}px)`;
+      texts.push(h('div', { class: kind, style }, h('span', { class: 'text', style: `margin-left:${-scrollLeft}px` }, this.piecesOf(k))));
+      numbers.push(h('div', { class: kind, style }, this.numberOf(k + 1)));
+    }
+    this.colours.replaceChildren(
+      h('div', { class: 'names', style: `left:${x(2)}px;width:${STATEMENT * this.letter - this.letter}px` }), h('div', { class: 'edge', style: `left:${x(STATEMENT + 1)}px` }),
+      h('div', { class: 'past', style: `left:${x(READ + 1)}px` }), ...texts);
+    this.gutter.replaceChildren(...numbers);
+    this.ruler.replaceChildren(h('div', { class: 'scale' }, this.columnsOf(x)));
+  }
+
+  kindOf(card) {
+    const kinds = { wrong: this.wrong === card, here: this.marks.has(card), marked: this.card === card, caret: card === this.at + 1 };
+    return ['line', ...Object.keys(kinds).filter((kind) => kinds[kind])].join(' ');
+  }
+
+  piecesOf(k) {
+    const text = this.lines[k].slice(0, SHOWN);
+    if (k > this.end && text[0] !== '/') return h('span', { class: 'p-comment' }, text);         // a card of the reader
+    return piecesOf(text).map(([kind, piece]) => h('span', { class: `p-${kind}` }, piece));
+  }
+
+  numberOf(card) {
+    const ticks = this.heat.get(card);
+    const heat = h('span', { class: 'heat' });
+    if (ticks !== undefined) {
+      heat.title = `${ticks} ticks`;
+      heat.append(h('i', { style: `width:${Math.max(2, (HEAT * ticks) / this.hottest)}px` }), h('b', {}, ticks > 9999 ? `${Math.round(ticks / 1000)}k` : String(ticks)));
+    }
+    return [h('span', { class: 'marks' }, (this.marks.get(card) ?? []).join('')), h('span', { class: 'number' }, String(card)), heat];
+  }
+
+  columnsOf(x) {
+    const word = (column, text) => h('span', { class: 'part', style: `left:${x(column)}px` }, text);
+    const tens = [10, 20, 30, 40, 50, 60, 70, 80].map((k) => h('span', { class: 'ten', style: `left:${x(k)}px;width:${this.letter}px` }, String(k)));
+    return [word(2, 'name'), word(11, 'statement'), word(READ + 1, 'unread'), ...tens, h('i', { class: 'now', style: `left:${x(this.column + 1)}px;width:${this.letter}px` })];
+  }
+}

@@ -1,0 +1,140 @@
+// What a deck gives: it is made plain and run, and its ledger is read, for one machine or for two.
+import { MOST_BYTES, READ, bytesOf, delayCards, linesOf, withCards } from './decks.js';
+import { Plain, Refused, partsOf } from './plain.js';
+import { Report } from './report.js';
+import { Run } from './read.js';
+import { faultOf } from './faults.js';
+import { plural } from './words.js';
+
+const ROWS = 20000;             // so many rows are stepped through,
+const BEHIND = 9;               // and so many more are read, since what runs ahead of the last one shown is among them
+const LATIN = new TextDecoder('latin1');
+const STATUS = {
+  2: 'The words mean nothing.',
+  3: `The job is too long: it has more than ${MOST_BYTES.toLocaleString('en')} bytes.`,
+  4: 'Reading the job failed.',
+  5: 'Writing failed.',
+  6: 'There is no memory for this run.',
+  trap: 'The program was stopped by a fault of its own, a trap. This must not be: please report the deck.',
+};
+
+// What is told of a program that ended in another way than with a report.
+function wrongOf({ status, message }) {
+  return { wrong: STATUS[status] ?? `The program ended with status ${status}.`, more: message };
+}
+
+export class Live {
+  constructor(runner, names) {
+    Object.assign(this, { runner, names, made: null, isCurrent: false });
+  }
+
+  // What was made last stays, as that of another deck.
+  stop() {
+    this.runner.stop();
+    this.isCurrent = false;
+  }
+
+  // A deck as the program reads it; throws Refused.
+  async plain(text, runner = this.runner) {
+    const plain = new Plain(text);
+    await plain.resolve(async (deck) => LATIN.decode((await runner.run('stretch', ['run'], bytesOf(deck))).bytes ?? new Uint8Array()));
+    return plain;
+  }
+
+  // The report of a deck, or what another command makes of it, for exercises and the like.
+  async reportOf(text, runner, program = 'stretch', words = ['run']) {
+    try {
+      const { bytes } = await runner.run(program, words, bytesOf((await this.plain(text, runner)).text()));
+      return LATIN.decode(bytes ?? new Uint8Array());
+    } catch (error) {
+      if (error instanceof Refused) return `CARD ${error.line} ${error.message}\n`;
+      throw error;
+    }
+  }
+
+  // The line and the fault for which a deck is refused, or none.
+  async refusalOf(text, runner) {
+    try {
+      const plain = await this.plain(text, runner);
+      const { status, bytes } = await runner.run('stretch', ['assemble'], bytesOf(plain.text()));
+      const fault = status === 1 ? faultOf(LATIN.decode(bytes)) : null;
+      return fault && { ...fault, card: plain.lines[fault.card - 1] ?? linesOf(text).length + 1 };
+    } catch (error) {
+      if (error instanceof Refused) return { card: error.line, fault: error.message };
+      throw error;
+    }
+  }
+
+  // Runs a deck. Gives {runs, report, ..}, a {fault} at a line, or what is {wrong}.
+  async run(text, { levels, beside, kept }, tell) {
+    let plain;
+    try {
+      plain = await this.plain(text);
+    } catch (error) {
+      if (!(error instanceof Refused)) throw error;
+      return { fault: 'NOT PLAIN', line: error.line, message: error.message };
+    }
+    const deck = plain.text();
+    const answer = await this.runner.run('stretch', ['run'], bytesOf(deck), tell);
+    if (answer.status === 1) {
+      const fault = faultOf(LATIN.decode(answer.bytes));
+      return fault ? { fault: fault.fault, line: plain.lines[fault.card - 1] ?? plain.lines.length + 1 } : wrongOf(answer);
+    }
+    if (answer.status !== 0) return wrongOf(answer);
+    const report = new Report(LATIN.decode(answer.bytes));
+    const own = await this.ledger(plain, deck, levels, report.done, tell);
+    if (!own.object) return wrongOf(own);
+    const runs = [new Run(own.object, '', own.isCut)];
+    const second = beside ? await this.second(text, plain, deck, levels, { beside, kept }, report.done, tell) : null;
+    if (second?.object) {
+      runs[0].label = second.own;
+      runs.push(new Run(second.object, second.label, second.isCut));
+      runs[1].isOther = beside === 'keep';
+    }
+    this.made = { text, plain, deck, cards: plain.cards, report, bytes: answer.bytes, left: answer.left, runs, isCut: own.isCut };
+    this.isCurrent = true;
+    return this.made;
+  }
+
+  // The ledger's object on so many levels; of a long run that of its first rows.
+  async ledger(plain, deck, levels, done, tell) {
+    const isCut = done > ROWS;
+    const job = isCut ? withCards(deck, ['BUDGET'], [`/BUDGET ${ROWS + BEHIND}`]) : deck;
+    const answer = await this.runner.ask({ ask: 'ledger', levels, job: bytesOf(job), cards: plain.cards, names: this.names, first: 1, last: ROWS + BEHIND }, tell);
+    if (answer.status !== 0) return answer;
+    const object = JSON.parse(answer.object);
+    if (plain.changed) retold(object, plain, linesOf(plain.source));
+    return { object, isCut };
+  }
+
+  // The run that stands beside: of another machine, or of the deck that was kept.
+  async second(text, plain, deck, levels, { beside, kept }, done, tell) {
+    const [kind, value] = beside.split(' ');
+    if (kind === 'levels') return { own: plural(levels, 'level'), label: plural(Number(value), 'level'), ...await this.ledger(plain, deck, Number(value), done, tell) };
+    if (kind === 'delay') {
+      const slow = withCards(deck, ['DELAYS'], delayCards([value]));
+      return { own: 'its own delays', label: `delay ${value}`, ...await this.ledger(plain, slow, levels, done, tell) };
+    }
+    if (kept === null || kept === text) return null;
+    const other = await this.plain(kept).catch(() => null);
+    const answer = other && await this.runner.run('stretch', ['run'], bytesOf(other.text()), tell);
+    if (answer?.status !== 0) return null;
+    const made = await this.ledger(other, other.text(), levels, new Report(LATIN.decode(answer.bytes)).done, tell);
+    for (const entry of made.object?.entries ?? []) entry.card = null;          // its cards are not those of the editor
+    return { own: 'the deck now', label: 'the deck that was kept', ...made };
+  }
+}
+
+// A deck with conveniences is shown as it was written: lines for cards, and their own text.
+function retold(object, plain, lines) {
+  const texts = new Map();
+  for (const entry of [...object.entries, ...object.segments.flatMap((segment) => [...segment.dropped, segment.begun])]) {
+    if (!entry?.card) continue;
+    const [card, line] = [plain.cards[entry.card - 1], plain.lines[entry.card - 1]];
+    // Where its half-words are still those of its card, its text is that card's.
+    if (entry.text === card.slice(1, READ).split(';')[0].trim()) entry.text = partsOf(lines[line - 1])[0].trim();
+    entry.card = line;
+    texts.set(entry.address, entry.text);
+  }
+  for (const place of object.totals.by_address) place.text = texts.get(place.address) ?? place.text;
+}

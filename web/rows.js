@@ -1,0 +1,275 @@
+// The timetable: a line a row, with the entry's life in its level above and its charges below. Only what is seen is drawn.
+import { h, s } from './dom.js';
+import { countWhile } from './read.js';
+import { causeName, plural } from './words.js';
+
+const LINE = 22;
+const AXIS = 24;
+const BAR = 12;
+const LETTER = 7.4;
+// No element of a page may be longer than this in some browsers.
+const MOST = 15000000;
+
+// The lines of a run: its rows, behind the last one of a segment what was dropped, and interrupts.
+function linesOf(run) {
+  const lines = [];
+  run.segments.forEach((segment, k) => {
+    const range = run.bySegment[k];
+    for (let n = range.from; n < range.to; n += 1) {
+      // Behind the last tick of a run that goes on there is nothing of a row to be seen.
+      if (run.rows[n].p > run.last && !run.ended) continue;
+      run.rows[n].line = lines.length;
+      lines.push({ entry: run.rows[n] });
+    }
+    if (range.to === 0 || segment.end > run.last) return;
+    for (const entry of segment.dropped) {
+      entry.line = lines.length;
+      lines.push({ entry });
+    }
+    const interrupt = run.interrupt(segment.end);
+    if (interrupt) lines.push({ interrupt });
+  });
+  return lines;
+}
+
+export class Timetable {
+  constructor(run, app, last) {
+    Object.assign(this, { run, app, first: run.first, last });
+    this.lines = linesOf(run);
+    this.svg = s('svg', { class: 'rows', 'aria-hidden': 'true' });
+    this.size = h('div', { class: 'size' });
+    this.box = h('div', { class: 'timetable', tabindex: '0', role: 'group', 'aria-label': `timetable${run.label ? ` of ${run.label}` : ''}: a drawing of ${plural(run.rows.length, 'row')}. What happens in a tick the sentence above says, and the tables below` }, h('div', { class: 'stick' }, this.svg), this.size);
+    this.asked = false;
+    this.listen();
+  }
+
+  listen() {
+    this.box.addEventListener('scroll', () => {
+      this.measure();
+      this.app.scrolled(this);
+      this.later();
+    });
+    this.box.addEventListener('wheel', (event) => {
+      if (!event.ctrlKey) return;
+      event.preventDefault();
+      this.app.zoom(event.deltaY < 0 ? 1.25 : 0.8);
+    }, { passive: false });
+    let from = null;
+    this.box.addEventListener('pointerdown', (event) => {
+      if (event.pointerType === 'touch' || event.target === this.box) return;
+      from = { x: event.clientX, y: event.clientY, left: this.box.scrollLeft, top: this.box.scrollTop, moved: false };
+      this.box.setPointerCapture(event.pointerId);
+    });
+    this.box.addEventListener('pointermove', (event) => {
+      if (!from) return this.app.point(this, this.at(event), event);
+      if (Math.abs(event.clientX - from.x) + Math.abs(event.clientY - from.y) > 4) from.moved = true;
+      if (from.moved) this.box.scrollTo(from.left - event.clientX + from.x, from.top - event.clientY + from.y);
+      return undefined;
+    });
+    this.box.addEventListener('pointerup', (event) => {
+      const moved = from?.moved;
+      from = null;
+      if (!moved) this.click(this.at(event));
+    });
+    this.box.addEventListener('pointercancel', () => { from = null; });
+    this.box.addEventListener('pointerleave', () => this.app.point(this, null));
+  }
+
+  // What lies at a place of the screen: its line, and its tick, or none where it is a label.
+  at(event) {
+    const box = this.box.getBoundingClientRect();
+    const x = event.clientX - box.left - this.box.clientLeft;
+    const y = event.clientY - box.top - this.box.clientTop;
+    const line = y < AXIS ? null : this.lines[Math.floor((y - AXIS + this.box.scrollTop) / LINE)] ?? null;
+    const tick = x < this.app.left ? null : Math.round(this.first + (x - this.app.left + this.box.scrollLeft) / this.scale);
+    return { line, tick };
+  }
+
+  click({ line, tick }) {
+    if (tick !== null) this.app.go(tick, this.run);
+    else if (line) this.app.go(line.entry ? line.entry.p : line.interrupt.tick, this.run);
+  }
+
+  // Size and place of the box are kept, so that no step has to ask for a layout.
+  measure() {
+    const { clientWidth, clientHeight, scrollLeft, scrollTop } = this.box;
+    Object.assign(this, { width: clientWidth, height: clientHeight, scrollLeft, scrollTop });
+  }
+
+  // The width that ticks have at the scale that is wanted.
+  layout() {
+    this.scale = Math.min(this.app.scale, MOST / Math.max(this.last - this.first, 1));
+    this.size.style.width = `${this.app.left + (this.last - this.first) * this.scale + 12}px`;
+    this.size.style.height = `${AXIS + this.lines.length * LINE + 4}px`;
+    this.measure();
+    this.draw();
+  }
+
+  // Scrolls so that a tick and the line of an entry are seen.
+  show(t, entry) {
+    const { width, height, scrollLeft, scrollTop } = this;
+    const x = (t - this.first) * this.scale;
+    const room = width - this.app.left;
+    let left = scrollLeft;
+    let top = scrollTop;
+    if (x < scrollLeft + 20 || x > scrollLeft + room - 20) left = Math.max(0, x - room / 3);
+    if (entry?.line !== undefined) {
+      const y = entry.line * LINE;
+      if (y < scrollTop || y + 5 * LINE > scrollTop + height - AXIS) top = Math.max(0, y - 3 * LINE);
+    }
+    if (left !== scrollLeft || top !== scrollTop) this.box.scrollTo(left, top);
+    this.later();
+  }
+
+  later() {
+    if (this.asked) return;
+    this.asked = true;
+    requestAnimationFrame(() => {
+      this.asked = false;
+      this.draw();
+    });
+  }
+
+  x(t) {
+    return this.app.left + (t - this.first) * this.scale - this.scrollLeft;
+  }
+
+  draw() {
+    const { width, height, scrollTop } = this;
+    if (!width || !height || !this.scale) return;
+    const from = Math.floor(scrollTop / LINE);
+    const to = Math.min(this.lines.length, Math.ceil((scrollTop + height - AXIS) / LINE));
+    const cursor = this.x(this.app.tickOf(this.run));
+    const mark = cursor >= this.app.left - 1 ? s('path', { class: 'cursor', d: `M${cursor - 1} ${AXIS - 4}h2V${height}h-2z M${cursor - 5} ${AXIS - 9}h10l-5 6z` }) : null;
+    for (const [name, value] of [['width', width], ['height', height], ['viewBox', `0 0 ${width} ${height}`]]) this.svg.setAttribute(name, value);
+    this.svg.replaceChildren(...[...this.drawn(from, to), mark].filter(Boolean));
+  }
+
+  // The lines from one up to another as they stand in a box of this size, with grid and axis.
+  drawn(from, to) {
+    const { width, height, scrollTop } = this;
+    const bars = [];
+    const labels = [];
+    for (let n = from; n < to; n += 1) {
+      const y = AXIS + n * LINE - scrollTop;
+      const line = this.lines[n];
+      if (line.entry) this.entry(line.entry, y, bars, labels);
+      else this.interrupt(line.interrupt, y, bars, labels);
+    }
+    return [
+      s('g', { class: 'grid' }, this.grid(height)),
+      s('g', {}, bars),
+      s('rect', { class: 'ground', x: 0, y: 0, width: this.app.left, height }),
+      s('g', { class: 'labels' }, labels),
+      s('rect', { class: 'ground', x: 0, y: 0, width, height: AXIS }),
+      s('g', { class: 'axis' }, this.axis()),
+    ];
+  }
+
+  // The step between two numbers of the axis.
+  step() {
+    let step = 1;
+    for (let k = 0; step * this.scale < 44; k += 1) step *= k % 3 === 1 ? 2.5 : 2;
+    return Math.max(1, Math.round(step));
+  }
+
+  *shown() {
+    const step = this.step();
+    const first = Math.max(this.first, Math.ceil((this.first + this.scrollLeft / this.scale) / step) * step);
+    for (let t = first; t <= this.last && this.x(t) < this.width; t += step) yield t;
+  }
+
+  grid(height) {
+    const lines = [...this.shown()].map((t) => s('path', { d: `M${this.x(t)} ${AXIS}V${height}` }));
+    const snaps = this.app.snaps.filter((t) => this.x(t) >= this.app.left && this.x(t) < this.width);
+    return [...lines, ...snaps.map((t) => s('path', { class: 'snap', d: `M${this.x(t)} ${AXIS}V${height}` }))];
+  }
+
+  axis() {
+    return [...this.shown()].map((t) => s('text', { x: this.x(t), y: 16, 'text-anchor': 'middle' }, String(t)));
+  }
+
+  // A rectangle of the ticks (from, to], where any of it is seen.
+  piece(from, to, y, height, kind, more) {
+    const left = Math.max(this.x(from), this.app.left - 2);
+    const right = Math.min(this.x(to), this.width + 2);
+    return right > left ? s('rect', { x: left, y, width: right - left, height, class: kind, ...more }) : null;
+  }
+
+  entry(entry, y, bars, labels) {
+    const before = this.run.before(entry);
+    const start = this.run.segments[entry.place].start;
+    const earlier = before && before.place === entry.place ? before.p : start;
+    bars.push(this.piece(earlier, entry.p, y + 9, 1.5, 'ready'));
+    if (entry.dropped) bars.push(this.piece(entry.p, entry.end, y + 4, BAR, 'drop'));
+    else {
+      const begins = entry.c - entry.cost;
+      bars.push(this.piece(entry.p, entry.r, y + 3, BAR, 'f-operand_storage'));
+      bars.push(this.piece(entry.r, begins, y + 3.5, BAR - 1, 'turn'));
+      bars.push(this.piece(begins, entry.c, y + 3, BAR, 'f-executing'));
+      for (const charge of entry.charges) {
+        bars.push(this.piece(charge.from, charge.to, y + 16, 4, `f-${charge.cause}`, { 'data-cause': charge.cause }));
+      }
+      if (entry.missed && this.x(entry.c) >= this.app.left) bars.push(s('text', { class: 'event', x: this.x(entry.c) + 6, y: y + 14 }, 'guessed wrongly'));
+    }
+    const { left } = this.app;
+    const here = this.app.isLevel(this.run, entry);
+    const marked = this.app.card !== null && entry.card === this.app.card;
+    if (here || marked) labels.push(s('rect', { class: here ? 'here' : 'marked', x: 0, y, width: left - 4, height: LINE }));
+    const x = left > 200 ? 96 : 52;
+    const text = (entry.text || '').replace(/\s+/g, ' ').slice(0, Math.floor((left - x - 12) / LETTER));
+    if (left > 200) labels.push(s('text', { x: 40, y: y + 15, 'text-anchor': 'end' }, entry.dropped ? 'drop' : String(entry.row)));
+    labels.push(s('text', { x, y: y + 15, 'text-anchor': 'end' }, entry.address), s('text', { x: x + 8, y: y + 15 }, text));
+  }
+
+  interrupt(interrupt, y, bars, labels) {
+    const x = this.x(interrupt.tick);
+    bars.push(s('path', { class: 'event line', d: `M${this.app.left} ${y + 10}H${x}m-5 -4l5 4l-5 4` }));
+    const name = interrupt.name ? ` (${interrupt.name})` : '';
+    labels.push(s('text', { class: 'event', x: 8, y: y + 15 }, `interrupt ${interrupt.indicator}${this.app.left > 200 ? `${name} at ${interrupt.tick}` : name}`));
+  }
+}
+
+const SHEET = { width: 1000, left: 300, lines: 44, most: 900, widest: 24 };
+
+function ticksOf({ entry, interrupt }) {
+  if (interrupt) return [interrupt.tick, interrupt.tick];
+  return [entry.charges?.[0]?.from ?? entry.a, entry.dropped ? entry.end : entry.c];
+}
+
+// The timetable of a run for paper: pictures of some lines each, on the ticks of these lines. Of a long one the lines around a tick.
+export function sheets(run, app, tick) {
+  const lines = linesOf(run);
+  const near = Math.max(0, countWhile(lines, (line) => ticksOf(line)[1] <= tick) - SHEET.most / 2);
+  const from = lines.length > SHEET.most ? near : 0;
+  const pictures = [];
+  for (let k = from; k < Math.min(lines.length, from + SHEET.most); k += SHEET.lines) {
+    const shown = lines.slice(k, k + SHEET.lines);
+    const first = Math.min(...shown.map((line) => ticksOf(line)[0]));
+    const last = Math.max(...shown.map((line) => ticksOf(line)[1]), first + 1);
+    const scale = Math.min(SHEET.widest, (SHEET.width - SHEET.left - 20) / (last - first));
+    const table = new Timetable(run, { ...PLAIN, snaps: app.snaps, left: SHEET.left }, last);
+    Object.assign(table, { first, scale, width: SHEET.width, height: AXIS + shown.length * LINE + 4, scrollLeft: 0, scrollTop: k * LINE });
+    pictures.push(s('svg', { class: 'rows', viewBox: `0 0 ${table.width} ${table.height}`, role: 'img', 'aria-label': 'timetable' }, table.drawn(k, k + shown.length)));
+  }
+  return pictures;
+}
+
+// What a timetable asks of its page, where nothing is chosen.
+const PLAIN = { card: null, isLevel: () => false };
+
+// A row's numbers, charges and reads, for the pointer.
+export function about(run, { line, tick }) {
+  const { entry, interrupt } = line;
+  if (interrupt) return [`Interrupt ${interrupt.indicator}${interrupt.name ? ` (${interrupt.name})` : ''} behind row ${interrupt.after_row}, tick ${interrupt.tick}`];
+  const what = entry.dropped ? `dropped at ${entry.end}` : `done at ${entry.c}, cost ${entry.cost}`;
+  const texts = [`${entry.dropped ? 'Dropped' : `Row ${entry.row}`}: ${entry.address} ${(entry.text || '').trim()}`,
+    `address ${entry.a}, prepared ${entry.p}, operands ${entry.r}, ${what}`];
+  for (const charge of entry.charges ?? []) texts.push(`${charge.from + 1}-${charge.to} ${causeName.get(charge.cause)}${charge.word === undefined ? '' : `, word ${charge.word}`}`);
+  for (const use of entry.uses) {
+    if (use.how === 'read') texts.push(`${use.kind} word ${use.word}: bank ${use.bank}, wanted ${use.want}, accepted ${use.accept}, there ${use.answer}${use.made ? '' : ' (not made)'}`);
+    else if (use.kind !== 'following') texts.push(`${use.kind} word ${use.word}: ${use.how}${use.row ? ` from row ${use.row}` : ''}`);
+  }
+  if (tick !== null) texts.push(`here: tick ${tick}`);
+  return texts;
+}

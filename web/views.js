@@ -1,0 +1,127 @@
+// The views of a run: each is drawn when it is first looked at, and drawn anew when the run is another.
+import { byId, h } from './dom.js';
+import { bytesOf, asking, budgetOf, linesOf, withCards } from './decks.js';
+import { Fields } from './fields.js';
+import { listingDeck, listingOf, listingView, namesOf } from './listing.js';
+import { Stopped } from './programs.js';
+import { reportView } from './report.js';
+import { legend } from './strip.js';
+import { whereView } from './where.js';
+
+const PICTURE_ROWS = 200;
+const LONG = 20000;
+const LATIN = new TextDecoder('latin1');
+
+export class Views {
+  constructor(app) {
+    Object.assign(this, { app, drawn: new Set(), listed: null, url: null });
+  }
+
+  // The run is another one.
+  fresh() {
+    this.drawn = new Set();
+    this.listed = null;
+  }
+
+  get made() {
+    return this.app.live.made;
+  }
+
+  async show(view) {
+    const { made } = this;
+    if (!made || this.drawn.has(view)) return;
+    this.drawn.add(view);
+    try {
+      await this[view](byId(`view-${view}`), made);
+    } catch (error) {
+      this.drawn.delete(view);
+      if (!(error instanceof Stopped)) throw error;
+    }
+    // What comes late is of another run, where the deck was changed meanwhile.
+    if (made !== this.made) this.drawn.delete(view);
+  }
+
+  async step(box, { runs }) {
+    const { stepper } = this.app;
+    stepper.causesBox.replaceChildren(legend(runs, (cause) => stepper.chooseCause(cause)));
+    stepper.set(runs, runs[0].data.snapshots);
+    if (stepper.cause) stepper.markCauses();
+    this.listing().then(({ listing }) => {
+      const fields = new Fields(listing);
+      for (const run of runs) if (!run.isOther) run.fields = fields;
+      this.app.stepper.update();
+    }, () => {});         // a run that is stopped has none
+  }
+
+  async report(box, made) {
+    const { listing } = await this.listing();
+    const [run] = made.runs;
+    const end = made.isCut ? null : { words: run.state(Infinity).words, before: new Map(run.data.first.words) };
+    reportView(box, { report: made.report, left: made.left, indicators: this.app.book.indicators, listing, end });
+  }
+
+  async where(box, { runs: [run] }) {
+    const cards = new Map();
+    for (const row of run.rows) if (row.card && !cards.has(row.address)) cards.set(row.address, row.card);
+    whereView(box, run, cards, { cause: (cause) => this.app.stepper.chooseCause(cause), card: (card) => this.toCard(card) });
+  }
+
+  experiment(box, { deck }) {
+    return this.app.experiment.show(deck);
+  }
+
+  async picture(box) {
+    const text = await this.pictureText();
+    if (this.url) URL.revokeObjectURL(this.url);
+    this.url = URL.createObjectURL(new Blob([text], { type: 'image/svg+xml' }));
+    box.replaceChildren(h('p', { class: 'soft' }, `The picture that ./chart draws of the report: at most ${PICTURE_ROWS} rows. Save it as a file for a text or a slide.`),
+      h('div', { class: 'picture-room', tabindex: '0' }, h('img', { src: this.url, alt: 'the timetable of the run, as the program chart draws it' })));
+  }
+
+  async listing(box = null) {
+    const { plain, cards } = this.made;
+    this.listed ??= this.app.side.run('stretch', ['run'], bytesOf(listingDeck(cards))).then(({ bytes }) => listingOf(LATIN.decode(bytes), cards, (card) => plain.lines[card - 1]));
+    const listed = await this.listed;
+    this.symbols = new Map(listed.symbols);
+    this.names = namesOf(listed.symbols);
+    if (box) listingView(box, listed, (card) => this.toCard(card));
+    return listed;
+  }
+
+  async object(box) {
+    const text = await this.objectText();
+    box.replaceChildren(h('p', { class: 'soft' }, 'What the assembler lays, as text: ', h('code', {}, './stretch load'), ' runs it, and this page opens it.'), h('pre', { class: 'output', tabindex: '0' }, text.slice(0, 200000)));
+  }
+
+  // ---- texts
+
+  async objectText() {
+    return LATIN.decode((await this.app.side.run('stretch', ['assemble'], bytesOf(this.made.deck))).bytes);
+  }
+
+  async pictureText() {
+    const { deck } = this.made;
+    const short = budgetOf(linesOf(deck)) > LONG ? withCards(deck, ['BUDGET'], ['/BUDGET 1000']) : deck;
+    const { bytes } = await this.app.side.run('stretch', ['run'], bytesOf(asking(short, ['CHART', 'LIST'])));
+    return LATIN.decode((await this.app.side.run('chart', [], bytes)).bytes);
+  }
+
+  // ---- names
+
+  // The name of the deck that a word has.
+  nameOf(word) {
+    return this.names?.get(word);
+  }
+
+  // The word that a name of the deck stands for.
+  wordOf(name) {
+    const address = this.symbols?.get(name);
+    return address === undefined ? null : Number(address.split('.')[0]);
+  }
+
+  // Marks a card in the editor and its rows in the timetable.
+  toCard(card) {
+    this.app.editor.goTo(card);
+    if (this.app.stepper.card !== card) this.app.stepper.chooseCard(card);
+  }
+}
