@@ -21,12 +21,14 @@ ALONG = {".svg", ".png"}
 FILES = ["docs/promises.txt"]
 # A deck as a whole, which runs.
 WHOLE = re.compile(r"(?m)^.{9} *END *(,|$)")
+# A table that shows the cards of a deck.
+SHOWN = re.compile(r"^<!-- all lines of: cat (\S+/deck\.txt) -->\n", re.MULTILINE)
 STYLE = """
 body{max-width:56em;margin:0 auto;padding:1em;font:17px/1.5 sans-serif;color:#111;background:#fff}
 nav{font-size:.9em;border-bottom:1px solid #bbb;padding-bottom:.5em}nav a{margin-right:1.5em}
 pre{background:#f3f3ee;padding:.8em;overflow-x:auto;line-height:1.3}code{font-family:monospace}
 table{border-collapse:collapse;display:block;overflow-x:auto}td,th{border-bottom:1px solid #bbb;padding:.3em .7em .3em 0;text-align:left;vertical-align:top}
-img{max-width:100%;height:auto}h1,h2,h3{line-height:1.25}p.opens{margin-top:-.6em;font-size:.9em}
+img{max-width:100%;height:auto}h1,h2,h3{line-height:1.25}p.opens{font-size:.9em}
 @media print{nav,p.opens{display:none}}
 """
 FRAME = """<!doctype html>
@@ -119,8 +121,9 @@ class Manual:
     def page(self, name):
         """A page as HTML."""
         up = "../" * name.count("/")
-        made = to_html(pages.joined((TOP / name).read_text(encoding="utf-8")))
-        made = self.linked(made, name)
+        text = SHOWN.sub(r"\n@@OPEN \1@@\n\n", (TOP / name).read_text(encoding="utf-8"))
+        made = self.linked(to_html(pages.joined(text)), name)
+        made = re.sub(r"<p>@@OPEN (\S+)@@</p>\n", lambda found: opens((TOP / found[1]).read_text(encoding="latin-1"), up), made)
         made = re.sub(r"<(h[1-6])>(.*?)</\1>", lambda found: f'<{found[1]} id="{pages.anchor(found[2])}">{found[2]}</{found[1]}>', made)
 
         def deck(found):

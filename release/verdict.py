@@ -129,8 +129,8 @@ what two models of the machine give, by the programs as they are here:
     sh vectors/run lib/stretch/programs/stretch
     sh vectors/run --ledger lib/stretch/programs/ledger
 
-With the repository and the kit, `./check` proves, tests and builds everything, and `make dist` makes this archive of it;
-docs/release.md says more. What a proof says, and what is trusted, is told in docs/TRUST.md.
+With the repository and the kit, `./check` proves, tests and builds everything, and `make dist` makes this archive of
+it; docs/release.md says more. What a proof says, and what is trusted, is told in docs/TRUST.md.
 """
 
 
