@@ -29,6 +29,7 @@ help:
 	@echo 'make bench                 time the proved program'
 	@echo 'make web                   make the page with the whole machine in it, web/out/stretch.html (binaryen, cmark-gfm)'
 	@echo 'make site                  the same as site/stretch.html, which is kept: with each version'
+	@echo 'make dist                  make the archives of a release in dist/, of what make check has proved (docs/release.md)'
 	@echo 'make install PREFIX=DIR    put the proved programs, scripts, pages, completions and modes of editors below DIR ($(PREFIX))'
 	@echo '             UNPROVED=yes  the same with programs that are not proved, and say so: they are built in some minutes'
 	@echo 'make uninstall PREFIX=DIR  take them away again'
@@ -53,6 +54,9 @@ web:
 
 site:
 	web/build site/stretch.html
+
+dist:
+	release/make
 
 # The proved programs stand, and none is older than the sources, definitions and proofs.
 proved:
@@ -155,4 +159,4 @@ uninstall:
 	@for file in $(VIM); do rm -f "$(vim)/$$file"; done
 	rm -rf "$(home)" "$(doc)"
 
-.PHONY: help ready check vectors tools bench web site proved unproved install layout uninstall
+.PHONY: help ready check vectors tools bench web site dist proved unproved install layout uninstall
