@@ -16,7 +16,7 @@ use Rattle.st_rows.specs.declared.past.Past.{Past}
 use Rattle.st_rows.specs.declared.fetching.Fetching.{Fetching}
 use Rattle.st_rows.specs.declared.front.Front.{Front}
 use Rattle.st_rows.proofs.UseLemmas.{reads-are, side-read, operands-read}
-use Rattle.st_rows.proofs.Tight.{near-read, near-requested_if}
+use Rattle.st_rows.proofs.Tight.{near-one_if}
 
 module _ (ds : List ℕ) where
   served-none : (b : Bus) → bus_after_reads ds [] b ≡ b
@@ -211,15 +211,11 @@ free-one_if ds true b w want = refl
 free-one_if ds false b w want = refl
 
 module _ (most : ℕ) (ds : List ℕ) (are : AreDelaysUpTo most ds) (t : ℕ) where
-  near-one_if : (fetch : Bool) (b : Bus) (w want : ℕ) → IsNear most b → IsNear most (after_one ds b (record { w = w; want = want; fetch = fetch }))
-  near-one_if true b w want is = near-requested_if most ds are None b w want is
-  near-one_if false b w want is = near-read most ds are b w want is
-
   pub made-bounds : (reads : List Read) (b : Bus) → IsNear most b → b.free ≤ t
       → IsNear most (made_before ds t reads b) × ((made_before ds t reads b).free ≤ t)
   unfolding made_before
   made-bounds [] b is early = (is, early)
   made-bounds (r ∷ reads) b is early = elim (ltb_cases (accept_at b r.w r.want) t) [
-    | inl early_one ↦ rw early_one.0 (made-bounds reads (after_one ds b r) (near-one_if r.fetch b r.w r.want is) (rw (free-one_if ds r.fetch b r.w r.want) (omega (arith, early_one.1))))
+    | inl early_one ↦ rw early_one.0 (made-bounds reads (after_one ds b r) (near-one_if most ds are r.fetch b r.w r.want is) (rw (free-one_if ds r.fetch b r.w r.want) (omega (arith, early_one.1))))
     | inr late_one ↦ rw late_one (is, early)
   ]
