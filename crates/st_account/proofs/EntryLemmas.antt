@@ -7,11 +7,10 @@ use Rattle.st_prep.specs.Plan.{plan}
 use Rattle.st_prep.specs.declared.entries.Prepared.{Prepared}
 use Rattle.st_exec.specs.Completion.{state_after_execution, guess, is_missed}
 use Rattle.st_exec.specs.Step.{interrupt, step, address}
-use Rattle.st_rows.specs.Asked.{reads_of_entry}
 use Rattle.st_rows.specs.Notes.{log_after_reads}
 use Rattle.st_rows.specs.Ranges.{AreDelaysUpTo, IsEntryInTime, IsTight}
 use Rattle.st_rows.specs.declared.log.Made.{Made}
-use Rattle.st_rows.specs.Rows.{row_of_entry, front_after_entry}
+use Rattle.st_rows.specs.Rows.{row_of_entry, front_after_entry, reads_of_entry}
 use Rattle.st_rows.specs.declared.front.EntryTicks.{EntryTicks}
 use Rattle.st_rows.specs.declared.front.Front.{Front}
 use Rattle.st_segment.specs.Entries.{entry}

@@ -6,11 +6,11 @@ use Rattle.st_prep.specs.Plan.{plan}
 use Rattle.st_exec.specs.Completion.{state_after_execution, guessed_state, guess, is_missed}
 use Rattle.st_exec.specs.Step.{interrupt, step}
 use Rattle.std.proofs.lemmas.Bool.Decides.{nat_tests}
-use Rattle.st_rows.specs.BusTimes.{accept_at}
-use Rattle.st_rows.specs.Asked.{Read, formed_asked, prepared_asked, reads_of_entry, bus_after_reads, made_before}
+use Rattle.st_rows.specs.BusTimes.{accept_at, Read}
+use Rattle.st_rows.specs.Asked.{formed_asked, prepared_asked, bus_after_reads, made_before}
 use Rattle.st_rows.specs.Notes.{log_after_reads, IsLogged}
 use Rattle.st_rows.specs.Ranges.{AreDelaysUpTo, IsEntryInTime, IsTight}
-use Rattle.st_rows.specs.Rows.{opening_front, tick_a, tick_p, row_of_entry, front_after_entry}
+use Rattle.st_rows.specs.Rows.{opening_front, tick_a, tick_p, row_of_entry, front_after_entry, reads_of_entry}
 use Rattle.st_rows.specs.declared.log.Made.{Made}
 use Rattle.st_rows.proofs.LogLaws.{logged-noted}
 use Rattle.st_rows.proofs.NoteLemmas.{opened-log}

@@ -7,10 +7,12 @@ use Rattle.std.proofs.lemmas.List.Elements.{All-weaker}
 use Rattle.st_banks.specs.declared.answers.LastAnswers.{LastAnswers}
 use Rattle.st_state.specs.Machine.{Machine, IsMachine}
 use Rattle.st_exec.specs.Completion.{guess}
-use Rattle.st_rows.specs.Asked.{Read, formed_asked, prepared_asked, fetches_asked, following_asked, reads_of_entry, bus_after_reads, made_before, side_count}
+use Rattle.st_rows.specs.Asked.{formed_asked, prepared_asked, fetches_asked, following_asked, bus_after_reads, made_before, side_count, words_asked}
+use Rattle.st_rows.specs.BusTimes.{Read}
 use Rattle.st_rows.specs.Notes.{log_after_reads, notes_of_reads, answers_left, AreEarly, IsLogged}
 use Rattle.st_rows.specs.Ranges.{AreDelaysUpTo, IsEntryInTime, IsTight}
-use Rattle.st_rows.specs.Rows.{row_of_entry, front_after_entry, fetch_words, wanted_from, tick_a, tick_p, bus_a, operands}
+use Rattle.st_rows.specs.Rows.{row_of_entry, front_after_entry, wanted_from, tick_a, tick_p, bus_a, operands, reads_of_entry}
+use Rattle.st_rows.specs.Words.{fetch_words}
 use Rattle.st_rows.specs.declared.bus.Bus.{Bus}
 use Rattle.st_rows.specs.declared.entry.Entry.{Entry}
 use Rattle.st_rows.specs.declared.fetching.Fetching.{Fetching}
@@ -32,7 +34,6 @@ use Rattle.st_account.specs.Standing.{HasReads}
 -- ---- how many reads an entry has in each part
 
 pub few-prepared : (ds : List ℕ) (n : ℕ) (f : Front) (e : Entry) → IsEntryInTime e → length (prepared_asked ds n f e) ≤ 34
-unfolding following_asked
 few-prepared ds n f e range =
     let p = tick_p ds n f e in
     simp length-append
@@ -40,7 +41,7 @@ few-prepared ds n f e range =
       arith,
       few-operands f.past p e.reads.one.first e.reads.one.len,
       few-operands f.past p e.reads.two.first e.reads.two.len,
-      few-following e.follows ds (operands ds n f e).bus (e.own.first + e.own.len) p,
+      few-following ds (operands ds n f e).bus e p,
       range.one_few,
       range.two_few,
     ))
@@ -50,7 +51,7 @@ at-most-one None = omega arith
 at-most-one (Some w) = omega arith
 
 few-formed : (ds : List ℕ) (f : Front) (e : Entry) → IsEntryInTime e → length (formed_asked ds f e) ≤ 5
-unfolding fetches_asked
+unfolding fetches_asked words_asked fetch_words
 few-formed ds f e range =
     let start : Fetching = record { bus = f.bus; answered = 0; awaited = 0 } in
     let behind = fetch_words ds f.past start (wanted_from f) e.own.first e.own.len in

@@ -5,7 +5,8 @@ use Rattle.st_bits.specs.declared.limits.TheConstants.{MOST_DELAY}
 use Rattle.st_state.specs.Machine.{Machine, word}
 use Rattle.st_exec.specs.Ahead.{IsNotAmong}
 use Rattle.st_exec.specs.Completion.{guess}
-use Rattle.st_rows.specs.Asked.{Read, bus_after_reads, made_before}
+use Rattle.st_rows.specs.Asked.{bus_after_reads, made_before}
+use Rattle.st_rows.specs.BusTimes.{Read}
 use Rattle.st_rows.specs.Notes.{IsLogged}
 use Rattle.st_rows.specs.Ranges.{IsNear}
 use Rattle.st_rows.specs.declared.bus.Bus.{Bus}

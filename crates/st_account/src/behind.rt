@@ -1,7 +1,8 @@
 //! What comes behind an entry that has been done, and what ran ahead of it.
 ghost use Rattle.std.specs.Prelude.{◌≡◌, List, suc, ◌+◌, ◌≤◌, ◌<◌, ◌^◌, ◌++◌, ◌∷◌, [], map, length, None, All};
 ghost use Rattle.st_bits.specs.declared.limits.TheConstants.{MOST_DELAY};
-ghost use Rattle.st_rows.specs.Asked.{Read, made_before};
+ghost use Rattle.st_rows.specs.Asked.{made_before};
+ghost use Rattle.st_rows.specs.BusTimes.{Read};
 ghost use Rattle.st_rows.specs.Ranges.{IsTight};
 ghost use Rattle.st_segment.specs.Ahead.{ahead, prepared_before, reads_before};
 ghost use Rattle.st_rows.specs.declared.bus.Bus.{Bus as BusOf};

@@ -8,10 +8,9 @@ ghost use Rattle.st_exec.specs.Completion.{state_after_execution, guess as guess
 ghost use Rattle.st_plain.specs.Looking.{known_at, level_wait, side_at};
 ghost use Rattle.st_plain.specs.Uses.{formed_uses, uses_of_entry};
 ghost use Rattle.st_reasons.specs.Reasons.{because as because_of};
-ghost use Rattle.st_rows.specs.Asked.{reads_of_entry as asked_of};
 ghost use Rattle.st_rows.specs.Notes.{log_after_reads};
 ghost use Rattle.st_rows.specs.Ranges.{IsTight};
-ghost use Rattle.st_rows.specs.Rows.{row_of_entry as row_of, front_after_entry as after_of};
+ghost use Rattle.st_rows.specs.Rows.{row_of_entry as row_of, front_after_entry as after_of, reads_of_entry as asked_of};
 ghost use Rattle.st_segment.specs.Entries.{entry as entry_of};
 ghost use Rattle.st_account.specs.Text.{why_by};
 ghost use Rattle.st_account.specs.Standing.{guessing, still_by};

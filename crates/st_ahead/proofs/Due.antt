@@ -5,7 +5,7 @@ use Rattle.std.proofs.lemmas.List.{get_or-take}
 use Rattle.std.proofs.lemmas.List.Elements.{All-head}
 use Rattle.st_state.specs.Machine.{Machine}
 use Rattle.st_exec.specs.Completion.{guess}
-use Rattle.st_rows.specs.Asked.{fetches_asked, side_asked, formed_asked}
+use Rattle.st_rows.specs.Asked.{fetches_asked, side_asked, formed_asked, words_asked}
 use Rattle.st_rows.specs.Entries.{no_runs}
 use Rattle.st_rows.specs.Ranges.{AreDelaysUpTo, IsEntryInTime}
 use Rattle.st_rows.specs.Rows.{row_of_entry, front_after_entry, preparation_tick, address_tick, done_before, tick_a, tick_p, tick_c}
@@ -29,6 +29,7 @@ use Rattle.st_next.specs.declared.next.Next.{Next}
 use Rattle.st_ahead.specs.Forecast.{LookaheadView, IsNextIf, count, is_open}
 use Rattle.st_ahead.specs.Going.{IsGoing, BecomesLevel}
 use Rattle.st_ahead.proofs.Further.{going-late, next-known}
+use Rattle.st_rows.specs.Words.{fetch_words}
 
 -- ---- the ticks of a row
 
@@ -93,7 +94,7 @@ module _ (ds : List ℕ) (n tick : ℕ) where
 -- ---- the reads of the next entry up to its operands
 
 formed-fetches : (ds : List ℕ) (f : Front) (e : Entry) → asked_so_far ds f e.own e.target ≡ fetches_asked ds f e
-unfolding fetches_asked
+unfolding fetches_asked words_asked fetch_words
 formed-fetches ds f e = refl
 
 pub reads-formed : (ds : List ℕ) (n : ℕ) (k : Option ℕ) (u : Machine) (f : Front) (next : Next) → IsPlanned ds n k u f next

@@ -3,7 +3,8 @@ use Rattle.std.specs.Prelude.{All, if◌then◌else◌, ◌==◌, ◌-◌, ◌^�
 use Rattle.std.proofs.Common.{◌≡◌, ℕ, zero, suc, ◌<◌, ◌≤◌, ◌||◌, max, Bool, true, false, not, List, [], ◌∷◌, ◌++◌, append_assoc, length, inl, inr, Option, refl, sym, subst, ◌∙◌, ap, arith, ◌+◌}
 use Rattle.std.proofs.lemmas.List.Elements.{All-head}
 use Rattle.st_state.specs.Machine.{Machine}
-use Rattle.st_rows.specs.Asked.{Read, bus_after_reads}
+use Rattle.st_rows.specs.Asked.{bus_after_reads}
+use Rattle.st_rows.specs.BusTimes.{Read}
 use Rattle.st_rows.specs.Notes.{log_after_reads, IsLogged}
 use Rattle.st_rows.specs.Ranges.{IsEntryInTime}
 use Rattle.st_rows.specs.Rows.{row_of_entry, tick_a}

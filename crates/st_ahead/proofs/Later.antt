@@ -6,10 +6,12 @@ use Rattle.std.proofs.lemmas.List.{append-nil}
 use Rattle.std.proofs.lemmas.List.Elements.{All-append, All-weaker, All-head, All-tail}
 use Rattle.st_state.specs.Machine.{Machine, IsMachine}
 use Rattle.st_exec.specs.Completion.{guess}
-use Rattle.st_rows.specs.Asked.{Read, reads_of_entry, fetches_asked, words_asked, side_asked, side_count, following_asked, formed_asked, prepared_asked, data_of, bus_after_reads, made_before}
+use Rattle.st_rows.specs.Asked.{fetches_asked, words_asked, side_asked, side_count, following_asked, formed_asked, prepared_asked, data_of, bus_after_reads, made_before}
+use Rattle.st_rows.specs.BusTimes.{Read}
 use Rattle.st_rows.specs.Notes.{notes_of_reads, answers_left, AreEarly}
 use Rattle.st_rows.specs.Ranges.{AreDelaysUpTo, IsEntryInTime, IsNear, IsTight}
-use Rattle.st_rows.specs.Rows.{row_of_entry, front_after_entry, fetch_words, wanted_from, tick_a, tick_p, operands}
+use Rattle.st_rows.specs.Rows.{row_of_entry, front_after_entry, wanted_from, tick_a, tick_p, operands, reads_of_entry}
+use Rattle.st_rows.specs.Words.{fetch_words, fetch_word}
 use Rattle.st_rows.specs.declared.bus.Bus.{Bus}
 use Rattle.st_rows.specs.declared.entry.WordRun.{WordRun}
 use Rattle.st_rows.specs.declared.fetching.Fetching.{Fetching}
@@ -35,6 +37,7 @@ use Rattle.st_next.specs.declared.next.Next.{Next}
 use Rattle.st_next.proofs.Resting.{address-late, rest-left}
 use Rattle.st_ahead.specs.Forecast.{LookaheadView, IsOutlook, IsNextIf, count, is_open, asked_ahead}
 use Rattle.st_ahead.proofs.Further.{bus-ahead, some-by}
+use Rattle.st_rows.specs.Uses.{reads_of, uses, wishes}
 
 -- no words
 abbrev none : WordRun
@@ -58,7 +61,7 @@ module _ (ds : List ℕ) (n now : ℕ) (ordered : AreOrdered ds n) where
   -- ---- it is planned
 
   all-fetched : (f : Front) (e : Entry) → asked_so_far ds f e.own e.target ≡ fetches_asked ds f e
-  unfolding fetches_asked
+  unfolding fetches_asked words_asked fetch_words
   all-fetched f e = refl
 
   planned-later : (t : Option ℕ) (u : Machine) (f : Front) (next : Next) → IsPlanned ds n t u f next → next.planned ≡ true
@@ -124,7 +127,7 @@ module _ (ds : List ℕ) (n now : ℕ) (ordered : AreOrdered ds n) where
 
   alone-later : (e : Entry) (f : Front) (next : Next) → next.planned ≡ false → next.own ≡ none → next.target ≡ none
       → f.serial ≡ true → now ≤ f.c → IsLater ds n now f e next
-  unfolding row_of_entry fetches_asked words_asked
+  unfolding row_of_entry fetches_asked words_asked fetch_words reads_of uses wishes fetch_word
   alone-later e f next unplanned no_own no_target serial late =
       let a : f.c < (row_of_entry ds n f e).a = ordered.alone f e (or-second e.serial f.serial serial) in
       let from : now ≤ wanted_from f = wanted_if f.serial serial in
@@ -221,7 +224,6 @@ oldest-prepared ds n tick now t s f last (level ∷ levels) (q ∷ qs) h each so
 -- ---- at most 39 reads are accepted at the tick at which the oldest level is done, or later
 
 few-prepared : (ds : List ℕ) (n : ℕ) (f : Front) (e : Entry) → IsEntryInTime e → length (prepared_asked ds n f e) ≤ 34
-unfolding following_asked
 few-prepared ds n f e range =
     let p = tick_p ds n f e in
     simp length-append
@@ -229,13 +231,13 @@ few-prepared ds n f e range =
       arith,
       few-operands f.past p e.reads.one.first e.reads.one.len,
       few-operands f.past p e.reads.two.first e.reads.two.len,
-      few-following e.follows ds (operands ds n f e).bus (e.own.first + e.own.len) p,
+      few-following ds (operands ds n f e).bus e p,
       range.one_few,
       range.two_few,
     ))
 
 few-so-far : (ds : List ℕ) (f : Front) (next : Next) → length (reads_so_far ds f next) ≤ next.own.len + next.target.len + 1
-unfolding fetches_asked
+unfolding fetches_asked words_asked fetch_words
 few-so-far ds f next =
     let start : Fetching = record { bus = f.bus; answered = 0; awaited = 0 } in
     let behind = fetch_words ds f.past start (wanted_from f) next.own.first next.own.len in

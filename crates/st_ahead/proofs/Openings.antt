@@ -8,7 +8,8 @@ use Rattle.st_banks.specs.declared.answers.LastAnswers.{LastAnswers}
 use Rattle.st_prep.specs.Fetch.{index_words, place_of}
 use Rattle.st_rows.specs.Asked.{fetches_asked, words_asked}
 use Rattle.st_rows.specs.Ranges.{IsTight, IsNear, ArePastWithin}
-use Rattle.st_rows.specs.Rows.{opening_front, words_tick, fetch_words}
+use Rattle.st_rows.specs.Rows.{opening_front, words_tick}
+use Rattle.st_rows.specs.Words.{fetch_words, fetch_word}
 use Rattle.st_fetch.specs.declared.fetched.AskedWord.{AskedWord}
 use Rattle.st_fetch.specs.Planned.{no_word}
 use Rattle.st_rows.specs.Entries.{no_runs}
@@ -29,6 +30,7 @@ use Rattle.st_next.specs.Words.{words_so_far, asked_so_far, IsStart, AreFirstWor
 use Rattle.st_next.specs.Progress.{IsNext, Rests, reads_so_far}
 use Rattle.st_next.specs.declared.next.Next.{Next}
 use Rattle.st_ahead.specs.Forecast.{LookaheadView, IsLookahead, IsOpened}
+use Rattle.st_rows.specs.Uses.{behind, reads_of, uses, wishes}
 
 abbrev none : WordRun
 none = record { first = 0; len = 0 }
@@ -73,11 +75,11 @@ no-slots ds n tick t s f ring none = rw none tt
 -- ---- no words
 
 no-words : (ds : List ℕ) (f : Front) → words_so_far ds f none none ≡ record { bus = f.bus; answered = 0; awaited = 0 }
-unfolding words_tick fetch_words
+unfolding words_tick fetch_words behind uses wishes fetch_word
 no-words ds f = refl
 
 no-reads : (ds : List ℕ) (f : Front) → asked_so_far ds f none none ≡ []
-unfolding fetches_asked words_asked
+unfolding fetches_asked words_asked fetch_words reads_of uses wishes fetch_word
 no-reads ds f = refl
 
 -- ---- the entry that is prepared next

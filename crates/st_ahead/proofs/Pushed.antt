@@ -8,10 +8,11 @@ use Rattle.st_prep.specs.Fetch.{place_of}
 use Rattle.st_prep.specs.Plan.{plan}
 use Rattle.st_prep.specs.declared.entries.Prepared.{Prepared}
 use Rattle.st_prep.proofs.GivenLemmas.{differs}
-use Rattle.st_rows.specs.Asked.{Read, reads_of_entry, formed_asked, prepared_asked}
+use Rattle.st_rows.specs.Asked.{formed_asked, prepared_asked}
+use Rattle.st_rows.specs.BusTimes.{Read}
 use Rattle.st_rows.specs.Notes.{log_after_reads, IsLogged}
 use Rattle.st_rows.specs.Ranges.{IsTight}
-use Rattle.st_rows.specs.Rows.{front_after_entry, wanted_from, tick_p}
+use Rattle.st_rows.specs.Rows.{front_after_entry, wanted_from, tick_p, reads_of_entry}
 use Rattle.st_rows.specs.declared.entry.Entry.{Entry}
 use Rattle.st_rows.specs.declared.front.Front.{Front}
 use Rattle.st_rows.proofs.Parts.{two-parts}

@@ -7,7 +7,7 @@ use Rattle.st_prep.specs.Fetch.{place_of}
 use Rattle.st_prep.specs.Plan.{needs, sight, plan}
 use Rattle.st_exec.specs.Completion.{guess}
 use Rattle.st_segment.proofs.GuessLemmas.{guess-machine}
-use Rattle.st_rows.specs.Asked.{reads_of_entry}
+use Rattle.st_rows.specs.Rows.{reads_of_entry}
 use Rattle.st_rows.specs.Rows.{front_after_entry, tick_a, bus_a, tick_p}
 use Rattle.st_rows.specs.Notes.{IsLogged}
 use Rattle.st_rows.specs.declared.entry.Entry.{Entry}

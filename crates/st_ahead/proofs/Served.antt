@@ -3,7 +3,8 @@ use Rattle.std.proofs.Common.{◌≡◌, ℕ, suc, List, [], ◌∷◌, ◌++◌
 use Rattle.std.proofs.lemmas.List.{append-nil}
 use Rattle.st_state.specs.Machine.{Machine}
 use Rattle.st_exec.specs.Completion.{guess}
-use Rattle.st_rows.specs.Asked.{reads_of_entry, bus_after_reads}
+use Rattle.st_rows.specs.Asked.{bus_after_reads}
+use Rattle.st_rows.specs.Rows.{reads_of_entry}
 use Rattle.st_rows.specs.Rows.{front_after_entry}
 use Rattle.st_rows.specs.declared.front.Front.{Front}
 use Rattle.st_rows.proofs.Served.{served-append, served-asked}

@@ -10,11 +10,11 @@ use Rattle.st_banks.specs.declared.answers.TheConstants.{BANKS}
 use Rattle.st_prep.specs.Plan.{plan}
 use Rattle.st_exec.specs.Completion.{state_after_execution, guess, is_missed}
 use Rattle.st_exec.specs.Step.{interrupt, rests}
-use Rattle.st_rows.specs.Rows.{opening_front, row_of_entry, front_after_entry}
+use Rattle.st_rows.specs.Rows.{opening_front, row_of_entry, front_after_entry, reads_of_entry}
 use Rattle.st_rows.specs.declared.front.Front.{Front}
 use Rattle.st_segment.specs.Entries.{entry}
 use Rattle.st_segment.specs.Ahead.{ahead, reads_before}
-use Rattle.st_rows.specs.Asked.{reads_of_entry, made_before}
+use Rattle.st_rows.specs.Asked.{made_before}
 use Rattle.st_rows.specs.Notes.{answers_left}
 use Rattle.st_ahead.specs.declared.events.Row.{Row}
 use Rattle.st_ring.specs.Levels.{oldest_front}

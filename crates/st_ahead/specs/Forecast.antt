@@ -7,7 +7,8 @@ use Rattle.st_state.specs.Machine.{Machine, IsMachine}
 use Rattle.st_prep.specs.Fetch.{index_words, place_of}
 use Rattle.st_rows.specs.Notes.{IsLogged}
 use Rattle.st_rows.specs.Ranges.{IsTight, most_ticks_of_entry}
-use Rattle.st_rows.specs.Asked.{Read, reads_of_entry}
+use Rattle.st_rows.specs.Rows.{reads_of_entry}
+use Rattle.st_rows.specs.BusTimes.{Read}
 use Rattle.st_rows.specs.declared.front.Front.{Front}
 use Rattle.st_rows.specs.declared.log.Made.{Made}
 use Rattle.st_segment.specs.Ahead.{Ahead, ahead}

@@ -16,9 +16,9 @@ use Rattle.st_ahead.specs.Going.{IsGoing, BecomesLevel}
 use Rattle.st_banks.specs.declared.answers.LastAnswers.{LastAnswers}
 use Rattle.st_prep.specs.BesideOrders.{AreAlikeBesideOrders}
 use Rattle.st_exec.specs.Completion.{guess}
-use Rattle.st_rows.specs.Asked.{reads_of_entry, made_before}
+use Rattle.st_rows.specs.Asked.{made_before}
 use Rattle.st_rows.specs.Notes.{answers_left}
-use Rattle.st_rows.specs.Rows.{opening_front, row_of_entry, front_after_entry}
+use Rattle.st_rows.specs.Rows.{opening_front, row_of_entry, front_after_entry, reads_of_entry}
 use Rattle.st_segment.specs.Entries.{entry}
 use Rattle.st_segment.specs.Ahead.{ahead, prepared_before, reads_before}
 

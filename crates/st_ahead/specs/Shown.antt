@@ -2,7 +2,7 @@
 use Rattle.std.specs.Prelude.{ℕ, ◌≡◌, ◌-◌, nat_le, List, ◌++◌, length, map, replicate, Option, None, Some, option_map}
 use Rattle.std.specs.List.{AllZip}
 use Rattle.st_prep.specs.declared.entries.IndexChange.{IndexChange}
-use Rattle.st_rows.specs.Rows.{fills}
+use Rattle.st_rows.specs.Words.{fills}
 use Rattle.st_ring.specs.declared.level.Level.{Level}
 use Rattle.st_segment.specs.Ahead.{Ahead, plan_of}
 use Rattle.st_segment.specs.Guesses.{split_words}

@@ -9,9 +9,9 @@ use Rattle.st_banks.specs.declared.answers.LastAnswers.{LastAnswers}
 use Rattle.st_banks.specs.declared.answers.TheConstants.{BANKS}
 use Rattle.st_prep.specs.Plan.{plan}
 use Rattle.st_exec.specs.Step.{rests, interrupt}
-use Rattle.st_rows.specs.Asked.{Read, reads_of_entry, after_one, made_before}
-use Rattle.st_rows.specs.BusTimes.{accept_at, answer_at}
-use Rattle.st_rows.specs.Rows.{opening_front}
+use Rattle.st_rows.specs.Asked.{made_before}
+use Rattle.st_rows.specs.BusTimes.{accept_at, answer_at, Read, after_one}
+use Rattle.st_rows.specs.Rows.{opening_front, reads_of_entry}
 use Rattle.st_rows.specs.declared.bus.Bus.{Bus}
 use Rattle.st_rows.proofs.Laws.{rows_make_their_reads}
 use Rattle.st_segment.specs.Ahead.{reads_to_end}

@@ -13,7 +13,7 @@ use Rattle.st_reasons.specs.Causes.{is_cause, IsTrueOf, FallTo}
 use Rattle.st_reasons.specs.Paths.{IsReason}
 use Rattle.st_reasons.specs.Served.{served, reads_told, AreBrought, IsWrittenBy}
 use Rattle.st_reasons.specs.Sums.{is_parted}
-use Rattle.st_rows.specs.Asked.{reads_of_entry}
+use Rattle.st_rows.specs.Rows.{reads_of_entry}
 use Rattle.st_reasons.specs.Waits.{charge_waits}
 use Rattle.st_reasons.specs.Words.{read_of}
 use Rattle.st_reasons.specs.declared.waits.Wait.{Wait}

@@ -7,7 +7,7 @@ use Rattle.st_banks.specs.declared.answers.LastAnswers.{LastAnswers}
 use Rattle.st_prep.specs.Plan.{plan}
 use Rattle.st_exec.specs.Step.{rests, interrupt}
 use Rattle.st_rows.specs.Ranges.{IsEntryInTime}
-use Rattle.st_rows.specs.Rows.{row_of_entry, front_after_entry, opening_front}
+use Rattle.st_rows.specs.Rows.{row_of_entry, front_after_entry, opening_front, reads_of_entry}
 use Rattle.st_rows.specs.declared.front.Front.{Front}
 use Rattle.st_segment.specs.Entries.{entry}
 use Rattle.st_segment.proofs.EntryRanges.{entry-ranges}
@@ -24,7 +24,6 @@ use Rattle.st_plain.specs.Looking.{side_at}
 use Rattle.st_plain.specs.declared.uses.Use.{Use}
 use Rattle.st_reasons.specs.Served.{served, reads_told, AreBrought, IsWrittenBy}
 use Rattle.st_reasons.specs.Sums.{is_parted, row_stalled}
-use Rattle.st_rows.specs.Asked.{reads_of_entry}
 use Rattle.st_reasons.specs.Waits.{charge_waits}
 use Rattle.st_reasons.specs.declared.waits.Stall.TheVariants.{Turn, Bank, Storage}
 use Rattle.st_reasons.specs.declared.waits.Wait.{Wait}

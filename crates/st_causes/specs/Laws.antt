@@ -4,7 +4,7 @@ use Rattle.std.specs.Prelude.{ℕ, ◌≡◌, ◌+◌, ◌≤◌, ◌<◌, true,
 use Rattle.std.specs.List.{filter}
 use Rattle.st_state.specs.Machine.{Machine}
 use Rattle.st_banks.specs.declared.answers.LastAnswers.{LastAnswers}
-use Rattle.st_rows.specs.Asked.{reads_of_entry}
+use Rattle.st_rows.specs.Rows.{reads_of_entry}
 use Rattle.st_rows.specs.declared.front.Front.{Front}
 use Rattle.st_segment.specs.Ahead.{Ahead, ahead}
 use Rattle.st_run.specs.Run.{Scene}

@@ -10,10 +10,12 @@ use Rattle.st_prep.specs.Plan.{sight_of, sight}
 use Rattle.st_prep.specs.Ranges.{IsPlace}
 use Rattle.st_prep.proofs.PlanLemmas.{sight-fits}
 use Rattle.st_rows.specs.Asked.{side_asked, bus_after_reads}
-use Rattle.st_rows.specs.BusTimes.{bus_after_request}
+use Rattle.st_rows.specs.BusTimes.{bus_after_request, answer_tick_on}
 use Rattle.st_rows.specs.Notes.{log_after_reads}
 use Rattle.st_rows.specs.Ranges.{IsEntryInTime, AreDelaysUpTo}
-use Rattle.st_rows.specs.Rows.{fetch_word, words_tick, wanted_from, is_forwarded, tick_a, bus_a}
+use Rattle.st_rows.specs.Rows.{words_tick, wanted_from, tick_a, bus_a}
+use Rattle.st_rows.specs.Words.{fetch_word, bus_sided, fetch_words, is_forwarded}
+use Rattle.st_rows.specs.Uses.{behind_use, read_made, forwarded_at}
 use Rattle.st_rows.specs.declared.entry.WordRun.{WordRun}
 use Rattle.st_rows.specs.declared.past.Past.{Past}
 use Rattle.st_rows.specs.declared.fetching.Fetching.{Fetching}
@@ -38,18 +40,18 @@ use Rattle.st_next.proofs.Steps.{IsPlannedAs, what, comes-own, comes-target, com
 
 -- ---- when they are wanted
 
-data-late : (late : Bool) (m w tick : ℕ) → m ≤ tick → All (IsLate m) (if late then [] else record { w = w; want = tick; fetch = false } ∷ [])
-data-late true m w tick h = All-nil (IsLate m)
-data-late false m w tick h = All-cons (IsLate m) _ [] h (All-nil (IsLate m))
+data-late : (o : Option ℕ) (m w tick : ℕ) → m ≤ tick → All (IsLate m) (read_made (record { w = w; want = tick; fetch = false }) o)
+data-late (Some there) m w tick h = All-nil (IsLate m)
+data-late None m w tick h = All-cons (IsLate m) _ [] h (All-nil (IsLate m))
 
 pub side-late : (past : List Past) (side : Option ℕ) (m a : ℕ) → m ≤ a → All (IsLate m) (side_asked past side a)
 unfolding side_asked
 side-late past None m a h = All-nil (IsLate m)
-side-late past (Some w) m a h = data-late (is_forwarded past w a) m w a h
+side-late past (Some w) m a h = data-late (forwarded_at past w a) m w a h
 
 -- one word of an instruction on the bus
 served-read : (ds : List ℕ) (past : List Past) (from : ℕ) (s : Fetching) (w : ℕ) → (fetch_word ds past s w from).bus ≡ bus_after_reads ds (read_of ds past from s w) s.bus
-unfolding fetch_word bus_after_request
+unfolding fetch_word bus_after_request behind_use answer_tick_on
 served-read ds past from s w = sym (served-word ds (tick_of s.bus.held.words w) w (want_of ds past from s) s.bus)
 
 -- ---- the reads so far
@@ -151,12 +153,12 @@ module _ (ds : List ℕ) (n now : ℕ) (f : Front) (x : List ℕ) (s : Machine) 
           (sight-same now f x s k.state k.table before.place before.fetched k.before k.is_next.read_on.place it.1)) known-entry
 
       pub plan-words : before.words ≡ words_tick ds f before.entry
-      unfolding words_tick
+      unfolding words_tick fetch_words
       plan-words = k.is_next.read_on.words un ∙ ap (λ (m : Next). words_tick ds f m.entry) (sym prepared)
 
       pub plan-asks : (after : Next) (log new : List Made) → IsPlannedAs ds n f before after
           → new ≡ log_after_reads ds (side_asked f.past after.entry.side after.formed.a) before.words.bus log → IsReadFurther ds f before after log new
-      unfolding bus_a
+      unfolding bus_a bus_sided
       plan-asks after log new made kept =
           let g = before.entry in
           let side = side_asked f.past after.entry.side after.formed.a in

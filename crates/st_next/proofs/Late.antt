@@ -4,8 +4,10 @@ use Rattle.std.proofs.Common.{◌≡◌, ℕ, zero, suc, ◌+◌, ◌-◌, ◌�
 use Rattle.std.proofs.lemmas.List.{append-nil}
 use Rattle.std.proofs.lemmas.List.Elements.{All-append, All-cons, All-nil}
 use Rattle.st_fetch.specs.Planned.{tick_of}
-use Rattle.st_rows.specs.Rows.{fetch_word, fetch_words, wanted_from, words_tick}
-use Rattle.st_rows.specs.Asked.{Read, word_asked, words_asked, fetches_asked}
+use Rattle.st_rows.specs.Rows.{wanted_from, words_tick}
+use Rattle.st_rows.specs.Words.{fetch_word, fetch_words}
+use Rattle.st_rows.specs.Asked.{word_asked, words_asked, fetches_asked}
+use Rattle.st_rows.specs.BusTimes.{Read, answer_tick_on, bus_after_request}
 use Rattle.st_rows.specs.declared.entry.WordRun.{WordRun}
 use Rattle.st_rows.specs.declared.entry.Entry.{Entry}
 use Rattle.st_rows.specs.declared.past.Past.{Past}
@@ -14,6 +16,7 @@ use Rattle.st_rows.specs.declared.front.Front.{Front}
 use Rattle.st_prep.proofs.GivenLemmas.{differs}
 use Rattle.st_next.specs.Words.{IsStart, AreFirstWords, words_so_far, asked_so_far}
 use Rattle.st_next.proofs.WordByWord.{want_of, fetch-more, asked-more, fetch-none, asked-none}
+use Rattle.st_rows.specs.Uses.{behind, behind_use, reads_of, uses, wishes}
 
 -- a read is wanted at a tick or later
 abbrev pub IsLate : ℕ → Read → Type 0
@@ -22,17 +25,17 @@ IsLate m r = m ≤ r.want
 module _ (ds : List ℕ) (past : List Past) (from : ℕ) where
   -- answers and what is awaited only come later
   pub answered-later : (s : Fetching) (w n : ℕ) → s.answered ≤ (fetch_words ds past s from w n).answered
-  unfolding fetch_word fetch_words
+  unfolding fetch_word fetch_words behind_use bus_after_request answer_tick_on behind uses wishes
   answered-later s w zero = omega arith
   answered-later s w (suc n) = omega (arith, answered-later (fetch_word ds past s w from) (w + 1) n)
 
   pub awaited-later : (s : Fetching) (w n : ℕ) → s.awaited ≤ (fetch_words ds past s from w n).awaited
-  unfolding fetch_word fetch_words
+  unfolding fetch_word fetch_words behind_use bus_after_request answer_tick_on behind uses wishes
   awaited-later s w zero = omega arith
   awaited-later s w (suc n) = omega (arith, awaited-later (fetch_word ds past s w from) (w + 1) n)
 
   want-later : (s : Fetching) (w : ℕ) → want_of ds past from s ≤ want_of ds past from (fetch_word ds past s w from)
-  unfolding fetch_word
+  unfolding fetch_word behind_use bus_after_request answer_tick_on
   want-later s w = omega arith
 
   pub read-late : (o : Option ℕ) (m w want : ℕ) → m ≤ want → All (IsLate m) (word_asked o w want)
@@ -40,7 +43,7 @@ module _ (ds : List ℕ) (past : List Past) (from : ℕ) where
   read-late None m w want late = All-cons (IsLate m) _ [] late (All-nil (IsLate m))
 
   pub words-late : (s : Fetching) (m w n : ℕ) → m ≤ want_of ds past from s → All (IsLate m) (words_asked ds past s from w n)
-  unfolding words_asked
+  unfolding words_asked reads_of uses wishes fetch_word
   words-late s m w zero late = All-nil (IsLate m)
   words-late s m w (suc n) late =
       All-append (IsLate m) (word_asked (tick_of s.bus.held.words w) w (want_of ds past from s)) _
@@ -122,7 +125,7 @@ module _ (ds : List ℕ) (f : Front) (own target : WordRun) (e : Entry) (are : A
 
   -- the words of the target so far
   part_by : (n : ℕ) → target.len ≡ n → ((words_so_far ds f own target).answered ≤ (words_tick ds f e).answered) × ((words_so_far ds f own target).awaited ≤ (words_tick ds f e).awaited)
-  unfolding words_tick
+  unfolding words_tick fetch_words
   part_by zero none =
       rw (fetch-none ds f.past waits own_part target.first target.len none) (
         omega (arith, own-answered, answered-later ds f.past waits own_whole e.target.first e.target.len),
@@ -149,7 +152,7 @@ module _ (ds : List ℕ) (f : Front) (own target : WordRun) (e : Entry) (are : A
 
   -- what is said of the next word: it is wanted at m or later; or none of the target is there, and that is
   pub left_none : (m : ℕ) → target.len ≡ 0 → (m ≤ want_of ds f.past (wanted_from f) own_part) → AreLeft m
-  unfolding fetches_asked
+  unfolding fetches_asked words_asked fetch_words
   left_none m none late =
       let part = words_asked ds f.past start (wanted_from f) own.first own.len in
       let more = words_asked ds f.past own_part (wanted_from f) (e.own.first + own.len) (e.own.len - own.len) in
@@ -168,7 +171,7 @@ module _ (ds : List ℕ) (f : Front) (own target : WordRun) (e : Entry) (are : A
       }
 
   pub left_target : (m : ℕ) → own ≡ e.own → m ≤ want_of ds f.past waits (fetch_words ds f.past own_part waits target.first target.len) → AreLeft m
-  unfolding fetches_asked
+  unfolding fetches_asked words_asked fetch_words
   left_target m all late =
       let part = words_asked ds f.past start (wanted_from f) own.first own.len in
       let there = fetch_words ds f.past own_part waits target.first target.len in

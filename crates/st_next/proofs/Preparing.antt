@@ -11,9 +11,11 @@ use Rattle.st_prep.specs.Plan.{Sight, sight_of, sight, needs, asks, prepared_ent
 use Rattle.st_prep.specs.Ranges.{IsPlace, IsFetched, IsPrepared}
 use Rattle.st_prep.proofs.PreparedLemmas.{is_needs, alone-serial, same_serial}
 use Rattle.st_prep.proofs.PlanLemmas.{sight-fits, plan-prepared}
-use Rattle.st_rows.specs.BusTimes.{answer_at}
+use Rattle.st_rows.specs.BusTimes.{answer_at, answer_if}
 use Rattle.st_rows.specs.Entries.{latest_done}
-use Rattle.st_rows.specs.Rows.{words_tick as fetched_words, is_forwarded, side_there, preparation_tick as prepared_at, tick_a, tick_y, tick_p}
+use Rattle.st_rows.specs.Rows.{words_tick as fetched_words, preparation_tick as prepared_at, tick_a, tick_y, tick_p}
+use Rattle.st_rows.specs.Words.{side_there, is_forwarded}
+use Rattle.st_rows.specs.Uses.{behind, behind_use, uses}
 use Rattle.st_rows.specs.declared.bus.Bus.{Bus}
 use Rattle.st_rows.specs.declared.entry.Entry.{Entry}
 use Rattle.st_rows.specs.declared.past.Past.{Past}
@@ -26,20 +28,21 @@ use Rattle.st_next.proofs.Steps.{sight-same}
 
 -- ---- the writers of the index-side word are done
 
-side_if : (late : Bool) (a done answer n m : ℕ) (past : List Past) → nat_lt a done ≡ late → done ≤ max (max a (if late then done else answer)) m
-side_if true a done answer n m past e = omega arith
-side_if false a done answer n m past e = omega (arith, ltb-false a done e)
+side_if : (ds : List ℕ) (b : Bus) (w : ℕ) (late : Bool) (a done n m : ℕ) (past : List Past) → nat_lt a done ≡ late
+    → done ≤ max (max a (answer_if ds b w a (if late then Some done else None))) m
+side_if ds b w true a done n m past e = omega arith
+side_if ds b w false a done n m past e = omega (arith, ltb-false a done e)
 
 side_done : (ds : List ℕ) (n : ℕ) (past : List Past) (b : Bus) (side : Option ℕ) (w a : ℕ) → side ≡ Some w
     → latest_done past w < prepared_at n past a (side_there ds past b side a)
-unfolding prepared_at side_there
+unfolding prepared_at side_there behind uses behind_use
 side_done ds n past b None w a e = absurd (cc)
 side_done ds n past b (Some v) w a e =
     let same : v ≡ w = cc in
-    rw same (omega (arith, side_if (is_forwarded past w a) a (latest_done past w) (answer_at ds b w a) n 0 past refl))
+    rw same (omega (arith, side_if ds b w (is_forwarded past w a) a (latest_done past w) n 0 past refl))
 
 pub writers-done : (ds : List ℕ) (n : ℕ) (f : Front) (e : Entry) (w : ℕ) → e.side ≡ Some w → latest_done f.past w ≤ tick_p ds n f e
-unfolding tick_p tick_y
+unfolding tick_p tick_y side_there
 writers-done ds n f e w is = omega (arith, side_done ds n f.past (fetched_words ds f e).bus e.side w (tick_a ds f e) is)
 
 -- ---- the index-side word as it is now

@@ -1,7 +1,8 @@
 -- While the entry rests, what is left of it is wanted later.
 use Rattle.std.proofs.Common.{◌≡◌, ℕ, zero, suc, ◌≤◌, ◌<◌, ◌||◌, max, Bool, true, false, ◌==◌, if◌then◌else◌, List, inl, inr, Option, refl, ◌∙◌, ap, arith}
 use Rattle.st_state.specs.Machine.{Machine}
-use Rattle.st_rows.specs.Rows.{fetch_words, wanted_from, words_tick, address_tick, tick_a}
+use Rattle.st_rows.specs.Rows.{wanted_from, words_tick, address_tick, tick_a}
+use Rattle.st_rows.specs.Words.{fetch_words}
 use Rattle.st_rows.specs.declared.entry.WordRun.{WordRun}
 use Rattle.st_rows.specs.declared.entry.Entry.{Entry}
 use Rattle.st_rows.specs.declared.fetching.Fetching.{Fetching}
@@ -61,7 +62,7 @@ module _ (ds : List ℕ) (m : ℕ) (t : Option ℕ) (u : Machine) (f : Front) (n
   -- ---- and so are the words that are left
 
   left-waits : (n : ℕ) → next.target.len ≡ n → m ≤ wanted_next f next → AreLeft ds f next.own next.target e read.first m
-  unfolding words_tick
+  unfolding words_tick fetch_words
   left-waits zero none late =
       let start : Fetching = record { bus = f.bus; answered = 0; awaited = 0 } in
       let own = fetch_words ds f.past start (wanted_from f) next.own.first next.own.len in

@@ -2,7 +2,8 @@
 use Rattle.std.proofs.Common.{◌≡◌, ℕ, ◌≤◌, false, List, [], inl, Option, refl, sym, ◌∙◌, ap, arith}
 use Rattle.st_state.specs.Machine.{Machine}
 use Rattle.st_prep.specs.Fetch.{place_of}
-use Rattle.st_rows.specs.Rows.{fetch_words, words_tick, wanted_from}
+use Rattle.st_rows.specs.Rows.{words_tick, wanted_from}
+use Rattle.st_rows.specs.Words.{fetch_words, fetch_word}
 use Rattle.st_rows.specs.Asked.{words_asked, fetches_asked}
 use Rattle.st_rows.specs.declared.entry.WordRun.{WordRun}
 use Rattle.st_rows.specs.declared.fetching.Fetching.{Fetching}
@@ -13,6 +14,7 @@ use Rattle.st_next.specs.Progress.{IsNext, Rests, reads_so_far}
 use Rattle.st_next.specs.declared.next.Next.{Next}
 use Rattle.st_next.proofs.Steps.{planned-none}
 use Rattle.st_next.proofs.Asking.{reads-none}
+use Rattle.st_rows.specs.Uses.{behind, reads_of, uses, wishes}
 
 abbrev nothing : WordRun
 nothing = record { first = 0; len = 0 }
@@ -21,11 +23,11 @@ nothing-start : (run : WordRun) → IsStart nothing run
 nothing-start run = record { few = omega arith; first = λ some. absurd (omega arith); none = λ none. refl }
 
 nothing-fetched : (ds : List ℕ) (f : Front) → words_so_far ds f nothing nothing ≡ record { bus = f.bus; answered = 0; awaited = 0 }
-unfolding words_tick fetch_words
+unfolding words_tick fetch_words behind uses wishes fetch_word
 nothing-fetched ds f = refl
 
 nothing-asked : (ds : List ℕ) (f : Front) → asked_so_far ds f nothing nothing ≡ []
-unfolding fetches_asked words_asked
+unfolding fetches_asked words_asked fetch_words reads_of uses wishes fetch_word
 nothing-asked ds f = refl
 
 -- an entry with no word is read on so far

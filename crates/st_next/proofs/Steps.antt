@@ -9,7 +9,8 @@ use Rattle.st_prep.specs.declared.entries.Place.{Place}
 use Rattle.st_prep.specs.Fetch.{index_words, place_of, words_fetched as fetched_at}
 use Rattle.st_prep.specs.Plan.{Sight, sight_of, sight, needs}
 use Rattle.st_prep.specs.Reading.{reading_at_place, left_after, fetching_of}
-use Rattle.st_rows.specs.Rows.{fetch_word, wanted_from, tick_a, bus_a, tick_p}
+use Rattle.st_rows.specs.Rows.{wanted_from, tick_a, bus_a, tick_p}
+use Rattle.st_rows.specs.Words.{fetch_word}
 use Rattle.st_rows.specs.declared.entry.WordRun.{WordRun}
 use Rattle.st_rows.specs.declared.fetching.Fetching.{Fetching}
 use Rattle.st_rows.specs.declared.front.Front.{Front}

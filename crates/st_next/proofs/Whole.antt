@@ -3,8 +3,9 @@ use Rattle.std.specs.Prelude.{All}
 use Rattle.std.proofs.Common.{◌≡◌, ℕ, ◌≤◌, ◌<◌, Bool, true, false, List, ◌++◌, append_assoc, Option, refl, sym, ◌∙◌, ap, arith}
 use Rattle.std.proofs.lemmas.List.Elements.{All-append}
 use Rattle.st_state.specs.Machine.{Machine}
-use Rattle.st_rows.specs.Asked.{Read, reads_of_entry, bus_after_reads, side_asked, runs_asked, following_asked, fetches_asked, prepared_asked, data_of}
-use Rattle.st_rows.specs.Rows.{words_tick, tick_a, bus_a, tick_p, operands}
+use Rattle.st_rows.specs.Asked.{bus_after_reads, side_asked, runs_asked, following_asked, fetches_asked, prepared_asked, data_of, words_asked}
+use Rattle.st_rows.specs.BusTimes.{Read}
+use Rattle.st_rows.specs.Rows.{words_tick, tick_a, bus_a, tick_p, operands, reads_of_entry}
 use Rattle.st_rows.specs.declared.entry.WordRun.{WordRun}
 use Rattle.st_rows.specs.declared.entry.Entry.{Entry}
 use Rattle.st_rows.specs.declared.fetching.Fetching.{Fetching}
@@ -20,6 +21,7 @@ use Rattle.st_next.specs.declared.next.Next.{Next}
 use Rattle.st_next.proofs.Late.{IsLate}
 use Rattle.st_next.proofs.Resting.{address-late, rest-left}
 use Rattle.st_next.proofs.Asking.{reads-none, reads-planned, side-late}
+use Rattle.st_rows.specs.Words.{bus_sided, fetch_words}
 
 -- all of the data is wanted when the address is formed or later
 data-late : (ds : List ℕ) (n m : ℕ) (f : Front) (e : Entry) → m ≤ tick_a ds f e → All (IsLate m) (data_of ds n f e)
@@ -31,7 +33,7 @@ data-late ds n m f e late =
 
 -- the words of the entry, with whatever else
 fetches-same : (ds : List ℕ) (f : Front) (own target : WordRun) (e : Entry) → own ≡ e.own → target ≡ e.target → asked_so_far ds f own target ≡ fetches_asked ds f e
-unfolding fetches_asked
+unfolding fetches_asked words_asked fetch_words
 fetches-same ds f own target e o g = rw (o, g) refl
 
 -- ---- of an entry that is not planned
@@ -91,7 +93,7 @@ module _ (ds : List ℕ) (n : ℕ) (t : Option ℕ) (u : Machine) (f : Front) (n
       }
 
   served-planned : bus_after_reads ds (reads_so_far ds f next) f.bus ≡ next.words.bus
-  unfolding bus_a
+  unfolding bus_a bus_sided
   served-planned =
       let side = side_asked f.past e.side (tick_a ds f e) in
       ap (λ reads. bus_after_reads ds reads f.bus) planned-reads ∙ served-append ds (fetches_asked ds f e) side f.bus

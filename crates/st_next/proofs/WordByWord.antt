@@ -4,13 +4,16 @@ use Rattle.std.proofs.Math.Nat.{add-zero, zero-add, suc-add}
 use Rattle.std.proofs.lemmas.List.{append-nil}
 use Rattle.st_fetch.specs.Planned.{tick_of}
 use Rattle.st_prep.proofs.GivenLemmas.{is_none, is_some}
-use Rattle.st_rows.specs.Rows.{fetch_word, fetch_words, wanted_from, words_tick}
-use Rattle.st_rows.specs.Asked.{Read, word_asked, words_asked, fetches_asked}
+use Rattle.st_rows.specs.Rows.{wanted_from, words_tick}
+use Rattle.st_rows.specs.Words.{fetch_word, fetch_words}
+use Rattle.st_rows.specs.Asked.{word_asked, words_asked, fetches_asked}
+use Rattle.st_rows.specs.BusTimes.{Read}
 use Rattle.st_rows.specs.declared.entry.WordRun.{WordRun}
 use Rattle.st_rows.specs.declared.past.Past.{Past}
 use Rattle.st_rows.specs.declared.fetching.Fetching.{Fetching}
 use Rattle.st_rows.specs.declared.front.Front.{Front}
 use Rattle.st_next.specs.Words.{run_with_word, words_so_far, asked_so_far}
+use Rattle.st_rows.specs.Uses.{behind, reads_of, uses, wishes}
 
 module _ (ds : List ℕ) (past : List Past) (from : ℕ) where
   -- the want of the next word
@@ -20,7 +23,7 @@ module _ (ds : List ℕ) (past : List Past) (from : ℕ) where
   -- some words, and then more
   pub fetch-more : (s : Fetching) (w m k : ℕ)
       → fetch_words ds past s from w (m + k) ≡ fetch_words ds past (fetch_words ds past s from w m) from (w + m) k
-  unfolding fetch_words
+  unfolding fetch_words behind uses wishes fetch_word
   fetch-more s w zero k = rw (zero-add k, add-zero w) refl
   fetch-more s w (suc m) k =
       rw (suc-add m k)
@@ -30,7 +33,7 @@ module _ (ds : List ℕ) (past : List Past) (from : ℕ) where
   pub asked-more : (s : Fetching) (w m k : ℕ)
       → words_asked ds past s from w (m + k)
       ≡ words_asked ds past s from w m ++ words_asked ds past (fetch_words ds past s from w m) from (w + m) k
-  unfolding fetch_words words_asked
+  unfolding fetch_words words_asked behind uses wishes fetch_word reads_of
   asked-more s w zero k = rw (zero-add k, add-zero w) refl
   asked-more s w (suc m) k =
       let first = word_asked (tick_of s.bus.held.words w) w (want_of s) in
@@ -44,19 +47,19 @@ module _ (ds : List ℕ) (past : List Past) (from : ℕ) where
   -- ---- one word more behind those of a run
 
   pub fetch-none : (s : Fetching) (w n : ℕ) → n ≡ 0 → fetch_words ds past s from w n ≡ s
-  unfolding fetch_words
+  unfolding fetch_words behind uses wishes fetch_word
   fetch-none s w zero e = refl
   fetch-none s w (suc n) e = absurd (omega arith)
 
   pub asked-none : (s : Fetching) (w n : ℕ) → n ≡ 0 → words_asked ds past s from w n ≡ []
-  unfolding words_asked
+  unfolding words_asked reads_of uses wishes fetch_word
   asked-none s w zero e = refl
   asked-none s w (suc n) e = absurd (omega arith)
 
   fetch-by : (b : Bool) (s : Fetching) (v n w : ℕ) → (n == 0) ≡ b → (1 ≤ n → w ≡ v + n)
       → fetch_words ds past s from (if b then w else v) (n + 1)
       ≡ fetch_word ds past (fetch_words ds past s from v n) w from
-  unfolding fetch_words
+  unfolding fetch_words behind uses wishes fetch_word
   fetch-by true s v n w e place = rw (is_none n e) refl
   fetch-by false s v n w e place =
       fetch-more s v n 1 ∙ ap (λ k. fetch_word ds past (fetch_words ds past s from v n) k from) (sym (place (is_some n e)))
@@ -73,7 +76,7 @@ module _ (ds : List ℕ) (past : List Past) (from : ℕ) where
   asked-by : (b : Bool) (s : Fetching) (v n w : ℕ) → (n == 0) ≡ b → (1 ≤ n → w ≡ v + n)
       → words_asked ds past s from (if b then w else v) (n + 1)
       ≡ words_asked ds past s from v n ++ read_of (fetch_words ds past s from v n) w
-  unfolding fetch_words words_asked
+  unfolding fetch_words words_asked behind uses wishes fetch_word reads_of
   asked-by true s v n w e place = rw (is_none n e) (append-nil (read_of s w))
   asked-by false s v n w e place =
       asked-more s v n 1
@@ -99,22 +102,22 @@ module _ (ds : List ℕ) (f : Front) (own target : WordRun) (w : ℕ) where
 
   pub own-fetched : target.len ≡ 0 → (1 ≤ own.len → w ≡ own.first + own.len)
       → words_so_far ds f (run_with_word own w) target ≡ fetch_word ds f.past (words_so_far ds f own target) w (wanted_from f)
-  unfolding words_tick
+  unfolding words_tick fetch_words
   own-fetched none place =
       fetch-none ds f.past waits _ target.first target.len none ∙ fetch-word ds f.past (wanted_from f) before own w place
       ∙ ap (λ s. fetch_word ds f.past s w (wanted_from f)) (sym (fetch-none ds f.past waits own_words target.first target.len none))
 
   pub target-fetched : (1 ≤ target.len → w ≡ target.first + target.len)
       → words_so_far ds f own (run_with_word target w) ≡ fetch_word ds f.past (words_so_far ds f own target) w (max (wanted_from f) f.c)
-  unfolding words_tick
+  unfolding words_tick fetch_words
   target-fetched place = fetch-word ds f.past waits own_words target w place
 
   own-words : target.len ≡ 0 → words_so_far ds f own target ≡ own_words
-  unfolding words_tick
+  unfolding words_tick fetch_words
   own-words none = fetch-none ds f.past waits own_words target.first target.len none
 
   own-reads : target.len ≡ 0 → asked_so_far ds f own target ≡ words_asked ds f.past before (wanted_from f) own.first own.len
-  unfolding fetches_asked
+  unfolding fetches_asked words_asked fetch_words
   own-reads none =
       ap (λ reads. words_asked ds f.past before (wanted_from f) own.first own.len ++ reads)
       (asked-none ds f.past waits own_words target.first target.len none)
@@ -122,7 +125,7 @@ module _ (ds : List ℕ) (f : Front) (own target : WordRun) (w : ℕ) where
 
   pub target-asked : (1 ≤ target.len → w ≡ target.first + target.len)
       → asked_so_far ds f own (run_with_word target w) ≡ asked_so_far ds f own target ++ read_of ds f.past (max (wanted_from f) f.c) (words_so_far ds f own target) w
-  unfolding words_tick fetches_asked
+  unfolding words_tick fetches_asked fetch_words words_asked
   target-asked place =
       ap (λ reads. words_asked ds f.past before (wanted_from f) own.first own.len ++ reads) (asked-word ds f.past waits own_words target w place)
       ∙ sym (append_assoc (words_asked ds f.past before (wanted_from f) own.first own.len) (words_asked ds f.past own_words waits target.first target.len) _)

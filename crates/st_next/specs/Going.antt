@@ -10,10 +10,11 @@ use Rattle.st_prep.specs.declared.entries.Fetching.TheVariants.{Found}
 use Rattle.st_prep.specs.Fetch.{reading_by}
 use Rattle.st_prep.specs.Plan.{sight_of, needs, plan}
 use Rattle.st_prep.specs.Reading.{left_after, fetching_of}
-use Rattle.st_rows.specs.Asked.{Read, reads_of_entry, bus_after_reads}
+use Rattle.st_rows.specs.Asked.{bus_after_reads}
+use Rattle.st_rows.specs.BusTimes.{Read}
 use Rattle.st_rows.specs.Notes.{log_after_reads}
 use Rattle.st_rows.specs.Ranges.{IsTight, IsFetchingWithin, ArePastWithin}
-use Rattle.st_rows.specs.Rows.{wanted_from}
+use Rattle.st_rows.specs.Rows.{wanted_from, reads_of_entry}
 use Rattle.st_rows.specs.declared.entry.Entry.{Entry}
 use Rattle.st_rows.specs.declared.fetching.Fetching.{Fetching}
 use Rattle.st_rows.specs.declared.front.Front.{Front}

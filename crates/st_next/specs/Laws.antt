@@ -1,9 +1,9 @@
 -- What holds of the reads that are asked for the entry that is prepared next.
 use Rattle.std.specs.Prelude.{◌≡◌, ℕ, List, [], ◌++◌, ◌≤◌, Option, true, false, ◌<◌}
 use Rattle.st_state.specs.Machine.{Machine}
-use Rattle.st_rows.specs.Asked.{reads_of_entry, bus_after_reads, prepared_asked}
+use Rattle.st_rows.specs.Asked.{bus_after_reads, prepared_asked}
 use Rattle.st_prep.specs.Fetch.{place_of}
-use Rattle.st_rows.specs.Rows.{tick_a, wanted_from}
+use Rattle.st_rows.specs.Rows.{tick_a, wanted_from, reads_of_entry}
 use Rattle.st_rows.specs.declared.front.Front.{Front}
 use Rattle.st_segment.specs.Entries.{entry}
 use Rattle.st_next.specs.Progress.{IsNext, Rests, reads_so_far}

@@ -5,10 +5,12 @@ use Rattle.st_state.specs.Machine.{Machine}
 use Rattle.st_prep.specs.Fetch.{place_of, words_fetched as fetched_at}
 use Rattle.st_prep.specs.Plan.{Sight, needs as needs_of, sight, prepared_entry as prepared_of}
 use Rattle.st_prep.specs.declared.entries.Prepared.{Prepared}
-use Rattle.st_rows.specs.Rows.{wanted_from, tick_a, bus_a, tick_p, nothing_fetched}
+use Rattle.st_rows.specs.Rows.{wanted_from, tick_a, bus_a, tick_p}
+use Rattle.st_rows.specs.Words.{nothing_fetched}
 use Rattle.st_rows.specs.Entries.{no_run}
 use Rattle.st_rows.specs.declared.bus.Bus.{Bus}
-use Rattle.st_rows.specs.Asked.{Read, side_asked}
+use Rattle.st_rows.specs.Asked.{side_asked}
+use Rattle.st_rows.specs.BusTimes.{Read}
 use Rattle.st_rows.specs.declared.front.Front.{Front}
 use Rattle.st_segment.specs.Entries.{entry as entry_of}
 use Rattle.st_next.specs.Known.{IsStateBefore}

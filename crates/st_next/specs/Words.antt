@@ -2,7 +2,8 @@
 use Rattle.std.specs.Prelude.{ℕ, ◌≡◌, ◌+◌, ◌≤◌, ◌==◌, false, if◌then◌else◌, List, None}
 use Rattle.st_rows.specs.Entries.{no_runs}
 use Rattle.st_rows.specs.Rows.{words_tick}
-use Rattle.st_rows.specs.Asked.{Read, fetches_asked}
+use Rattle.st_rows.specs.Asked.{fetches_asked}
+use Rattle.st_rows.specs.BusTimes.{Read}
 use Rattle.st_rows.specs.declared.entry.WordRun.{WordRun}
 use Rattle.st_rows.specs.declared.entry.Entry.{Entry}
 use Rattle.st_rows.specs.declared.fetching.Fetching.{Fetching}

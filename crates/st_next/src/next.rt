@@ -10,7 +10,8 @@ ghost use Rattle.st_format.specs.Formats.{decoded_entry, instruction_of, spelled
 ghost use Rattle.st_rows.specs.Asked.{word_asked};
 ghost use Rattle.st_rows.specs.Notes.{log_after_reads};
 ghost use Rattle.st_rows.specs.Ranges.{IsEntryInTime};
-ghost use Rattle.st_rows.specs.Rows.{wanted_from, fetch_word};
+ghost use Rattle.st_rows.specs.Rows.{wanted_from};
+ghost use Rattle.st_rows.specs.Words.{fetch_word};
 ghost use Rattle.st_segment.specs.Alone.{words_of_run};
 ghost use Rattle.st_next.specs.Words.{words_alone, run_with_word as with_word_of};
 ghost use Rattle.st_next.specs.Progress.{IsUnread, IsKnown, IsNextReady};

@@ -6,9 +6,11 @@ use Rattle.std.proofs.lemmas.List.{append-nil}
 use Rattle.std.proofs.lemmas.Bool.{ltb-true, ltb-false, le-leb, lt-leb}
 use Rattle.st_bits.specs.Storage.{words_of_storage}
 use Rattle.st_fetch.specs.Planned.{tick_of}
-use Rattle.st_rows.specs.BusTimes.{OperandReading, accept_at, answer_at, bus_after_read, bus_after_request, requested_if, answer_if, answer_tick_on}
+use Rattle.st_rows.specs.BusTimes.{accept_at, answer_at, bus_after_read, bus_after_request, requested_if, answer_if, answer_tick_on}
 use Rattle.st_rows.specs.Entries.{latest_done}
-use Rattle.st_rows.specs.Rows.{fetch_word, fetch_words, wanted_from, words_tick, address_tick, is_forwarded, bus_sided, read_word, read_words, operands_read, operands, request_inside, tick_a, bus_a, tick_p}
+use Rattle.st_rows.specs.Rows.{wanted_from, words_tick, address_tick, operands, tick_a, bus_a, tick_p}
+use Rattle.st_rows.specs.Words.{fetch_word, fetch_words, bus_sided, read_word, read_words, operands_read, request_inside, is_forwarded}
+use Rattle.st_rows.specs.Uses.{behind, behind_use, uses, wishes}
 use Rattle.st_rows.specs.declared.bus.Bus.{Bus}
 use Rattle.st_rows.specs.declared.entry.Entry.{Entry}
 use Rattle.st_rows.specs.declared.fetching.Fetching.{Fetching}
@@ -22,6 +24,8 @@ use Rattle.st_plain.specs.declared.uses.Role.TheVariants.{Following}
 use Rattle.st_plain.specs.declared.uses.Supply.{Supply}
 use Rattle.st_plain.specs.declared.uses.Supply.TheVariants.{Read, Held, Forwarded, Register}
 use Rattle.st_plain.specs.declared.uses.Use.{Use}
+use Rattle.st_rows.proofs.UseLemmas.{side_if}
+use Rattle.st_plain.proofs.UseLemmas.{inside-told, following-told}
 
 -- no word is left
 none-left : (v t : ℕ) → AreInTurn v t []
@@ -62,7 +66,7 @@ module _ (ds : List ℕ) where
 
   module _ (past : List Past) where
     answered-rises : (from : ℕ) (s : Fetching) (w n : ℕ) → s.answered ≤ (fetch_words ds past s from w n).answered
-    unfolding fetch_words fetch_word
+    unfolding fetch_words fetch_word behind uses wishes behind_use bus_after_request answer_tick_on
     answered-rises from s w zero = omega arith
     answered-rises from s w (suc n) = omega (arith, answered-rises from (fetch_word ds past s w from) (w + 1) n)
 
@@ -70,7 +74,7 @@ module _ (ds : List ℕ) where
     instructions-in-turn : (from : ℕ) (s : Fetching) (w n v t : ℕ) (rest : List Use) → v ≤ max (max from s.answered) s.awaited → t ≤ s.bus.free
         → AreInTurn (max v (fetch_words ds past s from w n).answered) (fetch_words ds past s from w n).bus.free rest
         → AreInTurn v t (instruction_uses ds past s from w n ++ rest)
-    unfolding instruction_uses fetch_words fetch_word bus_after_request answer_tick_on AreInTurn
+    unfolding instruction_uses fetch_words fetch_word bus_after_request answer_tick_on AreInTurn behind uses wishes behind_use
     instructions-in-turn from s w zero v t rest low less are = sooner (max v s.answered) v s.bus.free t rest (omega arith) less are
     instructions-in-turn from s w (suc n) v t rest low less are =
         fetched (tick_of s.bus.held.words w) s.bus w (max (max from s.answered) s.awaited) v t
@@ -82,7 +86,7 @@ module _ (ds : List ℕ) where
 
     -- the index-side word
     side-if : (late : Bool) (b : Bus) (w a v t : ℕ) (us : List Use) → v ≤ a → t ≤ b.free
-        → AreInTurn a (if late then b else bus_after_read ds b w a).free us
+        → AreInTurn a (side_if ds b w a (if late then Some (latest_done past w) else None)).free us
         → IsInTurn v t (if late then Forwarded (record { back = writer_back past w; done = latest_done past w }) else Read (read_ticks ds b w a))
         × AreInTurn (want_behind v (if late then Forwarded (record { back = writer_back past w; done = latest_done past w }) else Read (read_ticks ds b w a)))
         (turn_behind t (if late then Forwarded (record { back = writer_back past w; done = latest_done past w }) else Read (read_ticks ds b w a))) us
@@ -92,7 +96,7 @@ module _ (ds : List ℕ) where
 
     side-in-turn : (b : Bus) (side : Option ℕ) (a v t : ℕ) (rest : List Use) → v ≤ a → t ≤ b.free
         → AreInTurn a (bus_sided ds past b (side_to_read side) a).free rest → AreInTurn v t (side_uses ds past b side a ++ rest)
-    unfolding side_uses side_to_read bus_sided AreInTurn
+    unfolding side_uses side_to_read bus_sided AreInTurn behind uses behind_use
     side-in-turn b None a v t rest low less are = sooner a v b.free t rest low less are
     side-in-turn b (Some w) a v t rest low less are = elim (cases_Bool (nat_lt w 32)) [
       | inl y ↦
@@ -109,9 +113,9 @@ module _ (ds : List ℕ) where
     registers-in-turn w zero v t rest are = are
     registers-in-turn w (suc n) v t rest are = (tt, registers-in-turn (w + 1) n v t rest are)
 
-    operand-if : (late : Bool) (s : OperandReading) (w p v t : ℕ) (us : List Use) → v ≤ p → t ≤ s.bus.free
+    operand-if : (late : Bool) (s : Fetching) (w p v t : ℕ) (us : List Use) → v ≤ p → t ≤ s.bus.free
         → ((x y : ℕ) → x ≤ p
-        → y ≤ (if late then s else record { bus = bus_after_read ds s.bus w p; answered = max s.answered (answer_at ds s.bus w p) }).bus.free
+        → y ≤ (side_if ds s.bus w p (if late then Some (latest_done past w) else None)).free
         → AreInTurn x y us)
         → IsInTurn v t (if late then Forwarded (record { back = writer_back past w; done = latest_done past w }) else Read (read_ticks ds s.bus w p))
         × AreInTurn (want_behind v (if late then Forwarded (record { back = writer_back past w; done = latest_done past w }) else Read (read_ticks ds s.bus w p)))
@@ -120,9 +124,9 @@ module _ (ds : List ℕ) where
     operand-if true s w p v t us low less rest = (tt, rest v t low less)
     operand-if false s w p v t us low less rest = (one-read s.bus w p v t low less, rest p (accept_at s.bus w p + 1) (omega arith) (omega arith))
 
-    operands-in-turn : (s : OperandReading) (p w n v t : ℕ) (rest : List Use) → v ≤ p → t ≤ s.bus.free
+    operands-in-turn : (s : Fetching) (p w n v t : ℕ) (rest : List Use) → v ≤ p → t ≤ s.bus.free
         → AreInTurn p (read_words ds past s p w n).bus.free rest → AreInTurn v t (operand_uses ds past s p w n ++ rest)
-    unfolding operand_uses read_words read_word AreInTurn
+    unfolding operand_uses read_words read_word AreInTurn behind uses wishes behind_use
     operands-in-turn s p w zero v t rest low less are = sooner p v s.bus.free t rest low less are
     operands-in-turn s p w (suc n) v t rest low less are =
         operand-if (is_forwarded past w p) s w p v t (operand_uses ds past (read_word ds past s w p) p (w + 1) n ++ rest) low less
@@ -140,8 +144,7 @@ module _ (ds : List ℕ) where
 
   inside-in-turn : (b : Bus) (w p v t : ℕ) (rest : List Use) → v ≤ p → t ≤ b.free → AreInTurn p (request_inside ds b w p).free rest
       → AreInTurn v t (inside_uses ds b w p ++ rest)
-  unfolding inside_uses
-  inside-in-turn b w p v t rest low less are = inside-if (nat_lt w words_of_storage) b w p v t rest low less are
+  inside-in-turn b w p v t rest low less are = rw (inside-told ds b w p) (inside-if (nat_lt w words_of_storage) b w p v t rest low less are)
 
   following-if : (follows : Bool) (b : Bus) (w p v t : ℕ) → v ≤ p → t ≤ b.free
       → AreInTurn v t (if follows then inside_uses ds b w p ++ inside_uses ds (request_inside ds b w p) (w + 1) p else [])
@@ -154,8 +157,8 @@ module _ (ds : List ℕ) where
   following-if false b w p v t low less = none-left v t
 
   following-in-turn : (b : Bus) (e : Entry) (p v t : ℕ) → v ≤ p → t ≤ b.free → AreInTurn v t (following_uses ds b e p)
-  unfolding following_uses
-  following-in-turn b e p v t low less = following-if e.follows b (e.own.first + e.own.len) p v t low less
+  following-in-turn b e p v t low less =
+      rw (following-told ds b e p) (following-if e.follows b (e.own.first + e.own.len) p v t low less)
 
 -- ---- all of them
 
@@ -168,7 +171,7 @@ unfolding tick_a address_tick
 answered-a ds f e = omega arith
 
 pub reads_of_an_entry_come_in_turn : ReadsOfAnEntryComeInTurn
-unfolding uses_of_entry fetch_uses data_uses words_tick bus_a operands operands_read
+unfolding uses_of_entry fetch_uses data_uses words_tick bus_a operands operands_read fetch_words bus_sided read_words instruction_uses
 reads_of_an_entry_come_in_turn ds n f e side reads side_is =
     let p = tick_p ds n f e in
     let a = tick_a ds f e in
@@ -178,7 +181,7 @@ reads_of_an_entry_come_in_turn ds n f e side reads side_is =
     let own = fetch_words ds past start (wanted_from f) e.own.first e.own.len in
     let words = fetch_words ds past own late e.target.first e.target.len in
     let sided = bus_a ds f e in
-    let begun : OperandReading = record { bus = sided; answered = p } in
+    let begun : Fetching = record { bus = sided; answered = p; awaited = 0 } in
     let one = read_words ds past begun p e.reads.one.first e.reads.one.len in
     let two = read_words ds past one p e.reads.two.first e.reads.two.len in
     let follow = following_uses ds two.bus e p in

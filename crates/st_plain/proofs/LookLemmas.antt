@@ -6,10 +6,11 @@ use Rattle.std.proofs.lemmas.Bool.{lt-ltb, le-ltb}
 use Rattle.st_state.specs.Machine.{Machine}
 use Rattle.st_prep.specs.declared.entries.Prepared.{Prepared}
 use Rattle.st_exec.specs.Completion.{state_after_completion, guessed_state, guess}
-use Rattle.st_rows.specs.Asked.{Read, formed_asked, reads_of_entry, bus_after_reads}
+use Rattle.st_rows.specs.Asked.{formed_asked, bus_after_reads}
+use Rattle.st_rows.specs.BusTimes.{Read}
 use Rattle.st_rows.specs.Entries.{no_runs}
 use Rattle.st_rows.specs.Notes.{log_after_reads}
-use Rattle.st_rows.specs.Rows.{row_of_entry, front_after_entry, bus_a, tick_p, tick_c, preparation_tick, done_before}
+use Rattle.st_rows.specs.Rows.{row_of_entry, front_after_entry, bus_a, tick_p, tick_c, preparation_tick, done_before, reads_of_entry}
 use Rattle.st_rows.specs.declared.entry.Entry.{Entry}
 use Rattle.st_rows.specs.declared.log.Made.{Made}
 use Rattle.st_rows.specs.declared.past.Past.{Past}

@@ -2,10 +2,11 @@
 use Rattle.std.specs.Prelude.{slice_set, slice_index_or}
 use Rattle.std.proofs.Common.{◌≡◌, ℕ, zero, suc, ◌+◌, ◌-◌, ◌≤◌, max, List, [], ◌∷◌, length, take, refl, sym, ap, ◌∙◌, arith}
 use Rattle.st_fetch.specs.Planned.{tick_of}
-use Rattle.st_rows.specs.Asked.{word_asked, words_asked, side_asked, runs_asked, following_asked, fetches_asked, formed_asked, prepared_asked, reads_of_entry, bus_after_reads}
-use Rattle.st_rows.specs.BusTimes.{bus_after_request}
+use Rattle.st_rows.specs.Asked.{word_asked, words_asked, side_asked, runs_asked, following_asked, fetches_asked, formed_asked, prepared_asked, bus_after_reads}
+use Rattle.st_rows.specs.BusTimes.{bus_after_request, answer_tick_on}
 use Rattle.st_rows.specs.Notes.{log_after_reads}
-use Rattle.st_rows.specs.Rows.{fetch_word, fetch_words, wanted_from, words_tick, tick_a, bus_a, tick_p, operands}
+use Rattle.st_rows.specs.Rows.{wanted_from, words_tick, tick_a, bus_a, tick_p, operands, reads_of_entry}
+use Rattle.st_rows.specs.Words.{fetch_word, fetch_words}
 use Rattle.st_rows.specs.declared.bus.Bus.{Bus}
 use Rattle.st_rows.specs.declared.entry.Entry.{Entry}
 use Rattle.st_rows.specs.declared.fetching.Fetching.{Fetching}
@@ -15,23 +16,24 @@ use Rattle.st_rows.specs.declared.past.Past.{Past}
 use Rattle.st_rows.proofs.Noted.{noted-two}
 use Rattle.st_rows.proofs.Parts.{two-parts}
 use Rattle.st_rows.proofs.Served.{served-word, served-words, served-runs, served-fetches, served-formed}
+use Rattle.st_rows.specs.Uses.{behind, behind_use, reads_of, uses, wishes}
 
 module _ (ds : List ℕ) (past : List Past) (from w : ℕ) where
   pub fetch-turn : (s t : Fetching) (n : ℕ) → t ≡ fetch_word ds past s w from → 1 ≤ n
       → fetch_words ds past t from (w + 1) (n - 1) ≡ fetch_words ds past s from w n
-  unfolding fetch_words
+  unfolding fetch_words behind uses wishes fetch_word
   fetch-turn s t zero is some = let no : ⊥ = omega arith in absurd no
   fetch-turn s t (suc n) is some = let e : suc n - 1 ≡ n = omega arith in rw (is, e) refl
 
   word-bus : (s : Fetching) → (fetch_word ds past s w from).bus
       ≡ bus_after_reads ds (word_asked (tick_of s.bus.held.words w) w (max (max from s.answered) s.awaited)) s.bus
-  unfolding fetch_word bus_after_request
+  unfolding fetch_word bus_after_request behind_use answer_tick_on
   word-bus s = sym (served-word ds (tick_of s.bus.held.words w) w (max (max from s.answered) s.awaited) s.bus)
 
   pub noted-turn : (s t : Fetching) (n : ℕ) (log new : List Made) → t ≡ fetch_word ds past s w from
       → new ≡ log_after_reads ds (word_asked (tick_of s.bus.held.words w) w (max (max from s.answered) s.awaited)) s.bus log → 1 ≤ n
       → log_after_reads ds (words_asked ds past t from (w + 1) (n - 1)) t.bus new ≡ log_after_reads ds (words_asked ds past s from w n) s.bus log
-  unfolding words_asked
+  unfolding words_asked reads_of uses wishes fetch_word
   noted-turn s t zero log new is made some = let no : ⊥ = omega arith in absurd no
   noted-turn s t (suc n) log new is made some =
       let e : suc n - 1 ≡ n = omega arith in
@@ -41,12 +43,12 @@ module _ (ds : List ℕ) (past : List Past) (from w : ℕ) where
 
   pub noted-end : (s : Fetching) (n : ℕ) (log all : List Made) → n ≡ 0
       → log_after_reads ds (words_asked ds past s from w n) s.bus log ≡ all → log ≡ all
-  unfolding words_asked log_after_reads
+  unfolding words_asked log_after_reads reads_of uses wishes fetch_word
   noted-end s zero log all none h = h
   noted-end s (suc n) log all none h = let no : ⊥ = omega arith in absurd no
 
   pub fetch-end : (s all : Fetching) (n : ℕ) → n ≡ 0 → fetch_words ds past s from w n ≡ all → s ≡ all
-  unfolding fetch_words
+  unfolding fetch_words behind uses wishes fetch_word
   fetch-end s all zero none h = h
   fetch-end s all (suc n) none h = let no : ⊥ = omega arith in absurd no
 
@@ -59,7 +61,7 @@ module _ (ds : List ℕ) (f : Front) (e : Entry) where
       → from ≡ wanted_from f → late ≡ max from f.c
       → t ≡ fetch_words ds f.past s from e.own.first e.own.len → one ≡ log_after_reads ds (words_asked ds f.past s from e.own.first e.own.len) s.bus log
       → two ≡ log_after_reads ds (words_asked ds f.past t late e.target.first e.target.len) t.bus one → two ≡ log_after_reads ds (fetches_asked ds f e) f.bus log
-  unfolding fetches_asked start
+  unfolding fetches_asked start words_asked fetch_words
   noted-fetches s t from late log one two is wanted later own one_is two_is =
       let own_reads = words_asked ds f.past start (wanted_from f) e.own.first e.own.len in
       let behind = fetch_words ds f.past start (wanted_from f) e.own.first e.own.len in

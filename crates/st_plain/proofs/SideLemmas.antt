@@ -8,9 +8,10 @@ use Rattle.st_banks.specs.declared.answers.TheConstants.{BANKS}
 use Rattle.st_banks.proofs.BankLemmas.{bank_of-below}
 use Rattle.st_rows.specs.BusTimes.{answer_at, bus_after_read}
 use Rattle.st_rows.specs.Entries.{latest_done}
-use Rattle.st_rows.specs.Rows.{bus_sided, side_there}
+use Rattle.st_rows.specs.Words.{bus_sided, side_there}
 use Rattle.st_rows.specs.declared.bus.Bus.{Bus}
 use Rattle.st_rows.specs.declared.past.Past.{Past}
+use Rattle.st_rows.specs.Uses.{behind, behind_use, uses}
 
 -- its answer is the last one of its bank
 last-answer : (ds : List ℕ) (b : Bus) (w a : ℕ) → length (bus_after_read ds b w a).banks.ticks ≡ BANKS
@@ -23,7 +24,7 @@ last-answer ds b w a all =
 
 pub there-read : (ds : List ℕ) (past : List Past) (b d : Bus) (w a done x : ℕ) → done ≡ latest_done past w → done ≤ a
     → length d.banks.ticks ≡ BANKS → x ≡ last_of d.banks.ticks w → d ≡ bus_sided ds past b (Some w) a → x ≡ side_there ds past b (Some w) a
-unfolding bus_sided side_there
+unfolding bus_sided side_there behind uses behind_use
 there-read ds past b d w a done x is early all last behind =
     let test : nat_lt a (latest_done past w) ≡ false = le-ltb a (latest_done past w) (omega (arith, is, early)) in
     let read : d ≡ bus_after_read ds b w a = rw test at behind in

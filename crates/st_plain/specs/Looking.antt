@@ -8,8 +8,9 @@ use Rattle.st_prep.specs.Fetch.{place_of, words_fetched}
 use Rattle.st_prep.specs.Plan.{needs, sight}
 use Rattle.st_prep.specs.Reading.{is_execute}
 use Rattle.st_prep.specs.declared.entries.Fetched.{Fetched}
-use Rattle.st_rows.specs.Asked.{Read, reads_of_entry, formed_asked}
-use Rattle.st_rows.specs.Rows.{tick_a, tick_y, done_before}
+use Rattle.st_rows.specs.Asked.{formed_asked}
+use Rattle.st_rows.specs.BusTimes.{Read}
+use Rattle.st_rows.specs.Rows.{tick_a, tick_y, done_before, reads_of_entry}
 use Rattle.st_rows.specs.declared.entry.Entry.{Entry}
 use Rattle.st_rows.specs.declared.front.Front.{Front}
 use Rattle.st_segment.specs.Ahead.{Ahead, plan_of}

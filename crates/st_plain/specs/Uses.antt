@@ -1,14 +1,14 @@
 -- The words that an entry uses, in the order of their reads, and where each of them comes from.
-use Rattle.std.specs.Prelude.{ℕ, zero, suc, ◌+◌, ◌-◌, max, nat_lt, if◌then◌else◌, List, [], ◌∷◌, ◌++◌, Option, None, Some}
+use Rattle.std.specs.Prelude.{ℕ, zero, suc, ◌+◌, ◌-◌, nat_lt, if◌then◌else◌, List, [], ◌∷◌, ◌++◌, map, Option, None, Some}
 use Rattle.std.specs.List.{position}
-use Rattle.st_bits.specs.Storage.{words_of_storage}
 use Rattle.st_bits.specs.declared.register.TheConstants.{FIRST_STORAGE_WORD}
 use Rattle.st_banks.specs.Bank.{last_of}
-use Rattle.st_fetch.specs.Planned.{tick_of}
 use Rattle.st_prep.specs.declared.entries.Words.{Words}
-use Rattle.st_rows.specs.BusTimes.{OperandReading, accept_at, answer_at}
+use Rattle.st_rows.specs.BusTimes.{accept_at, answer_at}
 use Rattle.st_rows.specs.Entries.{is_among, latest_done}
-use Rattle.st_rows.specs.Rows.{fetch_word, fetch_words, wanted_from, words_tick, is_forwarded, read_word, read_words, request_inside, tick_a, bus_a, tick_p, operands}
+use Rattle.st_rows.specs.Rows.{own_uses, target_uses, words_tick, tick_a, bus_a, tick_p, operands, inside_wish, followings}
+use Rattle.st_rows.specs.Uses.{Role as WordRole, Instruction as OfInstruction, Index as OfIndex, Operand as OfOperand, Following as OfFollowing, Use as WordUse, wishes, uses, unused, wish_of}
+use Rattle.st_rows.specs.Words.{read_words, is_forwarded}
 use Rattle.st_rows.specs.declared.bus.Bus.{Bus}
 use Rattle.st_rows.specs.declared.entry.Entry.{Entry}
 use Rattle.st_rows.specs.declared.entry.WordRun.{WordRun}
@@ -17,6 +17,7 @@ use Rattle.st_rows.specs.declared.fetching.Fetching.{Fetching}
 use Rattle.st_rows.specs.declared.front.Front.{Front}
 use Rattle.st_rows.specs.declared.past.Past.{Past}
 use Rattle.st_plain.specs.declared.uses.ReadTicks.{ReadTicks}
+use Rattle.st_plain.specs.declared.uses.Role.{Role}
 use Rattle.st_plain.specs.declared.uses.Role.TheVariants.{Instruction, Index, Operand, Following}
 use Rattle.st_plain.specs.declared.uses.Supply.{Supply}
 use Rattle.st_plain.specs.declared.uses.Supply.TheVariants.{Read, Held, Forwarded, Register}
@@ -55,29 +56,36 @@ storage_supply ds past b w tick =
     then Forwarded (record { back = writer_back past w; done = latest_done past w })
     else Read (read_ticks ds b w tick)
 
+-- ---- the uses that the timetable tells, one by one
+
+-- what the word is used as
+abbrev pub role_told : WordRole → Role
+role_told OfInstruction = Instruction
+role_told OfIndex = Index
+role_told OfOperand = Operand
+role_told OfFollowing = Following
+
+-- where it comes from
+abbrev pub supply_told : List ℕ → List Past → WordUse → Supply
+supply_told ds past u =
+    if u.read.fetch then fetch_supply u.unread ds u.bus u.read.w u.read.want
+    else storage_supply ds past u.bus u.read.w u.read.want
+
+abbrev pub use_told : List ℕ → List Past → WordUse → Use
+use_told ds past u =
+    record { role = role_told u.role; word = u.read.w; supply = supply_told ds past u }
+
 -- ---- its instruction words
 
 -- n of them from the word w on
 unfoldable pub instruction_uses : List ℕ → List Past → Fetching → ℕ → ℕ → ℕ → List Use
-instruction_uses ds past s from w zero = []
-instruction_uses ds past s from w (suc n) =
-    record {
-      role = Instruction;
-      word = w;
-      supply = fetch_supply (tick_of s.bus.held.words w) ds s.bus w
-          (max (max from s.answered) s.awaited);
-    }
-    ∷ instruction_uses ds past (fetch_word ds past s w from) from (w + 1) n
+instruction_uses ds past s from w n =
+    map (use_told ds past) (uses ds past s (wishes OfInstruction from w n))
 
 -- its own, and behind them those of the target of EX
 unfoldable pub fetch_uses : List ℕ → Front → Entry → List Use
 fetch_uses ds f e =
-    instruction_uses ds f.past (record { bus = f.bus; answered = 0; awaited = 0 })
-    (wanted_from f) e.own.first e.own.len
-    ++ instruction_uses ds f.past
-    (fetch_words ds f.past (record { bus = f.bus; answered = 0; awaited = 0 })
-    (wanted_from f) e.own.first e.own.len)
-    (max (wanted_from f) f.c) e.target.first e.target.len
+    map (use_told ds f.past) (own_uses ds f e) ++ map (use_told ds f.past) (target_uses ds f e)
 
 -- ---- its index-side word
 
@@ -86,11 +94,17 @@ abbrev pub side_supply : List ℕ → List Past → Bus → ℕ → ℕ → Supp
 side_supply ds past b w a = if nat_lt w FIRST_STORAGE_WORD then Register
     else storage_supply ds past b w a
 
+abbrev pub side_told : List ℕ → List Past → WordUse → Use
+side_told ds past u = record {
+  role = role_told u.role;
+  word = u.read.w;
+  supply = side_supply ds past u.bus u.read.w u.read.want;
+}
+
 -- the word, wanted at the address's tick, if there is one
 unfoldable pub side_uses : List ℕ → List Past → Bus → Option ℕ → ℕ → List Use
-side_uses ds past b None a = []
-side_uses ds past b (Some w) a =
-    record { role = Index; word = w; supply = side_supply ds past b w a } ∷ []
+side_uses ds past b side a =
+    map (side_told ds past) (uses ds past (unused b 0) (wish_of side a))
 
 -- ---- its operand words
 
@@ -101,23 +115,21 @@ register_uses w (suc n) = record { role = Operand; word = w; supply = Register }
     ∷ register_uses (w + 1) n
 
 -- n words of storage from the word w on, wanted at preparation
-unfoldable pub operand_uses : List ℕ → List Past → OperandReading → ℕ → ℕ → ℕ → List Use
-operand_uses ds past s p w zero = []
-operand_uses ds past s p w (suc n) =
-    record { role = Operand; word = w; supply = storage_supply ds past s.bus w p }
-    ∷ operand_uses ds past (read_word ds past s w p) p (w + 1) n
+unfoldable pub operand_uses : List ℕ → List Past → Fetching → ℕ → ℕ → ℕ → List Use
+operand_uses ds past s p w n =
+    map (use_told ds past) (uses ds past s (wishes OfOperand p w n))
 
 -- n words from the word w on: registers come first, and the run has the words of storage
-abbrev pub run_uses : List ℕ → List Past → OperandReading → ℕ → ℕ → ℕ → WordRun → List Use
+abbrev pub run_uses : List ℕ → List Past → Fetching → ℕ → ℕ → ℕ → WordRun → List Use
 run_uses ds past s p w n run =
     register_uses w (n - run.len) ++ operand_uses ds past s p run.first run.len
 
 -- those of both runs, where the bus is b when it is prepared at p; `runs` has the words of storage
 unfoldable pub data_uses : List ℕ → List Past → Bus → ℕ → Words → WordRuns → List Use
 data_uses ds past b p reads runs =
-    run_uses ds past (record { bus = b; answered = p }) p reads.first reads.len runs.one
+    run_uses ds past (record { bus = b; answered = p; awaited = 0 }) p reads.first reads.len runs.one
     ++ run_uses ds past
-    (read_words ds past (record { bus = b; answered = p }) p runs.one.first runs.one.len)
+    (read_words ds past (record { bus = b; answered = p; awaited = 0 }) p runs.one.first runs.one.len)
     p reads.first2 reads.len2 runs.two
 
 -- ---- the words that follow it
@@ -125,22 +137,12 @@ data_uses ds past b p reads runs =
 -- one of the two, if it lies in storage
 unfoldable pub inside_uses : List ℕ → Bus → ℕ → ℕ → List Use
 inside_uses ds b w p =
-    if nat_lt w words_of_storage
-    then record {
-      role = Following;
-      word = w;
-      supply = fetch_supply (tick_of b.held.words w) ds b w p;
-    } ∷ []
-    else []
+    map (use_told ds []) (uses ds [] (unused b p) (inside_wish w p))
 
 -- both of them, where the entry has following words
 unfoldable pub following_uses : List ℕ → Bus → Entry → ℕ → List Use
 following_uses ds b e p =
-    if e.follows
-    then inside_uses ds b (e.own.first + e.own.len) p
-    ++ inside_uses ds (request_inside ds b (e.own.first + e.own.len) p)
-    (e.own.first + e.own.len + 1) p
-    else []
+    map (use_told ds []) (uses ds [] (unused b p) (followings e p))
 
 -- ---- all words of the entry e behind the front f, whose index-side word and operand words are
 -- given with the registers among them

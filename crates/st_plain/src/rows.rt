@@ -1,13 +1,14 @@
 //! The row of an entry, with its reads noted in a log.
 ghost use Rattle.std.specs.Prelude.{◌≡◌, ℕ, ◌+◌, ◌-◌, ◌≤◌, ◌^◌, ◌∷◌, ◌++◌, List, length, take, IfSome};
 ghost use Rattle.st_bits.specs.declared.limits.TheConstants.{MOST_DELAY};
-ghost use Rattle.st_rows.specs.Asked.{words_asked, fetches_asked, formed_asked, reads_of_entry as asked_of};
+ghost use Rattle.st_rows.specs.Asked.{words_asked, fetches_asked, formed_asked};
 ghost use Rattle.st_rows.specs.Notes.{log_after_reads};
 ghost use Rattle.st_banks.specs.Bank.{last_of};
 ghost use Rattle.st_banks.specs.declared.answers.TheConstants.{BANKS as banks_there};
 ghost use Rattle.st_plain.specs.Looking.{level_wait as level_wait_of};
 ghost use Rattle.st_rows.specs.declared.bus.Bus.{Bus as BusOf};
-ghost use Rattle.st_rows.specs.Rows.{fetch_words, words_tick, bus_sided, side_there as side_there_of, bus_a, tick_a, tick_p, row_of_entry as row_of, front_after_entry as after_of};
+ghost use Rattle.st_rows.specs.Rows.{words_tick, bus_a, tick_a, tick_p, row_of_entry as row_of, front_after_entry as after_of, reads_of_entry as asked_of};
+ghost use Rattle.st_rows.specs.Words.{fetch_words, bus_sided, side_there as side_there_of};
 ghost use Rattle.st_rows.specs.Ranges.{IsEntryInTime, IsTight, IsFetchingWithin, ArePastWithin, IsReadable, most_ticks_of_entry};
 ghost use Rattle.st_rows.specs.declared.log.Made.{Made};
 ghost use Rattle.st_prep.specs.Ranges.{IsRuns};
@@ -280,6 +281,7 @@ pub fn finish(
     };
     let words = &mut begun.words;
     words.answered = p;
+    words.awaited = 0;
     use_data(uses, words, log, &wanted, next);
     let r = words.answered;
     let c = front.c.max(r) + u64::from(entry.cost);

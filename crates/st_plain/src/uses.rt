@@ -7,7 +7,7 @@ ghost use Rattle.st_rows.specs.Entries.{is_among};
 ghost use Rattle.st_rows.specs.Ranges.{IsBusWithin, IsReadingWithin, IsReadable, IsEntryInTime};
 ghost use Rattle.st_rows.specs.Asked.{data_asked, operands_asked, runs_asked, inside_asked, following_asked};
 ghost use Rattle.st_rows.specs.Notes.{log_after_reads};
-ghost use Rattle.st_rows.specs.Rows.{reading_of_fetch, read_word, read_words, operands_read, request_inside as request_inside_of, bus_followed};
+ghost use Rattle.st_rows.specs.Words.{read_word, read_words, operands_read, request_inside as request_inside_of, bus_followed};
 ghost use Rattle.st_plain.specs.declared.uses.Role.TheVariants.{Operand};
 ghost use Rattle.st_plain.specs.Uses.{read_ticks as read_ticks_of, fetch_supply as fetch_supply_of, writer_back as back_of, storage_supply as storage_supply_of, side_supply as side_supply_of, side_uses, register_uses, operand_uses, run_uses, data_uses, inside_uses, following_uses};
 
@@ -334,12 +334,12 @@ fn use_operand(
     w: u32,
 )
     requires space { length uses.old.items < 48 }
-    requires room { IsReadingWithin (2 ^ 64 - 512) (reading_of_fetch words.old) }
+    requires room { IsReadingWithin (2 ^ 64 - 512) words.old }
     requires early { wanted.now.tick ≤ 2 ^ 64 - 512 }
     requires storage { 32 ≤ w }
 
-    ensures after { let x = wanted.now in reading_of_fetch words.new
-        ≡ read_word x.delays.now.list x.last.now (reading_of_fetch words.old) w x.tick }
+    ensures after { let x = wanted.now in words.new
+        ≡ read_word x.delays.now.list x.last.now words.old w x.tick }
     ensures log { let x = wanted.now in log.new
         ≡ log_after_reads x.delays.now.list (data_asked x.last.now w x.tick) words.old.bus log.old }
     ensures items { let x = wanted.now in uses.new.items ≡ uses.old.items ++ record {
@@ -377,18 +377,18 @@ fn use_operands(
     run: WordRun,
 )
     requires space { length uses.old.items + run.len ≤ 48 }
-    requires room { IsReadingWithin (2 ^ 64 - 2 ^ 16) (reading_of_fetch words.old) }
+    requires room { IsReadingWithin (2 ^ 64 - 2 ^ 16) words.old }
     requires early { wanted.now.tick ≤ 2 ^ 64 - 2 ^ 16 }
     requires words { IsReadable run }
     requires few { run.len ≤ 16 }
 
-    ensures after { let x = wanted.now in reading_of_fetch words.new
-        ≡ read_words x.delays.now.list x.last.now (reading_of_fetch words.old) x.tick run.first
+    ensures after { let x = wanted.now in words.new
+        ≡ read_words x.delays.now.list x.last.now words.old x.tick run.first
         run.len }
     ensures log { let x = wanted.now in log.new ≡ log_after_reads x.delays.now.list
         (operands_asked x.last.now x.tick run.first run.len) words.old.bus log.old }
     ensures items { let x = wanted.now in uses.new.items ≡ uses.old.items
-        ++ operand_uses x.delays.now.list x.last.now (reading_of_fetch words.old) x.tick
+        ++ operand_uses x.delays.now.list x.last.now words.old x.tick
         run.first run.len }
     ensures room { length uses.new.items ≤ length uses.old.items + run.len }
 {
@@ -420,18 +420,18 @@ fn use_run(
     requires space { length uses.old.items + 16 ≤ 48 }
     requires start { run.all.first < 2 ^ 18 }
     requires all { run.all.len ≤ 16 }
-    requires room { IsReadingWithin (2 ^ 64 - 2 ^ 16) (reading_of_fetch words.old) }
+    requires room { IsReadingWithin (2 ^ 64 - 2 ^ 16) words.old }
     requires early { wanted.now.tick ≤ 2 ^ 64 - 2 ^ 16 }
     requires words { IsReadable run.read }
     requires few { run.read.len ≤ 16 }
 
-    ensures after { let x = wanted.now in reading_of_fetch words.new
-        ≡ read_words x.delays.now.list x.last.now (reading_of_fetch words.old) x.tick
+    ensures after { let x = wanted.now in words.new
+        ≡ read_words x.delays.now.list x.last.now words.old x.tick
         run.read.first run.read.len }
     ensures log { let x = wanted.now in log.new ≡ log_after_reads x.delays.now.list
         (operands_asked x.last.now x.tick run.read.first run.read.len) words.old.bus log.old }
     ensures items { let x = wanted.now in uses.new.items ≡ uses.old.items
-        ++ run_uses x.delays.now.list x.last.now (reading_of_fetch words.old) x.tick
+        ++ run_uses x.delays.now.list x.last.now words.old x.tick
         run.all.first run.all.len run.read }
     ensures room { length uses.new.items ≤ length uses.old.items + 16 }
 {
@@ -455,10 +455,11 @@ pub(crate) fn use_data(
     requires entry { IsEntryInTime next.now.planned.now.entry }
     requires room { IsBusWithin (2 ^ 64 - 2 ^ 17) words.old.bus }
     requires early { wanted.now.tick ≤ 2 ^ 64 - 2 ^ 17 }
-    requires start { words.old.answered ≡ wanted.now.tick }
+    requires start { words.old
+        ≡ record { bus = words.old.bus; answered = wanted.now.tick; awaited = 0 } }
 
-    ensures after { let x = wanted.now in reading_of_fetch words.new
-        ≡ operands_read x.delays.now.list x.last.now words.old.bus
+    ensures after { let x = wanted.now in words.new
+        ≡ operands_read x.delays.now.list x.last.now words.old
         next.now.planned.now.entry.reads x.tick }
     ensures log { let x = wanted.now in log.new ≡ log_after_reads x.delays.now.list
         (runs_asked x.last.now next.now.planned.now.entry.reads x.tick) words.old.bus log.old }

@@ -9,7 +9,8 @@ use Rattle.std.proofs.lemmas.List.Folds.{list_any-append}
 use Rattle.st_banks.specs.declared.answers.LastAnswers.{LastAnswers}
 use Rattle.st_rows.specs.Entries.{latest_done, no_runs}
 use Rattle.st_rows.specs.Ranges.{IsEntryInTime}
-use Rattle.st_rows.specs.Rows.{front_after_entry, fetch_words, wanted_from, words_tick, address_tick, tick_a, tick_p, tick_c, preparation_tick}
+use Rattle.st_rows.specs.Rows.{front_after_entry, wanted_from, words_tick, address_tick, tick_a, tick_p, tick_c, preparation_tick}
+use Rattle.st_rows.specs.Words.{fetch_words}
 use Rattle.st_rows.specs.declared.entry.Entry.{Entry}
 use Rattle.st_rows.specs.declared.fetching.Fetching.{Fetching}
 use Rattle.st_rows.specs.declared.front.Front.{Front}
@@ -29,6 +30,7 @@ use Rattle.st_reasons.proofs.CoverLaw.{before-turn, opening-within}
 use Rattle.st_reasons.proofs.EachUse.{words-length}
 use Rattle.st_reasons.proofs.SegmentLemmas.{linked-cut, segment-behind, front-order}
 use Rattle.st_reasons.proofs.Truth.{deep_uses, deep-is, deep-early}
+use Rattle.st_rows.specs.Uses.{uses}
 
 words-long : (ds : List ℕ) (f : Front) (from : ℕ) (s : Fetching) (w n : ℕ) → length (instruction_uses ds f.past s from w n) ≡ n
 words-long ds f from s w n = words-length ds f.past from s w n
@@ -42,7 +44,7 @@ others-caused f own (x ∷ xs) ys all caused =
 
 module _ (ds : List ℕ) (f : Front) (e : Entry) (fits : IsEntryInTime e) (order : f.p ≤ f.c) where
   fetches-known : AreKnown f e.own.len (words_tick ds f e) (reverse (fetch_uses ds f e) ++ [])
-  unfolding fetch_uses words_tick AreCaused
+  unfolding fetch_uses words_tick AreCaused fetch_words instruction_uses
   fetches-known =
       let start : Fetching = record { bus = f.bus; answered = 0; awaited = 0 } in
       let own = fetch_words ds f.past start (wanted_from f) e.own.first e.own.len in
@@ -172,7 +174,7 @@ module _ (ds : List ℕ) (n : ℕ) (banks : LastAnswers) (start : ℕ) where
   }
 
   side-others : (f : Front) (e : Entry) (side : Option ℕ) → All (λ (u : Use). is_role Instruction u.role ≡ false) (reverse (side_uses ds f.past (words_tick ds f e).bus side (tick_a ds f e)))
-  unfolding side_uses
+  unfolding side_uses uses
   side-others f e None = All-nil (λ (u : Use). is_role Instruction u.role ≡ false)
   side-others f e (Some w) = All-cons (λ (u : Use). is_role Instruction u.role ≡ false) _ [] refl (All-nil (λ (u : Use). is_role Instruction u.role ≡ false))
 

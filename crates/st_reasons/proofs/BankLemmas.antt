@@ -8,8 +8,9 @@ use Rattle.st_banks.specs.Bank.{BankTimes, bank_of, last_of, answered_at}
 use Rattle.st_banks.specs.declared.answers.LastAnswers.{LastAnswers}
 use Rattle.st_banks.specs.declared.answers.TheConstants.{BANKS}
 use Rattle.st_banks.proofs.Laws.{reads_keep_their_bank_busy}
-use Rattle.st_rows.specs.Asked.{Read, reads_of_entry, after_one, bus_after_reads}
-use Rattle.st_rows.specs.BusTimes.{answer_at, bus_after_read}
+use Rattle.st_rows.specs.Asked.{bus_after_reads}
+use Rattle.st_rows.specs.Rows.{reads_of_entry}
+use Rattle.st_rows.specs.BusTimes.{answer_at, bus_after_read, Read, after_one}
 use Rattle.st_rows.specs.declared.bus.Bus.{Bus}
 use Rattle.st_rows.proofs.Laws.{rows_make_their_reads}
 use Rattle.st_plain.specs.Uses.{read_ticks}

@@ -1,13 +1,15 @@
 -- The reads that are told are those of the bus.
 use Rattle.std.specs.Prelude.{zero, suc, nat_lt, nat_le, Option, None, Some}
-use Rattle.std.proofs.Common.{◌≡◌, ℕ, ◌+◌, ◌-◌, max, true, false, List, [], ◌∷◌, ◌++◌, inl, inr, refl, sym, ◌∙◌, ap}
+use Rattle.std.proofs.Common.{◌≡◌, ℕ, ◌+◌, ◌-◌, max, true, false, List, [], ◌∷◌, ◌++◌, inl, inr, refl, sym, ◌∙◌, ap, subst}
 use Rattle.std.proofs.lemmas.Bool.{cases_Bool, ltb-true, ltb-false, le-leb, lt-leb}
 use Rattle.st_bits.specs.Storage.{words_of_storage}
 use Rattle.st_fetch.specs.Planned.{tick_of}
 use Rattle.st_prep.specs.declared.entries.Words.{Words}
-use Rattle.st_rows.specs.Asked.{Read, word_asked, words_asked, data_asked, side_asked, operands_asked, runs_asked, inside_asked, following_asked, fetches_asked, formed_asked, prepared_asked, reads_of_entry, after_one, bus_after_reads}
-use Rattle.st_rows.specs.BusTimes.{OperandReading, bus_after_request}
-use Rattle.st_rows.specs.Rows.{fetch_word, fetch_words, wanted_from, words_tick, is_forwarded, read_word, read_words, operands, request_inside, tick_a, tick_p, bus_a}
+use Rattle.st_rows.specs.Asked.{word_asked, words_asked, data_asked, side_asked, operands_asked, runs_asked, inside_asked, following_asked, fetches_asked, formed_asked, prepared_asked, bus_after_reads}
+use Rattle.st_rows.specs.BusTimes.{bus_after_request, Read, after_one, answer_tick_on}
+use Rattle.st_rows.specs.Rows.{wanted_from, words_tick, operands, tick_a, tick_p, bus_a, reads_of_entry}
+use Rattle.st_rows.specs.Words.{fetch_word, fetch_words, read_word, read_words, request_inside, is_forwarded}
+use Rattle.st_rows.specs.Uses.{behind_use, reads_of, uses, wishes}
 use Rattle.st_rows.specs.declared.bus.Bus.{Bus}
 use Rattle.st_rows.specs.declared.entry.Entry.{Entry}
 use Rattle.st_rows.specs.declared.fetching.Fetching.{Fetching}
@@ -22,6 +24,8 @@ use Rattle.st_plain.specs.declared.uses.Supply.TheVariants.{Register}
 use Rattle.st_plain.specs.declared.uses.Use.{Use}
 use Rattle.st_reasons.specs.Words.{is_read, read_of}
 use Rattle.st_reasons.specs.Served.{served, reads_told}
+use Rattle.st_rows.proofs.UseLemmas.{following-is as asked-is, reads-are}
+use Rattle.st_plain.proofs.UseLemmas.{inside-told as inside-is, following-told as following-is}
 
 told-append : (xs ys : List Use) → reads_told (xs ++ ys) ≡ reads_told xs ++ reads_told ys
 unfolding reads_told
@@ -58,7 +62,7 @@ module _ (ds : List ℕ) where
   word-told None b role w want = refl
 
   words-told : (past : List Past) (from : ℕ) (s : Fetching) (w n : ℕ) → reads_told (instruction_uses ds past s from w n) ≡ served ds (words_asked ds past s from w n) s.bus
-  unfolding instruction_uses words_asked fetch_word bus_after_request
+  unfolding instruction_uses words_asked fetch_word bus_after_request reads_of uses wishes behind_use answer_tick_on
   words-told past from s w zero = none-told s.bus
   words-told past from s w (suc n) =
       let want = max (max from s.answered) s.awaited in
@@ -73,8 +77,8 @@ module _ (ds : List ℕ) where
   unfolding reads_told served is_read read_of
   data-told past b role w p = elim (cases_Bool (is_forwarded past w p)) [ inl y ↦ rw y refl | inr m ↦ rw m refl ]
 
-  operands-told : (past : List Past) (p : ℕ) (s : OperandReading) (w n : ℕ) → reads_told (operand_uses ds past s p w n) ≡ served ds (operands_asked past p w n) s.bus
-  unfolding operand_uses operands_asked
+  operands-told : (past : List Past) (p : ℕ) (s : Fetching) (w n : ℕ) → reads_told (operand_uses ds past s p w n) ≡ served ds (operands_asked past p w n) s.bus
+  unfolding operand_uses operands_asked uses wishes read_word
   operands-told past p s w zero = none-told s.bus
   operands-told past p s w (suc n) =
       let next = read_word ds past s w p in
@@ -88,7 +92,7 @@ module _ (ds : List ℕ) where
   registers-told w (suc n) = registers-told (w + 1) n
 
   side-told : (past : List Past) (b : Bus) (side : Option ℕ) (a : ℕ) → reads_told (side_uses ds past b side a) ≡ served ds (side_asked past (side_to_read side) a) b
-  unfolding side_uses side_to_read side_asked
+  unfolding side_uses side_to_read side_asked uses
   side-told past b None a = none-told b
   side-told past b (Some w) a = elim (cases_Bool (nat_lt w 32)) [
     | inl y ↦
@@ -100,25 +104,23 @@ module _ (ds : List ℕ) where
   ]
 
   inside-told : (b : Bus) (w p : ℕ) → reads_told (inside_uses ds b w p) ≡ served ds (inside_asked b w p) b
-  unfolding inside_uses
   inside-told b w p = elim (cases_Bool (nat_lt w words_of_storage)) [
-    | inl y ↦ rw y (word-told (tick_of b.held.words w) b Following w p)
-    | inr m ↦ rw m (none-told b)
+    | inl y ↦ rw (inside-is ds b w p, y) (word-told (tick_of b.held.words w) b Following w p)
+    | inr m ↦ rw (inside-is ds b w p, m) (none-told b)
   ]
 
   following-told : (b : Bus) (e : Entry) (p : ℕ) → reads_told (following_uses ds b e p) ≡ served ds (following_asked ds b e p) b
-  unfolding following_uses following_asked
   following-told b e p =
       let w = e.own.first + e.own.len in
       elim (cases_Bool e.follows) [
         | inl y ↦
-            rw y (two (inside_uses ds b w p) (inside_uses ds (request_inside ds b w p) (w + 1) p) (inside_asked b w p) (inside_asked (request_inside ds b w p) (w + 1) p)
+            rw (following-is ds b e p, asked-is ds b e p, y) (two (inside_uses ds b w p) (inside_uses ds (request_inside ds b w p) (w + 1) p) (inside_asked b w p) (inside_asked (request_inside ds b w p) (w + 1) p)
             b (request_inside ds b w p) (inside-told b w p) (served-inside ds b w p) (inside-told (request_inside ds b w p) (w + 1) p))
-        | inr m ↦ rw m (none-told b)
+        | inr m ↦ rw (following-is ds b e p, asked-is ds b e p, m) (none-told b)
       ]
 
   fetches-told : (f : Front) (e : Entry) → reads_told (fetch_uses ds f e) ≡ served ds (fetches_asked ds f e) f.bus
-  unfolding fetch_uses fetches_asked
+  unfolding fetch_uses fetches_asked words_asked fetch_words instruction_uses
   fetches-told f e =
       let start : Fetching = record { bus = f.bus; answered = 0; awaited = 0 } in
       let own = fetch_words ds f.past start (wanted_from f) e.own.first e.own.len in
@@ -136,7 +138,7 @@ module _ (ds : List ℕ) where
   unfolding data_uses
   runs-told n f e reads =
       let p = tick_p ds n f e in
-      let begun : OperandReading = record { bus = bus_a ds f e; answered = p } in
+      let begun : Fetching = record { bus = bus_a ds f e; answered = p; awaited = 0 } in
       let one = read_words ds f.past begun p e.reads.one.first e.reads.one.len in
       two (register_uses reads.first (reads.len - e.reads.one.len) ++ operand_uses ds f.past begun p e.reads.one.first e.reads.one.len)
       (register_uses reads.first2 (reads.len2 - e.reads.two.len) ++ operand_uses ds f.past one p e.reads.two.first e.reads.two.len)
@@ -147,15 +149,16 @@ module _ (ds : List ℕ) where
 
 pub told-of-entry : (ds : List ℕ) (n : ℕ) (f : Front) (e : Entry) (side : Option ℕ) (reads : Words) → e.side ≡ side_to_read side
     → reads_told (uses_of_entry ds n f e side reads) ≡ served ds (reads_of_entry ds n f e) f.bus
-unfolding uses_of_entry reads_of_entry
+unfolding uses_of_entry
 told-of-entry ds n f e side reads is =
     let a = tick_a ds f e in
     let p = tick_p ds n f e in
-    two ds (formed_uses ds f e side) (prepared_uses ds n f e reads) (formed_asked ds f e) (prepared_asked ds n f e) f.bus (bus_a ds f e)
+    subst (λ rs. reads_told (formed_uses ds f e side ++ prepared_uses ds n f e reads) ≡ served ds rs f.bus) (sym (reads-are ds n f e))
+    (two ds (formed_uses ds f e side) (prepared_uses ds n f e reads) (formed_asked ds f e) (prepared_asked ds n f e) f.bus (bus_a ds f e)
     (two ds (fetch_uses ds f e) (side_uses ds f.past (words_tick ds f e).bus side a) (fetches_asked ds f e) (side_asked f.past e.side a) f.bus (words_tick ds f e).bus
     (fetches-told ds f e) (served-fetches ds f e)
     (side-told ds f.past (words_tick ds f e).bus side a ∙ ap (λ s. served ds (side_asked f.past s a) (words_tick ds f e).bus) (sym is)))
     (served-formed ds f e)
     (two ds (data_uses ds f.past (bus_a ds f e) p reads e.reads) (following_uses ds (operands ds n f e).bus e p) (runs_asked f.past e.reads p)
     (following_asked ds (operands ds n f e).bus e p) (bus_a ds f e) (operands ds n f e).bus
-    (runs-told ds n f e reads) (served-runs ds n f e) (following-told ds (operands ds n f e).bus e p))
+    (runs-told ds n f e reads) (served-runs ds n f e) (following-told ds (operands ds n f e).bus e p)))

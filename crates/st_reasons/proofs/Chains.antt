@@ -7,8 +7,10 @@ use Rattle.std.proofs.lemmas.List.{reverse-append}
 use Rattle.st_bits.specs.Storage.{words_of_storage}
 use Rattle.st_fetch.specs.Planned.{tick_of, asked_for}
 use Rattle.st_fetch.specs.declared.fetched.AskedWord.{AskedWord}
-use Rattle.st_rows.specs.BusTimes.{OperandReading, answer_at, bus_after_read, bus_after_request, requested_if, answer_if, answer_tick_on}
-use Rattle.st_rows.specs.Rows.{fetch_word, fetch_words, bus_sided, is_forwarded, read_word, read_words, request_inside, wanted_from, words_tick, tick_a, address_tick, bus_a, tick_p, operands, operands_read, bus_followed, front_after_entry}
+use Rattle.st_rows.specs.BusTimes.{answer_at, bus_after_read, bus_after_request, requested_if, answer_if, answer_tick_on}
+use Rattle.st_rows.specs.Rows.{wanted_from, words_tick, tick_a, address_tick, bus_a, tick_p, operands, front_after_entry}
+use Rattle.st_rows.specs.Words.{fetch_word, fetch_words, bus_sided, read_word, read_words, request_inside, operands_read, bus_followed, is_forwarded}
+use Rattle.st_rows.specs.Uses.{behind, behind_use, uses, wishes, forwarded_at}
 use Rattle.st_rows.specs.declared.bus.Bus.{Bus}
 use Rattle.st_rows.specs.declared.fetching.Fetching.{Fetching}
 use Rattle.st_rows.specs.declared.past.Past.{Past}
@@ -27,6 +29,8 @@ use Rattle.st_plain.specs.declared.uses.Use.{Use}
 use Rattle.st_reasons.specs.Words.{is_read, read_of}
 use Rattle.st_reasons.proofs.Linked.{turn_at, want_at, ComesBehind, AreLinked}
 use Rattle.st_reasons.specs.Served.{AreBrought, brings, is_held_until}
+use Rattle.st_rows.proofs.UseLemmas.{side_if, followed-is}
+use Rattle.st_plain.proofs.UseLemmas.{inside-told, following-told}
 
 -- ---- words that are poured onto older ones
 
@@ -150,7 +154,7 @@ module _ (base : ℕ) where
     words-behind : (past : List Past) (from v : ℕ) (s : Fetching) (w n : ℕ) (us : List Use) → v ≤ from → AreBehind base s.bus (max v s.answered) us
         → AreBehind base (fetch_words ds past s from w n).bus (max v (fetch_words ds past s from w n).answered)
         (reverse (instruction_uses ds past s from w n) ++ us)
-    unfolding instruction_uses fetch_words fetch_word bus_after_request answer_tick_on
+    unfolding instruction_uses fetch_words fetch_word bus_after_request answer_tick_on behind uses wishes behind_use
     words-behind past from v s w zero us low are = are
     words-behind past from v s w (suc n) us low are =
         let want = max (max from s.answered) s.awaited in
@@ -174,7 +178,7 @@ module _ (base : ℕ) where
         subst (AreBehind base b v) (sym (pour-cons u (register_uses (w + 1) n) us)) (registers-behind b v (w + 1) n (u ∷ us) (passed b v u us refl (λ t. not-held us w t Register (λ s. refl)) are))
 
     data-if : (late : Bool) (past : List Past) (role : Role) (b : Bus) (v w p : ℕ) (us : List Use) → v ≤ p → AreBehind base b v us
-        → AreBehind base (if late then b else bus_after_read ds b w p) p (record {
+        → AreBehind base (side_if ds b w p (if late then Some (latest_done past w) else None)) p (record {
           role = role;
           word = w;
           supply = if late then Forwarded (record { back = writer_back past w; done = latest_done past w }) else Read (read_ticks ds b w p);
@@ -184,14 +188,13 @@ module _ (base : ℕ) where
         later b v p _ low (passed b v _ us refl (λ t. not-held us w t (Forwarded (record { back = writer_back past w; done = latest_done past w })) (λ s. refl)) are)
     data-if false past role b v w p us low are = read-one b v us role w p low are
 
-    word-bus : (past : List Past) (s : OperandReading) (w p : ℕ) → (read_word ds past s w p).bus ≡ (if is_forwarded past w p then s.bus else bus_after_read ds s.bus w p)
-    unfolding read_word
-    word-bus past s w p = cond_both (is_forwarded past w p) _ _ (λ (x : OperandReading). x.bus ≡ (if is_forwarded past w p then s.bus else bus_after_read ds s.bus w p))
-        (λ y. rw y refl) (λ m. rw m refl)
+    word-bus : (past : List Past) (s : Fetching) (w p : ℕ) → (read_word ds past s w p).bus ≡ side_if ds s.bus w p (forwarded_at past w p)
+    unfolding read_word behind_use
+    word-bus past s w p = refl
 
-    operands-behind : (past : List Past) (p v : ℕ) (s : OperandReading) (w n : ℕ) (us : List Use) → v ≤ p → AreBehind base s.bus v us
+    operands-behind : (past : List Past) (p v : ℕ) (s : Fetching) (w n : ℕ) (us : List Use) → v ≤ p → AreBehind base s.bus v us
         → AreBehind base (read_words ds past s p w n).bus p (reverse (operand_uses ds past s p w n) ++ us)
-    unfolding operand_uses read_words
+    unfolding operand_uses read_words behind uses wishes read_word
     operands-behind past p v s w zero us low are = later s.bus v p us low are
     operands-behind past p v s w (suc n) us low are =
         let u : Use = record { role = Operand; word = w; supply = storage_supply ds past s.bus w p } in
@@ -205,7 +208,7 @@ module _ (base : ℕ) where
 
     side-behind : (past : List Past) (b : Bus) (v a : ℕ) (side : Option ℕ) (us : List Use) → v ≤ a → AreBehind base b v us
         → AreBehind base (bus_sided ds past b (side_to_read side) a) a (reverse (side_uses ds past b side a) ++ us)
-    unfolding side_uses side_to_read bus_sided is_read is_held_until
+    unfolding side_uses side_to_read bus_sided is_read is_held_until behind uses behind_use
     side-behind past b v a None us low are = later b v a us low are
     side-behind past b v a (Some w) us low are = elim (cases_Bool (nat_lt w 32)) [
       | inl y ↦
@@ -228,10 +231,10 @@ module _ (base : ℕ) where
 
     inside-behind : (b : Bus) (w p : ℕ) (us : List Use) → AreBehind base b p us
         → AreBehind base (request_inside ds b w p) p (reverse (inside_uses ds b w p) ++ us)
-    unfolding inside_uses bus_after_request
+    unfolding bus_after_request
     inside-behind b w p us are = elim (cases_Bool (nat_lt w words_of_storage)) [
-      | inl y ↦ rw y (request-at (tick_of b.held.words w) b us Following w p refl are)
-      | inr m ↦ rw m are
+      | inl y ↦ rw (inside-told ds b w p, y) (request-at (tick_of b.held.words w) b us Following w p refl are)
+      | inr m ↦ rw (inside-told ds b w p, m) are
     ]
 
     following-if : (follows : Bool) (b : Bus) (w p : ℕ) (us : List Use) → AreBehind base b p us
@@ -243,6 +246,11 @@ module _ (base : ℕ) where
         subst (AreBehind base (request_inside ds d (w + 1) p) p) (sym (pour-append (inside_uses ds b w p) (inside_uses ds d (w + 1) p) us))
         (inside-behind d (w + 1) p (reverse (inside_uses ds b w p) ++ us) (inside-behind b w p us are))
 
+    following-behind : (b : Bus) (e : Entry) (p : ℕ) (us : List Use) → AreBehind base b p us
+        → AreBehind base (bus_followed ds b e p) p (reverse (following_uses ds b e p) ++ us)
+    following-behind b e p us are =
+        rw (followed-is ds b e p, following-told ds b e p) (following-if e.follows b (e.own.first + e.own.len) p us are)
+
     -- ---- all words of an entry
 
     answered-early : (f : Front) (e : Entry) → max f.p (words_tick ds f e).answered ≤ tick_a ds f e
@@ -253,7 +261,7 @@ module _ (base : ℕ) where
       -- up to the instruction words
       pub fetch-behind : (us : List Use) → AreBehind base f.bus f.p us
           → AreBehind base (words_tick ds f e).bus (max f.p (words_tick ds f e).answered) (reverse (fetch_uses ds f e) ++ us)
-      unfolding fetch_uses words_tick
+      unfolding fetch_uses words_tick fetch_words instruction_uses
       fetch-behind us are =
           let start : Fetching = record { bus = f.bus; answered = 0; awaited = 0 } in
           let late = max (wanted_from f) f.c in
@@ -267,7 +275,7 @@ module _ (base : ℕ) where
 
       formed-behind : (side : Option ℕ) (us : List Use) → e.side ≡ side_to_read side → AreBehind base f.bus f.p us
           → AreBehind base (bus_a ds f e) (tick_a ds f e) (reverse (formed_uses ds f e side) ++ us)
-      unfolding fetch_uses words_tick bus_a
+      unfolding fetch_uses words_tick bus_a fetch_words bus_sided instruction_uses
       formed-behind side us is are =
           let start : Fetching = record { bus = f.bus; answered = 0; awaited = 0 } in
           let late = max (wanted_from f) f.c in
@@ -287,32 +295,31 @@ module _ (base : ℕ) where
 
       prepared-behind : (reads : Words) (us : List Use) → AreBehind base (bus_a ds f e) (tick_a ds f e) us
           → AreBehind base (bus_followed ds (operands ds n f e).bus e (tick_p ds n f e)) (tick_p ds n f e) (reverse (prepared_uses ds n f e reads) ++ us)
-      unfolding data_uses operands operands_read following_uses bus_followed
+      unfolding data_uses operands operands_read read_words
       prepared-behind reads us are =
           let p = tick_p ds n f e in
           let past = f.past in
-          let begun : OperandReading = record { bus = bus_a ds f e; answered = p } in
+          let begun : Fetching = record { bus = bus_a ds f e; answered = p; awaited = 0 } in
           let one = read_words ds past begun p e.reads.one.first e.reads.one.len in
           let two = read_words ds past one p e.reads.two.first e.reads.two.len in
           let xs = register_uses reads.first (reads.len - e.reads.one.len) in
           let ys = operand_uses ds past begun p e.reads.one.first e.reads.one.len in
           let zs = register_uses reads.first2 (reads.len2 - e.reads.two.len) in
           let ws = operand_uses ds past one p e.reads.two.first e.reads.two.len in
-          let w = e.own.first + e.own.len in
-          let vs = if e.follows then inside_uses ds two.bus w p ++ inside_uses ds (request_inside ds two.bus w p) (w + 1) p else [] in
+          let vs = following_uses ds two.bus e p in
           let a1 = registers-behind (bus_a ds f e) (tick_a ds f e) reads.first (reads.len - e.reads.one.len) us are in
           let a2 = operands-behind past p (tick_a ds f e) begun e.reads.one.first e.reads.one.len (reverse xs ++ us) (a-p ds n f e) a1 in
           let a3 = registers-behind one.bus p reads.first2 (reads.len2 - e.reads.two.len) (reverse ys ++ (reverse xs ++ us)) a2 in
           let a4 = operands-behind past p p one e.reads.two.first e.reads.two.len (reverse zs ++ (reverse ys ++ (reverse xs ++ us))) (omega arith) a3 in
-          let a5 = following-if e.follows two.bus w p (reverse ws ++ (reverse zs ++ (reverse ys ++ (reverse xs ++ us)))) a4 in
+          let a5 = following-behind two.bus e p (reverse ws ++ (reverse zs ++ (reverse ys ++ (reverse xs ++ us)))) a4 in
           let poured : reverse (((xs ++ ys) ++ (zs ++ ws)) ++ vs) ++ us ≡ reverse vs ++ (reverse ws ++ (reverse zs ++ (reverse ys ++ (reverse xs ++ us)))) =
           pour-append ((xs ++ ys) ++ (zs ++ ws)) vs us ∙ ap (λ q. reverse vs ++ q) (pour-append (xs ++ ys) (zs ++ ws) us
           ∙ pour-append zs ws (reverse (xs ++ ys) ++ us) ∙ ap (λ q. reverse ws ++ (reverse zs ++ q)) (pour-append xs ys us)) in
-          subst (AreBehind base (if e.follows then request_inside ds (request_inside ds two.bus w p) (w + 1) p else two.bus) p) (sym poured) a5
+          subst (AreBehind base (bus_followed ds two.bus e p) p) (sym poured) a5
 
       pub entry-behind : (side : Option ℕ) (reads : Words) (us : List Use) → e.side ≡ side_to_read side → AreBehind base f.bus f.p us
           → AreBehind base (front_after_entry ds n f e).bus (front_after_entry ds n f e).p (reverse (uses_of_entry ds n f e side reads) ++ us)
-      unfolding uses_of_entry front_after_entry
+      unfolding uses_of_entry front_after_entry bus_followed
       entry-behind side reads us is are =
           subst (AreBehind base (bus_followed ds (operands ds n f e).bus e (tick_p ds n f e)) (tick_p ds n f e))
           (sym (pour-append (formed_uses ds f e side) (prepared_uses ds n f e reads) us))

@@ -11,7 +11,8 @@ use Rattle.st_fetch.specs.Planned.{tick_of}
 use Rattle.st_prep.specs.declared.entries.Words.{Words}
 use Rattle.st_rows.specs.Entries.{latest_done, no_runs}
 use Rattle.st_rows.specs.Ranges.{ArePastWithin}
-use Rattle.st_rows.specs.Rows.{front_after_entry, row_of_entry, words_tick, tick_a, bus_a, tick_p, tick_c, operands, is_forwarded}
+use Rattle.st_rows.specs.Rows.{front_after_entry, row_of_entry, words_tick, tick_a, bus_a, tick_p, tick_c, operands}
+use Rattle.st_rows.specs.Words.{is_forwarded}
 use Rattle.st_rows.specs.declared.bus.Bus.{Bus}
 use Rattle.st_rows.specs.declared.entry.Entry.{Entry}
 use Rattle.st_rows.specs.declared.front.Front.{Front}

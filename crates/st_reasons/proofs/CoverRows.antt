@@ -7,10 +7,12 @@ use Rattle.std.proofs.lemmas.List.{append-nil}
 use Rattle.std.proofs.lemmas.List.Elements.{All-nil, All-cons, All-head, All-tail}
 use Rattle.std.proofs.lemmas.List.Folds.{list_any-append}
 use Rattle.st_fetch.specs.Planned.{tick_of}
-use Rattle.st_rows.specs.BusTimes.{OperandReading, answer_at, answer_if, answer_tick_on, bus_after_read}
+use Rattle.st_rows.specs.BusTimes.{answer_at, answer_if, answer_tick_on, bus_after_read, bus_after_request}
 use Rattle.st_rows.specs.Entries.{latest_done}
 use Rattle.st_rows.specs.Ranges.{ArePastWithin}
-use Rattle.st_rows.specs.Rows.{fetch_word, fetch_words, wanted_from, words_tick, address_tick, is_forwarded, fill_at, side_there, done_before, completion_of, preparation_tick, read_word, read_words, operands_read, operands, tick_a, tick_y, bus_a, tick_p}
+use Rattle.st_rows.specs.Rows.{wanted_from, words_tick, address_tick, done_before, completion_of, preparation_tick, operands, tick_a, tick_y, bus_a, tick_p}
+use Rattle.st_rows.specs.Words.{fetch_word, fetch_words, fill_at, side_there, read_word, read_words, operands_read, is_forwarded}
+use Rattle.st_rows.specs.Uses.{behind, behind_use, uses, wishes, forwarded_at}
 use Rattle.st_prep.specs.declared.entries.Words.{Words}
 use Rattle.st_rows.specs.declared.bus.Bus.{Bus}
 use Rattle.st_rows.specs.declared.entry.Entry.{Entry}
@@ -28,6 +30,7 @@ use Rattle.st_reasons.specs.Words.{is_read, read_of, is_answered, is_answered_at
 use Rattle.st_reasons.proofs.Linked.{want_at, AreLinked}
 use Rattle.st_reasons.proofs.Chains.{pour-cons, pour-append}
 use Rattle.st_reasons.proofs.Covers.{AreWantedAtAnswers}
+use Rattle.st_rows.proofs.UseLemmas.{read_if}
 
 -- ---- wants of older words
 
@@ -72,7 +75,7 @@ fetch-answered ds (Some a) s w want t at = eq-eqb _ _ (sym at)
 module _ (ds : List ℕ) (from : ℕ) (past : List Past) (writers : (w : ℕ) → latest_done past w ≤ from) where
   words-answered : (first : ℕ) (s : Fetching) (w n : ℕ) (us : List Use) → first ≤ from → AreAnswered from s us
       → AreAnswered from (fetch_words ds past s first w n) (reverse (instruction_uses ds past s first w n) ++ us)
-  unfolding instruction_uses fetch_words fetch_word answer_tick_on AreWantedAtAnswers is_answered_at
+  unfolding instruction_uses fetch_words fetch_word answer_tick_on AreWantedAtAnswers is_answered_at behind uses wishes behind_use bus_after_request
   words-answered first s w zero us early are = are
   words-answered first s w (suc n) us early are =
       let want = max (max first s.answered) s.awaited in
@@ -101,7 +104,7 @@ module _ (ds : List ℕ) (from : ℕ) (past : List Past) (writers : (w : ℕ) �
 
 module _ (ds : List ℕ) (from : ℕ) (f : Front) (e : Entry) (writers : (w : ℕ) → latest_done f.past w ≤ from) (prepared : f.p ≤ f.c) (late : f.c ≤ from) where
   fetches-answered : AreAnswered from (words_tick ds f e) (reverse (fetch_uses ds f e) ++ [])
-  unfolding fetch_uses words_tick AreWantedAtAnswers
+  unfolding fetch_uses words_tick AreWantedAtAnswers fetch_words instruction_uses
   fetches-answered =
       let start : Fetching = record { bus = f.bus; answered = 0; awaited = 0 } in
       let own = fetch_words ds f.past start (wanted_from f) e.own.first e.own.len in
@@ -152,9 +155,9 @@ storage-there : (ds : List ℕ) (past : List Past) (b : Bus) (w p t v : ℕ) →
     → is_answered t (storage_supply ds past b w p) ≡ true
 unfolding is_answered
 storage-there ds past b w p t v writers behind at = elim (cases_Bool (is_forwarded past w p)) [
-  | inl y ↦ let low : latest_done past w ≡ t = subst (λ c. (if c then latest_done past w else answer_at ds b w p) ≡ t) y at in
+  | inl y ↦ let low : latest_done past w ≡ t = subst (λ c. answer_if ds b w p (if c then Some (latest_done past w) else None) ≡ t) y at in
       let no : ⊥ = omega (arith, low, behind, writers w) in absurd no
-  | inr m ↦ let here : answer_at ds b w p ≡ t = subst (λ c. (if c then latest_done past w else answer_at ds b w p) ≡ t) m at in
+  | inr m ↦ let here : answer_at ds b w p ≡ t = subst (λ c. answer_if ds b w p (if c then Some (latest_done past w) else None) ≡ t) m at in
       rw m (eq-eqb _ _ here)
 ]
 
@@ -163,15 +166,15 @@ answered-read : (ds : List ℕ) (past : List Past) (b : Bus) (w p t : ℕ) → i
 unfolding is_answered
 answered-read ds past b w p t none at = rw none (eq-eqb _ _ at)
 
-word-answered : (ds : List ℕ) (past : List Past) (s : OperandReading) (w p t : ℕ) → (read_word ds past s w p).answered ≡ t
+word-answered : (ds : List ℕ) (past : List Past) (s : Fetching) (w p t : ℕ) → (read_word ds past s w p).answered ≡ t
     → (s.answered ≡ t) ⊎ (is_answered t (storage_supply ds past s.bus w p) ≡ true)
-unfolding read_word
+unfolding read_word behind_use
 word-answered ds past s w p t at = elim (cases_Bool (is_forwarded past w p)) [
   | inl y ↦
-      let same : (if is_forwarded past w p then s else record { bus = bus_after_read ds s.bus w p; answered = max s.answered (answer_at ds s.bus w p) }).answered ≡ s.answered = rw y refl in
+      let same : (read_if ds s w p (forwarded_at past w p)).answered ≡ s.answered = rw y refl in
       inl (sym same ∙ at)
   | inr m ↦
-      let same : (if is_forwarded past w p then s else record { bus = bus_after_read ds s.bus w p; answered = max s.answered (answer_at ds s.bus w p) }).answered
+      let same : (read_if ds s w p (forwarded_at past w p)).answered
       ≡ max s.answered (answer_at ds s.bus w p) = rw m refl in
       elim (cases_lt s.answered (answer_at ds s.bus w p)) [
         | inl more ↦ inr (answered-read ds past s.bus w p t m (omega (arith, more, same, at)))
@@ -179,9 +182,9 @@ word-answered ds past s w p t at = elim (cases_Bool (is_forwarded past w p)) [
       ]
 ]
 
-run-answered : (ds : List ℕ) (past : List Past) (p t : ℕ) (s : OperandReading) (w n : ℕ) → (read_words ds past s p w n).answered ≡ t
+run-answered : (ds : List ℕ) (past : List Past) (p t : ℕ) (s : Fetching) (w n : ℕ) → (read_words ds past s p w n).answered ≡ t
     → (s.answered ≡ t) ⊎ (list_any (is_answered_at Operand t) (operand_uses ds past s p w n) ≡ true)
-unfolding read_words operand_uses is_answered_at
+unfolding read_words operand_uses is_answered_at behind uses wishes read_word
 run-answered ds past p t s w zero at = inl at
 run-answered ds past p t s w (suc n) at = elim (run-answered ds past p t (read_word ds past s w p) (w + 1) n at) [
   | inl here ↦ elim (word-answered ds past s w p t here) [
@@ -206,12 +209,12 @@ module _ (ds : List ℕ) (n : ℕ) (from : ℕ) (f : Front) (e : Entry) (within 
   prepared-is = refl
 
   sided-is : side_there ds f.past (words_tick ds f e).bus e.side (tick_a ds f e) ≡ tick_y ds f e
-  unfolding tick_y
+  unfolding tick_y side_there
   sided-is = refl
 
   side-there : (side : Option ℕ) (t : ℕ) → side_there ds f.past (words_tick ds f e).bus (side_to_read side) (tick_a ds f e) ≡ t → from < t
       → list_any (is_answered_at Index t) (side_uses ds f.past (words_tick ds f e).bus side (tick_a ds f e)) ≡ true
-  unfolding side_there side_to_read side_uses is_answered_at
+  unfolding side_there side_to_read side_uses is_answered_at behind uses behind_use
   side-there None t at behind = let no : ⊥ = omega (arith, at, behind) in absurd no
   side-there (Some w) t at behind = elim (cases_Bool (nat_lt w 32)) [
     | inl y ↦
@@ -231,17 +234,17 @@ module _ (ds : List ℕ) (n : ℕ) (from : ℕ) (f : Front) (e : Entry) (within 
       let y-is : tick_y ds f e ≡ tick_p ds n f e - 1 = omega (arith, prepared-is, completion-within f.c f.past (n - 1) within, late, after, behind) in
       side-there side (tick_p ds n f e - 1) (ap (λ s. side_there ds f.past (words_tick ds f e).bus s (tick_a ds f e)) (sym is) ∙ sided-is ∙ y-is) behind
 
-  operands-are : (read_words ds f.past (read_words ds f.past (record { bus = bus_a ds f e; answered = tick_p ds n f e }) (tick_p ds n f e) e.reads.one.first e.reads.one.len)
+  operands-are : (read_words ds f.past (read_words ds f.past (record { bus = bus_a ds f e; answered = tick_p ds n f e; awaited = 0 }) (tick_p ds n f e) e.reads.one.first e.reads.one.len)
       (tick_p ds n f e) e.reads.two.first e.reads.two.len).answered ≡ (operands ds n f e).answered
-  unfolding operands operands_read
+  unfolding operands operands_read read_words
   operands-are = refl
 
   data-parts : (t : ℕ) (reads : Words)
       → list_any (is_answered_at Operand t)
       ((register_uses reads.first (reads.len - e.reads.one.len)
-      ++ operand_uses ds f.past (record { bus = bus_a ds f e; answered = tick_p ds n f e }) (tick_p ds n f e) e.reads.one.first e.reads.one.len)
+      ++ operand_uses ds f.past (record { bus = bus_a ds f e; answered = tick_p ds n f e; awaited = 0 }) (tick_p ds n f e) e.reads.one.first e.reads.one.len)
       ++ (register_uses reads.first2 (reads.len2 - e.reads.two.len)
-      ++ operand_uses ds f.past (read_words ds f.past (record { bus = bus_a ds f e; answered = tick_p ds n f e }) (tick_p ds n f e) e.reads.one.first e.reads.one.len)
+      ++ operand_uses ds f.past (read_words ds f.past (record { bus = bus_a ds f e; answered = tick_p ds n f e; awaited = 0 }) (tick_p ds n f e) e.reads.one.first e.reads.one.len)
       (tick_p ds n f e) e.reads.two.first e.reads.two.len)) ≡ true
       → list_any (is_answered_at Operand t) (data_uses ds f.past (bus_a ds f e) (tick_p ds n f e) reads e.reads) ≡ true
   unfolding data_uses
@@ -252,7 +255,7 @@ module _ (ds : List ℕ) (n : ℕ) (from : ℕ) (f : Front) (e : Entry) (within 
       → list_any (is_answered_at Operand (operands ds n f e).answered) (data_uses ds f.past (bus_a ds f e) (tick_p ds n f e) reads e.reads) ≡ true
   operands-await reads after behind =
       let p = tick_p ds n f e in
-      let begun : OperandReading = record { bus = bus_a ds f e; answered = p } in
+      let begun : Fetching = record { bus = bus_a ds f e; answered = p; awaited = 0 } in
       let one = read_words ds f.past begun p e.reads.one.first e.reads.one.len in
       let two = read_words ds f.past one p e.reads.two.first e.reads.two.len in
       let xs = register_uses reads.first (reads.len - e.reads.one.len) in

@@ -7,8 +7,8 @@ use Rattle.st_bits.specs.Storage.{words_of_storage}
 use Rattle.st_bits.specs.declared.register.TheConstants.{FIRST_STORAGE_WORD}
 use Rattle.st_fetch.specs.Planned.{tick_of}
 use Rattle.st_prep.specs.declared.entries.Words.{Words}
-use Rattle.st_rows.specs.BusTimes.{OperandReading}
-use Rattle.st_rows.specs.Rows.{fetch_word, fetch_words, read_word, read_words, request_inside, wanted_from, words_tick, tick_a, tick_p, bus_a, operands}
+use Rattle.st_rows.specs.Rows.{wanted_from, words_tick, tick_a, tick_p, bus_a, operands}
+use Rattle.st_rows.specs.Words.{fetch_word, fetch_words, read_word, read_words, request_inside}
 use Rattle.st_rows.specs.declared.bus.Bus.{Bus}
 use Rattle.st_rows.specs.declared.entry.Entry.{Entry}
 use Rattle.st_rows.specs.declared.entry.WordRun.{WordRun}
@@ -20,12 +20,14 @@ use Rattle.st_plain.specs.declared.uses.Role.TheVariants.{Instruction, Index, Op
 use Rattle.st_plain.specs.declared.uses.Supply.TheVariants.{Register}
 use Rattle.st_plain.specs.declared.uses.Use.{Use}
 use Rattle.st_plain.specs.Uses.{fetch_supply, storage_supply, instruction_uses, fetch_uses, side_uses, register_uses, operand_uses, run_uses, data_uses, inside_uses, following_uses, prepared_uses, uses_of_entry}
+use Rattle.st_rows.specs.Uses.{uses, wishes}
+use Rattle.st_plain.proofs.UseLemmas.{inside-told, following-told}
 
 module _ (P : Use → Type 0) (ds : List ℕ) where
   each-word : (past : List Past) (from : ℕ) (s : Fetching) (w n : ℕ)
       → ((v : ℕ) → w ≤ v → v < w + n → (o : Option ℕ) (b : Bus) (want : ℕ) → P (record { role = Instruction; word = v; supply = fetch_supply o ds b v want }))
       → All P (instruction_uses ds past s from w n)
-  unfolding instruction_uses
+  unfolding instruction_uses uses wishes fetch_word
   each-word past from s w zero is = All-nil P
   each-word past from s w (suc n) is =
       All-cons P _ _ (is w (omega arith) (omega arith) (tick_of s.bus.held.words w) s.bus (max (max from s.answered) s.awaited))
@@ -35,7 +37,7 @@ module _ (P : Use → Type 0) (ds : List ℕ) where
       → ((v : ℕ) → e.own.first ≤ v → v < e.own.first + e.own.len → (o : Option ℕ) (b : Bus) (want : ℕ) → P (record { role = Instruction; word = v; supply = fetch_supply o ds b v want }))
       → ((v : ℕ) → e.target.first ≤ v → v < e.target.first + e.target.len → (o : Option ℕ) (b : Bus) (want : ℕ) → P (record { role = Instruction; word = v; supply = fetch_supply o ds b v want }))
       → All P (fetch_uses ds f e)
-  unfolding fetch_uses
+  unfolding fetch_uses instruction_uses fetch_words
   each-fetch f e own target =
       let start : Fetching = record { bus = f.bus; answered = 0; awaited = 0 } in
       let behind = fetch_words ds f.past start (wanted_from f) e.own.first e.own.len in
@@ -52,12 +54,12 @@ module _ (P : Use → Type 0) (ds : List ℕ) where
     each-register w zero = All-nil P
     each-register w (suc k) = All-cons P _ _ (register w) (each-register (w + 1) k)
 
-    each-operand : (s : OperandReading) (w k : ℕ) → All P (operand_uses ds f.past s (tick_p ds n f e) w k)
-    unfolding operand_uses
+    each-operand : (s : Fetching) (w k : ℕ) → All P (operand_uses ds f.past s (tick_p ds n f e) w k)
+    unfolding operand_uses uses wishes read_word
     each-operand s w zero = All-nil P
     each-operand s w (suc k) = All-cons P _ _ (operand s.bus w) (each-operand (read_word ds f.past s w (tick_p ds n f e)) (w + 1) k)
 
-    each-run : (s : OperandReading) (w k : ℕ) (run : WordRun) → All P (run_uses ds f.past s (tick_p ds n f e) w k run)
+    each-run : (s : Fetching) (w k : ℕ) (run : WordRun) → All P (run_uses ds f.past s (tick_p ds n f e) w k run)
     each-run s w k run =
         All-append P (register_uses w (k - run.len)) (operand_uses ds f.past s (tick_p ds n f e) run.first run.len)
         (each-register w (k - run.len)) (each-operand s run.first run.len)
@@ -66,24 +68,22 @@ module _ (P : Use → Type 0) (ds : List ℕ) where
     unfolding data_uses
     each-data b reads runs =
         let p = tick_p ds n f e in
-        let begun : OperandReading = record { bus = b; answered = p } in
+        let begun : Fetching = record { bus = b; answered = p; awaited = 0 } in
         let one = read_words ds f.past begun p runs.one.first runs.one.len in
         All-append P (run_uses ds f.past begun p reads.first reads.len runs.one) (run_uses ds f.past one p reads.first2 reads.len2 runs.two)
         (each-run begun reads.first reads.len runs.one) (each-run one reads.first2 reads.len2 runs.two)
 
     each-inside : (b : Bus) (w : ℕ) → All P (inside_uses ds b w (tick_p ds n f e))
-    unfolding inside_uses
-    each-inside b w = cond_both (nat_lt w words_of_storage) _ _ (λ xs. All P xs)
-        (λ y. All-cons P _ [] (following b w) (All-nil P)) (λ m. All-nil P)
+    each-inside b w = rw (inside-told ds b w (tick_p ds n f e)) (cond_both (nat_lt w words_of_storage) _ _ (λ xs. All P xs)
+        (λ y. All-cons P _ [] (following b w) (All-nil P)) (λ m. All-nil P))
 
     each-following : (b : Bus) → All P (following_uses ds b e (tick_p ds n f e))
-    unfolding following_uses
     each-following b =
         let w = e.own.first + e.own.len in
         let behind = request_inside ds b w (tick_p ds n f e) in
-        cond_both e.follows _ _ (λ xs. All P xs)
+        rw (following-told ds b e (tick_p ds n f e)) (cond_both e.follows _ _ (λ xs. All P xs)
         (λ y. All-append P (inside_uses ds b w (tick_p ds n f e)) (inside_uses ds behind (w + 1) (tick_p ds n f e)) (each-inside b w) (each-inside behind (w + 1)))
-        (λ m. All-nil P)
+        (λ m. All-nil P))
 
     -- those from its preparation on
     pub each-prepared : (reads : Words) → All P (prepared_uses ds n f e reads)
@@ -99,7 +99,7 @@ module _ (P : Use → Type 0) (ds : List ℕ) where
       side-if false b w = All-cons P _ [] (index b w) (All-nil P)
 
       each-side : (b : Bus) (side : Option ℕ) → All P (side_uses ds f.past b side (tick_a ds f e))
-      unfolding side_uses
+      unfolding side_uses uses
       each-side b None = All-nil P
       each-side b (Some w) = side-if (nat_lt w FIRST_STORAGE_WORD) b w
 
@@ -113,12 +113,12 @@ module _ (P : Use → Type 0) (ds : List ℕ) where
 -- ---- how many instruction words there are
 
 pub words-length : (ds : List ℕ) (past : List Past) (from : ℕ) (s : Fetching) (w n : ℕ) → length (instruction_uses ds past s from w n) ≡ n
-unfolding instruction_uses
+unfolding instruction_uses uses wishes fetch_word
 words-length ds past from s w zero = refl
 words-length ds past from s w (suc n) = omega (arith, words-length ds past from (fetch_word ds past s w from) (w + 1) n)
 
 pub fetch-length : (ds : List ℕ) (f : Front) (e : Entry) → length (fetch_uses ds f e) ≡ e.own.len + e.target.len
-unfolding fetch_uses
+unfolding fetch_uses instruction_uses fetch_words
 fetch-length ds f e =
     let start : Fetching = record { bus = f.bus; answered = 0; awaited = 0 } in
     let behind = fetch_words ds f.past start (wanted_from f) e.own.first e.own.len in

@@ -37,6 +37,7 @@ use Rattle.st_reasons.specs.declared.waits.Wait.{Wait}
 use Rattle.st_reasons.proofs.Linked.{turn_at, AreLinked}
 use Rattle.st_reasons.proofs.Turns.{turns-none}
 use Rattle.st_reasons.proofs.WordLemmas.{all-reversed}
+use Rattle.st_rows.specs.Uses.{uses}
 
 no-turns-append : (xs ys : List Wait) → stalled_for Turn xs ≡ 0 → stalled_for Turn ys ≡ 0 → stalled_for Turn (xs ++ ys) ≡ 0
 unfolding stalled_for
@@ -98,7 +99,7 @@ roles-prepared ds n f e reads = each-prepared (λ (u : Use). is_role Index u.rol
 side-one : (ds : List ℕ) (past : List Past) (b : Bus) (side : Option ℕ) (a base from t : ℕ) (before fetches : List Use) → All (λ (u : Use). is_role Index u.role ≡ false) fetches
     → AreLinked base (fetches ++ before) → turn_at base (fetches ++ before) ≤ from
     → stalled_for Turn (data_waits Index from t before (reverse (side_uses ds past b side a) ++ fetches)) ≡ 0
-unfolding side_uses stalled_for
+unfolding side_uses stalled_for uses
 side-one ds past b None a base from t before fetches all linked early = rw (data-none Index from t before fetches all) refl
 side-one ds past b (Some w) a base from t before fetches all linked early = index-no-turn base from t before fetches _ all linked early
 

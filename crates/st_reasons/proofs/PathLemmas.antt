@@ -4,9 +4,10 @@ use Rattle.std.specs.List.{list_any}
 use Rattle.std.proofs.Common.{◌≡◌, ℕ, ◌+◌, ◌-◌, ◌≤◌, ◌<◌, ◌⊎◌, inl, inr, max, true, false, List, [], ◌∷◌, ◌++◌, refl, sym, ◌∙◌, ap, subst, append_assoc, arith}
 use Rattle.std.proofs.lemmas.Bool.{cond_both, cases_Bool, and_parts, and_from, and_left, and_right, or_cases, or_left, or_right, eqb-true, eq-eqb, ltb-true, le-leb, lt-ltb, cases_lt}
 use Rattle.st_fetch.specs.Planned.{tick_of}
-use Rattle.st_rows.specs.BusTimes.{answer_if, answer_tick_on}
+use Rattle.st_rows.specs.BusTimes.{answer_if, answer_tick_on, bus_after_request}
 use Rattle.st_rows.specs.Entries.{latest_done, is_among}
-use Rattle.st_rows.specs.Rows.{fetch_word, fetch_words, completion_of, done_before}
+use Rattle.st_rows.specs.Rows.{completion_of, done_before}
+use Rattle.st_rows.specs.Words.{fetch_word, fetch_words}
 use Rattle.st_rows.specs.declared.fetching.Fetching.{Fetching}
 use Rattle.st_rows.specs.declared.front.Front.{Front}
 use Rattle.st_rows.specs.declared.past.Past.{Past}
@@ -24,6 +25,7 @@ use Rattle.st_reasons.proofs.Chains.{pour-cons}
 use Rattle.st_reasons.proofs.Covers.{further}
 use Rattle.st_reasons.proofs.CoverRows.{fetch-answered}
 use Rattle.st_reasons.proofs.WordLemmas.{decided-role}
+use Rattle.st_rows.specs.Uses.{behind, behind_use, uses, wishes}
 
 -- ---- what came at a tick
 
@@ -331,7 +333,7 @@ module _ (ds : List ℕ) (f : Front) (own : ℕ) where
   pub words-known : (first : ℕ) (s : Fetching) (w n : ℕ) (us : List Use) → f.p ≤ first
       → (first ≡ f.p) ⊎ ((first ≡ f.c) × ((f.serial ≡ true) ⊎ (own ≤ length us))) → (1 ≤ n → 32 ≤ w) → AreKnown f own s us
       → AreKnown f own (fetch_words ds f.past s first w n) (reverse (instruction_uses ds f.past s first w n) ++ us)
-  unfolding instruction_uses fetch_words fetch_word answer_tick_on AreCaused is_answered_at is_stored
+  unfolding instruction_uses fetch_words fetch_word answer_tick_on AreCaused is_answered_at is_stored behind uses wishes behind_use bus_after_request
   words-known first s w zero us late by above known = known
   words-known first s w (suc n) us late by above known =
       let want = max (max first s.answered) s.awaited in

@@ -8,7 +8,9 @@ use Rattle.st_rows.specs.BusTimes.{answer_at}
 use Rattle.std.proofs.lemmas.List.Elements.{All-head, All-tail}
 use Rattle.st_banks.specs.declared.answers.LastAnswers.{LastAnswers}
 use Rattle.st_rows.specs.Entries.{latest_done}
-use Rattle.st_rows.specs.Rows.{words_tick, tick_a, tick_y, tick_p, preparation_tick, side_there, fill_at, is_forwarded, done_before}
+use Rattle.st_rows.specs.Rows.{words_tick, tick_a, tick_y, tick_p, preparation_tick, done_before}
+use Rattle.st_rows.specs.Words.{side_there, fill_at, is_forwarded}
+use Rattle.st_rows.specs.Uses.{behind, behind_use, uses}
 use Rattle.st_rows.specs.declared.bus.Bus.{Bus}
 use Rattle.st_rows.specs.declared.entry.Entry.{Entry}
 use Rattle.st_rows.specs.declared.front.Front.{Front}
@@ -76,7 +78,7 @@ storage-writer ds past b v a w is = elim (cases_Bool (is_forwarded past v a)) [
 
 side-forwarded : (ds : List ℕ) (past : List Past) (b : Bus) (side : Option ℕ) (a : ℕ) (w : Writer) → side_writer (side_uses ds past b side a) ≡ Some w
     → (side_there ds past b (side_to_read side) a ≡ w.done) × (a < w.done) × (done_before w.back past ≡ w.done)
-unfolding side_writer side_uses side_to_read side_there writer_of_supply
+unfolding side_writer side_uses side_to_read side_there writer_of_supply behind uses behind_use
 side-forwarded ds past b None a w is = absurd (cc)
 side-forwarded ds past b (Some v) a w is = elim (cases_Bool (nat_lt v 32)) [
   | inl y ↦
@@ -91,7 +93,7 @@ fetches-no-writer : (ds : List ℕ) (f : Front) (e : Entry) → All (λ (u : Use
 fetches-no-writer ds f e = each-fetch (λ (u : Use). is_index u.role ≡ false) ds f e (λ v a b o c d. refl) (λ v a b o c d. refl)
 
 sided-is : (ds : List ℕ) (f : Front) (e : Entry) → side_there ds f.past (words_tick ds f e).bus e.side (tick_a ds f e) ≡ tick_y ds f e
-unfolding tick_y
+unfolding tick_y side_there
 sided-is ds f e = refl
 
 pub for-forwarding : (ds : List ℕ) (n : ℕ) (banks : LastAnswers) (start : ℕ) (older : List Told) (x : Told) (w : Writer) → All IsTold (x ∷ older)
@@ -122,7 +124,7 @@ for-forwarding ds n banks start older x w all none is =
 side-read : (ds : List ℕ) (past : List Past) (b : Bus) (side : Option ℕ) (a : ℕ) → side_writer (side_uses ds past b side a) ≡ None
     → a < side_there ds past b (side_to_read side) a
     → list_any (is_side_read a (side_there ds past b (side_to_read side) a)) (side_uses ds past b side a) ≡ true
-unfolding side_writer side_uses side_to_read side_there writer_of_supply is_read read_of
+unfolding side_writer side_uses side_to_read side_there writer_of_supply is_read read_of behind uses behind_use
 side-read ds past b None a none late = let no : ⊥ = omega (arith, late) in absurd no
 side-read ds past b (Some v) a none late = elim (cases_Bool (nat_lt v 32)) [
   | inl y ↦

@@ -10,7 +10,8 @@ use Rattle.std.proofs.lemmas.List.Folds.{list_any-append}
 use Rattle.st_banks.specs.declared.answers.LastAnswers.{LastAnswers}
 use Rattle.st_fetch.specs.Planned.{tick_of}
 use Rattle.st_prep.specs.declared.entries.Words.{Words}
-use Rattle.st_rows.specs.Rows.{tick_a, tick_p, is_forwarded}
+use Rattle.st_rows.specs.Rows.{tick_a, tick_p}
+use Rattle.st_rows.specs.Words.{is_forwarded}
 use Rattle.st_rows.specs.Ranges.{IsEntryInTime}
 use Rattle.st_rows.specs.declared.bus.Bus.{Bus}
 use Rattle.st_rows.specs.declared.past.Past.{Past}

@@ -8,7 +8,8 @@ use Rattle.std.proofs.lemmas.List.Quantifiers.{position-Some}
 use Rattle.st_fetch.specs.Planned.{tick_of}
 use Rattle.st_prep.specs.declared.entries.Words.{Words}
 use Rattle.st_rows.specs.Entries.{latest_done, is_among, no_runs}
-use Rattle.st_rows.specs.Rows.{completion_of, done_before, is_forwarded, tick_a, tick_p}
+use Rattle.st_rows.specs.Rows.{completion_of, done_before, tick_a, tick_p}
+use Rattle.st_rows.specs.Words.{is_forwarded}
 use Rattle.st_rows.specs.declared.bus.Bus.{Bus}
 use Rattle.st_rows.specs.declared.entry.Entry.{Entry}
 use Rattle.st_rows.specs.declared.front.Front.{Front}

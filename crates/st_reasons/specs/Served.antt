@@ -3,7 +3,7 @@ use Rattle.std.specs.Prelude.{ℕ, ◌-◌, get_or, Some, ◌≡◌, ◌≤◌, 
 use Rattle.std.specs.List.{list_any}
 use Rattle.st_banks.specs.Bank.{bank_of, last_of}
 use Rattle.st_banks.specs.declared.answers.LastAnswers.{LastAnswers}
-use Rattle.st_rows.specs.Asked.{Read, after_one}
+use Rattle.st_rows.specs.BusTimes.{Read, after_one}
 use Rattle.st_rows.specs.Entries.{is_among, no_runs}
 use Rattle.st_rows.specs.Rows.{done_before}
 use Rattle.st_rows.specs.declared.bus.Bus.{Bus}

@@ -16,7 +16,8 @@ use Rattle.st_banks.specs.declared.answers.LastAnswers.{LastAnswers}
 use Rattle.st_banks.specs.declared.answers.TheConstants.{BANKS}
 use Rattle.st_rows.specs.Ranges.{AreDelaysUpTo, IsEntryInTime, IsTight, IsNear}
 use Rattle.st_rows.specs.Rows.{row_of_entry, opening_front, address_tick, preparation_tick, tick_a, tick_p, tick_c}
-use Rattle.st_rows.specs.Asked.{Read, made_before}
+use Rattle.st_rows.specs.Asked.{made_before}
+use Rattle.st_rows.specs.BusTimes.{Read}
 use Rattle.st_rows.specs.declared.bus.Bus.{Bus}
 use Rattle.st_rows.specs.declared.entry.Entry.{Entry}
 use Rattle.st_rows.specs.declared.past.Past.{Past}

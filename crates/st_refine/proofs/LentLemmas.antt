@@ -11,7 +11,8 @@ use Rattle.st_prep.specs.FewWords.{is_transmission}
 use Rattle.st_prep.specs.Plan.{plan}
 use Rattle.st_prep.specs.declared.entries.Prepared.{Prepared}
 use Rattle.st_exec.specs.Completion.{guess}
-use Rattle.st_rows.specs.Rows.{row_of_entry, front_after_entry, fills}
+use Rattle.st_rows.specs.Rows.{row_of_entry, front_after_entry}
+use Rattle.st_rows.specs.Words.{fills}
 use Rattle.st_rows.specs.declared.front.Front.{Front}
 use Rattle.st_ring.specs.Unwinding.{index_words_after, Kept, unwound}
 use Rattle.st_ring.specs.declared.level.Level.{Level}

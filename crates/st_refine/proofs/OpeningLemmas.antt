@@ -9,7 +9,8 @@ use Rattle.st_exec.specs.Step.{interrupt, rests, step}
 use Rattle.st_exec.specs.Transfer.{read_in}
 use Rattle.st_exec.proofs.StepLemmas.{step-done}
 use Rattle.st_banks.specs.declared.answers.LastAnswers.{LastAnswers}
-use Rattle.st_rows.specs.Asked.{reads_of_entry, bus_after_reads, made_before}
+use Rattle.st_rows.specs.Asked.{bus_after_reads, made_before}
+use Rattle.st_rows.specs.Rows.{reads_of_entry}
 use Rattle.st_rows.specs.Rows.{row_of_entry, front_after_entry, opening_front, address_tick, preparation_tick, tick_a, tick_p, tick_c}
 use Rattle.st_rows.specs.declared.bus.Bus.{Bus}
 use Rattle.st_rows.specs.declared.entry.Entry.{Entry}

@@ -6,10 +6,10 @@ use Rattle.std.proofs.lemmas.Bool.{ltb-false}
 use Rattle.st_state.specs.Machine.{Machine}
 use Rattle.st_exec.specs.Completion.{guess}
 use Rattle.st_banks.specs.declared.answers.LastAnswers.{LastAnswers}
-use Rattle.st_rows.specs.Asked.{Read, reads_of_entry, fetches_asked, data_of, bus_after_reads, after_one, made_before}
-use Rattle.st_rows.specs.BusTimes.{accept_at}
+use Rattle.st_rows.specs.Asked.{fetches_asked, data_of, bus_after_reads, made_before}
+use Rattle.st_rows.specs.BusTimes.{accept_at, Read, after_one}
 use Rattle.st_rows.specs.Notes.{notes_of_reads, note}
-use Rattle.st_rows.specs.Rows.{row_of_entry, front_after_entry, wanted_from, address_tick, operands, tick_a, tick_p}
+use Rattle.st_rows.specs.Rows.{row_of_entry, front_after_entry, wanted_from, address_tick, operands, tick_a, tick_p, reads_of_entry}
 use Rattle.st_rows.specs.declared.bus.Bus.{Bus}
 use Rattle.st_rows.specs.declared.entry.Entry.{Entry}
 use Rattle.st_rows.specs.declared.front.Front.{Front}

@@ -1,8 +1,7 @@
 -- The instruction words that reads leave held.
 use Rattle.std.specs.Prelude.{ℕ, if◌then◌else◌, List, [], ◌∷◌, ◌++◌}
 use Rattle.st_fetch.specs.declared.fetched.AskedWord.{AskedWord}
-use Rattle.st_rows.specs.Asked.{Read, after_one}
-use Rattle.st_rows.specs.BusTimes.{answer_at}
+use Rattle.st_rows.specs.BusTimes.{answer_at, Read, after_one}
 use Rattle.st_rows.specs.declared.bus.Bus.{Bus}
 
 -- what a read on the bus b leaves held, where it is that of an instruction word: the word, with the

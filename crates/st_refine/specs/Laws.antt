@@ -1,6 +1,7 @@
 -- What holds of machines that calls within the protocol lead to.
 use Rattle.std.specs.Prelude.{ℕ, suc, ◌≡◌, ◌+◌, ◌-◌, ◌<◌, ◌≤◌, ◌^◌, false, List, ◌++◌, All, None, Some, IfSome, ◌*◌, ◌||◌, nat_lt, nat_le, is_some, length, take, slice_get, slice_index_or, true, if◌then◌else◌, [], ◌∷◌, get_or}
-use Rattle.st_rows.specs.Asked.{Read, bus_after_reads}
+use Rattle.st_rows.specs.Asked.{bus_after_reads}
+use Rattle.st_rows.specs.BusTimes.{Read}
 use Rattle.st_rows.specs.Notes.{AreEarly, notes_of_reads}
 use Rattle.st_rows.specs.declared.bus.Bus.{Bus}
 use Rattle.st_rows.specs.declared.log.Made.{Made}

@@ -7,8 +7,8 @@ use Rattle.st_exec.specs.Step.{step}
 use Rattle.st_exec.specs.Transfer.{read_in, printed_out}
 use Rattle.st_banks.specs.Bank.{idle_banks}
 use Rattle.st_banks.specs.declared.answers.LastAnswers.{LastAnswers}
-use Rattle.st_rows.specs.Rows.{opening_front, front_after_entry}
-use Rattle.st_rows.specs.Asked.{Read, reads_of_entry}
+use Rattle.st_rows.specs.Rows.{opening_front, front_after_entry, reads_of_entry}
+use Rattle.st_rows.specs.BusTimes.{Read}
 use Rattle.st_rows.specs.declared.front.Front.{Front}
 use Rattle.st_segment.specs.Entries.{entry}
 use Rattle.st_segment.specs.Guesses.{table_behind}

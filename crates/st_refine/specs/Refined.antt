@@ -4,7 +4,8 @@ use Rattle.st_bits.specs.declared.register.TheConstants.{FIRST_INDEX_WORD}
 use Rattle.st_state.specs.Machine.{Machine, word}
 use Rattle.st_prep.specs.Fetch.{address_by, index_words}
 use Rattle.st_prep.specs.Plan.{plan}
-use Rattle.st_rows.specs.Rows.{row_of_entry, fills}
+use Rattle.st_rows.specs.Rows.{row_of_entry}
+use Rattle.st_rows.specs.Words.{fills}
 use Rattle.st_rows.specs.declared.front.Front.{Front}
 use Rattle.st_rows.specs.declared.front.EntryTicks.{EntryTicks}
 use Rattle.st_segment.specs.Entries.{entry}

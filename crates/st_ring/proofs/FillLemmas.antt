@@ -10,10 +10,11 @@ use Rattle.st_prep.specs.Plan.{plan}
 use Rattle.st_prep.specs.Ranges.{IsPrepared}
 use Rattle.st_prep.proofs.PlanLemmas.{plan-prepared}
 use Rattle.st_exec.specs.Completion.{guess}
-use Rattle.st_rows.specs.BusTimes.{accept_at, answer_at}
+use Rattle.st_rows.specs.BusTimes.{accept_at, answer_at, answer_if}
 use Rattle.st_rows.specs.Entries.{is_among, latest_done}
 use Rattle.st_rows.specs.Ranges.{AreDelaysUpTo}
-use Rattle.st_rows.specs.Rows.{is_forwarded, read_word, fill_at, fills_of, fills, row_of_entry, front_after_entry, tick_p, bus_a}
+use Rattle.st_rows.specs.Rows.{row_of_entry, front_after_entry, tick_p, bus_a}
+use Rattle.st_rows.specs.Words.{read_word, fill_at, fills_of, fills, is_forwarded}
 use Rattle.st_rows.specs.declared.bus.Bus.{Bus}
 use Rattle.st_rows.specs.declared.entry.WordRun.{WordRun}
 use Rattle.st_rows.specs.declared.front.Front.{Front}
@@ -34,7 +35,7 @@ use Rattle.st_ring.proofs.WriterLemmas.{take-latest, not-latest}
 
 module _ (most : ℕ) (ds : List ℕ) (are : AreDelaysUpTo most ds) (past : List Past) where
   behind_if : (late : Bool) (b : Bus) (w p : ℕ) → (late ≡ false → latest_done past w ≤ p)
-      → latest_done past w ≤ (if late then latest_done past w else answer_at ds b w p)
+      → latest_done past w ≤ answer_if ds b w p (if late then Some (latest_done past w) else None)
   behind_if true b w p early = omega arith
   behind_if false b w p early = omega (arith, delay-bounds most ds (accept_at b w p) are, early refl)
 
@@ -48,7 +49,7 @@ module _ (most : ℕ) (ds : List ℕ) (are : AreDelaysUpTo most ds) (past : List
       let same : r.first + 0 ≡ r.first = omega arith in
       rw (lt-ltb 0 r.len inside, same) (behind-writer b r.first p)
   fills-behind b r p (suc zero) few inside =
-      rw (lt-ltb 1 r.len inside) (behind-writer (read_word ds past (record { bus = b; answered = p }) r.first p).bus (r.first + 1) p)
+      rw (lt-ltb 1 r.len inside) (behind-writer (read_word ds past (record { bus = b; answered = p; awaited = 0 }) r.first p).bus (r.first + 1) p)
   fills-behind b r p (suc (suc i)) few inside = absurd (omega arith)
 
 -- the first run of words to read of an entry

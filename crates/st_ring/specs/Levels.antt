@@ -4,7 +4,8 @@ use Rattle.st_state.specs.Machine.{Machine}
 use Rattle.st_prep.specs.Plan.{plan}
 use Rattle.st_prep.specs.Ranges.{IsPrepared}
 use Rattle.st_exec.specs.Completion.{guess, is_missed}
-use Rattle.st_rows.specs.Rows.{row_of_entry, front_after_entry, fills}
+use Rattle.st_rows.specs.Rows.{row_of_entry, front_after_entry}
+use Rattle.st_rows.specs.Words.{fills}
 use Rattle.st_rows.specs.declared.front.Front.{Front}
 use Rattle.st_ring.specs.declared.level.Level.{Level}
 use Rattle.st_segment.specs.Entries.{entry}

@@ -1,18 +1,22 @@
 -- What holds of each read of an entry.
 use Rattle.std.specs.Prelude.{if◌then◌else◌, nat_lt, Bool, IfSome}
-use Rattle.std.proofs.Common.{◌≡◌, ℕ, zero, suc, ◌+◌, ◌<◌, ◌≤◌, max, true, false, List, [], ◌∷◌, ◌++◌, All, Option, None, Some, refl, arith}
+use Rattle.std.proofs.Common.{◌≡◌, ℕ, zero, suc, ◌+◌, ◌<◌, ◌≤◌, max, true, false, List, [], ◌++◌, All, Option, None, Some, refl, arith}
 use Rattle.std.proofs.lemmas.Bool.{ltb-true}
 use Rattle.std.proofs.lemmas.List.Elements.{All-nil, All-cons, All-append}
 use Rattle.st_bits.specs.Storage.{words_of_storage}
 use Rattle.st_fetch.specs.Planned.{tick_of}
-use Rattle.st_rows.specs.Asked.{Read, word_asked, words_asked, data_asked, side_asked, operands_asked, inside_asked, runs_asked, following_asked, fetches_asked, data_of}
-use Rattle.st_rows.specs.Rows.{fetch_word, fetch_words, wanted_from, is_forwarded, request_inside, tick_a, tick_p, operands}
+use Rattle.st_rows.specs.Asked.{word_asked, words_asked, data_asked, side_asked, operands_asked, inside_asked, runs_asked, following_asked, fetches_asked, data_of}
+use Rattle.st_rows.specs.BusTimes.{Read}
+use Rattle.st_rows.specs.Rows.{wanted_from, tick_a, tick_p, operands}
+use Rattle.st_rows.specs.Words.{fetch_word, fetch_words, request_inside}
+use Rattle.st_rows.specs.Uses.{reads_of, uses, wishes, read_made, forwarded_at}
 use Rattle.st_rows.specs.declared.bus.Bus.{Bus}
 use Rattle.st_rows.specs.declared.entry.WordRuns.{WordRuns}
 use Rattle.st_rows.specs.declared.entry.Entry.{Entry}
 use Rattle.st_rows.specs.declared.past.Past.{Past}
 use Rattle.st_rows.specs.declared.fetching.Fetching.{Fetching}
 use Rattle.st_rows.specs.declared.front.Front.{Front}
+use Rattle.st_rows.proofs.UseLemmas.{following-is}
 
 module _ (P : Read → Type 0) where
   each-word : (o : Option ℕ) (w want : ℕ) → P (record { w = w; want = want; fetch = true }) → All P (word_asked o w want)
@@ -22,7 +26,7 @@ module _ (P : Read → Type 0) where
   each-words : (ds : List ℕ) (past : List Past) (from : ℕ) (s : Fetching) (w n : ℕ)
       → ((v want : ℕ) → w ≤ v → v < w + n → from ≤ want → P (record { w = v; want = want; fetch = true }))
       → All P (words_asked ds past s from w n)
-  unfolding words_asked
+  unfolding words_asked reads_of uses wishes fetch_word
   each-words ds past from s w zero is = All-nil P
   each-words ds past from s w (suc n) is =
       let want = max (max from s.answered) s.awaited in
@@ -34,7 +38,7 @@ module _ (P : Read → Type 0) where
       → ((v want : ℕ) → e.own.first ≤ v → v < e.own.first + e.own.len → wanted_from f ≤ want → P (record { w = v; want = want; fetch = true }))
       → ((v want : ℕ) → e.target.first ≤ v → v < e.target.first + e.target.len → wanted_from f ≤ want → P (record { w = v; want = want; fetch = true }))
       → All P (fetches_asked ds f e)
-  unfolding fetches_asked
+  unfolding fetches_asked words_asked fetch_words
   each-fetch ds f e own target =
       let start : Fetching = record { bus = f.bus; answered = 0; awaited = 0 } in
       let behind = fetch_words ds f.past start (wanted_from f) e.own.first e.own.len in
@@ -43,16 +47,16 @@ module _ (P : Read → Type 0) where
       (each-words ds f.past (wanted_from f) start e.own.first e.own.len own)
       (each-words ds f.past from behind e.target.first e.target.len (λ v want least most low. target v want least most (omega arith)))
 
-  each-data_if : (late : Bool) (w tick : ℕ) → P (record { w = w; want = tick; fetch = false })
-      → All P (if late then [] else record { w = w; want = tick; fetch = false } ∷ [])
-  each-data_if true w tick is = All-nil P
-  each-data_if false w tick is = All-cons P _ [] is (All-nil P)
+  each-data_if : (o : Option ℕ) (w tick : ℕ) → P (record { w = w; want = tick; fetch = false })
+      → All P (read_made (record { w = w; want = tick; fetch = false }) o)
+  each-data_if (Some there) w tick is = All-nil P
+  each-data_if None w tick is = All-cons P _ [] is (All-nil P)
 
   pub each-side : (past : List Past) (side : Option ℕ) (a : ℕ)
       → IfSome side (λ w. P (record { w = w; want = a; fetch = false })) → All P (side_asked past side a)
   unfolding side_asked
   each-side past None a is = All-nil P
-  each-side past (Some w) a is = each-data_if (is_forwarded past w a) w a is
+  each-side past (Some w) a is = each-data_if (forwarded_at past w a) w a is
 
   each-run : (past : List Past) (p w n : ℕ)
       → ((v : ℕ) → w ≤ v → v < w + n → P (record { w = v; want = p; fetch = false })) → All P (operands_asked past p w n)
@@ -60,7 +64,7 @@ module _ (P : Read → Type 0) where
   each-run past p w zero is = All-nil P
   each-run past p w (suc n) is =
       All-append P (data_asked past w p) (operands_asked past p (w + 1) n)
-      (each-data_if (is_forwarded past w p) w p (is w (omega arith) (omega arith)))
+      (each-data_if (forwarded_at past w p) w p (is w (omega arith) (omega arith)))
       (each-run past p (w + 1) n (λ v least most. is v (omega arith) (omega arith)))
 
   pub each-operand : (past : List Past) (reads : WordRuns) (p : ℕ)
@@ -90,8 +94,7 @@ module _ (P : Read → Type 0) where
   pub each-following : (ds : List ℕ) (b : Bus) (e : Entry) (p : ℕ)
       → (e.follows ≡ true → (v : ℕ) → e.own.first + e.own.len ≤ v → v < words_of_storage → P (record { w = v; want = p; fetch = true }))
       → All P (following_asked ds b e p)
-  unfolding following_asked
-  each-following ds b e p is = each-following_if e.follows ds b (e.own.first + e.own.len) p is
+  each-following ds b e p is = rw (following-is ds b e p) (each-following_if e.follows ds b (e.own.first + e.own.len) p is)
 
   pub each-of-data : (ds : List ℕ) (n : ℕ) (f : Front) (e : Entry)
       → All P (side_asked f.past e.side (tick_a ds f e)) → All P (runs_asked f.past e.reads (tick_p ds n f e))

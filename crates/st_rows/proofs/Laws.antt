@@ -7,15 +7,15 @@ use Rattle.st_rows.proofs.Tight.{tight-after}
 use Rattle.st_rows.proofs.Fills.{first-late, second-late, fills-ready, fills-decide}
 use Rattle.st_rows.proofs.Sooner.{read-sooner, answer-sooner, requested-sooner, row-sooner, after-sooner, order-after, covered-after, hazard_free-behind, rows-sooner, opening-sooner, opening-order, opening-covered, none-falls}
 use Rattle.st_rows.proofs.Older.{older-after, row-kept, after-kept}
-use Rattle.st_rows.proofs.Served.{served-asked, few-asked, most-asked, free-one_if, made-bounds, served-fetches, served-formed, served-prepared}
-use Rattle.st_rows.specs.BusTimes.{accept_at}
+use Rattle.st_rows.proofs.Served.{served-asked, few-asked, most-asked, free-one_if, made-bounds, served-fetches, served-formed, served-prepared, served-uses, few-uses}
+use Rattle.st_rows.specs.BusTimes.{accept_at, Read}
 use Rattle.st_rows.proofs.Within.{delay-bounds}
 use Rattle.st_rows.proofs.Parts.{asked-parts, two-parts, a-p, at-prepared, free-fetched, free-formed, front-formed, front-done, free-done}
 use Rattle.std.specs.Prelude.{IfSome}
-use Rattle.st_rows.specs.Asked.{Read}
 use Rattle.st_rows.proofs.Each.{each-fetch, each-side, each-operand, each-following, each-of-data}
 use Rattle.st_rows.proofs.MadeLemmas.{all-made, made-more}
-use Rattle.st_rows.specs.Laws.{RowsAreInOrder, CompletionsAreBounded, OperandsAreThereBeforeCompletion, ReadsAreNoLater, EntriesAreNoLater, MoreLevelsAreNoLater, OlderEntriesAreDoneBefore, OlderEntriesDecideNothing, RowsMakeTheirReads, ReadsComeInOrder, MadeReadsAreAnsweredSoon, EntriesAskInParts, ReadsAreWantedInTime, BusesAreFreeInTime, LateReadsChangeNothing}
+use Rattle.st_rows.specs.Laws.{RowsAreInOrder, CompletionsAreBounded, OperandsAreThereBeforeCompletion, ReadsAreNoLater, EntriesAreNoLater, MoreLevelsAreNoLater, OlderEntriesAreDoneBefore, OlderEntriesDecideNothing, RowsMakeTheirReads, ReadsComeInOrder, MadeReadsAreAnsweredSoon, EntriesAskInParts, ReadsAreWantedInTime, BusesAreFreeInTime, LateReadsChangeNothing, UsesMakeTheirReads}
+use Rattle.st_rows.proofs.UseLemmas.{uses-append}
 
 pub rows_are_in_order : RowsAreInOrder
 unfolding row_of_entry tick_a address_tick tick_p preparation_tick tick_c
@@ -77,6 +77,13 @@ pub older_entries_decide_nothing : OlderEntriesDecideNothing
 older_entries_decide_nothing = record {
   row = λ ds n f e some old. row-kept ds n f e some old;
   after = λ ds n f e some old. after-kept ds n f e some old;
+}
+
+pub uses_make_their_reads : UsesMakeTheirReads
+uses_make_their_reads = record {
+  bus = λ ds past s xs. served-uses ds past s xs;
+  few = λ ds past s xs. few-uses ds past s xs;
+  parts = λ ds past s xs ys. uses-append ds past s xs ys;
 }
 
 pub rows_make_their_reads : RowsMakeTheirReads

@@ -1,3 +1,4 @@
+pub mod UseLemmas
 pub mod Awaited
 pub mod Fills
 pub mod Older

@@ -2,7 +2,8 @@
 use Rattle.std.proofs.Common.{◌≡◌, ℕ, ◌<◌, List, [], ◌∷◌, ◌++◌, take, sym, subst, ap, ◌∙◌, append_assoc, arith}
 use Rattle.std.proofs.lemmas.List.{append-nil}
 use Rattle.std.proofs.lemmas.List.Elements.{All-append, All-weaker}
-use Rattle.st_rows.specs.Asked.{Read, after_one, bus_after_reads}
+use Rattle.st_rows.specs.Asked.{bus_after_reads}
+use Rattle.st_rows.specs.BusTimes.{Read, after_one}
 use Rattle.st_rows.specs.Notes.{note, notes_of_reads, log_after_reads, answers_left, IsLogged}
 use Rattle.st_rows.specs.LogLaws.{AcceptsRise, UndoneIsMadeBefore, FewAreUndone, LogsGoOn}
 use Rattle.st_rows.specs.declared.bus.Bus.{Bus}

@@ -3,8 +3,8 @@ use Rattle.std.specs.Prelude.{nat_lt}
 use Rattle.std.proofs.Common.{◌≡◌, ℕ, ◌+◌, ◌<◌, ◌≤◌, true, false, List, [], ◌∷◌, ◌++◌, All, refl, inl, inr, ◌⊎◌, arith}
 use Rattle.std.proofs.lemmas.Bool.{cases_Bool, ltb-true, lt-ltb, ltb-false}
 use Rattle.std.proofs.lemmas.List.Elements.{All-head}
-use Rattle.st_rows.specs.Asked.{Read, after_one, bus_after_reads, made_before}
-use Rattle.st_rows.specs.BusTimes.{accept_at}
+use Rattle.st_rows.specs.Asked.{bus_after_reads, made_before}
+use Rattle.st_rows.specs.BusTimes.{accept_at, Read, after_one}
 use Rattle.st_rows.specs.declared.bus.Bus.{Bus}
 use Rattle.st_rows.proofs.Served.{free-one_if}
 

@@ -7,8 +7,8 @@ use Rattle.std.proofs.lemmas.List.Elements.{All-nil, All-cons, All-head, All-tai
 use Rattle.st_banks.specs.Bank.{bank_of, last_of, answered_at}
 use Rattle.st_fetch.specs.Queue.{window}
 use Rattle.st_fetch.proofs.Windows.{length-window, get_or-window}
-use Rattle.st_rows.specs.Asked.{Read, after_one, bus_after_reads, made_before}
-use Rattle.st_rows.specs.BusTimes.{accept_at, answer_at, bus_after_read}
+use Rattle.st_rows.specs.Asked.{bus_after_reads, made_before}
+use Rattle.st_rows.specs.BusTimes.{accept_at, answer_at, bus_after_read, Read, after_one}
 use Rattle.st_rows.specs.Notes.{note, notes_of_reads, answers_left, AreEarly, AreSettled, AreFalling, IsLogged}
 use Rattle.st_rows.specs.declared.bus.Bus.{Bus}
 use Rattle.st_rows.specs.declared.log.Made.{Made}

@@ -1,15 +1,17 @@
 -- The log after the reads of an entry, one part behind the other.
 use Rattle.std.proofs.Common.{◌≡◌, ℕ, zero, suc, true, ◌+◌, ◌-◌, ◌≤◌, List, [], ◌∷◌, ◌++◌, refl, sym, ap, ◌∙◌, arith}
-use Rattle.st_rows.specs.Asked.{Read, data_asked, operands_asked, runs_asked, inside_asked, following_asked, after_one, bus_after_reads}
-use Rattle.st_rows.specs.BusTimes.{OperandReading}
+use Rattle.st_rows.specs.Asked.{data_asked, operands_asked, runs_asked, inside_asked, following_asked, bus_after_reads}
+use Rattle.st_rows.specs.BusTimes.{Read, after_one}
 use Rattle.st_rows.specs.Notes.{log_after_reads}
-use Rattle.st_rows.specs.Rows.{read_word, read_words, request_inside}
+use Rattle.st_rows.specs.Words.{read_word, read_words, request_inside}
 use Rattle.st_rows.specs.declared.bus.Bus.{Bus}
 use Rattle.st_rows.specs.declared.entry.Entry.{Entry}
 use Rattle.st_rows.specs.declared.entry.WordRuns.{WordRuns}
 use Rattle.st_rows.specs.declared.log.Made.{Made}
 use Rattle.st_rows.specs.declared.past.Past.{Past}
 use Rattle.st_rows.proofs.Served.{served-data, served-inside, served-operands}
+use Rattle.st_rows.specs.declared.fetching.Fetching.{Fetching}
+use Rattle.st_rows.proofs.UseLemmas.{following-is}
 
 module _ (ds : List ℕ) where
   pub noted-append : (xs ys : List Read) (b : Bus) (log : List Made) → log_after_reads ds (xs ++ ys) b log ≡ log_after_reads ds ys (bus_after_reads ds xs b) (log_after_reads ds xs b log)
@@ -24,17 +26,17 @@ module _ (ds : List ℕ) where
 
   module _ (past : List Past) (p : ℕ) where
     -- one operand word of a run
-    pub operand-turn : (w : ℕ) (s t : OperandReading) (n : ℕ) (log new : List Made) → t ≡ read_word ds past s w p → new ≡ log_after_reads ds (data_asked past w p) s.bus log → 1 ≤ n
+    pub operand-turn : (w : ℕ) (s t : Fetching) (n : ℕ) (log new : List Made) → t ≡ read_word ds past s w p → new ≡ log_after_reads ds (data_asked past w p) s.bus log → 1 ≤ n
         → log_after_reads ds (operands_asked past p (w + 1) (n - 1)) t.bus new ≡ log_after_reads ds (operands_asked past p w n) s.bus log
     unfolding operands_asked
     operand-turn w s t zero log new is made some = let no : ⊥ = omega arith in absurd no
     operand-turn w s t (suc n) log new is made some =
         let e : suc n - 1 ≡ n = omega arith in
-        let bus : t.bus ≡ bus_after_reads ds (data_asked past w p) s.bus = ap (λ (x : OperandReading). x.bus) is ∙ sym (served-data ds past w p s) in
+        let bus : t.bus ≡ bus_after_reads ds (data_asked past w p) s.bus = ap (λ (x : Fetching). x.bus) is ∙ sym (served-data ds past w p s) in
         rw e (noted-two (data_asked past w p) (operands_asked past p (w + 1) n) s.bus t.bus log new bus made)
 
     -- two of them
-    pub operands-two : (w : ℕ) (s t u : OperandReading) (n : ℕ) (log one two : List Made) → t ≡ read_word ds past s w p → u ≡ read_word ds past t (w + 1) p
+    pub operands-two : (w : ℕ) (s t u : Fetching) (n : ℕ) (log one two : List Made) → t ≡ read_word ds past s w p → u ≡ read_word ds past t (w + 1) p
         → one ≡ log_after_reads ds (data_asked past w p) s.bus log → two ≡ log_after_reads ds (data_asked past (w + 1) p) t.bus one → 2 ≤ n
         → log_after_reads ds (operands_asked past p (w + 2) (n - 2)) u.bus two ≡ log_after_reads ds (operands_asked past p w n) s.bus log
     operands-two w s t u n log one two is then_is made then_made some =
@@ -44,7 +46,7 @@ module _ (ds : List ℕ) where
         (operand-turn (w + 1) t u (n - 1) one two then_is then_made (omega arith) ∙ operand-turn w s t n log one is made (omega arith))
 
     -- one word alone
-    pub operand-one : (w : ℕ) (s t : OperandReading) (n : ℕ) (log new : List Made) → t ≡ read_word ds past s w p → new ≡ log_after_reads ds (data_asked past w p) s.bus log → n ≡ 1
+    pub operand-one : (w : ℕ) (s t : Fetching) (n : ℕ) (log new : List Made) → t ≡ read_word ds past s w p → new ≡ log_after_reads ds (data_asked past w p) s.bus log → n ≡ 1
         → new ≡ log_after_reads ds (operands_asked past p w n) s.bus log
     unfolding operands_asked log_after_reads
     operand-one w s t n log new is made one =
@@ -53,7 +55,7 @@ module _ (ds : List ℕ) where
         rw none at last
 
   -- the second run behind the first
-  pub runs-noted : (past : List Past) (p : ℕ) (reads : WordRuns) (s t : OperandReading) (log one two : List Made)
+  pub runs-noted : (past : List Past) (p : ℕ) (reads : WordRuns) (s t : Fetching) (log one two : List Made)
       → t ≡ read_words ds past s p reads.one.first reads.one.len
       → one ≡ log_after_reads ds (operands_asked past p reads.one.first reads.one.len) s.bus log
       → two ≡ log_after_reads ds (operands_asked past p reads.two.first reads.two.len) t.bus one
@@ -61,15 +63,14 @@ module _ (ds : List ℕ) where
   runs-noted past p reads s t log one two is one_is two_is =
       two_is
       ∙ noted-two (operands_asked past p reads.one.first reads.one.len) (operands_asked past p reads.two.first reads.two.len) s.bus t.bus log one
-      (ap (λ (x : OperandReading). x.bus) is ∙ sym (served-operands ds past p s reads.one.first reads.one.len)) one_is
+      (ap (λ (x : Fetching). x.bus) is ∙ sym (served-operands ds past p s reads.one.first reads.one.len)) one_is
 
   -- both following words
   pub both-noted : (b d : Bus) (e : Entry) (p w : ℕ) (log one two : List Made) → e.follows ≡ true → w ≡ e.own.first + e.own.len
       → d ≡ request_inside ds b w p → one ≡ log_after_reads ds (inside_asked b w p) b log → two ≡ log_after_reads ds (inside_asked d (w + 1) p) d one
       → two ≡ log_after_reads ds (following_asked ds b e p) b log
-  unfolding following_asked
   both-noted b d e p w log one two follows here is one_is two_is =
-      rw (follows, ← here)
+      rw (following-is ds b e p, follows, ← here)
       (two_is
       ∙ rw is (noted-two (inside_asked b w p) (inside_asked (request_inside ds b w p) (w + 1) p) b (request_inside ds b w p) log one
       (sym (served-inside ds b w p)) one_is))

@@ -4,10 +4,11 @@ use Rattle.std.proofs.Common.{◌≡◌, ℕ, zero, suc, ◌+◌, ◌-◌, ◌<�
 use Rattle.std.proofs.lemmas.Bool.{cases_Bool, cases_lt, ltb-true}
 use Rattle.std.proofs.lemmas.List.{get_or-take}
 use Rattle.std.proofs.lemmas.List.Elements.{All-from_get_or}
-use Rattle.st_rows.specs.BusTimes.{OperandReading, bus_after_read, answer_at, bus_after_request, answer_tick_on}
+use Rattle.st_rows.specs.BusTimes.{bus_after_request, answer_tick_on, answer_if}
 use Rattle.st_rows.specs.Entries.{is_among, latest_done, no_runs}
 use Rattle.st_rows.specs.Levels.{AreInOrder, AreOlderDone, front_of_last}
-use Rattle.st_rows.specs.Rows.{fetch_word, fetch_words, wanted_from, words_tick, address_tick, bus_sided, side_there, done_before, preparation_tick, read_word, read_words, operands_read, tick_a, bus_a, tick_y, tick_p, operands, tick_c, row_of_entry, front_after_entry}
+use Rattle.st_rows.specs.Rows.{wanted_from, words_tick, address_tick, done_before, preparation_tick, tick_a, bus_a, tick_y, tick_p, operands, tick_c, row_of_entry, front_after_entry}
+use Rattle.st_rows.specs.Words.{fetch_word, fetch_words, bus_sided, side_there, read_word, read_words, operands_read}
 use Rattle.st_rows.specs.declared.bus.Bus.{Bus}
 use Rattle.st_rows.specs.declared.entry.WordRuns.{WordRuns}
 use Rattle.st_rows.specs.declared.entry.Entry.{Entry}
@@ -16,6 +17,8 @@ use Rattle.st_rows.specs.declared.fetching.Fetching.{Fetching}
 use Rattle.st_rows.specs.declared.front.Front.{Front}
 use Rattle.st_rows.proofs.Within.{latest-within}
 use Rattle.st_rows.proofs.Sooner.{take-beyond}
+use Rattle.st_rows.specs.Uses.{behind, behind_use, uses, wishes}
+use Rattle.st_rows.proofs.UseLemmas.{read_if, side_if}
 
 -- ---- they are done before the last entry is prepared
 
@@ -73,7 +76,7 @@ both F b c u v same equal = rw (same, equal) refl
 
 module _ (ds : List ℕ) (p : ℕ) (few past : List Past) (alike : (w : ℕ) → AreAlike p (latest_done few w) (latest_done past w)) where
   same-words : (from : ℕ) (s t : Fetching) (w n : ℕ) → p ≤ from → AreSame p s t → AreSame p (fetch_words ds few s from w n) (fetch_words ds past t from w n)
-  unfolding fetch_words fetch_word
+  unfolding fetch_words fetch_word behind uses wishes behind_use bus_after_request answer_tick_on
   same-words from s t w zero late is = is
   same-words from s t w (suc n) late is =
       let want : max (max from s.answered) s.awaited ≡ max (max from t.answered) t.awaited = omega (arith, is.answered, is.awaited) in
@@ -85,42 +88,42 @@ module _ (ds : List ℕ) (p : ℕ) (few past : List Past) (alike : (w : ℕ) →
         awaited = omega (arith, is.awaited, writer);
       })
 
-  same-bus_if : (w a x y : ℕ) (b : Bus) → p < a → AreAlike p x y → (if nat_lt a x then b else bus_after_read ds b w a) ≡ (if nat_lt a y then b else bus_after_read ds b w a)
+  same-bus_if : (w a x y : ℕ) (b : Bus) → p < a → AreAlike p x y → side_if ds b w a (if nat_lt a x then Some x else None) ≡ side_if ds b w a (if nat_lt a y then Some y else None)
   same-bus_if w a x y b late (inl same) = rw same refl
   same-bus_if w a x y b late (inr old) = rw (not-later a x (omega (arith, old.0)), not-later a y (omega (arith, old.1))) refl
 
-  same-there_if : (w a x y : ℕ) (b : Bus) → p < a → AreAlike p x y → (if nat_lt a x then x else answer_at ds b w a) ≡ (if nat_lt a y then y else answer_at ds b w a)
+  same-there_if : (w a x y : ℕ) (b : Bus) → p < a → AreAlike p x y → answer_if ds b w a (if nat_lt a x then Some x else None) ≡ answer_if ds b w a (if nat_lt a y then Some y else None)
   same-there_if w a x y b late (inl same) = rw same refl
   same-there_if w a x y b late (inr old) = rw (not-later a x (omega (arith, old.0)), not-later a y (omega (arith, old.1))) refl
 
   same-sided : (b : Bus) (side : Option ℕ) (a : ℕ) → p < a → bus_sided ds few b side a ≡ bus_sided ds past b side a
-  unfolding bus_sided
+  unfolding bus_sided behind uses behind_use
   same-sided b None a late = refl
   same-sided b (Some w) a late = same-bus_if w a (latest_done few w) (latest_done past w) b late (alike w)
 
   same-there : (b : Bus) (side : Option ℕ) (a : ℕ) → p < a → side_there ds few b side a ≡ side_there ds past b side a
-  unfolding side_there
+  unfolding side_there behind uses behind_use
   same-there b None a late = refl
   same-there b (Some w) a late = same-there_if w a (latest_done few w) (latest_done past w) b late (alike w)
 
-  same-read_if : (s : OperandReading) (w q x y : ℕ) → p < q → AreAlike p x y
-      → (if nat_lt q x then s else record { bus = bus_after_read ds s.bus w q; answered = max s.answered (answer_at ds s.bus w q) })
-      ≡ (if nat_lt q y then s else record { bus = bus_after_read ds s.bus w q; answered = max s.answered (answer_at ds s.bus w q) })
+  same-read_if : (s : Fetching) (w q x y : ℕ) → p < q → AreAlike p x y
+      → read_if ds s w q (if nat_lt q x then Some x else None)
+      ≡ read_if ds s w q (if nat_lt q y then Some y else None)
   same-read_if s w q x y late (inl same) = rw same refl
   same-read_if s w q x y late (inr old) = rw (not-later q x (omega (arith, old.0)), not-later q y (omega (arith, old.1))) refl
 
-  same-reads : (q : ℕ) (s : OperandReading) (w n : ℕ) → p < q → read_words ds few s q w n ≡ read_words ds past s q w n
-  unfolding read_words read_word
+  same-reads : (q : ℕ) (s : Fetching) (w n : ℕ) → p < q → read_words ds few s q w n ≡ read_words ds past s q w n
+  unfolding read_words read_word behind uses wishes behind_use
   same-reads q s w zero late = refl
   same-reads q s w (suc n) late =
-      ap (λ (t : OperandReading). read_words ds few t q (w + 1) n) (same-read_if s w q (latest_done few w) (latest_done past w) late (alike w))
+      ap (λ (t : Fetching). read_words ds few t q (w + 1) n) (same-read_if s w q (latest_done few w) (latest_done past w) late (alike w))
       ∙ same-reads q (read_word ds past s w q) (w + 1) n late
 
-  same-operands : (b : Bus) (reads : WordRuns) (q : ℕ) → p < q → operands_read ds few b reads q ≡ operands_read ds past b reads q
+  same-operands : (b : Bus) (reads : WordRuns) (q : ℕ) → p < q → operands_read ds few (record { bus = b; answered = q; awaited = 0 }) reads q ≡ operands_read ds past (record { bus = b; answered = q; awaited = 0 }) reads q
   unfolding operands_read
   same-operands b reads q late =
-      let start : OperandReading = record { bus = b; answered = q } in
-      ap (λ (t : OperandReading). read_words ds few t q reads.two.first reads.two.len) (same-reads q start reads.one.first reads.one.len late)
+      let start : Fetching = record { bus = b; answered = q; awaited = 0 } in
+      ap (λ (t : Fetching). read_words ds few t q reads.two.first reads.two.len) (same-reads q start reads.one.first reads.one.len late)
       ∙ same-reads q (read_words ds past start q reads.one.first reads.one.len) reads.two.first reads.two.len late
 
 -- ---- the whole
@@ -148,7 +151,7 @@ module _ (ds : List ℕ) (n : ℕ) (f : Front) (e : Entry) (some : 1 ≤ n) (old
       late_if false = omega arith
 
   same-fetched : AreSame f.p (words_tick ds (front_of_last n f) e) (words_tick ds f e)
-  unfolding words_tick
+  unfolding words_tick fetch_words
   same-fetched =
       let start : AreSame f.p (record { bus = f.bus; answered = 0; awaited = 0 }) (record { bus = f.bus; answered = 0; awaited = 0 }) =
       record { bus = refl; answered = refl; awaited = refl } in
@@ -164,13 +167,13 @@ module _ (ds : List ℕ) (n : ℕ) (f : Front) (e : Entry) (some : 1 ≤ n) (old
   a-late = omega arith
 
   same-bus_a : bus_a ds (front_of_last n f) e ≡ bus_a ds f e
-  unfolding bus_a
+  unfolding bus_a bus_sided
   same-bus_a =
       both (λ b a. bus_sided ds (take n f.past) b e.side a) _ _ _ _ same-fetched.bus same-a
       ∙ same-sided ds f.p (take n f.past) f.past alike (words_tick ds f e).bus e.side (tick_a ds f e) a-late
 
   same-y : tick_y ds (front_of_last n f) e ≡ tick_y ds f e
-  unfolding tick_y
+  unfolding tick_y side_there
   same-y =
       both (λ b a. side_there ds (take n f.past) b e.side a) _ _ _ _ same-fetched.bus same-a
       ∙ same-there ds f.p (take n f.past) f.past alike (words_tick ds f e).bus e.side (tick_a ds f e) a-late
@@ -187,9 +190,9 @@ module _ (ds : List ℕ) (n : ℕ) (f : Front) (e : Entry) (some : 1 ≤ n) (old
   p-late = omega (arith, a-late)
 
   same-operands_of : operands ds n (front_of_last n f) e ≡ operands ds n f e
-  unfolding operands
+  unfolding operands operands_read read_words
   same-operands_of =
-      both (λ b q. operands_read ds (take n f.past) b e.reads q) _ _ _ _ same-bus_a same-p
+      both (λ b q. operands_read ds (take n f.past) (record { bus = b; answered = q; awaited = 0 }) e.reads q) _ _ _ _ same-bus_a same-p
       ∙ same-operands ds f.p (take n f.past) f.past alike (bus_a ds f e) e.reads (tick_p ds n f e) p-late
 
   same-c : tick_c ds n (front_of_last n f) e ≡ tick_c ds n f e

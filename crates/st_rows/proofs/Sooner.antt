@@ -1,6 +1,6 @@
 -- Ticks that are nowhere later lead to ticks that are nowhere later, where all reads take the same time and nothing is forwarded.
 use Rattle.std.specs.Prelude.{◌==◌, ◌||◌, ◌%◌, if◌then◌else◌, nat_lt, Bool, IfSome}
-use Rattle.std.proofs.Common.{◌≡◌, ℕ, zero, suc, ◌+◌, ◌-◌, ◌<◌, ◌≤◌, max, true, false, List, [], ◌∷◌, length, get_or, set, take, replicate, All, Option, None, Some, refl, sym, inl, inr, arith}
+use Rattle.std.proofs.Common.{◌≡◌, ℕ, zero, suc, ◌+◌, ◌-◌, ◌<◌, ◌≤◌, max, true, false, List, [], ◌∷◌, length, get_or, set, take, replicate, All, Option, None, Some, refl, sym, inl, inr, arith, subst}
 use Rattle.std.specs.List.{AllZip}
 use Rattle.std.proofs.Math.Nat.{mod-lt}
 use Rattle.std.proofs.lemmas.Bool.{cases_Bool, cases_lt}
@@ -13,10 +13,12 @@ use Rattle.st_banks.specs.Bank.{bank_of, last_of}
 use Rattle.st_banks.specs.Delay.{delay}
 use Rattle.st_fetch.specs.Planned.{tick_of}
 use Rattle.st_fetch.specs.declared.fetched.AskedWord.{AskedWord}
-use Rattle.st_rows.specs.BusTimes.{OperandReading, accept_at, answer_at, bus_after_read, requested_if, answer_if, bus_after_request, answer_tick_on}
+use Rattle.st_rows.specs.BusTimes.{accept_at, answer_at, bus_after_read, requested_if, answer_if, bus_after_request, answer_tick_on}
 use Rattle.st_rows.specs.Entries.{is_in, is_among, latest_done, no_runs}
 use Rattle.st_rows.specs.Levels.{AreEqual, IsHeldSooner, IsBusSooner, IsPastSooner, IsFrontSooner, IsRowSooner, AreInOrder, IsUnwritten, IsHazardFree, AreHazardFree, AreCovered, rows_of_entries}
-use Rattle.st_rows.specs.Rows.{fetch_word, fetch_words, wanted_from, words_tick, address_tick, is_forwarded, bus_sided, side_there, preparation_tick, read_word, read_words, operands_read, request_inside, bus_followed, tick_a, bus_a, tick_y, tick_p, operands, tick_c, opening_front, row_of_entry, front_after_entry}
+use Rattle.st_rows.specs.Rows.{wanted_from, words_tick, address_tick, preparation_tick, tick_a, bus_a, tick_y, tick_p, operands, tick_c, opening_front, row_of_entry, front_after_entry}
+use Rattle.st_rows.specs.Words.{fetch_word, fetch_words, bus_sided, side_there, read_word, read_words, operands_read, request_inside, bus_followed, is_forwarded}
+use Rattle.st_rows.specs.Uses.{behind, behind_use, uses, wishes}
 use Rattle.st_rows.specs.declared.bus.Bus.{Bus}
 use Rattle.st_rows.specs.declared.entry.WordRuns.{WordRuns}
 use Rattle.st_rows.specs.declared.entry.Entry.{Entry}
@@ -26,6 +28,7 @@ use Rattle.st_rows.specs.declared.front.Front.{Front}
 use Rattle.st_rows.specs.Ranges.{ArePastWithin}
 use Rattle.st_rows.proofs.Within.{past-weaker}
 use Rattle.st_rows.proofs.Stages.{nth-within}
+use Rattle.st_rows.proofs.UseLemmas.{followed-is}
 
 -- ---- lists in pairs
 
@@ -164,7 +167,7 @@ module _ (d : ℕ) (ds : List ℕ) (are : AreEqual d ds) where
   module _ (past late : List Past) (kept : AllZip IsPastSooner past late) where
     fetch_words-sooner : (from later : ℕ) (s t : Fetching) (w n : ℕ) → from ≤ later → IsFetchingSooner s t
         → IsFetchingSooner (fetch_words ds past s from w n) (fetch_words ds late t later w n)
-    unfolding fetch_word fetch_words
+    unfolding fetch_word fetch_words behind_use bus_after_request answer_tick_on behind uses wishes
     fetch_words-sooner from later s t w zero low is = is
     fetch_words-sooner from later s t w (suc n) low is =
         let one = requested-sooner s.bus t.bus w (max (max from s.answered) s.awaited) (max (max later t.answered) t.awaited) is.bus
@@ -177,23 +180,23 @@ module _ (d : ℕ) (ds : List ℕ) (are : AreEqual d ds) where
 
     -- ---- operands that no entry writes
 
-    record IsReadingSooner (s t : OperandReading) : Type 0 where
+    record IsReadingSooner (s t : Fetching) : Type 0 where
       bus : IsBusSooner s.bus t.bus
       answered : s.answered ≤ t.answered
 
-    read_word-sooner : (p q : ℕ) (s t : OperandReading) (w : ℕ) → p ≤ q → All (λ entry. is_among w entry.writes ≡ false) past → IsReadingSooner s t
+    read_word-sooner : (p q : ℕ) (s t : Fetching) (w : ℕ) → p ≤ q → All (λ entry. is_among w entry.writes ≡ false) past → IsReadingSooner s t
         → IsReadingSooner (read_word ds past s w p) (read_word ds late t w q)
-    unfolding read_word
+    unfolding read_word behind_use
     read_word-sooner p q s t w low none is =
         rw (not-forwarded past w p none, not-forwarded late w q (unwritten-same past late w kept none)) (record {
           bus = read-sooner s.bus t.bus w p q is.bus low;
           answered = omega (arith, is.answered, answer-sooner s.bus t.bus w p q is.bus low);
         })
 
-    read_words-sooner : (p q : ℕ) (s t : OperandReading) (w n : ℕ) → p ≤ q
+    read_words-sooner : (p q : ℕ) (s t : Fetching) (w n : ℕ) → p ≤ q
         → ((v : ℕ) → w ≤ v → v < w + n → All (λ entry. is_among v entry.writes ≡ false) past) → IsReadingSooner s t
         → IsReadingSooner (read_words ds past s p w n) (read_words ds late t q w n)
-    unfolding read_words
+    unfolding read_words behind uses wishes read_word
     read_words-sooner p q s t w zero low none is = is
     read_words-sooner p q s t w (suc n) low none is =
         read_words-sooner p q (read_word ds past s w p) (read_word ds late t w q) (w + 1) n low (λ v least most. none v (omega arith) (omega arith))
@@ -203,7 +206,7 @@ module _ (d : ℕ) (ds : List ℕ) (are : AreEqual d ds) where
 
     sided-sooner : (b c : Bus) (side : Option ℕ) (a x : ℕ) → IfSome side (λ w. All (λ entry. is_among w entry.writes ≡ false) past) → IsBusSooner b c → a ≤ x
         → IsBusSooner (bus_sided ds past b side a) (bus_sided ds late c side x) × (side_there ds past b side a ≤ side_there ds late c side x)
-    unfolding bus_sided side_there
+    unfolding bus_sided side_there behind uses behind_use
     sided-sooner b c None a x none is low = (is, omega arith)
     sided-sooner b c (Some w) a x none is low =
         rw (not-forwarded past w a none, not-forwarded late w x (unwritten-same past late w kept none))
@@ -246,7 +249,7 @@ module _ (d : ℕ) (ds : List ℕ) (are : AreEqual d ds) (m n : ℕ) (more : n �
   wanted-sooner = rw is.serial (wanted_if-sooner g.serial f.p g.p f.c g.c is.prepared is.done)
 
   fetched-sooner : IsFetchingSooner d ds are (words_tick ds f e) (words_tick ds g e)
-  unfolding words_tick
+  unfolding words_tick fetch_words
   fetched-sooner =
       let start : IsFetchingSooner d ds are (record { bus = f.bus; answered = 0; awaited = 0 }) (record { bus = g.bus; answered = 0; awaited = 0 }) =
       record { bus = is.bus; answered = omega arith; awaited = omega arith } in
@@ -263,7 +266,7 @@ module _ (d : ℕ) (ds : List ℕ) (are : AreEqual d ds) (m n : ℕ) (more : n �
       omega (arith, words.answered, words.awaited, is.prepared, is.bus.free, alone)
 
   sides-sooner : IsBusSooner (bus_a ds f e) (bus_a ds g e) × (tick_y ds f e ≤ tick_y ds g e)
-  unfolding bus_a tick_y
+  unfolding bus_a tick_y bus_sided side_there
   sides-sooner =
       let words = fetched-sooner in
       sided-sooner d ds are f.past g.past is.past (words_tick ds f e).bus (words_tick ds g e).bus e.side (tick_a ds f e) (tick_a ds g e) hazard_free.side words.bus a-sooner
@@ -276,10 +279,10 @@ module _ (d : ℕ) (ds : List ℕ) (are : AreEqual d ds) (m n : ℕ) (more : n �
       omega (arith, a-sooner, sides-sooner.1, early, falls)
 
   operands-sooner : IsReadingSooner d ds are f.past g.past is.past (operands ds m f e) (operands ds n g e)
-  unfolding operands operands_read
+  unfolding operands operands_read read_words
   operands-sooner =
       let p = p-sooner in
-      let start : IsReadingSooner d ds are f.past g.past is.past (record { bus = bus_a ds f e; answered = tick_p ds m f e }) (record { bus = bus_a ds g e; answered = tick_p ds n g e }) =
+      let start : IsReadingSooner d ds are f.past g.past is.past (record { bus = bus_a ds f e; answered = tick_p ds m f e; awaited = 0 }) (record { bus = bus_a ds g e; answered = tick_p ds n g e; awaited = 0 }) =
       record { bus = sides-sooner.0; answered = p } in
       read_words-sooner d ds are f.past g.past is.past (tick_p ds m f e) (tick_p ds n g e) _ _ e.reads.two.first e.reads.two.len p hazard_free.two
       (read_words-sooner d ds are f.past g.past is.past (tick_p ds m f e) (tick_p ds n g e) _ _ e.reads.one.first e.reads.one.len p hazard_free.one start)
@@ -295,7 +298,9 @@ module _ (d : ℕ) (ds : List ℕ) (are : AreEqual d ds) (m n : ℕ) (more : n �
   pub after-sooner : IsFrontSooner (front_after_entry ds m f e) (front_after_entry ds n g e)
   unfolding front_after_entry bus_followed
   after-sooner = record {
-    bus = follow_if-sooner d ds are e.follows (operands ds m f e).bus (operands ds n g e).bus (e.own.first + e.own.len) (tick_p ds m f e) (tick_p ds n g e) operands-sooner.bus p-sooner;
+    bus = subst (λ (b : Bus). IsBusSooner b (bus_followed ds (operands ds n g e).bus e (tick_p ds n g e))) (sym (followed-is ds (operands ds m f e).bus e (tick_p ds m f e)))
+        (subst (IsBusSooner _) (sym (followed-is ds (operands ds n g e).bus e (tick_p ds n g e)))
+        (follow_if-sooner d ds are e.follows (operands ds m f e).bus (operands ds n g e).bus (e.own.first + e.own.len) (tick_p ds m f e) (tick_p ds n g e) operands-sooner.bus p-sooner));
     prepared = p-sooner;
     done = c-sooner;
     serial = refl;

@@ -3,10 +3,12 @@ use Rattle.std.proofs.Common.{ℕ, zero, suc, ◌+◌, ◌-◌, ◌*◌, ◌<◌
 use Rattle.std.specs.Prelude.{IfSome, ◌||◌, if◌then◌else◌}
 use Rattle.std.proofs.Math.Nat.{max-le, mul-le-mul_right}
 use Rattle.std.proofs.lemmas.List.Elements.{All-head, All-tail}
-use Rattle.st_rows.specs.BusTimes.{OperandReading, answer_at, bus_after_read}
+use Rattle.st_rows.specs.BusTimes.{answer_if}
 use Rattle.st_rows.specs.Entries.{latest_done, no_runs}
 use Rattle.st_rows.specs.Ranges.{AreDelaysUpTo, IsBusWithin, IsFetchingWithin, IsReadingWithin, ArePastWithin, IsTight, IsEntryInTime}
-use Rattle.st_rows.specs.Rows.{fetch_words, wanted_from, words_tick, address_tick, is_forwarded, bus_sided, side_there, preparation_tick, read_words, operands_read, tick_a, bus_a, tick_y, tick_p, operands, tick_c}
+use Rattle.st_rows.specs.Rows.{wanted_from, words_tick, address_tick, preparation_tick, tick_a, bus_a, tick_y, tick_p, operands, tick_c}
+use Rattle.st_rows.specs.Words.{fetch_words, bus_sided, side_there, read_words, operands_read, is_forwarded}
+use Rattle.st_rows.specs.Uses.{behind, behind_use, uses, forwarded_at}
 use Rattle.st_rows.specs.declared.bus.Bus.{Bus}
 use Rattle.st_rows.specs.declared.entry.WordRuns.{WordRuns}
 use Rattle.st_rows.specs.declared.entry.Entry.{Entry}
@@ -14,6 +16,7 @@ use Rattle.st_rows.specs.declared.past.Past.{Past}
 use Rattle.st_rows.specs.declared.fetching.Fetching.{Fetching}
 use Rattle.st_rows.specs.declared.front.Front.{Front}
 use Rattle.st_rows.proofs.Within.{latest-within, bus-weaker, past-weaker, fetching-weaker, reading-weaker, answer-within, read-within, fetch_words-within, read_words-within}
+use Rattle.st_rows.proofs.UseLemmas.{side_if}
 
 -- an index-side word that is read is one of storage
 pub side-above : (side : Option ℕ) (end : ℕ) → IfSome side (λ w. (32 ≤ w) × (w < end)) → IfSome side (λ w. 32 ≤ w)
@@ -41,40 +44,40 @@ module _ (most : ℕ) (ds : List ℕ) (are : AreDelaysUpTo most ds) where
       fetching-weaker (m + n * (most + 1)) (m + 2 * (most + 1)) _ (omega arith) (fetch_words-within most ds are past from s w n m before is early)
 
   -- the index-side word
-  bus_side_if-within : (late : Bool) (past : List Past) (b : Bus) (w a m : ℕ) → IsBusWithin m b → a ≤ m
-      → IsBusWithin (m + most + 1) (if late then b else bus_after_read ds b w a)
-  bus_side_if-within true past b w a m is early = bus-weaker m (m + most + 1) b (omega arith) is
-  bus_side_if-within false past b w a m is early = read-within most ds are m (m + most + 1) (omega arith) b w a is early
+  bus_side_if-within : (o : Option ℕ) (past : List Past) (b : Bus) (w a m : ℕ) → IsBusWithin m b → a ≤ m
+      → IsBusWithin (m + most + 1) (side_if ds b w a o)
+  bus_side_if-within (Some there) past b w a m is early = bus-weaker m (m + most + 1) b (omega arith) is
+  bus_side_if-within None past b w a m is early = read-within most ds are m (m + most + 1) (omega arith) b w a is early
 
   pub bus_sided-within : (past : List Past) (b : Bus) (side : Option ℕ) (a m : ℕ) → IsBusWithin m b → a ≤ m
       → IsBusWithin (m + most + 1) (bus_sided ds past b side a)
-  unfolding bus_sided
+  unfolding bus_sided behind uses behind_use
   bus_sided-within past b None a m is early = bus-weaker m (m + most + 1) b (omega arith) is
-  bus_sided-within past b (Some w) a m is early = bus_side_if-within (is_forwarded past w a) past b w a m is early
+  bus_sided-within past b (Some w) a m is early = bus_side_if-within (forwarded_at past w a) past b w a m is early
 
   side_if-within : (late : Bool) (past : List Past) (b : Bus) (w a m : ℕ) → ArePastWithin m past → IsBusWithin m b → a ≤ m
-      → (if late then latest_done past w else answer_at ds b w a) ≤ m + most + 1
+      → (answer_if ds b w a (if late then Some (latest_done past w) else None)) ≤ m + most + 1
   side_if-within true past b w a m before is early = omega (arith, latest-within m past w before)
   side_if-within false past b w a m before is early = answer-within most ds are m (m + most + 1) (omega arith) b w a is early
 
   pub side-within : (past : List Past) (b : Bus) (side : Option ℕ) (a m : ℕ) → ArePastWithin m past → IsBusWithin m b → a ≤ m
       → side_there ds past b side a ≤ m + most + 1
-  unfolding side_there
+  unfolding side_there behind uses behind_use
   side-within past b None a m before is early = omega arith
   side-within past b (Some w) a m before is early = side_if-within (is_forwarded past w a) past b w a m before is early
 
   -- the operands
-  pub read_sixteen-within : (past : List Past) (p w n m : ℕ) (s : OperandReading) → n ≤ 16 → IsReadingWithin m s → p ≤ m
+  pub read_sixteen-within : (past : List Past) (p w n m : ℕ) (s : Fetching) → n ≤ 16 → IsReadingWithin m s → p ≤ m
       → IsReadingWithin (m + 16 * (most + 1)) (read_words ds past s p w n)
   read_sixteen-within past p w n m s few is early =
       let less : n * (most + 1) ≤ 16 * (most + 1) = mul-le-mul_right (most + 1) few in
       reading-weaker (m + n * (most + 1)) (m + 16 * (most + 1)) _ (omega arith) (read_words-within most ds are past p s w n m is early)
 
   pub operands-within : (past : List Past) (b : Bus) (reads : WordRuns) (p m : ℕ) → reads.one.len ≤ 16 → reads.two.len ≤ 16 → IsBusWithin m b → p ≤ m
-      → IsReadingWithin (m + 32 * (most + 1)) (operands_read ds past b reads p)
+      → IsReadingWithin (m + 32 * (most + 1)) (operands_read ds past (record { bus = b; answered = p; awaited = 0 }) reads p)
   unfolding operands_read
   operands-within past b reads p m few few2 is early =
-      let start : IsReadingWithin m (record { bus = b; answered = p }) = record { bus = is; answered = early } in
+      let start : IsReadingWithin m (record { bus = b; answered = p; awaited = 0 }) = record { bus = is; answered = early } in
       let one = read_sixteen-within past p reads.one.first reads.one.len m _ few start early in
       reading-weaker (m + 16 * (most + 1) + 16 * (most + 1)) (m + 32 * (most + 1)) _ (omega arith)
       (read_sixteen-within past p reads.two.first reads.two.len (m + 16 * (most + 1)) _ few2 one (omega arith))
@@ -105,7 +108,7 @@ prepared-within n past a y m early there are =
 
 module _ (most : ℕ) (ds : List ℕ) (are : AreDelaysUpTo most ds) (f : Front) (e : Entry) (entry : IsEntryInTime e) (tight : IsTight most f) where
   pub fetched-within : IsFetchingWithin (f.c + 7 * most + 6) (words_tick ds f e)
-  unfolding words_tick
+  unfolding words_tick fetch_words
   fetched-within =
       let m = f.c + 3 * most + 2 in
       let k = m + 2 * (most + 1) in
@@ -127,14 +130,14 @@ module _ (most : ℕ) (ds : List ℕ) (are : AreDelaysUpTo most ds) (f : Front) 
       omega arith
 
   pub bus_a-within : IsBusWithin (f.c + 8 * most + 8) (bus_a ds f e)
-  unfolding bus_a
+  unfolding bus_a bus_sided
   bus_a-within =
       let m = f.c + 7 * most + 7 in
       bus-weaker (m + most + 1) (f.c + 8 * most + 8) _ (omega arith)
       (bus_sided-within most ds are f.past (words_tick ds f e).bus e.side (tick_a ds f e) m (bus-weaker (f.c + 7 * most + 6) m _ (omega arith) fetched-within.bus) a-within)
 
   pub y-within : tick_y ds f e ≤ f.c + 8 * most + 8
-  unfolding tick_y
+  unfolding tick_y side_there
   y-within =
       let m = f.c + 7 * most + 7 in
       let late = side-within most ds are f.past (words_tick ds f e).bus e.side (tick_a ds f e) m (past-weaker f.c m f.past (omega arith) tight.done)
@@ -149,7 +152,7 @@ module _ (most : ℕ) (ds : List ℕ) (are : AreDelaysUpTo most ds) (f : Front) 
       omega arith
 
   pub operands_of-within : (n : ℕ) → IsReadingWithin (f.c + 40 * most + 41) (operands ds n f e)
-  unfolding operands
+  unfolding operands operands_read read_words
   operands_of-within n =
       let m = f.c + 8 * most + 9 in
       reading-weaker (m + 32 * (most + 1)) (f.c + 40 * most + 41) _ (omega arith)

@@ -1,22 +1,24 @@
 -- The ticks of a front stay close together from entry to entry.
 use Rattle.std.specs.Prelude.{if◌then◌else◌, nat_lt, Bool}
-use Rattle.std.proofs.Common.{ℕ, zero, suc, ◌+◌, ◌*◌, ◌<◌, ◌≤◌, max, true, false, List, take, Option, None, Some, arith}
+use Rattle.std.proofs.Common.{ℕ, zero, suc, ◌+◌, ◌*◌, ◌<◌, ◌≤◌, max, true, false, List, take, Option, None, Some, arith, subst, sym, [], ◌∷◌}
 use Rattle.std.proofs.Math.Nat.{max-le}
 use Rattle.std.proofs.lemmas.List.Elements.{All-cons, All-set, All-take, All-weaker}
 use Rattle.st_bits.specs.Storage.{words_of_storage}
 use Rattle.st_banks.specs.Bank.{bank_of}
 use Rattle.st_fetch.specs.Planned.{tick_of}
 use Rattle.st_fetch.specs.declared.fetched.AskedWord.{AskedWord}
-use Rattle.st_rows.specs.BusTimes.{OperandReading, accept_at, answer_at, bus_after_read, requested_if, answer_if, bus_after_request, answer_tick_on}
-use Rattle.st_rows.specs.Entries.{latest_done}
+use Rattle.st_rows.specs.BusTimes.{accept_at, answer_at, bus_after_read, requested_if, answer_if, bus_after_request, answer_tick_on, Read, after_one, bus_if}
 use Rattle.st_rows.specs.Ranges.{AreDelaysUpTo, IsNear, IsTight, IsEntryInTime}
-use Rattle.st_rows.specs.Rows.{fetch_word, fetch_words, wanted_from, words_tick, address_tick, is_forwarded, bus_sided, side_there, preparation_tick, read_word, read_words, operands_read, request_inside, bus_followed, tick_a, bus_a, tick_y, tick_p, operands, tick_c, front_after_entry}
+use Rattle.st_rows.specs.Rows.{wanted_from, words_tick, address_tick, preparation_tick, tick_a, bus_a, tick_y, tick_p, operands, tick_c, front_after_entry, own_fetched, first_read, followings}
+use Rattle.st_rows.specs.Words.{fetch_word, fetch_words, bus_sided, side_there, read_word, read_words, operands_read, request_inside, bus_followed}
+use Rattle.st_rows.specs.Uses.{behind, behind_use, uses, wishes, forwarded_at, Wish, use_of, unused, wish_of}
 use Rattle.st_rows.specs.declared.bus.Bus.{Bus}
 use Rattle.st_rows.specs.declared.entry.Entry.{Entry}
 use Rattle.st_rows.specs.declared.past.Past.{Past}
 use Rattle.st_rows.specs.declared.fetching.Fetching.{Fetching}
 use Rattle.st_rows.specs.declared.front.Front.{Front}
 use Rattle.st_rows.proofs.Within.{at-within, delay-bounds, past-weaker}
+use Rattle.st_rows.proofs.UseLemmas.{followed-is, read_if, side_if}
 
 module _ (most : ℕ) (ds : List ℕ) (are : AreDelaysUpTo most ds) where
   -- ---- one read
@@ -69,9 +71,21 @@ module _ (most : ℕ) (ds : List ℕ) (are : AreDelaysUpTo most ds) where
   soon-requested_if (Some t) b w want is = omega arith
   soon-requested_if None b w want is = omega (arith, (accept-bounds b w want is).2)
 
-  pub near-requested : (b : Bus) (w want : ℕ) → IsNear most b → IsNear most (bus_after_request ds b w want)
-  unfolding bus_after_request
-  near-requested b w want is = near-requested_if (tick_of b.held.words w) b w want is
+  pub near-one_if : (fetch : Bool) (b : Bus) (w want : ℕ) → IsNear most b → IsNear most (after_one ds b (record { w = w; want = want; fetch = fetch }))
+  near-one_if true b w want is = near-requested_if None b w want is
+  near-one_if false b w want is = near-read b w want is
+
+  -- any uses
+  near-if : (o : Option ℕ) (b : Bus) (r : Read) → IsNear most b → IsNear most (bus_if ds b r o)
+  near-if (Some t) b r is = is
+  near-if None b r is = near-one_if r.fetch b r.w r.want is
+
+  near-uses : (past : List Past) (s : Fetching) (xs : List Wish) → IsNear most s.bus → IsNear most (behind ds past s (uses ds past s xs)).bus
+  unfolding behind uses behind_use
+  near-uses past s [] is = is
+  near-uses past s (x ∷ xs) is =
+      let u = use_of ds past s x in
+      near-uses past (behind_use ds past s u) xs (near-if u.unread s.bus u.read is)
 
   pub free-requested : (b : Bus) (w want : ℕ) → (bus_after_request ds b w want).free ≤ max b.free (answer_tick_on ds b w want)
   unfolding bus_after_request answer_tick_on
@@ -84,14 +98,9 @@ module _ (most : ℕ) (ds : List ℕ) (are : AreDelaysUpTo most ds) where
   -- ---- the instruction words of an entry, behind a bus that is free at the tick `free`
 
   module _ (past : List Past) (from : ℕ) where
-    pub near-fetch : (s : Fetching) (w n : ℕ) → IsNear most s.bus → IsNear most (fetch_words ds past s from w n).bus
-    unfolding fetch_word fetch_words
-    near-fetch s w zero is = is
-    near-fetch s w (suc n) is = near-fetch (fetch_word ds past s w from) (w + 1) n (near-requested s.bus w _ is)
-
     pub free-fetch : (free : ℕ) (s : Fetching) (w n : ℕ) → s.bus.free ≤ max free s.answered
         → (fetch_words ds past s from w n).bus.free ≤ max free (fetch_words ds past s from w n).answered
-    unfolding fetch_word fetch_words
+    unfolding fetch_word fetch_words behind_use bus_after_request answer_tick_on behind uses wishes
     free-fetch free s w zero is = is
     free-fetch free s w (suc n) is =
         let want = max (max from s.answered) s.awaited in
@@ -100,79 +109,55 @@ module _ (most : ℕ) (ds : List ℕ) (are : AreDelaysUpTo most ds) where
 
   -- ---- operands
 
-  near-read_if : (late : Bool) (past : List Past) (s : OperandReading) (w p : ℕ) → IsNear most s.bus
-      → IsNear most (if late then s else record { bus = bus_after_read ds s.bus w p; answered = max s.answered (answer_at ds s.bus w p) }).bus
-  near-read_if true past s w p is = is
-  near-read_if false past s w p is = near-read s.bus w p is
+  free-read_if : (o : Option ℕ) (past : List Past) (s : Fetching) (w p : ℕ) → s.bus.free ≤ s.answered
+      → (read_if ds s w p o).bus.free
+      ≤ (read_if ds s w p o).answered
+  free-read_if (Some there) past s w p is = is
+  free-read_if None past s w p is = omega (arith, free-answer s.bus w p)
 
-  free-read_if : (late : Bool) (past : List Past) (s : OperandReading) (w p : ℕ) → s.bus.free ≤ s.answered
-      → (if late then s else record { bus = bus_after_read ds s.bus w p; answered = max s.answered (answer_at ds s.bus w p) }).bus.free
-      ≤ (if late then s else record { bus = bus_after_read ds s.bus w p; answered = max s.answered (answer_at ds s.bus w p) }).answered
-  free-read_if true past s w p is = is
-  free-read_if false past s w p is = omega (arith, free-answer s.bus w p)
-
-  later-read_if : (late : Bool) (past : List Past) (s : OperandReading) (w p : ℕ)
-      → s.answered ≤ (if late then s else record { bus = bus_after_read ds s.bus w p; answered = max s.answered (answer_at ds s.bus w p) }).answered
-  later-read_if true past s w p = omega arith
-  later-read_if false past s w p = omega arith
+  later-read_if : (o : Option ℕ) (past : List Past) (s : Fetching) (w p : ℕ)
+      → s.answered ≤ (read_if ds s w p o).answered
+  later-read_if (Some there) past s w p = omega arith
+  later-read_if None past s w p = omega arith
 
   module _ (past : List Past) (p : ℕ) where
-    pub near-reads : (s : OperandReading) (w n : ℕ) → IsNear most s.bus → IsNear most (read_words ds past s p w n).bus
-    unfolding read_word read_words
-    near-reads s w zero is = is
-    near-reads s w (suc n) is = near-reads (read_word ds past s w p) (w + 1) n (near-read_if (is_forwarded past w p) past s w p is)
-
-    pub free-reads : (s : OperandReading) (w n : ℕ) → s.bus.free ≤ s.answered
+    pub free-reads : (s : Fetching) (w n : ℕ) → s.bus.free ≤ s.answered
         → (read_words ds past s p w n).bus.free ≤ (read_words ds past s p w n).answered
-    unfolding read_word read_words
+    unfolding read_word read_words behind_use behind uses wishes
     free-reads s w zero is = is
-    free-reads s w (suc n) is = free-reads (read_word ds past s w p) (w + 1) n (free-read_if (is_forwarded past w p) past s w p is)
+    free-reads s w (suc n) is = free-reads (read_word ds past s w p) (w + 1) n (free-read_if (forwarded_at past w p) past s w p is)
 
-    pub later-reads : (s : OperandReading) (w n : ℕ) → s.answered ≤ (read_words ds past s p w n).answered
-    unfolding read_word read_words
+    pub later-reads : (s : Fetching) (w n : ℕ) → s.answered ≤ (read_words ds past s p w n).answered
+    unfolding read_word read_words behind_use behind uses wishes
     later-reads s w zero = omega arith
     later-reads s w (suc n) =
         let rest = later-reads (read_word ds past s w p) (w + 1) n in
-        omega (arith, rest, later-read_if (is_forwarded past w p) past s w p)
+        omega (arith, rest, later-read_if (forwarded_at past w p) past s w p)
 
   -- ---- the index-side word
 
-  near-side_if : (late : Bool) (b : Bus) (w a : ℕ) → IsNear most b → IsNear most (if late then b else bus_after_read ds b w a)
-  near-side_if true b w a is = is
-  near-side_if false b w a is = near-read b w a is
-
-  pub near-sided : (past : List Past) (b : Bus) (side : Option ℕ) (a : ℕ) → IsNear most b → IsNear most (bus_sided ds past b side a)
-  unfolding bus_sided
-  near-sided past b None a is = is
-  near-sided past b (Some w) a is = near-side_if (is_forwarded past w a) b w a is
-
-  free-side_if : (late : Bool) (b : Bus) (w a done : ℕ) → b.free ≤ a
-      → (if late then b else bus_after_read ds b w a).free ≤ max a (if late then done else answer_at ds b w a)
-  free-side_if true b w a done is = omega arith
-  free-side_if false b w a done is = omega (arith, free-answer b w a)
+  free-side_if : (o : Option ℕ) (b : Bus) (w a : ℕ) → b.free ≤ a
+      → (side_if ds b w a o).free ≤ max a (answer_if ds b w a o)
+  free-side_if (Some there) b w a is = omega arith
+  free-side_if None b w a is = omega (arith, free-answer b w a)
 
   pub free-sided : (past : List Past) (b : Bus) (side : Option ℕ) (a : ℕ) → b.free ≤ a
       → (bus_sided ds past b side a).free ≤ max a (side_there ds past b side a)
-  unfolding bus_sided side_there
+  unfolding bus_sided side_there behind uses behind_use
   free-sided past b None a is = omega arith
-  free-sided past b (Some w) a is = free-side_if (is_forwarded past w a) b w a (latest_done past w) is
+  free-sided past b (Some w) a is = free-side_if (forwarded_at past w a) b w a is
 
   -- ---- following words, of which each is wanted by the tick c at the latest
 
   near-inside_if : (inside : Bool) (b : Bus) (w p : ℕ) → IsNear most b → IsNear most (if inside then bus_after_request ds b w p else b)
-  near-inside_if true b w p is = near-requested b w p is
+  unfolding bus_after_request
+  near-inside_if true b w p is = near-if (tick_of b.held.words w) b (record { w = w; want = p; fetch = true }) is
   near-inside_if false b w p is = is
 
   soon-inside_if : (inside : Bool) (b : Bus) (w p c : ℕ) → IsNear most b → p ≤ c → b.free ≤ c
       → (if inside then bus_after_request ds b w p else b).free ≤ c + most + 1
   soon-inside_if true b w p c is early free = omega (arith, soon-requested b w p is)
   soon-inside_if false b w p c is early free = omega arith
-
-  near-follow_if : (follows : Bool) (b : Bus) (w p : ℕ) → IsNear most b
-      → IsNear most (if follows then request_inside ds (request_inside ds b w p) (w + 1) p else b)
-  near-follow_if false b w p is = is
-  near-follow_if true b w p is =
-      near-inside_if (nat_lt (w + 1) words_of_storage) (request_inside ds b w p) (w + 1) p (near-inside_if (nat_lt w words_of_storage) b w p is)
 
   soon-follow_if : (follows : Bool) (b : Bus) (w p c : ℕ) → IsNear most b → p ≤ c → b.free ≤ c
       → (if follows then request_inside ds (request_inside ds b w p) (w + 1) p else b).free ≤ c + 2 * most + 2
@@ -187,11 +172,11 @@ module _ (most : ℕ) (ds : List ℕ) (are : AreDelaysUpTo most ds) where
 
   module _ (n : ℕ) (f : Front) (e : Entry) (entry : IsEntryInTime e) (tight : IsTight most f) where
     near-fetched : IsNear most (words_tick ds f e).bus
-    unfolding words_tick
-    near-fetched = near-fetch f.past (max (wanted_from f) f.c) _ e.target.first e.target.len (near-fetch f.past (wanted_from f) _ e.own.first e.own.len tight.near)
+    unfolding words_tick fetch_words
+    near-fetched = near-uses f.past (own_fetched ds f e) _ (near-uses f.past (unused f.bus 0) _ tight.near)
 
     free-fetched : (words_tick ds f e).bus.free ≤ max f.bus.free (words_tick ds f e).answered
-    unfolding words_tick
+    unfolding words_tick fetch_words
     free-fetched =
         free-fetch f.past (max (wanted_from f) f.c) f.bus.free _ e.target.first e.target.len
         (free-fetch f.past (wanted_from f) f.bus.free _ e.own.first e.own.len (omega arith))
@@ -201,34 +186,33 @@ module _ (most : ℕ) (ds : List ℕ) (are : AreDelaysUpTo most ds) where
     free-a = omega (arith, free-fetched)
 
     pub free-bus_a : (bus_a ds f e).free ≤ max (tick_a ds f e) (tick_y ds f e)
-    unfolding bus_a tick_y
+    unfolding bus_a tick_y bus_sided side_there
     free-bus_a = free-sided f.past (words_tick ds f e).bus e.side (tick_a ds f e) free-a
 
     pub near-bus_a : IsNear most (bus_a ds f e)
-    unfolding bus_a
-    near-bus_a = near-sided f.past (words_tick ds f e).bus e.side (tick_a ds f e) near-fetched
+    unfolding bus_a bus_sided
+    near-bus_a = near-uses f.past (unused (words_tick ds f e).bus 0) (wish_of e.side (tick_a ds f e)) near-fetched
 
     pub free-p : (bus_a ds f e).free ≤ tick_p ds n f e
     unfolding tick_p preparation_tick
     free-p = omega (arith, free-bus_a)
 
     pub near-operands : IsNear most (operands ds n f e).bus
-    unfolding operands operands_read
+    unfolding operands operands_read read_words
     near-operands =
-        near-reads f.past (tick_p ds n f e) _ e.reads.two.first e.reads.two.len
-        (near-reads f.past (tick_p ds n f e) _ e.reads.one.first e.reads.one.len near-bus_a)
+        near-uses f.past (first_read ds n f e) _ (near-uses f.past (unused (bus_a ds f e) (tick_p ds n f e)) _ near-bus_a)
 
     pub free-r : (operands ds n f e).bus.free ≤ (operands ds n f e).answered
-    unfolding operands operands_read
+    unfolding operands operands_read read_words
     free-r =
         free-reads f.past (tick_p ds n f e) _ e.reads.two.first e.reads.two.len
         (free-reads f.past (tick_p ds n f e) _ e.reads.one.first e.reads.one.len free-p)
 
     pub later-r : tick_p ds n f e ≤ (operands ds n f e).answered
-    unfolding operands operands_read
+    unfolding operands operands_read read_words
     later-r =
-        let one = later-reads f.past (tick_p ds n f e) (record { bus = bus_a ds f e; answered = tick_p ds n f e }) e.reads.one.first e.reads.one.len in
-        let two = later-reads f.past (tick_p ds n f e) (read_words ds f.past (record { bus = bus_a ds f e; answered = tick_p ds n f e }) (tick_p ds n f e) e.reads.one.first e.reads.one.len)
+        let one = later-reads f.past (tick_p ds n f e) (record { bus = bus_a ds f e; answered = tick_p ds n f e; awaited = 0 }) e.reads.one.first e.reads.one.len in
+        let two = later-reads f.past (tick_p ds n f e) (read_words ds f.past (record { bus = bus_a ds f e; answered = tick_p ds n f e; awaited = 0 }) (tick_p ds n f e) e.reads.one.first e.reads.one.len)
         e.reads.two.first e.reads.two.len in
         omega (arith, one, two)
 
@@ -248,6 +232,7 @@ module _ (most : ℕ) (ds : List ℕ) (are : AreDelaysUpTo most ds) where
             each = All-cons (λ (d : Past). d.c ≤ tick_c ds n f e) _ (take 7 f.past) (omega arith)
                 (All-take (λ (d : Past). d.c ≤ tick_c ds n f e) 7 f.past (past-weaker f.c (tick_c ds n f e) f.past (omega arith) tight.done).each);
           };
-          free = soon-follow_if e.follows (operands ds n f e).bus (e.own.first + e.own.len) (tick_p ds n f e) (tick_c ds n f e) near-operands (omega arith) (omega arith);
-          near = near-follow_if e.follows (operands ds n f e).bus (e.own.first + e.own.len) (tick_p ds n f e) near-operands;
+          free = subst (λ (b : Bus). b.free ≤ tick_c ds n f e + 2 * most + 2) (sym (followed-is ds (operands ds n f e).bus e (tick_p ds n f e)))
+              (soon-follow_if e.follows (operands ds n f e).bus (e.own.first + e.own.len) (tick_p ds n f e) (tick_c ds n f e) near-operands (omega arith) (omega arith));
+          near = near-uses [] (unused (operands ds n f e).bus (tick_p ds n f e)) (followings e (tick_p ds n f e)) near-operands;
         }

@@ -10,13 +10,15 @@ use Rattle.st_banks.specs.Delay.{delay}
 use Rattle.st_banks.specs.declared.delays.Delays.{Delays}
 use Rattle.st_fetch.specs.Planned.{tick_of}
 use Rattle.st_fetch.specs.declared.fetched.AskedWord.{AskedWord}
-use Rattle.st_rows.specs.BusTimes.{OperandReading, accept_at, answer_at, bus_after_read, requested_if, answer_if, bus_after_request, answer_tick_on}
+use Rattle.st_rows.specs.BusTimes.{accept_at, answer_at, bus_after_read, requested_if, answer_if, bus_after_request, answer_tick_on}
 use Rattle.st_rows.specs.Entries.{is_among, latest_done}
 use Rattle.st_rows.specs.Ranges.{AreDelaysUpTo, IsBusWithin, IsFetchingWithin, IsReadingWithin, ArePastWithin}
-use Rattle.st_rows.specs.Rows.{fetch_word, fetch_words, request_inside, is_forwarded, read_word, read_words}
+use Rattle.st_rows.specs.Words.{fetch_word, fetch_words, request_inside, read_word, read_words}
+use Rattle.st_rows.specs.Uses.{behind, behind_use, uses, wishes, forwarded_at}
 use Rattle.st_rows.specs.declared.bus.Bus.{Bus}
 use Rattle.st_rows.specs.declared.past.Past.{Past}
 use Rattle.st_rows.specs.declared.fetching.Fetching.{Fetching}
+use Rattle.st_rows.proofs.UseLemmas.{read_if}
 
 -- the delays of the banks are at most 255
 pub delays-are : (d : Delays) → AreDelaysUpTo 255 d.list
@@ -74,7 +76,7 @@ fetching-weaker m n s more is = record {
   awaited = omega (arith, is.awaited);
 }
 
-pub reading-weaker : (m n : ℕ) (s : OperandReading) → m ≤ n → IsReadingWithin m s → IsReadingWithin n s
+pub reading-weaker : (m n : ℕ) (s : Fetching) → m ≤ n → IsReadingWithin m s → IsReadingWithin n s
 reading-weaker m n s more is = record {
   bus = bus-weaker m n s.bus more is.bus;
   answered = omega (arith, is.answered);
@@ -128,7 +130,7 @@ module _ (most : ℕ) (ds : List ℕ) (are : AreDelaysUpTo most ds) (m n : ℕ) 
 
   pub fetch_word-within : (past : List Past) (s : Fetching) (w from : ℕ)
       → ArePastWithin m past → IsFetchingWithin m s → from ≤ m → IsFetchingWithin n (fetch_word ds past s w from)
-  unfolding fetch_word
+  unfolding fetch_word behind_use bus_after_request answer_tick_on
   fetch_word-within past s w from before is early =
       let made = requested-within s.bus w (max (max from s.answered) s.awaited) is.bus (max-le (max-le early is.answered) is.awaited) in
       record {
@@ -145,7 +147,7 @@ one-more m n k = rw (suc-mul n k) (omega arith)
 module _ (most : ℕ) (ds : List ℕ) (are : AreDelaysUpTo most ds) (past : List Past) where
   pub fetch_words-within : (from : ℕ) (s : Fetching) (w n m : ℕ) → ArePastWithin m past → IsFetchingWithin m s → from ≤ m
       → IsFetchingWithin (m + n * (most + 1)) (fetch_words ds past s from w n)
-  unfolding fetch_words
+  unfolding fetch_words behind uses wishes fetch_word
   fetch_words-within from s w zero m before is early = fetching-weaker m (m + 0 * (most + 1)) s (omega arith) is
   fetch_words-within from s w (suc n) m before is early =
       let k = m + (most + 1) in
@@ -153,22 +155,22 @@ module _ (most : ℕ) (ds : List ℕ) (are : AreDelaysUpTo most ds) (past : List
       let rest = fetch_words-within from (fetch_word ds past s w from) (w + 1) n k (past-weaker m k past (omega arith) before) first (omega arith) in
       fetching-weaker (k + n * (most + 1)) (m + suc n * (most + 1)) _ (one-more m n (most + 1)) rest
 
-  read_word_if-within : (late : Bool) (s : OperandReading) (w p m : ℕ) → IsReadingWithin m s → p ≤ m
-      → IsReadingWithin (m + (most + 1)) (if late then s else record { bus = bus_after_read ds s.bus w p; answered = max s.answered (answer_at ds s.bus w p) })
-  read_word_if-within true s w p m is early = reading-weaker m (m + (most + 1)) s (omega arith) is
-  read_word_if-within false s w p m is early = record {
+  read_word_if-within : (o : Option ℕ) (s : Fetching) (w p m : ℕ) → IsReadingWithin m s → p ≤ m
+      → IsReadingWithin (m + (most + 1)) (read_if ds s w p o)
+  read_word_if-within (Some there) s w p m is early = reading-weaker m (m + (most + 1)) s (omega arith) is
+  read_word_if-within None s w p m is early = record {
     bus = read-within most ds are m (m + (most + 1)) (omega arith) s.bus w p is.bus early;
     answered = max-le (omega (arith, is.answered)) (answer-within most ds are m (m + (most + 1)) (omega arith) s.bus w p is.bus early);
   }
 
-  pub read_word-within : (s : OperandReading) (w p m : ℕ) → IsReadingWithin m s → p ≤ m
+  pub read_word-within : (s : Fetching) (w p m : ℕ) → IsReadingWithin m s → p ≤ m
       → IsReadingWithin (m + (most + 1)) (read_word ds past s w p)
-  unfolding read_word
-  read_word-within s w p m is early = read_word_if-within (is_forwarded past w p) s w p m is early
+  unfolding read_word behind_use
+  read_word-within s w p m is early = read_word_if-within (forwarded_at past w p) s w p m is early
 
-  pub read_words-within : (p : ℕ) (s : OperandReading) (w n m : ℕ) → IsReadingWithin m s → p ≤ m
+  pub read_words-within : (p : ℕ) (s : Fetching) (w n m : ℕ) → IsReadingWithin m s → p ≤ m
       → IsReadingWithin (m + n * (most + 1)) (read_words ds past s p w n)
-  unfolding read_words
+  unfolding read_words behind uses wishes read_word
   read_words-within p s w zero m is early = reading-weaker m (m + 0 * (most + 1)) s (omega arith) is
   read_words-within p s w (suc n) m is early =
       let k = m + (most + 1) in

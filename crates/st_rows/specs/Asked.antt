@@ -1,9 +1,10 @@
 -- The reads that are made for an entry, in their order, and what they make of the bus.
-use Rattle.std.specs.Prelude.{ℕ, zero, suc, ◌+◌, max, Bool, true, false, nat_lt, if◌then◌else◌, List, [], ◌∷◌, ◌++◌, Option, None, Some}
+use Rattle.std.specs.Prelude.{ℕ, zero, suc, ◌+◌, true, false, nat_lt, if◌then◌else◌, List, [], ◌∷◌, ◌++◌, Option, None, Some}
 use Rattle.st_bits.specs.Storage.{words_of_storage}
 use Rattle.st_fetch.specs.Planned.{tick_of}
-use Rattle.st_rows.specs.BusTimes.{accept_at, bus_after_read, requested_if}
-use Rattle.st_rows.specs.Rows.{fetch_word, own_fetched, wanted_from, is_forwarded, request_inside, tick_a, tick_p, operands, nothing_fetched}
+use Rattle.st_rows.specs.BusTimes.{Read, after_one, accept_at}
+use Rattle.st_rows.specs.Rows.{followings, own_uses, target_uses, tick_a, tick_p, operands}
+use Rattle.st_rows.specs.Uses.{Instruction, wishes, uses, forwarded_at, read_made, reads_of, unused}
 use Rattle.st_rows.specs.declared.bus.Bus.{Bus}
 use Rattle.st_rows.specs.declared.entry.Entry.{Entry}
 use Rattle.st_rows.specs.declared.entry.WordRuns.{WordRuns}
@@ -11,29 +12,18 @@ use Rattle.st_rows.specs.declared.past.Past.{Past}
 use Rattle.st_rows.specs.declared.fetching.Fetching.{Fetching}
 use Rattle.st_rows.specs.declared.front.Front.{Front}
 
--- a read: its word, the tick from which on it is wanted, and whether the word is held from then on,
--- as instruction words are
-pub record Read : Type 0 where
-  pub w : ℕ
-  pub want : ℕ
-  pub fetch : Bool
-
 -- an instruction word, given the tick of its answer if it is held: then no read is made
 abbrev pub word_asked : Option ℕ → ℕ → ℕ → List Read
-word_asked (Some tick) w want = []
-word_asked None w want = record { w = w; want = want; fetch = true } ∷ []
+word_asked o w want = read_made (record { w = w; want = want; fetch = true }) o
 
 -- n instruction words from the word w on
 unfoldable pub words_asked : List ℕ → List Past → Fetching → ℕ → ℕ → ℕ → List Read
-words_asked ds past s from w zero = []
-words_asked ds past s from w (suc n) =
-    word_asked (tick_of s.bus.held.words w) w (max (max from s.answered) s.awaited)
-    ++ words_asked ds past (fetch_word ds past s w from) from (w + 1) n
+words_asked ds past s from w n = reads_of (uses ds past s (wishes Instruction from w n))
 
 -- the index-side word or an operand word, unless it comes from its writer
 abbrev pub data_asked : List Past → ℕ → ℕ → List Read
-data_asked past w tick = if is_forwarded past w tick then []
-    else record { w = w; want = tick; fetch = false } ∷ []
+data_asked past w tick =
+    read_made (record { w = w; want = tick; fetch = false }) (forwarded_at past w tick)
 
 -- the index-side word, if there is one
 unfoldable pub side_asked : List Past → Option ℕ → ℕ → List Read
@@ -58,18 +48,12 @@ inside_asked b w p = if nat_lt w words_of_storage then word_asked (tick_of b.hel
 
 -- both of them, where the entry has following words
 unfoldable pub following_asked : List ℕ → Bus → Entry → ℕ → List Read
-following_asked ds b e p =
-    let w = e.own.first + e.own.len in
-    if e.follows then inside_asked b w p ++ inside_asked (request_inside ds b w p) (w + 1) p
-    else []
+following_asked ds b e p = reads_of (uses ds [] (unused b p) (followings e p))
 
 module _ (ds : List ℕ) (f : Front) (e : Entry) where
   -- the instruction words of the entry e behind the front f
   unfoldable pub fetches_asked : List Read
-  fetches_asked =
-      words_asked ds f.past (nothing_fetched f.bus) (wanted_from f) e.own.first e.own.len
-      ++ words_asked ds f.past (own_fetched ds f e)
-      (max (wanted_from f) f.c) e.target.first e.target.len
+  fetches_asked = reads_of (own_uses ds f e) ++ reads_of (target_uses ds f e)
 
   -- in two parts: its reads until its address is formed
   abbrev pub formed_asked : List Read
@@ -86,10 +70,6 @@ module _ (ds : List ℕ) (n : ℕ) (f : Front) (e : Entry) where
   abbrev pub data_of : List Read
   data_of = side_asked f.past e.side (tick_a ds f e) ++ prepared_asked
 
-  -- all reads of that entry
-  unfoldable pub reads_of_entry : List Read
-  reads_of_entry = formed_asked ds f e ++ prepared_asked
-
 -- how many words the index-side word is
 abbrev pub side_count : Option ℕ → ℕ
 side_count None = 0
@@ -100,18 +80,13 @@ abbrev pub own_reads : Entry → ℕ
 own_reads e = e.own.len + e.target.len + side_count e.side + e.reads.one.len + e.reads.two.len
 
 module _ (ds : List ℕ) where
-  -- the bus after a read
-  abbrev pub after_one : Bus → Read → Bus
-  after_one b r = if r.fetch then requested_if ds b r.w r.want None
-      else bus_after_read ds b r.w r.want
-
   -- after the reads of a list
   unfoldable pub bus_after_reads : List Read → Bus → Bus
   bus_after_reads [] b = b
-  bus_after_reads (r ∷ reads) b = bus_after_reads reads (after_one b r)
+  bus_after_reads (r ∷ reads) b = bus_after_reads reads (after_one ds b r)
 
   -- after those of them that are accepted before the tick t
   unfoldable pub made_before : ℕ → List Read → Bus → Bus
   made_before t [] b = b
   made_before t (r ∷ reads) b =
-      if nat_lt (accept_at b r.w r.want) t then made_before t reads (after_one b r) else b
+      if nat_lt (accept_at b r.w r.want) t then made_before t reads (after_one ds b r) else b

@@ -1,16 +1,17 @@
 -- When reads are accepted and answered. The list of delays is ds throughout.
-use Rattle.std.specs.Prelude.{ℕ, ◌+◌, List, replicate, Option, None, Some}
+use Rattle.std.specs.Prelude.{ℕ, ◌+◌, Bool, true, if◌then◌else◌, List, replicate, Option, None, Some}
 use Rattle.st_banks.specs.Bank.{accept_tick, answered_at}
 use Rattle.st_banks.specs.Delay.{answer_tick}
 use Rattle.st_banks.specs.declared.answers.LastAnswers.{LastAnswers}
 use Rattle.st_fetch.specs.Planned.{no_word, tick_of, asked_for}
 use Rattle.st_rows.specs.declared.bus.Bus.{Bus}
 
--- how far the operand words of an entry are read: the bus after the words so far, and the latest of
--- their answers and of the tick at which the entry was prepared
-pub record OperandReading : Type 0 where
-  pub bus : Bus
-  pub answered : ℕ
+-- a read: its word, the tick from which on it is wanted, and whether the word is held from then on,
+-- as instruction words are
+pub record Read : Type 0 where
+  pub w : ℕ
+  pub want : ℕ
+  pub fetch : Bool
 
 -- the bus of a segment that starts at the tick: no word is held
 abbrev pub no_reads : LastAnswers → ℕ → Bus
@@ -33,22 +34,34 @@ module _ (ds : List ℕ) (b : Bus) (w want : ℕ) where
     free = accept_at b w want + 1;
   }
 
-  -- the bus after the instruction word w was asked for, given the tick of its answer if it is held:
-  -- then no read is made, and else it is held from now on
-  abbrev pub requested_if : Option ℕ → Bus
-  requested_if (Some tick) = b
-  requested_if None =
-      record bus_after_read { held = record { words = asked_for b.held.words w answer_at } }
-
-  -- the tick of the word's answer, given that tick if it is held
+  -- the tick at which a word is there, given that tick if it is not read
   abbrev pub answer_if : Option ℕ → ℕ
   answer_if (Some tick) = tick
   answer_if None = answer_at
 
-  -- the bus after the instruction word w was asked for
-  unfoldable pub bus_after_request : Bus
-  bus_after_request = requested_if (tick_of b.held.words w)
+module _ (ds : List ℕ) (b : Bus) where
+  -- the bus after a read
+  abbrev pub after_one : Read → Bus
+  after_one r =
+      let next = bus_after_read ds b r.w r.want in
+      let held = asked_for b.held.words r.w (answer_at ds b r.w r.want) in
+      if r.fetch then record next { held = record { words = held } } else next
 
-  -- the tick of its answer
-  unfoldable pub answer_tick_on : ℕ
-  answer_tick_on = answer_if (tick_of b.held.words w)
+  -- the bus behind a word, given the tick at which it is there if it is not read
+  abbrev pub bus_if : Read → Option ℕ → Bus
+  bus_if r (Some tick) = b
+  bus_if r None = after_one r
+
+  module _ (w want : ℕ) where
+    -- the bus after the instruction word w was asked for, given the tick of its answer if it is
+    -- held: then no read is made
+    abbrev pub requested_if : Option ℕ → Bus
+    requested_if o = bus_if (record { w = w; want = want; fetch = true }) o
+
+    -- the bus after the instruction word w was asked for
+    unfoldable pub bus_after_request : Bus
+    bus_after_request = requested_if (tick_of b.held.words w)
+
+    -- the tick of its answer
+    unfoldable pub answer_tick_on : ℕ
+    answer_tick_on = answer_if ds b w want (tick_of b.held.words w)

@@ -2,16 +2,20 @@
 use Rattle.std.specs.Prelude.{◌≡◌, ℕ, List, [], ◌∷◌, ◌++◌, ◌+◌, ◌*◌, ◌<◌, ◌≤◌, ◌||◌, true, length, get_or, max, All}
 use Rattle.st_rows.specs.Ranges.{AreDelaysUpTo, IsEntryInTime, IsNear, IsTight}
 use Rattle.st_rows.specs.Entries.{latest_done}
-use Rattle.st_rows.specs.Rows.{opening_front, wanted_from, words_tick, done_before, tick_a, bus_a, tick_p, operands, tick_c, row_of_entry, front_after_entry, fills}
+use Rattle.st_rows.specs.Rows.{opening_front, wanted_from, words_tick, done_before, tick_a, bus_a, tick_p, operands, tick_c, row_of_entry, front_after_entry, reads_of_entry}
+use Rattle.st_rows.specs.Words.{fills}
 use Rattle.std.specs.List.{AllZip}
 use Rattle.st_banks.specs.declared.answers.LastAnswers.{LastAnswers}
-use Rattle.st_rows.specs.Asked.{Read, fetches_asked, side_asked, formed_asked, prepared_asked, data_of, reads_of_entry, bus_after_reads, after_one, made_before, own_reads}
-use Rattle.st_rows.specs.BusTimes.{accept_at, bus_after_read, answer_at, bus_after_request, answer_tick_on}
+use Rattle.st_rows.specs.Asked.{fetches_asked, side_asked, formed_asked, prepared_asked, data_of, bus_after_reads, made_before, own_reads}
+use Rattle.st_rows.specs.BusTimes.{accept_at, bus_after_read, answer_at, bus_after_request, answer_tick_on, Read, after_one}
 use Rattle.st_rows.specs.Levels.{AreEqual, IsBusSooner, IsFrontSooner, IsRowSooner, AreInOrder, AreOlderDone, front_of_last, IsHazardFree, AreHazardFree, AreCovered, rows_of_entries}
 use Rattle.st_rows.specs.declared.bus.Bus.{Bus}
 use Rattle.st_rows.specs.declared.entry.Entry.{Entry}
 use Rattle.st_rows.specs.declared.entry.WordRuns.{WordRuns}
 use Rattle.st_rows.specs.declared.front.Front.{Front}
+use Rattle.st_rows.specs.Uses.{Wish, uses, behind, reads_of}
+use Rattle.st_rows.specs.declared.fetching.Fetching.{Fetching}
+use Rattle.st_rows.specs.declared.past.Past.{Past}
 
 -- The ticks of a row stand in their order, and behind those of the row before.
 pub record RowsAreInOrder : Type 0 where
@@ -109,6 +113,19 @@ pub record OlderEntriesDecideNothing : Type 0 where
   pub after : (ds : List ℕ) (n : ℕ) (f : Front) (e : Entry) → 1 ≤ n → AreOlderDone n f →
       front_of_last n (front_after_entry ds n (front_of_last n f) e)
       ≡ front_of_last n (front_after_entry ds n f e)
+
+-- The reads that are made for uses give, one after the other, the bus behind them; there are at most
+-- as many as words that are asked for. The uses of words that are asked for in two parts are those
+-- of the first part, and behind it those of the second.
+pub record UsesMakeTheirReads : Type 0 where
+  pub bus : (ds : List ℕ) (past : List Past) (s : Fetching) (xs : List Wish) →
+      bus_after_reads ds (reads_of (uses ds past s xs)) s.bus
+      ≡ (behind ds past s (uses ds past s xs)).bus
+  pub few : (ds : List ℕ) (past : List Past) (s : Fetching) (xs : List Wish) →
+      length (reads_of (uses ds past s xs)) ≤ length xs
+  pub parts : (ds : List ℕ) (past : List Past) (s : Fetching) (xs ys : List Wish) →
+      uses ds past s (xs ++ ys)
+      ≡ uses ds past s xs ++ uses ds past (behind ds past s (uses ds past s xs)) ys
 
 -- The reads that are asked for an entry, made one after the other, give the bus behind it. They are
 -- at most as many as the words that it reads for itself and two following ones: 36 and two, as each

@@ -6,6 +6,8 @@ pub mod LogLaws
 pub mod Notes
 pub mod Ranges
 pub mod Rows
+pub mod Uses
+pub mod Words
 pub mod Laws
 pub use Rattle.st_banks.specs.Bank
 pub use Rattle.st_banks.specs.Delay

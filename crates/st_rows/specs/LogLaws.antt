@@ -1,6 +1,7 @@
 -- What a log of reads is good for: a segment's end takes reads back by it.
 use Rattle.std.specs.Prelude.{ℕ, ◌≡◌, ◌≤◌, List, [], ◌∷◌, ◌++◌, length, take, drop}
-use Rattle.st_rows.specs.Asked.{Read, bus_after_reads, made_before}
+use Rattle.st_rows.specs.Asked.{bus_after_reads, made_before}
+use Rattle.st_rows.specs.BusTimes.{Read}
 use Rattle.st_rows.specs.Notes.{note, notes_of_reads, answers_left, AreEarly, AreFalling, IsLogged}
 use Rattle.st_rows.specs.declared.bus.Bus.{Bus}
 use Rattle.st_rows.specs.declared.log.Made.{Made}

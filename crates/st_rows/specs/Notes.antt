@@ -1,8 +1,7 @@
 -- Notes of reads that are made, by which they can be taken back. They stand youngest first.
 use Rattle.std.specs.Prelude.{ℕ, ◌≡◌, ◌<◌, nat_lt, if◌then◌else◌, List, [], ◌∷◌, ◌++◌, take, All}
 use Rattle.st_banks.specs.Bank.{last_of, answered_at}
-use Rattle.st_rows.specs.Asked.{Read, after_one}
-use Rattle.st_rows.specs.BusTimes.{accept_at}
+use Rattle.st_rows.specs.BusTimes.{accept_at, Read, after_one}
 use Rattle.st_rows.specs.declared.bus.Bus.{Bus}
 use Rattle.st_rows.specs.declared.log.Made.{Made}
 

@@ -2,7 +2,6 @@
 use Rattle.std.specs.Prelude.{ℕ, ◌≡◌, ◌+◌, ◌*◌, ◌≤◌, ◌<◌, true, List, length, All, IfSome}
 use Rattle.st_bits.specs.declared.limits.TheConstants.{MOST_DELAY}
 use Rattle.st_bits.specs.Storage.{words_of_storage}
-use Rattle.st_rows.specs.BusTimes.{OperandReading}
 use Rattle.st_rows.specs.declared.bus.Bus.{Bus}
 use Rattle.st_rows.specs.declared.entry.WordRun.{WordRun}
 use Rattle.st_rows.specs.declared.entry.Entry.{Entry}
@@ -48,7 +47,7 @@ pub record IsFetchingWithin (m : ℕ) (s : Fetching) : Type 0 where
   pub awaited : s.awaited ≤ m
 
 -- nor one of the operands
-pub record IsReadingWithin (m : ℕ) (s : OperandReading) : Type 0 where
+pub record IsReadingWithin (m : ℕ) (s : Fetching) : Type 0 where
   pub bus : IsBusWithin m s.bus
   pub answered : s.answered ≤ m
 

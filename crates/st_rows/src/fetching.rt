@@ -3,7 +3,7 @@ ghost use Rattle.std.specs.Prelude.{◌≡◌, ◌-◌, ◌≤◌, ◌^◌, max}
 ghost use Rattle.st_fetch.specs.Planned.{tick_of};
 ghost use Rattle.st_rows.specs.Asked.{word_asked};
 ghost use Rattle.st_rows.specs.Notes.{log_after_reads};
-ghost use Rattle.st_rows.specs.Rows.{fetch_word};
+ghost use Rattle.st_rows.specs.Words.{fetch_word};
 ghost use Rattle.st_rows.specs.Ranges.{IsFetchingWithin, ArePastWithin};
 
 use crate::bus::Bus;

@@ -3,8 +3,9 @@ ghost use Rattle.std.specs.Prelude.{◌≡◌, ◌+◌, ◌-◌, ◌≤◌, ◌^
 ghost use Rattle.st_bits.specs.declared.limits.TheConstants.{MOST_DELAY};
 ghost use Rattle.st_rows.specs.Asked.{side_asked, operands_asked, runs_asked, inside_asked, following_asked, prepared_asked};
 ghost use Rattle.st_rows.specs.Notes.{log_after_reads};
-ghost use Rattle.st_rows.specs.Rows.{opening_front, wanted_from, words_tick, address_tick, bus_sided, side_there, preparation_tick as prepared_of};
-ghost use Rattle.st_rows.specs.Rows.{reading_of_fetch, operands_read, read_words, request_inside as request_inside_of, bus_followed, tick_a, bus_a, tick_p, row_of_entry as row_of, front_after_entry, fills_of, fills as fills_of_entry};
+ghost use Rattle.st_rows.specs.Rows.{opening_front, wanted_from, words_tick, address_tick, preparation_tick as prepared_of};
+ghost use Rattle.st_rows.specs.Words.{bus_sided, side_there, operands_read, read_words, request_inside as request_inside_of, bus_followed, fills_of, fills as fills_of_entry};
+ghost use Rattle.st_rows.specs.Rows.{tick_a, bus_a, tick_p, row_of_entry as row_of, front_after_entry};
 ghost use Rattle.st_rows.specs.Ranges.{IsEntryInTime, IsTight, IsBusWithin, IsFetchingWithin, IsReadingWithin, ArePastWithin, IsReadable};
 
 use crate::bus::Bus;
@@ -189,6 +190,7 @@ impl Front {
             past: &self.past,
         };
         words.answered = p;
+        words.awaited = 0;
         let fills = read_operands(words, log, &wanted, entry);
         let r = words.answered;
         let c = self.c.max(r) + u64::from(entry.cost);
@@ -270,8 +272,8 @@ fn read_operands(
     requires early { wanted.now.tick ≤ 2 ^ 64 - 2 ^ 17 }
     requires start { operands.old.answered ≡ wanted.now.tick }
 
-    ensures value { let x = wanted.now in reading_of_fetch operands.new
-        ≡ operands_read x.delays.now.list x.past.now operands.old.bus entry.now.reads x.tick }
+    ensures value { let x = wanted.now in operands.new
+        ≡ operands_read x.delays.now.list x.past.now operands.old entry.now.reads x.tick }
     ensures fills { let x = wanted.now in result
         ≡ fills_of x.delays.now.list x.past.now operands.old.bus entry.now.reads.one x.tick }
     ensures log { let x = wanted.now in log.new ≡ log_after_reads x.delays.now.list
@@ -289,12 +291,12 @@ fn read_run(operands: &mut Fetching, log: &mut Log, wanted: &Wanted<'_>, run: Wo
     requires words { IsReadable run }
     requires few { run.len ≤ 16 }
     requires before { ArePastWithin (2 ^ 64 - 2 ^ 17) wanted.now.past.now }
-    requires room { IsReadingWithin (2 ^ 64 - 2 ^ 17) (reading_of_fetch operands.old) }
+    requires room { IsReadingWithin (2 ^ 64 - 2 ^ 17) operands.old }
     requires early { wanted.now.tick ≤ 2 ^ 64 - 2 ^ 17 }
     requires start { operands.old.answered ≡ wanted.now.tick }
 
-    ensures value { let x = wanted.now in reading_of_fetch operands.new ≡ read_words
-        x.delays.now.list x.past.now (reading_of_fetch operands.old) x.tick run.first run.len }
+    ensures value { let x = wanted.now in operands.new ≡ read_words
+        x.delays.now.list x.past.now operands.old x.tick run.first run.len }
     ensures fills { let x = wanted.now in
         result ≡ fills_of x.delays.now.list x.past.now operands.old.bus run x.tick }
     ensures log { let x = wanted.now in log.new ≡ log_after_reads x.delays.now.list

@@ -2,7 +2,7 @@
 ghost use Rattle.std.specs.Prelude.{◌≡◌, ◌-◌, ◌≤◌, ◌^◌};
 ghost use Rattle.st_rows.specs.Asked.{data_asked, operands_asked};
 ghost use Rattle.st_rows.specs.Notes.{log_after_reads};
-ghost use Rattle.st_rows.specs.Rows.{reading_of_fetch, read_word, read_words, fill_at};
+ghost use Rattle.st_rows.specs.Words.{read_word, read_words, fill_at};
 ghost use Rattle.st_rows.specs.Ranges.{IsReadingWithin, ArePastWithin, IsReadable};
 
 use crate::entry::WordRun;
@@ -14,15 +14,15 @@ impl Fetching {
     // earlier entry writes it that is done later. The result is the tick at which the word is
     // there.
     pub(crate) fn read(&mut self, log: &mut Log, wanted: &Wanted<'_>, w: u32) -> u64
-        requires room { IsReadingWithin (2 ^ 64 - 512) (reading_of_fetch self.old) }
+        requires room { IsReadingWithin (2 ^ 64 - 512) self.old }
         requires before { ArePastWithin (2 ^ 64 - 512) wanted.now.past.now }
         requires early { wanted.now.tick ≤ 2 ^ 64 - 512 }
         requires storage { 32 ≤ w }
 
         ensures value { let x = wanted.now in
             result ≡ fill_at x.delays.now.list x.past.now self.old.bus w x.tick }
-        ensures after { let x = wanted.now in reading_of_fetch self.new
-            ≡ read_word x.delays.now.list x.past.now (reading_of_fetch self.old) w x.tick }
+        ensures after { let x = wanted.now in self.new
+            ≡ read_word x.delays.now.list x.past.now self.old w x.tick }
         ensures log { let x = wanted.now in log.new ≡ log_after_reads x.delays.now.list
             (data_asked x.past.now w x.tick) self.old.bus log.old }
     {
@@ -39,14 +39,14 @@ impl Fetching {
     // Reads the next operand words.
     #[inline(always)]
     pub(crate) fn read_on(&mut self, log: &mut Log, wanted: &Wanted<'_>, run: WordRun)
-        requires room { IsReadingWithin (2 ^ 64 - 2 ^ 16) (reading_of_fetch self.old) }
+        requires room { IsReadingWithin (2 ^ 64 - 2 ^ 16) self.old }
         requires before { ArePastWithin (2 ^ 64 - 2 ^ 16) wanted.now.past.now }
         requires early { wanted.now.tick ≤ 2 ^ 64 - 2 ^ 16 }
         requires words { IsReadable run }
         requires few { run.len ≤ 16 }
 
-        ensures value { let x = wanted.now in reading_of_fetch self.new ≡ read_words
-            x.delays.now.list x.past.now (reading_of_fetch self.old) x.tick run.first run.len }
+        ensures value { let x = wanted.now in self.new ≡ read_words
+            x.delays.now.list x.past.now self.old x.tick run.first run.len }
         ensures log { let x = wanted.now in log.new ≡ log_after_reads x.delays.now.list
             (operands_asked x.past.now x.tick run.first run.len) self.old.bus log.old }
     {

@@ -6,8 +6,9 @@ use Rattle.st_prep.specs.Plan.{plan}
 use Rattle.st_prep.specs.declared.entries.Prepared.{Prepared}
 use Rattle.st_exec.specs.Completion.{guess}
 use Rattle.st_banks.specs.declared.answers.LastAnswers.{LastAnswers}
-use Rattle.st_rows.specs.Rows.{opening_front, row_of_entry, front_after_entry}
-use Rattle.st_rows.specs.Asked.{Read, reads_of_entry, made_before}
+use Rattle.st_rows.specs.Rows.{opening_front, row_of_entry, front_after_entry, reads_of_entry}
+use Rattle.st_rows.specs.Asked.{made_before}
+use Rattle.st_rows.specs.BusTimes.{Read}
 use Rattle.st_rows.specs.declared.bus.Bus.{Bus}
 use Rattle.st_rows.specs.declared.entry.Entry.{Entry}
 use Rattle.st_rows.specs.declared.front.Front.{Front}

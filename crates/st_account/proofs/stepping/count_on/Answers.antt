@@ -1,5 +1,5 @@
 use Rattle.std.proofs.Common.{List, [], ◌∙◌, ap}
-use Rattle.st_rows.specs.Asked.{reads_of_entry}
+use Rattle.st_rows.specs.Rows.{reads_of_entry}
 use Rattle.st_rows.specs.Notes.{log_after_reads}
 use Rattle.st_rows.specs.declared.entry.Entry.{Entry}
 use Rattle.st_rows.specs.declared.log.Made.{Made}

@@ -4,10 +4,10 @@ use Rattle.st_exec.specs.Completion.{guessed_state}
 use Rattle.st_state.specs.Machine.{Machine, IsMachine}
 use Rattle.st_prep.specs.Plan.{plan}
 use Rattle.st_prep.specs.declared.entries.Prepared.{Prepared}
-use Rattle.st_rows.specs.Asked.{formed_asked, reads_of_entry}
+use Rattle.st_rows.specs.Asked.{formed_asked}
 use Rattle.st_rows.specs.Notes.{log_after_reads}
 use Rattle.st_rows.specs.Ranges.{IsEntryInTime}
-use Rattle.st_rows.specs.Rows.{row_of_entry, front_after_entry, bus_a, tick_p}
+use Rattle.st_rows.specs.Rows.{row_of_entry, front_after_entry, bus_a, tick_p, reads_of_entry}
 use Rattle.st_rows.specs.declared.entry.Entry.{Entry}
 use Rattle.st_rows.specs.declared.front.Front.{Front}
 use Rattle.st_rows.specs.declared.front.EntryTicks.{EntryTicks}

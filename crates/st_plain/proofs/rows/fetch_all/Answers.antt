@@ -3,7 +3,7 @@ use Rattle.st_rows.specs.Ranges.{IsFetchingWithin}
 use Rattle.st_rows.proofs.Within.{delays-are, past-weaker, fetching-weaker}
 use Rattle.st_rows.proofs.Stages.{tight-bus, wanted-early, fetch_two-within}
 use Rattle.st_plain.proofs.RowLemmas.{noted-fetches}
-use Rattle.st_plain.proofs.UseLemmas.{fetches-used}
+use Rattle.st_plain.proofs.UseLemmas.{words-fetched, fetches-used}
 use Rattle.st_plain.proofs.rows.fetch_all.Goals as goal
 
 -- behind the entry's own words
@@ -22,6 +22,11 @@ fetch_run-requires-2-clause-room c =
     (fetch_two-within 255 c.args.next.now.timing.now.delays.now.list (delays-are c.args.next.now.timing.now.delays.now) f.past c.wanted_from-from.result
     c.args.next.now.planned.now.entry.own.first c.args.next.now.planned.now.entry.own.len m c.args.words.now c.requires.entry.own_few
     (past-weaker f.c m f.past (omega arith) c.requires.tight.done) start (rw c.wanted_from-from.ensures (omega arith))))
+
+pub returns-clause-words : goal.returns-clause-words
+returns-clause-words c =
+    words-fetched c.args.next.now.timing.now.delays.now.list c.args.front.now c.args.next.now.planned.now.entry c.args.words.now c.fetch_run.new.words c.fetch_run-2.new.words c.wanted_from-from.result _
+    c.requires.start c.wanted_from-from.ensures c.max-late.ensures c.fetch_run.ensures.words c.fetch_run-2.ensures.words
 
 pub returns-clause-log : goal.returns-clause-log
 returns-clause-log c =

@@ -3,7 +3,7 @@ use Rattle.st_bits.specs.Storage.{words_of_storage}
 use Rattle.st_rows.specs.Asked.{words_asked}
 use Rattle.st_rows.specs.Notes.{log_after_reads}
 use Rattle.st_rows.specs.Ranges.{IsFetchingWithin}
-use Rattle.st_rows.specs.Rows.{fetch_words}
+use Rattle.st_rows.specs.Words.{fetch_words}
 use Rattle.st_plain.specs.Uses.{instruction_uses}
 use Rattle.st_plain.proofs.rows.fetch_run.Given as goal
 

@@ -1,13 +1,14 @@
 use Rattle.std.proofs.Common.{◌+◌, ◌-◌, ◌*◌, ◌^◌, refl, sym, subst, ap, arith}
-use Rattle.st_rows.specs.BusTimes.{OperandReading}
 use Rattle.st_rows.specs.Ranges.{IsReadingWithin}
-use Rattle.st_rows.specs.Rows.{reading_of_fetch, operands, tick_c, row_of_entry, front_after_entry}
+use Rattle.st_rows.specs.Rows.{operands, tick_c, row_of_entry, front_after_entry}
 use Rattle.st_rows.proofs.Within.{delays-are, bus-weaker}
 use Rattle.st_rows.proofs.Stages.{bus_a-within, p-within, c-within, operands_of-within}
 use Rattle.st_rows.proofs.Tight.{tight-after}
 use Rattle.st_plain.proofs.RowLemmas.{noted-prepared, noted-asked}
 use Rattle.st_plain.proofs.UseLemmas.{operands-read, prepared-used}
 use Rattle.st_plain.proofs.rows.finish.Goals as goal
+use Rattle.st_rows.specs.declared.fetching.Fetching.{Fetching}
+use Rattle.st_rows.specs.Words.{operands_read, read_words, bus_followed}
 
 pub use_data-requires-clause-room : goal.use_data-requires-clause-room
 use_data-requires-clause-room c =
@@ -24,19 +25,19 @@ use_data-requires-clause-early c =
 pub overflow_add-c : goal.overflow_add-c
 overflow_add-c c =
     let f = c.args.front.now in
-    let reads = operands-read c.args.next.now.timing.now.delays.now.list f c.args.next.now.planned.now.entry c.args.next.now.timing.now.levels (reading_of_fetch c.use_data.new.words) c.args.begun.now.words.bus
+    let reads = operands-read c.args.next.now.timing.now.delays.now.list f c.args.next.now.planned.now.entry c.args.next.now.timing.now.levels c.use_data.new.words c.args.begun.now.words.bus
     c.args.begun.now.formed.p c.use_data.ensures.after c.requires.bus c.requires.tick in
-    let read : IsReadingWithin (f.c + 40 * 255 + 41) (reading_of_fetch c.use_data.new.words) =
-    subst (λ (s : OperandReading). IsReadingWithin (f.c + 40 * 255 + 41) s) (sym reads)
+    let read : IsReadingWithin (f.c + 40 * 255 + 41) c.use_data.new.words =
+    subst (λ (s : Fetching). IsReadingWithin (f.c + 40 * 255 + 41) s) (sym reads)
     (operands_of-within 255 c.args.next.now.timing.now.delays.now.list (delays-are c.args.next.now.timing.now.delays.now) f c.args.next.now.planned.now.entry c.requires.entry c.requires.tight c.args.next.now.timing.now.levels) in
     omega (arith, read.answered)
 
 pub use_following-requires-clause-room : goal.use_following-requires-clause-room
 use_following-requires-clause-room c =
     let f = c.args.front.now in
-    let reads = operands-read c.args.next.now.timing.now.delays.now.list f c.args.next.now.planned.now.entry c.args.next.now.timing.now.levels (reading_of_fetch c.use_data.new.words) c.args.begun.now.words.bus
+    let reads = operands-read c.args.next.now.timing.now.delays.now.list f c.args.next.now.planned.now.entry c.args.next.now.timing.now.levels c.use_data.new.words c.args.begun.now.words.bus
     c.args.begun.now.formed.p c.use_data.ensures.after c.requires.bus c.requires.tick in
-    rw (ap (λ (s : OperandReading). s.bus) reads)
+    rw (ap (λ (s : Fetching). s.bus) reads)
     (bus-weaker (f.c + 40 * 255 + 41) (2 ^ 64 - 1024) _ (omega arith)
     (operands_of-within 255 c.args.next.now.timing.now.delays.now.list (delays-are c.args.next.now.timing.now.delays.now) f c.args.next.now.planned.now.entry c.requires.entry c.requires.tight c.args.next.now.timing.now.levels).bus)
 
@@ -46,36 +47,36 @@ use_following-requires-clause-early c =
     (omega (arith, p-within 255 c.args.next.now.timing.now.delays.now.list (delays-are c.args.next.now.timing.now.delays.now) c.args.front.now c.args.next.now.planned.now.entry c.requires.entry c.requires.tight c.args.next.now.timing.now.levels))
 
 pub returns-clause-value : goal.returns-clause-value
-unfolding row_of_entry operands tick_c
+unfolding row_of_entry operands tick_c operands_read read_words
 returns-clause-value c =
-    let reads = operands-read c.args.next.now.timing.now.delays.now.list c.args.front.now c.args.next.now.planned.now.entry c.args.next.now.timing.now.levels (reading_of_fetch c.use_data.new.words) c.args.begun.now.words.bus
+    let reads = operands-read c.args.next.now.timing.now.delays.now.list c.args.front.now c.args.next.now.planned.now.entry c.args.next.now.timing.now.levels c.use_data.new.words c.args.begun.now.words.bus
     c.args.begun.now.formed.p c.use_data.ensures.after c.requires.bus c.requires.tick in
-    rw (c.max.ensures, c.from.ensures, ap (λ (s : OperandReading). s.answered) reads, c.requires.tick, c.requires.address) refl
+    rw (c.max.ensures, c.from.ensures, ap (λ (s : Fetching). s.answered) reads, c.requires.tick, c.requires.address) refl
 
 pub returns-clause-after : goal.returns-clause-after
-unfolding front_after_entry
+unfolding front_after_entry bus_followed
 returns-clause-after c =
-    let reads = operands-read c.args.next.now.timing.now.delays.now.list c.args.front.now c.args.next.now.planned.now.entry c.args.next.now.timing.now.levels (reading_of_fetch c.use_data.new.words) c.args.begun.now.words.bus
+    let reads = operands-read c.args.next.now.timing.now.delays.now.list c.args.front.now c.args.next.now.planned.now.entry c.args.next.now.timing.now.levels c.use_data.new.words c.args.begun.now.words.bus
     c.args.begun.now.formed.p c.use_data.ensures.after c.requires.bus c.requires.tick in
     c.pass.ensures c.args.next.now.timing.now.delays.now.list c.args.next.now.timing.now.levels (returns-clause-value c)
-    (rw (c.use_following.ensures.after, ap (λ (s : OperandReading). s.bus) reads, c.requires.tick) refl)
+    (rw (c.use_following.ensures.after, ap (λ (s : Fetching). s.bus) reads, c.requires.tick) refl)
 
 pub returns-clause-log : goal.returns-clause-log
 returns-clause-log c before made =
-    let reads = operands-read c.args.next.now.timing.now.delays.now.list c.args.front.now c.args.next.now.planned.now.entry c.args.next.now.timing.now.levels (reading_of_fetch c.use_data.new.words) c.args.begun.now.words.bus
+    let reads = operands-read c.args.next.now.timing.now.delays.now.list c.args.front.now c.args.next.now.planned.now.entry c.args.next.now.timing.now.levels c.use_data.new.words c.args.begun.now.words.bus
     c.args.begun.now.formed.p c.use_data.ensures.after c.requires.bus c.requires.tick in
     noted-asked c.args.next.now.timing.now.delays.now.list c.args.front.now c.args.next.now.planned.now.entry c.args.next.now.timing.now.levels c.args.begun.now.words.bus before c.args.log.now c.use_following.new.log
     c.requires.bus made
     (noted-prepared c.args.next.now.timing.now.delays.now.list c.args.front.now c.args.next.now.planned.now.entry c.args.next.now.timing.now.levels c.args.begun.now.words.bus c.use_data.new.words.bus c.args.begun.now.formed.p
-    c.args.log.now c.use_data.new.log c.use_following.new.log c.requires.bus (ap (λ (s : OperandReading). s.bus) reads) c.requires.tick c.use_data.ensures.log
+    c.args.log.now c.use_data.new.log c.use_following.new.log c.requires.bus (ap (λ (s : Fetching). s.bus) reads) c.requires.tick c.use_data.ensures.log
     c.use_following.ensures.log)
 
 pub returns-clause-uses : goal.returns-clause-uses
 returns-clause-uses c =
     let f = c.args.front.now in
-    let reads = operands-read c.args.next.now.timing.now.delays.now.list f c.args.next.now.planned.now.entry c.args.next.now.timing.now.levels (reading_of_fetch c.use_data.new.words) c.args.begun.now.words.bus
+    let reads = operands-read c.args.next.now.timing.now.delays.now.list f c.args.next.now.planned.now.entry c.args.next.now.timing.now.levels c.use_data.new.words c.args.begun.now.words.bus
     c.args.begun.now.formed.p c.use_data.ensures.after c.requires.bus c.requires.tick in
-    prepared-used c.args.next.now.timing.now.delays.now.list f c.args.next.now.planned.now.entry c.args.next.now.timing.now.levels c.args.next.now.plan.now.reads c.args.begun.now.words.bus (reading_of_fetch c.use_data.new.words)
+    prepared-used c.args.next.now.timing.now.delays.now.list f c.args.next.now.planned.now.entry c.args.next.now.timing.now.levels c.args.next.now.plan.now.reads c.args.begun.now.words.bus c.use_data.new.words
     c.args.begun.now.formed.p c.args.uses.now.items c.use_data.new.uses.items c.use_following.new.uses.items c.requires.bus c.requires.tick reads
     c.use_data.ensures.items c.use_following.ensures.items
 

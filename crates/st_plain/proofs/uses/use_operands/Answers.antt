@@ -1,8 +1,6 @@
 use Rattle.std.proofs.Common.{◌≡◌, ◌+◌, ◌-◌, ◌*◌, ◌^◌, ◌∙◌, sym, subst, arith}
 use Rattle.st_bits.specs.Storage.{words_of_storage_is}
-use Rattle.st_rows.specs.BusTimes.{OperandReading}
 use Rattle.st_rows.specs.Ranges.{IsReadingWithin}
-use Rattle.st_rows.specs.Rows.{reading_of_fetch}
 use Rattle.st_rows.specs.Asked.{operands_asked}
 use Rattle.st_rows.specs.Notes.{log_after_reads}
 use Rattle.st_rows.proofs.Noted.{operand-turn as operand-noted}
@@ -10,6 +8,7 @@ use Rattle.st_rows.proofs.Turns.{read-turn}
 use Rattle.st_rows.proofs.Within.{delays-are, reading-weaker, read_word-within}
 use Rattle.st_plain.proofs.UseLemmas.{operand-turn, operand-end}
 use Rattle.st_plain.proofs.uses.use_operands.Goals as goal
+use Rattle.st_rows.specs.declared.fetching.Fetching.{Fetching}
 
 pub overflow_add-w : goal.overflow_add-w
 overflow_add-w c = omega (arith, words_of_storage_is, c.words.invariant.inside (omega arith))
@@ -21,8 +20,8 @@ pub words-preserved : goal.words-preserved
 words-preserved c =
     let m = 2 ^ 64 - 512 - 256 * c.words.left in
     let are = delays-are c.args.wanted.now.delays.now in
-    let s = reading_of_fetch c.words.words in
-    let t = reading_of_fetch c.use_operand.new.words in
+    let s = c.words.words in
+    let t = c.use_operand.new.words in
     record {
       value = read-turn c.args.wanted.now.delays.now.list c.args.wanted.now.last.now c.words.w c.args.wanted.now.tick s t c.words.left c.use_operand.ensures.after (omega arith)
           ∙ c.words.invariant.value;
@@ -34,7 +33,7 @@ words-preserved c =
           ∙ c.words.invariant.log;
       space = omega (arith, c.use_operand.ensures.room, c.words.invariant.space);
       room = reading-weaker (m + 256) _ t (omega arith)
-          (subst (λ (r : OperandReading). IsReadingWithin (m + 256) r) (sym c.use_operand.ensures.after)
+          (subst (λ (r : Fetching). IsReadingWithin (m + 256) r) (sym c.use_operand.ensures.after)
           (read_word-within 255 c.args.wanted.now.delays.now.list are c.args.wanted.now.last.now s c.words.w c.args.wanted.now.tick m c.words.invariant.room (omega arith)));
       few = omega (arith, c.words.invariant.few);
       above = λ some. omega (arith, c.words.invariant.above (omega arith));
@@ -43,7 +42,7 @@ words-preserved c =
 
 pub returns-clause-items : goal.returns-clause-items
 returns-clause-items c =
-    operand-end c.args.wanted.now.delays.now.list c.args.wanted.now.last.now c.args.wanted.now.tick c.words.w (reading_of_fetch c.words.words) c.words.left c.words.uses.items _
+    operand-end c.args.wanted.now.delays.now.list c.args.wanted.now.last.now c.args.wanted.now.tick c.words.w c.words.words c.words.left c.words.uses.items _
     (omega (arith, c.words-test.false)) c.words.invariant.uses
 
 pub returns-clause-log : goal.returns-clause-log

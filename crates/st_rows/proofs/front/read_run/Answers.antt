@@ -1,24 +1,25 @@
 use Rattle.std.proofs.Common.{◌≡◌, ◌+◌, ◌-◌, ◌^◌, ◌∙◌, ap, sym, subst, refl, arith}
 use Rattle.st_bits.specs.Storage.{words_of_storage_is}
 use Rattle.st_rows.specs.Asked.{operands_asked}
-use Rattle.st_rows.specs.BusTimes.{OperandReading}
 use Rattle.st_rows.specs.Notes.{log_after_reads}
 use Rattle.st_rows.specs.Ranges.{IsReadingWithin}
-use Rattle.st_rows.specs.Rows.{reading_of_fetch, read_word, read_words}
+use Rattle.st_rows.specs.Words.{read_word, read_words}
 use Rattle.st_rows.proofs.Noted.{operand-one, operands-two}
 use Rattle.st_rows.proofs.Turns.{read-turn, read-two}
 use Rattle.st_rows.proofs.Within.{delays-are, reading-weaker, read_word-within}
 use Rattle.st_rows.proofs.front.read_run.Goals as goal
+use Rattle.st_rows.specs.declared.fetching.Fetching.{Fetching}
+use Rattle.st_rows.specs.Uses.{behind, uses, wishes}
 
 pub returns-then-run-eq0-clause-value : goal.returns-then-run-eq0-clause-value
-unfolding read_words
+unfolding read_words behind uses wishes read_word
 returns-then-run-eq0-clause-value c = let none : c.args.run.len ≡ 0 = omega arith in rw none refl
 
 pub returns-then-run-eq1-clause-value : goal.returns-then-run-eq1-clause-value
-unfolding read_words
+unfolding read_words behind uses wishes read_word
 returns-then-run-eq1-clause-value c =
     let one : c.args.run.len ≡ 1 = omega arith in
-    read-turn c.args.wanted.now.delays.now.list c.args.wanted.now.past.now c.args.run.first c.args.wanted.now.tick (reading_of_fetch c.args.operands.now) (reading_of_fetch c.read-first.new.self) 1 c.read-first.ensures.after (omega arith)
+    read-turn c.args.wanted.now.delays.now.list c.args.wanted.now.past.now c.args.run.first c.args.wanted.now.tick c.args.operands.now c.read-first.new.self 1 c.read-first.ensures.after (omega arith)
     ∙ rw one refl
 
 pub read-first-requires-clause-storage : goal.read-first-requires-clause-storage
@@ -34,7 +35,7 @@ overflow_add-run c = omega (arith, words_of_storage_is, c.requires.words.inside 
 pub read-second-requires-clause-room : goal.read-second-requires-clause-room
 read-second-requires-clause-room c =
     let m = 2 ^ 64 - 2 ^ 17 in
-    subst (λ (s : OperandReading). IsReadingWithin (2 ^ 64 - 512) s) (sym c.read-first.ensures.after)
+    subst (λ (s : Fetching). IsReadingWithin (2 ^ 64 - 512) s) (sym c.read-first.ensures.after)
     (reading-weaker (m + 256) (2 ^ 64 - 512) _ (omega arith)
     (read_word-within 255 c.args.wanted.now.delays.now.list (delays-are c.args.wanted.now.delays.now) c.args.wanted.now.past.now _ c.args.run.first c.args.wanted.now.tick m c.requires.room c.requires.early))
 
@@ -46,9 +47,9 @@ pub read_on-requires-clause-room : goal.read_on-requires-clause-room
 read_on-requires-clause-room c =
     let m = 2 ^ 64 - 2 ^ 17 in
     let are = delays-are c.args.wanted.now.delays.now in
-    subst (λ (s : OperandReading). IsReadingWithin (2 ^ 64 - 2 ^ 16) s)
+    subst (λ (s : Fetching). IsReadingWithin (2 ^ 64 - 2 ^ 16) s)
     (sym (c.read-second.ensures.after
-    ∙ ap (λ (s : OperandReading). read_word c.args.wanted.now.delays.now.list c.args.wanted.now.past.now s (c.args.run.first + 1) c.args.wanted.now.tick) c.read-first.ensures.after))
+    ∙ ap (λ (s : Fetching). read_word c.args.wanted.now.delays.now.list c.args.wanted.now.past.now s (c.args.run.first + 1) c.args.wanted.now.tick) c.read-first.ensures.after))
     (reading-weaker (m + 256 + 256) (2 ^ 64 - 2 ^ 16) _ (omega arith)
     (read_word-within 255 c.args.wanted.now.delays.now.list are c.args.wanted.now.past.now _ (c.args.run.first + 1) c.args.wanted.now.tick (m + 256)
     (read_word-within 255 c.args.wanted.now.delays.now.list are c.args.wanted.now.past.now _ c.args.run.first c.args.wanted.now.tick m c.requires.room c.requires.early) (omega arith)))
@@ -56,8 +57,8 @@ read_on-requires-clause-room c =
 pub returns-clause-value : goal.returns-clause-value
 returns-clause-value c =
     c.read_on.ensures.value
-    ∙ read-two c.args.wanted.now.delays.now.list c.args.wanted.now.past.now c.args.run.first c.args.wanted.now.tick (reading_of_fetch c.args.operands.now) (reading_of_fetch c.read-first.new.self)
-    (reading_of_fetch c.read-second.new.self) c.args.run.len c.read-first.ensures.after c.read-second.ensures.after (omega arith)
+    ∙ read-two c.args.wanted.now.delays.now.list c.args.wanted.now.past.now c.args.run.first c.args.wanted.now.tick c.args.operands.now c.read-first.new.self
+    c.read-second.new.self c.args.run.len c.read-first.ensures.after c.read-second.ensures.after (omega arith)
 
 pub returns-then-run-eq0-clause-log : goal.returns-then-run-eq0-clause-log
 unfolding operands_asked log_after_reads
@@ -65,12 +66,12 @@ returns-then-run-eq0-clause-log c = let none : c.args.run.len ≡ 0 = omega arit
 
 pub returns-then-run-eq1-clause-log : goal.returns-then-run-eq1-clause-log
 returns-then-run-eq1-clause-log c =
-    operand-one c.args.wanted.now.delays.now.list c.args.wanted.now.past.now c.args.wanted.now.tick c.args.run.first (reading_of_fetch c.args.operands.now) (reading_of_fetch c.read-first.new.self) c.args.run.len c.args.log.now
+    operand-one c.args.wanted.now.delays.now.list c.args.wanted.now.past.now c.args.wanted.now.tick c.args.run.first c.args.operands.now c.read-first.new.self c.args.run.len c.args.log.now
     c.read-first.new.log c.read-first.ensures.after c.read-first.ensures.log (omega arith)
 
 pub returns-clause-log : goal.returns-clause-log
 returns-clause-log c =
     c.read_on.ensures.log
-    ∙ operands-two c.args.wanted.now.delays.now.list c.args.wanted.now.past.now c.args.wanted.now.tick c.args.run.first (reading_of_fetch c.args.operands.now) (reading_of_fetch c.read-first.new.self)
-    (reading_of_fetch c.read-second.new.self) c.args.run.len c.args.log.now c.read-first.new.log c.read-second.new.log c.read-first.ensures.after c.read-second.ensures.after
+    ∙ operands-two c.args.wanted.now.delays.now.list c.args.wanted.now.past.now c.args.wanted.now.tick c.args.run.first c.args.operands.now c.read-first.new.self
+    c.read-second.new.self c.args.run.len c.args.log.now c.read-first.new.log c.read-second.new.log c.read-first.ensures.after c.read-second.ensures.after
     c.read-first.ensures.log c.read-second.ensures.log (omega arith)

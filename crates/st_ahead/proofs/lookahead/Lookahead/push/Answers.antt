@@ -3,7 +3,8 @@ use Rattle.st_prep.specs.Plan.{plan}
 use Rattle.st_rows.specs.Asked.{prepared_asked}
 use Rattle.st_rows.specs.Notes.{log_after_reads}
 use Rattle.st_rows.specs.Ranges.{IsEntryInTime, IsTight}
-use Rattle.st_rows.specs.Rows.{row_of_entry, front_after_entry, fills, tick_a, bus_a, tick_p}
+use Rattle.st_rows.specs.Rows.{row_of_entry, front_after_entry, tick_a, bus_a, tick_p}
+use Rattle.st_rows.specs.Words.{fills}
 use Rattle.st_rows.specs.declared.bus.Bus.{Bus}
 use Rattle.st_rows.specs.declared.entry.Entry.{Entry}
 use Rattle.st_rows.specs.declared.fetching.Fetching.{Fetching}

@@ -1,14 +1,13 @@
 use Rattle.std.proofs.Common.{◌≡◌, ◌+◌, ◌-◌, ◌*◌, ◌^◌, ◌∙◌, sym, subst, arith}
 use Rattle.st_bits.specs.Storage.{words_of_storage_is}
 use Rattle.st_rows.specs.Asked.{operands_asked}
-use Rattle.st_rows.specs.BusTimes.{OperandReading}
 use Rattle.st_rows.specs.Notes.{log_after_reads}
 use Rattle.st_rows.specs.Ranges.{IsReadingWithin}
-use Rattle.st_rows.specs.Rows.{reading_of_fetch}
 use Rattle.st_rows.proofs.Noted.{operand-turn}
 use Rattle.st_rows.proofs.Turns.{read-turn}
 use Rattle.st_rows.proofs.Within.{delays-are, past-weaker, reading-weaker, read_word-within}
 use Rattle.st_rows.proofs.fetching.Fetching.read_on.Goals as goal
+use Rattle.st_rows.specs.declared.fetching.Fetching.{Fetching}
 
 pub overflow_add-w : goal.overflow_add-w
 overflow_add-w c = omega (arith, words_of_storage_is, c.words.invariant.inside (omega arith))
@@ -22,15 +21,15 @@ words-preserved c =
     let are = delays-are c.args.wanted.now.delays.now in
     let before = past-weaker (2 ^ 64 - 2 ^ 16) m c.args.wanted.now.past.now (omega (arith, c.words.invariant.few)) c.requires.before in
     record {
-      value = read-turn c.args.wanted.now.delays.now.list c.args.wanted.now.past.now c.words.w c.args.wanted.now.tick (reading_of_fetch c.words.self) (reading_of_fetch c.read.new.self) c.words.left
+      value = read-turn c.args.wanted.now.delays.now.list c.args.wanted.now.past.now c.words.w c.args.wanted.now.tick c.words.self c.read.new.self c.words.left
           c.read.ensures.after (omega arith)
           ∙ c.words.invariant.value;
-      log = operand-turn c.args.wanted.now.delays.now.list c.args.wanted.now.past.now c.args.wanted.now.tick c.words.w (reading_of_fetch c.words.self) (reading_of_fetch c.read.new.self) c.words.left c.words.log c.read.new.log
+      log = operand-turn c.args.wanted.now.delays.now.list c.args.wanted.now.past.now c.args.wanted.now.tick c.words.w c.words.self c.read.new.self c.words.left c.words.log c.read.new.log
           c.read.ensures.after c.read.ensures.log (omega arith)
           ∙ c.words.invariant.log;
-      room = reading-weaker (m + 256) _ (reading_of_fetch c.read.new.self) (omega arith)
-          (subst (λ (s : OperandReading). IsReadingWithin (m + 256) s) (sym c.read.ensures.after)
-          (read_word-within 255 c.args.wanted.now.delays.now.list are c.args.wanted.now.past.now (reading_of_fetch c.words.self) c.words.w c.args.wanted.now.tick m c.words.invariant.room (omega arith)));
+      room = reading-weaker (m + 256) _ c.read.new.self (omega arith)
+          (subst (λ (s : Fetching). IsReadingWithin (m + 256) s) (sym c.read.ensures.after)
+          (read_word-within 255 c.args.wanted.now.delays.now.list are c.args.wanted.now.past.now c.words.self c.words.w c.args.wanted.now.tick m c.words.invariant.room (omega arith)));
       few = omega (arith, c.words.invariant.few);
       above = λ some. omega (arith, c.words.invariant.above (omega arith));
       inside = λ some. omega (arith, c.words.invariant.inside (omega arith));

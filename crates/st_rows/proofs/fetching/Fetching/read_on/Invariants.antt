@@ -3,17 +3,17 @@ use Rattle.st_bits.specs.Storage.{words_of_storage}
 use Rattle.st_rows.specs.Asked.{operands_asked}
 use Rattle.st_rows.specs.Notes.{log_after_reads}
 use Rattle.st_rows.specs.Ranges.{IsReadingWithin}
-use Rattle.st_rows.specs.Rows.{reading_of_fetch, read_words}
+use Rattle.st_rows.specs.Words.{read_words}
 use Rattle.st_rows.proofs.fetching.Fetching.read_on.Given as goal
 
 -- the words that are left make of it and of the log what all words make of what they were; there is time left for each
 abbrev pub invariant-words : goal.invariant-words
 invariant-words l = record {
-  value : read_words l.wanted.delays.now.list l.wanted.past.now (reading_of_fetch l.self) l.wanted.tick l.w l.left
-      ≡ read_words l.wanted.delays.now.list l.wanted.past.now (reading_of_fetch l.initial.self) l.wanted.tick l.fn.run.first l.fn.run.len;
+  value : read_words l.wanted.delays.now.list l.wanted.past.now l.self l.wanted.tick l.w l.left
+      ≡ read_words l.wanted.delays.now.list l.wanted.past.now l.initial.self l.wanted.tick l.fn.run.first l.fn.run.len;
   log : log_after_reads l.wanted.delays.now.list (operands_asked l.wanted.past.now l.wanted.tick l.w l.left) l.self.bus l.log
       ≡ log_after_reads l.wanted.delays.now.list (operands_asked l.wanted.past.now l.wanted.tick l.fn.run.first l.fn.run.len) l.initial.self.bus l.initial.log;
-  room : IsReadingWithin (2 ^ 64 - 512 - 256 * l.left) (reading_of_fetch l.self);
+  room : IsReadingWithin (2 ^ 64 - 512 - 256 * l.left) l.self;
   few : l.left ≤ 16;
   above : 1 ≤ l.left → 32 ≤ l.w;
   inside : 1 ≤ l.left → l.w + l.left ≤ words_of_storage;

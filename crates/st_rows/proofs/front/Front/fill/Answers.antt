@@ -1,9 +1,9 @@
 use Rattle.std.proofs.Common.{◌≡◌, ℕ, ◌+◌, ◌-◌, ◌*◌, ◌^◌, List, refl, sym, subst, ap, ap₂, ◌∙◌, arith}
 use Rattle.st_rows.specs.Asked.{runs_asked, following_asked, prepared_asked}
-use Rattle.st_rows.specs.BusTimes.{OperandReading}
 use Rattle.st_rows.specs.Notes.{log_after_reads}
 use Rattle.st_rows.specs.Ranges.{IsReadingWithin}
-use Rattle.st_rows.specs.Rows.{reading_of_fetch, operands_read, bus_a, tick_p, operands, tick_c, row_of_entry, front_after_entry}
+use Rattle.st_rows.specs.Rows.{bus_a, tick_p, operands, tick_c, row_of_entry, front_after_entry}
+use Rattle.st_rows.specs.Words.{operands_read, read_words, bus_followed}
 use Rattle.st_rows.specs.declared.bus.Bus.{Bus}
 use Rattle.st_rows.specs.declared.entry.Entry.{Entry}
 use Rattle.st_rows.specs.declared.front.Front.{Front}
@@ -13,12 +13,13 @@ use Rattle.st_rows.proofs.Noted.{noted-two}
 use Rattle.st_rows.proofs.Served.{served-runs}
 use Rattle.st_rows.proofs.Stages.{bus_a-within, p-within, operands_of-within}
 use Rattle.st_rows.proofs.front.Front.fill.Goals as goal
+use Rattle.st_rows.specs.declared.fetching.Fetching.{Fetching}
 
 -- what is read behind the index-side word from preparation on are the operands
-all-read : (ds : List ℕ) (n : ℕ) (f : Front) (e : Entry) (s : OperandReading) (b : Bus) (p : ℕ) → s ≡ operands_read ds f.past b e.reads p → b ≡ bus_a ds f e
+all-read : (ds : List ℕ) (n : ℕ) (f : Front) (e : Entry) (s : Fetching) (b : Bus) (p : ℕ) → s ≡ operands_read ds f.past (record { bus = b; answered = p; awaited = 0 }) e.reads p → b ≡ bus_a ds f e
     → p ≡ tick_p ds n f e → s ≡ operands ds n f e
-unfolding operands
-all-read ds n f e s b p is bus tick = is ∙ ap₂ (λ (x : Bus) (y : ℕ). operands_read ds f.past x e.reads y) bus tick
+unfolding operands operands_read read_words
+all-read ds n f e s b p is bus tick = is ∙ ap₂ (λ (x : Bus) (y : ℕ). operands_read ds f.past (record { bus = x; answered = y; awaited = 0 }) e.reads y) bus tick
 
 -- and these are noted
 all-noted : (ds : List ℕ) (n : ℕ) (f : Front) (e : Entry) (b d : Bus) (p : ℕ) (log one two : List Made) → b ≡ bus_a ds f e → d ≡ (operands ds n f e).bus
@@ -47,21 +48,21 @@ read_operands-fills-requires-clause-early c =
 
 pub overflow_add-c : goal.overflow_add-c
 overflow_add-c c =
-    let reads = all-read c.args.timing.now.delays.now.list c.args.timing.now.levels c.args.self.now c.args.next.now.entry.now (reading_of_fetch c.read_operands-fills.new.operands)
+    let reads = all-read c.args.timing.now.delays.now.list c.args.timing.now.levels c.args.self.now c.args.next.now.entry.now c.read_operands-fills.new.operands
     c.args.words.now.bus c.args.next.now.formed.p c.read_operands-fills.ensures.value c.requires.bus c.requires.tick in
     let are = delays-are c.args.timing.now.delays.now in
-    let read : IsReadingWithin (c.args.self.now.c + 40 * 255 + 41) (reading_of_fetch c.read_operands-fills.new.operands) =
-    subst (λ (s : OperandReading). IsReadingWithin (c.args.self.now.c + 40 * 255 + 41) s) (sym reads)
+    let read : IsReadingWithin (c.args.self.now.c + 40 * 255 + 41) c.read_operands-fills.new.operands =
+    subst (λ (s : Fetching). IsReadingWithin (c.args.self.now.c + 40 * 255 + 41) s) (sym reads)
     (operands_of-within 255 c.args.timing.now.delays.now.list are c.args.self.now c.args.next.now.entry.now c.requires.entry c.requires.tight c.args.timing.now.levels) in
     omega (arith, read.answered)
 
 pub follow-requires-clause-room : goal.follow-requires-clause-room
 follow-requires-clause-room c =
-    let reads = all-read c.args.timing.now.delays.now.list c.args.timing.now.levels c.args.self.now c.args.next.now.entry.now (reading_of_fetch c.read_operands-fills.new.operands)
+    let reads = all-read c.args.timing.now.delays.now.list c.args.timing.now.levels c.args.self.now c.args.next.now.entry.now c.read_operands-fills.new.operands
     c.args.words.now.bus c.args.next.now.formed.p c.read_operands-fills.ensures.value c.requires.bus c.requires.tick in
     let f = c.args.self.now in
     let are = delays-are c.args.timing.now.delays.now in
-    rw (ap (λ (s : OperandReading). s.bus) reads)
+    rw (ap (λ (s : Fetching). s.bus) reads)
     (bus-weaker (f.c + 40 * 255 + 41) (2 ^ 64 - 1024) _ (omega arith)
     (operands_of-within 255 c.args.timing.now.delays.now.list are f c.args.next.now.entry.now c.requires.entry c.requires.tight c.args.timing.now.levels).bus)
 
@@ -72,23 +73,23 @@ follow-requires-clause-early c =
     (omega (arith, p-within 255 c.args.timing.now.delays.now.list are c.args.self.now c.args.next.now.entry.now c.requires.entry c.requires.tight c.args.timing.now.levels))
 
 pub returns-clause-value : goal.returns-clause-value
-unfolding row_of_entry operands tick_c
+unfolding row_of_entry operands tick_c operands_read read_words
 returns-clause-value c =
-    let reads = all-read c.args.timing.now.delays.now.list c.args.timing.now.levels c.args.self.now c.args.next.now.entry.now (reading_of_fetch c.read_operands-fills.new.operands)
+    let reads = all-read c.args.timing.now.delays.now.list c.args.timing.now.levels c.args.self.now c.args.next.now.entry.now c.read_operands-fills.new.operands
     c.args.words.now.bus c.args.next.now.formed.p c.read_operands-fills.ensures.value c.requires.bus c.requires.tick in
-    rw (c.max.ensures, c.from.ensures, ap (λ (s : OperandReading). s.answered) reads, c.requires.tick, c.requires.address) refl
+    rw (c.max.ensures, c.from.ensures, ap (λ (s : Fetching). s.answered) reads, c.requires.tick, c.requires.address) refl
 
 pub returns-clause-bus : goal.returns-clause-bus
-unfolding front_after_entry
+unfolding front_after_entry bus_followed
 returns-clause-bus c =
-    let reads = all-read c.args.timing.now.delays.now.list c.args.timing.now.levels c.args.self.now c.args.next.now.entry.now (reading_of_fetch c.read_operands-fills.new.operands)
+    let reads = all-read c.args.timing.now.delays.now.list c.args.timing.now.levels c.args.self.now c.args.next.now.entry.now c.read_operands-fills.new.operands
     c.args.words.now.bus c.args.next.now.formed.p c.read_operands-fills.ensures.value c.requires.bus c.requires.tick in
-    rw (c.follow.ensures.after, ap (λ (s : OperandReading). s.bus) reads, c.requires.tick) refl
+    rw (c.follow.ensures.after, ap (λ (s : Fetching). s.bus) reads, c.requires.tick) refl
 
 pub returns-clause-log : goal.returns-clause-log
 returns-clause-log c =
-    let reads = all-read c.args.timing.now.delays.now.list c.args.timing.now.levels c.args.self.now c.args.next.now.entry.now (reading_of_fetch c.read_operands-fills.new.operands)
+    let reads = all-read c.args.timing.now.delays.now.list c.args.timing.now.levels c.args.self.now c.args.next.now.entry.now c.read_operands-fills.new.operands
     c.args.words.now.bus c.args.next.now.formed.p c.read_operands-fills.ensures.value c.requires.bus c.requires.tick in
     all-noted c.args.timing.now.delays.now.list c.args.timing.now.levels c.args.self.now c.args.next.now.entry.now c.args.words.now.bus c.read_operands-fills.new.operands.bus c.args.next.now.formed.p
-    c.args.log.now c.read_operands-fills.new.log c.follow.new.log c.requires.bus (ap (λ (s : OperandReading). s.bus) reads) c.requires.tick c.read_operands-fills.ensures.log
+    c.args.log.now c.read_operands-fills.new.log c.follow.new.log c.requires.bus (ap (λ (s : Fetching). s.bus) reads) c.requires.tick c.read_operands-fills.ensures.log
     c.follow.ensures.log

@@ -5,6 +5,7 @@ use Rattle.st_rows.specs.declared.fetching.Fetching.{Fetching}
 use Rattle.st_rows.proofs.Within.{delays-are, past-weaker, bus-weaker, fetching-weaker}
 use Rattle.st_rows.proofs.Stages.{side-above, fetched-within, side-within}
 use Rattle.st_rows.proofs.front.Front.form.Goals as goal
+use Rattle.st_rows.specs.Words.{bus_sided, side_there}
 
 pub address-a-requires-clause-room : goal.address-a-requires-clause-room
 address-a-requires-clause-room c =
@@ -42,9 +43,9 @@ returns-clause-address c =
     ∙ ap (λ (s : Fetching). address_tick c.args.self.now c.args.entry.now s.answered s.awaited) c.requires.words
 
 pub returns-clause-bus : goal.returns-clause-bus
-unfolding tick_a bus_a
+unfolding tick_a bus_a bus_sided
 returns-clause-bus c = rw (c.side-y.ensures.after, c.address-a.ensures.value, c.requires.words) refl
 
 pub returns-clause-tick : goal.returns-clause-tick
-unfolding tick_a tick_y tick_p
+unfolding tick_a tick_y tick_p side_there
 returns-clause-tick c = rw (c.prepared_at-p.ensures, c.side-y.ensures.value, c.address-a.ensures.value, c.requires.words) refl
