@@ -5,7 +5,8 @@ use Rattle.st_object.proofs.AcceptedTexts.{accepted}
 use Rattle.st_object.proofs.FurtherLines.{grown}
 use Rattle.st_object.proofs.ReadBack.{read_back}
 use Rattle.st_object.proofs.BadLines.{bad_line, refused_there}
-use Rattle.st_object.specs.Laws.{LinesAreReadBack, AcceptedTextsAreWritten, LinesAreKept, WrittenTextsAreReadBack, RefusedTextsHaveABadLine}
+use Rattle.st_object.proofs.ReadingLemmas.{reading-is, reading-only}
+use Rattle.st_object.specs.Laws.{LinesAreReadBack, AcceptedTextsAreWritten, LinesAreKept, WrittenTextsAreReadBack, RefusedTextsHaveABadLine, TextsAreReadAsOne}
 
 pub lines_are_read_back : LinesAreReadBack
 lines_are_read_back = record {
@@ -31,3 +32,6 @@ refused_texts_have_a_bad_line = record {
   named = bad_line;
   only = refused_there;
 }
+
+pub texts_are_read_as_one : TextsAreReadAsOne
+texts_are_read_as_one = record { is = reading-is; one = reading-only }

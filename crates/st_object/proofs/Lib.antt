@@ -12,5 +12,6 @@ pub mod AcceptedTexts
 pub mod ProgramLines
 pub mod ReadBack
 pub mod BadLines
+pub mod ReadingLemmas
 pub mod Laws
 pub mod OtherDelays

@@ -6,7 +6,7 @@ use Rattle.std.proofs.lemmas.Bool.Decides.{nat_tests}
 use Rattle.st_text.specs.Tables.{row_of}
 use Rattle.st_card.specs.Written.{IsShort}
 use Rattle.st_object.specs.Lines.{line_text}
-use Rattle.st_object.specs.Meaning.{short_number, hex_digit_in, hex_after, line_keywords, item_behind, item_loosely, item_in}
+use Rattle.st_object.specs.Meaning.{short_number, hex_number, line_keywords, item_behind, item_loosely, item_in}
 use Rattle.st_object.specs.declared.items.Item.{Item}
 use Rattle.st_card.specs.declared.written.Control.TheVariants.{Snap}
 use Rattle.st_object.specs.declared.items.Item.TheVariants.{Word, Ask}
@@ -18,15 +18,14 @@ IsNarrow (Word w x) = x < 2 ^ 64
 IsNarrow (Ask (Snap t)) = IsShort t
 IsNarrow _ = Unit {0}
 
-hex_after-lt : (n : ℕ) (cs : List ℕ) → n < 2 ^ 64 → hex_after n cs < 2 ^ 64
-hex_after-lt n [] small = small
-hex_after-lt n (c ∷ cs) small = hex_after-lt (n % 2 ^ 60 * 16 + hex_digit_in c) cs (omega arith)
+narrow_hex : (cs : List ℕ) → hex_number cs % 2 ^ 64 < 2 ^ 64
+narrow_hex cs = omega arith
 
 number_short : (text : List ℕ) (n : ℕ) → short_number text ≡ Some n → IsShort n
 number_short text n same = grind (arith, nat_tests)
 
 behind_narrow : (kind : Kind) (text : List ℕ) (item : Item) → item_behind kind text ≡ Some item → IsNarrow item
-behind_narrow kind text item same = grind (arith, hex_after-lt, number_short)
+behind_narrow kind text item same = grind (arith, narrow_hex, number_short)
 
 item_narrow : (kind : Option Kind) (text : List ℕ) (item : Item) → option_and_then (λ k. item_behind k text) kind ≡ Some item → IsNarrow item
 item_narrow None text item same = cc

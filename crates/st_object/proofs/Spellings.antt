@@ -1,5 +1,5 @@
 -- What is spelled is read as the same item, and what is read is spelled so.
-use Rattle.std.proofs.Common.{◌≡◌, ◌<◌, ◌+◌, ◌*◌, ◌/◌, ◌%◌, ◌^◌, ◌==◌, ℕ, suc, zero, true, not, List, [], ◌∷◌, ◌++◌, Some, length, decimal, refl, ◌∙◌, arith, rules}
+use Rattle.std.proofs.Common.{◌≡◌, ◌<◌, ◌+◌, ◌*◌, ◌/◌, ◌%◌, ◌^◌, ◌==◌, ℕ, suc, zero, true, not, List, [], ◌∷◌, ◌++◌, Some, length, decimal, refl, sym, ◌∙◌, ap, length-append, arith, rules}
 use Rattle.std.specs.Char.{is_ascii_digit}
 use Rattle.std.specs.List.{list_all}
 use Rattle.std.specs.Cmp.Lexicographic.{other_text}
@@ -8,14 +8,14 @@ use Rattle.std.proofs.lemmas.Grind.{common_steps}
 use Rattle.std.proofs.lemmas.Str.Parse.{IsNumeralModel, numerals_by_fold}
 use Rattle.std.proofs.lemmas.Fmt.{digits_decimal, digits_value-decimal, decimal_nonempty}
 use Rattle.std.proofs.lemmas.List.Folds.{list_all-append}
-use Rattle.std.proofs.Math.Nat.{mod-eq_of_lt, pow-succ'}
+use Rattle.std.proofs.Math.Nat.{mod-eq_of_lt, pow-succ', add-mul}
 use Rattle.st_text.specs.Numerals.{hex_digit, hex_text, hex_word, half_address}
 use Rattle.st_text.specs.Number.{digits_value, value_after}
 use Rattle.st_text.specs.Pieces.{lacks}
 use Rattle.st_text.specs.Tables.{is_same}
 use Rattle.st_card.specs.Written.{IsShort, control_line}
 use Rattle.st_object.specs.Lines.{line_text}
-use Rattle.st_object.specs.Meaning.{parts_at, short_number, two_numbers, IsItem, hex_digit_in, hex_after, word_in, item_behind, item_loosely, item_in}
+use Rattle.st_object.specs.Meaning.{parts_at, short_number, two_numbers, IsItem, hex_digit_in, hex_number, word_in, item_behind, item_loosely, item_in}
 use Rattle.st_object.specs.declared.items.Item.{Item}
 use Rattle.st_object.specs.declared.items.Item.TheVariants.{Start, Word}
 use Rattle.st_object.specs.declared.items.Kind.TheVariants as kinds
@@ -56,22 +56,43 @@ lacks-hex at (suc k) x low = grind (arith, nat_tests, lacks-hex at k (x / 16), l
 digit_again : (d : ℕ) → d < 16 → hex_digit_in (hex_digit d) ≡ d
 digit_again d fits = grind (arith, nat_tests)
 
-hex_after-append : (n : ℕ) (xs ys : List ℕ) → hex_after n (xs ++ ys) ≡ hex_after (hex_after n xs) ys
-hex_after-append n [] ys = refl
-hex_after-append n (x ∷ xs) ys = hex_after-append (n % 2 ^ 60 * 16 + hex_digit_in x) xs ys
-
-last_digit : (q x : ℕ) → q ≡ x / 16 → x < 2 ^ 64 → q % 2 ^ 60 * 16 + hex_digit_in (hex_digit (x % 16)) ≡ x
-last_digit q x quotient small =
-    let whole : q % 2 ^ 60 ≡ q = mod-eq_of_lt (omega arith) in omega (arith, digit_again (x % 16) (omega arith), whole)
+-- one digit more behind others
+hex_number-last : (xs : List ℕ) (c : ℕ) → hex_number (xs ++ c ∷ []) ≡ hex_number xs * 16 + hex_digit_in c
+hex_number-last [] c = omega arith
+hex_number-last (x ∷ xs) c =
+    let more : 16 ^ suc (length xs) ≡ 16 * 16 ^ length xs = pow-succ' 16 (length xs) in
+    let one : length (xs ++ c ∷ []) ≡ suc (length xs) = omega (arith, length-append xs (c ∷ [])) in
+    ap (λ n. hex_digit_in x * 16 ^ n + hex_number (xs ++ c ∷ [])) one
+    ∙ ap (λ p. hex_digit_in x * p + hex_number (xs ++ c ∷ [])) more
+    ∙ omega (arith, hex_number-last xs c)
 
 -- a number is read from its hexadecimal digits
-hex_after-hex_text : (k x : ℕ) → x < 16 ^ k → x < 2 ^ 64 → hex_after 0 (hex_text k x) ≡ x
+hex_number-hex_text : (k x : ℕ) → x < 16 ^ k → hex_number (hex_text k x) ≡ x
 unfolding hex_text
-hex_after-hex_text zero x room small = let none : 16 ^ zero ≡ 1 = refl in omega (arith, none)
-hex_after-hex_text (suc k) x room small =
+hex_number-hex_text zero x room = let none : 16 ^ zero ≡ 1 = refl in omega (arith, none)
+hex_number-hex_text (suc k) x room =
     let more : 16 ^ suc k ≡ 16 * 16 ^ k = pow-succ' 16 k in
-    hex_after-append 0 (hex_text k (x / 16)) (hex_digit (x % 16) ∷ [])
-    ∙ last_digit _ x (hex_after-hex_text k (x / 16) (omega arith) (omega arith)) small
+    hex_number-last (hex_text k (x / 16)) (hex_digit (x % 16))
+    ∙ omega (arith, hex_number-hex_text k (x / 16) (omega arith), digit_again (x % 16) (omega arith))
+
+-- of the digits before another one only the last fifteen count
+hex_step : (n d p h : ℕ) → ((n % 2 ^ 60 * 16 + d) * p + h) % 2 ^ 64 ≡ (n * (16 * p) + (d * p + h)) % 2 ^ 64
+hex_step n d p h =
+    let split : n * (16 * p) ≡ 2 ^ 64 * (n / 2 ^ 60 * p) + 16 * (n % 2 ^ 60 * p) =
+    ap (λ m. m * (16 * p)) (omega arith) ∙ add-mul (2 ^ 60 * (n / 2 ^ 60)) (n % 2 ^ 60) (16 * p) ∙ omega arith in
+    omega (arith, split)
+
+-- what was read of a text, and its next digit
+pub digit_on : (text rest after : List ℕ) (n d c : ℕ) → rest ≡ c ∷ after → d ≡ hex_digit_in c
+    → (n * 16 ^ length rest + hex_number rest) % 2 ^ 64 ≡ hex_number text % 2 ^ 64
+    → ((n % 2 ^ 60 * 16 + d) * 16 ^ length after + hex_number after) % 2 ^ 64 ≡ hex_number text % 2 ^ 64
+digit_on text rest after n d c parts is same =
+    let more : 16 ^ suc (length after) ≡ 16 * 16 ^ length after = pow-succ' 16 (length after) in
+    hex_step n d (16 ^ length after) (hex_number after)
+    ∙ ap (λ p. (n * p + (d * 16 ^ length after + hex_number after)) % 2 ^ 64) (sym more)
+    ∙ ap (λ k. (n * 16 ^ suc (length after) + (k * 16 ^ length after + hex_number after)) % 2 ^ 64) is
+    ∙ ap (λ r. (n * 16 ^ length r + hex_number r) % 2 ^ 64) (sym parts)
+    ∙ same
 
 -- a text is the same as itself
 is_same-refl : (s : List ℕ) → is_same s s ≡ true
@@ -82,7 +103,7 @@ both_numbers at a b low short_a short_b = grind (arith, common_steps, parts_arou
 
 word_again : (w x : ℕ) → IsShort w → x < 2 ^ 64 → word_in (decimal w ++ 32 ∷ [] ++ hex_word x) ≡ Some (Word w x)
 word_again w x short small =
-    let whole = hex_after-hex_text 16 x (omega arith) small in grind (arith, common_steps, parts_around, lacks-decimal, short_small, short_number-decimal)
+    let whole : hex_number (hex_word x) % 2 ^ 64 ≡ x = ap (λ n. n % 2 ^ 64) (hex_number-hex_text 16 x (omega arith)) ∙ mod-eq_of_lt small in grind (arith, common_steps, parts_around, lacks-decimal, short_small, short_number-decimal)
 
 start_again : (h : ℕ) → IsShort (h / 2) → item_behind kinds.Start (half_address h) ≡ Some (Start h)
 start_again h short =

@@ -1,9 +1,9 @@
 -- What holds of object texts themselves, and not of one call.
-use Rattle.std.specs.Prelude.{◌≡◌, ℕ, List, [], ◌∷◌, ◌++◌, Some, Ok, Err}
+use Rattle.std.specs.Prelude.{◌≡◌, ℕ, List, [], ◌∷◌, ◌++◌, Some, Result, Ok, Err}
 use Rattle.st_object.specs.Lines.{line_text}
 use Rattle.st_object.specs.Draft.{Draft, with_item, lines_read}
 use Rattle.st_object.specs.Meaning.{item_in, IsItem}
-use Rattle.st_object.specs.Object.{Program, IsProgram, AreWords, IsBadLine, object_text, read_text}
+use Rattle.st_object.specs.Object.{Program, IsProgram, AreWords, IsBadLine, IsReading, object_text, read_text}
 use Rattle.st_object.specs.declared.items.Item.{Item}
 
 -- A line is read as the item that it spells, and as no other.
@@ -33,3 +33,9 @@ WrittenTextsAreReadBack = (p : Program) → IsProgram p → AreWords p.words →
 pub record RefusedTextsHaveABadLine : Type 0 where
   pub named : (text : List ℕ) (n : ℕ) → read_text text ≡ Err n → IsBadLine text n
   pub only : (text : List ℕ) (n : ℕ) → IsBadLine text n → read_text text ≡ Err n
+
+-- Each text is read as one thing, and as nothing else: the program of which it is the object text,
+-- or else its bad line.
+pub record TextsAreReadAsOne : Type 0 where
+  pub is : (text : List ℕ) → IsReading text (read_text text)
+  pub one : (text : List ℕ) (r : Result Program ℕ) → IsReading text r → read_text text ≡ r

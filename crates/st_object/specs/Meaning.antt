@@ -1,5 +1,5 @@
 -- What a line of an object text means.
-use Rattle.std.specs.Prelude.{ℕ, ◌<◌, ◌+◌, ◌*◌, ◌/◌, ◌%◌, ◌^◌, ◌==◌, nat_lt, List, [], ◌∷◌, codes, Option, Some, None, if◌then◌else◌}
+use Rattle.std.specs.Prelude.{ℕ, ◌<◌, ◌+◌, ◌*◌, ◌/◌, ◌%◌, ◌^◌, ◌==◌, nat_lt, List, [], ◌∷◌, length, codes, Option, Some, None, if◌then◌else◌}
 use Rattle.std.specs.Option.{option_map, option_and_then, option_zip}
 use Rattle.st_card.specs.Written.{IsShort, IsShortControl}
 use Rattle.st_card.specs.declared.limits.TheConstants.{MOST_NUMBER}
@@ -33,15 +33,16 @@ two_numbers at text = option_and_then (λ p. option_zip (short_number p.0) (shor
 abbrev pub hex_digit_in : ℕ → ℕ
 hex_digit_in c = (if nat_lt c letter_a then c else c + 9) % 16
 
--- the number that the last sixteen hexadecimal digits are
-abbrev pub hex_after : ℕ → List ℕ → ℕ
-hex_after n [] = n
-hex_after n (c ∷ cs) = hex_after (n % 2 ^ 60 * 16 + hex_digit_in c) cs
+-- the number that hexadecimal digits are
+abbrev pub hex_number : List ℕ → ℕ
+hex_number [] = 0
+hex_number (c ∷ cs) = hex_digit_in c * 16 ^ length cs + hex_number cs
 
--- a word of storage: its address and what it holds
+-- a word of storage: its address, and the 64 bits that it holds
 abbrev pub word_in : List ℕ → Option Item
 word_in text = option_and_then
-    (λ p. option_map (λ w. Word w (hex_after 0 p.1)) (short_number p.0)) (parts_at blank text)
+    (λ p. option_map (λ w. Word w (hex_number p.1 % 2 ^ 64)) (short_number p.0))
+    (parts_at blank text)
 
 -- the first words of lines
 abbrev pub line_keywords : List (List ℕ × Kind)

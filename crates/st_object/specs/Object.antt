@@ -109,3 +109,8 @@ pub record IsBadLine (text : List ℕ) (n : ℕ) : Type 0 where
   pub counted : (1 ≤ n) × (n ≤ length (text_lines text) + 1)
   pub good_before : BeginsObjectText (first_lines (n - 1) text)
   pub bad : n ≤ length (text_lines text) → BeginsObjectText (first_lines n text) → ⊥
+
+-- what an object text is read as: the program of which it is the text, or the number of its bad line
+abbrev pub IsReading : List ℕ → Result Program ℕ → Type 0
+IsReading text (Ok p) = IsProgram p × AreWords p.words × (text ≡ object_text p)
+IsReading text (Err n) = IsBadLine text n

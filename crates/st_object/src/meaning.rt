@@ -1,6 +1,6 @@
 //! What the lines of an object text mean.
 
-ghost use Rattle.std.specs.Prelude.{◌≡◌, ◌≤◌, ◌<◌, IfSome};
+ghost use Rattle.std.specs.Prelude.{◌≡◌, ◌≤◌, ◌<◌, ◌%◌, ◌^◌, IfSome};
 ghost use Rattle.std.specs.Option.{option_map};
 ghost use Rattle.st_card.specs.declared.limits.TheConstants.{MOST_NUMBER};
 ghost use Rattle.st_text.specs.Bytes.{blank};
@@ -62,9 +62,9 @@ fn hex_digit_in(c: u8) -> u8
     if c < b'A' { c % 16 } else { (c % 16 + 9) % 16 }
 }
 
-// The number that the last sixteen hexadecimal digits are.
+// The number that hexadecimal digits are, the last sixteen of them.
 fn hex_in(text: &[u8]) -> u64
-    ensures { result ≡ spec.hex_after 0 text.now }
+    ensures { result ≡ spec.hex_number text.now % 2 ^ 64 }
 {
     let mut number = 0;
     let mut rest = text;

@@ -9,7 +9,7 @@ use Rattle.st_prep.specs.EarlyChange.{effective, side}
 use Rattle.st_prep.specs.Entry.{no_words, field_words, operand_words, words_moved_from, reads_field, reads}
 use Rattle.st_prep.specs.Checks.{effective_instr}
 use Rattle.st_prep.specs.Fetch.{index_words, place_of}
-use Rattle.st_prep.specs.Plan.{Sight, aim_at, aim, fault_of_checks, needs_by, needs, suppressed_entry, entry_at, prepared_by, prepared_entry, sight, side_word, plan}
+use Rattle.st_prep.specs.Plan.{Sight, aim_at, aim, needs_by, needs, suppressed_entry, entry_at, prepared_by, prepared_entry, sight, side_word, plan}
 use Rattle.st_prep.specs.Ranges.{HasFields}
 use Rattle.st_prep.specs.Reading.{words_read as instruction_words, reading_at_place, index_side_words}
 use Rattle.st_prep.proofs.Choices.{of_choice}
@@ -72,7 +72,7 @@ few-by_fault (Some i) s r k = omega arith
 few-prepared : (s : Sight) (r : Option ℕ) → IsSight s
     → (prepared_entry s r).reads.len + (prepared_entry s r).reads.len2 + index_side_words (needs s).index_read ≤ 32
 unfolding prepared_entry needs aim
-few-prepared s r k = few-by_fault (fault_of_checks s) s r k
+few-prepared s r k = few-by_fault (aim s).fault s r k
 
 -- an entry of a state reads 36 words at most
 pub few-plan : (s : Machine) (t : Option ℕ) → IsMachine s → IfSome t (λ i. i < 64)

@@ -1,7 +1,7 @@
 -- What holds of each prepared entry, of whatever is seen.
-use Rattle.std.proofs.Common.{◌≡◌, ℕ, ◌^◌, ◌<◌, ◌≤◌, Bool, true, false, ◌||◌, List, not, get_or, Option, None, Some, is_some, refl, sym, subst, ◌∙◌, ap, arith}
+use Rattle.std.proofs.Common.{◌≡◌, ℕ, ◌^◌, ◌<◌, ◌≤◌, Bool, true, false, ◌||◌, List, get_or, if◌then◌else◌, Option, None, Some, is_some, refl, sym, subst, ◌∙◌, ap, arith}
 use Rattle.std.specs.Prelude.{IfSome, unwrap_or}
-use Rattle.std.proofs.lemmas.Bool.{not-false, ltb-false}
+use Rattle.std.proofs.lemmas.Bool.{ltb-false}
 use Rattle.st_bits.specs.Storage.{words_of_storage}
 use Rattle.st_format.specs.declared.instruction.Instr.{Instr}
 use Rattle.st_format.specs.declared.instruction.Decoded.{Decoded}
@@ -15,11 +15,11 @@ use Rattle.st_prep.specs.declared.entries.Prepared.{Prepared}
 use Rattle.st_prep.specs.EarlyChange.{effective}
 use Rattle.st_prep.specs.Entry.{reads, words_written, counter_behind, acts_alone, has_register, is_register}
 use Rattle.st_prep.specs.Reading.{is_execute}
-use Rattle.st_prep.specs.Checks.{effective_instr, forbidden_side, forbidden_words, forbidden_area, operation_fault, operation_invalid, fault}
-use Rattle.st_prep.specs.Plan.{Sight, is_alone, aim_at, aim, is_serial, fault_of_checks, needs_by, needs, suppressed_entry, entry_at, prepared_by, prepared_entry}
+use Rattle.st_prep.specs.Checks.{effective_instr, forbidden_side, forbidden_words, forbidden_area, operation_invalid, execute_exception, fault}
+use Rattle.st_prep.specs.Plan.{Sight, is_alone, aim_at, aim, is_serial, needs_by, needs, suppressed_entry, entry_at, prepared_by, prepared_entry}
 use Rattle.st_prep.specs.Ranges.{HasFields, IsPlace, IsFetched, IsPrepared, IsNeeds}
 use Rattle.st_format.proofs.Spelled.{or-left, or-right}
-use Rattle.st_prep.proofs.Choices.{none-left, none-right, test-none}
+use Rattle.st_prep.proofs.Choices.{none-left, none-right}
 use Rattle.st_prep.proofs.AddressBounds.{effective-below}
 use Rattle.st_prep.proofs.RunLemmas.{is_runs-none, is_runs-reads, is_runs-writes, allowed-inside, words-inside, none-inside, area-inside, words-above, none-above}
 use Rattle.st_prep.proofs.ChangeLemmas.{change-fits}
@@ -42,7 +42,7 @@ executed-shape f h = of_target f.target f.instr h.own h.target
 
 -- an entry that passes all checks
 record Passes (a : Aim) (b : ℕ) (en : Bool) : Type 0 where
-  operation : operation_fault a.instr ≡ None
+  operation : operation_invalid a.instr ≡ None
   side : forbidden_side b en a.side ≡ None
   reads : forbidden_words b en Read a.reads ≡ None
   writes : forbidden_words b en Write a.writes ≡ None
@@ -52,20 +52,25 @@ passes : (a : Aim) (b : ℕ) (en : Bool) → fault a b en ≡ None → Passes a 
 unfolding fault
 passes a b en h =
     let past_fetch = none-right a.fault _ h in
-    let past_operation = none-right (operation_fault a.instr) _ past_fetch in
-    let past_side = none-right (forbidden_side b en a.side) _ past_operation in
+    let past_operation = none-right (operation_invalid a.instr) _ past_fetch in
+    let past_execute = none-right (execute_exception a.instr) _ past_operation in
+    let past_side = none-right (forbidden_side b en a.side) _ past_execute in
     let past_reads = none-right (forbidden_words b en Read a.reads) _ past_side in
     record {
       operation = none-left _ _ past_fetch;
-      side = none-left _ _ past_operation;
+      side = none-left _ _ past_execute;
       reads = none-left _ _ past_side;
       writes = none-left _ _ past_reads;
       area = none-right (forbidden_words b en Write a.writes) _ past_reads;
     }
 
-valid : (instr : Instr) → operation_fault instr ≡ None → is_valid instr ≡ true
-unfolding operation_fault
-valid instr h = not-false (is_valid instr) (test-none (not (is_valid instr)) operation_invalid _ h)
+of_test : (is : Bool) (i : ℕ) → (if is then None else Some i) ≡ None → is ≡ true
+of_test true i h = refl
+of_test false i h = cc
+
+valid : (instr : Instr) → operation_invalid instr ≡ None → is_valid instr ≡ true
+unfolding operation_invalid
+valid instr h = of_test (is_valid instr) _ h
 
 -- ---- entries that are not done alone
 
@@ -167,11 +172,11 @@ suppressed-prepared s i k = record {
   };
 }
 
-passes_by : (s : Sight) → fault_of_checks s ≡ None → Passes (aim_at s.place s.fetched s.x) s.bounds s.enabled
-unfolding fault_of_checks
+passes_by : (s : Sight) → (aim s).fault ≡ None → Passes (aim_at s.place s.fetched s.x) s.bounds s.enabled
+unfolding aim
 passes_by s h = passes (aim_at s.place s.fetched s.x) s.bounds s.enabled h
 
-by_fault : (f : Option ℕ) (s : Sight) (r : Option ℕ) → fault_of_checks s ≡ f → IsSight s → IfSome r (λ w. w < 2 ^ 64)
+by_fault : (f : Option ℕ) (s : Sight) (r : Option ℕ) → (aim s).fault ≡ f → IsSight s → IfSome r (λ w. w < 2 ^ 64)
     → IsPrepared (prepared_by f s.place (aim s) s.x r)
 by_fault None s r e k some = entry-prepared s r k some (passes_by s e)
 by_fault (Some i) s r e k some = suppressed-prepared s i k
@@ -179,7 +184,7 @@ by_fault (Some i) s r e k some = suppressed-prepared s i k
 -- whatever is prepared is in its ranges
 pub is_prepared : (s : Sight) (r : Option ℕ) → IsSight s → IfSome r (λ w. w < 2 ^ 64) → IsPrepared (prepared_entry s r)
 unfolding prepared_entry aim
-is_prepared s r k some = by_fault (fault_of_checks s) s r refl k some
+is_prepared s r k some = by_fault (aim s).fault s r refl k some
 
 -- ---- needs
 
@@ -188,7 +193,7 @@ unfolding forbidden_side
 allowed_side b en None h = tt
 allowed_side b en (Some n) h = allowed-inside b en Read n h
 
-needs_by_fault : (f : Option ℕ) (s : Sight) → fault_of_checks s ≡ f → IsNeeds (needs_by f (aim s))
+needs_by_fault : (f : Option ℕ) (s : Sight) → (aim s).fault ≡ f → IsNeeds (needs_by f (aim s))
 unfolding aim aim_at
 needs_by_fault None s e = record {
   inside = allowed_side s.bounds s.enabled _ (passes_by s e).side;
@@ -199,7 +204,7 @@ needs_by_fault (Some i) s e = record { inside = tt; above = λ _. tt }
 -- whatever is needed is a word of storage
 pub is_needs : (s : Sight) → IsNeeds (needs s)
 unfolding needs aim
-is_needs s = needs_by_fault (fault_of_checks s) s refl
+is_needs s = needs_by_fault (aim s).fault s refl
 
 same_by_fault : (f : Option ℕ) (p : Place) (a : Aim) (x : List ℕ) (r : Option ℕ)
     → (prepared_by f p a x r).serial ≡ (needs_by f a).serial

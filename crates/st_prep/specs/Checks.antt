@@ -1,5 +1,5 @@
 -- The checks before an instruction is executed: the first that fails suppresses it.
-use Rattle.std.specs.Prelude.{ℕ, zero, suc, ◌+◌, ◌/◌, Bool, true, false, not, nat_lt, if◌then◌else◌, Option, None, Some, unwrap_or}
+use Rattle.std.specs.Prelude.{ℕ, zero, suc, ◌+◌, ◌/◌, Bool, true, false, nat_lt, if◌then◌else◌, List, [], ◌∷◌, Option, None, Some, unwrap_or}
 use Rattle.std.specs.Option.{option_or}
 use Rattle.st_bits.specs.declared.register.TheConstants.{FIRST_STORAGE_WORD}
 use Rattle.st_bits.specs.declared.indicators.TheConstants.{OPERATION_INVALID, EXECUTE_EXCEPTION}
@@ -50,27 +50,28 @@ forbidden_area bounds enabled _ e = None
 -- ---- the checks
 
 -- the machine does not have the instruction
-abbrev pub operation_invalid : ℕ
-operation_invalid = OPERATION_INVALID
+unfoldable pub operation_invalid : Instr → Option ℕ
+operation_invalid instr = if is_valid instr then None else Some OPERATION_INVALID
 
 -- EX points to EX
-abbrev pub execute_exception : ℕ
-execute_exception = EXECUTE_EXCEPTION
+unfoldable pub execute_exception : Instr → Option ℕ
+execute_exception instr = if is_execute instr then Some EXECUTE_EXCEPTION else None
 
-unfoldable pub operation_fault : Instr → Option ℕ
-operation_fault instr =
-    if not (is_valid instr) then Some operation_invalid
-    else if is_execute instr then Some execute_exception
-    else None
+-- what the first check finds that finds something
+abbrev pub first_found : List (Option ℕ) → Option ℕ
+first_found [] = None
+first_found (check ∷ []) = check
+first_found (check ∷ next ∷ checks) = option_or check (first_found (next ∷ checks))
 
 -- the indicator of the first check that fails: the instruction's words and those of the target of
 -- EX, the operation, EX of EX, the index-side word, each word read, each word written, the area of
 -- an order (which reads and writes no other words)
 unfoldable pub fault : Aim → ℕ → Bool → Option ℕ
-fault a bounds enabled =
-    option_or a.fault
-    (option_or (operation_fault a.instr)
-    (option_or (forbidden_side bounds enabled a.side)
-    (option_or (forbidden_words bounds enabled Read a.reads)
-    (option_or (forbidden_words bounds enabled Write a.writes)
-    (forbidden_area bounds enabled a.instr a.e)))))
+fault a bounds enabled = first_found
+    (a.fault
+    ∷ operation_invalid a.instr
+    ∷ execute_exception a.instr
+    ∷ forbidden_side bounds enabled a.side
+    ∷ forbidden_words bounds enabled Read a.reads
+    ∷ forbidden_words bounds enabled Write a.writes
+    ∷ forbidden_area bounds enabled a.instr a.e ∷ [])

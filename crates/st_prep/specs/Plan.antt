@@ -56,13 +56,10 @@ aim_at place f x =
       alone = is_alone place f;
     }
 
--- the indicator of the first check that fails
-unfoldable pub fault_of_checks : Sight → Option ℕ
-fault_of_checks s = fault (aim_at s.place s.fetched s.x) s.bounds s.enabled
-
 -- what it is aimed at, and the first check that it fails
 unfoldable pub aim : Sight → Aim
-aim s = record (aim_at s.place s.fetched s.x) { fault = fault_of_checks s }
+aim s =
+    let a = aim_at s.place s.fetched s.x in record a { fault = fault a s.bounds s.enabled }
 
 -- an entry is done alone where its operation says so, and where a register is among its words
 unfoldable pub is_serial : Aim → Bool

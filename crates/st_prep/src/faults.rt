@@ -1,11 +1,12 @@
 //! The checks before an instruction is executed.
 ghost use Rattle.std.specs.Prelude.{◌≡◌, ◌<◌, ◌^◌};
+ghost use Rattle.std.specs.Option.{option_or};
 ghost use Rattle.st_bits.specs.Indicators.{IsIndicatorIfAny};
 ghost use Rattle.st_state.specs.Machine.{word, word as word_of};
 ghost use Rattle.st_prep.specs.Ranges.{HasFields, IsAim, IsFetched, IsRuns};
 ghost use Rattle.st_bits.specs.declared.register.TheConstants.{BOUNDS};
 ghost use Rattle.st_state.specs.Boundary.{indicator_of_access};
-ghost use Rattle.st_prep.specs.Checks.{effective_instr as effective_instr_of, forbidden_run as forbidden_run_of, forbidden_words as forbidden_words_of, forbidden_side as forbidden_side_of, forbidden_area as forbidden_area_of, area_access as area_access_of, operation_fault as operation_fault_of, fault as fault_of};
+ghost use Rattle.st_prep.specs.Checks.{effective_instr as effective_instr_of, forbidden_run as forbidden_run_of, forbidden_words as forbidden_words_of, forbidden_side as forbidden_side_of, forbidden_area as forbidden_area_of, area_access as area_access_of, operation_invalid, execute_exception, fault as fault_of};
 
 use crate::entries::{Aim, Fetched, Words};
 use crate::fetching::is_execute;
@@ -111,9 +112,9 @@ fn area_access(write: bool) -> Access
 
 // The indicator of an operation that cannot be executed.
 #[inline(always)]
-#[tactic(auto, unfolding(crate::specs::Checks::operation_fault))]
+#[tactic(auto, unfolding(crate::specs::Checks::operation_invalid, crate::specs::Checks::execute_exception))]
 fn operation_fault(instr: &Instr) -> Option<u8>
-    ensures value { result ≡ operation_fault_of instr.now }
+    ensures value { result ≡ option_or (operation_invalid instr.now) (execute_exception instr.now) }
     ensures bound { IsIndicatorIfAny result }
 {
     if !instr.is_valid() {
