@@ -1,76 +1,23 @@
 -- The words by which instructions name their operations.
 use Rattle.std.specs.Prelude.{ℕ, ◌/◌, ◌%◌, ◌==◌, Bool, List, [], ◌∷◌, ◌++◌, codes, slice_index_or, if◌then◌else◌}
 use Rattle.st_bits.specs.declared.operations.HalfOp.{HalfOp}
-use Rattle.st_bits.specs.declared.operations.HalfOp.TheVariants.{Lx, Lv, Lc, Lr, Sx, Sv, Sc, Sr, Sva, VPlus, VPlusC, Kv, Lvs, Lvi, Lci, Lri, VPlusI, VMinusI, VPlusIC, VPlusICR, Kvi, Kc, Kci, Cb, Cbr, R, Ex}
 use Rattle.st_bits.specs.declared.operations.BranchOp.{BranchOp}
-use Rattle.st_bits.specs.declared.operations.BranchOp.TheVariants.{B, Br, Be, Bd, Bew, Nop}
 use Rattle.st_bits.specs.declared.operations.VflOp.{VflOp}
-use Rattle.st_bits.specs.declared.operations.VflOp.TheVariants.{L, Lwf, Ltrs, Lft, St, Add, AddMg, MAdd, MAddMg, MAdd1, K, Kf, Ke, Kfe, Kr, Kfr, Mul, MulAdd, Div, Lcv}
 use Rattle.st_bits.specs.declared.operations.ConnKind.{ConnKind}
-use Rattle.st_bits.specs.declared.operations.ConnKind.TheVariants.{C, Cm, Ct}
+use Rattle.st_format.specs.Operations.{half_row, branch_row, vfl_row, conn_row}
 use Rattle.st_text.specs.Numerals.{flag}
 
 -- operations of the half-word format
 abbrev pub half_name : HalfOp → List ℕ
-half_name Lx = codes "LX"
-half_name Lv = codes "LV"
-half_name Lc = codes "LC"
-half_name Lr = codes "LR"
-half_name Sx = codes "SX"
-half_name Sv = codes "SV"
-half_name Sc = codes "SC"
-half_name Sr = codes "SR"
-half_name Sva = codes "SVA"
-half_name VPlus = codes "V+"
-half_name VPlusC = codes "V+C"
-half_name Kv = codes "KV"
-half_name Lvs = codes "LVS"
-half_name Lvi = codes "LVI"
-half_name Lci = codes "LCI"
-half_name Lri = codes "LRI"
-half_name VPlusI = codes "V+I"
-half_name VMinusI = codes "V-I"
-half_name VPlusIC = codes "V+IC"
-half_name VPlusICR = codes "V+ICR"
-half_name Kvi = codes "KVI"
-half_name Kc = codes "KC"
-half_name Kci = codes "KCI"
-half_name Cb = codes "CB"
-half_name Cbr = codes "CBR"
-half_name R = codes "R"
-half_name Ex = codes "EX"
+half_name op = (half_row op).word
 
 -- branches
 abbrev pub branch_name : BranchOp → List ℕ
-branch_name B = codes "B"
-branch_name Br = codes "BR"
-branch_name Be = codes "BE"
-branch_name Bd = codes "BD"
-branch_name Bew = codes "BEW"
-branch_name Nop = codes "NOP"
+branch_name op = (branch_row op).word
 
 -- operations on a field
 abbrev pub field_name : VflOp → List ℕ
-field_name L = codes "L"
-field_name Lwf = codes "LWF"
-field_name Ltrs = codes "LTRS"
-field_name Lft = codes "LFT"
-field_name St = codes "ST"
-field_name Add = codes "+"
-field_name AddMg = codes "+MG"
-field_name MAdd = codes "M+"
-field_name MAddMg = codes "M+MG"
-field_name MAdd1 = codes "M+1"
-field_name K = codes "K"
-field_name Kf = codes "KF"
-field_name Ke = codes "KE"
-field_name Kfe = codes "KFE"
-field_name Kr = codes "KR"
-field_name Kfr = codes "KFR"
-field_name Mul = codes "*"
-field_name MulAdd = codes "*+"
-field_name Div = codes "/"
-field_name Lcv = codes "LCV"
+field_name op = (vfl_row op).word
 
 -- the last letter of a negated operation
 abbrev pub negation : Bool → List ℕ
@@ -78,9 +25,7 @@ negation negated = if negated then codes "N" else []
 
 -- connectives
 abbrev pub kind_name : ConnKind → List ℕ
-kind_name C = codes "C"
-kind_name Cm = codes "CM"
-kind_name Ct = codes "CT"
+kind_name op = (conn_row op).word
 
 -- a truth table: the results for 00, 01, 10 and 11
 abbrev pub truth_digits : ℕ → List ℕ

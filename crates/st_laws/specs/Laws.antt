@@ -70,54 +70,59 @@ pub record RegistersInFigures : Type 0 where
   pub first_index_word : FIRST_INDEX_WORD ≡ 16
   pub first_storage_word : FIRST_STORAGE_WORD ≡ 32
 
--- numbers of indicators
+-- the symbol that stands for the bit of an indicator
+abbrev pub IsSymbol : ℕ → List ℕ → Type 0
+IsSymbol number symbol = row_of symbol system_symbols ≡ Some (64 * INDICATORS + number)
+
+-- numbers and symbols of the indicators
 pub record IndicatorsInFigures : Type 0 where
-  pub machine_check : MACHINE_CHECK ≡ 0
-  pub instruction_check : INSTRUCTION_CHECK ≡ 1
-  pub instruction_reject : INSTRUCTION_REJECT ≡ 2
-  pub exchange_control_check : EXCHANGE_CONTROL_CHECK ≡ 3
-  pub time_signal : TIME_SIGNAL ≡ 4
-  pub processor_signal : PROCESSOR_SIGNAL ≡ 5
-  pub exchange_check_reject : EXCHANGE_CHECK_REJECT ≡ 6
-  pub unit_not_ready_reject : UNIT_NOT_READY_REJECT ≡ 7
-  pub channel_busy_reject : CHANNEL_BUSY_REJECT ≡ 8
-  pub exchange_program_check : EXCHANGE_PROGRAM_CHECK ≡ 9
-  pub unit_check : UNIT_CHECK ≡ 10
-  pub end_exception : END_EXCEPTION ≡ 11
-  pub end_of_operation : END_OF_OPERATION ≡ 12
-  pub channel_signal : CHANNEL_SIGNAL ≡ 13
-  pub operation_invalid : OPERATION_INVALID ≡ 15
-  pub address_invalid : ADDRESS_INVALID ≡ 16
-  pub unended_sequence : UNENDED_SEQUENCE ≡ 17
-  pub execute_exception : EXECUTE_EXCEPTION ≡ 18
-  pub data_store : DATA_STORE ≡ 19
-  pub data_fetch : DATA_FETCH ≡ 20
-  pub instruction_fetch : INSTRUCTION_FETCH ≡ 21
-  pub lost_carry : LOST_CARRY ≡ 22
-  pub partial_field : PARTIAL_FIELD ≡ 23
-  pub zero_divisor : ZERO_DIVISOR ≡ 24
-  pub flag_t : FLAG_T ≡ 35
-  pub flag_u : FLAG_U ≡ 36
-  pub flag_v : FLAG_V ≡ 37
-  pub index_flag : INDEX_FLAG ≡ 38
-  pub binary_transit : BINARY_TRANSIT ≡ 39
-  pub decimal_transit : DECIMAL_TRANSIT ≡ 40
-  pub first_program_indicator : FIRST_PROGRAM_INDICATOR ≡ 41
-  pub index_count_zero : INDEX_COUNT_ZERO ≡ 48
-  pub index_value_less : INDEX_VALUE_LESS ≡ 49
-  pub index_value_zero : INDEX_VALUE_ZERO ≡ 50
-  pub index_value_greater : INDEX_VALUE_GREATER ≡ 51
-  pub index_low : INDEX_LOW ≡ 52
-  pub index_equal : INDEX_EQUAL ≡ 53
-  pub index_high : INDEX_HIGH ≡ 54
-  pub to_memory_operation : TO_MEMORY_OPERATION ≡ 55
-  pub result_less : RESULT_LESS ≡ 56
-  pub result_zero : RESULT_ZERO ≡ 57
-  pub result_greater : RESULT_GREATER ≡ 58
-  pub result_negative : RESULT_NEGATIVE ≡ 59
-  pub accumulator_low : ACCUMULATOR_LOW ≡ 60
-  pub accumulator_equal : ACCUMULATOR_EQUAL ≡ 61
-  pub accumulator_high : ACCUMULATOR_HIGH ≡ 62
+  pub machine_check : (MACHINE_CHECK ≡ 0) × IsSymbol MACHINE_CHECK (codes "$MK")
+  pub instruction_check : (INSTRUCTION_CHECK ≡ 1) × IsSymbol INSTRUCTION_CHECK (codes "$IK")
+  pub instruction_reject : (INSTRUCTION_REJECT ≡ 2) × IsSymbol INSTRUCTION_REJECT (codes "$IJ")
+  pub exchange_control_check : (EXCHANGE_CONTROL_CHECK ≡ 3) × IsSymbol EXCHANGE_CONTROL_CHECK (codes "$EK")
+  pub time_signal : (TIME_SIGNAL ≡ 4) × IsSymbol TIME_SIGNAL (codes "$TS")
+  pub processor_signal : (PROCESSOR_SIGNAL ≡ 5) × IsSymbol PROCESSOR_SIGNAL (codes "$CPUS")
+  pub exchange_check_reject : (EXCHANGE_CHECK_REJECT ≡ 6) × IsSymbol EXCHANGE_CHECK_REJECT (codes "$EKJ")
+  pub unit_not_ready_reject : (UNIT_NOT_READY_REJECT ≡ 7) × IsSymbol UNIT_NOT_READY_REJECT (codes "$UNRJ")
+  pub channel_busy_reject : (CHANNEL_BUSY_REJECT ≡ 8) × IsSymbol CHANNEL_BUSY_REJECT (codes "$CBJ")
+  pub exchange_program_check : (EXCHANGE_PROGRAM_CHECK ≡ 9) × IsSymbol EXCHANGE_PROGRAM_CHECK (codes "$EPGK")
+  pub unit_check : (UNIT_CHECK ≡ 10) × IsSymbol UNIT_CHECK (codes "$UK")
+  pub end_exception : (END_EXCEPTION ≡ 11) × IsSymbol END_EXCEPTION (codes "$EE")
+  pub end_of_operation : (END_OF_OPERATION ≡ 12) × IsSymbol END_OF_OPERATION (codes "$EOP")
+  pub channel_signal : (CHANNEL_SIGNAL ≡ 13) × IsSymbol CHANNEL_SIGNAL (codes "$CS")
+  pub operation_invalid : (OPERATION_INVALID ≡ 15) × IsSymbol OPERATION_INVALID (codes "$OP")
+  pub address_invalid : (ADDRESS_INVALID ≡ 16) × IsSymbol ADDRESS_INVALID (codes "$AD")
+  pub unended_sequence : (UNENDED_SEQUENCE ≡ 17) × IsSymbol UNENDED_SEQUENCE (codes "$USA")
+  pub execute_exception : (EXECUTE_EXCEPTION ≡ 18) × IsSymbol EXECUTE_EXCEPTION (codes "$EXE")
+  pub data_store : (DATA_STORE ≡ 19) × IsSymbol DATA_STORE (codes "$DS")
+  pub data_fetch : (DATA_FETCH ≡ 20) × IsSymbol DATA_FETCH (codes "$DF")
+  pub instruction_fetch : (INSTRUCTION_FETCH ≡ 21) × IsSymbol INSTRUCTION_FETCH (codes "$IF")
+  pub lost_carry : (LOST_CARRY ≡ 22) × IsSymbol LOST_CARRY (codes "$LC")
+  pub partial_field : (PARTIAL_FIELD ≡ 23) × IsSymbol PARTIAL_FIELD (codes "$PF")
+  pub zero_divisor : (ZERO_DIVISOR ≡ 24) × IsSymbol ZERO_DIVISOR (codes "$ZD")
+  pub flag_t : (FLAG_T ≡ 35) × IsSymbol FLAG_T (codes "$TF")
+  pub flag_u : (FLAG_U ≡ 36) × IsSymbol FLAG_U (codes "$UF")
+  pub flag_v : (FLAG_V ≡ 37) × IsSymbol FLAG_V (codes "$VF")
+  pub index_flag : (INDEX_FLAG ≡ 38) × IsSymbol INDEX_FLAG (codes "$XF")
+  pub binary_transit : (BINARY_TRANSIT ≡ 39) × IsSymbol BINARY_TRANSIT (codes "$BTR")
+  pub decimal_transit : (DECIMAL_TRANSIT ≡ 40) × IsSymbol DECIMAL_TRANSIT (codes "$DTR")
+  pub first_program_indicator : (FIRST_PROGRAM_INDICATOR ≡ 41) × IsSymbol FIRST_PROGRAM_INDICATOR (codes "$PG0")
+  pub last_program_indicator : IsSymbol (FIRST_PROGRAM_INDICATOR + 6) (codes "$PG6")
+  pub index_count_zero : (INDEX_COUNT_ZERO ≡ 48) × IsSymbol INDEX_COUNT_ZERO (codes "$XCZ")
+  pub index_value_less : (INDEX_VALUE_LESS ≡ 49) × IsSymbol INDEX_VALUE_LESS (codes "$XVLZ")
+  pub index_value_zero : (INDEX_VALUE_ZERO ≡ 50) × IsSymbol INDEX_VALUE_ZERO (codes "$XVZ")
+  pub index_value_greater : (INDEX_VALUE_GREATER ≡ 51) × IsSymbol INDEX_VALUE_GREATER (codes "$XVGZ")
+  pub index_low : (INDEX_LOW ≡ 52) × IsSymbol INDEX_LOW (codes "$XL")
+  pub index_equal : (INDEX_EQUAL ≡ 53) × IsSymbol INDEX_EQUAL (codes "$XE")
+  pub index_high : (INDEX_HIGH ≡ 54) × IsSymbol INDEX_HIGH (codes "$XH")
+  pub to_memory_operation : (TO_MEMORY_OPERATION ≡ 55) × IsSymbol TO_MEMORY_OPERATION (codes "$MOP")
+  pub result_less : (RESULT_LESS ≡ 56) × IsSymbol RESULT_LESS (codes "$RLZ")
+  pub result_zero : (RESULT_ZERO ≡ 57) × IsSymbol RESULT_ZERO (codes "$RZ")
+  pub result_greater : (RESULT_GREATER ≡ 58) × IsSymbol RESULT_GREATER (codes "$RGZ")
+  pub result_negative : (RESULT_NEGATIVE ≡ 59) × IsSymbol RESULT_NEGATIVE (codes "$RN")
+  pub accumulator_low : (ACCUMULATOR_LOW ≡ 60) × IsSymbol ACCUMULATOR_LOW (codes "$AL")
+  pub accumulator_equal : (ACCUMULATOR_EQUAL ≡ 61) × IsSymbol ACCUMULATOR_EQUAL (codes "$AE")
+  pub accumulator_high : (ACCUMULATOR_HIGH ≡ 62) × IsSymbol ACCUMULATOR_HIGH (codes "$AH")
 
 -- The digits of a number and their value are the same in binary operations, which see one number of
 -- codes of four bits, and in decimal ones, which see a list of codes.

@@ -1,49 +1,43 @@
 -- The operations by their words.
-use Rattle.std.specs.Prelude.{ℕ, ◌-◌, nat_lt, Bool, true, false, List, [], ◌∷◌, length, take, drop, codes, Option, None, if◌then◌else◌}
+use Rattle.std.specs.Prelude.{ℕ, ◌-◌, nat_lt, Bool, true, false, List, [], ◌∷◌, length, take, drop, codes, Option, None, if◌then◌else◌, map}
 use Rattle.std.specs.Option.{option_map, option_or, option_zip}
 use Rattle.st_text.specs.Bytes.{letter_n}
 use Rattle.st_bits.specs.declared.operations.HalfOp.{HalfOp}
-use Rattle.st_bits.specs.declared.operations.HalfOp.TheVariants.{Lx, Lv, Lc, Lr, Sx, Sv, Sc, Sr, Sva, VPlus, VPlusC, Kv, Lvi, Lci, Lri, VPlusI, VMinusI, VPlusIC, VPlusICR, Kvi, Kc, Kci, Cb, Cbr}
+use Rattle.st_bits.specs.declared.operations.HalfOp.TheVariants.{Lx, Lv, Lc, Lr, Sx, Sv, Sc, Sr, Sva, VPlus, VPlusC, Kv, Lvs, Lvi, Lci, Lri, VPlusI, VMinusI, VPlusIC, VPlusICR, Kvi, Kc, Kci, Cb, Cbr, R, Ex}
 use Rattle.st_bits.specs.declared.operations.BranchOp.TheVariants.{B, Br, Be, Bd, Bew, Nop}
 use Rattle.st_bits.specs.declared.operations.VflOp.{VflOp}
 use Rattle.st_bits.specs.declared.operations.VflOp.TheVariants.{L, Lwf, Ltrs, Lft, St, Add, AddMg, MAdd, MAddMg, MAdd1, K, Kf, Ke, Kfe, Kr, Kfr, Mul, MulAdd, Div, Lcv}
 use Rattle.st_bits.specs.declared.operations.ConnKind.{ConnKind}
 use Rattle.st_bits.specs.declared.operations.ConnKind.TheVariants.{C, Cm, Ct}
+use Rattle.st_format.specs.Operations.{Row, half_row, branch_row, vfl_row, conn_row}
 use Rattle.st_text.specs.Tables.{row_of}
 use Rattle.st_mnemonic.specs.Text.{ends_with}
 use Rattle.st_mnemonic.specs.declared.operations.Operation.{Operation}
 use Rattle.st_mnemonic.specs.declared.operations.Operation.TheVariants.{Half, Sum, Refill, Execute, Branch, Bare, Vfl, Connect, Move, BitBranch, IndBranch, StoreCounter, Transfer, Data, IndexWord, Synonym, SetLocation, Reserve, End}
 
+-- operations, each with the word of its row
+abbrev pub named : {X : Type 0} → (X → Row) → List X → List (List ℕ × X)
+named row ops = map (λ op. ((row op).word, op)) ops
+
 -- on an index word and an address
 unfoldable pub index_operations : List (List ℕ × HalfOp)
 index_operations =
-    (codes "LX", Lx) ∷ (codes "LV", Lv) ∷ (codes "LC", Lc) ∷ (codes "LR", Lr) ∷ (codes "SX", Sx)
-    ∷ (codes "SV", Sv) ∷ (codes "SC", Sc) ∷ (codes "SR", Sr) ∷ (codes "SVA", Sva)
-    ∷ (codes "V+", VPlus)
-    ∷ (codes "V+C", VPlusC) ∷ (codes "KV", Kv) ∷ (codes "LVI", Lvi) ∷ (codes "LCI", Lci)
-    ∷ (codes "LRI", Lri) ∷ (codes "V+I", VPlusI) ∷ (codes "V-I", VMinusI) ∷ (codes "V+IC", VPlusIC)
-    ∷ (codes "V+ICR", VPlusICR) ∷ (codes "KVI", Kvi) ∷ (codes "KC", Kc) ∷ (codes "KCI", Kci)
-    ∷ (codes "CB", Cb) ∷ (codes "CBR", Cbr) ∷ []
+    named half_row (Lx ∷ Lv ∷ Lc ∷ Lr ∷ Sx ∷ Sv ∷ Sc ∷ Sr ∷ Sva ∷ VPlus ∷ VPlusC ∷ Kv ∷ Lvi ∷ Lci ∷
+    Lri ∷ VPlusI ∷ VMinusI ∷ VPlusIC ∷ VPlusICR ∷ Kvi ∷ Kc ∷ Kci ∷ Cb ∷ Cbr ∷ [])
 
 -- on a field
 unfoldable pub field_operations : List (List ℕ × VflOp)
 field_operations =
-    (codes "L", L) ∷ (codes "LWF", Lwf) ∷ (codes "LTRS", Ltrs) ∷ (codes "LFT", Lft)
-    ∷ (codes "ST", St)
-    ∷ (codes "+", Add) ∷ (codes "+MG", AddMg) ∷ (codes "M+", MAdd) ∷ (codes "M+MG", MAddMg)
-    ∷ (codes "M+1", MAdd1) ∷ (codes "K", K) ∷ (codes "KF", Kf) ∷ (codes "KE", Ke)
-    ∷ (codes "KFE", Kfe)
-    ∷ (codes "KR", Kr) ∷ (codes "KFR", Kfr) ∷ (codes "*", Mul) ∷ (codes "*+", MulAdd)
-    ∷ (codes "/", Div)
-    ∷ (codes "LCV", Lcv) ∷ []
+    named vfl_row (L ∷ Lwf ∷ Ltrs ∷ Lft ∷ St ∷ Add ∷ AddMg ∷ MAdd ∷ MAddMg ∷ MAdd1 ∷ K ∷ Kf ∷ Ke ∷
+    Kfe ∷ Kr ∷ Kfr ∷ Mul ∷ MulAdd ∷ Div ∷ Lcv ∷ [])
 
 -- the others, but for the connectives
 unfoldable pub other_operations : List (List ℕ × Operation)
 other_operations =
-    (codes "LVS", Sum) ∷ (codes "R", Refill) ∷ (codes "EX", Execute)
-    ∷ (codes "B", Branch B) ∷ (codes "BR", Branch Br) ∷ (codes "BE", Branch Be)
-    ∷ (codes "BD", Branch Bd)
-    ∷ (codes "BEW", Bare Bew) ∷ (codes "NOP", Bare Nop)
+    ((half_row Lvs).word, Sum) ∷ ((half_row R).word, Refill) ∷ ((half_row Ex).word, Execute)
+    ∷ ((branch_row B).word, Branch B) ∷ ((branch_row Br).word, Branch Br)
+    ∷ ((branch_row Be).word, Branch Be) ∷ ((branch_row Bd).word, Branch Bd)
+    ∷ ((branch_row Bew).word, Bare Bew) ∷ ((branch_row Nop).word, Bare Nop)
     ∷ (codes "T", Move false) ∷ (codes "SWAP", Move true)
     ∷ (codes "BB0", BitBranch false 0) ∷ (codes "BB0Z", BitBranch false 1)
     ∷ (codes "BB0S", BitBranch false 2) ∷ (codes "BB0V", BitBranch false 3)
@@ -58,7 +52,7 @@ other_operations =
 
 -- where connectives put their results
 unfoldable pub connective_kinds : List (List ℕ × ConnKind)
-connective_kinds = (codes "C", C) ∷ (codes "CM", Cm) ∷ (codes "CT", Ct) ∷ []
+connective_kinds = named conn_row (C ∷ Cm ∷ Ct ∷ [])
 
 -- truth tables: the results for 00, 01, 10 and 11
 unfoldable pub truth_tables : List (List ℕ × ℕ)
