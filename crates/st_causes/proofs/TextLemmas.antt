@@ -1,7 +1,7 @@
 -- Which lines of a ledger tell where ticks went.
 use Rattle.std.specs.Prelude.{zero, suc, Bool, nat_eq, nat_lt, if◌then◌else◌, map, drop, slice_index, reverse, Option, None, Some, length}
 use Rattle.std.specs.List.{filter}
-use Rattle.std.proofs.Common.{◌≡◌, ℕ, ◌+◌, ◌≤◌, true, false, List, [], ◌∷◌, ◌++◌, inl, inr, refl, sym, ◌∙◌, ap, append_assoc, arith}
+use Rattle.std.proofs.Common.{◌≡◌, ℕ, ◌+◌, ◌/◌, ◌≤◌, true, false, List, [], ◌∷◌, ◌++◌, inl, inr, refl, sym, ◌∙◌, ap, append_assoc, arith}
 use Rattle.std.proofs.lemmas.Bool.{cond_both, cases_Bool}
 use Rattle.std.proofs.lemmas.List.Elements.{filter-append}
 use Rattle.st_state.specs.Machine.{Machine, word}
@@ -31,7 +31,7 @@ use Rattle.st_reasons.specs.declared.because.Because.{Because}
 use Rattle.st_reasons.specs.declared.because.Because.TheVariants.{Start, Prefetch, Earlier}
 use Rattle.st_reasons.specs.declared.sums.WaitSum.{WaitSum}
 use Rattle.st_reasons.specs.declared.waits.Wait.{Wait}
-use Rattle.st_lines.specs.Lines.{delays_line, delays_by}
+use Rattle.st_lines.specs.Lines.{delays_line, tens_of}
 use Rattle.st_lines.specs.EntryLines.{alone_lines, suppressed_lines, run_lines, index_lines, laid_lines, code_lines, facts_lines, missed_lines, level_lines, done_entry_lines, charges_of_entry, known_lines, late_entry_lines, spent_lines}
 use Rattle.st_lines.specs.UseLines.{use_lines, is_told}
 use Rattle.st_lines.specs.WaitLines.{wait_lines, charged_lines, wait_sum_lines, because_line, because_lines}
@@ -66,15 +66,14 @@ either false xs ys first second = second
 
 -- ---- the machine
 
-delays-other : (k : ℕ) (ds : List ℕ) → AreOther (delays_by k ds)
-unfolding delays_by delays_line is_spent_line head_of is_word
-delays-other zero ds = none
-delays-other (suc k) [] = none
-delays-other (suc k) (d ∷ ds) = one _ _ refl (delays-other k (drop 10 (d ∷ ds)))
+tens-other : (n : ℕ) (ds : List ℕ) → AreOther (tens_of n ds)
+unfolding tens_of delays_line is_spent_line head_of is_word
+tens-other zero ds = none
+tens-other (suc n) ds = one _ _ refl (tens-other n (drop 10 ds))
 
 machine-other : (ds : List ℕ) (n : ℕ) → AreOther (machine_lines ds n)
 unfolding is_spent_line head_of is_word
-machine-other ds n = one _ _ refl (delays-other (length ds) ds)
+machine-other ds n = one _ _ refl (tens-other ((length ds + 9) / 10) ds)
 
 -- ---- an entry
 

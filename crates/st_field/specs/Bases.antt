@@ -30,25 +30,31 @@ operand_taken a x h = record { acc = a; field = field_of x h; shape = h }
 
 -- what a base makes of what an operation takes
 pub record InBase : Type 0 where
-  -- the value of the accumulator, and of it from the offset on
+  -- the value of the accumulator
   pub whole : ℕ
+  -- the value of the accumulator from the offset on
   pub part : ℕ
-  -- the value of the field, its bits as a register takes them, and the indicators of the transit
-  -- register
+  -- the value of the field
   pub value : ℕ
+  -- the bits of the field as the transit register and the factor register take them
   pub content : ℕ
+  -- the indicators that come on where the transit register takes them
   pub transit : ℕ
-  -- the field at its place in the accumulator, and the accumulator from the offset on as the field
-  -- stores it
+  -- the field at its place in the accumulator
   pub at_place : Kept
+  -- the accumulator from the offset on as the field stores it
   pub stored : Kept
-  -- what a number makes of the accumulator, and of the field
+  -- what the accumulator keeps of a magnitude that is put into it
   pub summed : ℕ → Kept
+  -- what the field keeps of a magnitude that is put into it
   pub replaced : ℕ → Kept
-  -- what *, *+ with a factor, / and LCV leave
+  -- what * leaves
   pub product : Done
+  -- what *+ leaves, by the content of the factor register
   pub product_added : ℕ → Done
+  -- what / leaves
   pub quotient : Done
+  -- what LCV leaves
   pub converted : Done
 
 -- ---- what is taken
@@ -114,26 +120,34 @@ store_result b t =
 
 -- the result of an operation; ft is the factor register and ind the indicators
 abbrev pub result_of : VflOp → InBase → Taken → ℕ → ℕ → Done
+-- the field goes to the accumulator, without its zone and flags or with them
 result_of L b t ft ind = load_result (aligned_in_base b t)
 result_of Lwf b t ft ind = loaded_with_flags t.field (aligned_in_base b t)
+-- it goes to the transit register, or to the factor register
 result_of Ltrs b t ft ind = transit_loaded t.acc (operand_in_base b t) b.content
     (flag_indicators t.field.flags + b.transit)
 result_of Lft b t ft ind = factor_loaded t.acc (operand_in_base b t) b.content
     (flag_indicators t.field.flags)
+-- the accumulator goes to the field
 result_of St b t ft ind = store_result b t
+-- the operand is added to the accumulator, or to its magnitude
 result_of Add b t ft ind = put_in_accumulator b t (sum_of (accumulator_number b t)
     (aligned_in_base b t).number) (aligned_in_base b t).on
 result_of AddMg b t ft ind = put_in_accumulator b t (magnitude_sum (accumulator_number b t)
     (aligned_in_base b t).number) (aligned_in_base b t).on
+-- the accumulator is added to the field, or to its magnitude, or one is added
 result_of MAdd b t ft ind = put_in_field b t (sum_of (field_number b t) (addend b t))
 result_of MAddMg b t ft ind = put_in_field b t (magnitude_sum (field_number b t) (addend b t))
 result_of MAdd1 b t ft ind = put_in_field b t (sum_of (field_number b t) (one t.shape))
+-- the accumulator is compared with the operand at its place, or as a field with the field: always,
+-- where AE is on, or with the upper end of a range
 result_of K b t ft ind = comparison_result t.acc (numbers_compared b t)
 result_of Kf b t ft ind = comparison_result t.acc (fields b t)
 result_of Ke b t ft ind = compared_if_equal t.acc (numbers_compared b t) ind
 result_of Kfe b t ft ind = compared_if_equal t.acc (fields b t) ind
 result_of Kr b t ft ind = compared_for_range t.acc (numbers_compared b t) ind
 result_of Kfr b t ft ind = compared_for_range t.acc (fields b t) ind
+-- the base alone says what the others leave
 result_of Mul b t ft ind = b.product
 result_of MulAdd b t ft ind = b.product_added ft
 result_of Div b t ft ind = b.quotient

@@ -1,6 +1,6 @@
 -- Lines that are written one after another.
 use Rattle.std.specs.Prelude.{Option, Some, Bool, if◌then◌else◌, nat_eq, Result, Ok, Err, IsErr, IsOk, codes, decimal}
-use Rattle.std.proofs.Common.{◌≡◌, ◌≢◌, ℕ, zero, suc, ◌+◌, ◌-◌, ◌≤◌, inl, inr, min, true, false, List, [], ◌∷◌, ◌++◌, length, take, drop, refl, sym, ◌∙◌, ap, subst, append_assoc, arith}
+use Rattle.std.proofs.Common.{◌≡◌, ◌≢◌, ℕ, zero, suc, ◌+◌, ◌/◌, ◌≤◌, inl, inr, min, true, false, List, [], ◌∷◌, ◌++◌, length, take, drop, refl, sym, ◌∙◌, ap, subst, append_assoc, arith}
 use Rattle.std.proofs.lemmas.Bool.Decides.{leb_tells, nat_tests}
 use Rattle.std.proofs.lemmas.List.{take_min, append-nil, length-drop}
 use Rattle.std.proofs.Math.Seq.{drop-length}
@@ -10,7 +10,7 @@ use Rattle.st_io.specs.declared.Failed.{Failed}
 use Rattle.st_io.specs.Lines.{WritesLines}
 use Rattle.st_io.proofs.Progress.{lines_then, lines_cut, wrote_nothing}
 use Rattle.st_plain.specs.declared.looking.Ahead.{Ahead}
-use Rattle.st_lines.specs.Lines.{numbers_text, delays_line, delays_by, dropped_line, begun_line, segment_end_line}
+use Rattle.st_lines.specs.Lines.{numbers_text, delays_line, tens_of, delays_lines, dropped_line, begun_line, segment_end_line}
 use Rattle.st_exch.specs.Printer.{line_of_words}
 use Rattle.st_report.specs.Line.{prt_line}
 use Rattle.st_lines.specs.EntryLines.{facts_lines}
@@ -89,20 +89,16 @@ ten-behind ds = elim (leb_tells 10 (length ds)) [
       ap (λ k. drop k ds) same ∙ drop-length ds ∙ sym (drop_of_length-le ds few)
 ]
 
-pub delays-none : (k : ℕ) (ds : List ℕ) → length ds ≡ 0 → delays_by k ds ≡ []
-unfolding delays_by
-delays-none zero ds none = refl
-delays-none (suc k) [] none = refl
-delays-none (suc k) (d ∷ ds) none = let no : ⊥ = omega arith in absurd no
+pub delays-none : (ds : List ℕ) → length ds ≡ 0 → delays_lines ds ≡ []
+unfolding tens_of
+delays-none ds none = ap (λ n. tens_of ((n + 9) / 10) ds) none
 
-pub delays-some : (k : ℕ) (ds : List ℕ) → 1 ≤ length ds → length ds ≤ k
-    → delays_by k ds ≡ (delays_line (take 10 ds) ∷ []) ++ delays_by (k - 1) (drop 10 ds)
-unfolding delays_by
-delays-some zero ds some few = let no : ⊥ = omega arith in absurd no
-delays-some (suc k) [] some few = let no : ⊥ = omega arith in absurd no
-delays-some (suc k) (d ∷ ds) some few =
-    let one : k ≡ suc k - 1 = omega arith in
-    ap (λ j. delays_line (take 10 (d ∷ ds)) ∷ delays_by j (drop 10 (d ∷ ds))) one
+pub delays-some : (ds : List ℕ) → 1 ≤ length ds
+    → delays_lines ds ≡ (delays_line (take 10 ds) ∷ []) ++ delays_lines (drop 10 ds)
+unfolding tens_of
+delays-some ds some =
+    let more : (length ds + 9) / 10 ≡ suc ((length (drop 10 ds) + 9) / 10) = omega (arith, length-drop 10 ds) in
+    ap (λ n. tens_of n ds) more
 
 -- ---- numbers
 
@@ -133,29 +129,28 @@ same_lines s u xs ys r same h = subst (λ ls. WritesLines s u ls r) same h
 
 -- ---- lines of delays
 
-pub delays_all : (s u : OutputState) (k : ℕ) (ds : List ℕ) (r : Result (Unit {0}) Failed) → length ds ≡ 0 → WritesLines s u [] r → WritesLines s u (delays_by k ds) r
-delays_all s u k ds r none h = subst (λ ls. WritesLines s u ls r) (sym (delays-none k ds none)) h
+pub delays_all : (s u : OutputState) (ds : List ℕ) (r : Result (Unit {0}) Failed) → length ds ≡ 0 → WritesLines s u [] r → WritesLines s u (delays_lines ds) r
+delays_all s u ds r none h = subst (λ ls. WritesLines s u ls r) (sym (delays-none ds none)) h
 
 ten : (ds line : List ℕ) → line ≡ take (min (length ds) 10) ds → delays_line line ≡ delays_line (take 10 ds)
 ten ds line is = ap delays_line (is ∙ ten-first ds)
 
-pub delays_cut : (s u : OutputState) (k : ℕ) (ds line : List ℕ) (e : Failed) (r : Result (Unit {0}) Failed) → IsErr r → length ds ≢ 0 → length ds ≤ k
-    → line ≡ take (min (length ds) 10) ds → WritesLines s u (delays_line line ∷ []) (Err e) → WritesLines s u (delays_by k ds) r
-delays_cut s u k ds line e r f some few is h =
-    subst (λ ls. WritesLines s u ls r) (sym (delays-some k ds (omega (arith, some)) few))
-    (lines_cut s u (delays_line (take 10 ds) ∷ []) (delays_by (k - 1) (drop 10 ds)) e r f
+pub delays_cut : (s u : OutputState) (ds line : List ℕ) (e : Failed) (r : Result (Unit {0}) Failed) → IsErr r → length ds ≢ 0
+    → line ≡ take (min (length ds) 10) ds → WritesLines s u (delays_line line ∷ []) (Err e) → WritesLines s u (delays_lines ds) r
+delays_cut s u ds line e r f some is h =
+    subst (λ ls. WritesLines s u ls r) (sym (delays-some ds (omega (arith, some))))
+    (lines_cut s u (delays_line (take 10 ds) ∷ []) (delays_lines (drop 10 ds)) e r f
     (subst (λ l. WritesLines s u (l ∷ []) (Err e)) (ten ds line is) h))
 
-pub delays_then : (s v u : OutputState) (k : ℕ) (ds line more : List ℕ) (o : Unit {0}) (r : Result (Unit {0}) Failed) → length ds ≢ 0 → length ds ≤ k
+pub delays_then : (s v u : OutputState) (ds line more : List ℕ) (o : Unit {0}) (r : Result (Unit {0}) Failed) → length ds ≢ 0
     → line ≡ take (min (length ds) 10) ds → more ≡ drop (min (length ds) 10) ds → WritesLines s v (delays_line line ∷ []) (Ok o)
-    → ((j : ℕ) → length more ≤ j → WritesLines v u (delays_by j more) r) → WritesLines s u (delays_by k ds) r
-delays_then s v u k ds line more o r some few is rest h later =
+    → WritesLines v u (delays_lines more) r → WritesLines s u (delays_lines ds) r
+delays_then s v u ds line more o r some is rest h later =
     let same : more ≡ drop 10 ds = rest ∙ ten-behind ds in
-    let short : length more ≤ k - 1 = omega (arith, ap length same, length-drop 10 ds, few) in
-    subst (λ ls. WritesLines s u ls r) (sym (delays-some k ds (omega (arith, some)) few))
-    (lines_then s v u (delays_line (take 10 ds) ∷ []) (delays_by (k - 1) (drop 10 ds)) o r
+    subst (λ ls. WritesLines s u ls r) (sym (delays-some ds (omega (arith, some))))
+    (lines_then s v u (delays_line (take 10 ds) ∷ []) (delays_lines (drop 10 ds)) o r
     (subst (λ l. WritesLines s v (l ∷ []) (Ok o)) (ten ds line is) h)
-    (subst (λ xs. WritesLines v u (delays_by (k - 1) xs) r) same (later (k - 1) short)))
+    (subst (λ xs. WritesLines v u (delays_lines xs) r) same later))
 
 -- ---- three lines
 

@@ -1,6 +1,6 @@
 -- The bytes of the lines of a ledger that tell of the machine and of segments, each with its line
 -- end.
-use Rattle.std.specs.Prelude.{ℕ, Bool, List, [], ◌∷◌, ◌++◌, codes, decimal, take, drop, length, zero, suc, Option, None, Some}
+use Rattle.std.specs.Prelude.{ℕ, ◌+◌, ◌/◌, Bool, List, [], ◌∷◌, ◌++◌, codes, decimal, take, drop, length, zero, suc, Option, None, Some}
 use Rattle.st_text.specs.Bytes.{lf}
 use Rattle.st_text.specs.Numerals.{half_address, hex_text, hex_word, flag}
 use Rattle.st_prep.specs.declared.entries.IndexChange.{IndexChange}
@@ -25,14 +25,14 @@ numbers_text (n ∷ ns) = codes " " ++ decimal n ++ numbers_text ns
 unfoldable pub delays_line : List ℕ → List ℕ
 delays_line ds = codes "DELAYS" ++ numbers_text ds ++ lf
 
--- all of them, ten in a line; k bounds the number of lines
-unfoldable pub delays_by : ℕ → List ℕ → List (List ℕ)
-delays_by zero ds = []
-delays_by (suc k) [] = []
-delays_by (suc k) (d ∷ ds) = delays_line (take 10 (d ∷ ds)) ∷ delays_by k (drop 10 (d ∷ ds))
+-- n lines of ten delays each, of which the last may have fewer
+unfoldable pub tens_of : ℕ → List ℕ → List (List ℕ)
+tens_of zero ds = []
+tens_of (suc n) ds = delays_line (take 10 ds) ∷ tens_of n (drop 10 ds)
 
+-- all delays, ten in a line
 abbrev pub delays_lines : List ℕ → List (List ℕ)
-delays_lines ds = delays_by (length ds) ds
+delays_lines ds = tens_of ((length ds + 9) / 10) ds
 
 -- word w is not zero
 abbrev pub word_line : ℕ → ℕ → List ℕ

@@ -5,7 +5,7 @@ ghost use Rattle.st_bits.specs.Storage.{words_of_storage};
 ghost use Rattle.st_bits.specs.declared.limits.TheConstants.{WORDS};
 ghost use Rattle.st_exch.specs.Printer.{line_of_words as printed_of};
 ghost use Rattle.st_report.specs.Line.{prt_line, ic_line, en_line, end_line as run_end_line, done_line, ticks_line};
-ghost use Rattle.st_lines.specs.Lines.{ledger_levels_line, delays_line, delays_by, start_line, segment_end_line, dropped_line, begun_line};
+ghost use Rattle.st_lines.specs.Lines.{ledger_levels_line, delays_line, delays_lines, start_line, segment_end_line, dropped_line, begun_line};
 ghost use Rattle.st_lines.specs.EntryLines.{facts_lines};
 ghost use Rattle.st_lines.specs.Changes.{AreOthersAlike, IsCopyBehind};
 ghost use Rattle.st_lines.specs.Origins.{origin_at};
@@ -551,8 +551,7 @@ fn count_of(ds: &[u8]) -> usize
 
 // Writes all delays, ten in a line.
 fn write_delays<K: Sink>(out: &mut K, ds: &[u8]) -> Result<(), Failed>
-    ensures { (k : ℕ) → length ds.now ≤ k → WritesLines (K.output out.old) (K.output out.new)
-        (delays_by k ds.now) result }
+    ensures { WritesLines (K.output out.old) (K.output out.new) (delays_lines ds.now) result }
 {
     let count = count_of(ds);
     if count == 0 {

@@ -49,15 +49,15 @@ side_to_read (Some w) = if nat_le FIRST_STORAGE_WORD w then Some w else None
 -- how it is prepared, and by two indicators: of the interrupt whose table instruction it is, and of
 -- a word of it that may not be fetched. Following words are asked for where there is neither
 abbrev pub entry_with : WordRun → WordRun → Needs → Prepared → Option ℕ → Option ℕ → Entry
-entry_with own target n p table fault = record {
+entry_with own target needed prepared table forbidden = record {
   own = own;
   target = target;
-  side = side_to_read n.index_read;
-  reads = words_to_read p.reads;
-  writes = words_to_write p.writes;
-  cost = p.cost;
-  serial = p.serial;
-  follows = is_none table && is_none fault;
+  side = side_to_read needed.index_read;
+  reads = words_to_read prepared.reads;
+  writes = words_to_write prepared.writes;
+  cost = prepared.cost;
+  serial = prepared.serial;
+  follows = is_none table && is_none forbidden;
 }
 
 -- ---- from a state
@@ -77,7 +77,9 @@ module _ (table : Option ℕ) (s : Machine) where
 
   -- the next entry of a state, or its table instruction
   unfoldable pub entry : Entry
-  entry = let place = place_of s table in
-      entry_with (run_of (take own_count instruction_words))
-      (run_of (drop own_count instruction_words)) (needs (sight s place)) (plan s table) table
-      (words_fetched s place).fault
+  entry =
+      let place = place_of s table in
+      let own = run_of (take own_count instruction_words) in
+      let target = run_of (drop own_count instruction_words) in
+      let forbidden = (words_fetched s place).fault in
+      entry_with own target (needs (sight s place)) (plan s table) table forbidden

@@ -1,4 +1,4 @@
-use Rattle.std.proofs.Common.{[], ◌∷◌, length, arith}
+use Rattle.std.proofs.Common.{[], ◌∷◌}
 use Rattle.st_io.proofs.Progress.{lines_then, lines_cut}
 use Rattle.st_lines.specs.Lines.{ledger_levels_line, delays_lines}
 use Rattle.st_lines.proofs.writing.write_machine.Goals as goal
@@ -11,4 +11,4 @@ returns-in_err-write_levels g c =
 pub returns : goal.returns
 returns g c =
     lines_then _ _ _ (ledger_levels_line c.args.n ∷ []) (delays_lines c.args.ds.now) _ _ c.in_ok-write_levels.ensures
-    (c.write_delays.ensures (length c.args.ds.now) (omega arith))
+    c.write_delays.ensures
