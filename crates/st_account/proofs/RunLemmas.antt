@@ -18,7 +18,7 @@ use Rattle.st_rows.specs.Rows.{row_of_entry, front_after_entry}
 use Rattle.st_ledger.specs.declared.charges.Stage.{Stage}
 use Rattle.st_ledger.specs.Charges.{ticks_for}
 use Rattle.st_ledger.specs.Ledger.{entries_from, charges_at, all_charges}
-use Rattle.st_ledger.proofs.Runs.{ticks_for-append}
+use Rattle.st_ledger.proofs.Runs.{entries-none, entries-step, ticks_for-append}
 use Rattle.st_plain.specs.declared.uses.Use.{Use}
 use Rattle.st_reasons.specs.Sums.{row_stalled}
 use Rattle.st_reasons.specs.declared.waits.Stall.{Stall}
@@ -81,19 +81,19 @@ module _ (ds : List ℕ) (n : ℕ) where
 
   pub charges-end : (s : Stage) (left : ℕ) (m : Moment) → (left ≡ 0) ⊎ (rests (next_state m) ≡ true)
       → ticks_for s (all_charges ds n (entries_from ds n left m)) ≡ 0
-  unfolding entries_from all_charges ticks_for
-  charges-end s zero m end = refl
+  unfolding all_charges ticks_for
+  charges-end s zero m end = rw (entries-none ds n m) refl
   charges-end s (suc left) m (inl none) = let no : ⊥ = omega arith in absurd no
-  charges-end s (suc left) m (inr resting) = rw resting refl
+  charges-end s (suc left) m (inr resting) = rw (entries-step ds n left m, resting) refl
 
   pub charges-on : (s : Stage) (left : ℕ) (m : Moment) → left ≢ 0 → rests (next_state m) ≡ false
       → ticks_for s (all_charges ds n (entries_from ds n left m))
       ≡ ticks_for s (charges_at ds n (standing_at m)) + ticks_for s (all_charges ds n (entries_from ds n (left - 1) (next_moment ds n (standing_at m))))
-  unfolding entries_from all_charges
+  unfolding all_charges
   charges-on s zero m some going = absurd (some refl)
   charges-on s (suc left) m some going =
       let one : left ≡ suc left - 1 = omega arith in
-      rw going
+      rw (entries-step ds n left m, going)
       (ticks_for-append s (charges_at ds n (standing_at m)) (all_charges ds n (entries_from ds n left (next_moment ds n (standing_at m))))
       ∙ ap (λ j. ticks_for s (charges_at ds n (standing_at m)) + ticks_for s (all_charges ds n (entries_from ds n j (next_moment ds n (standing_at m))))) one)
 

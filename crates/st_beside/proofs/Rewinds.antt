@@ -1,14 +1,17 @@
 -- A run that a machine beside it makes, and stepping back from its end.
-use Rattle.std.proofs.Common.{◌≡◌, ◌≢◌, ◌≤◌, ℕ, zero, suc, ◌+◌, ◌-◌, List, [], ◌∷◌, ◌++◌, Bool, true, false, length, take, refl, sym, ◌∙◌, ap, subst, arith, length-append, append_assoc, if◌then◌else◌}
+use Rattle.std.proofs.Common.{◌≡◌, ◌≢◌, ◌≤◌, ℕ, zero, suc, ◌+◌, ◌-◌, List, [], ◌∷◌, ◌++◌, Bool, true, false, length, take, refl, sym, ◌∙◌, ap, subst, arith, length-append, append_assoc, if◌then◌else◌, map}
 use Rattle.std.proofs.lemmas.List.{take_all}
 use Rattle.st_state.specs.Machine.{Machine}
 use Rattle.st_exec.specs.Step.{rests}
-use Rattle.st_run.specs.Run.{Scene, Transition, interlude, scene_after_step, transition_at_end, run}
+use Rattle.st_run.specs.Course.{Course, course}
+use Rattle.st_run.specs.Run.{Scene, Transition, interlude, scene_after_step, state_next, scenes, run}
 use Rattle.st_exec.proofs.StepLemmas.{step-done}
-use Rattle.st_run.proofs.Runs.{run-rests, run-budget, run-goes_on}
+use Rattle.st_run.proofs.Runs.{transition_at_end, run-rests, run-budget, run-goes_on}
 use Rattle.st_back.specs.declared.kept.KeptStep.{KeptStep}
 use Rattle.st_back.specs.Steps.{Steps, IsBack, states_before}
 use Rattle.st_back.proofs.ManyLemmas.{back-states}
+use Rattle.st_run.specs.Moments.{Moment, next_state, moments}
+use Rattle.st_run.proofs.CourseLemmas.{scenes-same}
 use Rattle.st_run.proofs.DoneLemmas.{settled-done}
 use Rattle.st_beside.specs.States.{states}
 use Rattle.st_beside.specs.Beside.{Beside, IsMoved, IsStepped, IsBeside, HasMadeRun}
@@ -16,26 +19,52 @@ use Rattle.st_beside.proofs.Besides.{beside_settled, beside_stepped}
 
 -- ---- the states of a run
 
+none-states : (c : Scene) → states zero c ≡ (interlude c).scene.machine ∷ []
+unfolding states course
+none-states c = refl
+
+abbrev in_course : Course Scene → List Machine
+in_course r = map state_next r.before ++ state_next r.last ∷ []
+
+states-choice : (ends : Bool) (c : Scene) (r : Course Scene)
+    → in_course (if ends then record { before = []; last = c } else record { before = c ∷ r.before; last = r.last })
+    ≡ (if ends then state_next c ∷ [] else state_next c ∷ in_course r)
+states-choice true c r = refl
+states-choice false c r = refl
+
+states-step : (left : ℕ) (c : Scene)
+    → states (suc left) c
+    ≡ (if rests (interlude c).scene.machine then (interlude c).scene.machine ∷ []
+    else (interlude c).scene.machine ∷ states left (scene_after_step (interlude c).scene))
+unfolding states course
+states-step left c = states-choice (rests (state_next c)) c (scenes left (scene_after_step (interlude c).scene))
+
 pub states-rests : (left : ℕ) (c : Scene) → rests (interlude c).scene.machine ≡ true → states left c ≡ (interlude c).scene.machine ∷ []
-unfolding states
-states-rests zero c h = refl
+states-rests zero c h = none-states c
 states-rests (suc left) c h =
-    let s = (interlude c).scene in ap (λ b. if b then s.machine ∷ [] else s.machine ∷ states left (scene_after_step s)) h
+    let s = (interlude c).scene in
+    states-step left c ∙ ap (λ b. if b then s.machine ∷ [] else s.machine ∷ states left (scene_after_step s)) h
 
 pub states-budget : (left : ℕ) (c : Scene) → left ≡ 0 → states left c ≡ (interlude c).scene.machine ∷ []
-unfolding states
-states-budget zero c h = refl
+states-budget zero c h = none-states c
 states-budget (suc left) c h = absurd (omega arith)
 
-states-some : (k : ℕ) (c : Scene) → rests (interlude c).scene.machine ≡ false → states (suc k) c ≡ (interlude c).scene.machine ∷ states k (scene_after_step (interlude c).scene)
-unfolding states
-states-some k c h = let s = (interlude c).scene in ap (λ b. if b then s.machine ∷ [] else s.machine ∷ states k (scene_after_step s)) h
+pub states-some : (k : ℕ) (c : Scene) → rests (interlude c).scene.machine ≡ false → states (suc k) c ≡ (interlude c).scene.machine ∷ states k (scene_after_step (interlude c).scene)
+states-some k c h =
+    let s = (interlude c).scene in
+    states-step k c ∙ ap (λ b. if b then s.machine ∷ [] else s.machine ∷ states k (scene_after_step s)) h
 
 pub states-goes_on : (left : ℕ) (c : Scene) → left ≢ 0 → rests (interlude c).scene.machine ≡ false → states left c ≡ (interlude c).scene.machine ∷ states (left - 1) (scene_after_step (interlude c).scene)
 states-goes_on zero c some h = absurd (some refl)
 states-goes_on (suc k) c some h =
     let same : k ≡ suc k - 1 = omega arith in
     states-some k c h ∙ ap (λ n. (interlude c).scene.machine ∷ states n (scene_after_step (interlude c).scene)) same
+
+-- the moments of a run have its states
+pub states-same : (ds : List ℕ) (n left : ℕ) (m : Moment)
+    → states left m.scene ≡ map next_state (moments ds n left m).before ++ next_state (moments ds n left m).last ∷ []
+unfolding states
+states-same ds n left m = scenes-same ds n left m
 
 -- ---- how far the run has come
 

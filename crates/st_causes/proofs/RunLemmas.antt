@@ -16,6 +16,7 @@ use Rattle.st_run.specs.Scenes.{IsScene}
 use Rattle.st_run.proofs.SceneLemmas.{settled-scene, stepped-scene}
 use Rattle.st_run.specs.Run.{Scene}
 use Rattle.st_run.specs.Moments.{Moment, Standing, moment_at_start, next_state, next_front, ends_segment, standing_at, next_moment, next_row, entry_of_moment}
+use Rattle.st_ledger.proofs.Runs.{entries-none, entries-step}
 use Rattle.st_ledger.specs.Charges.{charges, ticks_for}
 use Rattle.st_ledger.specs.Ledger.{entries_from, charges_at, all_charges}
 use Rattle.st_ledger.specs.declared.charges.Charge.{Charge}
@@ -155,7 +156,7 @@ module _ (ds : List ℕ) (n : ℕ) where
       → P (record { standing = p; uses = uses_at ds n p; before = us; segment = reverse (uses_at ds n p) ++ segment }))
       → (left : ℕ) (m : Moment) (us segment : List Use) → ComesOf ds n m.front us segment
       → All (λ (q : Standing). IsEntryInTime (entry_of_moment q)) (entries_from ds n left m) → All P (told_from ds n left us segment m)
-  unfolding told_from entries_from
+  unfolding told_from
   each-told P one zero m us segment comes fits = All-nil P
   each-told P one (suc left) m us segment comes fits = elim (cases_Bool (rests (next_state m))) [
     | inl y ↦ rw y (All-nil P)
@@ -164,7 +165,7 @@ module _ (ds : List ℕ) (n : ℕ) where
         let E : Standing → Type 0 = λ (q : Standing). IsEntryInTime (entry_of_moment q) in
         let here = at-standing m us segment comes in
         let all : All E (p ∷ entries_from ds n left (next_moment ds n p)) =
-        subst (λ b. All E (if b then [] else p ∷ entries_from ds n left (next_moment ds n p))) k fits in
+        subst (λ b. All E (if b then [] else p ∷ entries_from ds n left (next_moment ds n p))) k (subst (All E) (entries-step ds n left m) fits) in
         let fit = fits-head p (entries_from ds n left (next_moment ds n p)) all in
         rw k (All-cons P _ _ (one p (words_before m us) (words_before m segment) fit here)
         (each-told P one left (next_moment ds n p) (uses_at ds n p) (reverse (uses_at ds n p) ++ words_before m segment)
@@ -185,20 +186,20 @@ module _ (ds : List ℕ) (n : ℕ) where
       → All (λ (q : Standing). IsEntryInTime (entry_of_moment q)) (entries_from ds n left m)
       → stalled_from s Turn ds n left us m + stalled_from s Bank ds n left us m + stalled_from s Storage ds n left us m
       ≡ ticks_for s (all_charges ds n (entries_from ds n left m))
-  unfolding stalled_from entries_from all_charges ticks_for
-  sums-from s parted zero m us segment comes fits = refl
+  unfolding stalled_from all_charges ticks_for
+  sums-from s parted zero m us segment comes fits = rw (entries-none ds n m) refl
   sums-from s parted (suc left) m us segment comes fits = elim (cases_Bool (rests (next_state m))) [
-    | inl y ↦ rw y refl
+    | inl y ↦ rw (entries-step ds n left m, y) refl
     | inr k ↦
         let p = standing_at m in
         let E : Standing → Type 0 = λ (q : Standing). IsEntryInTime (entry_of_moment q) in
         let here = at-standing m us segment comes in
         let rest = entries_from ds n left (next_moment ds n p) in
-        let all : All E (p ∷ rest) = subst (λ b. All E (if b then [] else p ∷ rest)) k fits in
+        let all : All E (p ∷ rest) = subst (λ b. All E (if b then [] else p ∷ rest)) k (subst (All E) (entries-step ds n left m) fits) in
         let fit = fits-head p rest all in
         let later = sums-from s parted left (next_moment ds n p) (uses_at ds n p) (reverse (uses_at ds n p) ++ words_before m segment)
         (next-comes p (words_before m us) (words_before m segment) fit here) (All-tail E p rest all) in
-        rw k (omega (
+        rw (entries-step ds n left m, k) (omega (
           arith,
           row-sums s p (words_before m us) (words_before m segment) parted fit here,
           later,
@@ -211,14 +212,14 @@ at-start ds n c = opened ds n (moment_at_start c).banks 0
 
 -- the entries of a run are such as a machine can have
 pub entries-fit : (ds : List ℕ) (n left : ℕ) (m : Moment) → IsScene m.scene → All (λ (q : Standing). IsEntryInTime (entry_of_moment q)) (entries_from ds n left m)
-unfolding entries_from next_moment
-entries-fit ds n zero m is = All-nil (λ (q : Standing). IsEntryInTime (entry_of_moment q))
+unfolding next_moment
+entries-fit ds n zero m is = rw (entries-none ds n m) (All-nil (λ (q : Standing). IsEntryInTime (entry_of_moment q)))
 entries-fit ds n (suc left) m is = elim (cases_Bool (rests (next_state m))) [
-  | inl y ↦ rw y (All-nil (λ (q : Standing). IsEntryInTime (entry_of_moment q)))
+  | inl y ↦ rw (entries-step ds n left m, y) (All-nil (λ (q : Standing). IsEntryInTime (entry_of_moment q)))
   | inr k ↦
       let p = standing_at m in
       let here : IsScene p.scene = settled-scene m.scene is in
-      rw k (All-cons (λ (q : Standing). IsEntryInTime (entry_of_moment q)) p (entries_from ds n left (next_moment ds n p))
+      rw (entries-step ds n left m, k) (All-cons (λ (q : Standing). IsEntryInTime (entry_of_moment q)) p (entries_from ds n left (next_moment ds n p))
       (entry-ranges (interrupt p.scene.machine) p.scene.machine here.machine (interrupt-below p.scene.machine))
       (entries-fit ds n left (next_moment ds n p) (stepped-scene p.scene here)))
 ]

@@ -19,6 +19,7 @@ use Rattle.st_plain.specs.declared.known.Code.{Code}
 use Rattle.st_plain.specs.declared.known.Known.{Known}
 use Rattle.st_plain.specs.declared.looking.Ahead.{Ahead}
 use Rattle.st_plain.specs.declared.uses.Use.{Use}
+use Rattle.st_ledger.proofs.Runs.{entries-none, entries-step}
 use Rattle.st_ledger.specs.Charges.{all_ticks}
 use Rattle.st_ledger.specs.Ledger.{entries_from, charges_at, all_charges}
 use Rattle.st_ledger.specs.Lines.{row_stage_line, charge_line}
@@ -319,10 +320,10 @@ same-line t u is = ap (λ k. ticks_line k ∷ []) is
 from-told : (o : Machine → ℕ → Option Origin) (ds : List ℕ) (n left k : ℕ) (b : Machine) (us segment : List Use) (m : Moment) → m.front.c ≡ m.tick
     → filter is_spent_line (lines_from o ds n left k b us m)
     ≡ lines_of_rows ds n (told_from ds n left us segment m) ++ (ticks_line (m.tick + all_ticks (all_charges ds n (entries_from ds n left m))) ∷ [])
-unfolding lines_from told_from entries_from all_charges all_ticks lines_of_rows AreOther
-from-told o ds n zero k b us segment m at = last-told o ds n k b m ∙ same-line m.tick (m.tick + 0) (omega arith)
+unfolding lines_from told_from all_charges all_ticks lines_of_rows AreOther
+from-told o ds n zero k b us segment m at = rw (entries-none ds n m) (last-told o ds n k b m ∙ same-line m.tick (m.tick + 0) (omega arith))
 from-told o ds n (suc left) k b us segment m at = elim (cases_Bool (rests (next_state m))) [
-  | inl y ↦ rw y (last-told o ds n k b m ∙ same-line m.tick (m.tick + 0) (omega arith))
+  | inl y ↦ rw (entries-step ds n left m, y) (last-told o ds n k b m ∙ same-line m.tick (m.tick + 0) (omega arith))
   | inr r ↦
       let p = standing_at m in
       let behind = next_moment ds n p in
@@ -332,7 +333,7 @@ from-told o ds n (suc left) k b us segment m at = elim (cases_Bool (rests (next_
       let here = lines_of_row ds n (record { standing = p; uses = uses_at ds n p; before = words_before m us; segment = all }) in
       let told = lines_of_rows ds n (told_from ds n left (uses_at ds n p) all behind) in
       let later = all_charges ds n (entries_from ds n left behind) in
-      rw r
+      rw (entries-step ds n left m, r)
       (filter-append is_spent_line (segment_lines o ds n k b m ++ row) rest
       ∙ ap (λ xs. xs ++ filter is_spent_line rest)
       (filter-append is_spent_line (segment_lines o ds n k b m) row

@@ -6,9 +6,11 @@ use Rattle.st_exec.specs.Step.{rests, interrupt}
 use Rattle.st_rows.specs.Rows.{row_of_entry, front_after_entry}
 use Rattle.st_run.specs.Run.{PlainEvent, Ends, interlude, interrupts_by}
 use Rattle.st_run.specs.Events.{Timed, drop_of, snapshot}
-use Rattle.st_run.specs.Moments.{Moment, Standing, next_state, standing_at, entry_of_moment, next_row, next_moment, next_front, next_segment, ends_segment}
+use Rattle.st_run.specs.Moments.{Moment, Standing, next_state, standing_at, entry_of_moment, next_row, next_moment, next_front, next_segment, ends_segment, moments}
 use Rattle.st_run.specs.Order.{last_completion}
 use Rattle.st_run.specs.TimedRun.{event_at, ticks_before, snapshots_from, drops, drops_if_ends, happening_at, events_between, snapshot_at, last_snapshot_at, completion, until_done, last_events, timed_from}
+use Rattle.st_run.specs.Course.{Course, course}
+use Rattle.st_run.proofs.CourseLemmas.{timed-none, timed-step}
 use Rattle.st_run.proofs.ShownLemmas.{last-append, last_events-tick}
 use Rattle.st_ledger.specs.declared.charges.Charge.{Charge}
 use Rattle.st_ledger.specs.declared.charges.Stage.{Stage}
@@ -40,6 +42,26 @@ next-at : (ds : List ℕ) (n : ℕ) (p : Standing) → (next_moment ds n p).fron
 unfolding next_moment next_row row_of_entry front_after_entry
 next-at ds n p = refl
 
+-- ---- the entries of a run
+
+abbrev chosen : Bool → Moment → Course Moment → Course Moment
+chosen ends m r = if ends then record { before = []; last = m } else record { before = m ∷ r.before; last = r.last }
+
+entries-choice : (b : Bool) (m : Moment) (r : Course Moment)
+    → map standing_at (chosen b m r).before
+    ≡ (if b then [] else standing_at m ∷ map standing_at r.before)
+entries-choice true m r = refl
+entries-choice false m r = refl
+
+pub entries-step : (ds : List ℕ) (n left : ℕ) (m : Moment)
+    → entries_from ds n (suc left) m ≡ (if rests (next_state m) then [] else standing_at m ∷ entries_from ds n left (next_moment ds n (standing_at m)))
+unfolding entries_from course
+entries-step ds n left m = entries-choice (rests (next_state m)) m (moments ds n left (next_moment ds n (standing_at m)))
+
+pub entries-none : (ds : List ℕ) (n : ℕ) (m : Moment) → entries_from ds n zero m ≡ []
+unfolding entries_from course
+entries-none ds n m = refl
+
 -- ---- the charges of a run
 
 charges-follow : (ds : List ℕ) (n : ℕ) (p : Standing) → p.tick ≤ p.front.c → Follow p.tick (next_moment ds n p).tick (charges_at ds n p)
@@ -64,18 +86,20 @@ module _ (ds : List ℕ) (n : ℕ) where
 
   pub run-follows : (left : ℕ) (m : Moment) (snaps : List ℕ) (t : ℕ) → m.front.c ≡ m.tick
       → Follow m.tick (last_completion t (timed_from ds n left m snaps)) (all_charges ds n (entries_from ds n left m))
-  unfolding timed_from entries_from all_charges
-  run-follows zero m snaps t at = follow-end m snaps t
+  unfolding all_charges
+  run-follows zero m snaps t at = rw (timed-none ds n m snaps, entries-none ds n m) (follow-end m (snapshots_from m.tick snaps) t)
   run-follows (suc left) m snaps t event_at =
       let p = standing_at m in
       let next = next_moment ds n p in
-      let turn = events_between m ++ until_done ds n p snaps in
-      let rest = timed_from ds n left next (snapshots_from next.tick snaps) in
+      let due = snapshots_from m.tick snaps in
+      let turn = events_between m ++ until_done ds n p due in
+      let rest = timed_from ds n left next snaps in
       let end = last_completion (last_completion t turn) rest in
-      follow-if (rests (next_state m)) t m snaps turn rest (p ∷ entries_from ds n left next)
+      rw (timed-step ds n left m snaps, entries-step ds n left m)
+      (follow-if (rests (next_state m)) t m due turn rest (p ∷ entries_from ds n left next)
       (follow-append m.tick next.tick end (charges_at ds n p) (all_charges ds n (entries_from ds n left next))
       (charges-follow ds n p (standing-late m event_at))
-      (run-follows left next (snapshots_from next.tick snaps) (last_completion t turn) (next-at ds n p)))
+      (run-follows left next snaps (last_completion t turn) (next-at ds n p))))
 
   costs-if : (b : Bool) (ps : List Standing) → ticks_for Executing (all_charges ds n ps) ≡ all_costs ps
       → ticks_for Executing (all_charges ds n (if b then [] else ps)) ≡ all_costs (if b then [] else ps)
@@ -85,16 +109,17 @@ module _ (ds : List ℕ) (n : ℕ) where
 
   pub run-costs : (left : ℕ) (m : Moment) → m.front.c ≡ m.tick
       → ticks_for Executing (all_charges ds n (entries_from ds n left m)) ≡ all_costs (entries_from ds n left m)
-  unfolding entries_from all_charges all_costs ticks_for
-  run-costs zero m at = refl
+  unfolding all_charges all_costs ticks_for
+  run-costs zero m at = rw (entries-none ds n m) refl
   run-costs (suc left) m event_at =
       let p = standing_at m in
       let next = next_moment ds n p in
       let rest = entries_from ds n left next in
       let here = costs-at ds n p (standing-late m event_at) in
       let later = run-costs left next (next-at ds n p) in
-      costs-if (rests (next_state m)) (p ∷ rest)
-      (ticks_for-append Executing (charges_at ds n p) (all_charges ds n rest) ∙ omega (arith, here, later))
+      rw (entries-step ds n left m)
+      (costs-if (rests (next_state m)) (p ∷ rest)
+      (ticks_for-append Executing (charges_at ds n p) (all_charges ds n rest) ∙ omega (arith, here, later)))
 
 -- ---- the rows of a run
 
@@ -160,17 +185,18 @@ rows-if false ds n m snaps events ps h = h
 
 pub run-rows : (ds : List ℕ) (n left : ℕ) (m : Moment) (snaps : List ℕ)
     → map (row_at ds n) (entries_from ds n left m) ≡ rows_told (timed_from ds n left m snaps)
-unfolding timed_from entries_from
-run-rows ds n zero m snaps = sym (last-none m snaps)
+run-rows ds n zero m snaps = rw (timed-none ds n m snaps, entries-none ds n m) (sym (last-none m (snapshots_from m.tick snaps)))
 run-rows ds n (suc left) m snaps =
     let p = standing_at m in
     let next = next_moment ds n p in
-    let turn = events_between m ++ until_done ds n p snaps in
-    let rest = timed_from ds n left next (snapshots_from next.tick snaps) in
-    let here : rows_told turn ≡ row_at ds n p ∷ [] = rows-none (events_between m) (until_done ds n p snaps) (between-none m) ∙ done-row ds n p snaps in
-    rows-if (rests (next_state m)) ds n m snaps (turn ++ rest) (p ∷ entries_from ds n left next)
-    (ap (λ rows. row_at ds n p ∷ rows) (run-rows ds n left next (snapshots_from next.tick snaps))
-    ∙ sym (rows-append turn rest ∙ ap (λ rows. rows ++ rows_told rest) here))
+    let due = snapshots_from m.tick snaps in
+    let turn = events_between m ++ until_done ds n p due in
+    let rest = timed_from ds n left next snaps in
+    let here : rows_told turn ≡ row_at ds n p ∷ [] = rows-none (events_between m) (until_done ds n p due) (between-none m) ∙ done-row ds n p due in
+    rw (timed-step ds n left m snaps, entries-step ds n left m)
+    (rows-if (rests (next_state m)) ds n m due (turn ++ rest) (p ∷ entries_from ds n left next)
+    (ap (λ rows. row_at ds n p ∷ rows) (run-rows ds n left next snaps)
+    ∙ sym (rows-append turn rest ∙ ap (λ rows. rows ++ rows_told rest) here)))
 
 -- ---- segments
 

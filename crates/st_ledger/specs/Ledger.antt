@@ -1,20 +1,17 @@
 -- The entries that are done in a run, and the charges of all of them. The machine has the delays ds
 -- and n levels.
-use Rattle.std.specs.Prelude.{ℕ, zero, suc, ◌+◌, if◌then◌else◌, List, [], ◌∷◌, ◌++◌}
-use Rattle.st_exec.specs.Step.{rests, address}
+use Rattle.std.specs.Prelude.{ℕ, ◌+◌, List, [], ◌∷◌, ◌++◌, map}
+use Rattle.st_exec.specs.Step.{address}
 use Rattle.st_rows.specs.declared.front.EntryTicks.{EntryTicks}
 use Rattle.st_run.specs.Run.{Scene}
 use Rattle.st_run.specs.Events.{TimetableEvent, Timed, Completes, Drops, Shows, Happens}
-use Rattle.st_run.specs.Moments.{Moment, Standing, moment_at_start, next_state, standing_at, entry_of_moment, next_row, next_moment}
+use Rattle.st_run.specs.Moments.{Moment, Standing, moment_at_start, moments, standing_at, entry_of_moment, next_row}
 use Rattle.st_ledger.specs.declared.charges.Charge.{Charge}
 use Rattle.st_ledger.specs.Charges.{charges}
 
 -- where the run stands before each entry, from a moment on, in which so many may still be done
 unfoldable pub entries_from : List ℕ → ℕ → ℕ → Moment → List Standing
-entries_from ds n zero m = []
-entries_from ds n (suc left) m =
-    if rests (next_state m) then []
-    else standing_at m ∷ entries_from ds n left (next_moment ds n (standing_at m))
+entries_from ds n left m = map standing_at (moments ds n left m).before
 
 -- in the whole run of a scene
 abbrev pub entries_of : List ℕ → ℕ → ℕ → Scene → List Standing

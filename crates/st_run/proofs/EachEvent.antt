@@ -10,6 +10,7 @@ use Rattle.st_run.specs.Run.{Ends, interlude, interrupts_by}
 use Rattle.st_run.specs.Events.{Timed, drop_of}
 use Rattle.st_run.specs.Moments.{Moment, Standing, next_state, ends_segment, standing_at, next_moment}
 use Rattle.st_run.specs.TimedRun.{event_at, ticks_before, snapshots_from, snapshot_at, last_snapshot_at, drops, drops_if_ends, happening_at, events_between, completion, until_done, last_events, timed_from}
+use Rattle.st_run.proofs.CourseLemmas.{timed-none, timed-step}
 use Rattle.st_run.proofs.DoneLemmas.{settled-done}
 
 abbrev HoldsOf : (ℕ → ℕ → Type 0) → Timed → Type 0
@@ -59,21 +60,22 @@ pub timed-each : (Q : ℕ → ℕ → Type 0) (ds : List ℕ) (n : ℕ) (Keeps :
     → ((left : ℕ) (m : Moment) → Keeps left m → Q m.scene.machine.done m.tick)
     → ((left : ℕ) (m : Moment) → Keeps (suc left) m → Keeps left (next_moment ds n (standing_at m)))
     → (left : ℕ) (m : Moment) (snaps : List ℕ) → Keeps left m → All (λ (x : Timed). Q x.done x.tick) (timed_from ds n left m snaps)
-unfolding timed_from
-timed-each Q ds n Keeps here on zero m snaps is = last-each Q m (here zero m is) snaps
+timed-each Q ds n Keeps here on zero m snaps is = rw (timed-none ds n m snaps) (last-each Q m (here zero m is) (snapshots_from m.tick snaps))
 timed-each Q ds n Keeps here on (suc left) m snaps is =
     let p = standing_at m in
     let next = next_moment ds n p in
     let now = here (suc left) m is in
     let more = on left m is in
-    let rest = timed_from ds n left next (snapshots_from next.tick snaps) in
-    let turn = events_between m ++ until_done ds n p snaps in
-    of_choice (λ (xs : List Timed). All (HoldsOf Q) xs) (rests (next_state m)) (last_events m snaps) (turn ++ rest)
-    (last-each Q m now snaps)
+    let due = snapshots_from m.tick snaps in
+    let rest = timed_from ds n left next snaps in
+    let turn = events_between m ++ until_done ds n p due in
+    rw (timed-step ds n left m snaps)
+    (of_choice (λ (xs : List Timed). All (HoldsOf Q) xs) (rests (next_state m)) (last_events m due) (turn ++ rest)
+    (last-each Q m now due)
     (All-append (HoldsOf Q) turn rest
-    (All-append (HoldsOf Q) (events_between m) (until_done ds n p snaps) (between-each Q m now)
-    (until-each Q ds n p snaps (subst (λ (d : ℕ). Q d m.tick) (sym (settled-done m.scene)) now) (here left next more)))
-    (timed-each Q ds n Keeps here on left next (snapshots_from next.tick snaps) more))
+    (All-append (HoldsOf Q) (events_between m) (until_done ds n p due) (between-each Q m now)
+    (until-each Q ds n p due (subst (λ (d : ℕ). Q d m.tick) (sym (settled-done m.scene)) now) (here left next more)))
+    (timed-each Q ds n Keeps here on left next snaps more)))
 
 -- one more is done at the next moment
 pub next-more : (ds : List ℕ) (n : ℕ) (m : Moment) → (next_moment ds n (standing_at m)).scene.machine.done ≡ m.scene.machine.done + 1

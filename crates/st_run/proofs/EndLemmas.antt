@@ -2,7 +2,9 @@
 use Rattle.std.proofs.Common.{◌≡◌, ℕ, zero, suc, ◌+◌, ◌*◌, ◌≤◌, Bool, true, false, if◌then◌else◌, List, ◌++◌, sym, subst, arith}
 use Rattle.std.proofs.Math.Nat.{mul-add}
 use Rattle.st_exec.specs.Step.{rests}
-use Rattle.st_run.specs.Run.{Scene, Transition, interlude, scene_after_step, transition_at_end, goes_on, run}
+use Rattle.st_run.specs.Run.{Scene, Transition, interlude, scene_after_step, run}
+use Rattle.st_run.proofs.Runs.{transition_at_end, goes_on, run-none, run-step}
+use Rattle.st_run.proofs.CourseLemmas.{timed-none, timed-step}
 use Rattle.st_rows.specs.Ranges.{AreDelaysUpTo}
 use Rattle.st_run.specs.Events.{Timed}
 use Rattle.st_run.specs.Moments.{Moment, moment_at_start, next_scene, next_state, standing_at, next_moment}
@@ -40,16 +42,18 @@ module _ (most n : ℕ) (ds : List ℕ) (are : AreDelaysUpTo most ds) (levels : 
   timed-ends : (left : ℕ) (m : Moment) (snaps : List ℕ) → IsMoment most n m
       → HasTime (64 * (most + 4)) m.tick m.scene.machine
       → EndsInTime (64 * (most + 4)) (timed_from ds n left m snaps) (run left m.scene)
-  unfolding timed_from run next_moment
-  timed-ends zero m snaps is has = last-ends (64 * (most + 4)) m snaps has
+  unfolding next_moment
+  timed-ends zero m snaps is has = rw (timed-none ds n m snaps, run-none m.scene) (last-ends (64 * (most + 4)) m (snapshots_from m.tick snaps) has)
   timed-ends (suc left) m snaps is has =
       let b = 64 * (most + 4) in
       let p = standing_at m in
       let next = next_moment ds n p in
-      ends-if (rests (next_state m)) b m (last_events m snaps) (events_between m ++ until_done ds n p snaps)
-      (timed_from ds n left next (snapshots_from next.tick snaps)) (run left (scene_after_step (next_scene m)))
-      (last-ends b m snaps has)
-      (timed-ends left next (snapshots_from next.tick snaps) (next-is most n ds are levels m is) (next-time most n ds are levels m is has))
+      let due = snapshots_from m.tick snaps in
+      rw (timed-step ds n left m snaps, run-step left m.scene)
+      (ends-if (rests (next_state m)) b m (last_events m due) (events_between m ++ until_done ds n p due)
+      (timed_from ds n left next snaps) (run left (scene_after_step (next_scene m)))
+      (last-ends b m due has)
+      (timed-ends left next snaps (next-is most n ds are levels m is) (next-time most n ds are levels m is has)))
 
   pub run-ends : (left : ℕ) (c : Scene) (snaps : List ℕ) (t : ℕ) → IsScene c
       → last_completion t (timed_from ds n left (moment_at_start c) snaps) ≤ 64 * (most + 4) * ((run left c).scene.machine.done + 1)

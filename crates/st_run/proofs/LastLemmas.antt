@@ -1,7 +1,9 @@
 -- The last thing that is told of a run is told at its end.
 use Rattle.std.proofs.Common.{◌≡◌, ℕ, zero, suc, Bool, true, false, if◌then◌else◌, List, [], ◌∷◌, ◌++◌, ◌+◌, refl, sym, ◌∙◌, map}
 use Rattle.st_exec.specs.Step.{rests}
-use Rattle.st_run.specs.Run.{Scene, Transition, Ends, interlude, scene_after_step, transition_at_end, goes_on, run}
+use Rattle.st_run.specs.Run.{Scene, Transition, Ends, interlude, scene_after_step, run}
+use Rattle.st_run.proofs.Runs.{transition_at_end, goes_on, run-none, run-step}
+use Rattle.st_run.proofs.CourseLemmas.{timed-none, timed-step}
 use Rattle.st_run.specs.Events.{Timed}
 use Rattle.st_run.specs.Moments.{Moment, moment_at_start, next_scene, next_state, standing_at, next_moment}
 use Rattle.st_run.specs.TimedRun.{ticks_before, snapshots_from, drops, happening_at, last_snapshot_at, events_between, until_done, last_events, timed_from}
@@ -43,14 +45,16 @@ like-if false m xs turn rest later here there = record {
 }
 
 timed-like : (ds : List ℕ) (n left : ℕ) (m : Moment) (snaps : List ℕ) → EndsLike (run left m.scene) (timed_from ds n left m snaps)
-unfolding timed_from run next_moment
-timed-like ds n zero m snaps = last-like m snaps
+unfolding next_moment
+timed-like ds n zero m snaps = rw (timed-none ds n m snaps, run-none m.scene) (last-like m (snapshots_from m.tick snaps))
 timed-like ds n (suc left) m snaps =
     let p = standing_at m in
     let next = next_moment ds n p in
-    like-if (rests (next_state m)) m (last_events m snaps) (events_between m ++ until_done ds n p snaps)
-    (timed_from ds n left next (snapshots_from next.tick snaps)) (run left (scene_after_step (next_scene m)))
-    (last-like m snaps) (timed-like ds n left next (snapshots_from next.tick snaps))
+    let due = snapshots_from m.tick snaps in
+    rw (timed-step ds n left m snaps, run-step left m.scene)
+    (like-if (rests (next_state m)) m (last_events m due) (events_between m ++ until_done ds n p due)
+    (timed_from ds n left next snaps) (run left (scene_after_step (next_scene m)))
+    (last-like m due) (timed-like ds n left next snaps))
 
 pub run-done : (ds : List ℕ) (n left : ℕ) (c : Scene) (snaps : List ℕ) (d : ℕ) → last_done d (timed_from ds n left (moment_at_start c) snaps) ≡ (run left c).scene.machine.done
 run-done ds n left c snaps d = (timed-like ds n left (moment_at_start c) snaps).done d

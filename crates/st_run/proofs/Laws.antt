@@ -1,16 +1,17 @@
 -- What holds of each run with its timetable, proved.
 use Rattle.st_run.proofs.Untimed.{timed-plain}
 use Rattle.st_run.specs.Moments.{moment_at_start, next_moment}
-use Rattle.std.proofs.Common.{sym, ◌∙◌, refl}
+use Rattle.std.proofs.Common.{sym, ◌∙◌, refl, arith}
 use Rattle.st_run.proofs.Bounds.{run-time}
 use Rattle.st_run.proofs.EndLemmas.{run-ends}
 use Rattle.st_run.proofs.OrderLemmas.{timed-order}
-use Rattle.st_run.proofs.ShownLemmas.{timed-shown}
+use Rattle.st_run.proofs.ShownLemmas.{timed-shown, tick-same}
+use Rattle.st_run.proofs.CourseLemmas.{last-same}
 use Rattle.st_run.proofs.Turns.{nothing-ahead, snapshot-none}
 use Rattle.st_run.proofs.PrintLemmas.{settled-one}
 use Rattle.st_run.proofs.GuessLemmas.{behind-right, behind-missed}
 use Rattle.st_run.proofs.SceneLemmas.{settled-scene, stepped-scene}
-use Rattle.st_run.specs.Laws.{TheTimedRunIsTheRun, DelaysChangeNothingButTicks, RunsAreInTime, EventsComeInOrder, SnapshotsAreShownUpToTheEnd, NothingIsAheadBehindAnEnd, PrintsComeOneAtATime, DroppedEntriesFollowTheGuess, ScenesAreKept}
+use Rattle.st_run.specs.Laws.{TheTimedRunIsTheRun, DelaysChangeNothingButTicks, RunsAreInTime, TheLastMomentEndsTheRun, EventsComeInOrder, SnapshotsAreShownUpToTheEnd, NothingIsAheadBehindAnEnd, PrintsComeOneAtATime, DroppedEntriesFollowTheGuess, ScenesAreKept}
 use Rattle.st_refine.proofs.Kept.{interrupt-below}
 
 pub the_timed_run_is_the_run : TheTimedRunIsTheRun
@@ -29,11 +30,17 @@ runs_are_in_time = record {
   end = λ ds snaps most n left scene are levels is. run-ends most n ds are levels left scene snaps 0 is;
 }
 
+pub the_last_moment_ends_the_run : TheLastMomentEndsTheRun
+the_last_moment_ends_the_run = record {
+  tick = λ ds snaps n left scene. tick-same ds n left 0 (moment_at_start scene) snaps;
+  state = λ ds n left scene. sym (last-same ds n left (moment_at_start scene));
+}
+
 pub events_come_in_order : EventsComeInOrder
-events_come_in_order = λ ds snaps n left scene rising. timed-order ds n left (moment_at_start scene) snaps refl rising
+events_come_in_order = λ ds snaps n left scene rising. timed-order ds n left 0 (moment_at_start scene) snaps refl (omega arith) rising
 
 pub snapshots_are_shown_up_to_the_end : SnapshotsAreShownUpToTheEnd
-snapshots_are_shown_up_to_the_end = λ ds snaps n left scene. timed-shown ds n left (moment_at_start scene) snaps 0 refl
+snapshots_are_shown_up_to_the_end = λ ds snaps n left scene. timed-shown ds n left (moment_at_start scene) snaps 0 refl refl
 
 pub nothing_is_ahead_behind_an_end : NothingIsAheadBehindAnEnd
 nothing_is_ahead_behind_an_end = record {

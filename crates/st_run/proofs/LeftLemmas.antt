@@ -9,7 +9,7 @@ use Rattle.st_rows.specs.declared.front.Front.{Front}
 use Rattle.st_segment.specs.Ahead.{prepared_before}
 use Rattle.st_ahead.specs.Overlap.{state_ahead, oldest_row, levels_of}
 use Rattle.st_run.specs.Moments.{Moment, Standing, next_scene, next_state, ends_segment, has_card, has_waited, standing_at, entries_at_moment, next_moment}
-use Rattle.st_run.specs.TimedRun.{events_between, last_events, timed_from, timed_behind}
+use Rattle.st_run.specs.TimedRun.{snapshots_from, events_between, last_events, timed_from, timed_behind}
 use Rattle.st_run.specs.Order.{AreRising}
 use Rattle.st_run.specs.ReportedEvents.{TimedReportedEvent, reported_events}
 use Rattle.st_run.specs.Together.{Together, scene_of, IsBeforeEntry, standing_of, moment_of, AreTexts}
@@ -18,6 +18,7 @@ use Rattle.st_run.specs.Leaving.{IsDecided, RunGoesOn}
 use Rattle.st_run.specs.declared.leaving.Decided.{Decided}
 use Rattle.st_run.specs.declared.turn.Turn.{Turn}
 use Rattle.st_run.specs.declared.turn.Turn.TheVariants as turns
+use Rattle.st_run.proofs.CourseLemmas.{rising-to-come}
 use Rattle.st_run.proofs.Turns.{timed-rests, timed-budget, timed-goes_on, nothing-ahead}
 use Rattle.st_run.proofs.ReportedLemmas.{told-append, dropped_at, told-between, told-last, told-completion}
 use Rattle.st_run.proofs.MomentLemmas.{still, ready-still, row-before}
@@ -25,10 +26,10 @@ use Rattle.st_run.proofs.ChoiceLemmas.{IsWay}
 
 -- ---- the run ends, or goes on
 
-ends-here : (ds : List ℕ) (n left : ℕ) (m : Moment) (snaps : List ℕ) (b : Bool) → b ≡ rests (next_state m) → (b ≡ false → left ≡ 0)
+ends-here : (ds : List ℕ) (n left : ℕ) (m : Moment) (snaps : List ℕ) (b : Bool) → snapshots_from m.tick snaps ≡ snaps → b ≡ rests (next_state m) → (b ≡ false → left ≡ 0)
     → timed_from ds n left m snaps ≡ last_events m snaps
-ends-here ds n left m snaps true resting none = timed-rests ds n left m snaps (sym resting)
-ends-here ds n left m snaps false resting none = timed-budget ds n left m snaps (none refl)
+ends-here ds n left m snaps true come resting none = timed-rests ds n left m snaps come (sym resting)
+ends-here ds n left m snaps false come resting none = timed-budget ds n left m snaps come (none refl)
 
 -- what is dropped, where the segment ends or not
 abbrev dropped_if : Bool → Moment → List (ℕ × ℕ)
@@ -45,7 +46,7 @@ waits_by drops d = waits drops (option_map (λ x. x.bytes) d.text) d.taken
 module _ (ds : List ℕ) (n left tick : ℕ) (m : Moment) (snaps : List ℕ) (d : Decided) (drops : List (ℕ × ℕ)) (t : Together)
     (text : AreTexts (option_map (λ x. x.bytes) d.text) (interlude m.scene).happened)
     (tick_is : tick ≡ m.tick) (delays : t.machine.delays ≡ ds) (levels : t.machine.levels ≡ n)
-    (dropped : drops ≡ dropped_if d.ends m) where
+    (dropped : drops ≡ dropped_if d.ends m) (come : snapshots_from m.tick snaps ≡ snaps) where
   abbrev printed : Option (List ℕ)
   printed = option_map (λ x. x.bytes) d.text
 
@@ -64,7 +65,7 @@ module _ (ds : List ℕ) (n left tick : ℕ) (m : Moment) (snaps : List ℕ) (d 
       ∙ ap {A = Option ℕ} (λ o. waits drops printed o) (sym g.taken) in
       let stand : p ≡ standing_of tick t =
       sym g.standing ∙ ap {A = ℕ} (λ x. standing_of x t) (sym tick_is) in
-      ap reported_events (timed-goes_on ds n left m snaps some awake)
+      ap reported_events (timed-goes_on ds n left m snaps come some awake)
       ∙ told-append (events_between m) (timed_behind ds n k p snaps)
       ∙ ap {A = List TimedReportedEvent} (λ xs. xs ++ rest) (told-between m printed text)
       ∙ ap {A = Waiting} (λ w. map (at_once m.tick s) (waiting_events w s) ++ rest) waiting
@@ -86,7 +87,7 @@ module _ (ds : List ℕ) (n left tick : ℕ) (m : Moment) (snaps : List ℕ) (d 
       ap {A = Bool} (λ b. waits (dropped_if b m) printed None) (sym ends)
       ∙ ap {A = List (ℕ × ℕ)} (λ xs. waits xs printed None) (sym dropped)
       ∙ ap {A = Option ℕ} (λ o. waits drops printed o) (sym void) in
-      ap reported_events (ends-here ds n left m snaps resting same none)
+      ap reported_events (ends-here ds n left m snaps resting come same none)
       ∙ told-last m printed snaps text
       ∙ ap {A = Waiting} (λ w. map (at_once m.tick s) (waiting_events w s) ++ told_at_end (rests s) m.tick snaps s) waiting
       ∙ ap {A = Bool} (λ b. map (at_once m.tick s) (waiting_events (waits drops printed d.taken) s) ++ told_at_end b m.tick snaps s) (sym same)
@@ -148,10 +149,13 @@ module _ (left tick : ℕ) (snaps : List ℕ) (old t : Together) (d : Decided) (
     (is : IsLeft left snaps tick old) (decided : IsDecided left (moment_of old) d t)
     (delays : t.machine.delays ≡ old.machine.delays) (levels : t.machine.levels ≡ old.machine.levels)
     (dropped : drops ≡ (if d.ends then map dropped_at (levels_of old.machine) else [])) where
+  to-come : snapshots_from (moment_of old).tick snaps ≡ snaps
+  to-come = ap (λ (x : ℕ). snapshots_from x snaps) (sym is.tick_is) ∙ rising-to-come tick snaps is.rising
+
   pub left-told : reported_events (timed_from old.machine.delays old.machine.levels left (moment_of old) snaps)
       ≡ rest_of d.turn (left - 1) tick snaps (waits drops (option_map (λ x. x.bytes) d.text) d.taken) t
   left-told =
-      way-told old.machine.delays old.machine.levels left tick (moment_of old) snaps d drops t decided.text is.tick_is delays levels dropped
+      way-told old.machine.delays old.machine.levels left tick (moment_of old) snaps d drops t decided.text is.tick_is delays levels dropped to-come
       d.turn decided.way
 
   pub left-keeps : IsRun d.turn (left - 1) tick snaps (waits drops (option_map (λ x. x.bytes) d.text) d.taken) t
@@ -159,10 +163,10 @@ module _ (left tick : ℕ) (snaps : List ℕ) (old t : Together) (d : Decided) (
       let m = moment_of old in
       record {
         stands =
-            way-stands old.machine.delays old.machine.levels left tick m snaps d drops t decided.text is.tick_is delays levels dropped
+            way-stands old.machine.delays old.machine.levels left tick m snaps d drops t decided.text is.tick_is delays levels dropped to-come
             d.turn decided.way is.rising;
         taken =
-            way-taken old.machine.delays old.machine.levels left tick m snaps d drops t decided.text is.tick_is delays levels dropped
+            way-taken old.machine.delays old.machine.levels left tick m snaps d drops t decided.text is.tick_is delays levels dropped to-come
             d.turn decided.way;
         in_time = subst {A = List TimedReportedEvent} AreInTime left-told is.in_time;
       }

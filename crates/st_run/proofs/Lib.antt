@@ -1,3 +1,4 @@
+pub mod CourseLemmas
 pub mod Runs
 pub mod Untimed
 pub mod Turns

@@ -1,15 +1,14 @@
 -- The events of a run come in the order of their ticks.
-use Rattle.std.specs.Prelude.{map, reverse, nat_lt}
-use Rattle.std.proofs.Common.{◌≡◌, ℕ, zero, suc, ◌+◌, ◌≤◌, ◌<◌, ◌⊎◌, inl, inr, true, false, List, [], ◌∷◌, ◌++◌, refl, sym, subst, arith, append_assoc}
-use Rattle.std.proofs.lemmas.Bool.{cases_Bool, ltb-true, ltb-false}
+use Rattle.std.specs.Prelude.{map, reverse}
+use Rattle.std.proofs.Common.{◌≡◌, ℕ, zero, suc, ◌+◌, ◌≤◌, inl, inr, List, [], ◌∷◌, ◌++◌, refl, sym, subst, arith, append_assoc}
 use Rattle.st_prep.proofs.Choices.{of_choice}
 use Rattle.st_exec.specs.Step.{interrupt, rests}
 use Rattle.st_run.specs.Run.{PlainEvent, Ends, interlude, interrupts_by}
-use Rattle.st_rows.specs.Rows.{row_of_entry, tick_c, front_after_entry}
 use Rattle.st_run.specs.Events.{Timed, drop_of, snapshot}
-use Rattle.st_run.specs.Moments.{Moment, Standing, next_state, ends_segment, next_segment, next_front, standing_at, next_row, next_moment}
+use Rattle.st_run.specs.Moments.{Moment, Standing, next_state, ends_segment, standing_at, next_moment}
 use Rattle.st_run.specs.TimedRun.{event_at, ticks_before, snapshots_from, snapshot_at, last_snapshot_at, drops, drops_if_ends, happening_at, events_between, completion, until_done, last_events, timed_from}
 use Rattle.st_run.specs.Order.{told_at, AreEventsInOrder, AreRising}
+use Rattle.st_run.proofs.CourseLemmas.{test-lt, next-later, next-same, timed-none, timed-step}
 
 -- ---- lists of ticks
 
@@ -22,9 +21,6 @@ rising-weaker : (t u : ℕ) (xs : List ℕ) → t ≤ u → AreRising u xs → A
 unfolding AreRising
 rising-weaker t u [] le is = tt
 rising-weaker t u (x ∷ xs) le is = (omega (arith, is.0), is.1)
-
-pub test-lt : (x u : ℕ) → ((nat_lt x u ≡ true) × (x < u)) ⊎ ((nat_lt x u ≡ false) × (u ≤ x))
-test-lt x u = elim (cases_Bool (nat_lt x u)) [ inl t ↦ inl (t, ltb-true x u t) | inr f ↦ inr (f, ltb-false x u f) ]
 
 rising-from : (t u : ℕ) (xs : List ℕ) → t ≤ u → AreRising t xs → AreRising u (snapshots_from u xs)
 unfolding AreRising snapshots_from
@@ -110,27 +106,19 @@ until_done-lead ds n p snaps later rising =
 -- ---- the run
 
 module _ (ds : List ℕ) (n : ℕ) where
-  pub next-later : (m : Moment) → m.front.c ≡ m.tick → m.tick ≤ (next_moment ds n (standing_at m)).tick
-  unfolding next_moment next_row row_of_entry tick_c next_front
-  next-later m same =
-      let front : m.tick ≤ (next_front m).c = of_choice (λ f. m.tick ≤ f.c) (ends_segment m) (next_segment m) m.front (omega arith) (omega (arith, same)) in
-      omega (arith, front)
-
-  pub next-same : (p : Standing) → (next_moment ds n p).front.c ≡ (next_moment ds n p).tick
-  unfolding next_moment next_row row_of_entry front_after_entry
-  next-same p = refl
-
-  pub timed-order : (left : ℕ) (m : Moment) (snaps : List ℕ) → m.front.c ≡ m.tick → AreRising m.tick snaps
+  pub timed-order : (left : ℕ) (t : ℕ) (m : Moment) (snaps : List ℕ) → m.front.c ≡ m.tick → t ≤ m.tick → AreRising t snaps
       → AreEventsInOrder m.tick (timed_from ds n left m snaps)
-  unfolding timed_from
-  timed-order zero m snaps same rising = last-order m snaps rising
-  timed-order (suc left) m snaps same rising =
+  timed-order zero t m snaps same early rising = rw (timed-none ds n m snaps) (last-order m (snapshots_from m.tick snaps) (rising-from t m.tick snaps early rising))
+  timed-order (suc left) t m snaps same early rising =
       let p = standing_at m in
       let next = next_moment ds n p in
-      let later : m.tick ≤ next.tick = next-later m same in
-      let turn = events_between m ++ until_done ds n p snaps in
-      let rest = timed_from ds n left next (snapshots_from next.tick snaps) in
-      of_choice (λ xs. AreEventsInOrder m.tick xs) (rests (next_state m)) (last_events m snaps) (turn ++ rest)
-      (last-order m snaps rising)
-      (leads-append m.tick m.tick next.tick (events_between m) (until_done ds n p snaps) (between-lead m) (until_done-lead ds n p snaps later rising)
-      rest (timed-order left next (snapshots_from next.tick snaps) (next-same p) (rising-from m.tick next.tick snaps later rising)))
+      let later : m.tick ≤ next.tick = next-later ds n m same in
+      let due = snapshots_from m.tick snaps in
+      let on = rising-from t m.tick snaps early rising in
+      let turn = events_between m ++ until_done ds n p due in
+      let rest = timed_from ds n left next snaps in
+      rw (timed-step ds n left m snaps)
+      (of_choice (λ xs. AreEventsInOrder m.tick xs) (rests (next_state m)) (last_events m due) (turn ++ rest)
+      (last-order m due on)
+      (leads-append m.tick m.tick next.tick (events_between m) (until_done ds n p due) (between-lead m) (until_done-lead ds n p due later on)
+      rest (timed-order left t next snaps (next-same ds n p) (omega (arith, early, later)) rising)))

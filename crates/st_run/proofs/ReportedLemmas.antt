@@ -10,7 +10,7 @@ use Rattle.st_run.specs.Run.{PlainEvent, Ends, interlude, interrupts_by}
 use Rattle.st_segment.specs.Ahead.{Ahead}
 use Rattle.st_run.specs.Events.{Timed, address_ahead, drop_of}
 use Rattle.st_run.specs.Moments.{Moment, Standing, next_state, ends_segment, next_moment}
-use Rattle.st_run.specs.TimedRun.{event_at, ticks_before, snapshots_from, last_snapshot_at, snapshot_at, drops, drops_if_ends, happening_at, events_between, completion, until_done, last_events, timed_from, timed_behind}
+use Rattle.st_run.specs.TimedRun.{event_at, ticks_before, last_snapshot_at, snapshot_at, drops, drops_if_ends, happening_at, events_between, completion, until_done, last_events, timed_from, timed_behind}
 use Rattle.st_run.specs.ReportedEvents.{ReportedEvent, Dropped, Shown, Ended, TimedReportedEvent, reported_plain_event, timed_reported_event, reported_events, Printed}
 use Rattle.st_run.specs.Together.{AreTexts}
 use Rattle.st_run.specs.Telling.{waiting_events, at_once, told_at_end}
@@ -159,7 +159,7 @@ unfolding until_done reported_events
 told-completion P ds n left p snaps all =
     let shows = map (snapshot_at ds n p) (ticks_before (next_moment ds n p).tick snaps) in
     let last = completion ds n p in
-    let rest = timed_from ds n left (next_moment ds n p) (snapshots_from (next_moment ds n p).tick snaps) in
+    let rest = timed_from ds n left (next_moment ds n p) snaps in
     let joined : reported_events (timed_behind ds n left p snaps) ≡ reported_events shows ++ (timed_reported_event last ∷ reported_events rest) =
     told-append (shows ++ last ∷ []) rest
     ∙ ap (λ (xs : List TimedReportedEvent). xs ++ reported_events rest) (told-append shows (last ∷ []))

@@ -4,7 +4,9 @@ use Rattle.std.proofs.Common.{◌≡◌, ℕ, zero, suc, ◌+◌, ◌≤◌, Lis
 use Rattle.st_prep.proofs.Choices.{of_choice}
 use Rattle.st_exec.specs.Step.{interrupt, rests}
 use Rattle.st_exec.proofs.StepLemmas.{step-done}
-use Rattle.st_run.specs.Run.{Scene, Ends, Transition, interlude, interrupts_by, scene_after_step, transition_at_end, goes_on, run}
+use Rattle.st_run.specs.Run.{Scene, Ends, Transition, interlude, interrupts_by, scene_after_step, run}
+use Rattle.st_run.proofs.Runs.{transition_at_end, goes_on, run-none, run-step}
+use Rattle.st_run.proofs.CourseLemmas.{timed-none, timed-step}
 use Rattle.st_run.specs.Events.{Timed, drop_of}
 use Rattle.st_run.specs.Moments.{Moment, Standing, moment_at_start, next_state, ends_segment, standing_at, next_moment}
 use Rattle.st_run.specs.TimedRun.{event_at, ticks_before, snapshots_from, drops, drops_if_ends, happening_at, events_between, snapshot_at, completion, until_done, last_snapshot_at, last_events, timed_from}
@@ -24,15 +26,15 @@ timed-done ds n left k m snaps few =
 
 -- the plain run
 ran-done : (left : ℕ) (c : Scene) → (run left c).scene.machine.done ≤ c.machine.done + left
-unfolding run
-ran-done zero c = let same = settled-done c in omega (arith, same)
+ran-done zero c = rw (run-none c) (let same = settled-done c in omega (arith, same))
 ran-done (suc left) c =
     let same = settled-done c in
     let next = scene_after_step (interlude c).scene in
     let more : next.machine.done ≡ (interlude c).scene.machine.done + 1 = step-done (interlude c).scene.machine in
     let rest = ran-done left next in
-    of_choice (λ (x : Transition). x.scene.machine.done ≤ c.machine.done + suc left) (rests (interlude c).scene.machine)
-    (transition_at_end (interlude c)) (goes_on (interlude c) (run left next)) (omega (arith, same)) (omega (arith, same, more, rest))
+    rw (run-step left c)
+    (of_choice (λ (x : Transition). x.scene.machine.done ≤ c.machine.done + suc left) (rests (interlude c).scene.machine)
+    (transition_at_end (interlude c)) (goes_on (interlude c) (run left next)) (omega (arith, same)) (omega (arith, same, more, rest)))
 
 pub runs_keep_their_budget : RunsKeepTheirBudget
 runs_keep_their_budget = record {
@@ -97,18 +99,19 @@ until_done-near b ds n p snaps soon =
 
 module _ (most n : ℕ) (ds : List ℕ) (are : AreDelaysUpTo most ds) (levels : n ≤ 8) where
   timed-near : (left : ℕ) (m : Moment) (snaps : List ℕ) → IsMoment most n m → AreNear (64 * (most + 4)) m.tick (timed_from ds n left m snaps)
-  unfolding timed_from
-  timed-near zero m snaps is = last-near (64 * (most + 4)) m snaps
+  timed-near zero m snaps is = rw (timed-none ds n m snaps) (last-near (64 * (most + 4)) m (snapshots_from m.tick snaps))
   timed-near (suc left) m snaps is =
       let b = 64 * (most + 4) in
       let p = standing_at m in
       let next = next_moment ds n p in
-      let turn = events_between m ++ until_done ds n p snaps in
-      let rest = timed_from ds n left next (snapshots_from next.tick snaps) in
-      of_choice (λ xs. AreNear b m.tick xs) (rests (next_state m)) (last_events m snaps) (turn ++ rest) (last-near b m snaps)
-      (near-append b m.tick m.tick next.tick (events_between m) (until_done ds n p snaps) (between-near b m)
-      (until_done-near b ds n p snaps (next-tick most n ds are levels m is))
-      rest (timed-near left next (snapshots_from next.tick snaps) (next-is most n ds are levels m is)))
+      let due = snapshots_from m.tick snaps in
+      let turn = events_between m ++ until_done ds n p due in
+      let rest = timed_from ds n left next snaps in
+      rw (timed-step ds n left m snaps)
+      (of_choice (λ xs. AreNear b m.tick xs) (rests (next_state m)) (last_events m due) (turn ++ rest) (last-near b m due)
+      (near-append b m.tick m.tick next.tick (events_between m) (until_done ds n p due) (between-near b m)
+      (until_done-near b ds n p due (next-tick most n ds are levels m is))
+      rest (timed-near left next snaps (next-is most n ds are levels m is))))
 
 pub completions_are_near : CompletionsAreNear
 completions_are_near ds snaps most n left c are levels is = timed-near most n ds are levels left (moment_at_start c) snaps (start-is most n ds are levels c is)

@@ -1,14 +1,15 @@
 -- Which snapshots are shown.
 use Rattle.std.specs.Prelude.{map, reverse}
-use Rattle.std.proofs.Common.{◌≡◌, ℕ, zero, suc, ◌+◌, ◌≤◌, ◌<◌, inl, inr, Bool, true, false, if◌then◌else◌, List, [], ◌∷◌, ◌++◌, refl, sym, ◌∙◌, ap, arith, append_assoc, append-nil}
+use Rattle.std.proofs.Common.{◌≡◌, ℕ, zero, suc, ◌+◌, ◌≤◌, ◌<◌, inl, inr, Bool, true, false, if◌then◌else◌, List, [], ◌∷◌, ◌++◌, refl, sym, ◌∙◌, ap, subst, arith, append_assoc, append-nil}
 use Rattle.std.proofs.lemmas.Bool.{lt-ltb}
 use Rattle.st_exec.specs.Step.{interrupt, rests}
 use Rattle.st_run.specs.Run.{Ends, interlude, interrupts_by}
+use Rattle.st_run.specs.Course.{Course, course}
 use Rattle.st_run.specs.Events.{Timed, drop_of, snapshot}
-use Rattle.st_run.specs.Moments.{Moment, Standing, next_state, ends_segment, standing_at, next_moment}
+use Rattle.st_run.specs.Moments.{Moment, Standing, next_state, ends_segment, standing_at, next_moment, moments}
 use Rattle.st_run.specs.TimedRun.{event_at, ticks_before, snapshots_from, snapshot_at, last_snapshot_at, drops, drops_if_ends, happening_at, events_between, completion, until_done, last_events, timed_from}
 use Rattle.st_run.specs.Order.{asked_by, shown_ticks, last_completion}
-use Rattle.st_run.proofs.OrderLemmas.{test-lt, next-later, next-same}
+use Rattle.st_run.proofs.CourseLemmas.{test-lt, next-later, next-same, again, all-to-come, timed-none, timed-step}
 
 -- ---- lists
 
@@ -140,17 +141,47 @@ module _ (ds : List ℕ) (n : ℕ) where
   shown-if true m snaps xs ys here there = here
   shown-if false m snaps xs ys here there = there
 
-  timed-is : (left : ℕ) (m : Moment) (snaps : List ℕ) → m.front.c ≡ m.tick → IsShown m.tick snaps (timed_from ds n left m snaps)
-  unfolding timed_from
-  timed-is zero m snaps same = last-is m snaps
+  timed-is : (left : ℕ) (m : Moment) (snaps : List ℕ) → m.front.c ≡ m.tick
+      → IsShown m.tick (snapshots_from m.tick snaps) (timed_from ds n left m snaps)
+  timed-is zero m snaps same = rw (timed-none ds n m snaps) (last-is m (snapshots_from m.tick snaps))
   timed-is (suc left) m snaps same =
       let p = standing_at m in
       let next = next_moment ds n p in
-      let rest = timed_from ds n left next (snapshots_from next.tick snaps) in
-      shown-if (rests (next_state m)) m snaps (last_events m snaps) (events_between m ++ until_done ds n p snaps ++ rest)
-      (last-is m snaps)
-      (turn-is m snaps rest (next-later ds n m same) (timed-is left next (snapshots_from next.tick snaps) (next-same ds n p)))
+      let due = snapshots_from m.tick snaps in
+      let later : m.tick ≤ next.tick = next-later ds n m same in
+      let rest = timed_from ds n left next snaps in
+      rw (timed-step ds n left m snaps)
+      (shown-if (rests (next_state m)) m due (last_events m due) (events_between m ++ until_done ds n p due ++ rest)
+      (last-is m due)
+      (turn-is m due rest later
+      (subst (λ (xs : List ℕ). IsShown next.tick xs rest) (sym (again m.tick next.tick snaps later)) (timed-is left next snaps (next-same ds n p)))))
 
-  pub timed-shown : (left : ℕ) (m : Moment) (snaps : List ℕ) (t : ℕ) → m.front.c ≡ m.tick
+  pub timed-shown : (left : ℕ) (m : Moment) (snaps : List ℕ) (t : ℕ) → m.front.c ≡ m.tick → m.tick ≡ 0
       → shown_ticks (timed_from ds n left m snaps) ≡ ticks_before (last_completion t (timed_from ds n left m snaps) + 1) snaps
-  timed-shown left m snaps t same = (timed-is left m snaps same).shown t
+  timed-shown left m snaps t same start =
+      (timed-is left m snaps same).shown t
+      ∙ ap (ticks_before (last_completion t (timed_from ds n left m snaps) + 1)) (ap (λ k. snapshots_from k snaps) start ∙ all-to-come snaps)
+
+-- ---- the last tick is that of the last moment
+
+abbrev chosen : Bool → Moment → Course Moment → Course Moment
+chosen ends m r = if ends then record { before = []; last = m } else record { before = m ∷ r.before; last = r.last }
+
+last-choice : (ds : List ℕ) (n : ℕ) (ends : Bool) (t : ℕ) (m : Moment) (xs turn rest : List Timed) (r : Course Moment)
+    → last_completion t xs ≡ m.tick → ((u : ℕ) → last_completion u rest ≡ r.last.tick)
+    → last_completion t (if ends then xs else turn ++ rest)
+    ≡ (chosen ends m r).last.tick
+last-choice ds n true t m xs turn rest r here there = here
+last-choice ds n false t m xs turn rest r here there = last-append t turn rest ∙ there (last_completion t turn)
+
+pub tick-same : (ds : List ℕ) (n left t : ℕ) (m : Moment) (snaps : List ℕ)
+    → last_completion t (timed_from ds n left m snaps) ≡ (moments ds n left m).last.tick
+unfolding course
+tick-same ds n zero t m snaps = ap (last_completion t) (timed-none ds n m snaps) ∙ last_events-tick t m (snapshots_from m.tick snaps)
+tick-same ds n (suc left) t m snaps =
+    let p = standing_at m in
+    let next = next_moment ds n p in
+    let due = snapshots_from m.tick snaps in
+    ap (last_completion t) (timed-step ds n left m snaps)
+    ∙ last-choice ds n (rests (next_state m)) t m (last_events m due) (events_between m ++ until_done ds n p due)
+    (timed_from ds n left next snaps) (moments ds n left next) (last_events-tick t m due) (λ u. tick-same ds n left u next snaps)

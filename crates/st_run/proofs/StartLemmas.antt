@@ -23,6 +23,7 @@ use Rattle.st_run.specs.ReportedEvents.{TimedReportedEvent, timed_reported_event
 use Rattle.st_run.specs.Together.{Together, IsBeforeEntry}
 use Rattle.st_run.specs.Telling.{Waiting, waiting_events, rest_of, IsRun, AreInTime}
 use Rattle.st_run.specs.declared.turn.Turn.TheVariants as turns
+use Rattle.st_run.proofs.CourseLemmas.{all-to-come}
 use Rattle.st_run.proofs.ProgressLemmas.{Quiet, rest-quiet}
 use Rattle.st_run.proofs.Turns.{timed-goes_on}
 use Rattle.st_run.proofs.Bounds.{run-time}
@@ -144,7 +145,7 @@ module _ (c : Scene) (is : IsIdle c.machine) where
   pub run-idle : (ds : List ℕ) (n budget : ℕ) (snaps : List ℕ) → budget ≢ 0
       → timed_run ds n budget c snaps ≡ timed_behind ds n (budget - 1) first snaps
   run-idle ds n budget snaps some =
-      timed-goes_on ds n budget (moment_at_start c) snaps some awake-idle
+      timed-goes_on ds n budget (moment_at_start c) snaps (all-to-come snaps) some awake-idle
       ∙ ap {A = List Timed} (λ xs. xs ++ timed_behind ds n (budget - 1) (standing_at (moment_at_start c)) snaps) between-idle
       ∙ ap {A = Standing} (λ p. timed_behind ds n (budget - 1) p snaps) standing-idle
 

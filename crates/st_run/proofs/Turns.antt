@@ -10,58 +10,66 @@ use Rattle.st_rows.specs.Rows.{opening_front, row_of_entry, address_tick, prepar
 use Rattle.st_segment.specs.Entries.{entry}
 use Rattle.st_segment.specs.Ahead.{ahead, prepared_before}
 use Rattle.st_segment.specs.Guesses.{split_words}
-use Rattle.st_run.specs.Events.{Shows, with_index_words, snapshot}
+use Rattle.st_run.specs.Events.{Timed, Shows, with_index_words, snapshot}
 use Rattle.st_run.specs.Moments.{Moment, Standing, next_state, ends_segment, next_segment, next_front, standing_at, entries_at_moment, next_moment}
 use Rattle.st_run.specs.TimedRun.{ticks_before, snapshots_from, snapshot_at, events_between, completion, until_done, last_events, timed_from, timed_behind}
+use Rattle.st_run.proofs.CourseLemmas.{next-same, timed-none, timed-step, timed-later}
 
 -- ---- turns
 
+-- all snapshots are to come at a moment
+abbrev AreToCome : Moment → List ℕ → Type 0
+AreToCome m snaps = snapshots_from m.tick snaps ≡ snaps
+
 -- a machine at rest ends the run
-pub timed-rests : (ds : List ℕ) (n left : ℕ) (m : Moment) (snaps : List ℕ) → rests (next_state m) ≡ true
+pub timed-rests : (ds : List ℕ) (n left : ℕ) (m : Moment) (snaps : List ℕ) → AreToCome m snaps → rests (next_state m) ≡ true
     → timed_from ds n left m snaps ≡ last_events m snaps
-unfolding timed_from
-timed-rests ds n zero m snaps h = refl
-timed-rests ds n (suc left) m snaps h = rw h refl
+timed-rests ds n zero m snaps come h = timed-none ds n m snaps ∙ ap (last_events m) come
+timed-rests ds n (suc left) m snaps come h = timed-step ds n left m snaps ∙ (rw h (ap (last_events m) come))
 
 -- so does a budget that is used up
-pub timed-budget : (ds : List ℕ) (n left : ℕ) (m : Moment) (snaps : List ℕ) → left ≡ 0
+pub timed-budget : (ds : List ℕ) (n left : ℕ) (m : Moment) (snaps : List ℕ) → AreToCome m snaps → left ≡ 0
     → timed_from ds n left m snaps ≡ last_events m snaps
-unfolding timed_from
-timed-budget ds n zero m snaps h = refl
-timed-budget ds n (suc left) m snaps h = absurd (omega arith)
+timed-budget ds n zero m snaps come h = timed-none ds n m snaps ∙ ap (last_events m) come
+timed-budget ds n (suc left) m snaps come h = absurd (omega arith)
 
 -- else the next entry is done
-goes_on-some : (ds : List ℕ) (n left : ℕ) (m : Moment) (snaps : List ℕ) → rests (next_state m) ≡ false
+goes_on-some : (ds : List ℕ) (n left : ℕ) (m : Moment) (snaps : List ℕ) → AreToCome m snaps → rests (next_state m) ≡ false
     → timed_from ds n (suc left) m snaps ≡ events_between m ++ timed_behind ds n left (standing_at m) snaps
-unfolding timed_from
-goes_on-some ds n left m snaps h =
-    let next = next_moment ds n (standing_at m) in
-    rw h (append_assoc (events_between m) (until_done ds n (standing_at m) snaps) (timed_from ds n left next (snapshots_from next.tick snaps)))
+goes_on-some ds n left m snaps come h =
+    let p = standing_at m in
+    let rest = timed_from ds n left (next_moment ds n p) snaps in
+    timed-step ds n left m snaps
+    ∙ (rw h (append_assoc (events_between m) (until_done ds n p (snapshots_from m.tick snaps)) rest))
+    ∙ ap (λ (xs : List ℕ). events_between m ++ (until_done ds n p xs ++ rest)) come
 
-pub timed-goes_on : (ds : List ℕ) (n left : ℕ) (m : Moment) (snaps : List ℕ) → left ≢ 0 → rests (next_state m) ≡ false
+pub timed-goes_on : (ds : List ℕ) (n left : ℕ) (m : Moment) (snaps : List ℕ) → AreToCome m snaps → left ≢ 0 → rests (next_state m) ≡ false
     → timed_from ds n left m snaps ≡ events_between m ++ timed_behind ds n (left - 1) (standing_at m) snaps
-timed-goes_on ds n zero m snaps some h = absurd (some refl)
-timed-goes_on ds n (suc left) m snaps some h =
+timed-goes_on ds n zero m snaps come some h = absurd (some refl)
+timed-goes_on ds n (suc left) m snaps come some h =
     let same : left ≡ suc left - 1 = omega arith in
-    goes_on-some ds n left m snaps h ∙ ap (λ k. events_between m ++ timed_behind ds n k (standing_at m) snaps) same
+    goes_on-some ds n left m snaps come h ∙ ap (λ k. events_between m ++ timed_behind ds n k (standing_at m) snaps) same
 
 -- ---- before an entry is done
 
 -- a snapshot that is due before is shown first
 pub behind-snapshot : (ds : List ℕ) (n left : ℕ) (p : Standing) (x : ℕ) (xs : List ℕ) → x < (next_moment ds n p).tick
     → timed_behind ds n left p (x ∷ xs) ≡ snapshot_at ds n p x ∷ timed_behind ds n left p xs
-unfolding until_done ticks_before snapshots_from
-behind-snapshot ds n left p x xs early = rw (lt-ltb x (next_moment ds n p).tick early) refl
+unfolding until_done ticks_before
+behind-snapshot ds n left p x xs early =
+    let next = next_moment ds n p in
+    ap (λ (rest : List Timed). until_done ds n p (x ∷ xs) ++ rest) (timed-later ds n left next x xs (next-same ds n p) early)
+    ∙ (rw (lt-ltb x next.tick early) refl)
 
 -- where none is, the entry is done
 pub behind-done : (ds : List ℕ) (n left : ℕ) (p : Standing) (x : ℕ) (xs : List ℕ) → (next_moment ds n p).tick ≤ x
     → timed_behind ds n left p (x ∷ xs) ≡ completion ds n p ∷ timed_from ds n left (next_moment ds n p) (x ∷ xs)
-unfolding until_done ticks_before snapshots_from
+unfolding until_done ticks_before
 behind-done ds n left p x xs late = rw (le-ltb x (next_moment ds n p).tick late) refl
 
 pub behind-none : (ds : List ℕ) (n left : ℕ) (p : Standing)
     → timed_behind ds n left p [] ≡ completion ds n p ∷ timed_from ds n left (next_moment ds n p) []
-unfolding until_done ticks_before snapshots_from
+unfolding until_done ticks_before
 behind-none ds n left p = refl
 
 -- ---- snapshots of which nothing is ahead

@@ -2,7 +2,9 @@
 use Rattle.std.specs.Prelude.{map, reverse}
 use Rattle.std.proofs.Common.{◌≡◌, ℕ, zero, suc, ◌+◌, Bool, true, false, if◌then◌else◌, List, [], ◌∷◌, ◌++◌, refl, sym, ◌∙◌, ap, append_assoc, append-nil}
 use Rattle.st_exec.specs.Step.{step, rests, address, interrupt}
-use Rattle.st_run.specs.Run.{PlainEvent, Executes, Ends, interlude, interrupts_by, Transition, transition_at_end, scene_after_step, happens, goes_on, run}
+use Rattle.st_run.specs.Run.{PlainEvent, Executes, Ends, interlude, interrupts_by, Transition, scene_after_step, happens, run}
+use Rattle.st_run.proofs.Runs.{transition_at_end, goes_on, run-none, run-step}
+use Rattle.st_run.proofs.CourseLemmas.{timed-none, timed-step}
 use Rattle.st_run.specs.Events.{Timed, plain_events_of, plain_run, drop_of, snapshot}
 use Rattle.st_run.specs.Moments.{Moment, Standing, next_scene, next_state, ends_segment, standing_at, next_moment}
 use Rattle.st_run.specs.TimedRun.{event_at, ticks_before, snapshots_from, snapshot_at, last_snapshot_at, drops, drops_if_ends, happening_at, events_between, completion, until_done, last_events, timed_from}
@@ -95,26 +97,30 @@ module _ (ds : List ℕ) (n left : ℕ) (m : Moment) (snaps : List ℕ) where
   next = next_moment ds n (standing_at m)
 
   abbrev rest : List Timed
-  rest = timed_from ds n left next (snapshots_from next.tick snaps)
+  rest = timed_from ds n left next snaps
+
+  abbrev due : List ℕ
+  due = snapshots_from m.tick snaps
 
   abbrev later : Transition
   later = run left (scene_after_step (next_scene m))
 
   turns-plain : (b : Bool) → plain_run rest ≡ later.happened
-      → plain_run (if b then last_events m snaps else events_between m ++ until_done ds n (standing_at m) snaps ++ rest)
+      → plain_run (if b then last_events m due else events_between m ++ until_done ds n (standing_at m) due ++ rest)
       ≡ (if b then transition_at_end (interlude m.scene) else goes_on (interlude m.scene) later).happened
-  turns-plain true same = last_events-plain m snaps
+  turns-plain true same = last_events-plain m due
   turns-plain false same =
       let came = (interlude m.scene).happened in
-      untimed-append (events_between m ++ until_done ds n (standing_at m) snaps) rest
-      ∙ ap (λ xs. xs ++ plain_run rest) (turn-plain ds n m snaps)
+      untimed-append (events_between m ++ until_done ds n (standing_at m) due) rest
+      ∙ ap (λ xs. xs ++ plain_run rest) (turn-plain ds n m due)
       ∙ ap (λ xs. came ++ happens (next_state m) ++ xs) same
       ∙ append_assoc came (happens (next_state m)) later.happened
 
 pub timed-plain : (ds : List ℕ) (n left : ℕ) (m : Moment) (snaps : List ℕ)
     → plain_run (timed_from ds n left m snaps) ≡ (run left m.scene).happened
-unfolding timed_from run next_moment
-timed-plain ds n zero m snaps = last_events-plain m snaps
+unfolding next_moment
+timed-plain ds n zero m snaps = rw (timed-none ds n m snaps, run-none m.scene) (last_events-plain m (snapshots_from m.tick snaps))
 timed-plain ds n (suc left) m snaps =
     let after = next_moment ds n (standing_at m) in
-    turns-plain ds n left m snaps (rests (next_state m)) (timed-plain ds n left after (snapshots_from after.tick snaps))
+    rw (timed-step ds n left m snaps, run-step left m.scene)
+    (turns-plain ds n left m snaps (rests (next_state m)) (timed-plain ds n left after snaps))

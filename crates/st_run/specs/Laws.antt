@@ -7,7 +7,7 @@ use Rattle.st_run.specs.Run.{Scene, interlude, run}
 use Rattle.st_rows.specs.Ranges.{AreDelaysUpTo}
 use Rattle.st_segment.specs.Ahead.{ahead, prepared_before}
 use Rattle.st_run.specs.Events.{Timed, Shows, snapshot, plain_run}
-use Rattle.st_run.specs.Moments.{Moment, Standing, ends_segment, standing_at, entries_at_moment, entries_behind, next_moment}
+use Rattle.st_run.specs.Moments.{Moment, Standing, moment_at_start, next_state, ends_segment, standing_at, entries_at_moment, entries_behind, next_moment, moments}
 use Rattle.st_run.specs.Order.{AreEventsInOrder, AreRising, shown_ticks, last_completion}
 use Rattle.st_run.specs.Scenes.{IsScene}
 use Rattle.st_run.specs.TimedRun.{ticks_before, timed_from, timed_run}
@@ -36,6 +36,15 @@ pub record RunsAreInTime : Type 0 where
       AreDelaysUpTo most ds → n ≤ 8 → IsScene c →
       last_completion 0 (timed_run ds n left c snaps) ≤ 64 * (most + 4) *
       ((run left c).scene.machine.done + 1)
+
+-- The last tick that is told is that of the last moment of a run, and its last state is that of the
+-- plain run.
+pub record TheLastMomentEndsTheRun : Type 0 where
+  pub tick : (ds snaps : List ℕ) (n left : ℕ) (c : Scene) →
+      last_completion 0 (timed_run ds n left c snaps)
+      ≡ (moments ds n left (moment_at_start c)).last.tick
+  pub state : (ds : List ℕ) (n left : ℕ) (c : Scene) →
+      next_state (moments ds n left (moment_at_start c)).last ≡ (run left c).scene.machine
 
 -- The events of a run come in the order of their ticks, where snapshots are asked for in that
 -- order.

@@ -5,6 +5,7 @@ use Rattle.st_state.specs.Machine.{Machine}
 use Rattle.st_prep.specs.Plan.{plan}
 use Rattle.st_exec.specs.Completion.{guess, is_missed}
 use Rattle.st_exec.specs.Step.{interrupt, rests}
+use Rattle.st_run.specs.Course.{Course, course}
 use Rattle.st_run.specs.Run.{Scene, with_due_signals, with_due_orders, interlude, scene_after_step}
 use Rattle.st_banks.specs.Bank.{idle_banks}
 use Rattle.st_banks.specs.declared.answers.LastAnswers.{LastAnswers}
@@ -118,3 +119,8 @@ module _ (ds : List ℕ) (n : ℕ) (p : Standing) where
     banks = banks_at_end ds next_row.c (reads_to_end ds n next_row.c
         (interrupt p.scene.machine) p.scene.machine p.front (entry_of_moment p)) p.front.bus;
   }
+
+-- the moments of a run from one on, behind which so many entries may still be done
+abbrev pub moments : List ℕ → ℕ → ℕ → Moment → Course Moment
+moments ds n left m = course (λ m. rests (next_state m)) (λ m. next_moment ds n (standing_at m))
+    left m

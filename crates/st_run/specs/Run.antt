@@ -1,5 +1,6 @@
 -- A whole run, one instruction after the other: signals and orders take effect between two of them.
-use Rattle.std.specs.Prelude.{ℕ, zero, suc, Bool, nat_le, if◌then◌else◌, slice_get, drop, List, [], ◌∷◌, ◌++◌, map, Option, None, Some}
+use Rattle.std.specs.Prelude.{ℕ, Bool, nat_le, if◌then◌else◌, slice_get, drop, List, [], ◌∷◌, ◌++◌, map, Option, None, Some}
+use Rattle.std.specs.List.{flat_map}
 use Rattle.std.specs.Option.{option_to_list}
 use Rattle.st_card.specs.declared.control_cards.Signal.{Signal}
 use Rattle.st_state.specs.Machine.{Machine}
@@ -10,6 +11,7 @@ use Rattle.st_state.specs.declared.devices.Device.{Device}
 use Rattle.st_state.specs.declared.devices.Device.TheVariants.{Reader, Printer}
 use Rattle.st_exec.specs.Step.{rests, interrupt, step, address}
 use Rattle.st_exec.specs.Transfer.{words_from, read_in, printed_out}
+use Rattle.st_run.specs.Course.{Course, course}
 
 -- a run at a moment: the machine, and the signals and the reader's cards that are still to come
 pub record Scene : Type 0 where
@@ -108,12 +110,6 @@ with_wait c =
 unfoldable pub interlude : Scene → Transition
 interlude c = and_then (with_due_orders (with_due_signals c)) with_wait
 
--- the run ends here, the machine at rest or the budget used up
-abbrev pub transition_at_end : Transition → Transition
-transition_at_end r = record r {
-  happened = r.happened ++ Ends r.scene.machine (rests r.scene.machine) ∷ [];
-}
-
 -- the interrupt that the next step takes, if it takes one
 abbrev pub interrupts_by : Option ℕ → Machine → List PlainEvent
 interrupts_by i s = map (Interrupts s) (option_to_list i)
@@ -126,16 +122,29 @@ scene_after_step c = record c { machine = step c.machine }
 abbrev pub happens : Machine → List PlainEvent
 happens s = interrupts_by (interrupt s) s ++ Executes (step s) (address s) ∷ []
 
--- the run goes on by a step
-abbrev pub goes_on : Transition → Transition → Transition
-goes_on r rest =
-    record rest { happened = r.happened ++ (happens r.scene.machine ++ rest.happened) }
+-- ---- the run
 
--- the run from a scene on to its end, in which so many instructions may still be done; a rest is
--- tried before the budget
+-- the state before the next step
+abbrev pub state_next : Scene → Machine
+state_next c = (interlude c).scene.machine
+
+-- the scenes of a run from one on, in which so many instructions may still be done, each before
+-- what comes between two of them
+abbrev pub scenes : ℕ → Scene → Course Scene
+scenes left c = course (λ d. rests (state_next d)) (λ d. scene_after_step (interlude d).scene)
+    left c
+
+-- what happens from a scene to the next one
+abbrev pub happens_from : Scene → List PlainEvent
+happens_from c = (interlude c).happened ++ happens (state_next c)
+
+-- what happens from the last one on: the run ends, at rest or with the budget used up
+abbrev pub happens_last : Scene → List PlainEvent
+happens_last c = (interlude c).happened ++ Ends (state_next c) (rests (state_next c)) ∷ []
+
+-- the run from a scene on to its end
 unfoldable pub run : ℕ → Scene → Transition
-run zero c = transition_at_end (interlude c)
-run (suc left) c =
-    let r = interlude c in
-    if rests r.scene.machine then transition_at_end r
-    else goes_on r (run left (scene_after_step r.scene))
+run left c = record {
+  scene = (interlude (scenes left c).last).scene;
+  happened = flat_map happens_from (scenes left c).before ++ happens_last (scenes left c).last;
+}

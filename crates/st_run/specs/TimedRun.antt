@@ -1,12 +1,13 @@
 -- A whole run with its timetable: what happens, and at which ticks. The machine has the delays ds
 -- and n levels.
-use Rattle.std.specs.Prelude.{ℕ, zero, suc, ◌+◌, nat_lt, if◌then◌else◌, List, [], ◌∷◌, ◌++◌, map, reverse}
+use Rattle.std.specs.Prelude.{ℕ, ◌+◌, nat_lt, if◌then◌else◌, List, [], ◌∷◌, ◌++◌, map, reverse}
+use Rattle.std.specs.List.{flat_map}
 use Rattle.st_state.specs.Machine.{Machine}
 use Rattle.st_exec.specs.Step.{rests, address, interrupt}
 use Rattle.st_run.specs.Run.{Scene, PlainEvent, Ends, interlude, interrupts_by}
 use Rattle.st_segment.specs.Ahead.{prepared_before}
 use Rattle.st_run.specs.Events.{TimetableEvent, Timed, Completes, Shows, Happens, drop_of, snapshot}
-use Rattle.st_run.specs.Moments.{Moment, Standing, moment_at_start, next_state, ends_segment, standing_at, next_row, entries_at_moment, next_moment}
+use Rattle.st_run.specs.Moments.{Moment, Standing, moment_at_start, next_state, ends_segment, standing_at, next_row, entries_at_moment, next_moment, moments}
 
 -- an event by which the last entry was done at the tick, and left the state
 abbrev pub event_at : ℕ → Machine → TimetableEvent → Timed
@@ -83,23 +84,21 @@ module _ (ds : List ℕ) (n : ℕ) where
   until_done p snaps =
       map (snapshot_at p) (ticks_before (next_moment ds n p).tick snaps) ++ completion p ∷ []
 
+  -- what is told from a moment until the next entry is done, with snapshots at ticks
+  abbrev pub told_from : List ℕ → Moment → List Timed
+  told_from snaps m = events_between m ++ until_done (standing_at m) (snapshots_from m.tick snaps)
+
   -- ---- the whole
 
-  -- the run from a moment on, in which so many entries may still be done, with snapshots at ticks
-  -- that are to come; a rest is tried before the budget
+  -- the run from a moment on, in which so many entries may still be done
   unfoldable pub timed_from : ℕ → Moment → List ℕ → List Timed
-  timed_from zero m snaps = last_events m snaps
-  timed_from (suc left) m snaps =
-      if rests (next_state m) then last_events m snaps
-      else events_between m ++ until_done (standing_at m) snaps
-      ++ timed_from left (next_moment ds n (standing_at m))
-      (snapshots_from (next_moment ds n (standing_at m)).tick snaps)
+  timed_from left m snaps =
+      let r = moments ds n left m in
+      flat_map (told_from snaps) r.before ++ last_events r.last (snapshots_from r.last.tick snaps)
 
   -- the same before an entry, behind which so many more may be done
   abbrev pub timed_behind : ℕ → Standing → List ℕ → List Timed
-  timed_behind left p snaps =
-      until_done p snaps
-      ++ timed_from left (next_moment ds n p) (snapshots_from (next_moment ds n p).tick snaps)
+  timed_behind left p snaps = until_done p snaps ++ timed_from left (next_moment ds n p) snaps
 
   -- the whole run of a scene
   abbrev pub timed_run : ℕ → Scene → List ℕ → List Timed

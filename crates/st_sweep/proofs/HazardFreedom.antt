@@ -1,7 +1,7 @@
 -- What the tests of a hazard-free run say.
 use Rattle.std.specs.Prelude.{◌==◌, ◌&&◌, ◌||◌, not, nat_lt, nat_le, if◌then◌else◌, is_none, IfSome}
 use Rattle.std.specs.List.{list_all, list_any}
-use Rattle.std.proofs.Common.{◌≡◌, ℕ, zero, suc, ◌+◌, ◌-◌, ◌<◌, ◌≤◌, inl, inr, Bool, true, false, List, [], ◌∷◌, length, All, Option, None, Some, refl, subst, arith}
+use Rattle.std.proofs.Common.{◌≡◌, ℕ, zero, suc, ◌+◌, ◌-◌, ◌<◌, ◌≤◌, inl, inr, Bool, true, false, List, [], ◌∷◌, length, All, Option, None, Some, refl, sym, ◌∙◌, subst, arith}
 use Rattle.std.proofs.lemmas.Bool.{and_parts, or_parts, not-true, eqb-true, leb-false, cases_lt}
 use Rattle.std.proofs.lemmas.List.Elements.{All-nil, All-cons}
 use Rattle.st_state.specs.Machine.{Machine}
@@ -14,6 +14,7 @@ use Rattle.st_rows.specs.Levels.{AreEqual, IsUnwritten, IsRunUnwritten, IsHazard
 use Rattle.st_rows.specs.declared.entry.WordRun.{WordRun}
 use Rattle.st_rows.specs.declared.entry.WordRuns.{WordRuns}
 use Rattle.st_segment.specs.Entries.{above_registers, words_to_read, side_to_read, entry}
+use Rattle.st_sweep.proofs.CourseLemmas.{hazard_free-step}
 use Rattle.st_sweep.specs.HazardFree.{are_equal, is_among_written, are_written, one_is_written, side_is_written, next_writes, next_side, is_hazard_free_entry, is_hazard_free_interlude, is_hazard_free_behind}
 
 -- ---- delays
@@ -155,11 +156,11 @@ goes_on false entry later h going = h
 
 pub hazard_free-goes_on : (earlier : List WordRuns) (left : ℕ) (c : Scene) → is_hazard_free_behind earlier (suc left) c ≡ true
     → rests (interlude c).scene.machine ≡ false → GoesOn earlier left c
-unfolding is_hazard_free_behind entry
+unfolding entry
 hazard_free-goes_on earlier left c h going =
     let s = (interlude c).scene.machine in
     let later = is_hazard_free_behind (next_writes s ∷ earlier) left (scene_after_step (interlude c).scene) in
-    let parts = and_parts (is_hazard_free_interlude c) (rests s || is_hazard_free_entry earlier s && later) h in
+    let parts = and_parts (is_hazard_free_interlude c) (rests s || is_hazard_free_entry earlier s && later) (sym (hazard_free-step earlier left c) ∙ h) in
     let both = and_parts (is_hazard_free_entry earlier s) later (goes_on (rests s) (is_hazard_free_entry earlier s) later parts.1 going) in
     record {
       quiet = quiet-is c parts.0;

@@ -9,13 +9,14 @@ use Rattle.st_prep.specs.Plan.{plan, needs, sight}
 use Rattle.st_exec.specs.Completion.{is_missed, state_after_execution}
 use Rattle.st_exec.specs.Step.{interrupt, step, rests}
 use Rattle.st_card.specs.declared.control_cards.Signal.{Signal}
-use Rattle.st_run.specs.Run.{Scene, interlude, scene_after_step, run}
+use Rattle.st_run.specs.Run.{Scene, interlude, scene_after_step, state_next, scenes, run}
 use Rattle.st_exec.proofs.StepLemmas.{step-done}
 use Rattle.st_run.proofs.Runs.{run-rests, run-budget, run-goes_on}
 use Rattle.st_rows.specs.declared.entry.WordRuns.{WordRuns}
 use Rattle.st_run.proofs.DoneLemmas.{settled-done}
 use Rattle.st_sweep.specs.HazardFree.{side_is_written, one_is_written, next_writes, is_hazard_free_entry, is_hazard_free_interlude, is_hazard_free_behind}
 use Rattle.st_sweep.specs.Marks.{AreMarks}
+use Rattle.st_sweep.proofs.CourseLemmas.{hazard_free-none, hazard_free-step}
 use Rattle.st_sweep.specs.Sweep.{without_cards}
 
 -- ---- one step
@@ -43,24 +44,29 @@ pub record IsSoFar (whole : Bool) (last : ℕ) (so : Bool) (left : ℕ) (s : Mac
   pub earlier : List WordRuns
   pub marks : AreMarks earlier written
   pub hazard_free : (so && is_hazard_free_behind earlier left (without_cards s xs)) ≡ whole
-  pub done : (run left (without_cards s xs)).scene.machine.done ≡ last
+  pub done : (state_next (scenes left (without_cards s xs)).last).done ≡ last
   pub few : s.done + left ≤ MOST_INSTRUCTIONS
 
 -- at its end
 hazard_free-ends : (earlier : List WordRuns) (left : ℕ) (c : Scene) → (left ≡ 0) ⊎ (rests (interlude c).scene.machine ≡ true)
     → is_hazard_free_behind earlier left c ≡ is_hazard_free_interlude c
-unfolding is_hazard_free_behind
-hazard_free-ends earlier zero c end = refl
+hazard_free-ends earlier zero c end = hazard_free-none earlier c
 hazard_free-ends earlier (suc left) c (inl none) = let no : ⊥ = omega arith in absurd no
-hazard_free-ends earlier (suc left) c (inr resting) = rw resting (and-right (is_hazard_free_interlude c))
+hazard_free-ends earlier (suc left) c (inr resting) = hazard_free-step earlier left c ∙ (rw resting (and-right (is_hazard_free_interlude c)))
   where
     and-right : (b : Bool) → (b && true) ≡ b
     and-right true = refl
     and-right false = refl
 
-done-ends : (left : ℕ) (c : Scene) → (left ≡ 0) ⊎ (rests (interlude c).scene.machine ≡ true) → (run left c).scene.machine.done ≡ (interlude c).scene.machine.done
+done-ends : (left : ℕ) (c : Scene) → (left ≡ 0) ⊎ (rests (interlude c).scene.machine ≡ true) → (state_next (scenes left c).last).done ≡ (interlude c).scene.machine.done
+unfolding run
 done-ends left c (inl none) = ap (λ r. r.scene.machine.done) (run-budget left c none)
 done-ends left c (inr resting) = ap (λ r. r.scene.machine.done) (run-rests left c resting)
+
+done-goes_on : (left : ℕ) (c : Scene) → left ≢ 0 → rests (interlude c).scene.machine ≡ false
+    → (state_next (scenes left c).last).done ≡ (state_next (scenes (left - 1) (scene_after_step (interlude c).scene)).last).done
+unfolding run
+done-goes_on left c some going = ap (λ r. r.scene.machine.done) (run-goes_on left c some going)
 
 -- it goes on by an entry
 abbrev hazard_free_on : List WordRuns → ℕ → Scene → Bool
@@ -69,11 +75,11 @@ hazard_free_on earlier left d =
 
 hazard_free-goes_on : (earlier : List WordRuns) (left : ℕ) (c : Scene) → left ≢ 0 → rests (interlude c).scene.machine ≡ false
     → is_hazard_free_behind earlier left c ≡ (is_hazard_free_interlude c && hazard_free_on earlier (left - 1) (interlude c).scene)
-unfolding is_hazard_free_behind
 hazard_free-goes_on earlier zero c some going = absurd (some refl)
 hazard_free-goes_on earlier (suc left) c some going =
     let one : left ≡ suc left - 1 = omega arith in
-    rw going (ap (λ k. is_hazard_free_interlude c && hazard_free_on earlier k (interlude c).scene) one)
+    hazard_free-step earlier left c
+    ∙ (rw going (ap (λ k. is_hazard_free_interlude c && hazard_free_on earlier k (interlude c).scene) one))
 
 regroup : (a b c d : Bool) → (((a && b) && c) && d) ≡ (a && (b && (c && d)))
 regroup true true c d = refl
@@ -125,9 +131,9 @@ module _ (whole : Bool) (last : ℕ) (hazard_free quiet : Bool) (left : ℕ) (s 
               ∙ ap (λ b. hazard_free && b) (sym (hazard_free-goes_on e left c some goes_on))
               ∙ is.hazard_free;
           done =
-              ap (λ m. (run (left - 1) (without_cards m ys)).scene.machine.done) made
-              ∙ ap (λ d. (run (left - 1) (scene_after_step d)).scene.machine.done) (sym came)
-              ∙ sym (ap (λ r. r.scene.machine.done) (run-goes_on left c some goes_on))
+              ap (λ m. (state_next (scenes (left - 1) (without_cards m ys)).last).done) made
+              ∙ ap (λ d. (state_next (scenes (left - 1) (scene_after_step d)).last).done) (sym came)
+              ∙ sym (done-goes_on left c some goes_on)
               ∙ is.done;
           few =
               let one : u.done ≡ t.done + 1 = ap (λ m. m.done) made ∙ step-done t in

@@ -12,10 +12,10 @@ use Rattle.st_rows.proofs.Sooner.{row-sooner, after-sooner, order-after, covered
 use Rattle.st_segment.specs.Ahead.{Ahead}
 use Rattle.st_segment.specs.Entries.{entry}
 use Rattle.st_banks.specs.Bank.{idle_banks}
-use Rattle.st_run.specs.Moments.{Moment, next_state, ends_segment, next_front, standing_at, next_row, next_moment}
-use Rattle.st_run.specs.TimedRun.{events_between, completion, timed_from, timed_behind}
+use Rattle.st_run.specs.Moments.{Moment, moment_at_start, next_state, ends_segment, next_front, standing_at, next_row, next_moment}
+use Rattle.st_run.specs.TimedRun.{snapshots_from, events_between, completion, timed_from, timed_behind}
 use Rattle.st_run.specs.Order.{last_completion}
-use Rattle.st_run.proofs.ShownLemmas.{last-append, last_events-tick}
+use Rattle.st_run.proofs.ShownLemmas.{last-append, last_events-tick, tick-same}
 use Rattle.st_run.proofs.Turns.{timed-rests, timed-budget, timed-goes_on, behind-none}
 use Rattle.st_sweep.specs.HazardFree.{are_equal, is_hazard_free, is_hazard_free_behind}
 use Rattle.st_sweep.specs.Sweep.{ticks}
@@ -29,20 +29,22 @@ moment c tick f dropped banks =
 -- ---- the last tick
 
 last-ends : (ds : List ℕ) (n left v : ℕ) (m : Moment) → rests (next_state m) ≡ true → last_completion v (timed_from ds n left m []) ≡ m.tick
-last-ends ds n left v m h = ap (last_completion v) (timed-rests ds n left m [] h) ∙ last_events-tick v m []
+unfolding snapshots_from
+last-ends ds n left v m h = ap (last_completion v) (timed-rests ds n left m [] refl h) ∙ last_events-tick v m []
 
 last-budget : (ds : List ℕ) (n v : ℕ) (m : Moment) → last_completion v (timed_from ds n zero m []) ≡ m.tick
-last-budget ds n v m = ap (last_completion v) (timed-budget ds n zero m [] refl) ∙ last_events-tick v m []
+unfolding snapshots_from
+last-budget ds n v m = ap (last_completion v) (timed-budget ds n zero m [] refl refl) ∙ last_events-tick v m []
 
 last-goes_on : (ds : List ℕ) (n left v : ℕ) (m : Moment) → rests (next_state m) ≡ false
     → last_completion v (timed_from ds n (suc left) m [])
     ≡ last_completion (next_moment ds n (standing_at m)).tick (timed_from ds n left (next_moment ds n (standing_at m)) [])
-unfolding last_completion
+unfolding last_completion snapshots_from
 last-goes_on ds n left v m h =
     let p = standing_at m in
     let one : suc left - 1 ≡ left = omega arith in
     ap (last_completion v)
-    (timed-goes_on ds n (suc left) m [] (λ e. cc) h
+    (timed-goes_on ds n (suc left) m [] refl (λ e. cc) h
     ∙ ap (λ k. events_between m ++ timed_behind ds n k p []) one
     ∙ ap (λ xs. events_between m ++ xs) (behind-none ds n left p))
     ∙ last-append v (events_between m) (completion ds n p ∷ timed_from ds n left (next_moment ds n p) [])
@@ -99,5 +101,7 @@ hazard_free-ticks ds m n left c some more hazard_free =
     let parts = and_parts (are_equal ds) (is_hazard_free_behind [] left c) hazard_free in
     let same = same-delays ds some parts.0 in
     let front = opening_front idle_banks 0 in
+    let sooner =
     hazard_free-sooner same.delay ds same.each m n more left c [] 0 0 front front [] [] idle_banks idle_banks (omega arith) (opening-sooner idle_banks 0)
-    (opening-order idle_banks 0) (opening-covered idle_banks 0) parts.1 0 0
+    (opening-order idle_banks 0) (opening-covered idle_banks 0) parts.1 0 0 in
+    omega (arith, sooner, tick-same ds m left 0 (moment_at_start c) [], tick-same ds n left 0 (moment_at_start c) [])

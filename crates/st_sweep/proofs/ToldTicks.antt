@@ -5,6 +5,8 @@ use Rattle.st_state.specs.Machine.{Machine}
 use Rattle.st_run.specs.Events.{Timed}
 use Rattle.st_run.specs.Order.{last_completion}
 use Rattle.st_run.specs.TimedRun.{timed_run}
+use Rattle.st_run.specs.Moments.{moment_at_start}
+use Rattle.st_run.proofs.ShownLemmas.{tick-same}
 use Rattle.st_run.specs.ReportedEvents.{TimedReportedEvent, reported_events}
 use Rattle.st_run.specs.Telling.{AreLeftOut, row_told}
 use Rattle.st_sweep.specs.Starts.{last_told}
@@ -45,3 +47,4 @@ unfolding ticks
 told-whole ds n left s xs cards rest tells none =
     let run = λ (ys : List (List ℕ)). timed_run ds n left (record { machine = s; signals = xs; cards = ys }) [] in
     ap (last_told 0) tells ∙ told-last 0 (run cards) ∙ ap (λ ys. last_completion 0 (run ys)) none
+    ∙ tick-same ds n left 0 (moment_at_start (without_cards s xs)) []

@@ -1,6 +1,6 @@
 -- A run is hazard-free where all reads take the same time, nothing breaks off what runs ahead, and
 -- no entry uses a word that an earlier one writes.
-use Rattle.std.specs.Prelude.{ℕ, zero, suc, ◌+◌, Bool, true, false, not, ◌==◌, ◌&&◌, ◌||◌, nat_lt, is_none, List, [], ◌∷◌, length, Option, None, Some}
+use Rattle.std.specs.Prelude.{ℕ, zero, suc, ◌+◌, map, Bool, true, false, not, ◌==◌, ◌&&◌, ◌||◌, nat_lt, is_none, List, [], ◌∷◌, length, Option, None, Some}
 use Rattle.std.specs.List.{list_all, list_any}
 use Rattle.st_state.specs.Machine.{Machine}
 use Rattle.st_prep.specs.Fetch.{place_of}
@@ -8,7 +8,7 @@ use Rattle.st_prep.specs.Plan.{needs, sight, plan}
 use Rattle.st_prep.specs.declared.entries.Words.{Words}
 use Rattle.st_exec.specs.Completion.{is_missed}
 use Rattle.st_exec.specs.Step.{interrupt, rests}
-use Rattle.st_run.specs.Run.{Scene, with_due_signals, with_due_orders, interlude, scene_after_step}
+use Rattle.st_run.specs.Run.{Scene, with_due_signals, with_due_orders, interlude, state_next, scenes}
 use Rattle.st_rows.specs.Entries.{is_among}
 use Rattle.st_rows.specs.declared.entry.WordRuns.{WordRuns}
 use Rattle.st_segment.specs.Entries.{words_to_write}
@@ -71,16 +71,19 @@ is_hazard_free_interlude c =
 
 -- ---- the run
 
+-- so are the next entries of these states, behind earlier ones that write these words
+unfoldable pub are_hazard_free_entries : List WordRuns → List Machine → Bool
+are_hazard_free_entries earlier [] = true
+are_hazard_free_entries earlier (s ∷ ss) =
+    is_hazard_free_entry earlier s && are_hazard_free_entries (next_writes s ∷ earlier) ss
+
 -- the run from a scene on, in which so many entries may still be done, behind earlier entries that
 -- write these words
 unfoldable pub is_hazard_free_behind : List WordRuns → ℕ → Scene → Bool
-is_hazard_free_behind earlier zero c = is_hazard_free_interlude c
-is_hazard_free_behind earlier (suc left) c =
-    let s = (interlude c).scene.machine in
-    is_hazard_free_interlude c
-    && (rests s
-    || is_hazard_free_entry earlier s && is_hazard_free_behind (next_writes s ∷ earlier) left
-    (scene_after_step (interlude c).scene))
+is_hazard_free_behind earlier left c =
+    let r = scenes left c in
+    list_all is_hazard_free_interlude r.before && is_hazard_free_interlude r.last
+    && are_hazard_free_entries earlier (map state_next r.before)
 
 -- the whole run of a scene, with these delays
 abbrev pub is_hazard_free : List ℕ → ℕ → Scene → Bool

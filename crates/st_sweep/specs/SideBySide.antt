@@ -1,6 +1,6 @@
 -- What a sweep tells of a run.
 use Rattle.std.specs.Prelude.{ℕ, ◌≤◌, ◌<◌, List, [], ◌∷◌, map, length, slice_index}
-use Rattle.st_run.specs.Run.{Scene, run}
+use Rattle.st_run.specs.Run.{Scene, state_next, scenes}
 use Rattle.st_sweep.specs.HazardFree.{is_hazard_free}
 use Rattle.st_sweep.specs.Sweep.{ticks}
 use Rattle.st_sweep.specs.Starts.{Start}
@@ -12,7 +12,7 @@ use Rattle.st_sweep.specs.declared.sweeping.Swept.{Swept}
 abbrev pub side_by_side : List ℕ → ℕ → Scene → Swept
 side_by_side ds left c = record {
   ticks = map (λ n. ticks ds n left c) (1 ∷ 2 ∷ 3 ∷ 4 ∷ 5 ∷ 6 ∷ 7 ∷ 8 ∷ []);
-  done = (run left c).scene.machine.done;
+  done = (state_next (scenes left c).last).done;
   hazard_free = is_hazard_free ds left c;
 }
 

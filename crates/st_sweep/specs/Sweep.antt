@@ -3,8 +3,7 @@ use Rattle.std.specs.Prelude.{ℕ, List, []}
 use Rattle.st_state.specs.Machine.{Machine}
 use Rattle.st_card.specs.declared.control_cards.Signal.{Signal}
 use Rattle.st_run.specs.Run.{Scene}
-use Rattle.st_run.specs.Order.{last_completion}
-use Rattle.st_run.specs.TimedRun.{timed_run}
+use Rattle.st_run.specs.Moments.{moment_at_start, moments}
 
 -- a machine with the signals that are still to come, and with no card in its reader
 abbrev pub without_cards : Machine → List Signal → Scene
@@ -13,4 +12,4 @@ without_cards s xs = record { machine = s; signals = xs; cards = [] }
 -- the tick at which the last entry of a run is done, on a machine with the delays ds and n levels;
 -- 0 where none is
 unfoldable pub ticks : List ℕ → ℕ → ℕ → Scene → ℕ
-ticks ds n left c = last_completion 0 (timed_run ds n left c [])
+ticks ds n left c = (moments ds n left (moment_at_start c)).last.tick

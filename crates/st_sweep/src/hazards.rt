@@ -6,7 +6,7 @@ ghost use Rattle.st_card.specs.Limits.{is_signal};
 ghost use Rattle.st_prep.specs.Ranges.{IsPrepared};
 ghost use Rattle.st_exec.specs.Completion.{is_missed as is_missed_of};
 ghost use Rattle.st_exec.specs.Step.{rests, step as step_of};
-ghost use Rattle.st_run.specs.Run.{run};
+ghost use Rattle.st_run.specs.Run.{state_next, scenes};
 ghost use Rattle.st_rows.specs.declared.entry.WordRuns.{WordRuns};
 ghost use Rattle.st_sweep.specs.HazardFree.{are_equal as are_equal_of, next_writes, is_hazard_free_entry, is_hazard_free_behind};
 ghost use Rattle.st_sweep.specs.Marks.{AreMarks};
@@ -101,7 +101,7 @@ pub(crate) fn run_plain(
     requires written { AreMarks [] written.old }
     requires few { state.old.done + budget ≤ MOST_INSTRUCTIONS }
     ensures done { result.done
-        ≡ (run budget (without_cards state.old signals.now)).scene.machine.done }
+        ≡ (state_next (scenes budget (without_cards state.old signals.now)).last).done }
     ensures hazard_free { result.hazard_free ≡ is_hazard_free_behind [] budget
         (without_cards state.old signals.now) }
 {

@@ -11,7 +11,7 @@ use Rattle.st_io.proofs.Progress.{EventsSoFar, events_none, events_more, events_
 use Rattle.st_run.specs.ReportedEvents.{TimedReportedEvent}
 use Rattle.st_ahead.specs.declared.events.Row.{Row}
 use Rattle.st_run.specs.Telling.{row_told, rows_then, AreLeftOut}
-use Rattle.st_telling.specs.Report.{report, lines_at, lines_told, done_lines}
+use Rattle.st_telling.specs.Report.{report, lines_at, lines_told}
 use Rattle.st_telling.specs.Running.{WritesEvents, WritesNothing, moment_told, last_moment}
 use Rattle.st_telling.specs.declared.moment.Moment.{Moment}
 
@@ -107,14 +107,14 @@ told_stops s t u asked m now n all rest more x e (Err y) f is same h w =
 -- the same of a row
 pub row_more : (s t u : OutputState) (asked : Asked) (m now n : Moment) (all rest more : List TimedReportedEvent) (row : Row) (y : Unit {0})
     → rest ≡ row_told row ∷ more → n ≡ moment_told (row_told row) → ToldSoFar s t asked m now all rest
-    → WritesLines t u (done_lines asked row.number row.address row.p row.r row.c) (Ok y) → ToldSoFar s u asked m n all more
+    → WritesLines t u (lines_at asked row.number row.c (row_told row).event) (Ok y) → ToldSoFar s u asked m n all more
 row_more s t u asked m now n all rest more row y is same h w =
     told_more s t u asked m now n all rest more (row_told row) y is same h
     (subst (λ (k : Moment). WritesLines t u (lines_at asked k.done k.tick (row_told row).event) (Ok y)) (sym same) w)
 
 pub row_stops : (s t u : OutputState) (asked : Asked) (m now n : Moment) (all rest more : List TimedReportedEvent) (row : Row) (e : Failed) (r : Result (Unit {0}) Failed)
     → IsErr r → rest ≡ row_told row ∷ more → n ≡ moment_told (row_told row) → ToldSoFar s t asked m now all rest
-    → WritesLines t u (done_lines asked row.number row.address row.p row.r row.c) (Err e) → WritesEvents s u (report asked all) (last_moment m all) n r
+    → WritesLines t u (lines_at asked row.number row.c (row_told row).event) (Err e) → WritesEvents s u (report asked all) (last_moment m all) n r
 row_stops s t u asked m now n all rest more row e r failed is same h w =
     told_stops s t u asked m now n all rest more (row_told row) e r failed is same h
     (subst (λ (k : Moment). WritesLines t u (lines_at asked k.done k.tick (row_told row).event) (Err e)) (sym same) w)

@@ -7,7 +7,8 @@ ghost use Rattle.st_report.specs.Line.{trc_line, row_line, drop_line, prt_line, 
 ghost use Rattle.st_time.specs.Shown.{levels_standing, change_shown};
 ghost use Rattle.st_run.specs.Events.{Level};
 ghost use Rattle.st_run.specs.Telling.{AreLevelsShown, row_told, told_as};
-ghost use Rattle.st_telling.specs.Report.{block, line_if, done_lines, interrupt_lines, snapshot_lines, end_lines, lines_told, report};
+ghost use Rattle.st_run.specs.ReportedEvents.{Done, Interrupted, Ended};
+ghost use Rattle.st_telling.specs.Report.{block, line_if, snapshot_lines, lines_at, lines_told, report};
 ghost use Rattle.st_telling.specs.Running.{WritesEvents, WritesNothing, last_moment, views_lines};
 
 use crate::block::write_block;
@@ -89,7 +90,7 @@ fn write_done<K: Sink>(
     controls: &Controls,
 ) -> Result<(), Failed>
     ensures { WritesLines (K.output out.old) (K.output out.new)
-        (done_lines controls.now row.number row.address row.p row.r row.c) result }
+        (lines_at controls.now row.number row.c (Done row.address row.p row.r row.c)) result }
 {
     write_trace(out, line, row.number, row.address, controls)?;
     write_row(out, line, row, controls)
@@ -149,7 +150,7 @@ fn write_interrupt<K: Sink>(
 ) -> Result<(), Failed>
     requires { AllPass is_part controls.now.dumps }
     ensures { WritesLines (K.output out.old) (K.output out.new)
-        (interrupt_lines controls.now moment.done moment.tick i seen.now) result }
+        (lines_at controls.now moment.done moment.tick (Interrupted i seen.now)) result }
 {
     write_taken(out, i, moment.done)?;
     write_time(out, moment.tick, controls)?;
@@ -264,7 +265,7 @@ fn write_end<K: Sink>(
 ) -> Result<(), Failed>
     requires { AllPass is_part controls.now.dumps }
     ensures { WritesLines (K.output out.old) (K.output out.new)
-        (end_lines controls.now moment.done moment.tick rests seen.now) result }
+        (lines_at controls.now moment.done moment.tick (Ended rests seen.now)) result }
 {
     write_ended(out, rests)?;
     write_count(out, moment.done)?;

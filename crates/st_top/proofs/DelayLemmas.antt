@@ -1,4 +1,8 @@
 -- The lines of a run that are not marked hang on the plain run alone.
+use Rattle.st_state.specs.Machine.{Machine}
+use Rattle.st_run.specs.TimedRun.{timed_run}
+use Rattle.st_run.proofs.CourseLemmas.{last-same}
+use Rattle.st_beside.proofs.Rewinds.{states-same}
 use Rattle.std.proofs.Common.{◌≡◌, ℕ, Bool, List, ◌++◌, sym, ◌∙◌, ap}
 use Rattle.std.specs.List.{flat_map}
 use Rattle.st_card.specs.Controls.{Asked}
@@ -6,9 +10,10 @@ use Rattle.st_run.specs.Run.{Scene, run}
 use Rattle.st_run.specs.Moments.{moment_at_start}
 use Rattle.st_run.specs.ReportedEvents.{reported_events}
 use Rattle.st_run.proofs.Untimed.{timed-plain}
-use Rattle.st_top.specs.Marks.{without_marks, lines_unmarked, marked_report, marked_run}
+use Rattle.st_top.specs.Marks.{lines_unmarked, marked_report, marked_run}
+use Rattle.st_telling.specs.Report.{fixed as without_marks}
 use Rattle.st_beside.specs.States.{states}
-use Rattle.st_top.specs.StepsBack.{events_of_run, last_state, lines_of_steps_back}
+use Rattle.st_top.specs.StepsBack.{states_of_run, events_of_run, last_state, lines_of_steps_back}
 use Rattle.st_top.specs.declared.reporting.TheConstants.{LEVELS}
 use Rattle.st_top.proofs.PlainEventLemmas.{unmarked-append, unmarked-plain, happening_lines, report-lines, counted-run}
 
@@ -16,19 +21,23 @@ use Rattle.st_top.proofs.PlainEventLemmas.{unmarked-append, unmarked-plain, happ
 abbrev pub run_lines : Asked → Scene → List (List ℕ)
 run_lines asked c =
     flat_map (happening_lines asked.trace asked.dumps) (run asked.budget c).happened
-    ++ lines_of_steps_back asked (states asked.budget c) (last_state asked c)
+    ++ lines_of_steps_back asked (states asked.budget c) (run asked.budget c).scene.machine
 
 pub run-unmarked : (asked : Asked) (c : Scene) → lines_unmarked (marked_run asked c) ≡ run_lines asked c
 unfolding marked_run
 run-unmarked asked c =
     let xs = events_of_run asked c in
     let lines = happening_lines asked.trace asked.dumps in
-    let back = lines_of_steps_back asked (states asked.budget c) (last_state asked c) in
+    let back = lines_of_steps_back asked (states_of_run asked c) (last_state asked c) in
+    let all = timed_run asked.delays LEVELS asked.budget c asked.snaps in
     unmarked-append (marked_report asked (reported_events xs)) (without_marks back)
     ∙ ap (λ front. front ++ lines_unmarked (without_marks back))
-    (report-lines asked xs (counted-run asked.delays LEVELS asked.budget (moment_at_start c) asked.snaps)
+    (report-lines asked all (counted-run asked.delays LEVELS asked.budget (moment_at_start c) asked.snaps)
     ∙ ap (flat_map lines) (timed-plain asked.delays LEVELS asked.budget (moment_at_start c) asked.snaps))
-    ∙ ap (λ rest. flat_map lines (run asked.budget c).happened ++ rest) (unmarked-plain back)
+    ∙ ap (λ rest. flat_map lines (run asked.budget c).happened ++ rest)
+    (unmarked-plain back
+    ∙ ap (λ (ss : List Machine). lines_of_steps_back asked ss (last_state asked c)) (sym (states-same asked.delays LEVELS asked.budget (moment_at_start c)))
+    ∙ ap (lines_of_steps_back asked (states asked.budget c)) (sym (last-same asked.delays LEVELS asked.budget (moment_at_start c))))
 
 -- other delays, snapshots and marks leave them as they are
 pub run-same : (asked : Asked) (ds snaps : List ℕ) (time chart : Bool) (c : Scene)

@@ -26,9 +26,12 @@ use Rattle.st_top.specs.ObjectText.{program_in}
 use Rattle.st_report.specs.Listing.{listed_line}
 use Rattle.st_state.specs.Machine.{opening_state}
 use Rattle.st_top.specs.Listing.{rows_lines, symbols_lines}
-use Rattle.st_top.specs.Marks.{Marked, with_marks, without_marks, lines_unmarked, marked_run, up_to_end, texts_up_to_end, end_card, listed_lines, marked_listing, marked_by, marked_load, marked_cards, marked_object, marked_deck, marked_assembled, marked_disassembled, marked_output, DifferInDelays}
+use Rattle.st_top.specs.DelayLaws.{AreAlikeBesideDelays}
+use Rattle.st_top.specs.Marks.{lines_unmarked, marked_run, up_to_end, texts_up_to_end, end_card, listed_lines, marked_listing, marked_by, marked_load, marked_cards, marked_object, marked_deck, marked_assembled, marked_disassembled, marked_output}
+use Rattle.st_telling.specs.Report.{Part as Marked, varying as with_marks, fixed as without_marks, joined}
 use Rattle.st_top.specs.Output.{scene_of_assembly, loaded_start, deck_by}
 use Rattle.st_command.specs.declared.command.Command.TheVariants.{Run, Assemble, Load, Disassemble}
+use Rattle.st_top.proofs.MarkLemmas.{joined-cons}
 use Rattle.st_top.proofs.DelayLemmas.{run-same}
 use Rattle.st_top.proofs.PlainEventLemmas.{unmarked-append, unmarked-plain, unmarked-between}
 
@@ -57,7 +60,7 @@ listed-unmarked job a =
     (symbols_lines a.symbols)
     ∙ ap (λ lines. lines ++ symbols_lines a.symbols) (rows-texts job a.rows front)
 
-listed-same : (job other : List ℕ) (a b : Assembly) → DifferInDelays job other a b
+listed-same : (job other : List ℕ) (a b : Assembly) → AreAlikeBesideDelays job other a b
     → lines_unmarked (listed_lines job a) ≡ lines_unmarked (listed_lines other b)
 listed-same job other a b h =
     listed-unmarked job a
@@ -66,7 +69,7 @@ listed-same job other a b h =
     ∙ ap (λ (symbols : List Symbol). text_lines (take (end_card other) b.rows) (texts_up_to_end other) ++ symbols_lines symbols) h.symbols
     ∙ sym (listed-unmarked other b)
 
-listing-same : (job other : List ℕ) (a b : Assembly) → DifferInDelays job other a b
+listing-same : (job other : List ℕ) (a b : Assembly) → AreAlikeBesideDelays job other a b
     → lines_unmarked (marked_listing job a) ≡ lines_unmarked (marked_listing other b)
 unfolding marked_listing
 listing-same job other a b h =
@@ -92,7 +95,7 @@ delays-same : (asked : Asked) (ds : List ℕ) (image : List ℕ) (start : ℕ) (
 delays-same asked ds image start cards =
     run-same asked ds asked.snaps asked.time asked.chart (scene_with asked image start cards)
 
-started-same : (job other : List ℕ) (a b : Assembly) → DifferInDelays job other a b
+started-same : (job other : List ℕ) (a b : Assembly) → AreAlikeBesideDelays job other a b
     → lines_unmarked (marked_run a.asked (scene_of_assembly job a)) ≡ lines_unmarked (marked_run b.asked (scene_of_assembly other b))
 started-same job other a b h =
     sym (delays-same a.asked b.asked.delays a.image a.start (reader_cards job))
@@ -101,7 +104,7 @@ started-same job other a b h =
     ∙ ap (λ start. lines_with b.asked b.image start (reader_cards job)) h.start
     ∙ ap (λ cards. lines_with b.asked b.image b.start cards) h.reader
 
-by-same : (job other : List ℕ) (a b : Assembly) → DifferInDelays job other a b
+by-same : (job other : List ℕ) (a b : Assembly) → AreAlikeBesideDelays job other a b
     → lines_unmarked (marked_by job (Ok a)) ≡ lines_unmarked (marked_by other (Ok b))
 by-same job other a b h =
     unmarked-append (marked_listing job a) (marked_run a.asked (scene_of_assembly job a))
@@ -109,7 +112,7 @@ by-same job other a b h =
     ∙ ap (λ ran. lines_unmarked (marked_listing other b) ++ ran) (started-same job other a b h)
     ∙ sym (unmarked-append (marked_listing other b) (marked_run b.asked (scene_of_assembly other b)))
 
-pub jobs-same : (job other : List ℕ) (a b : Assembly) → assembly job ≡ Ok a → assembly other ≡ Ok b → DifferInDelays job other a b
+pub jobs-same : (job other : List ℕ) (a b : Assembly) → assembly job ≡ Ok a → assembly other ≡ Ok b → AreAlikeBesideDelays job other a b
     → lines_unmarked (marked_output Run job) ≡ lines_unmarked (marked_output Run other)
 unfolding marked_output
 jobs-same job other a b is also h =
@@ -133,12 +136,12 @@ texts-same text other p q is also h =
 -- ---- an object text, and a deck
 
 -- a line without its end, by whether it is one of delays
-text-if : (b : Bool) (x : List ℕ) (lines rest : List (List ℕ)) → lines ≡ map (λ t. t ++ lf) rest
-    → (if b then lines else (x ++ lf) ∷ lines) ≡ map (λ t. t ++ lf) (if not b then x ∷ rest else rest)
-text-if true x lines rest same = same
-text-if false x lines rest same = ap (λ l. (x ++ lf) ∷ l) same
+text-if : (b : Bool) (x : List ℕ) (parts : List Marked) (rest : List (List ℕ)) → joined parts ≡ map (λ t. t ++ lf) rest
+    → joined (if not b then record { lines = (x ++ lf) ∷ []; varies = b } ∷ parts else parts) ≡ map (λ t. t ++ lf) (if not b then x ∷ rest else rest)
+text-if true x parts rest same = same
+text-if false x parts rest same = joined-cons (record { lines = (x ++ lf) ∷ []; varies = false }) parts ∙ ap (λ l. (x ++ lf) ∷ l) same
 
-texts-unmarked : (xs : List (List ℕ)) → lines_unmarked (map (λ text. record { line = text ++ lf; varies = is_delay_line text }) xs)
+texts-unmarked : (xs : List (List ℕ)) → lines_unmarked (map (λ text. record { lines = (text ++ lf) ∷ []; varies = is_delay_line text }) xs)
     ≡ map (λ t. t ++ lf) (filter (λ line. not (is_delay_line line)) xs)
 unfolding lines_unmarked
 texts-unmarked [] = refl
@@ -180,7 +183,7 @@ decks-same : (p q : Program) → record p { controls = record p.controls { delay
     → lines_unmarked (marked_deck p) ≡ lines_unmarked (marked_deck q)
 decks-same p q h = deck-unmarked p ∙ ap (λ (r : Program). deck_beside r) h ∙ sym (deck-unmarked q)
 
-programs-differ : (job other : List ℕ) (a b : Assembly) → DifferInDelays job other a b
+programs-differ : (job other : List ℕ) (a b : Assembly) → AreAlikeBesideDelays job other a b
     → record (program_in a) { controls = record (program_in a).controls { delays = b.asked.delays } } ≡ program_in b
 programs-differ job other a b h =
     let asked : Asked = record a.asked { delays = b.asked.delays } in
@@ -188,7 +191,7 @@ programs-differ job other a b h =
     ∙ ap (λ start. record { words = b.image; start = start; controls = record asked { list = false } }) h.start
     ∙ ap (λ (asked : Asked). record { words = b.image; start = b.start; controls = record asked { list = false } }) h.asked
 
-pub assembled-same : (job other : List ℕ) (a b : Assembly) → assembly job ≡ Ok a → assembly other ≡ Ok b → DifferInDelays job other a b
+pub assembled-same : (job other : List ℕ) (a b : Assembly) → assembly job ≡ Ok a → assembly other ≡ Ok b → AreAlikeBesideDelays job other a b
     → lines_unmarked (marked_output Assemble job) ≡ lines_unmarked (marked_output Assemble other)
 unfolding marked_output
 assembled-same job other a b is also h =

@@ -1,17 +1,21 @@
 -- The lines of the state so many steps before the end.
+use Rattle.st_run.specs.Moments.{moment_at_start}
+use Rattle.st_run.proofs.CourseLemmas.{last-same}
+use Rattle.st_beside.proofs.Rewinds.{states-same}
+use Rattle.st_top.specs.declared.reporting.TheConstants.{LEVELS}
 use Rattle.std.proofs.Common.{◌≡◌, ◌≤◌, ◌==◌, ℕ, zero, suc, ◌-◌, min, List, [], ◌∷◌, ◌++◌, true, false, length, take, drop, get_or, sym, ◌∙◌, ap, arith, if◌then◌else◌}
 use Rattle.std.proofs.lemmas.List.{length-drop, drop-append-le}
 use Rattle.std.proofs.lemmas.Bool.Decides.{nat_tests}
 use Rattle.st_card.specs.Controls.{Asked}
 use Rattle.st_state.specs.Machine.{Machine}
-use Rattle.st_run.specs.Run.{Scene}
+use Rattle.st_run.specs.Run.{Scene, run}
 use Rattle.st_back.specs.Steps.{states_before}
 use Rattle.st_report.specs.Line.{back_line}
 use Rattle.st_beside.specs.Beside.{Beside, IsBeside, HasMadeRun}
 use Rattle.st_beside.specs.States.{states}
 use Rattle.st_beside.proofs.Rewinds.{length-states_before}
 use Rattle.st_telling.specs.Report.{block}
-use Rattle.st_top.specs.StepsBack.{block_before, lines_of_steps_back, last_state}
+use Rattle.st_top.specs.StepsBack.{states_of_run, block_before, lines_of_steps_back, last_state}
 
 first_at : (xs : List Machine) (i : ℕ) (t d : Machine) → t ∷ [] ≡ take 1 (drop i xs) → get_or xs i d ≡ t
 first_at [] zero t d e = absurd (cc)
@@ -23,7 +27,7 @@ asked_for : (asked : Asked) (lines : List (List ℕ)) → 1 ≤ asked.back → l
 asked_for asked lines some =
     let test : (asked.back == 0) ≡ false = grind (arith, nat_tests) in sym (ap (λ b. if b then [] else lines) test)
 
-pub lines_before : (asked : Asked) (j : ℕ) (start : Scene) (b : Beside) (t : Machine) → HasMadeRun asked.back asked.budget start b → j ≡ length b.1.kept → t ∷ [] ≡ take 1 (states_before b.1.kept b.0.machine ++ b.0.machine ∷ []) → back_line j ∷ block asked.dumps t ≡ lines_of_steps_back asked (states asked.budget start) (last_state asked start)
+pub lines_before : (asked : Asked) (j : ℕ) (start : Scene) (b : Beside) (t : Machine) → HasMadeRun asked.back asked.budget start b → j ≡ length b.1.kept → t ∷ [] ≡ take 1 (states_before b.1.kept b.0.machine ++ b.0.machine ∷ []) → back_line j ∷ block asked.dumps t ≡ lines_of_steps_back asked (states_of_run asked start) (last_state asked start)
 lines_before asked j start b t h count oldest =
     let f : IsBeside asked.back b h.before = h.beside in
     let k = asked.back in
@@ -45,10 +49,12 @@ lines_before asked j start b t h count oldest =
     ap (λ i. back_line i ∷ block asked.dumps t) steps
     ∙ (ap (λ (m : Machine). back_line (min k last.done) ∷ block asked.dumps m) state
     ∙ (asked_for asked (block_before asked.dumps (min k last.done) all last) f.some
-    ∙ ap (lines_of_steps_back asked all) h.last))
+    ∙ (ap (lines_of_steps_back asked all) h.last
+    ∙ (ap (λ (ss : List Machine). lines_of_steps_back asked ss (run asked.budget start).scene.machine) (states-same asked.delays LEVELS asked.budget (moment_at_start start))
+    ∙ ap (lines_of_steps_back asked (states_of_run asked start)) (last-same asked.delays LEVELS asked.budget (moment_at_start start))))))
 
-pub no_lines : (asked : Asked) (start : Scene) → asked.back ≡ 0 → [] ≡ lines_of_steps_back asked (states asked.budget start) (last_state asked start)
+pub no_lines : (asked : Asked) (start : Scene) → asked.back ≡ 0 → [] ≡ lines_of_steps_back asked (states_of_run asked start) (last_state asked start)
 no_lines asked start none =
     let last = last_state asked start in
     let test : (asked.back == 0) ≡ true = grind (arith, nat_tests, none) in
-    sym (ap (λ b. if b then [] else block_before asked.dumps (min asked.back last.done) (states asked.budget start) last) test)
+    sym (ap (λ b. if b then [] else block_before asked.dumps (min asked.back last.done) (states_of_run asked start) last) test)

@@ -1,4 +1,7 @@
 -- The moment of what is told last of a run is that of its end.
+use Rattle.st_run.specs.Moments.{moment_at_start}
+use Rattle.st_run.proofs.CourseLemmas.{last-same}
+use Rattle.st_run.proofs.ShownLemmas.{tick-same}
 use Rattle.std.proofs.Common.{◌≡◌, ℕ, List, [], ◌∷◌, refl, ◌∙◌, ap, subst}
 use Rattle.std.specs.Prelude.{Result, Ok, Err, IsErr}
 use Rattle.st_card.specs.Controls.{Asked}
@@ -10,10 +13,10 @@ use Rattle.st_run.specs.Run.{Scene}
 use Rattle.st_run.specs.Events.{Timed}
 use Rattle.st_run.specs.Order.{last_completion}
 use Rattle.st_run.specs.ReportedEvents.{TimedReportedEvent, reported_events}
-use Rattle.st_run.proofs.LastLemmas.{last_done, run-done, run-tick}
+use Rattle.st_run.proofs.LastLemmas.{last_done, run-done}
 use Rattle.st_telling.specs.Report.{report}
-use Rattle.st_beside.specs.States.{states}
-use Rattle.st_top.specs.StepsBack.{lines_of_steps_back, last_state, events_of_run, moment_at_end, run_report}
+use Rattle.st_state.specs.Machine.{Machine}
+use Rattle.st_top.specs.StepsBack.{states_of_run, lines_of_steps_back, last_state, events_of_run, moment_at_end, run_report}
 use Rattle.st_telling.specs.Running.{WritesEvents, last_moment}
 use Rattle.st_telling.specs.declared.moment.Moment.{Moment}
 use Rattle.st_top.specs.declared.reporting.TheConstants.{LEVELS}
@@ -30,8 +33,9 @@ last-is asked start m =
     let with_done : ℕ → Moment = λ d. record { done = d; tick = last_completion m.tick (events_of_run asked start) } in
     let with_tick : ℕ → Moment = λ t. record { done = (last_state asked start).done; tick = t } in
     last-told m (events_of_run asked start)
-    ∙ (ap with_done (run-done asked.delays LEVELS asked.budget start asked.snaps m.done)
-    ∙ ap with_tick (run-tick asked.delays LEVELS asked.budget start asked.snaps m.tick 0))
+    ∙ (ap with_done (run-done asked.delays LEVELS asked.budget start asked.snaps m.done
+    ∙ ap (λ (s : Machine). s.done) (last-same asked.delays LEVELS asked.budget (moment_at_start start)))
+    ∙ ap with_tick (tick-same asked.delays LEVELS asked.budget m.tick (moment_at_start start) asked.snaps))
 
 -- what a run tells, from its start, and then the lines of the state before its end
 tells-is : (s t : OutputState) (asked : Asked) (start : Scene) (m n : Moment) (rest : List TimedReportedEvent) (r : Result (Unit {0}) Failed)
@@ -47,14 +51,14 @@ pub report_cut : (s t : OutputState) (asked : Asked) (start : Scene) (m n : Mome
 unfolding run_report
 report_cut s t asked start m n rest e r f is w =
     events_cut s t (report asked (reported_events (events_of_run asked start)))
-    (at_moment (moment_at_end asked start).done (moment_at_end asked start).tick (lines_of_steps_back asked (states asked.budget start) (last_state asked start)))
+    (at_moment (moment_at_end asked start).done (moment_at_end asked start).tick (lines_of_steps_back asked (states_of_run asked start) (last_state asked start)))
     (moment_at_end asked start) n e r f (tells-is s t asked start m n rest (Err e) is w)
 
 pub report_then : (s t u : OutputState) (asked : Asked) (start : Scene) (m n : Moment) (rest : List TimedReportedEvent) (x : Unit {0}) (r : Result (Unit {0}) Failed)
     → rest ≡ reported_events (events_of_run asked start) → WritesEvents s t (report asked rest) (last_moment m rest) n (Ok x)
-    → WritesLines t u (lines_of_steps_back asked (states asked.budget start) (last_state asked start)) r
+    → WritesLines t u (lines_of_steps_back asked (states_of_run asked start) (last_state asked start)) r
     → WritesEvents s u (run_report asked start) (moment_at_end asked start) n r
 unfolding run_report
 report_then s t u asked start m n rest x r is w lines =
-    events_then s t u (report asked (reported_events (events_of_run asked start))) (lines_of_steps_back asked (states asked.budget start) (last_state asked start))
+    events_then s t u (report asked (reported_events (events_of_run asked start))) (lines_of_steps_back asked (states_of_run asked start) (last_state asked start))
     (moment_at_end asked start) n x r (tells-is s t asked start m n rest (Ok x) is w) lines

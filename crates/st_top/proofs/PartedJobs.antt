@@ -26,7 +26,8 @@ use Rattle.st_asm.specs.declared.valuing.Listed.{Listed}
 use Rattle.st_asm.proofs.FaultlessLemmas.{form_pass-faultless}
 use Rattle.st_asm.proofs.KeptLemmas.{form_pass-numbers, name_pass-counts}
 use Rattle.st_exch.specs.Reader.{is_comment, is_statement, has_statement, behind_statements, card_words, texts_in, reader_cards}
-use Rattle.st_top.specs.Marks.{up_to_end, texts_up_to_end, end_card, DifferInDelays}
+use Rattle.st_top.specs.DelayLaws.{AreAlikeBesideDelays}
+use Rattle.st_top.specs.Marks.{up_to_end, texts_up_to_end, end_card}
 use Rattle.st_top.specs.Delays.{HasGoodDelays, asked_in, delays_behind_end, is_control, begins_delays, is_delays_card, texts_behind_end, others_behind_end, DifferInDelaysCards}
 use Rattle.st_top.proofs.MarkLemmas.{cards-split}
 use Rattle.st_top.proofs.PartedPasses.{ReadCard, onward-ok, and_then-ok, onward-same, pass-append, quiet, no_places, quiet_rows, with_places, with_rows, names-parted, values-parted, Parts, passes-parted}
@@ -481,7 +482,7 @@ defaults-still ds asked = refl
 
 -- jobs that differ in their delays cards give the same but for the delays
 pub cards-differ : (job other : List ℕ) (a b : Assembly) → assembly job ≡ Ok a → assembly other ≡ Ok b → DifferInDelaysCards job other
-    → DifferInDelays job other a b
+    → AreAlikeBesideDelays job other a b
 cards-differ job other a b is also h =
     let x = from-front job a is in
     let y = from-front other b also in

@@ -1,6 +1,9 @@
 -- The lines of a report that are not marked are those of what happens in the plain run.
 use Rattle.std.proofs.Common.{◌≡◌, ℕ, Bool, true, false, if◌then◌else◌, List, [], ◌∷◌, ◌++◌, map, reverse, zero, suc, Option, None, Some, refl, sym, ◌∙◌, ap, subst, ◌+◌}
+use Rattle.std.specs.Prelude.{not, filter}
 use Rattle.std.proofs.lemmas.List.{map-append, append-nil}
+use Rattle.std.proofs.lemmas.List.Elements.{filter-append}
+use Rattle.st_top.proofs.MarkLemmas.{lines-append}
 use Rattle.std.proofs.lemmas.Grind.{flat_map-append}
 use Rattle.std.specs.List.{flat_map}
 use Rattle.st_card.specs.Controls.{Asked}
@@ -15,10 +18,11 @@ use Rattle.st_report.specs.Line.{prt_line, trc_line, row_line, drop_line, int_li
 use Rattle.st_run.specs.Events.{TimetableEvent, Timed, Completes, Drops, Shows, Happens, plain_events_of as plain_event, plain_run, drop_of, snapshot}
 use Rattle.st_run.specs.Moments.{Moment, Standing, next_state, standing_at, next_moment, ends_segment}
 use Rattle.st_run.specs.TimedRun.{event_at, ticks_before, snapshots_from, drops, drops_if_ends, happening_at, events_between, snapshot_at, completion, until_done, last_snapshot_at, last_events, timed_from}
-use Rattle.st_run.specs.ReportedEvents.{reported_events, timed_reported_event, reported_event}
+use Rattle.st_run.specs.ReportedEvents.{TimedReportedEvent, reported_events, timed_reported_event, reported_event}
 use Rattle.st_run.proofs.DoneLemmas.{settled-done}
-use Rattle.st_top.specs.Marks.{Marked, with_marks, without_marks, lines_unmarked, marked_lines, marked_report}
-use Rattle.st_telling.specs.Report.{line_if, block, snapshot_lines}
+use Rattle.st_run.proofs.CourseLemmas.{timed-none, timed-step}
+use Rattle.st_top.specs.Marks.{lines_unmarked, marked_report}
+use Rattle.st_telling.specs.Report.{Part as Marked, varying as with_marks, fixed as without_marks, joined, parts_at, line_if, block, snapshot_lines}
 
 -- what holds both ways holds of what is chosen
 of_choice : {A : Type 0} (P : A → Type 0) (b : Bool) (x y : A) → P x → P y → P (if b then x else y)
@@ -29,22 +33,17 @@ of_choice P false x y p q = q
 
 pub unmarked-append : (xs ys : List Marked) → lines_unmarked (xs ++ ys) ≡ lines_unmarked xs ++ lines_unmarked ys
 unfolding lines_unmarked
-unmarked-append [] ys = refl
-unmarked-append (x ∷ xs) ys = append-if (lines_unmarked xs) (lines_unmarked ys) (lines_unmarked (xs ++ ys)) x.varies x.line (unmarked-append xs ys) where
-  append-if : (fs bs cs : List (List ℕ)) (b : Bool) (line : List ℕ) → cs ≡ fs ++ bs
-      → (if b then cs else line ∷ cs) ≡ (if b then fs else line ∷ fs) ++ bs
-  append-if fs bs cs true line same = same
-  append-if fs bs cs false line same = ap (λ rest. line ∷ rest) same
+unmarked-append xs ys =
+    ap joined (filter-append (λ (p : Marked). not p.varies) xs ys)
+    ∙ lines-append (filter (λ (p : Marked). not p.varies) xs) (filter (λ (p : Marked). not p.varies) ys)
 
 pub unmarked-plain : (lines : List (List ℕ)) → lines_unmarked (without_marks lines) ≡ lines
 unfolding lines_unmarked
-unmarked-plain [] = refl
-unmarked-plain (x ∷ xs) = ap (λ rest. x ∷ rest) (unmarked-plain xs)
+unmarked-plain lines = refl
 
 pub unmarked-marked : (lines : List (List ℕ)) → lines_unmarked (with_marks lines) ≡ []
 unfolding lines_unmarked
-unmarked-marked [] = refl
-unmarked-marked (x ∷ xs) = unmarked-marked xs
+unmarked-marked lines = refl
 
 pub unmarked-before : (xs ys : List (List ℕ)) → lines_unmarked (without_marks xs ++ with_marks ys) ≡ xs
 unmarked-before xs ys =
@@ -83,6 +82,9 @@ ComesAt done (Happens happening) = HappensAt done happening
 pub AreCounted : List Timed → Type 0
 AreCounted [] = Unit {0}
 AreCounted (x ∷ xs) = ComesAt x.done x.event × AreCounted xs
+
+abbrev marked_lines : Asked → TimedReportedEvent → List Marked
+marked_lines asked t = parts_at asked t.done t.tick t.event
 
 happens-lines : (asked : Asked) (done tick : ℕ) (h : PlainEvent) → HappensAt done h
     → lines_unmarked (marked_lines asked (record { done = done; tick = tick; event = reported_event (Happens h) }))
@@ -246,14 +248,15 @@ counted-last m snaps =
     (sym (settled-done m.scene), tt)
 
 pub counted-run : (ds : List ℕ) (n left : ℕ) (m : Moment) (snaps : List ℕ) → AreCounted (timed_from ds n left m snaps)
-unfolding timed_from
-counted-run ds n zero m snaps = counted-last m snaps
+counted-run ds n zero m snaps = rw (timed-none ds n m snaps) (counted-last m (snapshots_from m.tick snaps))
 counted-run ds n (suc left) m snaps =
     let p = standing_at m in
     let next = next_moment ds n p in
-    let rest = timed_from ds n left next (snapshots_from next.tick snaps) in
-    of_choice AreCounted (rests (next_state m)) (last_events m snaps) (events_between m ++ until_done ds n p snaps ++ rest)
-    (counted-last m snaps)
-    (counted-append (events_between m ++ until_done ds n p snaps) rest
-    (counted-append (events_between m) (until_done ds n p snaps) (counted-between m) (counted-until_done ds n p snaps))
-    (counted-run ds n left next (snapshots_from next.tick snaps)))
+    let due = snapshots_from m.tick snaps in
+    let rest = timed_from ds n left next snaps in
+    rw (timed-step ds n left m snaps)
+    (of_choice AreCounted (rests (next_state m)) (last_events m due) (events_between m ++ until_done ds n p due ++ rest)
+    (counted-last m due)
+    (counted-append (events_between m ++ until_done ds n p due) rest
+    (counted-append (events_between m) (until_done ds n p due) (counted-between m) (counted-until_done ds n p due))
+    (counted-run ds n left next snaps)))

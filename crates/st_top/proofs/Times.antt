@@ -1,4 +1,7 @@
 -- The ticks of an answer are bounded.
+use Rattle.st_run.specs.Moments.{moment_at_start}
+use Rattle.st_run.proofs.CourseLemmas.{last-same}
+use Rattle.st_run.proofs.ShownLemmas.{tick-same}
 use Rattle.std.proofs.Common.{◌≡◌, ℕ, ◌+◌, ◌*◌, ◌≤◌, List, [], ◌∷◌, ◌++◌, All, nat_le, length, slice_index_or, sym, subst, arith}
 use Rattle.std.proofs.lemmas.Bool.{and_parts, leb-true}
 use Rattle.std.proofs.lemmas.List.Elements.{All-nil, All-cons, All-head, All-tail, All-append}
@@ -12,12 +15,15 @@ use Rattle.st_run.specs.Run.{Scene}
 use Rattle.st_rows.specs.Ranges.{AreDelaysUpTo}
 use Rattle.st_run.specs.Events.{Timed}
 use Rattle.st_run.specs.ReportedEvents.{reported_events, timed_reported_event}
+use Rattle.st_run.specs.Run.{state_next, scenes, run}
 use Rattle.st_run.specs.Scenes.{IsScene}
 use Rattle.st_run.proofs.Bounds.{run-time}
 use Rattle.st_run.proofs.EndLemmas.{run-ends}
 use Rattle.st_telling.specs.Report.{report, lines_told}
-use Rattle.st_beside.specs.States.{states}
-use Rattle.st_top.specs.StepsBack.{lines_of_steps_back, last_state, events_of_run, moment_at_end, run_report}
+use Rattle.st_state.specs.Machine.{Machine}
+use Rattle.st_run.specs.Order.{last_completion}
+use Rattle.st_run.specs.TimedRun.{timed_run}
+use Rattle.st_top.specs.StepsBack.{states_of_run, lines_of_steps_back, last_state, events_of_run, moment_at_end, run_report}
 use Rattle.st_sweep.specs.Sweep.{ticks}
 use Rattle.st_top.specs.Sweep.{sweep_lines, sweep_start, sweep_of}
 use Rattle.st_top.specs.Output.{output_of_run, output_of_sweep}
@@ -69,7 +75,10 @@ module _ (most : ℕ) (asked : Asked) (start : Scene) (are : AreDelaysUpTo most 
   unfolding moment_at_end
   end-time =
       let few : LEVELS ≤ 8 = omega arith in
-      run-ends most LEVELS asked.delays are few asked.budget start asked.snaps 0 is
+      subst (λ k. k ≤ 64 * (most + 4) * ((last_state asked start).done + 1)) (tick-same asked.delays LEVELS asked.budget 0 (moment_at_start start) asked.snaps)
+      (subst (λ (s : Machine). last_completion 0 (timed_run asked.delays LEVELS asked.budget start asked.snaps) ≤ 64 * (most + 4) * (s.done + 1))
+      (last-same asked.delays LEVELS asked.budget (moment_at_start start))
+      (run-ends most LEVELS asked.delays are few asked.budget start asked.snaps 0 is))
 
   events-time : (listed : List (List ℕ)) → All (InTime (64 * (most + 4))) (at_moment 0 0 listed ++ run_report asked start)
   unfolding run_report
@@ -77,7 +86,7 @@ module _ (most : ℕ) (asked : Asked) (start : Scene) (are : AreDelaysUpTo most 
       let b = 64 * (most + 4) in
       let few : LEVELS ≤ 8 = omega arith in
       let each : All (TimedInTime b) (events_of_run asked start) = run-time most LEVELS asked.delays are few asked.budget start asked.snaps is in
-      let back = lines_of_steps_back asked (states asked.budget start) (last_state asked start) in
+      let back = lines_of_steps_back asked (states_of_run asked start) (last_state asked start) in
       let behind = at_moment (moment_at_end asked start).done (moment_at_end asked start).tick back in
       All-append (InTime b) (at_moment 0 0 listed) (report asked (reported_events (events_of_run asked start)) ++ behind)
       (moment-time b 0 0 listed (omega arith))
@@ -108,10 +117,12 @@ module _ (most : ℕ) (asked : Asked) (start : Scene) (are : AreDelaysUpTo most 
 -- a sweep is in time
 module _ (most : ℕ) (image : List ℕ) (first : ℕ) (asked : Asked) (are : AreDelaysUpTo most asked.delays) (is : IsScene (sweep_start image first asked)) where
   eight-time : slice_index (sweep_of image first asked).ticks 7 ≤ 64 * (most + 4) * ((sweep_of image first asked).done + 1)
-  unfolding sweep_of ticks
+  unfolding sweep_of ticks run
   eight-time =
       let few : 8 ≤ 8 = omega arith in
-      run-ends most 8 asked.delays are few asked.budget (sweep_start image first asked) [] 0 is
+      let c = sweep_start image first asked in
+      subst (λ k. k ≤ 64 * (most + 4) * ((state_next (scenes asked.budget c).last).done + 1)) (tick-same asked.delays 8 asked.budget 0 (moment_at_start c) [])
+      (run-ends most 8 asked.delays are few asked.budget c [] 0 is)
 
   swept-whole : (answer : Answer) → answer.done ≡ (sweep_of image first asked).done → answer.ticks ≡ slice_index (sweep_of image first asked).ticks 7
       → IsIn most answer

@@ -11,7 +11,7 @@ use Rattle.st_top.specs.declared.answer.Answer.{Answer}
 use Rattle.st_top.specs.declared.answer.Status.{Status}
 use Rattle.st_top.specs.declared.answer.Status.TheVariants.{Done, Refused, Usage, JobTooLong, ReadFault, WriteFault, NoMemory}
 use Rattle.st_command.specs.declared.command.Command.{Command}
-use Rattle.st_command.specs.declared.command.Command.TheVariants.{Run, Assemble, Load, Disassemble, Sweep, Soak}
+use Rattle.st_command.specs.declared.command.Command.TheVariants.{Soak}
 
 -- nothing ran
 pub record NothingRan (answer : Answer) : Type 0 where
@@ -33,9 +33,7 @@ Writes Refused before after output answer = WroteAll before after output answer
 Writes WriteFault before after output answer =
     StoppedAt before after output.events answer.done answer.ticks
 Writes NoMemory before after output answer = (after ≡ before) × NothingRan answer
-Writes Usage before after output answer = ⊥
-Writes JobTooLong before after output answer = ⊥
-Writes ReadFault before after output answer = ⊥
+Writes _ before after output answer = ⊥
 
 -- where none of the delays exceeds a number, each instruction that is done, and one more, takes 64
 -- times (that number and four) ticks at most
@@ -56,12 +54,6 @@ pub record WroteOutput (command : Command) (status : Status) (input input' : Inp
 -- what a command that reads a job did to its source and its sink, by the status
 abbrev pub Did : Command → Status → InputState → InputState → OutputState → OutputState → Answer →
     Type 0
-Did command Done input input' before after answer =
-    WroteOutput command Done input input' before after answer
-Did command Refused input input' before after answer =
-    WroteOutput command Refused input input' before after answer
-Did command WriteFault input input' before after answer =
-    WroteOutput command WriteFault input input' before after answer
 Did command JobTooLong input input' before after answer =
     CamePast input input' LONGEST_JOB × (input'.faults ≡ input.faults) × (after ≡ before)
     × NothingRan answer
@@ -72,32 +64,23 @@ Did command NoMemory input input' before after answer =
     CameWithin input input' LONGEST_JOB × (input'.faults ≡ input.faults) × (after ≡ before)
     × NothingRan answer
 Did command Usage input input' before after answer = ⊥
+Did command status input input' before after answer =
+    WroteOutput command status input input' before after answer
 
 -- how a call with words that mean nothing ends: as a bad command line, or for want of memory
 abbrev pub IsWordRefusal : Status → Type 0
 IsWordRefusal Usage = Unit {0}
 IsWordRefusal NoMemory = Unit {0}
-IsWordRefusal Done = ⊥
-IsWordRefusal Refused = ⊥
-IsWordRefusal JobTooLong = ⊥
-IsWordRefusal ReadFault = ⊥
-IsWordRefusal WriteFault = ⊥
+IsWordRefusal _ = ⊥
 
--- what a command did, by the status: `soak` reads no job
+-- what a command did, by the status: `soak` reads no job, and each other one does
 abbrev pub Acted : Command → Status → InputState → InputState → OutputState → OutputState → Answer →
     Type 0
-Acted Run status input input' before after answer = Did Run status input input' before after answer
-Acted Assemble status input input' before after answer =
-    Did Assemble status input input' before after answer
-Acted Load status input input' before after answer =
-    Did Load status input input' before after answer
-Acted Disassemble status input input' before after answer =
-    Did Disassemble status input input' before after answer
-Acted Sweep status input input' before after answer =
-    Did Sweep status input input' before after answer
 Acted (Soak number cards) status input input' before after answer =
     (input' ≡ input) × Writes status before after (soak_output number cards) answer
     × KeepsTime (soaked_delays number cards) answer
+Acted command status input input' before after answer =
+    Did command status input input' before after answer
 
 -- what a call did, by the meaning of its words: words that mean nothing touch neither source nor
 -- sink

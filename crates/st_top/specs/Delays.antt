@@ -11,18 +11,17 @@ use Rattle.st_card.specs.declared.cards.CardKind.{CardKind}
 use Rattle.st_card.specs.declared.cards.CardKind.TheVariants.{Comment, Control, Statement}
 use Rattle.st_card.specs.declared.keywords.Keyword.{Keyword}
 use Rattle.st_card.specs.declared.keywords.Keyword.TheVariants.{Delays}
-use Rattle.st_asm.specs.Assembly.{Assembly, assembly}
 use Rattle.st_exch.specs.Reader.{behind_statements}
-use Rattle.st_run.specs.Run.{Scene}
 use Rattle.st_io.specs.Event.{lines_of}
 use Rattle.st_object.specs.DelayLines.{DifferInDelayLines, HasDelayLines}
 use Rattle.st_object.specs.Object.{Program, read_text}
 use Rattle.st_dis.specs.Deck.{card_count}
-use Rattle.st_top.specs.Marks.{all_lines, lines_unmarked, marked_run, marked_output, texts_up_to_end, DifferInDelays}
+use Rattle.st_telling.specs.Report.{joined}
+use Rattle.st_top.specs.Marks.{lines_unmarked, marked_output, texts_up_to_end}
 use Rattle.st_top.specs.Output.{output_of}
-use Rattle.st_top.specs.StepsBack.{run_report}
+use Rattle.st_top.specs.declared.answer.Status.TheVariants.{Done}
 use Rattle.st_command.specs.declared.command.Command.{Command}
-use Rattle.st_command.specs.declared.command.Command.TheVariants.{Run, Assemble, Load, Disassemble}
+use Rattle.st_command.specs.declared.command.Command.TheVariants.{Load, Disassemble}
 
 -- whether a keyword is that of delays
 abbrev pub is_delays : Option Keyword → Bool
@@ -77,80 +76,41 @@ pub record HasGoodDelays (job : List ℕ) : Type 0 where
   pub cards : All (λ (card : Card). card.fault ≡ None) (cards_of job)
   pub delays : IsSome (asked_in nothing_asked (delays_behind_end job))
 
--- the lines with their marks are those of the report of a run, one by one, and those that a command
--- writes
-pub record MarksAreTheReport : Type 0 where
-  pub run : (asked : Asked) (start : Scene) → all_lines (marked_run asked start)
-      ≡ lines_of (run_report asked start)
-  pub output : (command : Command) (job : List ℕ) → all_lines (marked_output command job)
-      ≡ lines_of (output_of command job).events
+-- two jobs, or two object texts, have the same cards or lines once those of delays are taken out of
+-- both
+abbrev pub DifferInDelaysAlone : Command → List ℕ → List ℕ → Type 0
+DifferInDelaysAlone Load text other = DifferInDelayLines text other
+DifferInDelaysAlone Disassemble text other = DifferInDelayLines text other
+DifferInDelaysAlone _ job other = DifferInDelaysCards job other
 
--- with other delays, and other cards `/SNAP`, `/TIME` and `/CHART`, a run has the same lines that
--- are not marked
-abbrev pub DelaysChangeNothingButTheTimetable : Type 0
-DelaysChangeNothingButTheTimetable = (asked : Asked) (ds snaps : List ℕ) (time chart : Bool)
-    (start : Scene) →
-    lines_unmarked (marked_run (record asked {
-      delays = ds;
-      snaps = snaps;
-      time = time;
-      chart = chart;
-    }) start)
-    ≡ lines_unmarked (marked_run asked start)
+-- an object text has lines of some delays
+abbrev pub HasGoodLines : List ℕ → Type 0
+HasGoodLines text = (delays : List ℕ) × HasDelayLines text delays
 
--- two jobs that are not refused, and whose texts differ in their delays cards alone, write the same
--- lines that are not marked, where they are run and where they are assembled; and where one of the
--- two is not refused and the other's delays cards are good, that is not refused either. So do all
--- jobs that give the same but for the delays, and object texts of programs that differ in their
--- delays alone, where these are loaded, and where they are disassembled to decks that have not too
--- many cards
-pub record JobsThatDifferInDelaysAlone : Type 0 where
-  pub texts : (job other : List ℕ) (a b : Assembly) → assembly job ≡ Ok a → assembly other ≡ Ok b
-      → DifferInDelaysCards job other → lines_unmarked (marked_output Run job)
-      ≡ lines_unmarked (marked_output Run other)
-  pub assembled : (job other : List ℕ) (a b : Assembly) → assembly job ≡ Ok a → assembly other
-      ≡ Ok b
-      → DifferInDelaysCards job other → lines_unmarked (marked_output Assemble job)
-      ≡ lines_unmarked (marked_output Assemble other)
-  pub accepted : (job other : List ℕ) (a : Assembly) → assembly job ≡ Ok a →
-      DifferInDelaysCards job other → HasGoodDelays other
-      → (b : Assembly) × (assembly other ≡ Ok b)
-  pub run : (job other : List ℕ) (a b : Assembly) → assembly job ≡ Ok a → assembly other ≡ Ok b
-      → DifferInDelays job other a b → lines_unmarked (marked_output Run job)
-      ≡ lines_unmarked (marked_output Run other)
-  pub load : (text other : List ℕ) (p q : Program) → read_text text ≡ Ok p → read_text other ≡ Ok q
-      → record p { controls = record p.controls { delays = q.controls.delays } } ≡ q
-      → lines_unmarked (marked_output Load text) ≡ lines_unmarked (marked_output Load other)
-  pub disassemble : (text other : List ℕ) (p q : Program) → read_text text ≡ Ok p → read_text other
-      ≡ Ok q
-      → record p { controls = record p.controls { delays = q.controls.delays } } ≡ q
-      → card_count p ≤ MOST_CARDS → card_count q ≤ MOST_CARDS
-      → lines_unmarked (marked_output Disassemble text)
-      ≡ lines_unmarked (marked_output Disassemble other)
+-- its deck has not too many cards
+abbrev pub HasShortDeck : List ℕ → Type 0
+HasShortDeck text = (p : Program) → read_text text ≡ Ok p → card_count p ≤ MOST_CARDS
 
--- two texts that are object texts, and differ in their lines of delays alone, write the same lines
--- that are not marked, where they are loaded, and where they are disassembled to decks that have not
--- too many cards. Where one of the two is an object text, and the other has lines of these
--- delays, that is the object text of the same program with these delays. The lines of each object
--- text are those of its program's delays
-pub record ObjectTextsThatDifferInDelaysAlone : Type 0 where
-  pub texts : (text other : List ℕ) (p q : Program) → read_text text ≡ Ok p → read_text other ≡ Ok q
-      → DifferInDelayLines text other → lines_unmarked (marked_output Load text)
-      ≡ lines_unmarked (marked_output Load other)
-  pub decks : (text other : List ℕ) (p q : Program) → read_text text ≡ Ok p → read_text other ≡ Ok q
-      → DifferInDelayLines text other → card_count p ≤ MOST_CARDS → card_count q ≤ MOST_CARDS
-      → lines_unmarked (marked_output Disassemble text)
-      ≡ lines_unmarked (marked_output Disassemble other)
-  pub accepted : (text other delays : List ℕ) (p : Program) → read_text text ≡ Ok p →
-      DifferInDelayLines text other
-      → HasDelayLines other delays → read_text other ≡ Ok
-      (record p { controls = record p.controls { delays = delays } })
-  pub good : (text : List ℕ) (p : Program) → read_text text ≡ Ok p →
-      HasDelayLines text p.controls.delays
+-- the delays that a job or an object text names are good for a command
+abbrev pub AreDelaysGood : Command → List ℕ → Type 0
+AreDelaysGood Load text = HasGoodLines text
+AreDelaysGood Disassemble text = HasGoodLines text × HasShortDeck text
+AreDelaysGood _ job = HasGoodDelays job
 
--- delays show in marked lines alone
+-- a command does not refuse a job
+abbrev pub IsAccepted : Command → List ℕ → Type 0
+IsAccepted command job = (output_of command job).status ≡ Done
+
+-- delays show in marked lines alone: the lines with their marks are those that a command writes; of
+-- two jobs that it does not refuse, and that differ in their delays alone, it writes the same lines
+-- that are not marked; and where it does not refuse one of the two, and the other's delays are good,
+-- it does not refuse that either
 pub record DelaysShowInMarksAlone : Type 0 where
-  pub marks : MarksAreTheReport
-  pub runs : DelaysChangeNothingButTheTimetable
-  pub jobs : JobsThatDifferInDelaysAlone
-  pub objects : ObjectTextsThatDifferInDelaysAlone
+  pub marks : (command : Command) (job : List ℕ) → joined (marked_output command job)
+      ≡ lines_of (output_of command job).events
+  pub texts : (command : Command) (job other : List ℕ) → IsAccepted command job
+      → IsAccepted command other → DifferInDelaysAlone command job other
+      → lines_unmarked (marked_output command job) ≡ lines_unmarked (marked_output command other)
+  pub accepted : (command : Command) (job other : List ℕ) → IsAccepted command job
+      → DifferInDelaysAlone command job other → AreDelaysGood command other
+      → IsAccepted command other

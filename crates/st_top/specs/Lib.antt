@@ -7,6 +7,7 @@ pub mod Answers
 pub mod Layers
 pub mod Marks
 pub mod Delays
+pub mod DelayLaws
 pub mod Laws
 pub use Rattle.st_asm.specs.Assembly
 pub use Rattle.st_asm.specs.Pass

@@ -1,5 +1,5 @@
 -- What the program writes for a command and a job.
-use Rattle.std.specs.Prelude.{ℕ, ◌+◌, slice_index, List, [], ◌∷◌, ◌++◌, nat_le, if◌then◌else◌, Option, None, Some, Result, Ok, Err}
+use Rattle.std.specs.Prelude.{ℕ, ◌+◌, slice_index, List, [], ◌∷◌, ◌++◌, nat_le, if◌then◌else◌, Result, Ok, Err}
 use Rattle.st_bits.specs.declared.limits.TheConstants.{MOST_CARDS}
 use Rattle.st_card.specs.Controls.{Asked}
 use Rattle.st_card.specs.Faults.{name_of}
@@ -9,8 +9,8 @@ use Rattle.st_state.specs.Machine.{opening_state}
 use Rattle.st_exch.specs.Reader.{reader_cards}
 use Rattle.st_run.specs.Run.{Scene}
 use Rattle.st_io.specs.Event.{Event, at_moment}
-use Rattle.st_report.specs.Line.{fault_line}
-use Rattle.st_top.specs.Listing.{front_lines}
+use Rattle.st_report.specs.Line.{fault_line, soak_line}
+use Rattle.st_top.specs.Listing.{listing}
 use Rattle.st_top.specs.StepsBack.{moment_at_end, run_report}
 use Rattle.st_top.specs.Sweep.{sweep_lines, sweep_of}
 use Rattle.st_top.specs.ObjectText.{program_in, object_text_lines, deck_lines}
@@ -66,16 +66,17 @@ output_of_run listed asked start = record {
   ticks = (moment_at_end asked start).tick;
 }
 
--- the output of the run of a job, made by a seed with a number of cards or not, by what it gives
-abbrev pub ran_by : Option (ℕ × ℕ) → List ℕ → Result Assembly Refusal → Output
-ran_by made job (Ok a) = output_of_run (front_lines made job a) a.asked (scene_of_assembly job a)
-ran_by made job (Err r) = refusal_output r
+-- the output of the run of a job, by what it gives: some lines, and then the listing and the report
+abbrev pub ran_by : List (List ℕ) → List ℕ → Result Assembly Refusal → Output
+ran_by first job (Ok a) = output_of_run (first ++ listing job a) a.asked (scene_of_assembly job a)
+ran_by first job (Err r) = refusal_output r
 
--- the output of `soak`: that of the deck which a seed and a number of cards make
+-- the output of `soak`: that of the deck which a seed and a number of cards make, behind a line of
+-- these
 abbrev pub soak_output : ℕ → ℕ → Output
 soak_output number cards =
     let deck = made_deck number cards in
-    ran_by (Some (number, cards)) deck (assembly deck)
+    ran_by (soak_line number cards ∷ []) deck (assembly deck)
 
 -- the output of a sweep: its lines belong to no moment of a run, and what is done is that of the
 -- run on eight levels
@@ -125,7 +126,7 @@ disassembled_by (Err n) = refusal_output (record { card = n; fault = BadObjectCa
 
 -- the output of a command on a job; that of `soak` is the same for any job
 unfoldable pub output_of : Command → List ℕ → Output
-output_of Run job = ran_by None job (assembly job)
+output_of Run job = ran_by [] job (assembly job)
 output_of Assemble job = assembled_by (assembly job)
 output_of Load text = loaded_by (read_text text)
 output_of Disassemble text = disassembled_by (read_text text)

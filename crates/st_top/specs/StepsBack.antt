@@ -1,15 +1,15 @@
 -- The state that is shown so many steps before the end of a run, and the whole report.
-use Rattle.std.specs.Prelude.{ℕ, ◌-◌, ◌==◌, min, if◌then◌else◌, List, [], ◌∷◌, ◌++◌, slice_index_or}
+use Rattle.std.specs.Prelude.{ℕ, ◌-◌, ◌==◌, min, if◌then◌else◌, List, [], ◌∷◌, ◌++◌, slice_index_or, map}
 use Rattle.st_card.specs.Controls.{Asked}
 use Rattle.st_state.specs.Machine.{Machine}
-use Rattle.st_run.specs.Run.{Scene, run}
+use Rattle.st_run.specs.Run.{Scene}
 use Rattle.st_io.specs.Event.{Event, at_moment}
 use Rattle.st_report.specs.Line.{back_line}
+use Rattle.st_run.specs.Course.{Course}
 use Rattle.st_run.specs.Events.{Timed}
-use Rattle.st_run.specs.Order.{last_completion}
+use Rattle.st_run.specs.Moments.{Moment as RunMoment, moment_at_start, next_state, moments}
 use Rattle.st_run.specs.TimedRun.{timed_run}
 use Rattle.st_run.specs.ReportedEvents.{reported_events}
-use Rattle.st_beside.specs.States.{states}
 use Rattle.st_telling.specs.Report.{block, report}
 use Rattle.st_telling.specs.declared.moment.Moment.{Moment}
 use Rattle.st_top.specs.declared.reporting.TheConstants.{LEVELS}
@@ -26,19 +26,29 @@ lines_of_steps_back asked states last =
 
 -- ---- the overlapped machine
 
--- the run with its timetable
+-- the moments of a run
+abbrev pub moments_of_run : Asked → Scene → Course RunMoment
+moments_of_run asked start = moments asked.delays LEVELS asked.budget (moment_at_start start)
+
+-- what it tells
 abbrev pub events_of_run : Asked → Scene → List Timed
 events_of_run asked start = timed_run asked.delays LEVELS asked.budget start asked.snaps
 
+-- its states
+abbrev pub states_of_run : Asked → Scene → List Machine
+states_of_run asked start =
+    map next_state (moments_of_run asked start).before
+    ++ next_state (moments_of_run asked start).last ∷ []
+
 -- the last state of a run
 abbrev pub last_state : Asked → Scene → Machine
-last_state asked start = (run asked.budget start).scene.machine
+last_state asked start = next_state (moments_of_run asked start).last
 
 -- its end: how many instructions are done, and the tick of the last completion
 unfoldable pub moment_at_end : Asked → Scene → Moment
 moment_at_end asked start = record {
   done = (last_state asked start).done;
-  tick = last_completion 0 (events_of_run asked start);
+  tick = (moments_of_run asked start).last.tick;
 }
 
 -- the report of a run: what is told, and at the moment of its end the state so many steps before it
@@ -46,4 +56,4 @@ unfoldable pub run_report : Asked → Scene → List Event
 run_report asked start =
     report asked (reported_events (events_of_run asked start))
     ++ at_moment (moment_at_end asked start).done (moment_at_end asked start).tick
-    (lines_of_steps_back asked (states asked.budget start) (last_state asked start))
+    (lines_of_steps_back asked (states_of_run asked start) (last_state asked start))

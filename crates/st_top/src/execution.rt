@@ -10,7 +10,7 @@ ghost use Rattle.st_run.specs.Run.{Scene as SceneOf};
 ghost use Rattle.st_io.specs.Event.{at_moment};
 ghost use Rattle.st_object.specs.Object.{IsProgram};
 ghost use Rattle.st_run.specs.ReportedEvents.{reported_events};
-ghost use Rattle.st_top.specs.Listing.{HasCards, front_lines};
+ghost use Rattle.st_top.specs.Listing.{HasCards, made_lines, front_lines};
 ghost use Rattle.st_top.specs.StepsBack.{events_of_run, moment_at_end, run_report};
 ghost use Rattle.st_beside.specs.Beside.{IsBesideAtStart, StandsAtStart};
 ghost use Rattle.st_telling.specs.Running.{WritesEvents};
@@ -189,7 +189,7 @@ pub fn execute<K: Sink>(alloc: Global, job: &Job, program: &Assembled, out: &mut
         (assembly_parts program.now) }
     requires good { All (λ card. card.fault ≡ None) (cards_of job.now.text.now) }
     ensures writes { Writes result.status (K.output out.old) (K.output out.new)
-        (ran_by job.now.made job.now.text.now (Ok (assembly_parts program.now))) result }
+        (ran_by (made_lines job.now.made) job.now.text.now (Ok (assembly_parts program.now))) result }
     ensures in_time { KeepsTime program.now.controls.delays result }
 {
     let words = program.image.as_slice();

@@ -8,6 +8,7 @@ ghost use Rattle.st_command.specs.Command.{command_of, IsWithinCards};
 ghost use Rattle.st_command.specs.declared.command.TheConstants.{MOST_MADE_CARDS};
 ghost use Rattle.st_command.specs.CommandLine.{is_plain};
 ghost use Rattle.st_command.specs.declared.command.Command.TheVariants.{Assemble, Load, Disassemble, Sweep};
+ghost use Rattle.st_top.specs.Listing.{made_lines};
 ghost use Rattle.st_top.specs.Output.{output_of, delays_of, ran_by, assembled_delays, soak_output, soaked_delays};
 ghost use Rattle.st_top.specs.Answers.{Did, Acted, IsAnswer, Writes, KeepsTime};
 ghost use Rattle.st_top.specs.Delays.{DelaysShowInMarksAlone};
@@ -38,7 +39,7 @@ fn run_job<K: Sink>(
     out: &mut K,
 ) -> Result<Answer, LayerError>
     requires { length job.now < 2 ^ 32 }
-    ensures { Ends (K.output out.old) (K.output out.new) (ran_by made job.now (assembly job.now))
+    ensures { Ends (K.output out.old) (K.output out.new) (ran_by (made_lines made) job.now (assembly job.now))
         (assembled_delays (assembly job.now)) result }
 {
     let Ok(cards) = split(alloc, job) else {

@@ -7,8 +7,7 @@ ghost use Rattle.st_io.specs.Lines.{WritesLines};
 ghost use Rattle.st_report.specs.Line.{back_line};
 ghost use Rattle.st_run.specs.ReportedEvents.{reported_events};
 ghost use Rattle.st_telling.specs.Report.{block};
-ghost use Rattle.st_beside.specs.States.{states};
-ghost use Rattle.st_top.specs.StepsBack.{lines_of_steps_back, last_state, events_of_run, moment_at_end, run_report};
+ghost use Rattle.st_top.specs.StepsBack.{states_of_run, lines_of_steps_back, last_state, events_of_run, moment_at_end, run_report};
 ghost use Rattle.st_beside.specs.Beside.{IsBesideReady, IsBesideAtStart, StandsAtStart, StandsAtEnd};
 ghost use Rattle.st_telling.specs.Running.{WritesEvents};
 
@@ -57,7 +56,7 @@ fn write_back<K: Sink>(
     ensures { (start : SceneOf)
         → StandsAtEnd controls.now.back controls.now.budget start second.old
         → WritesLines (K.output out.old) (K.output out.new)
-        (lines_of_steps_back controls.now (states controls.now.budget start) (last_state
+        (lines_of_steps_back controls.now (states_of_run controls.now start) (last_state
         controls.now start)) result }
 {
     let Some(second) = second.as_mut() else {
@@ -77,7 +76,7 @@ fn write_second<K: Sink>(
     requires start { IfSome second.old IsBesideAtStart }
     ensures { (start : SceneOf) → StandsAtStart controls.now.back start second.old
         → WritesLines (K.output out.old) (K.output out.new)
-        (lines_of_steps_back controls.now (states controls.now.budget start) (last_state
+        (lines_of_steps_back controls.now (states_of_run controls.now start) (last_state
         controls.now start)) result }
 {
     run_beside(second, controls.budget());

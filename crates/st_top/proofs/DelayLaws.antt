@@ -1,0 +1,27 @@
+-- What holds of marks, and of what gives the same but for the delays.
+use Rattle.st_object.proofs.OtherDelays.{has-lines, again-read}
+use Rattle.st_top.specs.DelayLaws.{MarksAreTheReport, DelaysChangeNothingButTheTimetable, JobsThatDifferInDelaysAlone, CardsOfDelaysChangeDelaysAlone, ObjectTextsThatDifferInDelaysAlone}
+use Rattle.st_top.proofs.MarkLemmas.{lines-run}
+use Rattle.st_top.proofs.DelayLemmas.{run-same}
+use Rattle.st_top.proofs.JobLemmas.{jobs-same, texts-same, assembled-same, disassembled-same}
+use Rattle.st_top.proofs.PartedJobs.{cards-differ}
+
+pub marks_are_the_report : MarksAreTheReport
+marks_are_the_report = lines-run
+
+pub delays_change_nothing_but_the_timetable : DelaysChangeNothingButTheTimetable
+delays_change_nothing_but_the_timetable = run-same
+
+pub jobs_that_differ_in_delays_alone : JobsThatDifferInDelaysAlone
+jobs_that_differ_in_delays_alone = record {
+  run = jobs-same;
+  assembled = assembled-same;
+  load = texts-same;
+  disassemble = disassembled-same;
+}
+
+pub cards_of_delays_change_delays_alone : CardsOfDelaysChangeDelaysAlone
+cards_of_delays_change_delays_alone = cards-differ
+
+pub object_texts_that_differ_in_delays_alone : ObjectTextsThatDifferInDelaysAlone
+object_texts_that_differ_in_delays_alone = record { accepted = again-read; good = has-lines }
