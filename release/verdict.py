@@ -113,8 +113,8 @@ def of_log(log, then):
     yield ""
     for name in below:
         functions = [one[1] for one in (re.search(r"^logic=proved functions=(\d+)", line) for line in found[name]) if one]
-        proved = f"rt: {name} proved" in found[name]
-        yield f"    {name:12} {'proved' if proved else 'NOT PROVED'}, {functions[-1] if functions else 'no'} functions"
+        ends = [line.removeprefix("rt: ") for line in found[name] if line.startswith("rt: ")]
+        yield f"    {ends[-1] if ends else name + ': nothing'}, {functions[-1] if functions else 'no'} functions"
     yield ""
     yield "The gate's last line counts proofs, edits that have to be refused, tests, vectors, pages and scripts:"
     yield ""
