@@ -8,6 +8,7 @@ import subprocess
 import tempfile
 import time
 
+SLOW = 180         # seconds after which a browser is taken to have died, also on a machine with much else to do
 NAMES = ('chromium', 'chromium-browser', 'google-chrome', 'google-chrome-stable')
 
 
@@ -53,7 +54,8 @@ class Browser:
     def blank(self):
         """Goes to the empty page; a page that is opened twice with another address alone would not be loaded anew."""
         self.call('Page.navigate', url='about:blank')
-        for _ in range(500):
+        end = time.monotonic() + SLOW
+        while time.monotonic() < end:
             try:
                 if self.ask("location.href === 'about:blank' && document.readyState === 'complete'"):
                     return
@@ -90,7 +92,7 @@ class Browser:
             self.lines.append(f"asks the network for {told['request']['url']}")
         self.events.append(name)
 
-    def call(self, method, seconds=60, **words):
+    def call(self, method, seconds=SLOW, **words):
         """Calls the browser, and gives its answer."""
         self.number += 1
         message = {'id': self.number, 'method': method, 'params': words}
@@ -110,7 +112,7 @@ class Browser:
                 return answer['result']
             self.take(answer)
 
-    def ask(self, text, seconds=60):
+    def ask(self, text, seconds=SLOW):
         """The value of an expression in the page; a promise is awaited."""
         answer = self.call('Runtime.evaluate', seconds, expression=text, returnByValue=True, awaitPromise=True)
         if 'exceptionDetails' in answer:
@@ -118,11 +120,11 @@ class Browser:
             raise Failed(detail.get('exception', {}).get('description', detail['text']))
         return answer['result'].get('value')
 
-    def open(self, path, address='', seconds=60):
+    def open(self, path, address='', seconds=SLOW):
         """Opens a file, and waits until the page is ready."""
         self.visit(f'file://{os.path.abspath(path)}{address}', seconds)
 
-    def visit(self, url, seconds=60):
+    def visit(self, url, seconds=SLOW):
         """Goes to an address, and waits until the page is ready."""
         self.blank()
         self.lines.clear()

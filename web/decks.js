@@ -5,6 +5,7 @@ export const READ = 72;             // the last column that is read
 export const STATEMENT = 9;         // so many columns stand before the statement
 const OWN_BUDGET = 1000;
 const A_CARD = 10;                  // numbers on a card /DELAYS
+const END = /^ *E *N *D *(?:[(,;]|$)/i;         // a statement whose operation is END
 
 const encoder = new TextEncoder();
 
@@ -31,7 +32,7 @@ export function operationOf(line) {
 
 // The place of the card END among the lines; their number where there is none.
 export function endOf(lines) {
-  const place = lines.findIndex((line) => line[0] !== '*' && line[0] !== '/' && operationOf(line) === 'END');
+  const place = lines.findIndex((line) => line[0] !== '*' && line[0] !== '/' && END.test(line.slice(STATEMENT, READ)));
   return place < 0 ? lines.length : place;
 }
 

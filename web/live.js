@@ -1,5 +1,5 @@
 // What a deck gives: it is made plain and run, and its ledger is read, for one machine or for two.
-import { MOST_BYTES, READ, bytesOf, delayCards, linesOf, withCards } from './decks.js';
+import { MOST_BYTES, READ, budgetOf, bytesOf, controlOf, delayCards, linesOf, withCards } from './decks.js';
 import { Plain, Refused, partsOf } from './plain.js';
 import { Report } from './report.js';
 import { Run } from './read.js';
@@ -24,13 +24,15 @@ function wrongOf({ status, message }) {
 }
 
 export class Live {
-  constructor(runner, names) {
-    Object.assign(this, { runner, names, made: null, isCurrent: false });
+  // The ledger has a runner of its own, so that it is written while the deck runs.
+  constructor(runner, second, names) {
+    Object.assign(this, { runner, second, names, made: null, isCurrent: false });
   }
 
   // What was made last stays, as that of another deck.
   stop() {
     this.runner.stop();
+    this.second.stop();
     this.isCurrent = false;
   }
 
@@ -75,54 +77,66 @@ export class Live {
       return { fault: 'NOT PLAIN', line: error.line, message: error.message };
     }
     const deck = plain.text();
-    const answer = await this.runner.run('stretch', ['run'], bytesOf(deck), tell);
+    const running = this.runner.run('stretch', ['run'], bytesOf(deck), tell);
+    const [answer, lines] = await Promise.all([running, this.runner.there().then(() => this.ledger(plain, deck, levels, tell))]);
     if (answer.status === 1) {
       const fault = faultOf(LATIN.decode(answer.bytes));
       return fault ? { fault: fault.fault, line: plain.lines[fault.card - 1] ?? plain.lines.length + 1 } : wrongOf(answer);
     }
     if (answer.status !== 0) return wrongOf(answer);
     const report = new Report(LATIN.decode(answer.bytes));
-    const own = await this.ledger(plain, deck, levels, report.done, tell);
-    if (!own.object) return wrongOf(own);
-    const runs = [new Run(own.object, '', own.isCut)];
-    const second = beside ? await this.second(text, plain, deck, levels, { beside, kept }, report.done, tell) : null;
-    if (second?.object) {
-      runs[0].label = second.own;
-      runs.push(new Run(second.object, second.label, second.isCut));
+    if (!lines.object) return wrongOf(lines);
+    const isCut = report.done > ROWS;
+    const runs = [new Run(lines.object, '', isCut)];
+    const other = beside ? await this.beside(text, plain, deck, levels, { beside, kept }, tell) : null;
+    if (other?.object) {
+      runs[0].label = other.own;
+      runs.push(new Run(other.object, other.label, other.isCut ?? isCut));
       runs[1].isOther = beside === 'keep';
     }
-    this.made = { text, plain, deck, cards: plain.cards, report, bytes: answer.bytes, left: answer.left, runs, isCut: own.isCut };
+    this.made = { text, plain, deck, cards: plain.cards, report, bytes: answer.bytes, left: answer.left, runs, isCut };
     this.isCurrent = true;
     return this.made;
   }
 
-  // The ledger's object on so many levels; of a long run that of its first rows.
-  async ledger(plain, deck, levels, done, tell) {
-    const isCut = done > ROWS;
-    const job = isCut ? withCards(deck, ['BUDGET'], [`/BUDGET ${ROWS + BEHIND}`]) : deck;
-    const answer = await this.runner.ask({ ask: 'ledger', levels, job: bytesOf(job), cards: plain.cards, names: this.names, first: 1, last: ROWS + BEHIND }, tell);
+  // The ledger's object on so many levels; of a long run that of its first rows. Rows come while it is written.
+  async ledger(plain, deck, levels, tell) {
+    const entries = [];
+    const take = (part) => { for (const entry of JSON.parse(part)) entries.push(entry); };
+    const request = { ask: 'ledger', levels, job: bytesOf(shortened(deck)), cards: plain.cards, names: this.names, first: 1, last: ROWS + BEHIND };
+    const answer = await this.second.ask({ ...request, isParted: true }, tell, take);
     if (answer.status !== 0) return answer;
-    const object = JSON.parse(answer.object);
+    const object = { ...JSON.parse(answer.object), entries };
     if (plain.changed) retold(object, plain, linesOf(plain.source));
-    return { object, isCut };
+    return { object };
   }
 
   // The run that stands beside: of another machine, or of the deck that was kept.
-  async second(text, plain, deck, levels, { beside, kept }, done, tell) {
+  async beside(text, plain, deck, levels, { beside, kept }, tell) {
     const [kind, value] = beside.split(' ');
-    if (kind === 'levels') return { own: plural(levels, 'level'), label: plural(Number(value), 'level'), ...await this.ledger(plain, deck, Number(value), done, tell) };
+    if (kind === 'levels') {
+      return { own: plural(levels, 'level'), label: plural(Number(value), 'level'), ...await this.ledger(plain, deck, Number(value), tell) };
+    }
     if (kind === 'delay') {
       const slow = withCards(deck, ['DELAYS'], delayCards([value]));
-      return { own: 'its own delays', label: `delay ${value}`, ...await this.ledger(plain, slow, levels, done, tell) };
+      return { own: 'its own delays', label: `delay ${value}`, ...await this.ledger(plain, slow, levels, tell) };
     }
     if (kept === null || kept === text) return null;
     const other = await this.plain(kept).catch(() => null);
     const answer = other && await this.runner.run('stretch', ['run'], bytesOf(other.text()), tell);
     if (answer?.status !== 0) return null;
-    const made = await this.ledger(other, other.text(), levels, new Report(LATIN.decode(answer.bytes)).done, tell);
+    const made = await this.ledger(other, other.text(), levels, tell);
     for (const entry of made.object?.entries ?? []) entry.card = null;          // its cards are not those of the editor
-    return { own: 'the deck now', label: 'the deck that was kept', ...made };
+    const isCut = new Report(LATIN.decode(answer.bytes)).done > ROWS;
+    return { own: 'the deck now', label: 'the deck that was kept', ...made, isCut };
   }
+}
+
+// The deck with a budget for as many rows as are read; its cards stay where they are.
+function shortened(deck) {
+  const most = ROWS + BEHIND;
+  if (budgetOf(linesOf(deck)) <= most) return deck;
+  return deck.split('\n').map((line) => (controlOf(line) === 'BUDGET' ? `/BUDGET ${most}` : line)).join('\n');
 }
 
 // A deck with conveniences is shown as it was written: lines for cards, and their own text.

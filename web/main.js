@@ -15,7 +15,8 @@ import { grouped, plural } from './words.js';
 import { packed, unpacked, wordsOf } from './links.js';
 import { registerOf } from './contents.js';
 
-const PAUSE = 90;               // milliseconds without a key before a run
+const PAUSE = 90;               // milliseconds without a key before a run,
+const A_MOMENT = 1000;          // and one more for so many characters of the deck
 const SLOW = 250;               // from so many on it is said that something runs
 const MOST_KEPT = 400000;       // a longer deck is not kept for the next time
 const MOST_LINK = 30000;
@@ -57,7 +58,7 @@ class App {
     this.names = book.indicators.map((one) => one?.name ?? null);
     this.programs = new Programs(byId('worker').textContent, { stretch: block('module-stretch'), ledger: block('module-ledger'), chart: block('module-chart') });
     [this.side, this.exam] = [new Runner(this.programs), new Runner(this.programs)];
-    this.live = new Live(new Runner(this.programs), this.names);
+    this.live = new Live(new Runner(this.programs), new Runner(this.programs), this.names);
     this.stepper = new Stepper(this.names, {
       levels: (levels, next) => { if (this.view === 'step') this.editor.setLevels(levels, next); },
       card: (card) => {
@@ -200,6 +201,7 @@ class App {
     if (matchMedia(`(prefers-color-scheme: ${wanted})`).matches) delete root.dataset.theme;
     else root.dataset.theme = wanted;
     store.set(KEYS.theme, root.dataset.theme ?? '');
+    this.views.paint();
   }
 
   say(...what) {
@@ -278,7 +280,7 @@ class App {
       this.openedAt = 0;
       this.say();
     }
-    this.timer = setTimeout(() => this.go(), text.length < MOST_BYTES / 4 ? PAUSE : 5 * PAUSE);
+    this.timer = setTimeout(() => this.go(), PAUSE + text.length / A_MOMENT);
   }
 
   busy(isOn) {

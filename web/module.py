@@ -1,12 +1,13 @@
 """Makes the modules of WebAssembly that the page runs: of each program of crates/ one, by the kit's clang and linker and binaryen's wasm-opt.
 
 A module is made of what the kit compiles, with web/shim.c. Modules are kept in the user's cache, named by a checksum of the
-kit, the sources and what stands here. Where PROVED_MODULES names a folder that has NAME.bc of all programs, these are
-taken: what the kit compiled when it proved them (web/proved).
+kit, the sources and what stands here. Where web/out/proved has what the kit compiled when it proved all three of these sources, which
+web/proved has kept there, it is taken; else it is of an unproved build.
 """
 import hashlib
 import importlib.machinery
 import importlib.util
+import json
 import os
 import pathlib
 import re
@@ -18,6 +19,7 @@ import tempfile
 HERE = pathlib.Path(__file__).resolve().parent
 TOP = HERE.parent
 PROGRAMS = ("stretch", "ledger", "chart")
+KEPT_PROVED = HERE / "out" / "proved"
 KEPT = 2
 FLAGS = ["--target=wasm64-unknown-unknown", "-O2", "-ffreestanding", "-fno-builtin", "-mbulk-memory", "-msign-ext", "-mnontrapping-fptoint", "-Wno-override-module"]
 LINK = ["-flavor", "wasm", "-mwasm64", "--no-entry", "--export=run", "--export-memory", "--gc-sections", "--strip-all", "-z", "stack-size=1048576"]
@@ -108,18 +110,24 @@ def one(name, kit, proved, sums, folder):
     return kept
 
 
+def proved_of(sums, kit):
+    """The folder of the modules of the proved programs, where they stand and are of these sources and of this kit."""
+    wanted = {"sources": sums, "kit": kit_name(kit)}
+    for name in PROGRAMS:
+        said, code = KEPT_PROVED / f"{name}.json", KEPT_PROVED / f"{name}.bc"
+        if not said.is_file() or not code.is_file() or json.loads(said.read_text()) != wanted:
+            return None
+    return KEPT_PROVED
+
+
 def modules():
     """Each program's module as bytes, and what is known of them: whether they are proved, of which sources, by which tools."""
     kit = unproved().kit()
-    named = os.environ.get("PROVED_MODULES")
-    proved = pathlib.Path(named) if named else None
     if not (kit / "KIT-ID").exists():
         raise Failed("the kit is not on the path (README.md, \"What it needs\")")
-    missing = [name for name in PROGRAMS if proved and not (proved / f"{name}.bc").is_file()]
-    if missing:
-        # What the kit has kept from before it does not compile again.
-        print(f"web: {proved} has no module of {', '.join(missing)}: the page is of an unproved build", file=sys.stderr)
-        proved = None
     sums = sources_sum()
+    proved = proved_of(sums, kit)
+    if proved is None:
+        print("web: no modules of programs as they were proved, of these sources, stand in web/out/proved: the page is of an unproved build", file=sys.stderr)
     found = {name: one(name, kit, proved, sums, cache()).read_bytes() for name in PROGRAMS}
     return found, {"proved": bool(proved), "sources": sums, "kit": kit_name(kit), "lowering": re.sub(r" *\(.*", "", tool("wasm-opt", "--version")), "version": (TOP / "VERSION").read_text().strip()}

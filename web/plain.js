@@ -36,6 +36,7 @@ function isStatement(card) {
 
 // Tabulators become blanks to the next of the columns 10, 18, 26 and so on; the text begins behind `column` columns.
 function spread(text, column) {
+  if (!text.includes('\t')) return text;
   let out = '';
   for (const char of text) {
     const at = column + out.length;
@@ -123,8 +124,12 @@ function laid(statement, number) {
   });
 }
 
+// A statement that no rule changes, as nearly all are: neither small letters nor a tabulator, a text, a comment, a hexadecimal number or data.
+const AS_IT_IS = /^ (?![^]{8}\s*D\s*D)[^a-z\t';]{8,71}$/;
+
 // The plain cards of a statement card.
 function statementCards(line, number) {
+  if (AS_IT_IS.test(line) && !line.includes('0X')) return [line];
   const isCut = line.length > READ && !line.slice(0, READ).includes('\t');
   const [card, tail] = isCut ? [line.slice(0, READ), line.slice(READ)] : [line, ''];
   const whole = card.includes('\t') ? columns(card, number) : card;

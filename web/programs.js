@@ -30,18 +30,19 @@ export class Runner {
     this.ready.catch(() => {});
   }
 
-  post(request, tell) {
+  post(request, tell, take) {
     const id = this.next;
     this.next += 1;
     return new Promise((done, fail) => {
-      this.asked.set(id, { done, fail, tell });
+      this.asked.set(id, { done, fail, tell, take });
       this.worker.postMessage({ id, ...request });
     });
   }
 
-  take({ id, progress, ...answer }) {
+  take({ id, progress, part, ...answer }) {
     const one = this.asked.get(id);
     if (progress) one?.tell?.(progress);
+    else if (part) one?.take?.(part);
     else {
       this.asked.delete(id);
       one?.done(answer);
@@ -54,13 +55,19 @@ export class Runner {
     for (const one of all) one.fail(error);
   }
 
-  // The answer to a request; fails with Stopped where `stop` comes before it.
-  async ask(request, tell) {
+  // When the worker has its modules.
+  there() {
     if (!this.worker) this.begin();
+    return this.ready;
+  }
+
+  // The answer to a request; fails with Stopped where `stop` comes before it. `take` gets the parts that come before the answer.
+  async ask(request, tell, take) {
+    const ready = this.there();
     const { worker } = this;
-    await this.ready;
+    await ready;
     if (worker !== this.worker) throw new Stopped();
-    return this.post(request, tell);
+    return this.post(request, tell, take);
   }
 
   // What a program of these words makes of a job.

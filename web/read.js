@@ -13,8 +13,35 @@ export function countWhile(list, holds) {
   return low;
 }
 
+// The words of a state: those that a kept state has, and above them what rows have changed since.
+export class Words {
+  constructor(below, own = new Map()) {
+    Object.assign(this, { below, own });
+  }
+
+  get(word) {
+    return this.own.get(word) ?? this.below.get(word);
+  }
+
+  *[Symbol.iterator]() {
+    yield* this.own;
+    for (const pair of this.below) if (!this.own.has(pair[0])) yield pair;
+  }
+
+  *keys() {
+    for (const [word] of this) yield word;
+  }
+}
+
+// Puts reads in the order in which they are accepted, as nearly all come.
+function inOrder(reads) {
+  if (reads.some((read, k) => k > 0 && read.accept < reads[k - 1].accept)) reads.sort((a, b) => a.accept - b.accept);
+}
+
+// So many states are held that were asked for last.
+const HELD = 4;
 // How many rows lie between two states that are kept.
-const EVERY = 256;
+const EVERY = 1024;
 // No delay is longer, so no read that was accepted earlier is still on its way.
 const LONGEST = 255;
 
@@ -37,7 +64,13 @@ export class Run {
     this.last = known === undefined ? this.first : known.c;
     this.ended = ends;
     this.charges = [];
-    for (const row of this.rows) for (const charge of row.charges) this.charges.push({ ...charge, row });
+    for (const row of this.rows) {
+      for (const charge of row.charges) {
+        charge.row = row;
+        this.charges.push(charge);
+      }
+    }
+    this.held = [];
     this.number();
     this.gather();
     this.keep();
@@ -69,7 +102,11 @@ export class Run {
   // The reads of each segment in the order in which they are accepted, and those made in all of them.
   gather() {
     const all = (entry, reads) => {
-      for (const use of entry.uses) if (use.how === 'read') reads.push({ ...use, entry });
+      for (const use of entry.uses) {
+        if (use.how !== 'read') continue;
+        use.entry = entry;
+        reads.push(use);
+      }
     };
     for (const row of this.rows) all(row, this.bySegment[row.place].reads);
     this.made = [];
@@ -77,10 +114,10 @@ export class Run {
       const reads = this.bySegment[k].reads;
       for (const guess of segment.dropped) all(guess, reads);
       if (segment.begun) all(segment.begun, reads);
-      reads.sort((a, b) => a.accept - b.accept);
+      inOrder(reads);
       for (const read of reads) if (read.made) this.made.push(read);
     });
-    this.made.sort((a, b) => a.accept - b.accept);
+    inOrder(this.made);
   }
 
   // The states that are kept, each behind so many rows, and the index words that the run changes.
@@ -118,15 +155,20 @@ export class Run {
   // The committed state at a tick: counter, whether interrupts are enabled, words by their numbers.
   state(t) {
     const done = this.done(t);
+    const held = this.held.find((one) => one.done === done);
+    if (held) return held;
     const from = Math.floor(done / EVERY);
     const kept = this.kept[from];
-    const words = new Map(kept.words);
+    const own = new Map();
     let { counter, enabled } = kept;
-    for (const { state } of this.rows.slice(from * EVERY, done)) {
-      for (const [word, content] of state.words) words.set(word, content);
+    for (let k = from * EVERY; k < done; k += 1) {
+      const { state } = this.rows[k];
+      for (const [word, content] of state.words) own.set(word, content);
       ({ counter, enabled } = state);
     }
-    return { counter, enabled, words };
+    const state = { done, counter, enabled, words: new Words(kept.words, own) };
+    this.held = [state, ...this.held].slice(0, HELD);
+    return state;
   }
 
   // The segment of a tick: the first that ends later, else the last.
@@ -184,9 +226,7 @@ export class Run {
 
   // The index words ahead: those of a state, as the levels have changed them.
   ahead(state, levels) {
-    const words = new Map(state.words);
-    for (const level of levels) if (level.index) words.set(16 + level.index.number, level.index.after);
-    return words;
+    return new Words(state.words, new Map(levels.filter(({ index }) => index).map(({ index }) => [16 + index.number, index.after])));
   }
 
   // The first tick at which most levels are in use.

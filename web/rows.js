@@ -7,6 +7,7 @@ const LINE = 22;
 const AXIS = 24;
 const BAR = 12;
 const LETTER = 7.4;
+const TELL = 200;           // milliseconds before rows that come into view are listed in words
 // No element of a page may be longer than this in some browsers.
 const MOST = 15000000;
 
@@ -38,8 +39,12 @@ export class Timetable {
     this.lines = linesOf(run);
     this.svg = s('svg', { class: 'rows', 'aria-hidden': 'true' });
     this.size = h('div', { class: 'size' });
-    this.box = h('div', { class: 'timetable', tabindex: '0', role: 'group', 'aria-label': `timetable${run.label ? ` of ${run.label}` : ''}: a drawing of ${plural(run.rows.length, 'row')}. What happens in a tick the sentence above says, and the tables below` }, h('div', { class: 'stick' }, this.svg), this.size);
-    this.asked = false;
+    // What the drawing shows, in words: the rows in view.
+    this.heard = h('ul', { class: 'heard', 'aria-label': 'rows in view' });
+    const name = `timetable${run.label ? ` of ${run.label}` : ''}: ${plural(run.rows.length, 'row')}, of which those in view are listed`;
+    this.box = h('div', { class: 'timetable', tabindex: '0', role: 'group', 'aria-label': name },
+      h('div', { class: 'stick' }, this.svg, this.heard), this.size);
+    Object.assign(this, { asked: false, told: '', telling: null });
     this.listen();
   }
 
@@ -143,6 +148,16 @@ export class Timetable {
     const mark = cursor >= this.app.left - 1 ? s('path', { class: 'cursor', d: `M${cursor - 1} ${AXIS - 4}h2V${height}h-2z M${cursor - 5} ${AXIS - 9}h10l-5 6z` }) : null;
     for (const [name, value] of [['width', width], ['height', height], ['viewBox', `0 0 ${width} ${height}`]]) this.svg.setAttribute(name, value);
     this.svg.replaceChildren(...[...this.drawn(from, to), mark].filter(Boolean));
+    this.tell(from, to);
+  }
+
+  // Lists the lines that are drawn, where they are others; a pause first, since many steps may follow each other.
+  tell(from, to) {
+    const told = `${from} ${to}`;
+    if (told === this.told) return;
+    this.told = told;
+    clearTimeout(this.telling);
+    this.telling = setTimeout(() => this.heard.replaceChildren(...this.lines.slice(from, to).map((line) => h('li', {}, spoken(this.run, line)))), TELL);
   }
 
   // The lines from one up to another as they stand in a box of this size, with grid and axis.
@@ -257,6 +272,12 @@ export function sheets(run, app, tick) {
 
 // What a timetable asks of its page, where nothing is chosen.
 const PLAIN = { card: null, isLevel: () => false };
+
+// A line in words: what it is, its ticks, and what they were spent on.
+function spoken(run, line) {
+  const most = 2 + (line.entry?.charges?.length ?? 0);
+  return `${about(run, { line, tick: null }).slice(0, most).join('; ')}.`;
+}
 
 // A row's numbers, charges and reads, for the pointer.
 export function about(run, { line, tick }) {

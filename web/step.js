@@ -1,6 +1,6 @@
 // Stepping through the ticks of one run, or of two on one axis: the tick, its steps and keys, and where each view stands. The runs may be
 // set anew at any time; what is drawn stays.
-import { h } from './dom.js';
+import { h, put } from './dom.js';
 import { countWhile } from './read.js';
 import { ZERO, grouped, plural, sentences } from './words.js';
 import { Strip } from './strip.js';
@@ -13,6 +13,12 @@ const LEAST_SCALE = 5;          // a run whose ticks would be narrower is scroll
 const OWN_SCALE = 9;            // and its ticks are so wide
 const SCALES = { least: 0.02, most: 60, first: 40 };
 const RATES = [1, 2, 5, 10, 25];
+
+// What the bars of a row are called, as the timetable and the picture have them.
+export function phases() {
+  const mark = (kind, text) => h('span', {}, h('i', { class: `mark m-${kind}` }), text);
+  return [mark('operand', 'waits for operands'), mark('turn', 'waits for its turn'), mark('executing', 'executes'), mark('dropped', 'dropped')];
+}
 
 // A button of a step.
 function step(id, text, title, label, act) {
@@ -97,9 +103,8 @@ export class Stepper {
   }
 
   key() {
-    const mark = (kind, text) => h('span', {}, h('i', { class: `mark m-${kind}` }), text);
     this.snapKey = h('span', {}, 'dotted line: a snapshot (/SNAP)');
-    return h('p', { class: 'key', 'aria-hidden': 'true' }, mark('operand', 'waits for operands'), mark('turn', 'waits for its turn'), mark('executing', 'executes'), mark('dropped', 'dropped'),
+    return h('p', { class: 'key', 'aria-hidden': 'true' }, phases(),
       h('span', {}, 'thin line: it is prepared next'), h('span', {}, 'strip below a row: the ticks charged to it'), this.snapKey);
   }
 
@@ -328,12 +333,11 @@ export class Stepper {
     this.sentence.replaceChildren(h('b', { class: 'now' }, `Tick ${t}${run.label ? `, ${run.label}` : ''}`), ` ${text}`);
     this.tickInput.value = this.t;
     this.strip.set(this.t, `tick ${this.t}. ${text}`);
-    this.committedLine.replaceChildren(...committed(run, t, state).filter(Boolean));
-    this.levelsBox.replaceChildren(levelTable(run, t, levels), h('p', {}, nextLine(run, t)));
-    this.wordsBox.replaceChildren(...[indexTable(run, state, run.ahead(state, levels)), h('p', {}, interruptLine(state, this.names)),
-      registerTable(state, this.names)].filter(Boolean));
-    this.banksBox.replaceChildren(bankTable(run, t), h('p', {}, waitingLine(run, t)));
-    this.storageBox.replaceChildren(...[printerPaper(run, t), storageTable(run, t, state, (word) => this.on.nameOf?.(word))].filter(Boolean));
+    put(this.committedLine, committed(run, t, state));
+    put(this.levelsBox, [levelTable(run, t, levels), h('p', {}, nextLine(run, t))]);
+    put(this.wordsBox, [indexTable(run, state, run.ahead(state, levels)), h('p', {}, interruptLine(state, this.names)), registerTable(state, this.names)]);
+    put(this.banksBox, [bankTable(run, t), h('p', {}, waitingLine(run, t))]);
+    put(this.storageBox, [printerPaper(run, t), storageTable(run, t, state, (word) => this.on.nameOf?.(word))]);
     this.on.levels?.(levels, run.next(t));
     for (const table of this.tables) table.later();
   }

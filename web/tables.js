@@ -86,7 +86,8 @@ export function interruptLine(state, names) {
 // The registers that are not zero, besides index words, by name. `names` are those of indicators.
 export function registerTable(state, names) {
   const indicators = names.map((name) => name && { name });
-  const rows = [...state.words].filter(([word, content]) => word < 16 && content !== ZERO).sort(([a], [b]) => a - b)
+  const first = Array.from({ length: 16 }, (_, word) => [word, state.words.get(word) ?? ZERO]);
+  const rows = first.filter(([, content]) => content !== ZERO)
     .map(([word, content]) => row(registerName(word), [h('td', { class: 'code' }, content), h('td', {}, registerText(word, content, indicators))]));
   if (!rows.length) rows.push(h('tr', {}, h('td', { colspan: 3, class: 'soft' }, 'all are zero')));
   return table('registers', ['Registers, committed', '', 'word', 'what it says'], rows);

@@ -5,6 +5,7 @@ import { Fields } from './fields.js';
 import { listingDeck, listingOf, listingView, namesOf } from './listing.js';
 import { Stopped } from './programs.js';
 import { reportView } from './report.js';
+import { phases } from './step.js';
 import { legend } from './strip.js';
 import { whereView } from './where.js';
 
@@ -12,9 +13,29 @@ const PICTURE_ROWS = 200;
 const LONG = 20000;
 const LATIN = new TextDecoder('latin1');
 
+// What of the picture of ./chart has which colour of the timetable: a part, what is coloured, and the colour's name in the style sheet.
+const PAINT = [
+  ['text', 'fill', 'text'], ['.m', 'fill', 'soft'], ['.p', 'fill', 'ground'], ['.g', 'stroke', 'grid'], ['.w', 'fill', 'operand'],
+  ['.t', 'fill', 'turn'], ['.t', 'stroke', 'soft'], ['.e', 'fill', 'executing'], ['.d', 'stroke', 'drop'], ['.i', 'stroke', 'restart'],
+  ['.s', 'stroke', 'soft'], ['#h rect', 'fill', 'ground'], ['#h rect+rect', 'fill', 'drop'],
+];
+
+// A picture in the colours that the page has now.
+function painted(svg) {
+  const probe = h('i', { hidden: true });
+  document.body.append(probe);
+  const rules = PAINT.map(([part, what, name]) => {
+    probe.style.color = `var(--${name})`;
+    return `${part}{${what}:${getComputedStyle(probe).color}}`;
+  });
+  probe.remove();
+  return svg.replace('</style>', `${rules.join('')}</style>`);
+}
+
 export class Views {
   constructor(app) {
-    Object.assign(this, { app, drawn: new Set(), listed: null, url: null });
+    Object.assign(this, { app, drawn: new Set(), listed: null, url: null, svg: null, image: null });
+    matchMedia('(prefers-color-scheme: dark)').addEventListener('change', () => this.paint());
   }
 
   // The run is another one.
@@ -71,11 +92,21 @@ export class Views {
   }
 
   async picture(box) {
-    const text = await this.pictureText();
+    this.svg = await this.pictureText();
+    this.image = h('img', { alt: 'the timetable of the run, as the program chart draws it' });
+    this.paint();
+    box.replaceChildren(h('p', { class: 'soft' }, `The picture that ./chart draws of the report: at most ${PICTURE_ROWS} rows. `
+      + 'Here it has the colours of the timetable. Save it as a file for a text or a slide.'), h('p', { class: 'key' }, phases()),
+    h('div', { class: 'picture-room', tabindex: '0' }, this.image));
+  }
+
+  // The program's picture, in the colours of the page.
+  paint() {
+    if (!this.image) return;
     if (this.url) URL.revokeObjectURL(this.url);
-    this.url = URL.createObjectURL(new Blob([text], { type: 'image/svg+xml' }));
-    box.replaceChildren(h('p', { class: 'soft' }, `The picture that ./chart draws of the report: at most ${PICTURE_ROWS} rows. Save it as a file for a text or a slide.`),
-      h('div', { class: 'picture-room', tabindex: '0' }, h('img', { src: this.url, alt: 'the timetable of the run, as the program chart draws it' })));
+    this.shown = painted(this.svg);
+    this.url = URL.createObjectURL(new Blob([this.shown], { type: 'image/svg+xml' }));
+    this.image.src = this.url;
   }
 
   async listing(box = null) {

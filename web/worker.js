@@ -5,6 +5,7 @@ import { Ledger } from './ledger.js';
 const KEPT_FIRST = 1 << 22;     // so many bytes of an output are kept from its beginning,
 const KEPT_LAST = 1 << 18;      // and at least so many of its end
 const TELL = 150;               // milliseconds between two words of progress
+const PART = 2000;              // rows that go to the page at once
 const ASKED = 512;              // pieces between two looks at the clock
 const LATIN = new TextDecoder('latin1');
 
@@ -95,16 +96,19 @@ class Lines {
   }
 }
 
-// A ledger, read as it is written: the object of its rows, as text, which is quicker to pass on than what it says.
-function answerLedger({ levels, job, cards, names, first, last }, tell) {
+// A ledger, read as it is written: the object of its rows, as text, which is quicker to pass on than what it says. Where parts are wanted
+// its entries go so many at a time before the answer, which is then without them.
+function answerLedger({ levels, job, cards, names, first, last, isParted }, tell, part) {
   const ledger = new Ledger(levels, cards, names, first, last);
   const progress = teller(tell);
   const lines = new Lines((line) => { if (!line.startsWith('CARD ')) ledger.take(line); });
   const status = run(modules.ledger, 'ledger', [String(levels)], job, (piece) => {
     lines.put(piece);
     progress(() => ({ rows: ledger.sums.rows }));
+    if (isParted && ledger.entries.length >= PART) part(JSON.stringify(ledger.entries.splice(0)));
   });
   lines.flush();
+  if (isParted && ledger.entries.length) part(JSON.stringify(ledger.entries.splice(0)));
   return status ? { status } : { status, object: JSON.stringify(ledger.object()) };
 }
 
@@ -122,7 +126,7 @@ onmessage = async ({ data: { id, ask, ...request } }) => {
       for (const [name, source] of Object.entries(request.sources)) modules[name] = await moduleOf(source);
       postMessage({ id, modules });
     } else {
-      const answer = ANSWERS[ask](request, (progress) => postMessage({ id, progress }));
+      const answer = ANSWERS[ask](request, (progress) => postMessage({ id, progress }), (part) => postMessage({ id, part }));
       postMessage({ id, ...answer, ms: performance.now() - begun });
     }
   } catch (error) {
