@@ -171,8 +171,8 @@ class Browser:
     def close(self):
         try:
             self.session = None
-            self.call('Browser.close', 10)
+            self.call('Browser.close', SLOW)
         except Failed:
             self.process.kill()
-        self.process.wait(10)
+        self.process.wait(SLOW)
         shutil.rmtree(self.folder, ignore_errors=True)

@@ -342,7 +342,10 @@ class App {
     this.busy(true);
     try {
       const answer = await this.live.run(text, { levels: this.levels, beside: this.beside, kept: this.keptDeck }, progress.tell);
-      if (turn === this.turn) await this.shown(answer, text);
+      if (turn === this.turn) {
+        this.busy(false);           // repairs that are tried behind a refusal are no run
+        await this.shown(answer, text);
+      }
     } catch (error) {
       if (turn === this.turn && !(error instanceof Stopped)) this.failed(`something went wrong: ${error.message}`, 'Please report the deck with which it did.');
     } finally {

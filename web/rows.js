@@ -276,7 +276,7 @@ const PLAIN = { card: null, isLevel: () => false };
 // A line in words: what it is, its ticks, and what they were spent on.
 function spoken(run, line) {
   const most = 2 + (line.entry?.charges?.length ?? 0);
-  return `${about(run, { line, tick: null }).slice(0, most).join('; ')}.`;
+  return `${about(run, { line, tick: null }).slice(0, most).join('; ')}.`.replace(/\s+/g, ' ');
 }
 
 // A row's numbers, charges and reads, for the pointer.
