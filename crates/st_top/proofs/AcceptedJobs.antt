@@ -10,8 +10,8 @@ use Rattle.st_card.specs.Controls.{Asked, keywords, card_numbers, is_in_range, w
 use Rattle.st_card.specs.declared.cards.CardKind.{CardKind}
 use Rattle.st_card.specs.declared.cards.CardKind.TheVariants.{Comment, Control, Statement}
 use Rattle.st_card.specs.declared.keywords.Keyword.{Keyword}
-use Rattle.st_top.specs.Delays.{is_delays, begins_delays, is_control, is_delays_card, asked_on, asked_in}
-use Rattle.st_top.proofs.DelayCards.{still, stills, keyword-is, others, asked_by, asked_with, other-still, delays-still, others-kept, others-left, asks-none}
+use Rattle.st_top.specs.Delays.{is_delays, begins_delays, is_control, is_delays_card, asked_in}
+use Rattle.st_top.proofs.DelayCards.{asked_on, still, stills, keyword-is, others, asked_by, asked_with, other-still, delays-still, others-kept, others-left, asks-none}
 
 -- ---- a good delays card is good beside others
 

@@ -2,7 +2,7 @@
 use Rattle.std.proofs.Common.{◌≡◌, ℕ, ◌+◌, ◌&&◌, Bool, true, false, not, if◌then◌else◌, List, [], ◌∷◌, ◌++◌, length, filter, refl, sym, ◌∙◌, ap, subst, Option, Some, None, arith}
 use Rattle.std.specs.Prelude.{nat_le}
 use Rattle.std.specs.List.{list_all}
-use Rattle.std.specs.Option.{option_map}
+use Rattle.std.specs.Option.{option_map, option_and_then}
 use Rattle.st_text.specs.Pieces.{words}
 use Rattle.st_text.specs.Tables.{row_of}
 use Rattle.st_bits.specs.declared.limits.TheConstants.{LONGEST_LIST, MOST_DELAY}
@@ -12,7 +12,11 @@ use Rattle.st_card.specs.declared.cards.CardKind.{CardKind}
 use Rattle.st_card.specs.declared.cards.CardKind.TheVariants.{Comment, Control, Statement}
 use Rattle.st_card.specs.declared.keywords.Keyword.{Keyword}
 use Rattle.st_card.specs.declared.keywords.Keyword.TheVariants.{Delays}
-use Rattle.st_top.specs.Delays.{is_delays, begins_delays, is_control, is_delays_card, asked_on}
+use Rattle.st_top.specs.Delays.{is_delays, begins_delays, is_control, is_delays_card}
+
+-- what comes next where something is asked for
+abbrev pub asked_on : Option Asked → (Asked → Option Asked) → Option Asked
+asked_on o next = option_and_then next o
 
 -- what is asked for without the delays
 abbrev pub still : Asked → Asked

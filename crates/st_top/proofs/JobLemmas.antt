@@ -19,7 +19,7 @@ use Rattle.st_run.specs.Run.{Scene}
 use Rattle.st_io.specs.Event.{lines_of}
 use Rattle.st_object.specs.DelayLines.{is_delay_line}
 use Rattle.st_object.specs.Lines.{line_text}
-use Rattle.st_object.specs.Object.{Program, object_lines, read_text}
+use Rattle.st_object.specs.Object.{Program, object_lines}
 use Rattle.st_object.proofs.OtherDelays.{others-same}
 use Rattle.st_dis.specs.Deck.{word_cards, statement_card, end_text, card_count}
 use Rattle.st_top.specs.ObjectText.{program_in}
@@ -27,10 +27,9 @@ use Rattle.st_report.specs.Listing.{listed_line}
 use Rattle.st_state.specs.Machine.{opening_state}
 use Rattle.st_top.specs.Listing.{rows_lines, symbols_lines}
 use Rattle.st_top.specs.DelayLaws.{AreAlikeBesideDelays}
-use Rattle.st_top.specs.Marks.{lines_unmarked, marked_run, up_to_end, texts_up_to_end, end_card, listed_lines, marked_listing, marked_by, marked_load, marked_cards, marked_object, marked_deck, marked_assembled, marked_disassembled, marked_output}
+use Rattle.st_top.specs.Marks.{lines_unmarked, marked_run, up_to_end, texts_up_to_end, end_card, listed_lines, marked_listing, marked_by, marked_cards, marked_object, marked_deck, marked_assembled, marked_disassembled}
 use Rattle.st_telling.specs.Report.{Part as Marked, varying as with_marks, fixed as without_marks, joined}
 use Rattle.st_top.specs.Output.{scene_of_assembly, loaded_start, deck_by}
-use Rattle.st_command.specs.declared.command.Command.TheVariants.{Run, Assemble, Load, Disassemble}
 use Rattle.st_top.proofs.MarkLemmas.{joined-cons}
 use Rattle.st_top.proofs.DelayLemmas.{run-same}
 use Rattle.st_top.proofs.PlainEventLemmas.{unmarked-append, unmarked-plain, unmarked-between}
@@ -113,25 +112,17 @@ by-same job other a b h =
     ∙ sym (unmarked-append (marked_listing other b) (marked_run b.asked (scene_of_assembly other b)))
 
 pub jobs-same : (job other : List ℕ) (a b : Assembly) → assembly job ≡ Ok a → assembly other ≡ Ok b → AreAlikeBesideDelays job other a b
-    → lines_unmarked (marked_output Run job) ≡ lines_unmarked (marked_output Run other)
-unfolding marked_output
+    → lines_unmarked (marked_by job (assembly job)) ≡ lines_unmarked (marked_by other (assembly other))
 jobs-same job other a b is also h =
     ap (λ r. lines_unmarked (marked_by job r)) is ∙ by-same job other a b h ∙ sym (ap (λ r. lines_unmarked (marked_by other r)) also)
 
 -- ---- a program that is loaded
 
-loads-same : (p q : Program) → record p { controls = record p.controls { delays = q.controls.delays } } ≡ q
+pub loads-same : (p q : Program) → record p { controls = record p.controls { delays = q.controls.delays } } ≡ q
     → lines_unmarked (marked_run p.controls (loaded_start p)) ≡ lines_unmarked (marked_run q.controls (loaded_start q))
 loads-same p q h =
     sym (delays-same p.controls q.controls.delays p.words p.start [])
     ∙ ap (λ (r : Program). lines_unmarked (marked_run r.controls (loaded_start r))) h
-
-pub texts-same : (text other : List ℕ) (p q : Program) → read_text text ≡ Ok p → read_text other ≡ Ok q
-    → record p { controls = record p.controls { delays = q.controls.delays } } ≡ q
-    → lines_unmarked (marked_output Load text) ≡ lines_unmarked (marked_output Load other)
-unfolding marked_output
-texts-same text other p q is also h =
-    ap (λ r. lines_unmarked (marked_load text r)) is ∙ loads-same p q h ∙ sym (ap (λ r. lines_unmarked (marked_load other r)) also)
 
 -- ---- an object text, and a deck
 
@@ -192,23 +183,18 @@ programs-differ job other a b h =
     ∙ ap (λ (asked : Asked). record { words = b.image; start = b.start; controls = record asked { list = false } }) h.asked
 
 pub assembled-same : (job other : List ℕ) (a b : Assembly) → assembly job ≡ Ok a → assembly other ≡ Ok b → AreAlikeBesideDelays job other a b
-    → lines_unmarked (marked_output Assemble job) ≡ lines_unmarked (marked_output Assemble other)
-unfolding marked_output
+    → lines_unmarked (marked_assembled (assembly job)) ≡ lines_unmarked (marked_assembled (assembly other))
 assembled-same job other a b is also h =
-    ap (λ r. lines_unmarked (marked_assembled job r)) is
+    ap (λ r. lines_unmarked (marked_assembled r)) is
     ∙ objects-same (program_in a) (program_in b) (programs-differ job other a b h)
-    ∙ sym (ap (λ r. lines_unmarked (marked_assembled other r)) also)
+    ∙ sym (ap (λ r. lines_unmarked (marked_assembled r)) also)
 
-disassembled-unmarked : (text : List ℕ) (p : Program) → read_text text ≡ Ok p → card_count p ≤ MOST_CARDS
-    → lines_unmarked (marked_output Disassemble text) ≡ lines_unmarked (marked_deck p)
-unfolding marked_output
-disassembled-unmarked text p is few =
-    ap (λ r. lines_unmarked (marked_disassembled text r)) is
-    ∙ ap (λ b. lines_unmarked (if b then marked_deck p else with_marks (lines_of (deck_by p).events))) (le-leb (card_count p) MOST_CARDS few)
+disassembled-unmarked : (p : Program) → card_count p ≤ MOST_CARDS → lines_unmarked (marked_disassembled (Ok p)) ≡ lines_unmarked (marked_deck p)
+disassembled-unmarked p few =
+    ap (λ b. lines_unmarked (if b then marked_deck p else with_marks (lines_of (deck_by p).events))) (le-leb (card_count p) MOST_CARDS few)
 
-pub disassembled-same : (text other : List ℕ) (p q : Program) → read_text text ≡ Ok p → read_text other ≡ Ok q
-    → record p { controls = record p.controls { delays = q.controls.delays } } ≡ q
+pub disassembled-same : (p q : Program) → record p { controls = record p.controls { delays = q.controls.delays } } ≡ q
     → card_count p ≤ MOST_CARDS → card_count q ≤ MOST_CARDS
-    → lines_unmarked (marked_output Disassemble text) ≡ lines_unmarked (marked_output Disassemble other)
-disassembled-same text other p q is also h few more =
-    disassembled-unmarked text p is few ∙ decks-same p q h ∙ sym (disassembled-unmarked other q also more)
+    → lines_unmarked (marked_disassembled (Ok p)) ≡ lines_unmarked (marked_disassembled (Ok q))
+disassembled-same p q h few more =
+    disassembled-unmarked p few ∙ decks-same p q h ∙ sym (disassembled-unmarked q more)

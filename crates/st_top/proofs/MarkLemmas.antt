@@ -22,14 +22,14 @@ use Rattle.st_io.specs.Event.{lines_of, at_moment}
 use Rattle.st_io.proofs.Writing.{lines_of-append, lines_of-at_moment}
 use Rattle.st_object.specs.DelayLines.{is_delay_line}
 use Rattle.st_object.specs.Lines.{line_text}
-use Rattle.st_object.specs.Object.{Program, object_lines, read_text}
+use Rattle.st_object.specs.Object.{Program, object_lines}
 use Rattle.st_dis.specs.Deck.{word_cards, statement_card, end_text, control_cards, card_count}
 use Rattle.st_top.specs.ObjectText.{program_in, object_text_lines, deck_lines}
 use Rattle.st_top.specs.declared.answer.Status.TheVariants.{Done as Finished}
 use Rattle.st_run.specs.ReportedEvents.{TimedReportedEvent, reported_events}
 use Rattle.st_top.specs.Listing.{rows_lines, listing_row_line as card_line, symbols_lines, listing}
 use Rattle.st_top.specs.Marks.{marked_report, marked_run, up_to_end, end_card, listed_lines, marked_listing, marked_by, marked_load, marked_cards, marked_object, marked_deck, marked_assembled, marked_disassembled, marked_output}
-use Rattle.st_top.specs.Output.{Output, lines_alone, output_of, scene_of_assembly, loaded_start}
+use Rattle.st_top.specs.Output.{Output, lines_alone, output_of, ran_by, loaded_by, assembled_by, disassembled_by, scene_of_assembly, loaded_start}
 use Rattle.st_telling.specs.Report.{Part as Marked, varying as with_marks, fixed as without_marks, joined, parts_at, lines_told, report}
 use Rattle.st_top.specs.StepsBack.{states_of_run, events_of_run, moment_at_end, last_state, lines_of_steps_back, run_report}
 use Rattle.st_command.specs.declared.command.Command.{Command}
@@ -133,21 +133,18 @@ lines-listing job a = listing-if a.asked.list (listed_lines job a) _ (lines-list
 
 -- ---- what a command writes
 
-lines-by : (job : List ℕ) (r : Result Assembly Refusal) → assembly job ≡ r → joined (marked_by job r) ≡ lines_of (output_of Run job).events
-unfolding output_of
-lines-by job (Ok a) is =
+lines-by : (job : List ℕ) (r : Result Assembly Refusal) → joined (marked_by job r) ≡ lines_of (ran_by [] job r).events
+lines-by job (Ok a) =
     let start = scene_of_assembly job a in
     lines-append (marked_listing job a) (marked_run a.asked start)
     ∙ ap (λ front. front ++ joined (marked_run a.asked start)) (lines-listing job a ∙ sym (lines_of-at_moment 0 0 (listing job a)))
     ∙ ap (λ rest. lines_of (at_moment 0 0 (listing job a)) ++ rest) (lines-run a.asked start)
     ∙ sym (lines_of-append (at_moment 0 0 (listing job a)) (run_report a.asked start))
-    ∙ rw is refl
-lines-by job (Err r) is = lines-plain _
+lines-by job (Err r) = lines-plain _
 
-lines-load : (text : List ℕ) (r : Result Program ℕ) → read_text text ≡ r → joined (marked_load text r) ≡ lines_of (output_of Load text).events
-unfolding output_of
-lines-load text (Ok p) is = lines-run p.controls (loaded_start p) ∙ rw is refl
-lines-load text (Err n) is = lines-plain _
+lines-load : (r : Result Program ℕ) → joined (marked_load r) ≡ lines_of (loaded_by r).events
+lines-load (Ok p) = lines-run p.controls (loaded_start p)
+lines-load (Err n) = lines-plain _
 
 -- all that asks for things, made line by line
 mapped-if : {X : Type 0} (f : X → List ℕ) (b : Bool) (x : X) → map f (if b then x ∷ [] else []) ≡ (if b then f x ∷ [] else [])
@@ -209,29 +206,25 @@ lines-deck p =
     ∙ sym (mapped-controls line (control_line forms.Card) p.controls))
     ∙ sym (map-append line front (control_cards p.controls))
 
-lines-assembled : (job : List ℕ) (r : Result Assembly Refusal) → assembly job ≡ r
-    → joined (marked_assembled job r) ≡ lines_of (output_of Assemble job).events
-unfolding output_of
-lines-assembled job (Ok a) is =
-    lines-object (program_in a) ∙ sym (lines_of-at_moment 0 0 (object_text_lines (program_in a))) ∙ rw is refl
-lines-assembled job (Err r) is = lines-plain _
+lines-assembled : (r : Result Assembly Refusal) → joined (marked_assembled r) ≡ lines_of (assembled_by r).events
+lines-assembled (Ok a) = lines-object (program_in a) ∙ sym (lines_of-at_moment 0 0 (object_text_lines (program_in a)))
+lines-assembled (Err r) = lines-plain _
 
-lines-disassembled : (text : List ℕ) (r : Result Program ℕ) → read_text text ≡ r
-    → joined (marked_disassembled text r) ≡ lines_of (output_of Disassemble text).events
-unfolding output_of
-lines-disassembled text (Ok p) is = deck-if (nat_le (card_count p) MOST_CARDS) (lines_alone Finished (deck_lines p)) _ (lines-deck p ∙ sym (lines_of-at_moment 0 0 (deck_lines p))) ∙ rw is refl
+lines-disassembled : (r : Result Program ℕ) → joined (marked_disassembled r) ≡ lines_of (disassembled_by r).events
+lines-disassembled (Ok p) = deck-if (nat_le (card_count p) MOST_CARDS) (lines_alone Finished (deck_lines p)) _ (lines-deck p ∙ sym (lines_of-at_moment 0 0 (deck_lines p)))
   where
     deck-if : (b : Bool) (deck other : Output) → joined (marked_deck p) ≡ lines_of deck.events
         → joined (if b then marked_deck p else with_marks (lines_of (if b then deck else other).events)) ≡ lines_of (if b then deck else other).events
     deck-if true deck other same = same
     deck-if false deck other same = lines-marked _
-lines-disassembled text (Err n) is = lines-plain _
+lines-disassembled (Err n) = lines-plain _
 
-pub lines-output : (command : Command) (job : List ℕ) → joined (marked_output command job) ≡ lines_of (output_of command job).events
-unfolding marked_output
-lines-output Run job = lines-by job (assembly job) refl
-lines-output Load job = lines-load job (read_text job) refl
-lines-output Assemble job = lines-assembled job (assembly job) refl
-lines-output Disassemble job = lines-disassembled job (read_text job) refl
-lines-output Sweep job = lines-marked _
-lines-output (Soak number cards) job = lines-marked _
+pub lines-output : (command : Command) (job : List ℕ) (read : Result Program ℕ)
+    → joined (marked_output command job read) ≡ lines_of (output_of command job read).events
+unfolding marked_output output_of
+lines-output Run job read = lines-by job (assembly job)
+lines-output Load job read = lines-load read
+lines-output Assemble job read = lines-assembled (assembly job)
+lines-output Disassemble job read = lines-disassembled read
+lines-output Sweep job read = lines-marked _
+lines-output (Soak number cards) job read = lines-marked _

@@ -9,7 +9,8 @@ use Rattle.st_io.proofs.Writing.{wrote_at_moment}
 use Rattle.st_state.specs.Machine.{opening_state}
 use Rattle.st_telling.specs.declared.moment.Moment.{Moment}
 use Rattle.st_run.specs.Run.{Scene}
-use Rattle.st_object.specs.Object.{Program}
+use Rattle.st_object.specs.Object.{Program, IsReading, read_text}
+use Rattle.st_object.proofs.ReadingLemmas.{reading-is}
 use Rattle.st_top.specs.Output.{Output, lines_alone, output_of_run, scene_at_start, loaded_by, loaded_start}
 use Rattle.st_top.proofs.Starts.{no_cards}
 use Rattle.st_top.specs.Answers.{WroteAll, Writes}
@@ -48,3 +49,7 @@ loaded_scene p =
 
 pub loaded_is : (p : Program) → output_of_run [] p.controls (scene_at_start p.words p.start p.controls []) ≡ loaded_by (Ok p)
 loaded_is p = ap (output_of_run [] p.controls) (loaded_scene p)
+
+-- the parser finds what an object text is
+pub text_is_read : (text : List ℕ) → IsReading text (read_text text)
+text_is_read text = reading-is text

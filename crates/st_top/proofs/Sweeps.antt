@@ -61,9 +61,9 @@ sweeps_scene image start asked size zeros below counter = record {
 }
 
 -- all its lines are written
-pub swept_all : (s t : OutputState) (w : Swept) (answer : Answer) → Wrote s t (text (sweep_lines w))
-    → answer.status ≡ Done → answer.done ≡ w.done → answer.ticks ≡ slice_index w.ticks 7 → Writes answer.status s t (output_of_sweep w) answer
-swept_all s t w answer wrote good done ticks =
-    let all : WroteAll s t (output_of_sweep w) answer =
+pub swept_all : (s t : OutputState) (delays : List ℕ) (w : Swept) (answer : Answer) → Wrote s t (text (sweep_lines w))
+    → answer.status ≡ Done → answer.done ≡ w.done → answer.ticks ≡ slice_index w.ticks 7 → Writes answer.status s t (output_of_sweep delays w) answer
+swept_all s t delays w answer wrote good done ticks =
+    let all : WroteAll s t (output_of_sweep delays w) answer =
     record { status = good; wrote = wrote_at_moment s t 0 0 (sweep_lines w) wrote; done = done; ticks = ticks } in
-    subst (λ st. Writes st s t (output_of_sweep w) answer) (sym good) all
+    subst (λ st. Writes st s t (output_of_sweep delays w) answer) (sym good) all

@@ -131,7 +131,7 @@ module _ (most : ℕ) (image : List ℕ) (first : ℕ) (asked : Asked) (are : Ar
       (subst (λ n. slice_index (sweep_of image first asked).ticks 7 ≤ 64 * (most + 4) * (n + 1)) (sym done) eight-time)
 
   swept-status : (status : Status) (s t : OutputState) (answer : Answer)
-      → Writes status s t (output_of_sweep (sweep_of image first asked)) answer → IsIn most answer
+      → Writes status s t (output_of_sweep asked.delays (sweep_of image first asked)) answer → IsIn most answer
   swept-status Done s t answer w = swept-whole answer w.done w.ticks
   swept-status Refused s t answer w = swept-whole answer w.done w.ticks
   swept-status WriteFault s t answer w =
@@ -144,7 +144,7 @@ module _ (most : ℕ) (image : List ℕ) (first : ℕ) (asked : Asked) (are : Ar
   swept-status ReadFault s t answer w = absurd w
 
   pub swept_time : (s t : OutputState) (answer : Answer)
-      → Writes answer.status s t (output_of_sweep (sweep_of image first asked)) answer → IsIn most answer
+      → Writes answer.status s t (output_of_sweep asked.delays (sweep_of image first asked)) answer → IsIn most answer
   swept_time s t answer w = swept-status answer.status s t answer w
 
 -- delays that keep the limits of control cards, none of which exceeds a number
@@ -167,7 +167,7 @@ keeps_time asked start s t listed answer some limits is w = λ most below.
 -- so they bound the ticks of its sweep
 pub keeps_sweep : (image : List ℕ) (first : ℕ) (asked : Asked) (s t : OutputState) (answer : Answer)
     → 1 ≤ length asked.delays → AllPass (is_in_range 1 MOST_DELAY) asked.delays → IsScene (sweep_start image first asked)
-    → Writes answer.status s t (output_of_sweep (sweep_of image first asked)) answer → KeepsTime asked.delays answer
+    → Writes answer.status s t (output_of_sweep asked.delays (sweep_of image first asked)) answer → KeepsTime asked.delays answer
 keeps_sweep image first asked s t answer some limits is w = λ most below.
     swept_time most image first asked (delays_within most asked.delays some limits below) is s t answer w
 

@@ -1,12 +1,13 @@
 -- What each answer of the program says: when it comes, and what was read and written.
-use Rattle.std.specs.Prelude.{◌≡◌, ℕ, ◌+◌, ◌*◌, ◌≤◌, List, All, Option, None, Some}
+use Rattle.std.specs.Prelude.{◌≡◌, ℕ, ◌+◌, ◌*◌, ◌≤◌, List, All, Option, None, Some, Result}
 use Rattle.st_bits.specs.declared.limits.TheConstants.{LONGEST_JOB}
 use Rattle.st_io.specs.Count.{HasRisen}
 use Rattle.st_io.specs.Input.{InputState, CameWhole, CameWithin, CamePast}
 use Rattle.st_io.specs.Output.{OutputState, Wrote}
 use Rattle.st_io.specs.Lines.{text}
 use Rattle.st_io.specs.Event.{lines_of, StoppedAt}
-use Rattle.st_top.specs.Output.{Output, output_of, delays_of, soak_output, soaked_delays}
+use Rattle.st_object.specs.Object.{Program, IsReading}
+use Rattle.st_top.specs.Output.{Output, output_of, soak_output}
 use Rattle.st_top.specs.declared.answer.Answer.{Answer}
 use Rattle.st_top.specs.declared.answer.Status.{Status}
 use Rattle.st_top.specs.declared.answer.Status.TheVariants.{Done, Refused, Usage, JobTooLong, ReadFault, WriteFault, NoMemory}
@@ -42,14 +43,17 @@ KeepsTime delays answer =
     (most : ℕ) → All (λ delay. delay ≤ most) delays → answer.ticks
     ≤ 64 * (most + 4) * (answer.done + 1)
 
--- a job was read whole, and its output written, in time
+-- a job came whole, and its output was written, in time; `read` is what the job is as an object text,
+-- which counts for `load` and `disassemble`
 pub record WroteOutput (command : Command) (status : Status) (input input' : InputState)
     (before after : OutputState)
     (answer : Answer) : Type 0 where
   pub job : List ℕ
-  pub read : CameWhole input input' LONGEST_JOB job
-  pub written : Writes status before after (output_of command job) answer
-  pub in_time : KeepsTime (delays_of command job) answer
+  pub came : CameWhole input input' LONGEST_JOB job
+  pub read : Result Program ℕ
+  pub reading : IsReading job read
+  pub written : Writes status before after (output_of command job read) answer
+  pub in_time : KeepsTime (output_of command job read).delays answer
 
 -- what a command that reads a job did to its source and its sink, by the status
 abbrev pub Did : Command → Status → InputState → InputState → OutputState → OutputState → Answer →
@@ -78,7 +82,7 @@ abbrev pub Acted : Command → Status → InputState → InputState → OutputSt
     Type 0
 Acted (Soak number cards) status input input' before after answer =
     (input' ≡ input) × Writes status before after (soak_output number cards) answer
-    × KeepsTime (soaked_delays number cards) answer
+    × KeepsTime (soak_output number cards).delays answer
 Acted command status input input' before after answer =
     Did command status input input' before after answer
 

@@ -1,6 +1,6 @@
 -- What holds of the marks of a run, and of jobs and object texts that give the same but for the
 -- delays.
-use Rattle.std.specs.Prelude.{◌≡◌, ℕ, ◌≤◌, Bool, List, take, Ok}
+use Rattle.std.specs.Prelude.{◌≡◌, ℕ, ◌≤◌, Bool, List, take, Result, Ok}
 use Rattle.st_bits.specs.declared.limits.TheConstants.{MOST_CARDS}
 use Rattle.st_card.specs.Controls.{Asked}
 use Rattle.st_asm.specs.Assembly.{Assembly, assembly}
@@ -46,26 +46,25 @@ DelaysChangeNothingButTheTimetable = (asked : Asked) (ds snaps : List ℕ) (time
     ≡ lines_unmarked (marked_run asked start)
 
 -- Jobs that give the same but for the delays write the same lines that are not marked, where they
--- are run and where they are assembled. So do object texts of programs that differ in their delays
--- alone, where these are loaded, and where they are disassembled to decks that have not too many
--- cards.
+-- are run and where they are assembled. So do programs that differ in their delays alone, where
+-- these are loaded, and where they are disassembled to decks that have not too many cards.
 pub record JobsThatDifferInDelaysAlone : Type 0 where
-  pub run : (job other : List ℕ) (a b : Assembly) → assembly job ≡ Ok a → assembly other ≡ Ok b
-      → AreAlikeBesideDelays job other a b → lines_unmarked (marked_output Run job)
-      ≡ lines_unmarked (marked_output Run other)
-  pub assembled : (job other : List ℕ) (a b : Assembly) → assembly job ≡ Ok a → assembly other
-      ≡ Ok b
-      → AreAlikeBesideDelays job other a b → lines_unmarked (marked_output Assemble job)
-      ≡ lines_unmarked (marked_output Assemble other)
-  pub load : (text other : List ℕ) (p q : Program) → read_text text ≡ Ok p → read_text other ≡ Ok q
+  pub run : (job other : List ℕ) (read also : Result Program ℕ) (a b : Assembly)
+      → assembly job ≡ Ok a → assembly other ≡ Ok b → AreAlikeBesideDelays job other a b
+      → lines_unmarked (marked_output Run job read) ≡ lines_unmarked (marked_output Run other also)
+  pub assembled : (job other : List ℕ) (read also : Result Program ℕ) (a b : Assembly)
+      → assembly job ≡ Ok a → assembly other ≡ Ok b → AreAlikeBesideDelays job other a b
+      → lines_unmarked (marked_output Assemble job read)
+      ≡ lines_unmarked (marked_output Assemble other also)
+  pub load : (text other : List ℕ) (p q : Program)
       → record p { controls = record p.controls { delays = q.controls.delays } } ≡ q
-      → lines_unmarked (marked_output Load text) ≡ lines_unmarked (marked_output Load other)
-  pub disassemble : (text other : List ℕ) (p q : Program) → read_text text ≡ Ok p → read_text other
-      ≡ Ok q
+      → lines_unmarked (marked_output Load text (Ok p))
+      ≡ lines_unmarked (marked_output Load other (Ok q))
+  pub disassemble : (text other : List ℕ) (p q : Program)
       → record p { controls = record p.controls { delays = q.controls.delays } } ≡ q
       → card_count p ≤ MOST_CARDS → card_count q ≤ MOST_CARDS
-      → lines_unmarked (marked_output Disassemble text)
-      ≡ lines_unmarked (marked_output Disassemble other)
+      → lines_unmarked (marked_output Disassemble text (Ok p))
+      ≡ lines_unmarked (marked_output Disassemble other (Ok q))
 
 -- Jobs that are not refused and whose texts differ in their delays cards alone give the same but
 -- for the delays.

@@ -1,6 +1,7 @@
 -- Jobs whose texts differ in their delays cards alone, and object texts that differ in their lines
 -- of delays alone. They write the same, but for the lines that are marked.
-use Rattle.std.specs.Prelude.{◌≡◌, ℕ, ◌≤◌, ◌&&◌, Bool, true, false, not, List, [], ◌∷◌, map, filter, All, Option, Some, None, IsSome, Ok}
+use Rattle.std.specs.Prelude.{◌≡◌, ℕ, ◌≤◌, ◌&&◌, Bool, true, false, not, List, [], ◌∷◌, map, filter, All, Option, Some, None, IsSome, Result, Ok}
+use Rattle.std.specs.Option.{option_and_then}
 use Rattle.st_bits.specs.declared.limits.TheConstants.{MOST_CARDS}
 use Rattle.st_text.specs.Pieces.{words}
 use Rattle.st_text.specs.Tables.{row_of}
@@ -14,7 +15,7 @@ use Rattle.st_card.specs.declared.keywords.Keyword.TheVariants.{Delays}
 use Rattle.st_exch.specs.Reader.{behind_statements}
 use Rattle.st_io.specs.Event.{lines_of}
 use Rattle.st_object.specs.DelayLines.{DifferInDelayLines, HasDelayLines}
-use Rattle.st_object.specs.Object.{Program, read_text}
+use Rattle.st_object.specs.Object.{Program, IsReading}
 use Rattle.st_dis.specs.Deck.{card_count}
 use Rattle.st_telling.specs.Report.{joined}
 use Rattle.st_top.specs.Marks.{lines_unmarked, marked_output, texts_up_to_end}
@@ -56,15 +57,11 @@ pub record DifferInDelaysCards (job other : List ℕ) : Type 0 where
   pub up_to_end : texts_up_to_end job ≡ texts_up_to_end other
   pub others : others_behind_end job ≡ others_behind_end other
 
--- what comes next where something is asked for
-abbrev pub asked_on : Option Asked → (Asked → Option Asked) → Option Asked
-asked_on None next = None
-asked_on (Some asked) next = next asked
-
 -- what control cards of these texts ask for, one after the other, where each is good
 unfoldable pub asked_in : Asked → List (List ℕ) → Option Asked
 asked_in kept [] = Some kept
-asked_in kept (text ∷ texts) = asked_on (asked_with_card kept text) (λ more. asked_in more texts)
+asked_in kept (text ∷ texts) =
+    option_and_then (λ more. asked_in more texts) (asked_with_card kept text)
 
 -- the texts of a job's delays cards behind END
 abbrev pub delays_behind_end : List ℕ → List (List ℕ)
@@ -89,7 +86,7 @@ HasGoodLines text = (delays : List ℕ) × HasDelayLines text delays
 
 -- its deck has not too many cards
 abbrev pub HasShortDeck : List ℕ → Type 0
-HasShortDeck text = (p : Program) → read_text text ≡ Ok p → card_count p ≤ MOST_CARDS
+HasShortDeck text = (p : Program) → IsReading text (Ok p) → card_count p ≤ MOST_CARDS
 
 -- the delays that a job or an object text names are good for a command
 abbrev pub AreDelaysGood : Command → List ℕ → Type 0
@@ -97,20 +94,25 @@ AreDelaysGood Load text = HasGoodLines text
 AreDelaysGood Disassemble text = HasGoodLines text × HasShortDeck text
 AreDelaysGood _ job = HasGoodDelays job
 
--- a command does not refuse a job
-abbrev pub IsAccepted : Command → List ℕ → Type 0
-IsAccepted command job = (output_of command job).status ≡ Done
+-- a command does not refuse a job, by what the job is read as
+abbrev pub IsAccepted : Command → List ℕ → Result Program ℕ → Type 0
+IsAccepted command job read = (output_of command job read).status ≡ Done
 
 -- delays show in marked lines alone: the lines with their marks are those that a command writes; of
 -- two jobs that it does not refuse, and that differ in their delays alone, it writes the same lines
 -- that are not marked; and where it does not refuse one of the two, and the other's delays are good,
 -- it does not refuse that either
 pub record DelaysShowInMarksAlone : Type 0 where
-  pub marks : (command : Command) (job : List ℕ) → joined (marked_output command job)
-      ≡ lines_of (output_of command job).events
-  pub texts : (command : Command) (job other : List ℕ) → IsAccepted command job
-      → IsAccepted command other → DifferInDelaysAlone command job other
-      → lines_unmarked (marked_output command job) ≡ lines_unmarked (marked_output command other)
-  pub accepted : (command : Command) (job other : List ℕ) → IsAccepted command job
+  pub marks : (command : Command) (job : List ℕ) (read : Result Program ℕ)
+      → joined (marked_output command job read) ≡ lines_of (output_of command job read).events
+  pub texts : (command : Command) (job other : List ℕ) (read also : Result Program ℕ)
+      → IsReading job read → IsReading other also
+      → IsAccepted command job read → IsAccepted command other also
+      → DifferInDelaysAlone command job other
+      → lines_unmarked (marked_output command job read)
+      ≡ lines_unmarked (marked_output command other also)
+  pub accepted : (command : Command) (job other : List ℕ) (read also : Result Program ℕ)
+      → IsReading job read → IsReading other also
+      → IsAccepted command job read
       → DifferInDelaysAlone command job other → AreDelaysGood command other
-      → IsAccepted command other
+      → IsAccepted command other also

@@ -1,12 +1,18 @@
--- The lines of an object text and of a deck, and the numbers that definitions take from the code of
--- this crate and of the command line, in figures.
-use Rattle.std.specs.Prelude.{◌≡◌}
+-- What an object text is read as, its lines and those of a deck, and the numbers that definitions
+-- take from the code of this crate and of the command line, in figures.
+use Rattle.std.specs.Prelude.{◌≡◌, ℕ, List, Result}
 use Rattle.st_io.specs.Lines.{text}
 use Rattle.st_dis.specs.Deck.{deck_text}
-use Rattle.st_object.specs.Object.{Program, object_text}
+use Rattle.st_object.specs.Object.{Program, IsReading, object_text}
 use Rattle.st_top.specs.ObjectText.{object_text_lines, deck_lines}
 use Rattle.st_command.specs.declared.command.TheConstants.{MOST_MADE_CARDS}
 use Rattle.st_top.specs.declared.reporting.TheConstants.{LEVELS}
+
+-- Each text is read as something, and as one thing alone: so a command writes one thing for a job.
+pub record EachTextHasOneReading : Type 0 where
+  pub some : (text : List ℕ) → (read : Result Program ℕ) × IsReading text read
+  pub one : (text : List ℕ) (read also : Result Program ℕ) → IsReading text read →
+      IsReading text also → read ≡ also
 
 -- The lines of the object text of a program, one after another, are that text.
 abbrev pub LinesAreTheObjectText : Type 0

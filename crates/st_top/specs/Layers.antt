@@ -14,7 +14,8 @@ use Rattle.st_io.specs.Output.{OutputState}
 use Rattle.st_io.specs.declared.source.ReadError.{ReadError}
 use Rattle.st_io.specs.declared.source.ReadError.TheVariants.{TooLong as ReadTooLong, Failed, NoMemory as ReadNoMemory}
 use Rattle.st_top.specs.Answers.{Writes, KeepsTime}
-use Rattle.st_top.specs.Output.{Output, output_of, delays_of, refusal_output}
+use Rattle.st_object.specs.Object.{Program, IsReading}
+use Rattle.st_top.specs.Output.{Output, output_of, refusal_output}
 use Rattle.st_top.specs.declared.answer.Answer.{Answer}
 use Rattle.st_command.specs.declared.command.Command.{Command}
 use Rattle.st_top.specs.declared.layer_error.LayerError.{LayerError}
@@ -49,19 +50,20 @@ Halts output NoMemory = Unit {0}
 Halts output TooLong = ⊥
 Halts output Unread = ⊥
 
--- how a command ends on a job that was read and says these delays: with an answer, or with an error
--- and nothing written
-abbrev pub Ends : OutputState → OutputState → Output → List ℕ → Result Answer LayerError → Type 0
-Ends before after output delays (Ok answer) = Writes answer.status before after output answer
-    × KeepsTime delays answer
-Ends before after output delays (Err e) = (after ≡ before) × Halts output e
+-- how a command ends on a job that was read: with an answer, or with an error and nothing written
+abbrev pub Ends : OutputState → OutputState → Output → Result Answer LayerError → Type 0
+Ends before after output (Ok answer) = Writes answer.status before after output answer
+    × KeepsTime output.delays answer
+Ends before after output (Err e) = (after ≡ before) × Halts output e
 
 -- a job was read whole, and the command ended so on it
 pub record EndsOnJob (command : Command) (input input' : InputState) (before after : OutputState)
     (result : Result Answer LayerError) : Type 0 where
   pub job : List ℕ
-  pub read : CameWhole input input' LONGEST_JOB job
-  pub ends : Ends before after (output_of command job) (delays_of command job) result
+  pub came : CameWhole input input' LONGEST_JOB job
+  pub read : Result Program ℕ
+  pub reading : IsReading job read
+  pub ends : Ends before after (output_of command job read) result
 
 -- how a command ends that reads a job
 abbrev pub Tries : Command → InputState → InputState → OutputState → OutputState →

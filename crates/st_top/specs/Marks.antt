@@ -19,16 +19,16 @@ use Rattle.st_run.specs.Run.{Scene}
 use Rattle.st_io.specs.Event.{lines_of}
 use Rattle.st_object.specs.DelayLines.{is_delay_line}
 use Rattle.st_object.specs.Lines.{line_text}
-use Rattle.st_object.specs.Object.{Program, object_lines, read_text}
+use Rattle.st_object.specs.Object.{Program, object_lines}
 use Rattle.st_dis.specs.Deck.{word_cards, statement_card, end_text, card_count}
 use Rattle.st_run.specs.ReportedEvents.{TimedReportedEvent, reported_events}
 use Rattle.st_top.specs.Listing.{rows_lines, symbols_lines}
 use Rattle.st_top.specs.ObjectText.{program_in}
-use Rattle.st_top.specs.Output.{output_of, scene_of_assembly, loaded_start, deck_by}
+use Rattle.st_top.specs.Output.{output_of, refusal_output, scene_of_assembly, loaded_by, loaded_start, deck_by}
 use Rattle.st_telling.specs.Report.{Part, fixed, varying, joined, parts_at}
 use Rattle.st_top.specs.StepsBack.{events_of_run, states_of_run, last_state, lines_of_steps_back}
 use Rattle.st_command.specs.declared.command.Command.{Command}
-use Rattle.st_command.specs.declared.command.Command.TheVariants.{Run, Assemble, Load, Disassemble, Sweep, Soak}
+use Rattle.st_command.specs.declared.command.Command.TheVariants.{Run, Assemble, Load, Disassemble}
 
 -- the lines that the delays do not change
 unfoldable pub lines_unmarked : List Part → List (List ℕ)
@@ -101,32 +101,30 @@ marked_deck p =
 -- what `run` writes, by what a job gives
 abbrev pub marked_by : List ℕ → Result Assembly Refusal → List Part
 marked_by job (Ok a) = marked_listing job a ++ marked_run a.asked (scene_of_assembly job a)
-marked_by job (Err r) = fixed (lines_of (output_of Run job).events)
+marked_by job (Err r) = fixed (lines_of (refusal_output r).events)
 
--- what `load` writes, by what an object text gives
-abbrev pub marked_load : List ℕ → Result Program ℕ → List Part
-marked_load text (Ok p) = marked_run p.controls (loaded_start p)
-marked_load text (Err n) = fixed (lines_of (output_of Load text).events)
+-- what `load` writes, by what an object text is read as
+abbrev pub marked_load : Result Program ℕ → List Part
+marked_load (Ok p) = marked_run p.controls (loaded_start p)
+marked_load (Err n) = fixed (lines_of (loaded_by (Err n)).events)
 
 -- what `assemble` writes, by what a job gives
-abbrev pub marked_assembled : List ℕ → Result Assembly Refusal → List Part
-marked_assembled job (Ok a) = marked_object (program_in a)
-marked_assembled job (Err r) = fixed (lines_of (output_of Assemble job).events)
+abbrev pub marked_assembled : Result Assembly Refusal → List Part
+marked_assembled (Ok a) = marked_object (program_in a)
+marked_assembled (Err r) = fixed (lines_of (refusal_output r).events)
 
--- what `disassemble` writes, by what an object text gives: a deck that has too many cards with these
--- delays may have fewer with others
-abbrev pub marked_disassembled : List ℕ → Result Program ℕ → List Part
-marked_disassembled text (Ok p) = if nat_le (card_count p) MOST_CARDS then marked_deck p
+-- what `disassemble` writes, by what an object text is read as: a deck that has too many cards with
+-- these delays may have fewer with others
+abbrev pub marked_disassembled : Result Program ℕ → List Part
+marked_disassembled (Ok p) = if nat_le (card_count p) MOST_CARDS then marked_deck p
     else varying (lines_of (deck_by p).events)
-marked_disassembled text (Err n) = fixed (lines_of (output_of Disassemble text).events)
+marked_disassembled (Err n) = fixed (lines_of (loaded_by (Err n)).events)
 
--- what a command writes for a job: all that `sweep` tells depends on the delays, and `soak` draws
--- its delays itself
-unfoldable pub marked_output : Command → List ℕ → List Part
-marked_output Run job = marked_by job (assembly job)
-marked_output Load text = marked_load text (read_text text)
-marked_output Assemble job = marked_assembled job (assembly job)
-marked_output Disassemble text = marked_disassembled text (read_text text)
-marked_output Sweep job = varying (lines_of (output_of Sweep job).events)
-marked_output (Soak number cards) job = varying (lines_of
-    (output_of (Soak number cards) job).events)
+-- what a command writes for a job, by what the job is read as: all that `sweep` tells depends on the
+-- delays, and `soak` draws its delays itself
+unfoldable pub marked_output : Command → List ℕ → Result Program ℕ → List Part
+marked_output Run job read = marked_by job (assembly job)
+marked_output Load text read = marked_load read
+marked_output Assemble job read = marked_assembled (assembly job)
+marked_output Disassemble text read = marked_disassembled read
+marked_output command job read = varying (lines_of (output_of command job read).events)

@@ -14,7 +14,7 @@ use Rattle.st_top.specs.Listing.{listing}
 use Rattle.st_top.specs.StepsBack.{moment_at_end, run_report}
 use Rattle.st_top.specs.Sweep.{sweep_lines, sweep_of}
 use Rattle.st_top.specs.ObjectText.{program_in, object_text_lines, deck_lines}
-use Rattle.st_object.specs.Object.{Program, read_text}
+use Rattle.st_object.specs.Object.{Program}
 use Rattle.st_dis.specs.Deck.{card_count}
 use Rattle.st_gen.specs.Deck.{made_deck}
 use Rattle.st_sweep.specs.declared.sweeping.Swept.{Swept}
@@ -24,12 +24,14 @@ use Rattle.st_top.specs.declared.answer.Status.TheVariants.{Done, Refused}
 use Rattle.st_command.specs.declared.command.Command.{Command}
 use Rattle.st_command.specs.declared.command.Command.TheVariants.{Run, Assemble, Load, Disassemble, Sweep, Soak}
 
--- the status, the lines, the number of instructions done and the tick of the last completion
+-- the status, the lines, the number of instructions done, the tick of the last completion, and the
+-- delays of storage with which a job runs, where one does
 pub record Output : Type 0 where
   pub status : Status
   pub events : List Event
   pub done : ℕ
   pub ticks : ℕ
+  pub delays : List ℕ
 
 -- lines that belong to no moment of a run
 abbrev pub lines_alone : Status → List (List ℕ) → Output
@@ -38,6 +40,7 @@ lines_alone status lines = record {
   events = at_moment 0 0 lines;
   done = 0;
   ticks = 0;
+  delays = [];
 }
 
 -- the output of a job that is refused at a card
@@ -64,6 +67,7 @@ output_of_run listed asked start = record {
   events = at_moment 0 0 listed ++ run_report asked start;
   done = (moment_at_end asked start).done;
   ticks = (moment_at_end asked start).tick;
+  delays = asked.delays;
 }
 
 -- the output of the run of a job, by what it gives: some lines, and then the listing and the report
@@ -80,17 +84,18 @@ soak_output number cards =
 
 -- the output of a sweep: its lines belong to no moment of a run, and what is done is that of the
 -- run on eight levels
-abbrev pub output_of_sweep : Swept → Output
-output_of_sweep s = record {
+abbrev pub output_of_sweep : List ℕ → Swept → Output
+output_of_sweep delays s = record {
   status = Done;
   events = at_moment 0 0 (sweep_lines s);
   done = s.done;
   ticks = slice_index s.ticks 7;
+  delays = delays;
 }
 
 -- the output of `sweep`, by what a job gives
 abbrev pub swept_by : Result Assembly Refusal → Output
-swept_by (Ok a) = output_of_sweep (sweep_of a.image a.start a.asked)
+swept_by (Ok a) = output_of_sweep a.asked.delays (sweep_of a.image a.start a.asked)
 swept_by (Err r) = refusal_output r
 
 -- the output of `assemble`, by what a job gives: its object text, line by line
@@ -124,34 +129,12 @@ abbrev pub disassembled_by : Result Program ℕ → Output
 disassembled_by (Ok p) = deck_by p
 disassembled_by (Err n) = refusal_output (record { card = n; fault = BadObjectCard })
 
--- the output of a command on a job; that of `soak` is the same for any job
-unfoldable pub output_of : Command → List ℕ → Output
-output_of Run job = ran_by [] job (assembly job)
-output_of Assemble job = assembled_by (assembly job)
-output_of Load text = loaded_by (read_text text)
-output_of Disassemble text = disassembled_by (read_text text)
-output_of Sweep job = swept_by (assembly job)
-output_of (Soak number cards) job = soak_output number cards
-
--- the delays of storage with which an assembled job runs
-abbrev pub assembled_delays : Result Assembly Refusal → List ℕ
-assembled_delays (Ok a) = a.asked.delays
-assembled_delays (Err r) = []
-
--- those of a program that is loaded
-abbrev pub loaded_delays : Result Program ℕ → List ℕ
-loaded_delays (Ok p) = p.controls.delays
-loaded_delays (Err n) = []
-
--- the delays of storage of a made deck
-abbrev pub soaked_delays : ℕ → ℕ → List ℕ
-soaked_delays number cards = assembled_delays (assembly (made_deck number cards))
-
--- the delays of storage with which a command runs a job
-unfoldable pub delays_of : Command → List ℕ → List ℕ
-delays_of Run job = assembled_delays (assembly job)
-delays_of Assemble job = []
-delays_of Load text = loaded_delays (read_text text)
-delays_of Disassemble text = []
-delays_of Sweep job = assembled_delays (assembly job)
-delays_of (Soak number cards) job = soaked_delays number cards
+-- the output of a command on a job, by what the job is read as, which `load` and `disassemble` alone
+-- look at; that of `soak` is the same for any job
+unfoldable pub output_of : Command → List ℕ → Result Program ℕ → Output
+output_of Run job read = ran_by [] job (assembly job)
+output_of Assemble job read = assembled_by (assembly job)
+output_of Load text read = loaded_by read
+output_of Disassemble text read = disassembled_by read
+output_of Sweep job read = swept_by (assembly job)
+output_of (Soak number cards) job read = soak_output number cards

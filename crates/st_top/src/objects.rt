@@ -1,5 +1,5 @@
 //! The object text of a job and the deck of a program, written line by line.
-ghost use Rattle.std.specs.Prelude.{◌≡◌, ◌+◌, ◌≤◌, [], Ok, length, take};
+ghost use Rattle.std.specs.Prelude.{◌≡◌, ◌+◌, ◌≤◌, Ok, length, take};
 ghost use Rattle.st_asm.specs.Assembly.{assembly_parts};
 ghost use Rattle.st_text.specs.Pieces.{pieces_of};
 ghost use Rattle.st_io.specs.Lines.{WritesLines, text};
@@ -95,7 +95,7 @@ pub fn answer_deck<K: Sink>(
 ) -> Result<Answer, LayerError>
     requires { IsProgram program.now }
     ensures { Ends (K.output out.old) (K.output out.new)
-        (disassembled_by (Ok program.now)) [] result }
+        (disassembled_by (Ok program.now)) result }
 {
     let deck = disassemble(
         alloc,

@@ -7,9 +7,9 @@ ghost use Rattle.st_asm.specs.Assembly.{assembly};
 ghost use Rattle.st_command.specs.Command.{command_of, IsWithinCards};
 ghost use Rattle.st_command.specs.declared.command.TheConstants.{MOST_MADE_CARDS};
 ghost use Rattle.st_command.specs.CommandLine.{is_plain};
-ghost use Rattle.st_command.specs.declared.command.Command.TheVariants.{Assemble, Load, Disassemble, Sweep};
+ghost use Rattle.st_object.specs.Object.{read_text};
 ghost use Rattle.st_top.specs.Listing.{made_lines};
-ghost use Rattle.st_top.specs.Output.{output_of, delays_of, ran_by, assembled_delays, soak_output, soaked_delays};
+ghost use Rattle.st_top.specs.Output.{output_of, ran_by, assembled_by, loaded_by, disassembled_by, swept_by, soak_output};
 ghost use Rattle.st_top.specs.Answers.{Did, Acted, IsAnswer, Writes, KeepsTime};
 ghost use Rattle.st_top.specs.Delays.{DelaysShowInMarksAlone};
 ghost use Rattle.st_top.specs.Layers.{Ends, Tries};
@@ -40,7 +40,7 @@ fn run_job<K: Sink>(
 ) -> Result<Answer, LayerError>
     requires { length job.now < 2 ^ 32 }
     ensures { Ends (K.output out.old) (K.output out.new) (ran_by (made_lines made) job.now (assembly job.now))
-        (assembled_delays (assembly job.now)) result }
+        result }
 {
     let Ok(cards) = split(alloc, job) else {
         return Err(LayerError::NoMemory);
@@ -55,44 +55,37 @@ fn run_job<K: Sink>(
 }
 
 // Assembles a job and writes its object text.
-#[tactic(auto, using(crate::proofs::Times::keeps_still), unfolding(crate::specs::Output::output_of, crate::specs::Output::delays_of))]
+#[tactic(auto, using(crate::proofs::Times::keeps_still))]
 fn assemble_job<K: Sink>(alloc: Global, job: &[u8], out: &mut K) -> Result<Answer, LayerError>
     requires { length job.now < 2 ^ 32 }
-    ensures { Ends (K.output out.old) (K.output out.new) (output_of Assemble job.now)
-        (delays_of Assemble job.now) result }
+    ensures { Ends (K.output out.old) (K.output out.new) (assembled_by (assembly job.now)) result }
 {
     let program = assemble(alloc, job)?;
     Ok(answer_object(alloc, &image_of(program), out))
 }
 
 // Loads an object text and runs it.
-#[tactic(auto, unfolding(crate::specs::Output::output_of, crate::specs::Output::delays_of))]
 fn load_job<K: Sink>(alloc: Global, text: &[u8], out: &mut K) -> Result<Answer, LayerError>
     requires { length text.now ≤ LONGEST_JOB }
-    ensures { Ends (K.output out.old) (K.output out.new) (output_of Load text.now)
-        (delays_of Load text.now) result }
+    ensures { Ends (K.output out.old) (K.output out.new) (loaded_by (read_text text.now)) result }
 {
     let program = read_object(alloc, text)?;
     Ok(execute_loaded(alloc, &program, out))
 }
 
 // Reads an object text and writes its deck.
-#[tactic(auto, unfolding(crate::specs::Output::output_of, crate::specs::Output::delays_of))]
 fn disassemble_text<K: Sink>(alloc: Global, text: &[u8], out: &mut K) -> Result<Answer, LayerError>
     requires { length text.now ≤ LONGEST_JOB }
-    ensures { Ends (K.output out.old) (K.output out.new) (output_of Disassemble text.now)
-        (delays_of Disassemble text.now) result }
+    ensures { Ends (K.output out.old) (K.output out.new) (disassembled_by (read_text text.now)) result }
 {
     let program = read_object(alloc, text)?;
     answer_deck(alloc, &program, out)
 }
 
 // Assembles a job and runs it on machines of one to eight levels.
-#[tactic(auto, unfolding(crate::specs::Output::output_of, crate::specs::Output::delays_of))]
 fn sweep_job<K: Sink>(alloc: Global, job: &[u8], out: &mut K) -> Result<Answer, LayerError>
     requires { length job.now < 2 ^ 32 }
-    ensures { Ends (K.output out.old) (K.output out.new) (output_of Sweep job.now)
-        (delays_of Sweep job.now) result }
+    ensures { Ends (K.output out.old) (K.output out.new) (swept_by (assembly job.now)) result }
 {
     let program = assemble(alloc, job)?;
     Ok(execute_sweep(alloc, &program, out))
@@ -106,8 +99,7 @@ fn run_made<K: Sink>(
     out: &mut K,
 ) -> Result<Answer, LayerError>
     requires { cards ≤ MOST_MADE_CARDS }
-    ensures { Ends (K.output out.old) (K.output out.new) (soak_output number cards)
-        (soaked_delays number cards) result }
+    ensures { Ends (K.output out.old) (K.output out.new) (soak_output number cards) result }
 {
     let Ok(deck) = make_deck(alloc, number, cards) else {
         return Err(LayerError::NoMemory);
@@ -118,7 +110,7 @@ fn run_made<K: Sink>(
 
 // Does what a command asks for on a job that was read, as far as no layer refuses it. `soak` does
 // not look at the job.
-#[tactic(auto, unfolding(crate::specs::Output::output_of, crate::specs::Output::delays_of))]
+#[tactic(auto, unfolding(crate::specs::Output::output_of))]
 fn try_job<K: Sink>(
     alloc: Global,
     command: Command,
@@ -127,8 +119,8 @@ fn try_job<K: Sink>(
 ) -> Result<Answer, LayerError>
     requires job { length job.now ≤ LONGEST_JOB }
     requires cards { IsWithinCards command }
-    ensures { Ends (K.output out.old) (K.output out.new) (output_of command job.now)
-        (delays_of command job.now) result }
+    ensures { Ends (K.output out.old) (K.output out.new) (output_of command job.now (read_text job.now))
+        result }
 {
     match command {
         Command::Run => run_job(alloc, None, job, out),
@@ -141,6 +133,7 @@ fn try_job<K: Sink>(
 }
 
 // Reads a job, and does what a command asks for, as far as no layer stops it.
+#[tactic(auto, using(st_bits::specs::Storage::words_of_storage_is, crate::proofs::Outputs::text_is_read))]
 fn try_command<S: Source, K: Sink>(
     alloc: Global,
     command: Command,
@@ -177,7 +170,7 @@ fn answer_made<K: Sink>(alloc: Global, number: u64, cards: u32, out: &mut K) -> 
     requires { cards ≤ MOST_MADE_CARDS }
     ensures writes { Writes result.status (K.output out.old) (K.output out.new)
         (soak_output number cards) result }
-    ensures in_time { KeepsTime (soaked_delays number cards) result }
+    ensures in_time { KeepsTime (soak_output number cards).delays result }
 {
     match run_made(alloc, number, cards, out) {
         Ok(answer) => answer,

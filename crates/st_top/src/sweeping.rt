@@ -1,5 +1,5 @@
 //! A job on machines of one to eight levels, and what is written of it.
-ghost use Rattle.std.specs.Prelude.{◌≡◌, ◌+◌, ◌≤◌, ◌<◌, ◌^◌, Ok, [], ◌∷◌, IfOk, length};
+ghost use Rattle.std.specs.Prelude.{◌≡◌, ℕ, List, ◌+◌, ◌≤◌, ◌<◌, ◌^◌, Ok, [], ◌∷◌, IfOk, length};
 ghost use Rattle.st_bits.specs.Storage.{IsImage};
 ghost use Rattle.st_asm.specs.Assembly.{assembly_parts};
 ghost use Rattle.st_card.specs.Limits.{IsWithinLimits};
@@ -51,8 +51,8 @@ fn write_sweep<K: Sink>(out: &mut K, swept: Swept) -> Result<(), Failed>
 
 // Writes the lines of a sweep, and answers by the run on eight levels.
 fn answer_swept<K: Sink>(out: &mut K, swept: Swept) -> Answer
-    ensures { Writes result.status (K.output out.old) (K.output out.new)
-        (output_of_sweep swept) result }
+    ensures { (delays : List ℕ) → Writes result.status (K.output out.old) (K.output out.new)
+        (output_of_sweep delays swept) result }
 {
     match write_sweep(out, swept) {
         Ok(()) => Answer {

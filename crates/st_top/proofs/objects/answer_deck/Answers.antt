@@ -1,4 +1,4 @@
-use Rattle.std.proofs.Common.{◌≡◌, ◌≤◌, ℕ, List, [], ◌∙◌, ap, subst}
+use Rattle.std.proofs.Common.{◌≡◌, ◌≤◌, ℕ, List, ◌∙◌, ap, subst}
 use Rattle.st_text.specs.Pieces.{pieces_of}
 use Rattle.st_object.specs.Object.{Program}
 use Rattle.st_dis.specs.Deck.{card_count, deck_text}
@@ -22,5 +22,5 @@ returns g c =
     ap (λ (s : List ℕ). whole_lines (pieces_of 10 s)) written ∙ deck_text-lines p in
     let few : card_count p ≤ 20000 = subst (λ (q : Program). card_count q ≤ 20000) same c.in_ok-deck.ensures.few in (
       writes_output _ _ _ _ _ (ap (lines_alone Done) lines ∙ deck_few p few) c.answer_text.ensures.writes,
-      keeps_still [] c.answer_text.result c.answer_text.ensures.ticks,
+      keeps_still _ c.answer_text.result c.answer_text.ensures.ticks,
     )

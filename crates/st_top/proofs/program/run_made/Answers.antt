@@ -3,7 +3,7 @@ use Rattle.std.specs.Prelude.{Some}
 use Rattle.st_gen.specs.Deck.{made_deck}
 use Rattle.st_asm.specs.Assembly.{assembly}
 use Rattle.st_top.specs.Listing.{made_lines}
-use Rattle.st_top.specs.Output.{ran_by, assembled_delays}
+use Rattle.st_top.specs.Output.{ran_by}
 use Rattle.st_top.specs.Layers.{Ends}
 use Rattle.st_top.proofs.program.run_made.Goals as goal
 
@@ -13,4 +13,4 @@ returns g c =
     let k = c.args.cards in
     let deck : c.as_slice.result.now ≡ made_deck n k = c.as_slice.ensures.value ∙ c.in-Ok.ensures.deck in
     subst (λ (job : List ℕ). Ends (g.K.Sink.output c.args.out.now) (g.K.Sink.output c.run_job.new.out) (ran_by (made_lines (Some (n, k))) job (assembly job))
-    (assembled_delays (assembly job)) c.run_job.result) deck c.run_job.ensures
+    c.run_job.result) deck c.run_job.ensures
