@@ -76,7 +76,7 @@ def of_end(cards, k, fault, known):
         first = next((Card(card) for card in cards if is_statement(card)), None)
         last = max((n for n, card in enumerate(cards) if is_statement(card)), default=-1)
         start = first.name if first and first.name else "32.0"
-        yield "no card says the end", cards[:last + 1] + [NINE + "END," + start] + cards[last + 1:]
+        yield "no card is the end", cards[:last + 1] + [NINE + "END," + start] + cards[last + 1:]
         return
     end = end_of(cards)
     behind = [card for card in cards[end + 1:] if is_statement(card)]
