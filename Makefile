@@ -123,7 +123,7 @@ install: $(if $(UNPROVED),unproved,proved) layout
 	cp model/*.py "$(home)/model"
 	cp web/*.html web/*.css web/*.svg web/*.js web/parts.py "$(home)/web"
 	ln -sf ../lib/stretch/explain "$(to)/bin/stretch-explain"
-	cp -R docs/*.md docs/lessons docs/pictures README.md CHANGELOG.md examples "$(doc)"
+	cp -R docs/*.md docs/lessons docs/pictures docs/proving README.md CHANGELOG.md examples "$(doc)"
 	ln -sfn ../../share/doc/stretch "$(home)/docs"
 	cp docs/stretch.1 docs/stretch-tools.1 "$(man)"
 	echo '.so man1/stretch.1' >"$(man)/stretch-chart.1"

@@ -1,4 +1,4 @@
-"""The commands, with their exit statuses. Follows README.md, "Exit statuses", and the usage in docs/stretch.1."""
+"""The commands, with their exit statuses. Follows docs/running.md, "Exit statuses", and the usage in docs/stretch.1."""
 import assembler
 import deckmaker
 import disassemble

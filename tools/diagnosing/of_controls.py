@@ -47,7 +47,7 @@ def of_numbers(cards, k, words, known):
         elif len(numbers) == 1:
             yield "a dump with one address", made(*numbers, *numbers)
         elif len(numbers) == 2 and all(is_number(word) for word in numbers) and int(numbers[0]) > int(numbers[1]):
-            yield "a dump turned round", made(*numbers[::-1])
+            yield "a dump with its addresses exchanged", made(*numbers[::-1])
     if words[0] == "/SIGNAL" and len(numbers) == 2:
         yield from of_signal(made, numbers, known)
     if words[0] == "/BUDGET":
@@ -76,7 +76,7 @@ def of_end(cards, k, fault, known):
         first = next((Card(card) for card in cards if is_statement(card)), None)
         last = max((n for n, card in enumerate(cards) if is_statement(card)), default=-1)
         start = first.name if first and first.name else "32.0"
-        yield "no card says the end", cards[:last + 1] + [NINE + "END," + start] + cards[last + 1:]
+        yield "no card is the end", cards[:last + 1] + [NINE + "END," + start] + cards[last + 1:]
         return
     end = end_of(cards)
     behind = [card for card in cards[end + 1:] if is_statement(card)]
@@ -84,5 +84,5 @@ def of_end(cards, k, fault, known):
     first = cards[k].strip()
     if "/" + first.split(" ")[0] in known.controls:
         yield "a control card without its /", put(cards, k, "/" + first)
-    yield "a statement behind the end", cards[:end] + behind + [cards[end]] + rest
+    yield "a statement after the end", cards[:end] + behind + [cards[end]] + rest
     yield "a comment, or a card of the reader", put(cards, k, "*" + cards[k])

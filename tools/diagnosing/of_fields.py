@@ -77,7 +77,7 @@ def of_index(cards, k, fault, known):
         yield "an index word without its $", put(cards, k, card.written(fields=bare))
     wants_index = known.wanted(card.operation)[:1] == ["$Xj"]
     if wants_index and len(fields) > 1 and re.match(r"\$X[0-9]+$", fields[1]):
-        yield "fields turned round", put(cards, k, card.written(fields=[fields[1], fields[0]] + fields[2:]))
+        yield "fields in the wrong order", put(cards, k, card.written(fields=[fields[1], fields[0]] + fields[2:]))
     if fields and re.match(r"[0-9]+$", fields[0]) and wants_index and int(fields[0]) < 16:
         yield "a number for an index word", put(cards, k, card.written(fields=["$X" + fields[0]] + fields[1:]))
     past = [re.sub(r"\$X(1[6-9]|[2-9][0-9])", "$X15", field) for field in fields]

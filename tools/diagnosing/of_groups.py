@@ -42,7 +42,7 @@ def of_progressive(cards, k, fault, known):
     if ")" in card.rest.split(",")[0]:
         yield "a parenthesis in excess", put(cards, k, card.written(fields=card.rest[card.rest.find(",") + 1:].split(",")))
     if len(card.groups) == 2 and re.match(r"\((IM|V[+-])", card.groups[0]):
-        yield "the description stands first", put(cards, k, card.written(groups=card.groups[::-1]))
+        yield "the description comes first", put(cards, k, card.written(groups=card.groups[::-1]))
     if card.groups and not card.groups[-1].endswith(")"):
         parts = card.groups[-1].split(",")
         yield "the group spells a progressive form", put(

@@ -17,7 +17,7 @@ def of_symbol(cards, k, fault, known):
         for name in used:
             place = names.get(name, -1)
             if place > k:
-                yield "the place of card 2 hangs on card 1", cards[:k] + [cards[place]] + cards[k:place] + cards[place + 1:]
+                yield "the place of card 2 depends on card 1", cards[:k] + [cards[place]] + cards[k:place] + cards[place + 1:]
         return
     for name in used:
         if name not in names and name not in known.symbols:

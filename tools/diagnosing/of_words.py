@@ -25,7 +25,7 @@ def of_comma(cards, k, fault, known):
         rest = card.operation[len(name):]
         fields = [rest + "".join(card.groups)] + card.fields
         if rest[0] in "$0123456789+-" or rest in defined(cards) or " " in re.split("[,(]", card.body)[0].strip():
-            yield "a missing comma behind the operation", put(cards, k, card.written(name, [], fields))
+            yield "a missing comma after the operation", put(cards, k, card.written(name, [], fields))
 
 
 def of_word(cards, k, fault, known):

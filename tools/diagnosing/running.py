@@ -51,10 +51,10 @@ def notes(cards, report, known, numbers, dumped):
     deck = Deck(cards, numbers, known)
     for n, card in enumerate(cards):
         for seen in dict.fromkeys(odd(Card(card), card, n > deck.end, deck)):
-            yield Note(known, seen, [numbers[n]], text=(card if seen == "text behind column 72" else card[:72]).rstrip())
+            yield Note(known, seen, [numbers[n]], text=(card if seen == "text after column 72" else card[:72]).rstrip())
     behind = [numbers[n] for n, card in enumerate(cards) if n > deck.end and card[:1] != "/"]
     if behind and not deck.uses("RD"):
-        yield Note(known, "comment cards behind the end, and no RD", behind)
+        yield Note(known, "comment cards after the end, and no RD", behind)
     for seen, facts in of_end(deck, report, dumped):
         yield Note(known, seen, facts=facts)
 
@@ -64,7 +64,7 @@ def notes(cards, report, known, numbers, dumped):
 def odd(card, text, behind, deck):
     is_remark = text[:1] == "*" and not behind or is_statement(text) and card.comment
     if len(text) > 72 and not NUMBERED.match(text[72:80]) and not is_remark:
-        yield "text behind column 72"
+        yield "text after column 72"
     if text[:1] == "*" and re.match(r"\*\s*/[A-Z]+\b", text) and text.lstrip("* ").split()[0] in deck.known.controls:
         yield "a control card as a comment"
     if not is_statement(text) or behind:
@@ -163,8 +163,8 @@ def of_budget(deck, report):
     if not report.is_behind():
         return "END BUDGET, and the counter in the program", facts
     if deck.uses("BEW"):
-        return "END BUDGET, and the counter behind a program with BEW", facts
-    return "END BUDGET, and the counter behind the program", facts
+        return "END BUDGET, and the counter after a program with BEW", facts
+    return "END BUDGET, and the counter after the program", facts
 
 
 def of_taken(deck, report):
