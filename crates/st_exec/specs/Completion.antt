@@ -78,7 +78,8 @@ guessed_state p s = if p.serial then state_after_completion p s
 abbrev pub guess : Option ℕ → Machine → Machine
 guess table s = guessed_state (plan s table) s
 
--- whether an entry is mispredicted: it is a branch on an indicator that is taken
+-- whether an entry is mispredicted: it is neither serializing nor suppressed, and its branch is
+-- taken
 unfoldable pub is_missed : Prepared → Machine → Bool
 is_missed p s =
     not p.serial && not p.suppressed && is_taken p.instr p.e
