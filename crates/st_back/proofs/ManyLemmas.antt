@@ -1,4 +1,4 @@
--- Several steps that are undone one after another.
+-- The undoing of several steps.
 use Rattle.std.proofs.Common.{◌≡◌, ◌≢◌, ℕ, zero, suc, ◌-◌, List, [], ◌∷◌, ◌++◌, length, drop, refl, sym, ◌∙◌, ap}
 use Rattle.circular_buffer.specs.Buffer.{keep_last}
 use Rattle.st_state.specs.Machine.{Machine, IsMachine}
