@@ -1,4 +1,4 @@
--- What a run makes of its machine are calls within the protocol.
+-- A run uses its machine only by calls within the protocol.
 use Rattle.std.specs.Prelude.{IfSome, IsSome, nat_le}
 use Rattle.std.specs.List.{AllPass}
 use Rattle.std.proofs.Common.{◌≡◌, ℕ, zero, suc, ◌+◌, ◌-◌, ◌<◌, ◌≤◌, ◌^◌, true, false, List, [], ◌∷◌, Option, None, Some, refl, sym, subst, arith}
@@ -47,7 +47,7 @@ read-led m order card given is may led = record {
   from = record { reached = Reads m led.made led.since order card led.from.reached given is may; begun = led.from.begun };
 }
 
--- ticks up to an entry that is done, or up to a tick
+-- the calls that make ticks up to a completion or up to a tick are within the protocol
 passed-led : {b : Overlap} (k count last : ℕ) (m new : Overlap) → last + 1 - m.now ≡ k → m.owed ≡ false → m.state.done < 2 ^ 63 → count ≤ 2 ^ 63 → last < 2 ^ 63
     → ArePassed count k m new → IsLed b m → IsLed b new
 unfolding after_ticks
@@ -66,7 +66,7 @@ run-led count last (Some row) m new owes few most soon ran led =
     record { made = row.c + 1; since = 0; from = runs_are_reached.done _ m new led.made led.since count last row led.from may most soon ran }
 run-led count last None m new owes few most soon ran led = passed-led (last + 1 - m.now) count last m new refl owes few most soon ran led
 
--- the last tick that may be made is in its range
+-- the last tick that may be made is below 2 ^ 63
 pub last-soon : (snap : Option ℕ) (last : ℕ) → last ≡ last_for snap → last < 2 ^ 63
 last-soon None last is = omega (arith, is)
 last-soon (Some x) last is = omega (arith, is)

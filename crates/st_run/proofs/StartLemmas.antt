@@ -1,4 +1,4 @@
--- The start of a run, where no interrupt is enabled, nothing waits and no order is given.
+-- The start of a run: interrupts are disabled, no event is pending and there are no orders.
 use Rattle.std.specs.Prelude.{map, slice_index, is_some, nat_lt, nat_le, if◌then◌else◌, All}
 use Rattle.std.specs.List.Sorted.{IsStrictlyIncreasing}
 use Rattle.std.proofs.Common.{◌≡◌, ◌≢◌, ℕ, suc, ◌+◌, ◌-◌, ◌<◌, ◌≤◌, ◌^◌, Bool, false, ◌||◌, List, [], ◌∷◌, ◌++◌, length, Option, None, refl, sym, ◌∙◌, ap, subst, arith}
@@ -33,7 +33,7 @@ use Rattle.st_run.proofs.InterludeLemmas.{with_coming}
 use Rattle.st_run.proofs.SignalLemmas.{wait-none, kept-while}
 use Rattle.st_run.proofs.SceneLemmas.{signals-scene}
 
--- the same at another scene
+-- the machine with another scene
 abbrev pub with_scene : Together → Scene → Together
 with_scene t c = record {
   machine = record t.machine { state = c.machine };
@@ -190,7 +190,7 @@ increasing-rises xs up = rising-from 0 xs up (λ some. omega arith)
 abbrev pub opened : List ℕ → ℕ → Scene → Together
 opened ds n c = record { machine = machine_at_start ds n c.machine; signals = c.signals; cards = c.cards }
 
--- nothing waits
+-- no pending events
 abbrev pub none : Waiting
 none = record { drops = []; text = None; taken = None }
 
