@@ -1,4 +1,4 @@
--- Which entries are done, and which are levels, is told by their rows.
+-- The rows of entries determine which have completed and which are levels.
 use Rattle.std.specs.Prelude.{if◌then◌else◌, ◌-◌}
 use Rattle.std.proofs.Common.{◌≡◌, ℕ, zero, suc, ◌+◌, ◌<◌, ◌≤◌, Bool, true, false, List, length, inl, inr, Option, refl, sym, subst, ◌∙◌, ap, ap₂, arith}
 use Rattle.st_state.specs.Machine.{Machine}
@@ -52,7 +52,7 @@ rows-done m i j o xs is early =
 
 -- ---- levels
 
--- the oldest entry is not done by the last tick
+-- the oldest entry has not completed by the last tick
 last-idle : (owed : Bool) (now c f : ℕ) → (if owed then now + 1 else now) ≤ c → f < c → (if owed then now else now - 1) < c
 last-idle true now c f late some = omega (arith, late)
 last-idle false now c f late some = omega (arith, late, some)

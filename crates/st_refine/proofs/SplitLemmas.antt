@@ -1,4 +1,4 @@
--- What is shown of the levels.
+-- The view of the levels.
 use Rattle.std.specs.Prelude.{IfSome, option_map, unwrap_or, get_or, map, replicate, ◌-◌, ◌++◌, if◌then◌else◌}
 use Rattle.std.proofs.Common.{◌≡◌, ℕ, zero, suc, ◌+◌, ◌<◌, ◌≤◌, ◌^◌, Bool, true, false, List, [], ◌∷◌, length, Option, None, Some, refl, sym, ◌∙◌, ap, arith}
 use Rattle.std.proofs.lemmas.List.{length-append, length-map, length-replicate}
@@ -147,7 +147,7 @@ pub levels-are : (m : Overlap) → levels_of m ≡ ahead m.delays m.levels (leng
 unfolding levels_of
 levels-are m = first-ones m.delays m.levels (length (levels_of m)) m.now m.levels m.taken (state_ahead m) m.front refl
 
--- an entry has its place, and keeps the index word that it replaces
+-- an entry records its place and the index word that it replaces
 place-by : (fault : Option ℕ) (place : Place) (a : Aim) (x : List ℕ) (read : Option ℕ) → (prepared_by fault place a x read).place ≡ place
 unfolding suppressed_entry entry_of
 place-by None place a x read = refl

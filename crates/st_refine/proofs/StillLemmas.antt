@@ -1,4 +1,4 @@
--- Signals, and orders that bring no card, leave what is shown of the levels.
+-- Signals and orders without a card do not change the view of the levels.
 use Rattle.std.specs.Prelude.{IsSome, replicate, nat_lt, nat_le, option_map, ◌-◌, if◌then◌else◌}
 use Rattle.std.proofs.Common.{◌≡◌, ℕ, zero, suc, ◌<◌, ◌≤◌, Bool, true, false, List, [], ◌∷◌, ◌++◌, length, inl, inr, Option, None, Some, refl, sym, subst, ◌∙◌, ap, ap₂, arith}
 use Rattle.std.proofs.lemmas.Bool.{ltb-true, false_from_ne_true}
@@ -52,7 +52,7 @@ level-by tick p r = record {
   ready = nat_le r.r tick;
 }
 
--- the same test, and what is shown of the levels is the same where it is true
+-- two lists with the same test have equal views if they have when it is true
 both-if : (tick : ℕ) (b : Bool) (x y : Ahead) (xs ys : List Ahead)
     → (b ≡ true → (level_shown tick x ≡ level_shown tick y) × (shows tick xs ≡ shows tick ys))
     → shows tick (if b then x ∷ xs else []) ≡ shows tick (if b then y ∷ ys else [])
@@ -104,7 +104,7 @@ module _ (ds : List ℕ) (n now : ℕ) where
 
 -- ---- what is shown
 
--- levels that are shown in the same way
+-- two machines whose levels have equal views
 still-by : (m x : Overlap) → last_tick_made x ≡ last_tick_made m → shows (last_tick_made m) (levels_of m) ≡ shows (last_tick_made m) (levels_of x) → (view_at_tick x).x ≡ (view_at_tick m).x
     → IsStill m x
 unfolding view_at_tick
@@ -119,7 +119,7 @@ still-by m x tick levels index =
       index = index;
     }
 
--- without levels
+-- machines without levels
 still-empty : (m x : Overlap) → last_tick_made x ≡ last_tick_made m → levels_of m ≡ [] → levels_of x ≡ [] → index_words x.state ≡ index_words m.state → IsStill m x
 still-empty m x tick old new same =
     still-by m x tick (ap (shows (last_tick_made m)) (old ∙ sym new))
