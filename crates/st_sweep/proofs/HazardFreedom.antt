@@ -1,4 +1,4 @@
--- What the tests of a hazard-free run say.
+-- Consequences of the tests for hazard-freedom.
 use Rattle.std.specs.Prelude.{◌==◌, ◌&&◌, ◌||◌, not, nat_lt, nat_le, if◌then◌else◌, is_none, IfSome}
 use Rattle.std.specs.List.{list_all, list_any}
 use Rattle.std.proofs.Common.{◌≡◌, ℕ, zero, suc, ◌+◌, ◌-◌, ◌<◌, ◌≤◌, inl, inr, Bool, true, false, List, [], ◌∷◌, length, All, Option, None, Some, refl, sym, ◌∙◌, subst, arith}

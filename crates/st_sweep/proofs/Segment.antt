@@ -1,4 +1,4 @@
--- A hazard-free run is one segment, and with more levels none of its entries is done later.
+-- A hazard-free run is a single segment, and with more levels no entry completes later.
 use Rattle.std.proofs.Common.{◌≡◌, ℕ, zero, suc, ◌-◌, ◌≤◌, inl, inr, true, false, List, [], ◌∷◌, ◌++◌, length, refl, ◌∙◌, ap, arith}
 use Rattle.std.proofs.lemmas.Bool.{cases_Bool, and_parts}
 use Rattle.st_exec.specs.Step.{interrupt, rests}
@@ -21,7 +21,7 @@ use Rattle.st_sweep.specs.HazardFree.{are_equal, is_hazard_free, is_hazard_free_
 use Rattle.st_sweep.specs.Sweep.{ticks}
 use Rattle.st_sweep.proofs.HazardFreedom.{same-delays, GoesOn, hazard_free-goes_on}
 
--- a moment at which no guess was wrong
+-- a moment without misprediction
 abbrev moment : Scene → ℕ → Front → List Ahead → LastAnswers → Moment
 moment c tick f dropped banks =
     record { scene = c; tick = tick; front = f; missed = false; dropped = dropped; banks = banks }

@@ -1,4 +1,4 @@
--- The lines of a snapshot, from the levels that the machine shows.
+-- The lines of a snapshot, from the view of the levels.
 use Rattle.std.proofs.Common.{◌≡◌, ℕ, zero, suc, ◌-◌, List, [], ◌∷◌, ◌++◌, length, refl, sym, ◌∙◌, ap, subst}
 use Rattle.std.specs.Prelude.{Option, None, Some, map, replicate, Result, Ok, Err, IsErr}
 use Rattle.st_io.specs.Output.{OutputState}
@@ -38,7 +38,7 @@ unfolding slots views_lines
 levels-lines [] k = none-lines k
 levels-lines (v ∷ vs) k = ap (λ xs. level_line (level_of v) ∷ xs) (levels-lines vs k)
 
--- lines of a snapshot as they are written
+-- the lines of a snapshot, from the views of its levels
 abbrev pub lines_of_views : Asked → ℕ → ℕ → Machine → List (Option LevelView) → List (List ℕ)
 lines_of_views asked done at s shown = (snap_line at done (levels_standing shown) ∷ []) ++ (block asked.dumps s ++ views_lines shown)
 
