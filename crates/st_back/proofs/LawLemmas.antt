@@ -20,7 +20,7 @@ use Rattle.st_back.specs.Steps.{Steps, IsStepKept, IsForth, IsUndone}
 use Rattle.st_back.specs.Undone.{state_with_words, restored_words, unput, with_rest, state_undone}
 use Rattle.st_back.proofs.UndoneLemmas.{restored-other, restored-size, restored-in}
 
--- ---- forth and back
+-- ---- a step forth and a step back
 
 -- equal lists have equal last items
 same_last : {A : Type 0} (xs ys : List A) (x y : A) → xs ++ x ∷ [] ≡ ys ++ y ∷ [] → x ≡ y
@@ -76,7 +76,7 @@ back-again a b c s t u v r q some made h forth k again =
     same_step s t v r q h
     (subst (λ y. IsStep y v q) (back-before a b c s t u r some made forth k) again)
 
--- ---- what comes between
+-- ---- changes in between
 
 pub above-stored : (s t : Machine) (w x : ℕ) → AreAlikeAbove s t → AreAlikeAbove (state_with_store s w x) (state_with_store t w x)
 above-stored s t w x h = record {

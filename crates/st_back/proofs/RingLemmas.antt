@@ -110,7 +110,7 @@ last-sound b k h e =
 pub room-of : (r : Option KeptStep) (k : KeptStep) → r ≡ Some k → has_room r ≡ true → k.puts ≤ 7
 room-of r k e h = leb-true k.puts 7 (ap has_room (sym e) ∙ h)
 
--- ---- what the calls do
+-- ---- the effect of the calls
 
 step-kept : (b : Steps) (s t : Machine) (trail : Trail) → IsTrail s trail → CanBePutBack trail → t ≡ step s
     → IsStepKept b (steps_with trail b) s t

@@ -132,7 +132,7 @@ step-undone s k t fits none =
     trail-undone s (state_after_completion p s) k t.keeps fits none (n.size ∙ sym m.size)
     (λ w above apart. completed-unwritten p s w h m above (subst (IsNotAmong w) t.writes apart))
 
--- ---- words that are put since
+-- ---- words that were put since the step
 
 -- recorded puts beyond the first n do not matter
 unput-below : (n l w x : ℕ) (places contents : List ℕ) (s : Machine) → n ≤ l

@@ -10,7 +10,7 @@ use Rattle.st_exec.proofs.Unchanged.{stored-other}
 use Rattle.st_exec.proofs.UnwrittenLemmas.{IsBeside, beside-rest, beside-first}
 use Rattle.st_back.specs.Undone.{state_with_words, unput}
 
--- ---- what is left after some of them
+-- ---- the remaining words
 
 pub restored-next : (w n f k : ℕ) (xs : List ℕ) (s : Machine) → k < n
     → state_with_words (w + (k + 1)) (n - (k + 1)) (f + (k + 1)) xs (state_with_store s (w + k) (slice_index xs (f + k)))
@@ -47,7 +47,7 @@ unfolding unput
 unput-none zero places contents s e = refl
 unput-none (suc n) places contents s e = absurd (omega arith)
 
--- ---- words one by one
+-- ---- single words
 
 pub restored-other : (w n f : ℕ) (xs : List ℕ) (s : Machine) (i : ℕ) → IsBeside i w n
     → word (state_with_words w n f xs s) i ≡ word s i

@@ -21,7 +21,7 @@ use Rattle.st_back.proofs.ManyLemmas.{between-states, forth-states}
 use Rattle.st_beside.specs.Beside.{Beside, IsFreshStep, HasRoomForCard, IsOpen, IsKept, IsBesideReady, IsMoved, IsStepped, IsBeside}
 use Rattle.st_beside.specs.declared.second.Noted.{Noted}
 
--- ---- the words from 32 up
+-- ---- the words from address 32
 
 -- changes of the indicators and the orders do not affect the words from 32
 pub alike-turned : (s : Machine) (r q : Option Order) (x : ℕ) → AreAlikeAbove s (with_word (record s { reader = r; printer = q }) 11 x)
@@ -30,7 +30,7 @@ alike-turned s r q x = record {
   words = λ w above. get_or-set_other s.words 11 w x 0 (omega arith);
 }
 
--- ---- moving without a step
+-- ---- moves without a step
 
 pub room_same : (o q : Option Order) (ks : List KeptStep) → q ≡ o → HasRoomForCard o ks → HasRoomForCard q ks
 room_same o q ks e h = subst (λ r. HasRoomForCard r ks) (sym e) h
@@ -104,7 +104,7 @@ stepped_by old new c d t r h going step forth same =
     } in
     subst (λ (e : Scene). IsStepped (c, old) (e, new)) (sym same) made
 
--- ---- beside a run
+-- ---- the run of the second machine
 
 pub beside_settled : (back : ℕ) (b d : Beside) (c : Scene) (before : List Machine) → IsMoved b d c → IsBeside back b before → IsBeside back d before
 beside_settled back b d c before h k = record { some = k.some; ready = h.ready; deep = h.depth ∙ k.deep; states = h.states ∙ k.states }

@@ -66,7 +66,7 @@ pub states-same : (ds : List ℕ) (n left : ℕ) (m : Moment)
 unfolding states
 states-same ds n left m = scenes-same ds n left m
 
--- ---- how far the run has come
+-- ---- the progress of the run
 
 -- the states so far, and the remaining ones
 pub record StatesSoFar (back budget : ℕ) (start : Scene) (left : ℕ) (b : Beside) : Type 0 where

@@ -20,7 +20,7 @@ use Rattle.st_field.specs.Results.{is_minus, number_in, signed_operand, number_c
 abbrev pub from_offset : Acc → Shape → ℕ
 from_offset a h = a.mag / 2 ^ h.offset
 
--- ---- the operations of its own
+-- ---- the operations that only base 2 has
 
 -- the result with a product or quotient m in the accumulator; it is minus if exactly one of
 -- accumulator and operand is minus

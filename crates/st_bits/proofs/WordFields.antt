@@ -173,7 +173,7 @@ put-parts ws w b m n v h e le fits =
     (put-word (get_or ws w 0) b m (v / 2 ^ n) (omega arith) (shr_below v m n fits))
     (put-word (get_or ws (suc w) 0) 0 n (v % 2 ^ n) (omega arith) (mod_below _ _ (pow_pos n)))
 
--- ---- by the address of the first bit
+-- ---- fields by the address of the first bit
 
 address : (a : ℕ) → a ≡ 64 * (a / 64) + a % 64
 address a = omega arith

@@ -16,7 +16,7 @@ use Rattle.st_field.specs.Results.{signed_operand, number_cut, aligned_operand, 
 use Rattle.st_dec.specs.DigitLists.{bytes, number_of_bytes, codes_value, decimal}
 use Rattle.st_dec.specs.DecimalOperand.{digit_count, digit_bytes, codes, field_value, bytes_with_codes, codes_with_zones, acc_codes, codes_from_place, field_codes, codes_left_out, codes_kept, codes_lost, any_code}
 
--- ---- what is kept
+-- ---- stored numbers
 
 -- the operand aligned with the digit place of the accumulator
 abbrev pub at_place : Field → Shape → Kept
@@ -60,7 +60,7 @@ abbrev pub field_of_digits : Taken → Kept
 field_of_digits t = digits_in_field t.field t.shape (stored_magnitude t.acc t.shape)
     (any_code (codes_left_out t.acc t.shape))
 
--- ---- the operations of its own
+-- ---- the operations that only base 10 has
 
 -- the result of LTRS, *, *+ and /: the codes are loaded into the transit register, for a routine
 -- that computes with them

@@ -105,7 +105,7 @@ index-below (Some c) s k m few h =
           (sym (get_or-set_other x c.number k c.word 0 q.1 ∙ index-at s k few)) (m.below (16 + k))
     ]
 
--- ---- the words of a state after the early change, in their places
+-- ---- the words of a state after the early change, by address
 
 stands-low : (p : Prepared) (s : Machine) (i : ℕ) → IsMachine s → i < 16 → i ≢ 11 → Stands (state_with_early_changes p s) i (word s i)
 stands-low p s i m h other =
@@ -124,7 +124,7 @@ stands-index p s k m h few = record {
   fits = fixed-index (16 + k) (get_or (words_after (index_words s) p.index) k 0) (omega arith);
 }
 
--- ---- the effect of an entry that is not done alone
+-- ---- the effect of a non-serializing entry
 
 -- the state u after the effect of entry p, or without it if p is suppressed
 pub record Late (p : Prepared) (t u : Machine) : Type 0 where
@@ -165,7 +165,7 @@ unfolding state_after_completion state_after_effect
 completed-late p s e =
     ap (λ table. state_after_effect p (state_with_early_changes p (state_at_entry table s))) e ∙ finished-late p.suppressed p (state_with_early_changes p s)
 
--- ---- all of it
+-- ---- the whole entry
 
 -- a register is not in a range of words above the registers
 apart-low : (first len i : ℕ) → (1 ≤ len → 32 ≤ first) → i < 32 → (i < first) ⊎ (first + len ≤ i)
@@ -228,7 +228,7 @@ completed-past p s h m free =
     subst (IsPast p s) (sym (completed-late p s (h.ahead free).table))
     (past p s (late p.suppressed p t) (if p.suppressed then p.following else counter p t) m h free k)
 
--- ---- the guess
+-- ---- the prediction
 
 -- of the branches that are decided late, only BI is non-serializing
 taken-ahead : (instr : Instr) (e : ℕ) (t : Machine) → acts_alone instr ≡ false → is_taken instr e t ≡ true

@@ -70,7 +70,7 @@ unfolding binary.result decimal.result
 same-result false op a x h ft i j = same-based op _ _ ft i j
 same-result true op a x h ft i j = same-based op _ _ 0 i j
 
--- ---- what is read
+-- ---- reads
 
 operand_by : (b : Bool) (e n x : ℕ) (s t : Machine) → AreAlike s t → n ≤ 64 → length s.words ≡ words_of_storage
     → AreInside (if b then no_words else field_words e n) → AreAbove (if b then no_words else field_words e n)
@@ -117,7 +117,7 @@ same-connects kind table p e offset n s t h same =
     (ap (λ a. connection kind table a offset (operand_bits p e n t) n) (alike-accumulator s t h)
     ∙ ap (λ x. connection kind table (accumulator s) offset x n) same)
 
--- ---- what they leave
+-- ---- states after the results are written
 
 alike-register : (w : ℕ) (x : Option ℕ) (s t : Machine) → AreAlike s t → AreAlike (with_register w x s) (with_register w x t)
 alike-register w None s t h = h

@@ -11,7 +11,7 @@ use Rattle.st_prep.specs.Alike.{AreAlike}
 use Rattle.st_exec.specs.Operand.{field_at, accumulator}
 use Rattle.st_exec.proofs.ApartLemmas.{length-all_bits, length-placed, word-placed_by}
 
--- ---- lists of bits that are the same in places
+-- ---- lists of bits with equal parts
 
 same-put : (s t v : List ℕ) (a i : ℕ) → length t ≡ length s → a + length v ≤ length s → get_or t i 0 ≡ get_or s i 0
     → get_or (put t a v) i 0 ≡ get_or (put s a v) i 0
@@ -90,7 +90,7 @@ same-bit ws vs j size here e =
     ∙ same-in_field (all_bits ws) (all_bits vs) c 64 (j % 64) same (omega arith)
     ∙ ap (λ i. get_or (all_bits ws) i 0) place
 
--- ---- what is done to both
+-- ---- changes of both states
 
 pub alike-words : (s t : Machine) (vs ws : List ℕ) → AreAlike s t → length ws ≡ length vs
     → ((w : ℕ) → w ≢ 11 → get_or ws w 0 ≡ get_or vs w 0) → AreAlike (record s { words = vs }) (record t { words = ws })
@@ -165,7 +165,7 @@ alike-placed s t a v h inside =
           ∙ sym (word-placed_by s a v i here)
     ])
 
--- ---- what is read of both
+-- ---- reads of both states
 
 -- a field above the registers is equal in both states
 pub alike-field_at : (s t : Machine) (e n : ℕ) → AreAlike s t → 32 ≤ e / 64 → e + n ≤ 64 * length s.words

@@ -30,7 +30,7 @@ length-placed s a v =
     length-fixed_from 0 (words_of (length s.words) (put (all_bits s.words) a v))
     ∙ length-words_of (length s.words) (put (all_bits s.words) a v)
 
--- ---- words one by one
+-- ---- single words
 
 get_or-words_of : (n i : ℕ) (s : List ℕ) → i < n → get_or (words_of n s) i 0 ≡ num (field s (64 * i) 64)
 unfolding words_of field
@@ -61,7 +61,7 @@ word-placed_by s a v i here =
     ∙ ap (λ k. register_word k (get_or ws i 0)) (zero-add i)
     ∙ ap (register_word i) (get_or-words_of (length s.words) i bs here)
 
--- ---- fields apart from what is put
+-- ---- fields disjoint from the written one
 
 field-put_after : (s v : List ℕ) (a c n : ℕ) → a + length v ≤ length s → c + n ≤ a → field (put s a v) c n ≡ field s c n
 unfolding put

@@ -24,7 +24,7 @@ use Rattle.st_exec.proofs.SparedLemmas.{IsQuiet, quiet-effect}
 use Rattle.st_exec.proofs.AheadLemmas.{late}
 use Rattle.st_exec.proofs.AlikeEffects.{guessed-late, guessed-alike}
 
--- ---- what is done to a state with other orders
+-- ---- changes of a state with other orders
 
 change-orders : (r q : Option Order) (c : Option IndexChange) (s : Machine)
     → with_change c (with_orders r q s) ≡ with_orders r q (with_change c s)
@@ -102,7 +102,7 @@ late-orders r q false p t e h free =
     ap (λ d. carried_out d (with_orders r q t)) (effect-orders r q p.instr p.e p.value t)
     ∙ done-orders r q (effect p t) t (quiet-effect p.instr p.e p.value t hazard_free)
 
--- ---- the guess
+-- ---- the predicted state
 
 -- the predicted state does not depend on the counter before it is set
 counted-orders : (r q : Option Order) (u : Machine) (c d f : ℕ)
@@ -141,7 +141,7 @@ guessed-beside p s t h m k free =
     beside-orders (guessed_state p s) (guessed_state p t) s.reader s.printer
     (subst (AreAlike (guessed_state p s)) (guessed-orders s.reader s.printer p t h free) alike)
 
--- ---- which states differ so
+-- ---- pairs of states that differ only in indicators and orders
 
 pub beside-same : (s : Machine) → AreAlikeBesideOrders s s
 beside-same s = record {

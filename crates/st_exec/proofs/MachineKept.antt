@@ -133,7 +133,7 @@ unfolding with_result
 kept-with_result o a n s m h =
     kept-field o.field a n _ (kept-applied (with_registers o s) o.ind.on o.ind.off (kept-registers o s m h))
 
--- ---- runs of words
+-- ---- ranges of words
 
 kept-copied : (from to n : ℕ) (s : Machine) → IsMachine s → to + n ≤ words_of_storage → IsMachine (state_with_copy from to n s)
 unfolding state_with_copy

@@ -32,7 +32,7 @@ use Rattle.st_exec.proofs.ApartLemmas.{length-placed, word-placed}
 use Rattle.st_exec.proofs.FieldLemmas.{result-field, connection-field}
 use Rattle.st_exec.proofs.Unchanged.{stored-other}
 
--- ---- which effects
+-- ---- predicates on effects
 
 -- a field in storage that has no bit of word i
 pub record IsApart (a n i : ℕ) : Type 0 where
@@ -55,7 +55,7 @@ Spares (TurnOff k) i = Unit {0}
 Spares (Leave o a n) i = IfSome o.field (λ _. IsApart a n i)
 Spares _ i = ⊥
 
--- ---- the effects of operations that are not done alone
+-- ---- the effects of non-serializing operations
 
 apart-by : (w m a n i : ℕ) → w + m ≤ words_of_storage → 64 * w ≤ a → a + n ≤ 64 * (w + m) → (i < w) ⊎ (w + m ≤ i)
     → IsApart a n i

@@ -18,7 +18,7 @@ use Rattle.st_exec.specs.Completion.{with_change, state_with_early_changes, coun
 use Rattle.st_exec.specs.declared.effects.Effect.{Effect}
 use Rattle.st_exec.specs.declared.effects.Effect.TheVariants.{Rest, Put, Copy, Exchange, TurnOff, Enable, Wait, Give, Leave}
 
--- ---- the number done
+-- ---- the count of completed instructions
 
 pub opened-done : (table : Option ℕ) (s : Machine) → (state_at_entry table s).done ≡ s.done
 opened-done None s = refl

@@ -29,7 +29,7 @@ use Rattle.st_exec.proofs.MachineKept.{kept-early, kept-completed}
 use Rattle.st_exec.proofs.SparedLemmas.{IsApart, Spares, apart-word, spares-effect, kept-above, Stands, done-keeps}
 use Rattle.st_exec.proofs.Unchanged.{stored-other, opened-above, early-above, completed-done}
 
--- ---- words that a effect does not write
+-- ---- words that an effect does not write
 
 -- word i is not among the n words from word w
 abbrev pub IsBeside : ℕ → ℕ → ℕ → Type 0
@@ -199,7 +199,7 @@ early-index_words p s table h m =
     (λ k few. sym (early-index p u k long' few h.change)) in
     sym after ∙ ap (λ y. words_after y p.index) (sym same)
 
--- ---- the guess
+-- ---- the predicted state
 
 kept-counter : (s : Machine) (c : ℕ) → IsMachine s → c < 2 ^ 19 → IsMachine (record s { ic = c })
 kept-counter s c m h = record {

@@ -14,7 +14,7 @@ use Rattle.st_prep.specs.Plan.{state_at_entry, plan}
 use Rattle.st_exec.specs.Operand.{field_at}
 use Rattle.st_exec.specs.Effect.{effect, carried_out}
 
--- ---- before the operands are read
+-- ---- changes before the operands are read
 
 -- the state after a change of an index word, if there is one
 abbrev pub with_change : Option IndexChange → Machine → Machine
@@ -26,7 +26,7 @@ with_change (Some c) s = state_with_store s (FIRST_INDEX_WORD + c.number) c.word
 unfoldable pub state_with_early_changes : Prepared → Machine → Machine
 state_with_early_changes p s = state_with_indicators p.ind (with_change p.index s)
 
--- ---- the counter
+-- ---- the program counter
 
 -- whether a branch on a bit or on an indicator is taken: the tested bit equals its sense; false for
 -- other instructions
@@ -49,7 +49,7 @@ counter p t = if is_taken p.instr p.e t then target p.instr p.following else p.f
 abbrev pub state_counted_on : Machine → ℕ → Machine
 state_counted_on s h = record s { ic = h; done = s.done + 1 }
 
--- ---- the whole
+-- ---- the whole completion
 
 -- the state after the effect of an entry and the update of the program counter; a suppressed entry
 -- only updates the counter
@@ -67,7 +67,7 @@ state_after_completion p s = state_after_effect p (state_with_early_changes p
 abbrev pub state_after_execution : Option ℕ → Machine → Machine
 state_after_execution table s = state_after_completion (plan s table) s
 
--- ---- the guess that the next entry is prepared by
+-- ---- the prediction along which the next entry is prepared
 
 -- the state after an entry if its branch is predicted not taken; a serializing entry is not
 -- predicted, so for it this is the completed state

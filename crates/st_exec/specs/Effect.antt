@@ -81,7 +81,7 @@ effect_of (Invalid first second full) e v t = Rest
 abbrev pub effect : Prepared → Machine → Effect
 effect p t = effect_of p.instr p.e p.value t
 
--- ---- what each effect makes of a state
+-- ---- the application of each effect to a state
 
 -- the state after n words from one address are copied to another, one word at a time
 unfoldable pub state_with_copy : ℕ → ℕ → ℕ → Machine → Machine
@@ -124,7 +124,7 @@ carried_out Wait t = record t { enabled = true; waiting = true }
 carried_out (Give write order) t = state_with_order write order t
 carried_out (Leave result a n) t = with_result result a n t
 
--- ---- effects that can be done
+-- ---- effects that can be applied
 
 -- a field of n bits in storage at bit address a, and a number v that fits
 pub record IsField (a n v : ℕ) : Type 0 where

@@ -49,7 +49,7 @@ unfoldable pub connects : ConnKind → ℕ → ℕ → ℕ → ℕ → ℕ → M
 connects kind table p e offset n t = connection kind table (accumulator t) offset
     (operand_bits p e n t) n
 
--- ---- what it leaves
+-- ---- the state after the result is written
 
 -- the state with register w set to the value, if there is one
 abbrev pub with_register : ℕ → Option ℕ → Machine → Machine

@@ -101,7 +101,7 @@ power_above_zero n = power_some 10 n (omega arith)
 -- the bounds of powers of ten
 pub ruleset power_rules = (power_fits, power_above_zero)
 
--- ---- digits that are all zero from one place on
+-- ---- numbers whose digits are all zero from a place
 
 rest-none : (d b n k : ℕ) → d / b ^ n ≡ 0 → d / b ^ (n + k) ≡ 0
 rest-none d b n k h =

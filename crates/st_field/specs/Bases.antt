@@ -56,7 +56,7 @@ pub record InBase : Type 0 where
   -- the result of LCV
   pub converted : Done
 
--- ---- what is taken
+-- ---- numbers and comparisons from the inputs
 
 -- the accumulator as a signed number
 abbrev pub accumulator_number : InBase → Taken → Signed
@@ -95,7 +95,7 @@ fields b t = record {
   on = flag_indicators t.field.flags;
 }
 
--- ---- what is left
+-- ---- results
 
 -- the result of storing a signed number in the accumulator, whose zone and flags do not change
 abbrev pub put_in_accumulator : InBase → Taken → Signed → ℕ → Done

@@ -57,7 +57,7 @@ stored_field a h m = record {
   zone = zone_of a.sb;
 }
 
--- ---- what operations leave
+-- ---- results of operations
 
 -- a result with the accumulator a that writes no field and no other register
 abbrev pub done_with : Acc → Ind → Done

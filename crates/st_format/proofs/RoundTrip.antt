@@ -353,7 +353,7 @@ transfer-back write a i n fits some many =
     (order-keeps write f s n ek (omega arith) en (good-count n some many))
     ∙ simp (en, ea, ei) refl
 
--- ---- bits that spell none
+-- ---- invalid bits
 
 refused-word : (op : Option FullOp) (f s : ℕ) → is_refused op f s ≡ true → full_word op f s ≡ Invalid f s true
 refused-word None f s h = refl

@@ -65,7 +65,7 @@ made-soon most ds t reads b are near free =
     let c = made_before ds t reads b in
     All-weaker (λ x. x ≤ c.free + most) (λ x. x ≤ t + most) (λ x low. omega (arith, bounds.1)) c.banks.ticks bounds.0.banks
 
--- ---- what is kept of the ticks, where no delay is longer than so many
+-- ---- the invariant of the ticks, with a bound of the delays
 
 pub record IsWithin (most : ℕ) (m : Overlap) (made since : ℕ) : Type 0 where
   pub tight : IsTight most m.front
@@ -174,7 +174,7 @@ within-ticked most made since m are is over w =
       fresh = λ some. absurd (cc some);
     }
 
--- ---- the whole
+-- ---- all calls
 
 pub ticked-delays : (m : Overlap) → (machine_after_tick m).delays ≡ m.delays
 unfolding machine_after_tick machine_after_completion

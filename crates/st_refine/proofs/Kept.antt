@@ -24,7 +24,7 @@ use Rattle.st_refine.proofs.LevelLists.{done-behind}
 use Rattle.st_ring.proofs.OrderLemmas.{after-c}
 use Rattle.st_ahead.proofs.Passing.{ticked-owed}
 
--- ---- what is kept
+-- ---- the invariant
 
 -- the number of ticks made
 abbrev pub ticks_made : Overlap → ℕ
@@ -124,7 +124,7 @@ due-none : (t p : Option ℕ) → (if is_none t then p else None) ≡ None → t
 due-none None p due none = sym due
 due-none (Some i) p due none = absurd (cc none)
 
--- ---- a start
+-- ---- the start
 
 pub kept-started : (ds : List ℕ) (n : ℕ) (s : Machine) → CanStart ds n s → IsKept (machine_at_start ds n s)
 kept-started ds n s can = record {
@@ -377,7 +377,7 @@ kept-settled m is owed = elim (closing-cases m.closing) [
   | inr some ↦ settled-fresh (interrupt_due m) m.missed (rests m.state) m is some refl refl
 ]
 
--- ---- from outside
+-- ---- external events
 
 -- only the state changes, after a tick with a completion
 pub kept-changed : (m : Overlap) (u : Machine) → IsKept m → IsSome m.closing → IsMachine u → IsKept (record m { state = u })
@@ -440,7 +440,7 @@ kept-read m order (Some card) is given fits may =
     kept-changed (machine_after_segment m) (read_in m.state order.word (Some card)) (kept-ended m is may.1) (subst IsSome (sym rest.closing) may.1)
     (order-machine m.state order (Some card) is.machine given fits)
 
--- ---- the whole
+-- ---- all calls
 
 pub kept : {m : Overlap} {made since : ℕ} → IsReached m made since → IsKept m
 kept (Starts ds n s can) = kept-started ds n s can

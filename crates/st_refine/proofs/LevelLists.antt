@@ -257,7 +257,7 @@ module _ (ds : List ℕ) (n : ℕ) where
       ∙ oldest-done (n - 1) now t s f m some more few due
       ∙ ap (λ i. next_ahead ds n t s f ∷ prepared_before now (ahead ds n i None (guess t s) g)) (sym more)
 
-  -- ---- the rows of them, and of the one behind
+  -- ---- the rows of the levels and of the entry after them
 
   pub level-early : (k now m : ℕ) (t : Option ℕ) (s : Machine) (f : Front) → k < length (prepared_before now (ahead ds n m t s f))
       → (row_of_entry ds n (front_behind ds n k t s f) (entry (table_behind k t) (guesses k t s))).p < now

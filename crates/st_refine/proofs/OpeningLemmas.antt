@@ -77,7 +77,7 @@ changes-none (x ∷ xs) s before =
     ap (λ b. with_changes xs (if b then state_after_change x.change s else s)) (ne_eqb x.done s.done (λ is. omega (arith, early, is)))
     ∙ changes-none xs s (All-tail (λ (y : Outside). y.done < s.done) x xs before)
 
--- ---- the banks where a segment ends
+-- ---- the banks at the end of a segment
 
 -- the last answers of the banks after the reads of the entry that completes and of those in flight
 -- after it
@@ -161,7 +161,7 @@ module _ (o : Opening) (xs : List Outside) where
           (state-before i (omega (arith, early)))
           ∙ sym (banks-whole ds n o xs i)
 
--- ---- a start
+-- ---- the start
 
 pub stands-started : (ds : List ℕ) (n : ℕ) (s : Machine) → StandsAt (first_opening s) [] 0 (machine_at_start ds n s)
 unfolding state_after front_at with_changes
@@ -174,7 +174,7 @@ stands-started ds n s = record {
   banks = λ going. tt;
 }
 
--- ---- a change from outside
+-- ---- an external change
 
 if-same : (c : Option LastAnswers) (a b : LastAnswers) → a ≡ b → IfSome c (λ x. x ≡ a) → IfSome c (λ x. x ≡ b)
 if-same None a b same is = tt

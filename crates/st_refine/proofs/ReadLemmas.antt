@@ -83,7 +83,7 @@ module _ (ds : List ℕ) (t : ℕ) where
         }
       ]
 
--- ---- when the reads of entries ahead are wanted
+-- ---- the wants of the reads of entries in flight
 
 if-any : (P : ℕ → Type 0) (side : Option ℕ) → ((w : ℕ) → P w) → IfSome side P
 if-any P None all = tt
@@ -156,7 +156,7 @@ ahead-made ds n t (suc k) i s f front b = by (nat_lt (row_of_entry ds n f (entry
         ∙ sym (made-more ds t (front ++ reads_of_entry ds n f (entry i s)) more b (behind-late ds n t k i s f late))
         ∙ ap (λ xs. made_before ds t xs b) (append_assoc front (reads_of_entry ds n f (entry i s)) more)
 
--- ---- the banks where an entry is done
+-- ---- the banks at a completion
 
 banks-first : (ds : List ℕ) (n : ℕ) (o : Opening) (xs : List Outside) (j : ℕ)
     → banks_behind ds n o xs (suc j) ≡ (made_before ds (front_at ds n o xs (suc j)).c (reads_of_segment ds n o xs j) o.front.bus).banks

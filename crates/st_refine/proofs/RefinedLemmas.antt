@@ -114,7 +114,7 @@ tick-passed m later = (
   ap levels_of (late-ticked m later) ∙ passed-levels m,
 )
 
--- ---- what an answer says
+-- ---- the result of a settle
 
 pub goes-by : (due behind : Option ℕ) (resting : Bool) (m : Overlap) → answer_by due resting behind m ≡ Goes
     → (due ≡ None) × (resting ≡ false) × (behind ≡ None)
@@ -149,7 +149,7 @@ waits-by None behind true m is = (refl, refl)
 waits-by None (Some h) false m is = absurd (cc is)
 waits-by None None false m is = absurd (cc is)
 
--- ---- it goes on
+-- ---- the segment continues
 
 pub settled-goes : (m : Overlap) → (interrupt_due m ≡ None) × (rests m.state ≡ false) × (m.missed ≡ None) → machine_after_settling m ≡ machine_after_pass m
 unfolding machine_after_settling
@@ -173,7 +173,7 @@ goes-more m is =
     let why = goes-by (interrupt_due m) m.missed (rests m.state) m is in
     subst (λ (x : Overlap). AddsOneAtMost (levels_of m) (levels_of x)) (sym (settled-goes m why)) (passed-more m why.2)
 
--- ---- a segment ends
+-- ---- the segment ends
 
 -- there are no levels if the front's P is not before the tick
 pub empty-levels : (m : Overlap) → m.now ≤ m.front.p + 2 → levels_of m ≡ []

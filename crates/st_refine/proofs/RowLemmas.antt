@@ -18,7 +18,7 @@ use Rattle.st_refine.proofs.Kept.{IsIdle, IsPhase, IsKept, fresh-of, kept, row-i
 use Rattle.st_refine.proofs.SplitLemmas.{seen-machine}
 use Rattle.st_refine.proofs.LentLemmas.{oldest-late}
 
--- ---- entries that are done
+-- ---- completed entries
 
 front-later : (ds : List ℕ) (n : ℕ) (f : Front) (e : Entry) → f.c ≤ (front_after_entry ds n f e).c
 unfolding front_after_entry tick_c

@@ -31,7 +31,7 @@ use Rattle.st_refine.proofs.LevelLists.{first-ones}
 use Rattle.st_refine.proofs.Kept.{IsKept, kept, idle-of, seen-idle}
 use Rattle.st_refine.proofs.InTime.{levels-few, made-ticks}
 
--- ---- the state that the run goes from
+-- ---- the state from which the entries in flight start
 
 pub counted-machine : (c : Option ℕ) (s : Machine) → IsMachine s → IfSome c (λ h. h < 2 ^ 19) → IsMachine (with_counter c s)
 counted-machine None s is below = is
@@ -71,7 +71,7 @@ seen-settled m made since from settled =
     let idle = (idle-of m (kept from) settled).1 in
     seen-idle m idle.going idle.right
 
--- ---- the whole of what is shown
+-- ---- the whole view
 
 pub shown-done : (m : Overlap) → (view_at_tick m).done ≡ m.state.done
 unfolding view_at_tick

@@ -36,7 +36,7 @@ use Rattle.st_refine.proofs.RefinedLemmas.{empty-levels}
 use Rattle.st_ahead.proofs.Signals.{counted-alike}
 use Rattle.st_ahead.proofs.SameLookahead.{guess-same}
 
--- ---- entries that are prepared before the last one is done are not done alone
+-- ---- entries that are prepared before the previous one completes are non-serializing
 
 pub behind-later : (ds : List ℕ) (n now : ℕ) (f : Front) (e : Entry) → now ≤ f.c → now ≤ (front_after_entry ds n f e).c
 unfolding front_after_entry tick_c
@@ -102,7 +102,7 @@ module _ (ds : List ℕ) (n now : ℕ) where
       then record { state = u; table = None; front = f; entry = x; row = row_of_entry ds n f x } ∷ before (ahead ds n k None (guess None u) (front_after_entry ds n f x))
       else [])) (sym (entry-same None s u alike))
 
--- ---- what is shown
+-- ---- views
 
 -- two machines whose levels have equal views
 still-by : (m x : Overlap) → last_tick_made x ≡ last_tick_made m → shows (last_tick_made m) (levels_of m) ≡ shows (last_tick_made m) (levels_of x) → (view_at_tick x).x ≡ (view_at_tick m).x
@@ -125,7 +125,7 @@ still-empty m x tick old new same =
     still-by m x tick (ap (shows (last_tick_made m)) (old ∙ sym new))
     (shown-none x (ap length new) ∙ same ∙ sym (shown-none m (ap length old)))
 
--- ---- behind a tick at which an entry was done
+-- ---- after the tick of a completion
 
 seen-alike : (m : Overlap) (u : Machine) → AreAlikeBesideOrders m.state u → AreAlikeBesideOrders (state_ahead m) (state_ahead (record m { state = u }))
 unfolding state_ahead

@@ -16,7 +16,7 @@ use Rattle.st_segment.specs.Ahead.{next_ahead, reads_to_end, banks_at_end, front
 use Rattle.st_ahead.specs.Forecast.{asked_ahead}
 use Rattle.st_ahead.specs.Overlap.{Overlap, last_tick_made}
 
--- ---- changes from outside
+-- ---- external changes
 
 -- an external change: a signal; a reader order for the area at a word, with a card or without one;
 -- a printer order
@@ -105,7 +105,7 @@ opening_behind ds n dropped o changes j = record {
   front = front_behind_end (banks_behind ds n o changes j) (front_at ds n o changes j).c dropped;
 }
 
--- ---- standing at it
+-- ---- machines at an opening
 
 -- the machine m is at the opening o with j completed entries: the state is that after j steps with
 -- the changes so far, and the front is that after j entries; the first entry is the table

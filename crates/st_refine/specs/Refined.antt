@@ -15,7 +15,7 @@ use Rattle.st_ahead.specs.Overlap.{Overlap, state_ahead, levels_of}
 use Rattle.st_ahead.specs.Shown.{view_at_tick}
 use Rattle.st_ahead.specs.declared.events.LevelView.{LevelView}
 
--- ---- what is shown of a level
+-- ---- the view of a level
 
 module _ (k : ℕ) (m : Overlap) where
   -- the state before the step of entry k in flight
@@ -57,7 +57,7 @@ level_seen tick k m =
       ready = nat_le (row_before k m).r tick;
     }
 
--- ---- what calls leave of the levels
+-- ---- the levels after a call
 
 -- there are no levels, and the index words that are shown are those of the state
 pub record IsUnwound (m : Overlap) : Type 0 where

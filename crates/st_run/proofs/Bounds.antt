@@ -29,7 +29,7 @@ use Rattle.st_refine.proofs.InTime.{opening-tight, free-before_done}
 use Rattle.st_refine.proofs.Kept.{interrupt-below}
 use Rattle.st_exec.specs.Step.{interrupt}
 
--- ---- entries ahead
+-- ---- entries in flight
 
 ahead-few : (ds : List ℕ) (n k : ℕ) (t : Option ℕ) (s : Machine) (f : Front) → length (ahead ds n k t s f) ≤ k
 unfolding ahead

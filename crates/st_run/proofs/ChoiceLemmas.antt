@@ -28,7 +28,7 @@ use Rattle.st_run.proofs.InterludeLemmas.{HasCome}
 use Rattle.st_run.proofs.EndedLemmas.{opened, stopped-none, by_now, ended-since, since-is}
 use Rattle.st_refine.proofs.Kept.{interrupt-below}
 
--- ---- what the answer says
+-- ---- the result of a settle
 
 choice-by : (due : Option ℕ) (waits : Bool) (behind : Option ℕ) (over : Bool) (m : Overlap) → waits ≡ false
     → choice_of (answer_by due waits behind m) over ≡ ((is_some behind || over || is_some due), due)
@@ -120,7 +120,7 @@ going-by None (Some h) over o s x now ends none = ap machine_after_pass ends ∙
 going-by None None true o s x now ends none = ap machine_after_pass now ∙ ap (λ t. going o s t (opened o s).front) none
 going-by None None false o s x now ends none = ap machine_after_pass now ∙ ap (λ t. going o s t o.front) none
 
--- ---- how the run goes on
+-- ---- the continuation of the run
 
 abbrev pub IsWay : Turn → ℕ → Moment → Decided → Together → Type 0
 IsWay turn left m d t = IsDecidedBy turn left (next_state m) d (RunGoesOn m d t) ((scene_of t ≡ next_scene m) × (levels_of t.machine ≡ []))

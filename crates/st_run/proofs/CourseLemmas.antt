@@ -26,7 +26,7 @@ module _ (ds : List ℕ) (n : ℕ) where
   unfolding next_moment next_row row_of_entry front_after_entry
   next-same p = refl
 
--- ---- snapshots that are to come
+-- ---- remaining snapshots
 
 pub test-lt : (x u : ℕ) → ((nat_lt x u ≡ true) × (x < u)) ⊎ ((nat_lt x u ≡ false) × (u ≤ x))
 test-lt x u = elim (cases_Bool (nat_lt x u)) [ inl t ↦ inl (t, ltb-true x u t) | inr f ↦ inr (f, ltb-false x u f) ]
@@ -55,7 +55,7 @@ unfolding snapshots_from AreRising
 rising-to-come t [] is = refl
 rising-to-come t (x ∷ xs) is = elim (test-lt x t) [ inl y ↦ let no : ⊥ = omega (arith, y.1, is.0) in absurd no | inr n ↦ rw n.0 refl ]
 
--- ---- one turn
+-- ---- one entry
 
 module _ (ds : List ℕ) (n : ℕ) where
   -- the events of a course of moments
@@ -98,7 +98,7 @@ module _ (ds : List ℕ) (n : ℕ) where
       else (events_between m ++ until_done ds n p (snapshots_from m.tick xs)) ++ ys) rest
       ∙ sym (timed-step left m xs)
 
-  -- ---- its scenes are those of the plain run
+  -- ---- the scenes are those of the plain run
 
   pub scenes-same : (left : ℕ) (m : Moment)
       → map state_next (scenes left m.scene).before ++ state_next (scenes left m.scene).last ∷ []

@@ -23,7 +23,7 @@ use Rattle.st_refine.proofs.SplitLemmas.{counted-machine}
 use Rattle.st_refine.proofs.StillLemmas.{behind-later}
 use Rattle.st_refine.proofs.OpeningLemmas.{ended-again}
 
--- ---- entries that are prepared before the last one is done
+-- ---- entries that are prepared before the previous one completes
 
 same-count : (b : Bool) (x y : Ahead) (xs ys : List Ahead) → (b ≡ true → length xs ≡ length ys)
     → length (if b then x ∷ xs else []) ≡ length (if b then y ∷ ys else [])
@@ -109,7 +109,7 @@ pub since-is : (b : Together) (m : Overlap) (over : Bool) → IsBehindEntry b �
 since-is b m true is since = since.machine ∙ ap (λ (o : Overlap). record o { state = m.state }) (ended-behind b is)
 since-is b m false is since = since.machine
 
--- ---- what an end leaves
+-- ---- the machine after the end
 
 pub ended-state : (m : Overlap) → (machine_after_segment m).state ≡ m.state
 unfolding machine_after_segment

@@ -71,7 +71,7 @@ pub last-soon : (snap : Option ℕ) (last : ℕ) → last ≡ last_for snap → 
 last-soon None last is = omega (arith, is)
 last-soon (Some x) last is = omega (arith, is)
 
--- ---- signals, one after another
+-- ---- successive signals
 
 known-indicator : (x : Signal) → is_signal x ≡ true → x.indicator ≤ 13
 known-indicator x is = leb-true x.indicator 13 (and_parts (nat_le x.count 10000000) (nat_le x.indicator 13) is).1
@@ -85,7 +85,7 @@ due-led {b = b} (x ∷ xs) m cards known may led =
     (due-led xs (signalled_by x.indicator m) cards (All-tail (λ s. is_signal s ≡ true) x xs known) may
     (signal-led m x.indicator (known-indicator x (All-head (λ s. is_signal s ≡ true) x xs known)) may led)) led
 
--- ---- its start
+-- ---- the start of a run
 
 pub start-led : (ds : List ℕ) (n : ℕ) (s : Machine) (m : Overlap) → CanStart ds n s → m ≡ machine_at_start ds n s → IsLed (machine_at_start ds n s) m
 start-led ds n s m can same =

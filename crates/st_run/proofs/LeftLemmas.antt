@@ -24,7 +24,7 @@ use Rattle.st_run.proofs.ReportedLemmas.{told-append, dropped_at, told-between, 
 use Rattle.st_run.proofs.MomentLemmas.{still, ready-still, row-before}
 use Rattle.st_run.proofs.ChoiceLemmas.{IsWay}
 
--- ---- the run ends, or goes on
+-- ---- the run ends or continues
 
 ends-here : (ds : List ℕ) (n left : ℕ) (m : Moment) (snaps : List ℕ) (b : Bool) → snapshots_from m.tick snaps ≡ snaps → b ≡ rests (next_state m) → (b ≡ false → left ≡ 0)
     → timed_from ds n left m snaps ≡ last_events m snaps
@@ -101,7 +101,7 @@ module _ (ds : List ℕ) (n left tick : ℕ) (m : Moment) (snaps : List ℕ) (d 
   way-told (turns.AtEnd resting) way = stops-told resting way.0 way.1 way.2 way.3 way.4.0
   way-told turns.Over way = absurd way
 
-  -- ---- what the run keeps there
+  -- ---- the invariant of the run after the entry
 
   or-true : (b : Bool) → (b || true) ≡ true
   or-true true = refl
@@ -171,7 +171,7 @@ module _ (left tick : ℕ) (snaps : List ℕ) (old t : Together) (d : Decided) (
         in_time = subst {A = List TimedReportedEvent} AreInTime left-told is.in_time;
       }
 
--- ---- an entry is done
+-- ---- an entry completes
 
 module _ (left tick : ℕ) (snaps : List ℕ) (t : Together) (before : IsBeforeEntry t)
     (in_time : AreInTime (reported_events (timed_behind t.machine.delays t.machine.levels left (standing_of tick t) snaps))) where

@@ -65,7 +65,7 @@ leads-snapshots t u v f (x ∷ xs) told le near rising ys is = elim (test-lt x v
   | inr late ↦ rw late.0 (order-weaker t u ys le is)
 ]
 
--- ---- turns
+-- ---- one entry
 
 module _ (m : Moment) where
   drops-lead : Leads m.tick m.tick (drops m)

@@ -33,7 +33,7 @@ none-came n = grind (arith, nat_tests)
 came-both : (a b c : ℕ) (one two : Bool) → b ≤ a → c ≤ b → one ≡ nat_lt b a → two ≡ nat_lt c b → (one || two) ≡ nat_lt c a
 came-both a b c one two first second is_one is_two = rw (is_one, is_two) (grind (arith, nat_tests))
 
--- ---- what was printed
+-- ---- prints
 
 printed-joined : (t u : Option (List ℕ)) (xs ys : List PlainEvent) → (length xs ≤ 1 → ArePrinted t xs) → (length ys ≤ 1 → ArePrinted u ys)
     → length (xs ++ ys) ≤ 1 → ArePrinted (option_or t u) (xs ++ ys)
@@ -59,7 +59,7 @@ or-none : (b : Bool) → (b || false) ≡ b
 or-none true = refl
 or-none false = refl
 
--- ---- two things
+-- ---- two external events
 
 ends-both : (i j : Interlude) → ends_by (joined_of i j) ≡ (ends_by i || ends_by j)
 ends-both i j = by i.waited i.card j.waited j.card

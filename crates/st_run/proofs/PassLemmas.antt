@@ -39,7 +39,7 @@ rising-none : (k : ℕ) → AreRising k []
 unfolding AreRising
 rising-none k = tt
 
--- ---- nothing comes behind an entry
+-- ---- no external event after an entry
 
 both-none : (a b c : Bool) → (a || (b || c)) ≡ false → (a ≡ false) × (b ≡ false) × (c ≡ false)
 both-none true b c none = absurd (cc none)
@@ -241,7 +241,7 @@ all-passed (suc k) count left tick t new before in_time few signals are =
       now = omega (arith, rest.now, first.now);
     }
 
--- ---- up to an entry behind which something may come
+-- ---- up to an entry after which an external event is possible
 
 pub record PassedUpTo (count left tick : ℕ) (t new : Together) (row : Row) : Type 0 where
   pub left_now : ℕ
@@ -291,7 +291,7 @@ module _ (count left tick : ℕ) (t new : Together) (before : IsBeforeEntry t) (
       let late = oldest-in_time all.left_now all.tick_now [] (record t { machine = new.machine }) all.before all.in_time in
       omega (arith, far, late, before.ready.early, all.before.ready.early, all.now)
 
--- ---- of a run where nothing waits and no snapshot is to come
+-- ---- runs without pending events and without remaining snapshots
 
 pub record AreAhead (left tick : ℕ) (t : Together) : Type 0 where
   pub before : IsBeforeEntry t

@@ -59,7 +59,7 @@ if_due-few : (done : ℕ) (o : Option Order) → orders (if_due done o) ≤ orde
 unfolding orders
 if_due-few done o = of_choice (λ p. orders p ≤ orders o) (is_due done o) o None (omega arith) (omega arith)
 
--- ---- one after another
+-- ---- successive transitions
 
 then-prints : (c : Scene) (r : Transition) (f : Scene → Transition) → PrintsWithin c r → PrintsWithin r.scene (f r.scene)
     → PrintsWithin c (and_then r f)

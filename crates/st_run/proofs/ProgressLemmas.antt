@@ -28,7 +28,7 @@ use Rattle.st_run.proofs.ReportedLemmas.{once}
 use Rattle.st_run.proofs.MomentLemmas.{still, ready-still, row-before}
 use Rattle.std.specs.Option.{option_to_list}
 
--- ---- nothing waits
+-- ---- no pending events
 
 abbrev pub Quiet : Waiting → Type 0
 Quiet w = (s : Machine) → waiting_events w s ≡ []
@@ -58,7 +58,7 @@ unfolding rest_of
 rest-quiet turn left tick snaps w t quiet =
     ap (λ (xs : List ReportedEvent). map (at_once tick t.machine.state) xs ++ rest_by turn left tick snaps t) (quiet t.machine.state)
 
--- ---- what is shown where nothing is ahead
+-- ---- the state that is shown without entries in flight
 
 index-seen : (ended : Bool) (h : Option ℕ) (s : Machine)
     → index_words (if ended then s else with_counter h s) ≡ index_words s

@@ -132,7 +132,7 @@ module _ (left : ℕ) (old : Together) (m k : Overlap) (xs : List Signal) (cards
       subst {A = Together} (λ t. HasParts t.machine k) view
       (quiet-parts left b n (subst {A = Together} IsBehindEntry (sym view) is) some signals quiet refl settles)
 
--- ---- what waits is nothing, whichever way
+-- ---- no event is pending in either case
 
 pub none-quiet : Quiet (waits [] None None)
 unfolding waiting_events

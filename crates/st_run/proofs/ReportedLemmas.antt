@@ -147,7 +147,7 @@ module _ (m : Moment) where
       ∙ ap (λ (d : ℕ). map (once d m.tick) ws
       ++ (map (λ (x : ℕ). once d m.tick (Shown x s [])) due ++ once d m.tick (Ended (rests s) s) ∷ [])) (sym (settled-done m.scene))
 
--- ---- the next entry is among what is told
+-- ---- the next completion is among the remaining events
 
 all-behind : (P : TimedReportedEvent → Type 0) (xs ys : List TimedReportedEvent) → All P (xs ++ ys) → All P ys
 all-behind P [] ys all = all

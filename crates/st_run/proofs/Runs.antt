@@ -45,7 +45,7 @@ pub run-none : (c : Scene) → run zero c ≡ transition_at_end (interlude c)
 unfolding run course
 run-none c = refl
 
--- ---- what it comes to
+-- ---- the recursion of a run
 
 -- a machine at rest ends the run
 pub run-rests : (left : ℕ) (c : Scene) → rests (interlude c).scene.machine ≡ true → run left c ≡ transition_at_end (interlude c)

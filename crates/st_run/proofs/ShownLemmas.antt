@@ -46,7 +46,7 @@ before-both u v (x ∷ xs) le = elim (test-lt x u) [
   | inr late ↦ rw late.0 refl
 ]
 
--- ---- turns
+-- ---- one entry
 
 drops-shown : (b : Bool) (m : Moment) → shown_ticks (if b then drops m else []) ≡ []
 unfolding shown_ticks drops

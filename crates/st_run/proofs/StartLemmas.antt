@@ -41,7 +41,7 @@ with_scene t c = record {
   cards = c.cards;
 }
 
--- ---- the machine once the signals that are due came
+-- ---- the machine after the signals that are due at the start
 
 pub started : (m k : Overlap) (xs ys : List Signal) (cards : List (List ℕ)) (x : Coming)
     → ((ts : List (List ℕ)) → with_due_signals (record { machine = m.state; signals = xs; cards = ts }) ≡ record { machine = k.state; signals = ys; cards = ts })
@@ -52,7 +52,7 @@ started m k xs ys cards x came machine is =
     ∙ ap (λ (o : Overlap). record { machine = o; signals = ys; cards = cards }) machine
     ∙ sym (ap (with_scene (record { machine = m; signals = xs; cards = cards })) (came cards))
 
--- ---- signals leave that
+-- ---- signals keep the properties of the start
 
 pub record IsIdle (s : Machine) : Type 0 where
   pub enabled : s.enabled ≡ false
@@ -75,7 +75,7 @@ idle-rests s is = rw is.waiting refl
 idle-interrupt : (s : Machine) → IsIdle s → interrupt s ≡ None
 idle-interrupt s is = rw is.enabled refl
 
--- ---- so nothing comes between the start and the first entry but signals
+-- ---- only signals can occur between the start and the first entry
 
 orders-idle : (c : Scene) → IsIdle c.machine → with_due_orders c ≡ uneventful c
 unfolding with_due_orders
@@ -149,7 +149,7 @@ module _ (c : Scene) (is : IsIdle c.machine) where
       ∙ ap {A = List Timed} (λ xs. xs ++ timed_behind ds n (budget - 1) (standing_at (moment_at_start c)) snaps) between-idle
       ∙ ap {A = Standing} (λ p. timed_behind ds n (budget - 1) p snaps) standing-idle
 
--- ---- all comes in time
+-- ---- the bounds of the ticks
 
 told-all : (P : TimedReportedEvent → Type 0) (xs : List Timed) → All (λ (x : Timed). P (timed_reported_event x)) xs → All P (reported_events xs)
 unfolding reported_events
@@ -169,7 +169,7 @@ run-in_time ds n budget c snaps are levels is none few =
     let low = less k d inside in
     (omega (arith, early, low), omega (arith, low)))
 
--- ---- rising ticks
+-- ---- increasing ticks
 
 rising-from : (t : ℕ) (xs : List ℕ) → IsStrictlyIncreasing xs → (0 < length xs → t ≤ slice_index xs 0) → AreRising t xs
 unfolding AreRising

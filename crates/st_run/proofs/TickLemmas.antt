@@ -96,7 +96,7 @@ pub done-completed : (o m : Overlap) (at : ℕ) → m ≡ record o { now = at } 
 unfolding machine_after_tick
 done-completed o m at same done = rw done refl
 
--- ---- up to the next entry that is done, or a snapshot
+-- ---- up to the next completion or snapshot
 
 until-late : (c now last : ℕ) (snap : Option ℕ) → c ≤ last → last ≡ last_for snap → IfSome snap (λ x. c ≤ x)
 until-late c now last None soon is = tt

@@ -15,7 +15,7 @@ use Rattle.st_run.specs.Moments.{Moment, Standing, next_state, ends_segment, nex
 use Rattle.st_run.specs.TimedRun.{ticks_before, snapshots_from, snapshot_at, events_between, completion, until_done, last_events, timed_from, timed_behind}
 use Rattle.st_run.proofs.CourseLemmas.{next-same, timed-none, timed-step, timed-later}
 
--- ---- turns
+-- ---- one entry
 
 -- all snapshots are at or after the moment
 abbrev AreToCome : Moment → List ℕ → Type 0
@@ -50,7 +50,7 @@ timed-goes_on ds n (suc left) m snaps come some h =
     let same : left ≡ suc left - 1 = omega arith in
     goes_on-some ds n left m snaps come h ∙ ap (λ k. events_between m ++ timed_behind ds n k (standing_at m) snaps) same
 
--- ---- before an entry is done
+-- ---- before a completion
 
 -- a snapshot before the completion is the next event
 pub behind-snapshot : (ds : List ℕ) (n left : ℕ) (p : Standing) (x : ℕ) (xs : List ℕ) → x < (next_moment ds n p).tick
@@ -72,7 +72,7 @@ pub behind-none : (ds : List ℕ) (n left : ℕ) (p : Standing)
 unfolding until_done ticks_before
 behind-none ds n left p = refl
 
--- ---- snapshots of which nothing is ahead
+-- ---- snapshots without entries in flight
 
 pub same-words : (s : Machine) → with_index_words (index_words s) s ≡ s
 unfolding with_index_words index_words
@@ -88,7 +88,7 @@ pub snapshot-none : (tick : ℕ) (t : Option ℕ) (s : Machine) → snapshot tic
 unfolding snapshot split_words
 snapshot-none tick t s = ap (λ u. Shows tick u []) (same-words s)
 
--- ---- behind the end of a segment
+-- ---- after the end of a segment
 
 -- the first entry of a segment is prepared after its start
 opening-late : (ds : List ℕ) (n k : ℕ) (t : Option ℕ) (s : Machine) (banks : LastAnswers) (start tick : ℕ) → tick ≤ start

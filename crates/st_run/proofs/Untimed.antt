@@ -43,7 +43,7 @@ snapshots-none : (ds : List ℕ) (n : ℕ) (p : Standing) (xs : List ℕ) → pl
 unfolding snapshot
 snapshots-none ds n p xs = none-of (snapshot_at ds n p) xs (λ x. refl)
 
--- ---- a turn
+-- ---- one entry
 
 between-plain : (m : Moment)
     → plain_run (events_between m) ≡ (interlude m.scene).happened ++ interrupts_by (interrupt (next_state m)) (next_state m)

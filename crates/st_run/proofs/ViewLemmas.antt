@@ -116,7 +116,7 @@ level-is tick a m some =
     ap {A = Option (ℕ × ℕ)} (λ o. record (level_at tick a) { changed = o })
     (changed-same (plan_of a).index a.state (plan-keeps a.state a.table) (plan-prepared a.state a.table m some).change)
 
--- ---- all of them
+-- ---- all levels
 
 levels-are : (tick now : ℕ) (ds : List ℕ) (n k : ℕ) (t : Option ℕ) (s : Machine) (f : Front) → IsMachine s → IfSome t (λ i. i < 64)
     → map level_of (map (level_shown tick) (prepared_before now (ahead ds n k t s f)))

@@ -33,7 +33,7 @@ choice_of (answers.Interrupt i done ic dropped) over = (true, Some i)
 choice_of (answers.Missed dropped) over = (true, None)
 choice_of _ over = (over, None)
 
--- ---- nothing of it
+-- ---- no external event
 
 -- no order is due, the machine does not wait, and the next decision does not end the segment
 pub record IsQuiet (o : Overlap) : Type 0 where

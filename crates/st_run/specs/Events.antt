@@ -8,7 +8,7 @@ use Rattle.st_rows.specs.declared.front.EntryTicks.{EntryTicks}
 use Rattle.st_segment.specs.Ahead.{Ahead, plan_of}
 use Rattle.st_segment.specs.Guesses.{split_words}
 
--- ---- what is shown of the entries ahead
+-- ---- the entries in flight as snapshots show them
 
 -- an entry in flight: its address, the index word that it changed early (its number, and its
 -- contents before this change), and whether all its operands have arrived
@@ -36,7 +36,7 @@ pub record Timed : Type 0 where
   pub tick : ℕ
   pub event : TimetableEvent
 
--- ---- entries ahead
+-- ---- entries in flight
 
 -- the address of an entry in flight
 abbrev pub address_ahead : Ahead → ℕ
@@ -67,7 +67,7 @@ snapshot tick taken s levels =
     Shows tick (with_index_words (split_words (length levels) taken s) s)
     (map (level_at tick) levels)
 
--- ---- what is left without the timetable
+-- ---- the events without their timing
 
 -- the events of the plain run that correspond to an event of the timed run
 abbrev pub plain_events_of : TimetableEvent → List PlainEvent

@@ -46,7 +46,7 @@ moment_at_start c = record {
   banks = idle_banks;
 }
 
--- ---- what comes between two entries
+-- ---- the transition between two entries
 
 module _ (m : Moment) where
   -- the scene before the next entry, after signals, orders and waits

@@ -20,7 +20,7 @@ abbrev pub signal_due : ℕ → List Signal → Bool
 signal_due done [] = false
 signal_due done (x ∷ xs) = nat_le x.count done
 
--- ---- what came
+-- ---- summaries of external events
 
 -- the summary of two successive interludes
 abbrev pub joined_of : Interlude → Interlude → Interlude

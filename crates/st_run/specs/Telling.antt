@@ -29,7 +29,7 @@ pub record Telling : Type 0 where
   pub ahead : List Level
   pub text : List ℕ
 
--- ---- what is told next
+-- ---- the next event
 
 -- the reported forms of events at a tick, with the state, levels and text that are shown
 module _ (tick : ℕ) (s : Machine) (levels : List Level) (text : List ℕ) where
@@ -57,7 +57,7 @@ pub record AreLeftOut (last : Row) (old new : List TimedReportedEvent) : Type 0 
   pub passed : List Row
   pub rest : old ≡ rows_then passed (row_told last ∷ new)
 
--- ---- what is told between two entries
+-- ---- pending events between two entries
 
 -- the pending events between two entries: the flushed entries, oldest first; the text that is
 -- printed; the interrupt that is taken
@@ -76,7 +76,7 @@ waiting_events w s =
 abbrev pub at_once : ℕ → Machine → ReportedEvent → TimedReportedEvent
 at_once tick s event = record { done = s.done; tick = tick; event = event }
 
--- ---- all that is still to be told
+-- ---- all remaining events
 
 -- the events at the end of the run: snapshots up to the last tick, and the end
 unfoldable pub told_at_end : Bool → ℕ → List ℕ → Machine → List TimedReportedEvent
@@ -115,7 +115,7 @@ module _ (turn : Turn) (left tick : ℕ) (snaps : List ℕ) (w : Waiting) (t : T
     pub taken : IsSome w.taken → levels_of t.machine ≡ []
     pub in_time : AreInTime rest_of
 
--- ---- what is shown
+-- ---- the state that is shown
 
 -- the state with the index words of the entries in flight
 abbrev pub state_told : Overlap → Machine
@@ -144,7 +144,7 @@ pub record AreLevelsShown (shown : List (Option LevelView)) (levels : List Level
   pub room : shown ≡ map (λ v. Some v) views ++ replicate (8 - length views) None
   pub same : map level_of views ≡ levels
 
--- ---- on the way from one thing that is told to the next
+-- ---- between one event and the next
 
 -- the previous tick was that of the first snapshot
 abbrev pub IsAtFirst : ℕ → List ℕ → Type 0

@@ -12,7 +12,7 @@ use Rattle.st_run.specs.Moments.{Moment, Standing, moment_at_start, next_state, 
 abbrev pub event_at : ℕ → Machine → TimetableEvent → Timed
 event_at tick s event = record { done = s.done; tick = tick; event = event }
 
--- ---- when snapshots are shown
+-- ---- the ticks of snapshots
 
 -- of a list of increasing ticks, those before the tick t
 unfoldable pub ticks_before : ℕ → List ℕ → List ℕ
@@ -63,7 +63,7 @@ module _ (m : Moment) where
       ++ happening_at (Ends (next_state m) (rests (next_state m))) ∷ []
 
 module _ (ds : List ℕ) (n : ℕ) where
-  -- ---- events until the next entry is done
+  -- ---- events up to the next completion
 
   -- a snapshot of the state and of the entries in flight at a tick
   abbrev pub snapshot_at : Standing → ℕ → Timed
@@ -88,7 +88,7 @@ module _ (ds : List ℕ) (n : ℕ) where
   abbrev pub told_from : List ℕ → Moment → List Timed
   told_from snaps m = events_between m ++ until_done (standing_at m) (snapshots_from m.tick snaps)
 
-  -- ---- the whole
+  -- ---- the whole run
 
   -- the events of the run from a moment, with the given budget of instructions
   unfoldable pub timed_from : ℕ → Moment → List ℕ → List Timed

@@ -30,7 +30,7 @@ pub record IsTogether (t : Together) : Type 0 where
   pub delays : AreDelaysUpTo MOST_DELAY t.machine.delays
   pub scene : IsScene (scene_of t)
 
--- ---- between two ticks, before an entry is done
+-- ---- between two ticks, before a completion
 
 -- a machine between two ticks that waits for no settle, is not at rest, and has no late entry
 pub record IsMachineReady (o : Overlap) : Type 0 where
@@ -49,7 +49,7 @@ pub record IsBeforeEntry (t : Together) : Type 0 where
 abbrev pub standing_of : ℕ → Together → Standing
 standing_of tick t = record { scene = scene_of t; tick = tick; front = t.machine.front }
 
--- ---- an entry has just been done, and nothing has come from outside since
+-- ---- after a completion, before any external event
 
 -- the point after a completion: the tick is not settled yet
 pub record IsBehindEntry (t : Together) : Type 0 where
@@ -73,7 +73,7 @@ moment_of t = record {
   banks = banks_left t.machine.closing;
 }
 
--- ---- what comes between two entries has come in part
+-- ---- after some of the external events between two entries
 
 -- since the machine was o only the state has changed, and the segment has ended or not; until it
 -- has, only signals and orders without a card have changed the state
@@ -81,7 +81,7 @@ pub record IsSince (o : Overlap) (over : Bool) (m : Overlap) : Type 0 where
   pub machine : m ≡ record (if over then machine_after_segment o else o) { state = m.state }
   pub alike : over ≡ false → AreAlikeBesideOrders o.state m.state
 
--- ---- what comes between two entries is over
+-- ---- after all external events between two entries
 
 -- the text, if there is one, is what the events print
 abbrev pub AreTexts : Option (List ℕ) → List PlainEvent → Type 0

@@ -131,7 +131,7 @@ pub(crate) fn leave<const N: usize>(driven: &mut Driven<N>, left: u64) -> Decide
     decide(driven, left, is_over(came), text_of(came.words))
 }
 
-// ---- nothing of it
+// ---- no external event
 
 // Whether no order is due, the machine does not wait, and the next decision does not end the
 // segment.

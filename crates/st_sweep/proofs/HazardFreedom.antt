@@ -121,7 +121,7 @@ hazard_free-entry earlier s h =
       };
     }
 
--- ---- what comes between two entries
+-- ---- the transition between two entries
 
 pub record IsQuiet (c : Scene) : Type 0 where
   pub no_card : nat_lt (length (interlude c).scene.cards) (length c.cards) ≡ false

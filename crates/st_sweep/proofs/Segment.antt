@@ -49,7 +49,7 @@ last-goes_on ds n left v m h =
     ∙ ap (λ xs. events_between m ++ xs) (behind-none ds n left p))
     ∙ last-append v (events_between m) (completion ds n p ∷ timed_from ds n left (next_moment ds n p) [])
 
--- ---- one entry
+-- ---- one more entry
 
 module _ (earlier : List WordRuns) (left : ℕ) (c : Scene) (going : rests (interlude c).scene.machine ≡ false) (on : GoesOn earlier left c) where
   stays : (tick : ℕ) (f : Front) (dropped : List Ahead) (banks : LastAnswers) → next_front (moment c tick f dropped banks) ≡ f

@@ -59,7 +59,7 @@ is_hazard_free_entry earlier s =
     && not (side_is_written earlier (next_side s))
     && not (one_is_written earlier (plan s (interrupt s)).reads)
 
--- ---- what comes between two entries
+-- ---- the transition between two entries
 
 -- whether the transition between two entries reads no card into storage and does not end a wait
 unfoldable pub is_hazard_free_interlude : Scene → Bool

@@ -15,7 +15,7 @@ use Rattle.st_telling.specs.Report.{report, lines_at, lines_told}
 use Rattle.st_telling.specs.Running.{WritesEvents, WritesNothing, moment_told, last_moment}
 use Rattle.st_telling.specs.declared.moment.Moment.{Moment}
 
--- ---- one thing told after another
+-- ---- events in order
 
 -- the lines of the events so far are written, and the rest remains
 pub record ToldSoFar (s t : OutputState) (asked : Asked) (m now : Moment) (all rest : List TimedReportedEvent) : Type 0 where
@@ -152,7 +152,7 @@ lines_alone s t lines events last m e (Err y) f g h = record {
       (events_before s t (at_moment 0 0 lines) events 0 0 (stopped_at_moment s t 0 0 lines h.err));
 }
 
--- ---- lines behind events
+-- ---- lines after events
 
 pub events_cut : (s t : OutputState) (events more : List Event) (last m : Moment) (e : Failed) (r : Result (Unit {0}) Failed) → IsErr r → WritesEvents s t events last m (Err e) → WritesEvents s t (events ++ more) last m r
 events_cut s t events more last m e (Ok x) f h = absurd (cc)

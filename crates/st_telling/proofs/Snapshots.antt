@@ -54,7 +54,7 @@ views_are asked done at s shown levels are =
 pub writes_views : (t u : OutputState) (asked : Asked) (done at : ℕ) (s : Machine) (shown : List (Option LevelView)) (levels : List Level) (r : Result (Unit {0}) Failed) → AreLevelsShown shown levels → WritesLines t u (lines_of_views asked done at s shown) r → WritesLines t u (snapshot_lines asked done at s levels) r
 writes_views t u asked done at s shown levels r are w = subst (λ ls. WritesLines t u ls r) (views_are asked done at s shown levels are) w
 
--- ---- the levels, one after another
+-- ---- the levels in order
 
 pub levels_cut : (s t : OutputState) (all : List (List ℕ)) (line written : List ℕ) (rest : List (List ℕ)) (e : Failed) (r : Result (Unit {0}) Failed) → IsErr r → all ≡ line ∷ rest → written ≡ line → WritesLines s t (written ∷ []) (Err e) → WritesLines s t all r
 levels_cut s t all line written rest e r f is same w =
